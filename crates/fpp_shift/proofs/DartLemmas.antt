@@ -131,21 +131,19 @@ module _ (lists : Lists) (v : ℕ) (list ranks : List ℕ) (is : IsListOf lists 
       let m : i + 1 < length list = omega (arith, l, is_next) in
       EndsRow-at e i l (omega (arith, m)) low late (turns lists v list ranks is k i 0 0 m ∙ ap (λ p. get_or list p 0) is_next)
 
+  -- the last of some entries that are earlier
+  lowest : (first end : ℕ) → first + 1 ≤ end → IsEarlier ranks k list first → ((i : ℕ) → first + 1 ≤ i → i < end → IsEarlier ranks k list i) → IsEarlier ranks k list (end - 1)
+  lowest first end m low lows = elim (cases_lt first (end - 1)) [
+    | inl b ↦ lows (end - 1) (omega (arith, b)) (omega (arith, m))
+    | inr b ↦ let e : first ≡ end - 1 = omega (arith, b, m) in subst (λ i. IsEarlier ranks k list i) e low
+  ]
+
   -- an entry later than k stands first
-  pub row-within : (first end : ℕ) → 0 < first → first < length list → ((i : ℕ) → 0 ≤ i → i < first → IsLater ranks k list i) → (first < length list → IsEarlier ranks k list first) → first ≤ end → end ≤ length list → ((i : ℕ) → first ≤ i → i < end → IsEarlier ranks k list i) → (end < length list → IsLater ranks k list end) → BeginsRow lists ranks k v (get_or list (end - 1) 0) × EndsRow lists ranks k v (get_or list first 0)
-  row-within first end some l late low m n lows next =
-      let more : first < end = behind (cases_lt first end) in (
-        BeginsRow-before (end - 1) end (omega (arith, some, more)) n (lows (end - 1) (omega (arith, more)) (omega (arith, more))) next (λ e. late 0 (omega arith) some),
-        EndsRow-after (first - 1) first (omega (arith, some)) l (late (first - 1) (omega arith) (omega (arith, some))) (low l),
-      )
-    where
-      behind : (first < end) ⊎ (end ≤ first) → first < end
-      behind (inl b) = b
-      behind (inr b) =
-          let e : end ≡ first = omega (arith, b, m) in
-          let high = subst (λ i. IsLater ranks k list i) e (next (omega (arith, l, e))) in
-          let under = low l in
-          absurd (omega (arith, high, under))
+  pub row-within : (first end : ℕ) → 0 < first → first < length list → ((i : ℕ) → 0 ≤ i → i < first → IsLater ranks k list i) → (first < length list → IsEarlier ranks k list first) → first + 1 ≤ end → end ≤ length list → ((i : ℕ) → first + 1 ≤ i → i < end → IsEarlier ranks k list i) → (end < length list → IsLater ranks k list end) → BeginsRow lists ranks k v (get_or list (end - 1) 0) × EndsRow lists ranks k v (get_or list first 0)
+  row-within first end some l late low m n lows next = (
+    BeginsRow-before (end - 1) end (omega (arith, m)) n (lowest first end m (low l) lows) next (λ e. late 0 (omega arith) some),
+    EndsRow-after (first - 1) first (omega (arith, some)) l (late (first - 1) (omega arith) (omega (arith, some))) (low l),
+  )
 
   pub end-behind : (end : ℕ) → (0 < length list → IsEarlier ranks k list 0) → end < length list → (end < length list → IsLater ranks k list end) → 0 < end
   end-behind zero low l next =
@@ -155,10 +153,9 @@ module _ (lists : Lists) (v : ℕ) (list ranks : List ℕ) (is : IsListOf lists 
   end-behind (suc i) low l next = omega arith
 
   -- one that is earlier stands first, and one that is later behind it
-  pub row-round : (end : ℕ) → (0 < length list → IsEarlier ranks k list 0) → end < length list → ((i : ℕ) → 0 ≤ i → i < end → IsEarlier ranks k list i) → (end < length list → IsLater ranks k list end) → BeginsRow lists ranks k v (get_or list (end - 1) 0)
-  row-round end low l lows next =
-      let some = end-behind end low l next in
-      BeginsRow-before (end - 1) end (omega (arith, some)) (omega (arith, l)) (lows (end - 1) (omega arith) (omega (arith, some))) next (λ e. absurd (omega (arith, e, l)))
+  pub row-round : (end : ℕ) → (0 < length list → IsEarlier ranks k list 0) → end < length list → 1 ≤ end → ((i : ℕ) → 1 ≤ i → i < end → IsEarlier ranks k list i) → (end < length list → IsLater ranks k list end) → BeginsRow lists ranks k v (get_or list (end - 1) 0)
+  row-round end low l some lows next =
+      BeginsRow-before (end - 1) end (omega (arith, some)) (omega (arith, l)) (lowest 0 end some (low (omega (arith, l))) lows) next (λ e. absurd (omega (arith, e, l)))
 
   -- the row ends where entries are earlier again, or at the first
   pub row-again : (end again : ℕ) → (0 < length list → IsEarlier ranks k list 0) → end < length list → (end < length list → IsLater ranks k list end) → end ≤ again → again < length list → ((i : ℕ) → end ≤ i → i < again → IsLater ranks k list i) → (again < length list → IsEarlier ranks k list again) → EndsRow lists ranks k v (get_or list again 0)

@@ -118,17 +118,19 @@ fn row_in(list: &[u16], ranks: &Counts, k: u32) -> (u16, u16)
 {
     let first = first_earlier(list, ranks, k, 0);
     if 0 < first && first < list.len() {
-        let end = first_later(list, ranks, k, first);
+        let end = first_later(list, ranks, k, first + 1);
         return (list[end - 1], list[first]);
     }
-    let end = first_later(list, ranks, k, 0);
-    if first == 0 && end < list.len() {
-        if k <= entry_rank(list, ranks, list.len() - 1) {
-            return (list[end - 1], list[0]);
-        }
-        let again = first_earlier(list, ranks, k, end);
-        if again < list.len() {
-            return (list[end - 1], list[again]);
+    if first == 0 {
+        let end = first_later(list, ranks, k, 1);
+        if end < list.len() {
+            if k <= entry_rank(list, ranks, list.len() - 1) {
+                return (list[end - 1], list[0]);
+            }
+            let again = first_earlier(list, ranks, k, end);
+            if again < list.len() {
+                return (list[end - 1], list[again]);
+            }
         }
     }
     (begin_in(list, ranks, k), end_in(list, ranks, k))

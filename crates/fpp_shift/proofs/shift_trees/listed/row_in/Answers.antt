@@ -15,19 +15,19 @@ pub returns-then-again-list-clause-begin : goal.returns-then-again-list-clause-b
 returns-then-again-list-clause-begin c = λ lists v p is b.
     let none : c.first_earlier-first.result ≡ 0 = c.if-first-eq0.true in
     let low = λ (l : 0 < length c.args.list.now). subst (λ (i : ℕ). IsEarlier c.args.ranks.now c.args.k c.args.list.now i) none (c.first_earlier-first.ensures.here (omega (arith, none, l))) in
-    row-round lists v c.args.list.now c.args.ranks.now is c.args.k c.first_later-end-2.result low c.if-end-list.true c.first_later-end-2.ensures.before c.first_later-end-2.ensures.here
+    row-round lists v c.args.list.now c.args.ranks.now is c.args.k c.first_later-end-then-first-eq0.result low c.if-end-list.true c.first_later-end-then-first-eq0.ensures.from c.first_later-end-then-first-eq0.ensures.before c.first_later-end-then-first-eq0.ensures.here
 
 pub returns-then-k-entry_rank-clause-begin : goal.returns-then-k-entry_rank-clause-begin
 returns-then-k-entry_rank-clause-begin c = λ lists v p is b.
     let none : c.first_earlier-first.result ≡ 0 = c.if-first-eq0.true in
     let low = λ (l : 0 < length c.args.list.now). subst (λ (i : ℕ). IsEarlier c.args.ranks.now c.args.k c.args.list.now i) none (c.first_earlier-first.ensures.here (omega (arith, none, l))) in
-    row-round lists v c.args.list.now c.args.ranks.now is c.args.k c.first_later-end-2.result low c.if-end-list.true c.first_later-end-2.ensures.before c.first_later-end-2.ensures.here
+    row-round lists v c.args.list.now c.args.ranks.now is c.args.k c.first_later-end-then-first-eq0.result low c.if-end-list.true c.first_later-end-then-first-eq0.ensures.from c.first_later-end-then-first-eq0.ensures.before c.first_later-end-then-first-eq0.ensures.here
 
 pub returns-then-again-list-clause-end : goal.returns-then-again-list-clause-end
 returns-then-again-list-clause-end c = λ lists v q is b.
     let none : c.first_earlier-first.result ≡ 0 = c.if-first-eq0.true in
     let low = λ (l : 0 < length c.args.list.now). subst (λ (i : ℕ). IsEarlier c.args.ranks.now c.args.k c.args.list.now i) none (c.first_earlier-first.ensures.here (omega (arith, none, l))) in
-    row-again lists v c.args.list.now c.args.ranks.now is c.args.k c.first_later-end-2.result c.first_earlier-again.result low c.if-end-list.true c.first_later-end-2.ensures.here c.first_earlier-again.ensures.from c.if-again-list.true c.first_earlier-again.ensures.before c.first_earlier-again.ensures.here
+    row-again lists v c.args.list.now c.args.ranks.now is c.args.k c.first_later-end-then-first-eq0.result c.first_earlier-again.result low c.if-end-list.true c.first_later-end-then-first-eq0.ensures.here c.first_earlier-again.ensures.from c.if-again-list.true c.first_earlier-again.ensures.before c.first_earlier-again.ensures.here
 
 pub returns-then-k-entry_rank-clause-end : goal.returns-then-k-entry_rank-clause-end
 returns-then-k-entry_rank-clause-end c = λ lists v q is b.
