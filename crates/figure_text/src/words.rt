@@ -272,7 +272,8 @@ fn first_digits(line: &[u8], at: usize, count: usize) -> Digits
     }
 }
 
-// The digits that stand from `at` on, or the first six of them. Where six bytes are left, the loop is one of six rounds.
+// The digits that stand from `at` on, or the first six of them. Where six bytes are left, the loop is one of six rounds; where
+// four are, as mostly at the end of a line, one of four.
 #[inline(always)]
 fn digits_from(line: &[u8], at: usize) -> Digits
     requires { at ≤ length line.now }
@@ -282,7 +283,9 @@ fn digits_from(line: &[u8], at: usize) -> Digits
     ensures value { option_map (min far) (decimal_from 0 (take (result.end - at) (drop at line.now))) ≡ Some result.value }
 {
     let left = line.len() - at;
-    if left < MOST_DIGITS {
+    if left == 4 {
+        first_digits(line, at, 4)
+    } else if left < MOST_DIGITS {
         first_digits(line, at, left)
     } else {
         first_digits(line, at, MOST_DIGITS)
