@@ -1,21 +1,17 @@
--- What holds of the tables that the pass reads, out of the fact that is kept with them: its parts are decided.
+-- What holds of a map, and of the tables that the pass reads, out of the facts that are kept with them: their parts are decided.
 use Rattle.std.proofs.Common.{ℕ, List}
 use Rattle.std.proofs.Math.Logic.{∥∥₁_elim, ∥∥₁_map}
 use Rattle.std.proofs.Props.{props}
 use Rattle.map_lists.specs.Lists.{Lists}
 use Rattle.graph_search.proofs.Known.{HasDart-known}
+use Rattle.bipolar.proofs.Known.{IsSimpleMap-known}
 use Rattle.visibility.specs.Spans.{AreSides}
+use Rattle.visibility.specs.Found.{IsRooted}
 
 module _ (lists : Lists) (rank of twins numbers : List ℕ) (h : ∥ AreSides lists rank of twins numbers ∥₁) where
   pub AreSides-known : AreSides lists rank of twins numbers
   AreSides-known = record {
-    simple = record {
-      some_vertex = ∥∥₁_elim h (search props) (λ s. s.simple.some_vertex);
-      in_range = λ v u d. ∥∥₁_elim h (search props) (λ s. s.simple.in_range v u d);
-      no_loop = λ v u d e. ∥∥₁_elim h (λ x y. absurd x) (λ s. s.simple.no_loop v u d e);
-      no_repeat = λ v l i j d m k e. ∥∥₁_elim h (λ x y. absurd x) (λ s. s.simple.no_repeat v l i j d m k e);
-      both_ways = λ v u d. HasDart-known lists u v (∥∥₁_map h (λ s. s.simple.both_ways v u d));
-    };
+    simple = IsSimpleMap-known lists (∥∥₁_map h (λ s. s.simple));
     few = ∥∥₁_elim h (search props) (λ s. s.few);
     ranks = ∥∥₁_elim h (search props) (λ s. s.ranks);
     faces = ∥∥₁_elim h (search props) (λ s. s.faces);
@@ -25,3 +21,16 @@ module _ (lists : Lists) (rank of twins numbers : List ℕ) (h : ∥ AreSides li
     low = λ v i. ∥∥₁_elim h (search props) (λ s. s.low v i);
     some = λ v l. ∥∥₁_elim h (search props) (λ s. s.some v l);
   }
+
+pub IsRooted-known : (lists : Lists) (twins : List ℕ) (t : ℕ) → ∥ IsRooted lists twins t ∥₁ → IsRooted lists twins t
+IsRooted-known lists twins t h = record {
+  simple = IsSimpleMap-known lists (∥∥₁_map h (λ m. m.simple));
+  few = ∥∥₁_elim h (search props) (λ m. m.few);
+  many = ∥∥₁_elim h (search props) (λ m. m.many);
+  first = ∥∥₁_elim h (search props) (λ m. m.first);
+  dart = HasDart-known lists 0 t (∥∥₁_map h (λ m. m.dart));
+  are_twins = record {
+    count = ∥∥₁_elim h (search props) (λ m. m.are_twins.count);
+    at = λ d l. ∥∥₁_elim h (hlevel props) (λ m. m.are_twins.at d l);
+  };
+}

@@ -7,7 +7,7 @@ ghost use Rattle.pg_plane.specs.declared.figure.BarFigure.{BarFigure as Figure};
 ghost use Rattle.bipolar.specs.FaceNumbers.{AreFaceNumbers, AreFaceArcs};
 ghost use Rattle.conn_parts.specs.BiconnectedMaps.{IsBiconnectedMap, BreaksFirst};
 ghost use Rattle.visibility.specs.Figures.{IsBarFigure, IsSearchFrom, IsUncutSearch};
-ghost use Rattle.visibility.specs.Found.{IsFound};
+ghost use Rattle.visibility.specs.Found.{IsRooted, IsFound};
 
 use crate::bar_figures::draw::bar_figure;
 use crate::ends::{coordinate, coordinates_of};
@@ -45,6 +45,22 @@ struct Tables {
     dual: DualTables,
 }
 
+// A map by its lists and the twins of its darts, with the first vertex in the list of vertex 0.
+#[derive(Clone, Copy)]
+struct Rooted<'a> {
+    lists: &'a Rotations,
+    twins: &'a [u32],
+    t: u16,
+    ghost rooted: { ∥ IsRooted lists.now twins.now t ∥₁ },
+}
+
+impl Rooted<'_> {
+    // Does nothing. By its contract a proof learns what holds of the map.
+    fn facts(&self)
+        ensures { IsRooted self.now.lists.now self.now.twins.now self.now.t }
+    {}
+}
+
 // Whether a search saw all vertices before it was done with vertex 0.
 fn sees_all(forest: &Forest) -> bool
     requires some { 0 < length forest.now.last.items }
@@ -53,19 +69,13 @@ fn sees_all(forest: &Forest) -> bool
     forest.last[0] as usize == forest.last.len()
 }
 
-// Searches a map from vertex 0 and sees `t` next.
-fn search_map(
-    tables: &mut SearchTables,
-    alloc: Global,
-    lists: &Rotations,
-    t: u16,
-) -> Result<(), AllocError>
-    requires simple { IsSimpleMap lists.now }
-    requires dart { HasDart lists.now 0 t }
-    ensures { IfOk result (λ _. IsSearchFrom lists.now t tables.new.forest.order.items tables.new.forest.number.items tables.new.forest.last.items tables.new.forest.parent.items tables.new.low.items) }
+// Searches a map from vertex 0, which sees the first of its list next.
+fn search_map(tables: &mut SearchTables, alloc: Global, map: &Rooted<'_>) -> Result<(), AllocError>
+    ensures { IfOk result (λ _. IsSearchFrom map.now.lists.now map.now.t tables.new.forest.order.items tables.new.forest.number.items tables.new.forest.last.items tables.new.forest.parent.items tables.new.low.items) }
 {
-    tables.search(alloc, lists, 0, t)?;
-    tables.find_lows(lists)?;
+    map.facts();
+    tables.search(alloc, map.lists, 0, map.t)?;
+    tables.find_lows(map.lists)?;
     Ok(())
 }
 
@@ -73,20 +83,23 @@ fn search_map(
 fn find_faces(
     tables: &mut FaceTables,
     alloc: Global,
-    lists: &Rotations,
-    twins: &[u32],
+    map: &Rooted<'_>,
     rank: &[u16],
 ) -> Result<(), AllocError>
-    requires simple { IsSimpleMap lists.now }
-    requires twins { AreTwins (darts lists.now) twins.now (length (darts lists.now)) }
-    requires ranks { length rank.now ≡ length lists.now }
-    ensures numbers { IfOk result (λ _. AreFaceNumbers lists.now tables.new.of.items (length tables.new.arcs)) }
-    ensures arcs { IfOk result (λ _. AreFaceArcs lists.now rank.now tables.new.of.items (length tables.new.arcs) tables.new.arcs) }
+    requires { length rank.now ≡ length map.now.lists.now }
+    ensures numbers { IfOk result (λ _. AreFaceNumbers map.now.lists.now tables.new.of.items (length tables.new.arcs)) }
+    ensures arcs { IfOk result (λ _. AreFaceArcs map.now.lists.now rank.now tables.new.of.items (length tables.new.arcs) tables.new.arcs) }
     ensures few { IfOk result (λ _. length tables.new.arcs < 2 ^ 32) }
 {
-    lists.facts();
+    map.facts();
     let spent = mem::replace(tables, FaceTables::new(alloc));
-    let made = number_faces(spent, lists.entries(), lists.ends(), twins, rank)?;
+    let made = number_faces(
+        spent,
+        map.lists.entries(),
+        map.lists.ends(),
+        map.twins,
+        rank,
+    )?;
     *tables = made;
     Ok(())
 }
@@ -133,36 +146,36 @@ impl DualTables {
         }
     }
 
-    // Draws a connected map without cut vertex by a search from vertex 0 that sees `t` next, if the map has genus zero.
+    // Draws a connected map without cut vertex by a search of it, if the map has genus zero.
     fn draw(
         &mut self,
         alloc: Global,
-        lists: &Rotations,
-        twins: &[u32],
-        t: u16,
+        map: &Rooted<'_>,
         search: &SearchTables,
     ) -> Result<Found, AllocError>
-        requires simple { IsSimpleMap lists.now }
-        requires many { 3 ≤ length lists.now }
-        requires first { slice_index (list_of lists.now 0) 0 ≡ t }
-        requires dart { HasDart lists.now 0 t }
-        requires twins { AreTwins (darts lists.now) twins.now (length (darts lists.now)) }
-        requires search { IsUncutSearch lists.now t search.now.forest.order.items search.now.forest.number.items search.now.forest.last.items search.now.forest.parent.items search.now.low.items }
-        ensures { IfOk result (IsFound lists.now) }
+        requires { IsUncutSearch map.now.lists.now map.now.t search.now.forest.order.items search.now.forest.number.items search.now.forest.last.items search.now.forest.parent.items search.now.low.items }
+        ensures { IfOk result (IsFound map.now.lists.now) }
     {
-        lists.facts();
-        fill_places(&mut self.ranges, lists, &search.forest, &search.low, 0, t)?;
-        find_faces(&mut self.faces, alloc, lists, twins, &self.ranges.from)?;
-        if lists.len() + self.faces.arcs.len() != twins.len() / 2 + 2 {
+        map.facts();
+        fill_places(
+            &mut self.ranges,
+            map.lists,
+            &search.forest,
+            &search.low,
+            0,
+            map.t,
+        )?;
+        find_faces(&mut self.faces, alloc, map, &self.ranges.from)?;
+        if map.lists.len() + self.faces.arcs.len() != map.twins.len() / 2 + 2 {
             return Ok(Found::Nothing);
         }
         let base = first_of(&self.faces.of);
         self.paths.find(alloc, &self.faces.arcs, base)?;
         let sides = Sides {
-            lists,
+            lists: map.lists,
             rank: &self.ranges.from,
             of: &self.faces.of,
-            twins,
+            twins: map.twins,
             numbers: &self.paths.number,
         };
         self.spans.fill(alloc, &sides)?;
@@ -177,56 +190,47 @@ impl DualTables {
         Ok(Found::Drawn(BarFigure { y, x1, x2, column }))
     }
 
-    // Finds the least cut vertex of a connected map by a search, if the map has genus zero.
+    // Finds the least cut vertex of a connected map by a search of it, if the map has genus zero.
     fn cut(
         &mut self,
         alloc: Global,
-        lists: &Rotations,
-        twins: &[u32],
+        map: &Rooted<'_>,
         search: &SearchTables,
     ) -> Result<Found, AllocError>
-        requires simple { IsSimpleMap lists.now }
-        requires many { 3 ≤ length lists.now }
-        requires connected { component_count lists.now ≡ 1 }
-        requires twins { AreTwins (darts lists.now) twins.now (length (darts lists.now)) }
-        requires search { (t : ℕ) × IsSearchFrom lists.now t search.now.forest.order.items search.now.forest.number.items search.now.forest.last.items search.now.forest.parent.items search.now.low.items }
-        ensures { IfOk result (IsFound lists.now) }
+        requires connected { component_count map.now.lists.now ≡ 1 }
+        requires search { IsSearchFrom map.now.lists.now map.now.t search.now.forest.order.items search.now.forest.number.items search.now.forest.last.items search.now.forest.parent.items search.now.low.items }
+        ensures { IfOk result (IsFound map.now.lists.now) }
     {
+        map.facts();
         no_refusal_is_plane();
-        find_faces(&mut self.faces, alloc, lists, twins, &search.forest.number)?;
-        if lists.len() + self.faces.arcs.len() != twins.len() / 2 + 2 {
+        find_faces(&mut self.faces, alloc, map, &search.forest.number)?;
+        if map.lists.len() + self.faces.arcs.len() != map.twins.len() / 2 + 2 {
             return Ok(Found::Nothing);
         }
-        match searched_cut_vertex(lists, &search.forest, &search.low) {
+        match searched_cut_vertex(map.lists, &search.forest, &search.low) {
             Some(v) => Ok(Found::Cut(VertexId(v))),
             None => Ok(Found::Nothing),
         }
     }
 
-    // Finds the answer to a map by a search from vertex 0 that sees `t` next, where it is connected and has genus zero.
+    // Finds the answer to a map by a search of it, where it is connected and has genus zero.
     fn find(
         &mut self,
         alloc: Global,
-        lists: &Rotations,
-        twins: &[u32],
-        t: u16,
+        map: &Rooted<'_>,
         search: &SearchTables,
     ) -> Result<Found, AllocError>
-        requires simple { IsSimpleMap lists.now }
-        requires many { 3 ≤ length lists.now }
-        requires first { slice_index (list_of lists.now 0) 0 ≡ t }
-        requires dart { HasDart lists.now 0 t }
-        requires twins { AreTwins (darts lists.now) twins.now (length (darts lists.now)) }
-        requires search { IsSearchFrom lists.now t search.now.forest.order.items search.now.forest.number.items search.now.forest.last.items search.now.forest.parent.items search.now.low.items }
-        ensures { IfOk result (IsFound lists.now) }
+        requires { IsSearchFrom map.now.lists.now map.now.t search.now.forest.order.items search.now.forest.number.items search.now.forest.last.items search.now.forest.parent.items search.now.low.items }
+        ensures { IfOk result (IsFound map.now.lists.now) }
     {
+        map.facts();
         if !sees_all(&search.forest) {
             return Ok(Found::Nothing);
         }
-        if is_uncut(lists, &search.forest, &search.low) {
-            return self.draw(alloc, lists, twins, t, search);
+        if is_uncut(map.lists, &search.forest, &search.low) {
+            return self.draw(alloc, map, search);
         }
-        self.cut(alloc, lists, twins, search)
+        self.cut(alloc, map, search)
     }
 }
 
@@ -249,8 +253,9 @@ impl Tables {
             return Ok(Found::Nothing);
         }
         let t = lists.list(0)[0];
-        search_map(&mut self.search, alloc, lists, t)?;
-        self.dual.find(alloc, lists, twins, t, &self.search)
+        let map = Rooted { lists, twins, t };
+        search_map(&mut self.search, alloc, &map)?;
+        self.dual.find(alloc, &map, &self.search)
     }
 }
 

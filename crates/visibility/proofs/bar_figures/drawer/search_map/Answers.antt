@@ -7,8 +7,8 @@ pub returns : goal.returns
 returns c =
     let e = c.in_ok-find_lows.ensures.forest in
     record {
-      forest = subst (λ (f : Forest). IsForestOf c.args.lists.now f.order.items f.number.items f.last.items f.parent.items) (sym e) c.in_ok-search.ensures.forest;
+      forest = subst (λ (f : Forest). IsForestOf c.args.map.now.lists.now f.order.items f.number.items f.last.items f.parent.items) (sym e) c.in_ok-search.ensures.forest;
       lows = c.in_ok-find_lows.ensures.lows;
       first = ap (λ (f : Forest). get_or f.number.items 0 0) e ∙ c.in_ok-search.ensures.first;
-      second = ap (λ (f : Forest). get_or f.number.items c.args.t 0) e ∙ c.in_ok-search.ensures.second;
+      second = ap (λ (f : Forest). get_or f.number.items c.args.map.now.t 0) e ∙ c.in_ok-search.ensures.second;
     }

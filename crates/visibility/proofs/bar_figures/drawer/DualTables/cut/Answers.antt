@@ -6,13 +6,13 @@ use Rattle.visibility.proofs.ListDrawn.{IsPlane-counted}
 use Rattle.visibility.proofs.bar_figures.drawer.DualTables.cut.Goals as goal
 
 pub searched_cut_vertex-requires-clause-adjacency : goal.searched_cut_vertex-requires-clause-adjacency
-searched_cut_vertex-requires-clause-adjacency c = IsAdjacency-simple c.args.lists.now c.requires.simple
+searched_cut_vertex-requires-clause-adjacency c = IsAdjacency-simple c.args.map.now.lists.now c.facts.ensures.simple
 
 pub returns-in-Some : goal.returns-in-Some
 returns-in-Some c =
-    let lists = c.args.lists.now in
-    let r = c.requires in
+    let lists = c.args.map.now.lists.now in
+    let r = c.facts.ensures in
     let arcs = c.find_faces.new.tables.arcs in
-    let counted : length lists + length arcs ≡ dart_count lists / 2 + 2 = omega (arith, c.if-len-twins.false, c.len.ensures.is, c.len-2.ensures, ap (λ n. n / 2) (r.twins.count ∙ length-darts lists)) in
-    let plane = IsPlane-counted lists (length arcs) r.simple r.many r.connected c.in_ok-find_faces.ensures.numbers.all counted in
-    ((c.no_refusal_is_plane.ensures 3 lists (omega (arith, r.many))).1 (r.simple, plane, r.many), r.connected, c.in-Some.ensures)
+    let counted : length lists + length arcs ≡ dart_count lists / 2 + 2 = omega (arith, c.if-len-map.false, c.len.ensures.is, c.len-2.ensures, ap (λ n. n / 2) (r.are_twins.count ∙ length-darts lists)) in
+    let plane = IsPlane-counted lists (length arcs) r.simple r.many c.requires.connected c.in_ok-find_faces.ensures.numbers.all counted in
+    ((c.no_refusal_is_plane.ensures 3 lists (omega (arith, r.many))).1 (r.simple, plane, r.many), c.requires.connected, c.in-Some.ensures)

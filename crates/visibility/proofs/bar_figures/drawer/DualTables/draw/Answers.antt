@@ -8,72 +8,72 @@ use Rattle.visibility.proofs.bar_figures.drawer.DualTables.draw.Goals as goal
 
 pub first_of-base-requires : goal.first_of-base-requires
 first_of-base-requires c =
-    let lists = c.args.lists.now in
-    let r = c.requires in
+    let lists = c.args.map.now.lists.now in
+    let r = c.facts.ensures in
     let rank = c.fill_places.new.ranges.from.items in
     let order = c.in_ok-fill_places.ensures.order in
     let of = c.find_faces.new.tables.of.items in
     let arcs = c.find_faces.new.tables.arcs in
-    let some = some_face lists c.facts.ensures r.simple r.many r.search.connected c.args.t r.first r.dart rank order.0 order.1 of (length arcs) c.in_ok-find_faces.ensures.numbers in
+    let some = some_face lists r.few r.simple r.many c.requires.connected c.args.map.now.t r.first r.dart rank order.0 order.1 of (length arcs) c.in_ok-find_faces.ensures.numbers in
     omega (arith, some, ap (λ (xs : List ℕ). length xs) c.deref-3.ensures.value)
 
 pub find-requires-clause-acyclic : goal.find-requires-clause-acyclic
 find-requires-clause-acyclic c =
-    let lists = c.args.lists.now in
-    let r = c.requires in
+    let lists = c.args.map.now.lists.now in
+    let r = c.facts.ensures in
     let rank = c.fill_places.new.ranges.from.items in
     let order = c.in_ok-fill_places.ensures.order in
     let of = c.find_faces.new.tables.of.items in
     let arcs = c.find_faces.new.tables.arcs in
     let lead = rw c.deref-2.ensures.value at c.in_ok-find_faces.ensures.arcs in
-    let counted : length lists + length arcs ≡ dart_count lists / 2 + 2 = omega (arith, c.if-len-twins.false, c.len.ensures.is, c.len-2.ensures, ap (λ n. n / 2) (r.twins.count ∙ length-darts lists)) in
-    rw (c.first_of-base.ensures, c.deref-3.ensures.value) (acyclic_arcs lists c.facts.ensures r.simple r.many r.search.connected c.args.t r.first r.dart rank order.0 order.1 of (length arcs) c.in_ok-find_faces.ensures.numbers arcs lead counted)
+    let counted : length lists + length arcs ≡ dart_count lists / 2 + 2 = omega (arith, c.if-len-map.false, c.len.ensures.is, c.len-2.ensures, ap (λ n. n / 2) (r.are_twins.count ∙ length-darts lists)) in
+    rw (c.first_of-base.ensures, c.deref-3.ensures.value) (acyclic_arcs lists r.few r.simple r.many c.requires.connected c.args.map.now.t r.first r.dart rank order.0 order.1 of (length arcs) c.in_ok-find_faces.ensures.numbers arcs lead counted)
 
 pub invariant_of-sides : goal.invariant_of-sides
 invariant_of-sides c =
-    let lists = c.args.lists.now in
-    let r = c.requires in
+    let lists = c.args.map.now.lists.now in
+    let r = c.facts.ensures in
     let rank = c.fill_places.new.ranges.from.items in
     let order = c.in_ok-fill_places.ensures.order in
     let of = c.find_faces.new.tables.of.items in
     let arcs = c.find_faces.new.tables.arcs in
     let lead = rw c.deref-2.ensures.value at c.in_ok-find_faces.ensures.arcs in
-    let counted : length lists + length arcs ≡ dart_count lists / 2 + 2 = omega (arith, c.if-len-twins.false, c.len.ensures.is, c.len-2.ensures, ap (λ n. n / 2) (r.twins.count ∙ length-darts lists)) in
+    let counted : length lists + length arcs ≡ dart_count lists / 2 + 2 = omega (arith, c.if-len-map.false, c.len.ensures.is, c.len-2.ensures, ap (λ n. n / 2) (r.are_twins.count ∙ length-darts lists)) in
     let longest = rw (c.first_of-base.ensures, c.deref-3.ensures.value) at c.in_ok-find.ensures.longest in
     let numbers = c.find.new.self.number.items in
-    let known : AreSides lists c.deref-4.result.now c.deref-5.result.now c.args.twins.now c.deref-6.result.now = rw (c.deref-4.ensures.value, c.deref-5.ensures.value, c.deref-6.ensures.value) (are_sides lists c.facts.ensures r.simple r.many r.search.connected c.args.t r.first r.dart rank order.0 order.1 of (length arcs) c.in_ok-find_faces.ensures.numbers arcs lead counted numbers longest c.args.twins.now r.twins) in
+    let known : AreSides lists c.deref-4.result.now c.deref-5.result.now c.args.map.now.twins.now c.deref-6.result.now = rw (c.deref-4.ensures.value, c.deref-5.ensures.value, c.deref-6.ensures.value) (are_sides lists r.few r.simple r.many c.requires.connected c.args.map.now.t r.first r.dart rank order.0 order.1 of (length arcs) c.in_ok-find_faces.ensures.numbers arcs lead counted numbers longest c.args.map.now.twins.now r.are_twins) in
     record { sides = ∣ known ∣₁ }
 
 pub coordinates_of-requires : goal.coordinates_of-requires
 coordinates_of-requires c =
-    let lists = c.args.lists.now in
-    let r = c.requires in
+    let lists = c.args.map.now.lists.now in
+    let r = c.facts.ensures in
     let rank = c.fill_places.new.ranges.from.items in
     let order = c.in_ok-fill_places.ensures.order in
     let of = c.find_faces.new.tables.of.items in
     let arcs = c.find_faces.new.tables.arcs in
     let lead = rw c.deref-2.ensures.value at c.in_ok-find_faces.ensures.arcs in
-    let counted : length lists + length arcs ≡ dart_count lists / 2 + 2 = omega (arith, c.if-len-twins.false, c.len.ensures.is, c.len-2.ensures, ap (λ n. n / 2) (r.twins.count ∙ length-darts lists)) in
+    let counted : length lists + length arcs ≡ dart_count lists / 2 + 2 = omega (arith, c.if-len-map.false, c.len.ensures.is, c.len-2.ensures, ap (λ n. n / 2) (r.are_twins.count ∙ length-darts lists)) in
     let longest = rw (c.first_of-base.ensures, c.deref-3.ensures.value) at c.in_ok-find.ensures.longest in
     let numbers = c.find.new.self.number.items in
     let spanned = rw (c.deref-4.ensures.value, c.deref-5.ensures.value, c.deref-6.ensures.value) at c.in_ok-fill.ensures in
-    record { low = rw c.deref-8.ensures.value (small lists c.facts.ensures r.simple r.many r.search.connected c.args.t r.first r.dart rank order.0 order.1 of (length arcs) c.in_ok-find_faces.ensures.numbers arcs lead counted numbers longest c.fill.new.self.columns.items c.fill.new.self.x1 c.fill.new.self.x2 spanned) }
+    record { low = rw c.deref-8.ensures.value (small lists r.few r.simple r.many c.requires.connected c.args.map.now.t r.first r.dart rank order.0 order.1 of (length arcs) c.in_ok-find_faces.ensures.numbers arcs lead counted numbers longest c.fill.new.self.columns.items c.fill.new.self.x1 c.fill.new.self.x2 spanned) }
 
 pub returns : goal.returns
 returns c =
-    let lists = c.args.lists.now in
-    let r = c.requires in
+    let lists = c.args.map.now.lists.now in
+    let r = c.facts.ensures in
     let rank = c.fill_places.new.ranges.from.items in
     let order = c.in_ok-fill_places.ensures.order in
     let of = c.find_faces.new.tables.of.items in
     let arcs = c.find_faces.new.tables.arcs in
     let lead = rw c.deref-2.ensures.value at c.in_ok-find_faces.ensures.arcs in
-    let counted : length lists + length arcs ≡ dart_count lists / 2 + 2 = omega (arith, c.if-len-twins.false, c.len.ensures.is, c.len-2.ensures, ap (λ n. n / 2) (r.twins.count ∙ length-darts lists)) in
+    let counted : length lists + length arcs ≡ dart_count lists / 2 + 2 = omega (arith, c.if-len-map.false, c.len.ensures.is, c.len-2.ensures, ap (λ n. n / 2) (r.are_twins.count ∙ length-darts lists)) in
     let longest = rw (c.first_of-base.ensures, c.deref-3.ensures.value) at c.in_ok-find.ensures.longest in
     let numbers = c.find.new.self.number.items in
     let spanned = rw (c.deref-4.ensures.value, c.deref-5.ensures.value, c.deref-6.ensures.value) at c.in_ok-fill.ensures in
     let made : BarFigure = record { y = c.in_ok-y.y; x1 = c.replace-x1.result; x2 = c.replace-x2.result; column = c.in_ok-column.column } in (
-      is_biconnected lists c.facts.ensures r.simple r.many r.search.connected c.args.t r.first r.dart rank order.0 order.1 of (length arcs) c.in_ok-find_faces.ensures.numbers arcs lead counted numbers longest c.fill.new.self.columns.items c.fill.new.self.x1 c.fill.new.self.x2 spanned r.search.uncut,
-      is_figure lists c.facts.ensures r.simple r.many r.search.connected c.args.t r.first r.dart rank order.0 order.1 of (length arcs) c.in_ok-find_faces.ensures.numbers arcs lead counted numbers longest c.fill.new.self.columns.items c.fill.new.self.x1 c.fill.new.self.x2 spanned made
+      is_biconnected lists r.few r.simple r.many c.requires.connected c.args.map.now.t r.first r.dart rank order.0 order.1 of (length arcs) c.in_ok-find_faces.ensures.numbers arcs lead counted numbers longest c.fill.new.self.columns.items c.fill.new.self.x1 c.fill.new.self.x2 spanned c.requires.uncut,
+      is_figure lists r.few r.simple r.many c.requires.connected c.args.map.now.t r.first r.dart rank order.0 order.1 of (length arcs) c.in_ok-find_faces.ensures.numbers arcs lead counted numbers longest c.fill.new.self.columns.items c.fill.new.self.x1 c.fill.new.self.x2 spanned made
           (rw c.deref-7.ensures.value at c.in_ok-y.ensures) (rw c.deref-8.ensures.value at c.in_ok-column.ensures) c.replace-x1.ensures.value c.replace-x2.ensures.value,
     )
