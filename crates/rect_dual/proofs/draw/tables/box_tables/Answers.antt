@@ -41,6 +41,6 @@ returns-clause-boxes c = λ steps h labelled.
     let size : length c.deref.result.now ≡ length rows = omega (arith, items, t.count_runs) in
     let turns : AreTurns steps (length c.deref.result.now) c.in_ok-turns.turns.place.items c.deref.result.now = subst (λ z. AreTurns steps z c.in_ok-turns.turns.place.items c.deref.result.now) (sym size) (subst (AreTurns steps (length rows) c.in_ok-turns.turns.place.items) (sym c.deref.ensures.value) t) in
     let count : c.run_count-runs.result ≡ run_turns steps (length rows) = c.run_count-runs.ensures.count steps c.in_ok-turns.turns.place.items turns ∙ ap (run_turns steps) size in
-    AreBoxTables-of steps (length rows) (c.len.result + 1 - c.run_count-runs.result) (c.run_count-runs.result + 2) c.in_ok-numbers.numbers.x.items c.in_ok-numbers.numbers.y.items c.in_ok-sides.sides.right.items c.in_ok-sides.sides.high.items
+    AreBoxTables-of steps (length rows) (c.len-count.result + 1 - c.run_count-runs.result) (c.run_count-runs.result + 2) c.in_ok-numbers.numbers.x.items c.in_ok-numbers.numbers.y.items c.in_ok-sides.sides.right.items c.in_ok-sides.sides.high.items
     c.in_ok-tables.tables.left.items c.in_ok-tables.tables.right.items c.in_ok-tables.tables.low.items c.in_ok-tables.tables.high.items
     n.count n.count_y s.right s.high (ap (λ z. z + 2) count) (omega (arith, c.len-count.ensures.is, low, size)) (n.numbers steps h t labelled) (s.sides steps h t) e.left e.right e.low e.high
