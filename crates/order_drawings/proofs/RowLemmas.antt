@@ -102,15 +102,32 @@ AreRanked-more lists at ranks rows row h e = λ k start us l r. elim (cases_lt k
 
 -- ---- where a row begins
 
--- the last entry of all, where the first is later, and those from the first earlier one on are all earlier
-pub first-round : (list ranks : List ℕ) (k first end start : ℕ) (us : List ℕ) → IsRowIn list ranks k start us → 0 < first → first < length list → ((i : ℕ) → i < first → k ≤ rank_at list ranks i) → (first < length list → rank_at list ranks first < k) → first ≤ end → end ≤ length list → ((i : ℕ) → first ≤ i → i < end → rank_at list ranks i < k) → (end < length list → k ≤ rank_at list ranks end) → (length list ≤ end) ⊎ (end ≤ first) → length list - 1 ≡ start
-first-round list ranks k first end start us row some l lates low m n lows next (inl all) =
-    row.only (length list - 1) (omega (arith, l)) (record { earlier = lows (length list - 1) (omega (arith, l)) (omega (arith, l, all)); begins = inr (subst (λ (p : ℕ). k ≤ rank_at list ranks p) (sym (round (length list) (length list - 1) (omega (arith, l)))) (lates 0 some)) })
+-- the last of some entries that are earlier
+lowest : (list ranks : List ℕ) (k first end : ℕ) → first + 1 ≤ end → rank_at list ranks first < k → ((i : ℕ) → first + 1 ≤ i → i < end → rank_at list ranks i < k) → rank_at list ranks (end - 1) < k
+lowest list ranks k first end m low lows = elim (cases_lt first (end - 1)) [
+  | inl b ↦ lows (end - 1) (omega (arith, b)) (omega (arith, m))
+  | inr b ↦ let e : first ≡ end - 1 = omega (arith, b, m) in subst (λ (i : ℕ). rank_at list ranks i < k) e low
+]
+
+-- it begins before an entry that is later
+pub first-before : (list ranks : List ℕ) (k first end start : ℕ) (us : List ℕ) → IsRowIn list ranks k start us → (first < length list → rank_at list ranks first < k) → first + 1 ≤ end → ((i : ℕ) → first + 1 ≤ i → i < end → rank_at list ranks i < k) → end < length list → (end < length list → k ≤ rank_at list ranks end) → end - 1 ≡ start
+first-before list ranks k first end start us row low m lows l next =
+    row.only (end - 1) (omega (arith, l)) (record {
+      earlier = lowest list ranks k first end m (low (omega (arith, m, l))) lows;
+      begins = inr (subst (λ (p : ℕ). k ≤ rank_at list ranks p) (sym (after (length list) (end - 1) end (omega (arith, m)) l)) (next l));
+    })
+  where
+    after : (n i e : ℕ) → i + 1 ≡ e → e < n → place_after n i ≡ e
+    after n i e is l = grind (arith, nat_tests)
+
+-- or at the last entry of all, where the first is later
+pub first-round : (list ranks : List ℕ) (k first end start : ℕ) (us : List ℕ) → IsRowIn list ranks k start us → 0 < first → first < length list → ((i : ℕ) → i < first → k ≤ rank_at list ranks i) → (first < length list → rank_at list ranks first < k) → first + 1 ≤ end → end ≤ length list → ((i : ℕ) → first + 1 ≤ i → i < end → rank_at list ranks i < k) → length list ≤ end → length list - 1 ≡ start
+first-round list ranks k first end start us row some l lates low m n lows all =
+    let whole : end ≡ length list = omega (arith, n, all) in
+    row.only (length list - 1) (omega (arith, l)) (record {
+      earlier = subst (λ (e : ℕ). rank_at list ranks (e - 1) < k) whole (lowest list ranks k first end m (low l) lows);
+      begins = inr (subst (λ (p : ℕ). k ≤ rank_at list ranks p) (sym (round (length list) (length list - 1) (omega (arith, l)))) (lates 0 some));
+    })
   where
     round : (n i : ℕ) → i + 1 ≡ n → place_after n i ≡ 0
     round n i e = grind (arith, nat_tests)
-first-round list ranks k first end start us row some l lates low m n lows next (inr none) =
-    let e : end ≡ first = omega (arith, none, m) in
-    let high = subst (λ (p : ℕ). k ≤ rank_at list ranks p) e (next (omega (arith, l, e))) in
-    let under = low l in
-    absurd (omega (arith, high, under))

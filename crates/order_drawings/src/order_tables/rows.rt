@@ -109,12 +109,14 @@ fn first_place(list: &[u16], ranks: &Counts, k: u32) -> usize
     ensures within { result < length list.now }
 {
     let first = first_earlier(list, ranks, k);
-    let end = first_later(list, ranks, k, first);
-    if first < end && end < list.len() {
-        return end - 1;
-    }
-    if 0 < first && first < list.len() {
-        return list.len() - 1;
+    if first < list.len() {
+        let end = first_later(list, ranks, k, first + 1);
+        if end < list.len() {
+            return end - 1;
+        }
+        if 0 < first {
+            return list.len() - 1;
+        }
     }
     tested_place(list, ranks, k)
 }
