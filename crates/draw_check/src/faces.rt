@@ -1,6 +1,6 @@
 //! The check of a drawing of a triangulation by its faces.
-ghost use Rattle.std.specs.Prelude.{◌≡◌, ◌⊎◌, ◌<◌, ◌↔◌, ℕ, length, IsTrue, MatchOption};
-ghost use Rattle.map_theory.specs.Maps.{HasDart, follows};
+ghost use Rattle.std.specs.Prelude.{◌≡◌, ◌⊎◌, ◌+◌, ◌*◌, ◌<◌, ◌≤◌, ◌↔◌, ℕ, length, IsTrue, MatchOption};
+ghost use Rattle.map_theory.specs.Maps.{HasDart, IsPlane, vertex_count, edge_count, follows};
 ghost use Rattle.map_theory.specs.Paths.{SameFace};
 ghost use Rattle.half_edges.specs.Map.{IsLive, first_dart};
 ghost use Rattle.plane_laws.specs.Triangulations.{IsTriangulation};
@@ -22,19 +22,6 @@ fn is_one_of(d: DartId, one: DartId, two: DartId, three: DartId) -> bool
     ensures { IsTrue result ↔ ((d.0 ≡ one.0) ⊎ ((d.0 ≡ two.0) ⊎ (d.0 ≡ three.0))) }
 {
     d.0 == one.0 || d.0 == two.0 || d.0 == three.0
-}
-
-// Says whether a dart lies on the face left of the base, which is a triangle.
-fn is_on_base(map: &HalfMap, base: DartId, d: DartId) -> bool
-    requires triangulation { IsTriangulation map.now.lists }
-    requires base { IsLive map.now base.0 }
-    requires live { IsLive map.now d.0 }
-    ensures { IsTrue result ↔ SameFace map.now.lists (dart_of map.now base.0) (dart_of map.now d.0) }
-{
-    map.facts();
-    let second = map.face_step(base);
-    let third = map.face_step(second);
-    is_one_of(d, base, second, third)
 }
 
 // Says whether the first of three vertices is the least.
@@ -79,7 +66,8 @@ pub fn check_points_by_faces(
     if let Some(v) = drawing.first_outside(corner) {
         return FaceVerdict::OutOfGrid(v);
     }
-    match drawing.first_wrong(base) {
+    let framed = Framed { drawing, base };
+    match framed.first_wrong() {
         Some((a, b, c)) => FaceVerdict::Wrong(a, b, c),
         None => FaceVerdict::Yes,
     }
@@ -95,34 +83,55 @@ pub fn check_by_faces(tri: &HalfMap, base: DartId, fig: &GridFigure) -> FaceVerd
     check_points_by_faces(tri, base, &fig.points, corner_of(fig))
 }
 
-impl Drawing<'_> {
-    // Says whether the face of a dart is drawn wrong and the tail is its least vertex.
-    fn is_wrong(&self, base: DartId, d: DartId) -> bool
-        requires triangulation { IsTriangulation self.now.map.now.lists }
-        requires base { IsLive self.now.map.now base.0 }
-        requires live { IsLive self.now.map.now d.0 }
-        ensures { IsTrue result ↔ HoldsAt self.now.map.now (IsWrongFrom self.now.map.now self.now.points.now base.0) d.0 }
+/// A drawing of a triangulation, with a base dart, which has the outer face on its left.
+#[derive(Clone, Copy)]
+struct Framed<'a> {
+    drawing: Drawing<'a>,
+    base: DartId,
+    ghost plane: { IsPlane drawing.map.now.lists },
+    ghost some: { 3 ≤ vertex_count drawing.map.now.lists },
+    ghost edges: { edge_count drawing.map.now.lists + 6 ≡ 3 * vertex_count drawing.map.now.lists },
+    ghost live: { IsLive drawing.map.now base.0 },
+}
+
+impl Framed<'_> {
+    // Says whether a dart lies on the face left of the base, which is a triangle.
+    fn is_on_base(&self, d: DartId) -> bool
+        requires { IsLive self.now.drawing.map.now d.0 }
+        ensures { IsTrue result ↔ SameFace self.now.drawing.map.now.lists (dart_of self.now.drawing.map.now self.now.base.0) (dart_of self.now.drawing.map.now d.0) }
     {
-        self.map.facts();
+        let map = self.drawing.map;
+        map.facts();
+        let second = map.face_step(self.base);
+        let third = map.face_step(second);
+        is_one_of(d, self.base, second, third)
+    }
+
+    // Says whether the face of a dart is drawn wrong and the tail is its least vertex.
+    fn is_wrong(&self, d: DartId) -> bool
+        requires { IsLive self.now.drawing.map.now d.0 }
+        ensures { IsTrue result ↔ HoldsAt self.now.drawing.map.now (IsWrongFrom self.now.drawing.map.now self.now.drawing.points.now self.now.base.0) d.0 }
+    {
+        let map = self.drawing.map;
+        map.facts();
         let placed = Placed {
-            points: self.points,
+            points: self.drawing.points,
         };
-        let a = self.map.tail(d);
-        let b = self.map.head(d);
-        let c = self.map.head(self.map.face_step(d));
-        is_least(a, b, c) && !placed.turns_well(is_on_base(self.map, base, d), a, b, c)
+        let a = map.tail(d);
+        let b = map.head(d);
+        let c = map.head(map.face_step(d));
+        is_least(a, b, c) && !placed.turns_well(self.is_on_base(d), a, b, c)
     }
 
     // Returns the least face that is drawn wrong, written from its least vertex.
-    fn first_wrong(&self, base: DartId) -> Option<(VertexId, VertexId, VertexId)>
-        requires triangulation { IsTriangulation self.now.map.now.lists }
-        requires base { IsLive self.now.map.now base.0 }
-        ensures { MatchOption result ((a b c : ℕ) → ¬ IsDrawnWrong self.now.map.now.lists self.now.points.now (dart_of self.now.map.now base.0) a b c)
-            (λ p. IsLeastTriple (IsDrawnWrong self.now.map.now.lists self.now.points.now (dart_of self.now.map.now base.0)) p.0.0 p.1.0 p.2.0) }
+    fn first_wrong(&self) -> Option<(VertexId, VertexId, VertexId)>
+        ensures { MatchOption result ((a b c : ℕ) → ¬ IsDrawnWrong self.now.drawing.map.now.lists self.now.drawing.points.now (dart_of self.now.drawing.map.now self.now.base.0) a b c)
+            (λ p. IsLeastTriple (IsDrawnWrong self.now.drawing.map.now.lists self.now.drawing.points.now (dart_of self.now.drawing.map.now self.now.base.0)) p.0.0 p.1.0 p.2.0) }
     {
-        self.map.facts();
-        match first_dart(self.map, |d| self.is_wrong(base, d)) {
-            Some((a, b)) => match third_vertex(self.map, a, b) {
+        let map = self.drawing.map;
+        map.facts();
+        match first_dart(map, |d| self.is_wrong(d)) {
+            Some((a, b)) => match third_vertex(map, a, b) {
                 Some(c) => Some((a, b, c)),
                 None => None,
             },
