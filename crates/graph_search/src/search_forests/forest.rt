@@ -33,7 +33,7 @@ pub fn search_forest(alloc: Global, lists: &Rotations) -> Result<Forest, AllocEr
     tables.clear(lists.len())?;
     let mut search = Search::begun(lists, tables.forest, tables.cursor);
     search.finish();
-    Ok(search.into_tables().0)
+    Ok(search.into_forest())
 }
 
 impl Forest {
@@ -131,9 +131,7 @@ impl SearchTables {
         search.see(s);
         search.see(t);
         search.finish();
-        let (forest, cursor) = search.into_tables();
-        self.forest = forest;
-        self.cursor = cursor;
+        search.put_back(&mut self.forest, &mut self.cursor);
         Ok(())
     }
 

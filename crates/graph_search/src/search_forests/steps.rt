@@ -196,20 +196,34 @@ impl<'a> Search<'a> {
         }
     }
 
-    /// Returns the tables, and the cursors apart.
+    /// Returns the forest.
     #[inline(always)]
-    pub(crate) fn into_tables(self) -> (Forest, Vec<usize>)
-        ensures order { result.0.order.items ≡ self.entry.order.items }
-        ensures number { result.0.number.items ≡ self.entry.number.items }
-        ensures last { result.0.last.items ≡ self.entry.last.items }
-        ensures parent { result.0.parent.items ≡ self.entry.parent.items }
+    pub(crate) fn into_forest(self) -> Forest
+        ensures order { result.order.items ≡ self.entry.order.items }
+        ensures number { result.number.items ≡ self.entry.number.items }
+        ensures last { result.last.items ≡ self.entry.last.items }
+        ensures parent { result.parent.items ≡ self.entry.parent.items }
     {
-        let forest = Forest {
+        Forest {
             order: self.order,
             number: self.number,
             last: self.last,
             parent: self.parent,
-        };
-        (forest, self.cursor)
+        }
+    }
+
+    /// Puts the tables of the forest into `forest`, and the cursors into `cursor`.
+    #[inline(always)]
+    pub(crate) fn put_back(self, forest: &mut Forest, cursor: &mut Vec<usize>)
+        ensures order { forest.new.order.items ≡ self.entry.order.items }
+        ensures number { forest.new.number.items ≡ self.entry.number.items }
+        ensures last { forest.new.last.items ≡ self.entry.last.items }
+        ensures parent { forest.new.parent.items ≡ self.entry.parent.items }
+    {
+        forest.order = self.order;
+        forest.number = self.number;
+        forest.last = self.last;
+        forest.parent = self.parent;
+        *cursor = self.cursor;
     }
 }
