@@ -4,12 +4,13 @@ use Rattle.std.proofs.lemmas.List.Elements.{Contains-get_or}
 use Rattle.std.proofs.lemmas.List.{get_or_default}
 use Rattle.map_lists.specs.Lists.{Lists}
 use Rattle.map_theory.specs.Maps.{Dart, HasDart, IsSimpleMap, list_of, follows, entry_after}
-use Rattle.map_theory.proofs.DartLemmas.{entry_after-injective, entry_after-place, place_after, place_of-get_or}
+use Rattle.map_theory.proofs.DartLemmas.{HasDart-follows, entry_after-injective, entry_after-place, place_after, place_of-get_or}
 use Rattle.half_edges.specs.Map.{Map, IsHalfMap, IsLive, dart_at, next_dart}
-use Rattle.half_edges.proofs.ArenaLemmas.{entry_after-next}
+use Rattle.half_edges.proofs.ArenaLemmas.{entry_after-next, entry_before}
 use Rattle.euler_faces.proofs.NumberLemmas.{some_of}
 use Rattle.fpp_shift.specs.ShiftTreesRows.{IsListOf, IsEarlier, IsLater, BeginsRow, EndsRow}
 use Rattle.std.proofs.lemmas.Bool.{cases_lt}
+use Rattle.canon_order.specs.Orders.{IsRankOf}
 use Rattle.std.proofs.lemmas.Bool.Decides.{nat_tests}
 
 -- what a call of `head` answers for the dart to u
@@ -68,22 +69,6 @@ module _ (lists : Lists) (simple : IsSimpleMap lists) (ranks : List ℕ) (k v u 
     λ s. let e = s.earlier in (omega arith, elim s.ends [ inl z ↦ inl (rank ∙ z) | inr h ↦ inr (let l = h w has turns in omega arith) ]),
   )
 
--- where a row begins and ends, by the entries of a list one after another
-module _ (lists : Lists) (v : ℕ) (list ranks : List ℕ) (is : IsListOf lists v list) (k i r b : ℕ) (l : i + 1 < length list) where
-  dart_at_place : (j : ℕ) → j < length list → HasDart lists v (get_or list j 0)
-  dart_at_place j m = (is.vertex, subst (λ us. Contains us (get_or list j 0)) is.list_is (Contains-get_or list j 0 m))
-
-  turns : follows lists v (get_or list i 0) ≡ get_or list (i + 1) 0
-  turns =
-      let distinct = subst (λ us. AllPairs ◌≢◌ us) (sym is.list_is) (is.simple.no_repeat v is.vertex) in
-      ap (entry_after (get_or list i 0)) (sym is.list_is) ∙ entry_after-next list i distinct l
-
-  pub BeginsRow-place : r ≡ get_or ranks (get_or list i 0) 0 → b ≡ get_or ranks (get_or list (i + 1) 0) 0 → (((r < k) × ((r ≡ 0) ⊎ (k ≤ b))) → BeginsRow lists ranks k v (get_or list i 0)) × (BeginsRow lists ranks k v (get_or list i 0) → ((r < k) × ((r ≡ 0) ⊎ (k ≤ b))))
-  BeginsRow-place rank next = BeginsRow-iff lists is.simple ranks k v (get_or list i 0) r b (dart_at_place i (omega arith)) rank (next ∙ ap (λ u. get_or ranks u 0) (sym turns))
-
-  pub EndsRow-place : r ≡ get_or ranks (get_or list (i + 1) 0) 0 → b ≡ get_or ranks (get_or list i 0) 0 → (((r < k) × ((r ≡ 1) ⊎ (k ≤ b))) → EndsRow lists ranks k v (get_or list (i + 1) 0)) × (EndsRow lists ranks k v (get_or list (i + 1) 0) → ((r < k) × ((r ≡ 1) ⊎ (k ≤ b))))
-  EndsRow-place rank before = EndsRow-iff lists is.simple ranks k v (get_or list (i + 1) 0) r b (dart_at_place (i + 1) l) rank (get_or list i 0) (dart_at_place i (omega arith)) turns before
-
 -- where a row begins and ends, by which entries of a list are earlier than k and which are later
 module _ (lists : Lists) (v : ℕ) (list ranks : List ℕ) (is : IsListOf lists v list) (k : ℕ) where
   entry-dart : (i : ℕ) → i < length list → HasDart lists v (get_or list i 0)
@@ -91,6 +76,9 @@ module _ (lists : Lists) (v : ℕ) (list ranks : List ℕ) (is : IsListOf lists 
 
   entries-apart : AllPairs ◌≢◌ list
   entries-apart = subst (λ us. AllPairs ◌≢◌ us) (sym is.list_is) (is.simple.no_repeat v is.vertex)
+
+  turns : (i : ℕ) → i + 1 < length list → follows lists v (get_or list i 0) ≡ get_or list (i + 1) 0
+  turns i l = ap (entry_after (get_or list i 0)) (sym is.list_is) ∙ entry_after-next list i entries-apart l
 
   -- the first entry comes after the last
   last-turns : (i : ℕ) → i + 1 ≡ length list → follows lists v (get_or list i 0) ≡ get_or list 0 0
@@ -109,7 +97,7 @@ module _ (lists : Lists) (v : ℕ) (list ranks : List ℕ) (is : IsListOf lists 
     dart = entry-dart i l;
     earlier = low;
     begins = inr (elim (cases_lt (i + 1) (length list)) [
-      | inl m ↦ subst (λ u. k ≤ get_or ranks u 0) (sym (turns lists v list ranks is k i 0 0 m)) (next m)
+      | inl m ↦ subst (λ u. k ≤ get_or ranks u 0) (sym (turns i m)) (next m)
       | inr m ↦ let e : i + 1 ≡ length list = omega arith in subst (λ u. k ≤ get_or ranks u 0) (sym (last-turns i e)) (round e)
     ]);
   }
@@ -129,7 +117,7 @@ module _ (lists : Lists) (v : ℕ) (list ranks : List ℕ) (is : IsListOf lists 
   EndsRow-after : (i e : ℕ) → i + 1 ≡ e → e < length list → IsLater ranks k list i → IsEarlier ranks k list e → EndsRow lists ranks k v (get_or list e 0)
   EndsRow-after i e is_next l late low =
       let m : i + 1 < length list = omega (arith, l, is_next) in
-      EndsRow-at e i l (omega (arith, m)) low late (turns lists v list ranks is k i 0 0 m ∙ ap (λ p. get_or list p 0) is_next)
+      EndsRow-at e i l (omega (arith, m)) low late (turns i m ∙ ap (λ p. get_or list p 0) is_next)
 
   -- the last of some entries that are earlier
   lowest : (first end : ℕ) → first + 1 ≤ end → IsEarlier ranks k list first → ((i : ℕ) → first + 1 ≤ i → i < end → IsEarlier ranks k list i) → IsEarlier ranks k list (end - 1)
@@ -158,9 +146,8 @@ module _ (lists : Lists) (v : ℕ) (list ranks : List ℕ) (is : IsListOf lists 
       BeginsRow-before (end - 1) end (omega (arith, some)) (omega (arith, l)) (lowest 0 end some (low (omega (arith, l))) lows) next (λ e. absurd (omega (arith, e, l)))
 
   -- the row ends where entries are earlier again, or at the first
-  pub row-again : (end again : ℕ) → (0 < length list → IsEarlier ranks k list 0) → end < length list → (end < length list → IsLater ranks k list end) → end ≤ again → again < length list → ((i : ℕ) → end ≤ i → i < again → IsLater ranks k list i) → (again < length list → IsEarlier ranks k list again) → EndsRow lists ranks k v (get_or list again 0)
-  row-again end again low l next m n lates there =
-      let some = end-behind end low l next in
+  pub row-again : (end again : ℕ) → end < length list → (end < length list → IsLater ranks k list end) → end ≤ again → again < length list → ((i : ℕ) → end ≤ i → i < again → IsLater ranks k list i) → (again < length list → IsEarlier ranks k list again) → 0 < end → EndsRow lists ranks k v (get_or list again 0)
+  row-again end again l next m n lates there some =
       let more : end < again = behind (cases_lt end again) in
       EndsRow-after (again - 1) again (omega (arith, some, m)) n (lates (again - 1) (omega (arith, more)) (omega (arith, more))) (there n)
     where
@@ -177,14 +164,42 @@ module _ (lists : Lists) (v : ℕ) (list ranks : List ℕ) (is : IsListOf lists 
       let last : length list - 1 + 1 ≡ length list = omega (arith, l) in
       EndsRow-at 0 (length list - 1) l (omega (arith, l)) (low l) late (last-turns (length list - 1) last)
 
--- what stands in a list, and at no place passed, stands at the one place left
-pub left-place : (P : ℕ → Type 0) (us : List ℕ) (n u : ℕ) → Contains us u → P u → n < length us → ((j : ℕ) → j < length us → (j ≡ n) ⊎ ¬ P (get_or us j 0)) → P (get_or us n 0)
-left-place P us n u on p l none =
-    let e = get_or_default us on.0 0 u on.1 ∙ on.2 in
-    elim (none on.0 on.1) [
-      | inl same ↦ subst P (sym e ∙ ap (λ j. get_or us j 0) same) p
-      | inr none_here ↦ absurd (none_here (subst P (sym e) p))
-    ]
+  -- each neighbour is an entry
+  entry-of : (u : ℕ) → HasDart lists v u → (i : ℕ) × (i < length list) × (get_or list i 0 ≡ u)
+  entry-of u dart = let on = subst (λ us. Contains us u) (sym is.list_is) dart.1 in (on.0, on.1, get_or_default list on.0 0 u on.1 ∙ on.2)
+
+  -- no neighbour is earlier
+  pub none-earlier : (first u : ℕ) → first ≡ length list → ((i : ℕ) → 0 ≤ i → i < first → IsLater ranks k list i) → HasDart lists v u → get_or ranks u 0 < k → ⊥
+  none-earlier first u e lates dart low =
+      let at = entry-of u dart in
+      let late = lates at.0 (omega arith) (omega (arith, at.1, e)) in
+      omega (arith, ap (λ u. get_or ranks u 0) at.2, late, low)
+
+  -- none is later
+  none-later : (first end u : ℕ) → first ≤ 0 → (first < length list → IsEarlier ranks k list first) → end ≡ length list → ((i : ℕ) → first + 1 ≤ i → i < end → IsEarlier ranks k list i) → HasDart lists v u → k ≤ get_or ranks u 0 → ⊥
+  none-later first end u z low e lows dart late =
+      let at = entry-of u dart in
+      let under : IsEarlier ranks k list at.0 = elim (cases_lt first at.0) [
+        | inl b ↦ lows at.0 (omega (arith, b)) (omega (arith, at.1, e))
+        | inr b ↦ let same : first ≡ at.0 = omega (arith, b, z) in subst (λ i. IsEarlier ranks k list i) same (low (omega (arith, at.1, same)))
+      ] in
+      omega (arith, ap (λ u. get_or ranks u 0) at.2, under, late)
+
+  pub begin-alone : (first end p : ℕ) → first ≤ 0 → (first < length list → IsEarlier ranks k list first) → end ≡ length list → ((i : ℕ) → first + 1 ≤ i → i < end → IsEarlier ranks k list i) → BeginsRow lists ranks k v p → get_or ranks p 0 ≡ 0
+  begin-alone first end p z low e lows b = elim b.begins [ inl is_zero ↦ is_zero | inr late ↦ absurd (none-later first end (follows lists v p) z low e lows (HasDart-follows lists v p b.dart) late) ]
+
+  pub end-alone : (first end q : ℕ) → first ≤ 0 → (first < length list → IsEarlier ranks k list first) → end ≡ length list → ((i : ℕ) → first + 1 ≤ i → i < end → IsEarlier ranks k list i) → EndsRow lists ranks k v q → get_or ranks q 0 ≡ 1
+  end-alone first end q z low e lows b = elim b.ends [
+    | inl is_one ↦ is_one
+    | inr late ↦
+        let before = entry_before (list_of lists v) q (is.simple.no_repeat v is.vertex) b.dart.1 in
+        let dart : HasDart lists v before.0 = (is.vertex, before.1) in
+        absurd (none-later first end before.0 z low e lows dart (late before.0 dart before.2))
+  ]
+
+-- the vertex of a rank
+pub only-rank : (ranks at : List ℕ) → IsRankOf ranks at → (u r s : ℕ) → u < length at → get_or at r 0 ≡ s → get_or ranks u 0 ≡ r → u ≡ s
+only-rank ranks at rank u r s l is_at is_rank = sym (rank.of_vertex u l) ∙ ap (λ (i : ℕ). get_or at i 0) is_rank ∙ is_at
 
 -- a search of a list comes to what stands in it
 pub not-none : (P : ℕ → Type 0) (us : List ℕ) (n u : ℕ) → length us ≤ n → Contains us u → P u → ((j : ℕ) → j < n → ¬ P (get_or us j 0)) → ⊥

@@ -9,7 +9,7 @@ ghost use Rattle.fpp_shift.specs.Ways.{IsTree};
 ghost use Rattle.fpp_shift.specs.Trees.{IsTreeOf};
 
 use crate::offset_trees::{Offsets, begin_tree, put_over};
-use crate::shift_trees::rows::{is_end, order_has_rows};
+use crate::shift_trees::rows::order_has_rows;
 use canon_order::Order;
 use half_edges::{Counts, Rotations, VertexId};
 use pg_io::Steps;
@@ -22,56 +22,6 @@ fn entry_rank(list: &[u16], ranks: &Counts, i: usize) -> u32
     ensures { result ≡ slice_index ranks.now (slice_index list.now i) }
 {
     ranks.get(list[i] as usize)
-}
-
-// Whether the row of a vertex of rank k begins at an entry of its list that is not the last.
-fn begins_at(list: &[u16], ranks: &Counts, k: u32, i: usize) -> bool
-    requires place { i + 1 < length list.now }
-    requires vertices { All (λ u. u < length ranks.now) list.now }
-    ensures { (lists : Lists) (v : ℕ) → IsListOf lists v list.now → IsTrue result ↔ BeginsRow lists ranks.now k v (slice_index list.now i) }
-{
-    let rank = entry_rank(list, ranks, i);
-    let next = entry_rank(list, ranks, i + 1);
-    is_end(rank, next, k, 0)
-}
-
-// Whether it ends at the entry after one that is not the last.
-fn ends_behind(list: &[u16], ranks: &Counts, k: u32, i: usize) -> bool
-    requires place { i + 1 < length list.now }
-    requires vertices { All (λ u. u < length ranks.now) list.now }
-    ensures { (lists : Lists) (v : ℕ) → IsListOf lists v list.now → IsTrue result ↔ EndsRow lists ranks.now k v (slice_index list.now (i + 1)) }
-{
-    let rank = entry_rank(list, ranks, i + 1);
-    let before = entry_rank(list, ranks, i);
-    is_end(rank, before, k, 1)
-}
-
-// The neighbour at which the row of a vertex of rank k begins, by its list: the last one where it begins at no other.
-fn begin_in(list: &[u16], ranks: &Counts, k: u32) -> u16
-    requires some { 0 < length list.now }
-    requires vertices { All (λ u. u < length ranks.now) list.now }
-    ensures { (lists : Lists) (v p : ℕ) → IsListOf lists v list.now → BeginsRow lists ranks.now k v p → BeginsRow lists ranks.now k v result }
-{
-    for i in 1..list.len() {
-        if begins_at(list, ranks, k, i - 1) {
-            return list[i - 1];
-        }
-    }
-    list[list.len() - 1]
-}
-
-// The neighbour at which it ends: the first one where it ends at no other.
-fn end_in(list: &[u16], ranks: &Counts, k: u32) -> u16
-    requires some { 0 < length list.now }
-    requires vertices { All (λ u. u < length ranks.now) list.now }
-    ensures { (lists : Lists) (v q : ℕ) → IsListOf lists v list.now → EndsRow lists ranks.now k v q → EndsRow lists ranks.now k v result }
-{
-    for i in 1..list.len() {
-        if ends_behind(list, ranks, k, i - 1) {
-            return list[i];
-        }
-    }
-    list[0]
 }
 
 // The first place from `from` on whose entry has rank k or a later one, or the length where there is none.
@@ -109,31 +59,31 @@ fn first_earlier(list: &[u16], ranks: &Counts, k: u32, from: usize) -> usize
 }
 
 // The neighbours at which the row of a vertex of rank k begins and ends, by one round of its list: where those of its
-// list that are later come to an end, and begin. Where none is later, the vertex is the last one.
-fn row_in(list: &[u16], ranks: &Counts, k: u32) -> (u16, u16)
+// list that are later begin, and come to an end. Where none is later, these are the base's vertices, s and t.
+fn row_in(list: &[u16], ranks: &Counts, k: u32, s: u16, t: u16) -> (u16, u16)
     requires some { 0 < length list.now }
     requires vertices { All (λ u. u < length ranks.now) list.now }
-    ensures begin { (lists : Lists) (v p : ℕ) → IsListOf lists v list.now → BeginsRow lists ranks.now k v p → BeginsRow lists ranks.now k v result.0 }
-    ensures end { (lists : Lists) (v q : ℕ) → IsListOf lists v list.now → EndsRow lists ranks.now k v q → EndsRow lists ranks.now k v result.1 }
+    ensures begin { (lists : Lists) (v p : ℕ) → IsListOf lists v list.now → BeginsRow lists ranks.now k v p → (slice_index ranks.now p ≡ 0 → p ≡ s)
+        → BeginsRow lists ranks.now k v result.0 }
+    ensures end { (lists : Lists) (v q : ℕ) → IsListOf lists v list.now → EndsRow lists ranks.now k v q → (slice_index ranks.now q ≡ 1 → q ≡ t)
+        → EndsRow lists ranks.now k v result.1 }
 {
     let first = first_earlier(list, ranks, k, 0);
-    if 0 < first && first < list.len() {
-        let end = first_later(list, ranks, k, first + 1);
+    if first == list.len() {
+        return (s, t);
+    }
+    let end = first_later(list, ranks, k, first + 1);
+    if 0 < first {
         return (list[end - 1], list[first]);
     }
-    if first == 0 {
-        let end = first_later(list, ranks, k, 1);
-        if end < list.len() {
-            if k <= entry_rank(list, ranks, list.len() - 1) {
-                return (list[end - 1], list[0]);
-            }
-            let again = first_earlier(list, ranks, k, end);
-            if again < list.len() {
-                return (list[end - 1], list[again]);
-            }
-        }
+    if end == list.len() {
+        return (s, t);
     }
-    (begin_in(list, ranks, k), end_in(list, ranks, k))
+    if k <= entry_rank(list, ranks, list.len() - 1) {
+        return (list[end - 1], list[0]);
+    }
+    let again = first_earlier(list, ranks, k, end);
+    (list[end - 1], list[again])
 }
 
 /// Makes `tree` the tree of offsets of a canonical order of a triangulation, by its lists.
@@ -157,11 +107,13 @@ pub(crate) fn list_tree<L: Ledger>(
     order_drawings::order_runs::order_is_run();
     contour_runs::face_count();
     crate::offset_trees::grown_is_offset_tree();
-    begin_tree(tree, order.at.get(0), order.at.get(1), steps);
+    let s = order.at.get(0);
+    let t = order.at.get(1);
+    begin_tree(tree, s, t, steps);
     for k in 2..order.at.len() {
         let v = order.at.get(k);
         let list = lists.list(v.0 as usize);
-        let row = row_in(list, &order.rank, k as u32);
+        let row = row_in(list, &order.rank, k as u32, s.0, t.0);
         put_over(tree, v, VertexId(row.0), VertexId(row.1), steps);
     }
 }

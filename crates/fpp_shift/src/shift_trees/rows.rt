@@ -26,7 +26,7 @@ fn head_rank(tri: &HalfMap, ranks: &Counts, d: DartId) -> u32
 
 // Whether the row of a vertex of rank k has an end at a neighbour of this rank: it is earlier, and it is that end
 // of the base, or the neighbour on that side of it is later.
-pub(crate) fn is_end(rank: u32, beside: u32, k: u32, base: u32) -> bool
+fn is_end(rank: u32, beside: u32, k: u32, base: u32) -> bool
     ensures { IsTrue result ↔ ((rank < k) × ((rank ≡ base) ⊎ (k ≤ beside))) }
 {
     rank < k && (rank == base || k <= beside)

@@ -7,6 +7,7 @@ use Rattle.order_drawings.specs.OrderRuns.{IsOrderRun}
 use Rattle.fpp_shift.specs.Next.{IsNextStep}
 use Rattle.fpp_shift.specs.Grown.{links_of, IsGrown}
 use Rattle.fpp_shift.proofs.TreeLemmas.{vertex-is, IsNextStep-order, row-at, listed-at, some-in, two_first, uses-more, IsTreeOf-all, uses-all}
+use Rattle.fpp_shift.proofs.DartLemmas.{only-rank}
 use Rattle.fpp_shift.proofs.PointLemmas.{AddsUp-order}
 use Rattle.fpp_shift.proofs.shift_trees.listed.list_tree.Goals as goal
 
@@ -17,7 +18,7 @@ loop-k-init g c =
       grown = λ base order steps run j e.
           let d : 0 ≡ j = omega arith in
           subst (λ (j : ℕ). IsGrown (λ i. get_or at i 0) steps j (links_of c.begin_tree.new.tree at)) d
-          (c.begin_tree.ensures.grown at steps (vertex-is c.args.order.now.at 0 c.get.result c.get.ensures) (vertex-is c.args.order.now.at 1 c.get-2.result c.get-2.ensures));
+          (c.begin_tree.ensures.grown at steps (vertex-is c.args.order.now.at 0 c.get-s.result c.get-s.ensures) (vertex-is c.args.order.now.at 1 c.get-t.result c.get-t.ensures));
       count = c.begin_tree.ensures.count;
       uses = λ base order steps run j e. omega (arith, c.begin_tree.ensures.steps);
       never_falls = omega (arith, c.begin_tree.ensures.steps);
@@ -33,7 +34,7 @@ list-list-requires g c =
     omega (arith, vertex-is c.args.order.now.at c.loop-k.k c.get-v.result c.get-v.ensures)
 
 pub begin_tree-requires-clause-apart : goal.begin_tree-requires-clause-apart
-begin_tree-requires-clause-apart g c = two_first c.args.lists.now c.requires.order.0 (vertices_of c.args.order.now) c.requires.triangulation c.requires.order.1 c.get.result.0 c.get-2.result.0 (vertex-is c.args.order.now.at 0 c.get.result c.get.ensures) (vertex-is c.args.order.now.at 1 c.get-2.result c.get-2.ensures)
+begin_tree-requires-clause-apart g c = two_first c.args.lists.now c.requires.order.0 (vertices_of c.args.order.now) c.requires.triangulation c.requires.order.1 c.get-s.result.0 c.get-t.result.0 (vertex-is c.args.order.now.at 0 c.get-s.result c.get-s.ensures) (vertex-is c.args.order.now.at 1 c.get-t.result c.get-t.ensures)
 
 pub row_in-row-requires-clause-some : goal.row_in-row-requires-clause-some
 row_in-row-requires-clause-some g c =
@@ -75,8 +76,8 @@ put_over-requires g c =
     let v_is = vertex-is c.args.order.now.at c.loop-k.k c.get-v.result c.get-v.ensures in
     let listed = listed-at lists base at c.args.order.now.rank c.list-list.result.now c.requires.triangulation order c.args.order.now.ranked c.loop-k.k c.get-v.result.0 (omega arith) v_is c.list-list.ensures in
     let ends = row-at lists base at c.args.order.now.rank c.requires.triangulation order c.args.order.now.ranked c.order_is_run.ensures c.order_has_rows.ensures c.loop-k.k c.get-v.result.0 c.loop-k.auto.k (omega arith) v_is in
-    let begin = c.row_in-row.ensures.begin lists c.get-v.result.0 ends.0.0 listed.0 ends.0.1 in
-    let end = c.row_in-row.ensures.end lists c.get-v.result.0 ends.1.0 listed.0 ends.1.1 in
+    let begin = c.row_in-row.ensures.begin lists c.get-v.result.0 ends.0.0 listed.0 ends.0.1 (only-rank c.args.order.now.rank at c.args.order.now.ranked ends.0.0 0 c.get-s.result.0 (omega (arith, c.requires.triangulation.simple.in_range c.get-v.result.0 ends.0.0 ends.0.1.dart, c.requires.order.1.count)) (vertex-is c.args.order.now.at 0 c.get-s.result c.get-s.ensures)) in
+    let end = c.row_in-row.ensures.end lists c.get-v.result.0 ends.1.0 listed.0 ends.1.1 (only-rank c.args.order.now.rank at c.args.order.now.ranked ends.1.0 1 c.get-t.result.0 (omega (arith, c.requires.triangulation.simple.in_range c.get-v.result.0 ends.1.0 ends.1.1.dart, c.requires.order.1.count)) (vertex-is c.args.order.now.at 1 c.get-t.result c.get-t.ensures)) in
     record {
       next = (
         at,
@@ -102,8 +103,8 @@ loop-k-preserved g c =
     let v_is = vertex-is c.args.order.now.at c.loop-k.k c.get-v.result c.get-v.ensures in
     let listed = listed-at lists c.requires.order.0 at c.args.order.now.rank c.list-list.result.now c.requires.triangulation c.requires.order.1 c.args.order.now.ranked c.loop-k.k c.get-v.result.0 (omega arith) v_is c.list-list.ensures in
     let ends = row-at lists c.requires.order.0 at c.args.order.now.rank c.requires.triangulation c.requires.order.1 c.args.order.now.ranked c.order_is_run.ensures c.order_has_rows.ensures c.loop-k.k c.get-v.result.0 c.loop-k.auto.k (omega arith) v_is in
-    let begin = c.row_in-row.ensures.begin lists c.get-v.result.0 ends.0.0 listed.0 ends.0.1 in
-    let end = c.row_in-row.ensures.end lists c.get-v.result.0 ends.1.0 listed.0 ends.1.1 in
+    let begin = c.row_in-row.ensures.begin lists c.get-v.result.0 ends.0.0 listed.0 ends.0.1 (only-rank c.args.order.now.rank at c.args.order.now.ranked ends.0.0 0 c.get-s.result.0 (omega (arith, c.requires.triangulation.simple.in_range c.get-v.result.0 ends.0.0 ends.0.1.dart, c.requires.order.1.count)) (vertex-is c.args.order.now.at 0 c.get-s.result c.get-s.ensures)) in
+    let end = c.row_in-row.ensures.end lists c.get-v.result.0 ends.1.0 listed.0 ends.1.1 (only-rank c.args.order.now.rank at c.args.order.now.ranked ends.1.0 1 c.get-t.result.0 (omega (arith, c.requires.triangulation.simple.in_range c.get-v.result.0 ends.1.0 ends.1.1.dart, c.requires.order.1.count)) (vertex-is c.args.order.now.at 1 c.get-t.result c.get-t.ensures)) in
     let next : (base : Dart) (order : IsCanonicalOrder lists base at) (steps : ℕ → Step) → IsOrderRun lists base at order.cycle steps → IsNextStep at steps i c.loop-k.tree c.get-v.result.0 c.row_in-row.result.0 c.row_in-row.result.1 =
     λ base order steps run.
     (let count = order.count in

@@ -1,7 +1,0 @@
-use Rattle.fpp_shift.proofs.DartLemmas.{EndsRow-place}
-use Rattle.fpp_shift.proofs.shift_trees.listed.ends_behind.Goals as goal
-
-pub returns : goal.returns
-returns c = λ lists v is.
-    let iff = EndsRow-place lists v c.args.list.now c.args.ranks.now is c.args.k c.args.i c.entry_rank-rank.result c.entry_rank-before.result c.requires.place c.entry_rank-rank.ensures c.entry_rank-before.ensures in
-    (λ t. iff.0 (c.is_end.ensures.0 t), λ s. c.is_end.ensures.1 (iff.1 s))
