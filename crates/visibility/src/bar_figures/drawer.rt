@@ -321,6 +321,8 @@ impl BarDrawer {
     }
 
     /// The figure of a record, as `bar_figure` has it. After `NoMemory` the drawer serves as before.
+    // a caller that has it inside spills what it prints with
+    #[inline(never)]
     pub fn figure(&mut self, lists: &Rotations) -> Result<BarFigure, Unserved>
         requires some_list { 0 < length lists.now }
         ensures figure { IfOk result (IsBarFigure lists.now) }
