@@ -105,6 +105,7 @@ fn block(alloc: Global, number: u32, lists: &Rotations) -> Result<Vec<u8>, Alloc
     requires served { first_refusal 3 lists.now ≡ None }
     ensures { IfOk result (λ block. IsMadeBlock number lists.now block.items) }
 {
+    lists.facts();
     let mut block = count_line(alloc, number, &count(alloc, lists)?)?;
     let figure = figure(alloc, lists)?;
     let (x, y) = sums(&figure.points);
