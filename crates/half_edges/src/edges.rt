@@ -46,6 +46,7 @@ impl HalfMap {
     /// Puts an edge between two corners at vertices that are distinct and not adjacent, and answers the dart
     /// from the first to the second. Each new entry stands directly after the named one; `spare`, which is
     /// at least 1, falls by one; all other darts keep their ids.
+    #[inline(always)]
     pub fn add_edge(&mut self, at_u: Corner, at_v: Corner) -> DartId
         requires spare { 1 ≤ self.old.spare }
         requires corner_u { IsCorner self.old at_u }
@@ -165,6 +166,7 @@ fn take_edge(
 }
 
 // Puts a dart into a corner.
+#[inline(always)]
 fn put(darts: &mut [DartRecord], vertices: &mut [VertexRecord], d: u32, corner: Corner)
     requires d_in { d < length darts.old }
     requires within { IsPutWithin darts.old vertices.old d corner }
@@ -187,6 +189,7 @@ fn put(darts: &mut [DartRecord], vertices: &mut [VertexRecord], d: u32, corner: 
 }
 
 // Puts the two darts of the first free edge into corners. Only the clauses name `spare`.
+#[inline(always)]
 fn put_edge(
     darts: &mut [DartRecord],
     vertices: &mut [VertexRecord],

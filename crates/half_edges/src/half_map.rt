@@ -4,10 +4,11 @@ ghost use Rattle.map_theory.specs.Maps.{HasDart, list_of, vertex_count, edge_cou
 ghost use Rattle.simple_maps.specs.Faults.{first_fault};
 ghost use Rattle.half_edges.specs.Map.{IsHalfMap, IsLive, dart_at, first_dart, next_dart};
 ghost use Rattle.simple_maps.specs.MapFault.{Names};
+ghost use Rattle.simple_maps.specs.Tables.{AreSlots};
 
 use crate::arena::{DartRecord, VertexRecord, dart_to, link_darts, push_heads};
 use map_lists::{DartId, Rotations, VertexId};
-use simple_maps::{MapFault, fill_slots};
+use simple_maps::{MapFault, fill_twins, put_slots};
 use std::alloc::{AllocError, Global};
 use std::marker::Model;
 use std::mem;
@@ -40,48 +41,40 @@ impl Model for HalfMap {
     ghost invariant = { λ m. IsArena (arena_lists m.darts.items m.vertices.items) m.darts.items m.vertices.items m.edges m.free m.spare };
 }
 
-/// Makes maps, one after another, in the memory of maps that are done with.
+/// The memory of maps that are done with, in which others are made.
 #[derive(Drop)]
-pub struct MapMaker {
+pub struct MapMemory {
     alloc: Global,
-    tails: Vec<u16>,
-    twins: Vec<u32>,
-    threads: Vec<u32>,
     darts: Vec<DartRecord>,
     vertices: Vec<VertexRecord>,
 }
 
-impl MapMaker {
-    /// A maker that has made nothing yet. It takes no memory.
-    pub fn new(alloc: Global) -> MapMaker {
-        MapMaker {
+impl MapMemory {
+    /// No memory yet.
+    pub fn new(alloc: Global) -> MapMemory {
+        MapMemory {
             alloc,
-            tails: Vec::new(alloc),
-            twins: Vec::new(alloc),
-            threads: Vec::new(alloc),
             darts: Vec::new(alloc),
             vertices: Vec::new(alloc),
         }
     }
 
-    /// The map with these lists, or their first fault, as `HalfMap::from_rotations` has it. After `NoMemory` the maker
-    /// serves as before.
-    pub fn from_rotations(&mut self, lists: &Rotations) -> Result<HalfMap, MapFault>
-        requires some_list { 0 < length lists.now }
+    /// The map with these lists, which are a simple map, by the tails and the twins of their darts. It fails only when
+    /// out of memory.
+    #[inline(always)]
+    pub fn from_twins(
+        &mut self,
+        lists: &Rotations,
+        tails: &[u16],
+        twins: &[u32],
+    ) -> Result<HalfMap, AllocError>
+        requires slots { AreSlots lists.now tails.now twins.now }
+        requires count { length tails.now ≡ length twins.now }
         ensures lists { IfOk result (λ map. map.lists ≡ lists.now) }
         ensures spare { IfOk result (λ map. map.spare ≡ 0) }
-        ensures simple { IfOk result (λ map. first_fault lists.now ≡ None) }
-        ensures fault { IfErr result (Names (first_fault lists.now)) }
         ensures known { IfOk result IsHalfMap }
     {
-        fill_slots(
-            self.alloc,
-            lists,
-            &mut self.tails,
-            &mut self.twins,
-            &mut self.threads,
-            &mut self.darts,
-        )?;
+        put_slots(lists, tails, twins, &mut self.darts)?;
         link_darts(lists, &mut self.darts, &mut self.vertices)?;
         let edges = (self.darts.len() / 2) as u32;
         let darts = mem::replace(&mut self.darts, Vec::new(self.alloc));
@@ -99,6 +92,55 @@ impl MapMaker {
     pub fn keep(&mut self, map: HalfMap) {
         self.darts = map.darts;
         self.vertices = map.vertices;
+    }
+}
+
+/// Makes maps, one after another, in the memory of maps that are done with.
+#[derive(Drop)]
+pub struct MapMaker {
+    alloc: Global,
+    tails: Vec<u16>,
+    twins: Vec<u32>,
+    threads: Vec<u32>,
+    memory: MapMemory,
+}
+
+impl MapMaker {
+    /// A maker that has made nothing yet. It takes no memory.
+    pub fn new(alloc: Global) -> MapMaker {
+        MapMaker {
+            alloc,
+            tails: Vec::new(alloc),
+            twins: Vec::new(alloc),
+            threads: Vec::new(alloc),
+            memory: MapMemory::new(alloc),
+        }
+    }
+
+    /// The map with these lists, or their first fault, as `HalfMap::from_rotations` has it. After `NoMemory` the maker
+    /// serves as before.
+    pub fn from_rotations(&mut self, lists: &Rotations) -> Result<HalfMap, MapFault>
+        requires some_list { 0 < length lists.now }
+        ensures lists { IfOk result (λ map. map.lists ≡ lists.now) }
+        ensures spare { IfOk result (λ map. map.spare ≡ 0) }
+        ensures simple { IfOk result (λ map. first_fault lists.now ≡ None) }
+        ensures fault { IfErr result (Names (first_fault lists.now)) }
+        ensures known { IfOk result IsHalfMap }
+    {
+        fill_twins(
+            self.alloc,
+            lists,
+            &mut self.tails,
+            &mut self.twins,
+            &mut self.threads,
+        )?;
+        let map = self.memory.from_twins(lists, &self.tails, &self.twins)?;
+        Ok(map)
+    }
+
+    /// Keeps the memory of a map that is done with.
+    pub fn keep(&mut self, map: HalfMap) {
+        self.memory.keep(map);
     }
 }
 

@@ -11,7 +11,7 @@ mod half_map;
 mod parts;
 
 pub use edges::Corner;
-pub use half_map::{HalfMap, MapMaker};
+pub use half_map::{HalfMap, MapMaker, MapMemory};
 pub use map_lists::{
     Counts, DartId, EdgeList, Ends, FaceId, PathList, Rotations, VertexId, VertexList,
 };

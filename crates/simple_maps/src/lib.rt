@@ -14,4 +14,4 @@ mod twins;
 pub use fault::MapFault;
 pub use laws::{first_fault_is_first, no_fault_is_simple};
 pub use pass::DartSlot;
-pub use slots::{fill_slots, fill_twins};
+pub use slots::{fill_twins, put_slots};

@@ -52,11 +52,11 @@ fn are_below(entries: &[u16], n: usize) -> bool
 fn are_paired(twins: &[u32]) -> bool
     ensures { OnTrue result (All (λ t. t < 16777216) twins.now) }
 {
-    let mut greatest = 0;
+    let mut joined = 0;
     for twin in twins {
-        greatest = greatest.max(*twin);
+        joined |= *twin;
     }
-    greatest < NO_PLACE
+    joined < NO_PLACE
 }
 
 // The list of `v`, as a part of the entries of all lists: from `start` on and before `end`.

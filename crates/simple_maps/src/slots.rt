@@ -120,27 +120,21 @@ fn write_slots<P: DartSlot>(tails: &[u16], twins: &[u32], slots: &mut [P])
     }
 }
 
-/// Makes `slots` those of the darts of lists, which are from 1 to 4095, or answers the first fault of the
-/// lists.
+/// Makes `slots` those of the darts of lists that are a simple map, of which the tails and the twins are known.
 ///
-/// The vectors may hold anything before; they are kept by a caller who has many maps, so that their
-/// memory serves for all. The time is linear in the entries, and so is the memory: one slot and
-/// six bytes for each dart, and one number for each vertex.
-pub fn fill_slots<P: DartSlot>(
-    alloc: Global,
+/// The vector may hold anything before. The time is linear in the entries, and so is the memory.
+pub fn put_slots<P: DartSlot>(
     lists: &Rotations,
-    tails: &mut Vec<u16>,
-    twins: &mut Vec<u32>,
-    threads: &mut Vec<u32>,
+    tails: &[u16],
+    twins: &[u32],
     slots: &mut Vec<P>,
-) -> Result<(), MapFault>
-    requires some_list { 0 < length lists.now }
+) -> Result<(), AllocError>
+    requires known { AreSlots lists.now tails.now twins.now }
+    requires count { length tails.now ≡ length twins.now }
     ensures slots { OnOk result (AreSlots lists.now (map P.tail_of slots.new.items) (map P.twin_of slots.new.items)) }
     ensures line { OnOk result (AreInLine P.IsInLine slots.new.items (length slots.new.items)) }
-    ensures fault { IfErr result (Names (first_fault lists.now)) }
 {
     lists.facts();
-    fill_twins(alloc, lists, tails, twins, threads)?;
     slots.resize(twins.len(), P::new(0, 0, 0))?;
     write_slots(tails, twins, slots);
     Ok(())
