@@ -64,8 +64,23 @@ fn count_twins(
     ensures f { result.f ≡ face_count (cut 0 ends.now entries.now) }
     ensures c { result.c ≡ component_count (cut 0 ends.now entries.now) }
 {
-    let orbits = count_orbits(entries, ends, twins);
     let c = number_components(entries, ends, numbers, queue);
+    count_known(entries, ends, twins, c)
+}
+
+// The counts of lists by the twins of their darts, where there are so many components.
+fn count_known(entries: &[u16], ends: &[usize], twins: &mut [u32], c: u16) -> EulerCount
+    requires cuts { AreCuts 0 ends.now (length entries.now) }
+    requires few { length ends.now < 4096 }
+    requires simple { IsSimpleMap (cut 0 ends.now entries.now) }
+    requires twins { AreTwins (darts (cut 0 ends.now entries.now)) twins.old (length (darts (cut 0 ends.now entries.now))) }
+    requires components { c ≡ component_count (cut 0 ends.now entries.now) }
+    ensures n { result.n ≡ vertex_count (cut 0 ends.now entries.now) }
+    ensures m { result.m ≡ edge_count (cut 0 ends.now entries.now) }
+    ensures f { result.f ≡ face_count (cut 0 ends.now entries.now) }
+    ensures c { result.c ≡ component_count (cut 0 ends.now entries.now) }
+{
+    let orbits = count_orbits(entries, ends, twins);
     let isolated = isolated_of(entries, ends, c);
     EulerCount {
         n: ends.len() as u32,
@@ -73,6 +88,22 @@ fn count_twins(
         f: orbits + isolated,
         c: c as u32,
     }
+}
+
+/// The counts of lists that are a simple map, by the twins of their darts, and of which the components are counted
+/// already. The faces are walked over the twins, which are lost. The time is linear in the entries, and no memory is
+/// taken.
+pub fn euler_by_twins(lists: &Rotations, twins: &mut [u32], components: u16) -> EulerCount
+    requires simple { IsSimpleMap lists.now }
+    requires twins { AreTwins (darts lists.now) twins.old (length (darts lists.now)) }
+    requires components { components ≡ component_count lists.now }
+    ensures n { result.n ≡ vertex_count lists.now }
+    ensures m { result.m ≡ edge_count lists.now }
+    ensures f { result.f ≡ face_count lists.now }
+    ensures c { result.c ≡ component_count lists.now }
+{
+    lists.facts();
+    count_known(lists.entries(), lists.ends(), twins, components)
 }
 
 /// Counts lists, one after another, and keeps its memory for the next.

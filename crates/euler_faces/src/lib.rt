@@ -13,7 +13,7 @@ mod walks;
 
 pub use chains::mark_reached;
 pub use components::{UNMET, number_components};
-pub use count::{Counter, EulerCount, count_lists, euler};
+pub use count::{Counter, EulerCount, count_lists, euler, euler_by_twins};
 pub use face_walks::faces;
 pub use map_faces::euler_by_components;
 pub use walks::Faces;

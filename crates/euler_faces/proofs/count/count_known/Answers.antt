@@ -8,7 +8,7 @@ use Rattle.map_theory.proofs.DartLemmas.{length-darts}
 use Rattle.map_theory.proofs.DartCounts.{few_darts-simple}
 use Rattle.simple_maps.proofs.FlatLemmas.{count-is}
 use Rattle.map_theory.proofs.DartPermutations.{euler_bound_map}
-use Rattle.euler_faces.proofs.count.count_twins.Goals as goal
+use Rattle.euler_faces.proofs.count.count_known.Goals as goal
 
 pub count_orbits-orbits-requires-clause-few : goal.count_orbits-orbits-requires-clause-few
 count_orbits-orbits-requires-clause-few c =
@@ -59,8 +59,7 @@ invariant_of-result c =
     let bound = euler_bound_map lists c.requires.simple in
     let orbits = c.count_orbits-orbits.ensures.count in
     let isolated = c.isolated_of-isolated.ensures.count in
-    let components = c.number_components-c.ensures.count in
-    let few_components = c.number_components-c.ensures.few in
+    let components = c.requires.components in
     let halves : edge_count lists ≡ length c.args.entries.now / 2 = ap (λ n. n / 2) all in
     record {
       few_vertices = omega arith;
