@@ -1,17 +1,19 @@
 //! The map of a record, made once, with what is counted of it.
 ghost use Rattle.std.specs.Prelude.{◌≡◌, ◌<◌, ◌≤◌, length, Some, None, IfOk, IfErr, OnOk};
-ghost use Rattle.map_theory.specs.Maps.{IsSimpleMap, IsPlane, vertex_count};
+ghost use Rattle.map_theory.specs.Maps.{IsSimpleMap, IsPlane, darts, vertex_count};
 ghost use Rattle.simple_maps.specs.Faults.{first_fault};
 ghost use Rattle.simple_maps.specs.MapFault.{Names};
+ghost use Rattle.simple_maps.specs.Tables.{AreTwins};
 ghost use Rattle.refusals.specs.Conditions.{first_refusal, IfRefused};
 ghost use Rattle.conn_parts.specs.Counted.{IsCountOf, IsCountedMap, IsPlaneMap};
+ghost use Rattle.conn_parts.specs.Parts.{ArePartsOf};
 
 use crate::Parts;
 use crate::parts::numbered_parts;
-use euler_faces::{Counter, EulerCount, count_lists, euler_by_components};
-use half_edges::{HalfMap, MapMaker, Rotations};
+use euler_faces::{Counter, EulerCount, count_lists, euler_by_twins};
+use half_edges::{HalfMap, MapMemory, Rotations};
 use refusals::{Refusal, Unserved};
-use simple_maps::{MapFault, no_fault_is_simple};
+use simple_maps::{MapFault, fill_twins, no_fault_is_simple};
 use std::alloc::Global;
 use std::mem;
 
@@ -42,9 +44,13 @@ pub fn counted_map(alloc: Global, lists: &Rotations) -> Result<CountedMap, MapFa
 #[derive(Drop)]
 pub struct CountedMaker {
     alloc: Global,
-    maps: MapMaker,
-    parts: Parts,
+    tails: Vec<u16>,
+    twins: Vec<u32>,
+    threads: Vec<u32>,
+    maps: MapMemory,
     queue: Vec<u16>,
+    /// The components of the map that was made last.
+    pub parts: Parts,
 }
 
 impl CountedMaker {
@@ -52,9 +58,12 @@ impl CountedMaker {
     pub fn new(alloc: Global) -> CountedMaker {
         CountedMaker {
             alloc,
-            maps: MapMaker::new(alloc),
-            parts: Parts::new(alloc),
+            tails: Vec::new(alloc),
+            twins: Vec::new(alloc),
+            threads: Vec::new(alloc),
+            maps: MapMemory::new(alloc),
             queue: Vec::new(alloc),
+            parts: Parts::new(alloc),
         }
     }
 
@@ -66,12 +75,55 @@ impl CountedMaker {
         ensures simple { OnOk result (first_fault lists.now ≡ None) }
         ensures fault { IfErr result (Names (first_fault lists.now)) }
     {
-        let map = self.maps.from_rotations(lists)?;
-        no_fault_is_simple();
+        let map = self.half_map(lists)?;
+        let count = euler_by_twins(lists, &mut self.twins, self.parts.count());
+        let parts = mem::replace(&mut self.parts, Parts::new(self.alloc));
+        Ok(CountedMap { map, parts, count })
+    }
+
+    // The map with these lists, of which the components are `parts` then, and the twins of its darts are known.
+    #[inline(always)]
+    fn half_map(&mut self, lists: &Rotations) -> Result<HalfMap, MapFault>
+        requires some_list { 0 < length lists.now }
+        ensures lists { IfOk result (λ map. map.lists ≡ lists.now) }
+        ensures parts { OnOk result (ArePartsOf lists.now self.new.parts) }
+        ensures known { OnOk result (IsSimpleMap lists.now) }
+        ensures twins { OnOk result (AreTwins (darts lists.now) self.new.twins.items (length (darts lists.now))) }
+        ensures simple { OnOk result (first_fault lists.now ≡ None) }
+        ensures fault { IfErr result (Names (first_fault lists.now)) }
+    {
+        fill_twins(
+            self.alloc,
+            lists,
+            &mut self.tails,
+            &mut self.twins,
+            &mut self.threads,
+        )?;
+        let map = self.maps.from_twins(lists, &self.tails, &self.twins)?;
         let spent = mem::replace(&mut self.parts, Parts::new(self.alloc));
         let parts = numbered_parts(lists, spent, &mut self.queue)?;
-        let count = euler_by_components(self.alloc, &map, parts.count())?;
-        Ok(CountedMap { map, parts, count })
+        self.parts = parts;
+        Ok(map)
+    }
+
+    /// The map of a record, as `plane_map` has it, with its components in `parts`. After `NoMemory` the maker serves as
+    /// before.
+    #[inline(always)]
+    pub fn plane_half_map(&mut self, lists: &Rotations, least: u16) -> Result<HalfMap, Unserved>
+        requires some_list { 0 < length lists.now }
+        ensures lists { IfOk result (λ map. map.lists ≡ lists.now) }
+        ensures parts { OnOk result (ArePartsOf lists.now self.new.parts) }
+        ensures simple { OnOk result (IsSimpleMap lists.now) }
+        ensures some { OnOk result (least ≤ vertex_count lists.now) }
+        ensures plane { OnOk result (IsPlane lists.now) }
+        ensures served { OnOk result (first_refusal least lists.now ≡ None) }
+        ensures refused { IfErr result (IfRefused (λ refusal. first_refusal least lists.now ≡ Some refusal)) }
+    {
+        refuse_dense(self.alloc, lists, least)?;
+        let map = self.half_map(lists)?;
+        let count = euler_by_twins(lists, &mut self.twins, self.parts.count());
+        refuse_counted(lists, count, least)?;
+        Ok(map)
     }
 
     /// The map of a record, as `plane_map` has it. After `NoMemory` the maker serves as before.

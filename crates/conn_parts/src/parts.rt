@@ -73,6 +73,7 @@ pub fn list_components(alloc: Global, lists: &Rotations) -> Result<Parts, AllocE
 }
 
 // The components of lists, as `list_components` has them, in the memory of others that are done with.
+#[inline(always)]
 pub(crate) fn numbered_parts(
     lists: &Rotations,
     spent: Parts,

@@ -1,4 +1,16 @@
+use Rattle.std.proofs.Common.{◌∙◌}
 use Rattle.conn_parts.proofs.counted.CountedMaker.counted_map.Goals as goal
 
-pub numbered_parts-requires : goal.numbered_parts-requires
-numbered_parts-requires c = record { simple = (c.no_fault_is_simple.ensures c.args.lists.now c.requires.some_list).0 c.in_ok-map.ensures.simple }
+pub euler_by_twins-count-requires-clause-twins : goal.euler_by_twins-count-requires-clause-twins
+euler_by_twins-count-requires-clause-twins c = rw c.deref_mut.ensures.value c.in_ok-map.ensures.twins
+
+pub euler_by_twins-count-requires-clause-components : goal.euler_by_twins-count-requires-clause-components
+euler_by_twins-count-requires-clause-components c = c.count.ensures ∙ c.in_ok-map.ensures.parts.count
+
+pub returns-clause-counted : goal.returns-clause-counted
+returns-clause-counted c = record {
+  simple = c.in_ok-map.ensures.known;
+  lists_are = c.in_ok-map.ensures.lists;
+  parts = rw c.replace-parts.ensures.value c.in_ok-map.ensures.parts;
+  count = record { n = c.euler_by_twins-count.ensures.n; m = c.euler_by_twins-count.ensures.m; f = c.euler_by_twins-count.ensures.f; c = c.euler_by_twins-count.ensures.c };
+}
