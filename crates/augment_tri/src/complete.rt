@@ -1,5 +1,5 @@
 //! Maps with edges put in until all faces are triangles.
-ghost use Rattle.std.specs.Prelude.{◌≡◌, ◌≤◌, ℕ, Some, IfOk, IfErr};
+ghost use Rattle.std.specs.Prelude.{◌≡◌, ◌≤◌, ℕ, Some, IfOk, IfErr, OnOk, OnErr};
 ghost use Rattle.map_theory.specs.Maps.{IsPlane, vertex_count};
 ghost use Rattle.plane_laws.specs.Triangulations.{IsTriangulation};
 ghost use Rattle.plane_laws.specs.MapEditsCompleted.{IsExtended};
@@ -45,16 +45,34 @@ pub fn triangulate_parts(map: HalfMap, parts: &Parts) -> Result<HalfMap, (HalfMa
     ensures err { IfErr result (λ e. e.0 ≡ map) }
 {
     let mut map = map;
+    match complete_parts(&mut map, parts) {
+        Ok(()) => Ok(map),
+        Err(e) => Err((map, e)),
+    }
+}
+
+/// Completes a map as [`triangulate_parts`] does, where it stands.
+#[inline(always)]
+pub fn complete_parts(map: &mut HalfMap, parts: &Parts) -> Result<(), AllocError>
+    requires plane { IsPlane map.old.lists }
+    requires some { 3 ≤ vertex_count map.old.lists }
+    requires parts { ArePartsOf map.old.lists parts.now }
+    ensures triangulation { OnOk result (IsTriangulation map.new.lists) }
+    ensures extended { OnOk result (IsExtended map.old.lists map.new.lists) }
+    ensures ids { OnOk result ((d v u : ℕ) → dart_at map.old d ≡ Some (v, u) → dart_at map.new d ≡ Some (v, u)) }
+    ensures known { OnOk result (IsHalfMap map.new) }
+    ensures err { OnErr result (map.new ≡ map.old) }
+{
     let room = 3 * map.n() as u32 - 6 - map.m();
     if room == 0 {
-        return Ok(map);
+        return Ok(());
     }
     match map.reserve_edges(room) {
         Ok(()) => {
-            join_parts(&mut map, parts);
-            fill(&mut map);
-            Ok(map)
+            join_parts(map, parts);
+            fill(map);
+            Ok(())
         }
-        Err(e) => Err((map, e)),
+        Err(e) => Err(e),
     }
 }

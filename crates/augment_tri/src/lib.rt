@@ -6,4 +6,4 @@ mod ears;
 mod fill;
 mod join;
 
-pub use complete::{triangulate, triangulate_parts};
+pub use complete::{complete_parts, triangulate, triangulate_parts};

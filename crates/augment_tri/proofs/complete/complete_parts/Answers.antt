@@ -4,11 +4,11 @@ use Rattle.plane_laws.specs.MapEditsCompleted.{IsExtended}
 use Rattle.plane_laws.proofs.Extended.{IsExtended-itself}
 use Rattle.plane_laws.proofs.EdgeBound.{edge_bound}
 use Rattle.augment_tri.proofs.Growth.{IsGrown-chained}
-use Rattle.augment_tri.proofs.complete.triangulate_parts.Goals as goal
+use Rattle.augment_tri.proofs.complete.complete_parts.Goals as goal
 
 pub overflow_sub-room-2 : goal.overflow_sub-room-2
 overflow_sub-room-2 c =
-    let bound = edge_bound c.args.map.lists c.n.ensures.known.simple c.requires.plane c.requires.some in
+    let bound = edge_bound c.args.map.now.lists c.n.ensures.known.simple c.requires.plane c.requires.some in
     omega (arith, c.n.ensures.count, c.m.ensures.count)
 
 pub returns-in-Ok-clause-triangulation : goal.returns-in-Ok-clause-triangulation
@@ -28,7 +28,7 @@ returns-in-Ok-clause-extended c =
 
 pub returns-then-room-eq0-clause-triangulation : goal.returns-then-room-eq0-clause-triangulation
 returns-then-room-eq0-clause-triangulation c =
-    let bound = edge_bound c.args.map.lists c.n.ensures.known.simple c.requires.plane c.requires.some in
+    let bound = edge_bound c.args.map.now.lists c.n.ensures.known.simple c.requires.plane c.requires.some in
     record {
       simple = c.n.ensures.known.simple;
       plane = c.requires.plane;
@@ -37,4 +37,4 @@ returns-then-room-eq0-clause-triangulation c =
     }
 
 pub returns-then-room-eq0-clause-extended : goal.returns-then-room-eq0-clause-extended
-returns-then-room-eq0-clause-extended c = IsExtended-itself c.args.map.lists
+returns-then-room-eq0-clause-extended c = IsExtended-itself c.args.map.now.lists
