@@ -74,7 +74,8 @@ pub struct Peeler {
     gone: Vec<bool>,
     stack: Vec<u16>,
     taken: Vec<u16>,
-    spent: Order,
+    /// The order of the triangulation that was ordered last.
+    pub order: Order,
 }
 
 impl Peeler {
@@ -86,7 +87,7 @@ impl Peeler {
             gone: Vec::new(alloc),
             stack: Vec::new(alloc),
             taken: Vec::new(alloc),
-            spent: Order::new(alloc),
+            order: Order::new(alloc),
         }
     }
 
@@ -126,20 +127,28 @@ impl Peeler {
         )
     }
 
-    // The order of a triangulation for its base.
-    fn order(&mut self, alloc: Global, base: &Base<'_>) -> Result<Order, AllocError>
-        ensures order { IfOk result (λ order. IsCanonicalOrder base.now.lists.now (base.now.t, base.now.s) (vertices_of order)) }
+    // Makes `order` that of a triangulation for its base.
+    fn peel(&mut self, alloc: Global, base: &Base<'_>) -> Result<(), AllocError>
+        ensures order { OnOk result (IsCanonicalOrder base.now.lists.now (base.now.t, base.now.s) (vertices_of self.new.order)) }
     {
         base.facts();
         self.take(base)?;
-        let spent = mem::replace(&mut self.spent, Order::new(alloc));
+        let spent = mem::replace(&mut self.order, Order::new(alloc));
         let order = turned_into(spent, &self.taken)?;
-        Ok(order)
+        self.order = order;
+        Ok(())
     }
 
     /// Keeps the memory of an order that is done with.
     pub fn keep(&mut self, order: Order) {
-        self.spent = order;
+        self.order = order;
+    }
+
+    // The order that was found last.
+    fn found(&mut self, alloc: Global) -> Order
+        ensures { vertices_of result ≡ vertices_of self.old.order }
+    {
+        mem::replace(&mut self.order, Order::new(alloc))
     }
 
     /// Orders as [`list_order`] does.
@@ -155,6 +164,25 @@ impl Peeler {
         requires live { IsLive tri.now base.0 }
         ensures order { IfOk result (λ order. (t s : ℕ) → dart_at tri.now base.0 ≡ Some (t, s) → IsCanonicalOrder tri.now.lists (t, s) (vertices_of order)) }
     {
+        self.order_map(alloc, tri, lists, base)?;
+        let order = self.found(alloc);
+        Ok(order)
+    }
+
+    /// Orders as [`list_order`] does, and leaves the order in `order`.
+    #[inline(always)]
+    pub fn order_map(
+        &mut self,
+        alloc: Global,
+        tri: &HalfMap,
+        lists: &Rotations,
+        base: DartId,
+    ) -> Result<(), AllocError>
+        requires triangulation { IsTriangulation tri.now.lists }
+        requires lists { lists.now ≡ tri.now.lists }
+        requires live { IsLive tri.now base.0 }
+        ensures order { OnOk result ((t s : ℕ) → dart_at tri.now base.0 ≡ Some (t, s) → IsCanonicalOrder tri.now.lists (t, s) (vertices_of self.new.order)) }
+    {
         tri.facts();
         let t = tri.tail(base).0;
         let s = tri.head(base).0;
@@ -167,8 +195,8 @@ impl Peeler {
             third,
             under,
         };
-        let order = self.order(alloc, &based)?;
-        Ok(order)
+        self.peel(alloc, &based)?;
+        Ok(())
     }
 
     /// Orders as [`base_order`] does.
@@ -183,6 +211,24 @@ impl Peeler {
         requires base { HasDart lists.now t s }
         ensures order { IfOk result (λ order. IsCanonicalOrder lists.now (t, s) (vertices_of order)) }
     {
+        self.order_lists(alloc, lists, t, s)?;
+        let order = self.found(alloc);
+        Ok(order)
+    }
+
+    /// Orders as [`base_order`] does, and leaves the order in `order`.
+    #[inline(always)]
+    pub fn order_lists(
+        &mut self,
+        alloc: Global,
+        lists: &Rotations,
+        t: u16,
+        s: u16,
+    ) -> Result<(), AllocError>
+        requires triangulation { IsTriangulation lists.now }
+        requires base { HasDart lists.now t s }
+        ensures order { OnOk result (IsCanonicalOrder lists.now (t, s) (vertices_of self.new.order)) }
+    {
         lists.facts();
         let third = entry_behind(lists.list(s as usize), t);
         let under = entry_behind(lists.list(t as usize), s);
@@ -193,8 +239,8 @@ impl Peeler {
             third,
             under,
         };
-        let order = self.order(alloc, &base)?;
-        Ok(order)
+        self.peel(alloc, &base)?;
+        Ok(())
     }
 }
 

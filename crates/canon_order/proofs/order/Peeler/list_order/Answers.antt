@@ -1,12 +1,8 @@
-use Rattle.std.proofs.Common.{rules, length, sym, ap, subst, arith}
-use Rattle.plane_laws.specs.Triangulations.{IsTriangulation}
+use Rattle.std.proofs.Common.{ℕ, List, subst, sym}
+use Rattle.canon_order.specs.Orders.{IsCanonicalOrder}
 use Rattle.canon_order.proofs.order.Peeler.list_order.Goals as goal
 
-pub invariant_of-based : goal.invariant_of-based
-invariant_of-based c = record {
-  few = omega (arith, ap length c.requires.lists, c.facts.ensures.few_vertices);
-  triangulated = ∣ subst IsTriangulation (sym c.requires.lists) c.requires.triangulation ∣₁;
-  dart = ∣ search rules ∣₁;
-  left = search rules;
-  right = search rules;
+pub returns : goal.returns
+returns c = record {
+  order = λ t s d. subst (λ (us : List ℕ). IsCanonicalOrder c.args.tri.now.lists (t, s) us) (sym c.found-order.ensures) (c.in_ok-order_map.ensures.order t s d);
 }

@@ -1,5 +1,5 @@
 use Rattle.std.proofs.Common.{ℕ, List, Contains, subst, sym}
-use Rattle.canon_order.proofs.order.Peeler.base_order.Goals as goal
+use Rattle.canon_order.proofs.order.Peeler.order_lists.Goals as goal
 
 pub list-requires : goal.list-requires
 list-requires c = c.requires.triangulation.simple.in_range c.args.t c.args.s c.requires.base

@@ -1,6 +1,6 @@
 use Rattle.std.proofs.Common.{◌≢◌, ◌<◌, ℕ, List, length, All, AllPairs, subst, sym}
 use Rattle.canon_order.proofs.Contours.{taken_within, taken_apart}
-use Rattle.canon_order.proofs.order.Peeler.order.Goals as goal
+use Rattle.canon_order.proofs.order.Peeler.peel.Goals as goal
 
 pub turned_into-requires-clause-within : goal.turned_into-requires-clause-within
 turned_into-requires-clause-within c =
