@@ -1,6 +1,6 @@
 -- From a drawing of a completion to the drawing of the map.
 use Rattle.std.proofs.Common.{◌≡◌, ◌⊎◌, ℕ, zero, suc, ◌<◌, ◌≤◌, List, [], ◌∷◌, length, get_or, Contains, ℤ, refl, sym, ap, subst, ◌∙◌, inl, inr, arith, eqb, eqb-true}
-use Rattle.std.specs.Prelude.{Option, Some, None, IfSome, IfNone, MatchOption}
+use Rattle.std.specs.Prelude.{Bool, true, false, if◌then◌else◌, Option, Some, None, IfSome, IfNone, MatchOption}
 use Rattle.std.specs.List.{list_any}
 use Rattle.std.proofs.lemmas.Bool.{true≢false, both_ways, cases_Bool, cases_lt}
 use Rattle.map_lists.specs.Lists.{Lists}
@@ -21,7 +21,7 @@ use Rattle.draw_check.specs.Outer.{HasOuterFace}
 use Rattle.draw_check.proofs.ValidFewer.{dart_more, valid_with_fewer}
 use Rattle.draw_check.proofs.OuterFewer.{outer_fewer}
 use Rattle.grid_figures.specs.DrawingOrdersBases.{LeadsToLeast}
-use Rattle.grid_figures.specs.Orders.{IsBaseTo}
+use Rattle.grid_figures.specs.Orders.{IsBaseTo, lists_by}
 use Rattle.grid_figures.specs.DrawingOrdersLaws.{IsCompletionFor, IsBaseDrawing}
 
 -- a list is empty, or it has an entry
@@ -136,10 +136,10 @@ some_completion lists completion simple plane some =
     let base = base_in lists more.0 simple more.1 more.2 in
     (more.0, (base.0, record { simple = simple; triangulation = more.1; extended = more.2; base = base.1 }))
 
--- the lists made for a completion, or else the record's own, are those of the completion
-pub listed_in : (own lists result more : Lists) (made : Option Lists) → own ≡ lists → MatchOption made (result ≡ own) (λ ls. result ≡ ls) → MatchOption made (lists ≡ more) (λ ls. ls ≡ more) → result ≡ more
-listed_in own lists result more None same given h = given ∙ (same ∙ h)
-listed_in own lists result more (Some ls) same given h = given ∙ h
+-- the lists of a completion as an option: those that were made for it, where edges were put in, and else its own
+pub listed_by : (made : Bool) (read own more : Lists) → lists_by made read own ≡ more → MatchOption (if made then Some read else None) (own ≡ more) (λ ls. ls ≡ more)
+listed_by true read own more e = e
+listed_by false read own more e = e
 
 -- a triangulation is its own completion, for the base to the first neighbour of vertex 0
 pub full_completion : (lists : Lists) → IsTriangulation lists → IsCompletionFor lists lists (get_or (list_of lists 0) 0 0)

@@ -6,8 +6,8 @@ ghost use Rattle.grid_figures.specs.DrawingOrdersLaws.{CompletionDraws, SomeComp
 mod full;
 mod order;
 
-pub(crate) use full::{full_order, is_triangulated};
-pub(crate) use order::{Tools, made_or, ordered_plane, ordered_record};
+pub(crate) use full::{is_triangulated, order_full};
+pub(crate) use order::{Tools, made_or};
 pub use order::{DrawingOrder, drawing_order};
 
 /// A plane drawing of a completion of a map in a grid is a valid drawing of the map, with its outer face.

@@ -1,5 +1,5 @@
 //! A record that is a triangulation already: found by its counts, and ordered by its lists, with no map made of them.
-ghost use Rattle.std.specs.Prelude.{◌≡◌, slice_index, Some, None, IfOk, IfErr};
+ghost use Rattle.std.specs.Prelude.{◌≡◌, slice_index, Some, None, IfOk, IfErr, OnOk};
 ghost use Rattle.std.specs.Bool.{OnTrue};
 ghost use Rattle.map_theory.specs.Maps.{list_of};
 ghost use Rattle.plane_laws.specs.Triangulations.{IsTriangulation};
@@ -7,7 +7,7 @@ ghost use Rattle.canon_order.specs.Orders.{IsCanonicalOrder, vertices_of};
 ghost use Rattle.refusals.specs.Conditions.{first_refusal, IfRefused};
 
 use crate::record::Record;
-use canon_order::{Order, Peeler};
+use canon_order::Peeler;
 use conn_parts::plane_count;
 use euler_faces::Counter;
 use refusals::Unserved;
@@ -27,14 +27,14 @@ pub(crate) fn is_triangulated(counter: &mut Counter, input: &Record<'_>) -> Resu
     Ok(count.m.wrapping_add(6) == 3 * count.n)
 }
 
-/// A canonical order of the triangulation with these lists, for the base from vertex 0 to the first of its list.
-pub(crate) fn full_order(
+/// Orders the triangulation with these lists, for the base from vertex 0 to the first of its list.
+pub(crate) fn order_full(
     alloc: Global,
     peeler: &mut Peeler,
     input: &Record<'_>,
-) -> Result<Order, AllocError>
+) -> Result<(), AllocError>
     requires { IsTriangulation input.now.lists.now }
-    ensures order { IfOk result (λ order. IsCanonicalOrder input.now.lists.now (0, slice_index (list_of input.now.lists.now 0) 0) (vertices_of order)) }
+    ensures order { OnOk result (IsCanonicalOrder input.now.lists.now (0, slice_index (list_of input.now.lists.now 0) 0) (vertices_of peeler.new.order)) }
 {
-    peeler.base_order(alloc, input.lists, 0, input.lists.list(0)[0])
+    peeler.order_lists(alloc, input.lists, 0, input.lists.list(0)[0])
 }

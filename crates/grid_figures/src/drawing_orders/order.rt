@@ -1,17 +1,18 @@
 //! A canonical order of the completion of a record's map, or why there is none.
-ghost use Rattle.std.specs.Prelude.{◌≡◌, ◌≤◌, ◌<◌, ℕ, length, Some, None, IfOk, IfErr, IfSome, IfNone, MatchOption, OnOk};
+ghost use Rattle.std.specs.Prelude.{◌≡◌, ◌≤◌, ◌<◌, ℕ, length, if◌then◌else◌, Some, None, IfOk, IfErr, IfSome, IfNone, OnOk};
+ghost use Rattle.map_theory.specs.Maps.{IsPlane, vertex_count};
 ghost use Rattle.plane_laws.specs.Triangulations.{IsTriangulation};
 ghost use Rattle.plane_laws.specs.MapEditsCompleted.{IsExtended};
 ghost use Rattle.half_edges.specs.Map.{dart_at};
-ghost use Rattle.conn_parts.specs.Counted.{IsPlaneMap};
+ghost use Rattle.conn_parts.specs.Parts.{ArePartsOf};
 ghost use Rattle.grid_figures.specs.DrawingOrdersBases.{LeadsToLeast};
-ghost use Rattle.grid_figures.specs.Orders.{IsDrawingOrder};
+ghost use Rattle.grid_figures.specs.Orders.{IsDrawingOrder, IsOrdered, lists_by};
 ghost use Rattle.refusals.specs.Conditions.{first_refusal, IfRefused};
 
 use crate::record::Record;
-use augment_tri::triangulate_parts;
+use augment_tri::complete_parts;
 use canon_order::{Order, Peeler};
-use conn_parts::{CountedMaker, CountedMap};
+use conn_parts::CountedMaker;
 use euler_faces::Counter;
 use half_edges::{DartId, HalfMap, Rotations, VertexId};
 use refusals::Unserved;
@@ -29,37 +30,15 @@ pub struct DrawingOrder {
     pub order: Order,
 }
 
-// The tables by which records are ordered, kept from one to the next: their counts, maps, lists and peels.
+// The tables by which records are ordered, kept from one to the next: their counts, maps, lists and orders.
 #[derive(Drop)]
 pub(crate) struct Tools {
     pub(crate) alloc: Global,
     pub(crate) counter: Counter,
     pub(crate) maps: CountedMaker,
+    // the lists of the triangulation that was completed last
     pub(crate) lists: Rotations,
     pub(crate) peeler: Peeler,
-}
-
-impl Tools {
-    // No memory yet.
-    pub(crate) fn new(alloc: Global) -> Tools {
-        Tools {
-            alloc,
-            counter: Counter::new(alloc),
-            maps: CountedMaker::new(alloc),
-            lists: Rotations::new(alloc),
-            peeler: Peeler::new(alloc),
-        }
-    }
-
-    // Keeps the memory of a triangulation that is drawn.
-    pub(crate) fn keep(&mut self, found: DrawingOrder) {
-        let DrawingOrder { tri, made, order } = found;
-        self.maps.keep_map(tri);
-        self.peeler.keep(order);
-        if let Some(lists) = made {
-            self.lists = lists;
-        }
-    }
 }
 
 // The dart from vertex 0 of a triangulation to its least neighbour.
@@ -88,96 +67,88 @@ fn base_dart(tri: &HalfMap, first: Option<DartId>) -> DartId
     }
 }
 
-// A map with edges put in until it is a triangulation.
-#[derive(Drop)]
-struct Completion {
-    // the triangulation
-    tri: HalfMap,
-    // its lists, where an edge was put in
-    made: Option<Rotations>,
-}
-
-// The completion of a map of genus zero with at least three vertices: the map itself, where it has 3n - 6 edges. Its
-// lists stand in the memory of `spent`.
-fn complete_map(
-    maps: &mut CountedMaker,
-    spent: Rotations,
-    plane: CountedMap,
-) -> Result<Completion, AllocError>
-    requires { IsPlaneMap 3 plane.map.lists plane }
-    ensures triangulation { IfOk result (λ done. IsTriangulation done.tri.lists) }
-    ensures extended { IfOk result (λ done. IsExtended plane.map.lists done.tri.lists) }
-    ensures ids { IfOk result (λ done. (d v u : ℕ) → dart_at plane.map d ≡ Some (v, u) → dart_at done.tri d ≡ Some (v, u)) }
-    ensures lists { IfOk result (λ done. MatchOption done.made (plane.map.lists ≡ done.tri.lists) (λ made. made ≡ done.tri.lists)) }
-{
-    if plane.map.m() == 3 * plane.map.n() as u32 - 6 {
-        return Ok(Completion {
-            tri: plane.map,
-            made: None,
-        });
-    }
-    match triangulate_parts(plane.map, &plane.parts) {
-        Ok(tri) => {
-            maps.keep_parts(plane.parts);
-            let lists = tri.read_into(spent)?;
-            Ok(Completion {
-                tri,
-                made: Some(lists),
-            })
+impl Tools {
+    // No memory yet.
+    pub(crate) fn new(alloc: Global) -> Tools {
+        Tools {
+            alloc,
+            counter: Counter::new(alloc),
+            maps: CountedMaker::new(alloc),
+            lists: Rotations::new(alloc),
+            peeler: Peeler::new(alloc),
         }
-        Err((_, e)) => Err(e),
+    }
+
+    // Completes a map of genus zero with at least three vertices, whose components are known. It answers whether edges
+    // were put in, and then `lists` are those of the completion.
+    #[inline(always)]
+    fn complete_map(&mut self, map: &mut HalfMap) -> Result<bool, AllocError>
+        requires plane { IsPlane map.old.lists }
+        requires some { 3 ≤ vertex_count map.old.lists }
+        requires parts { ArePartsOf map.old.lists self.old.maps.parts }
+        ensures triangulation { OnOk result (IsTriangulation map.new.lists) }
+        ensures extended { OnOk result (IsExtended map.old.lists map.new.lists) }
+        ensures ids { OnOk result ((d v u : ℕ) → dart_at map.old d ≡ Some (v, u) → dart_at map.new d ≡ Some (v, u)) }
+        ensures lists { IfOk result (λ made. lists_by made self.new.lists map.old.lists ≡ map.new.lists) }
+    {
+        if map.m() == 3 * map.n() as u32 - 6 {
+            return Ok(false);
+        }
+        complete_parts(map, &self.maps.parts)?;
+        let spent = mem::replace(&mut self.lists, Rotations::new(self.alloc));
+        let lists = map.read_into(spent)?;
+        self.lists = lists;
+        Ok(true)
+    }
+
+    // Completes a map of genus zero with these `lists` and at least three vertices, whose components are known, and orders
+    // it. It answers whether edges were put in.
+    #[inline(always)]
+    fn order_map(&mut self, map: &mut HalfMap, lists: &Rotations) -> Result<bool, AllocError>
+        requires plane { IsPlane map.old.lists }
+        requires some { 3 ≤ vertex_count map.old.lists }
+        requires parts { ArePartsOf map.old.lists self.old.maps.parts }
+        requires lists { lists.now ≡ map.old.lists }
+        ensures order { OnOk result (IsOrdered map.old.lists map.new.lists self.new.peeler.order) }
+        ensures lists { IfOk result (λ made. lists_by made self.new.lists map.old.lists ≡ map.new.lists) }
+    {
+        map.facts();
+        let first = map.first_dart(VertexId(0));
+        let made = self.complete_map(map)?;
+        map.facts();
+        let base = base_dart(map, first);
+        let own = made_or(made, &self.lists, lists);
+        self.peeler.order_map(self.alloc, map, own, base)?;
+        Ok(made)
+    }
+
+    // Orders a completion of the map of a record, or tells the first condition that the record breaks. It answers whether
+    // edges were put in, and then `lists` are those of the completion.
+    #[inline(always)]
+    pub(crate) fn order_record(&mut self, input: &Record<'_>) -> Result<bool, Unserved>
+        ensures order { IfOk result (λ made. IsOrdered input.now.lists.now (lists_by made self.new.lists input.now.lists.now) self.new.peeler.order) }
+        ensures served { OnOk result (first_refusal 3 input.now.lists.now ≡ None) }
+        ensures refused { IfErr result (IfRefused (λ refusal. first_refusal 3 input.now.lists.now ≡ Some refusal)) }
+    {
+        let mut map = self.maps.plane_half_map(input.lists, 3)?;
+        let made = self.order_map(&mut map, input.lists)?;
+        self.maps.keep_map(map);
+        Ok(made)
     }
 }
 
-// The lists that were made for a completion, or else those of the record.
-pub(crate) fn made_or<'a>(made: &'a Option<Rotations>, own: &'a Rotations) -> &'a Rotations
-    ensures { MatchOption made.now (result.now ≡ own.now) (λ lists. result.now ≡ lists) }
+// The lists that were made for a completion, where edges were put in, or else those of the record.
+pub(crate) fn made_or<'a>(made: bool, lists: &'a Rotations, own: &'a Rotations) -> &'a Rotations
+    ensures { result.now ≡ lists_by made lists.now own.now }
 {
-    match made {
-        Some(lists) => lists,
-        None => own,
-    }
+    if made { lists } else { own }
 }
 
-// Completes a map of genus zero with these `lists` and at least three vertices, and orders it, by `tools` that may have
-// served other maps before.
-pub(crate) fn ordered_plane(
-    tools: &mut Tools,
-    plane: CountedMap,
-    lists: &Rotations,
-) -> Result<DrawingOrder, AllocError>
-    requires plane { IsPlaneMap 3 plane.map.lists plane }
-    requires lists { lists.now ≡ plane.map.lists }
-    ensures { IfOk result (IsDrawingOrder plane.map.lists) }
+// The lists that were made for a completion, where edges were put in.
+fn some_if(made: bool, lists: Rotations) -> Option<Rotations>
+    ensures { result ≡ (if made then Some lists else None) }
 {
-    plane.map.facts();
-    let first = plane.map.first_dart(VertexId(0));
-    let spent = mem::replace(&mut tools.lists, Rotations::new(tools.alloc));
-    let done = complete_map(&mut tools.maps, spent, plane)?;
-    done.tri.facts();
-    let base = base_dart(&done.tri, first);
-    let order = tools
-        .peeler
-        .list_order(tools.alloc, &done.tri, made_or(&done.made, lists), base)?;
-    Ok(DrawingOrder {
-        tri: done.tri,
-        made: done.made,
-        order,
-    })
-}
-
-// Like [`drawing_order`], but by `tools` that may have served other maps before.
-pub(crate) fn ordered_record(
-    tools: &mut Tools,
-    input: &Record<'_>,
-) -> Result<DrawingOrder, Unserved>
-    ensures order { IfOk result (IsDrawingOrder input.now.lists.now) }
-    ensures served { OnOk result (first_refusal 3 input.now.lists.now ≡ None) }
-    ensures refused { IfErr result (IfRefused (λ refusal. first_refusal 3 input.now.lists.now ≡ Some refusal)) }
-{
-    let plane = tools.maps.plane_map(input.lists, 3)?;
-    let found = ordered_plane(tools, plane, input.lists)?;
-    Ok(found)
+    if made { Some(lists) } else { None }
 }
 
 /// The completion of the map of a record with these lists, which are from 1 to 4095, and a canonical order of
@@ -193,8 +164,14 @@ pub fn drawing_order(alloc: Global, lists: &Rotations) -> Result<DrawingOrder, U
     ensures served { OnOk result (first_refusal 3 lists.now ≡ None) }
     ensures refused { IfErr result (IfRefused (λ refusal. first_refusal 3 lists.now ≡ Some refusal)) }
 {
-    lists.facts();
     let mut tools = Tools::new(alloc);
-    let found = ordered_record(&mut tools, &Record { lists })?;
-    Ok(found)
+    let mut map = tools.maps.plane_half_map(lists, 3)?;
+    let made = tools.order_map(&mut map, lists)?;
+    let read = tools.lists;
+    let peeler = tools.peeler;
+    Ok(DrawingOrder {
+        tri: map,
+        made: some_if(made, read),
+        order: peeler.order,
+    })
 }

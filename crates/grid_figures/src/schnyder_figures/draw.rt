@@ -3,17 +3,15 @@ ghost use Rattle.std.specs.Prelude.{◌≡◌, ◌<◌, length, Some, None, IfOk
 ghost use Rattle.map_theory.specs.Maps.{Dart};
 ghost use Rattle.plane_laws.specs.Triangulations.{IsTriangulation};
 ghost use Rattle.canon_order.specs.Orders.{IsCanonicalOrder, vertices_of};
-ghost use Rattle.conn_parts.specs.Counted.{IsPlaneMap};
 ghost use Rattle.refusals.specs.Conditions.{first_refusal, IfRefused};
 ghost use Rattle.grid_figures.specs.Forms.{IsDrawnBy};
 ghost use Rattle.grid_figures.specs.SchnyderFiguresFigures.{schnyder_form, IsSchnyderFigure};
 
 use crate::Drawer;
-use crate::drawing_orders::{Tools, full_order, is_triangulated, made_or, ordered_plane};
+use crate::drawing_orders::{Tools, is_triangulated, made_or, order_full};
 use crate::record::Record;
 use crate::schnyder_grid::WoodDrawer;
 use canon_order::Order;
-use conn_parts::CountedMap;
 use half_edges::Rotations;
 use pg_plane::GridFigure;
 use refusals::Unserved;
@@ -33,26 +31,6 @@ fn order_figure(
     Ok(figure)
 }
 
-// The figure of a map with these lists that is counted, has genus zero and at least three vertices, by tables that may
-// have served other maps before.
-fn drawn_plane(
-    tools: &mut Tools,
-    woods: &mut WoodDrawer,
-    plane: CountedMap,
-    lists: &Rotations,
-) -> Result<GridFigure, AllocError>
-    requires plane { IsPlaneMap 3 plane.map.lists plane }
-    requires lists { lists.now ≡ plane.map.lists }
-    ensures { IfOk result (IsSchnyderFigure plane.map.lists) }
-{
-    crate::drawing_orders::completion_draws();
-    plane.map.facts();
-    let found = ordered_plane(tools, plane, lists)?;
-    let figure = order_figure(woods, made_or(&found.made, lists), &found.order)?;
-    tools.keep(found);
-    Ok(figure)
-}
-
 // The figure of a record that is a triangulation.
 fn full_figure(
     tools: &mut Tools,
@@ -63,9 +41,8 @@ fn full_figure(
     ensures { IfOk result (IsSchnyderFigure input.now.lists.now) }
 {
     crate::drawing_orders::completion_draws();
-    let order = full_order(tools.alloc, &mut tools.peeler, input)?;
-    let figure = order_figure(woods, input.lists, &order)?;
-    tools.peeler.keep(order);
+    order_full(tools.alloc, &mut tools.peeler, input)?;
+    let figure = order_figure(woods, input.lists, &tools.peeler.order)?;
     Ok(figure)
 }
 
@@ -79,8 +56,10 @@ fn map_figure(
     ensures served { OnOk result (first_refusal 3 input.now.lists.now ≡ None) }
     ensures refused { IfErr result (IfRefused (λ refusal. first_refusal 3 input.now.lists.now ≡ Some refusal)) }
 {
-    let plane = tools.maps.plane_map(input.lists, 3)?;
-    let figure = drawn_plane(tools, woods, plane, input.lists)?;
+    crate::drawing_orders::completion_draws();
+    let made = tools.order_record(input)?;
+    let lists = made_or(made, &tools.lists, input.lists);
+    let figure = order_figure(woods, lists, &tools.peeler.order)?;
     Ok(figure)
 }
 

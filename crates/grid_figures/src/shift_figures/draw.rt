@@ -8,7 +8,7 @@ ghost use Rattle.grid_figures.specs.Forms.{IsDrawnBy};
 ghost use Rattle.grid_figures.specs.ShiftFiguresFigures.{shift_form, IsShiftFigure};
 
 use crate::Drawer;
-use crate::drawing_orders::{Tools, full_order, is_triangulated, made_or, ordered_record};
+use crate::drawing_orders::{Tools, is_triangulated, made_or, order_full};
 use crate::record::Record;
 use canon_order::Order;
 use fpp_shift::Shifter;
@@ -41,9 +41,8 @@ fn full_figure(
     ensures { IfOk result (IsShiftFigure input.now.lists.now) }
 {
     crate::drawing_orders::completion_draws();
-    let order = full_order(tools.alloc, &mut tools.peeler, input)?;
-    let figure = order_figure(shifter, input.lists, &order)?;
-    tools.peeler.keep(order);
+    order_full(tools.alloc, &mut tools.peeler, input)?;
+    let figure = order_figure(shifter, input.lists, &tools.peeler.order)?;
     Ok(figure)
 }
 
@@ -58,9 +57,9 @@ fn map_figure(
     ensures refused { IfErr result (IfRefused (λ refusal. first_refusal 3 input.now.lists.now ≡ Some refusal)) }
 {
     crate::drawing_orders::completion_draws();
-    let found = ordered_record(tools, input)?;
-    let figure = order_figure(shifter, made_or(&found.made, input.lists), &found.order)?;
-    tools.keep(found);
+    let made = tools.order_record(input)?;
+    let lists = made_or(made, &tools.lists, input.lists);
+    let figure = order_figure(shifter, lists, &tools.peeler.order)?;
     Ok(figure)
 }
 

@@ -7,11 +7,11 @@ use Rattle.grid_figures.proofs.FigureLemmas.{figure_of_drawing}
 use Rattle.grid_figures.proofs.schnyder_figures.draw.full_figure.Goals as goal
 
 pub order_figure-requires-clause-order : goal.order_figure-requires-clause-order
-order_figure-requires-clause-order c = ((0, get_or (list_of c.args.input.now.lists.now 0) 0 0), c.in_ok-order.ensures.order)
+order_figure-requires-clause-order c = ((0, get_or (list_of c.args.input.now.lists.now 0) 0 0), c.in_ok-order_full.ensures.order)
 
 pub returns : goal.returns
 returns c =
     let lists = c.args.input.now.lists.now in
     let whole = full_completion lists c.requires in
-    let order = c.in_ok-order.ensures.order in
-    figure_of_drawing schnyder_form c.completion_draws.ensures lists lists (get_or (list_of lists 0) 0 0) whole (vertices_of c.in_ok-order.order) order c.in_ok-figure.figure (c.in_ok-figure.ensures (get_or (list_of lists 0) 0 0) whole.base.dart order)
+    let order = c.in_ok-order_full.ensures.order in
+    figure_of_drawing schnyder_form c.completion_draws.ensures lists lists (get_or (list_of lists 0) 0 0) whole (vertices_of c.order_full.new.peeler.order) order c.in_ok-figure.figure (c.in_ok-figure.ensures (get_or (list_of lists 0) 0 0) whole.base.dart order)
