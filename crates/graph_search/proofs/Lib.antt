@@ -4,6 +4,7 @@ pub mod StepLemmas
 pub mod TableLemmas
 pub mod ForestLemmas
 pub mod LowLemmas
+mod LowsSoFar
 mod SearchForestsRefused
 -- Walks, and how cut vertices show in a search.
 pub mod WalkLemmas

@@ -1,8 +1,9 @@
 -- The steps of a search in tables.
-use Rattle.std.proofs.Common.{◌≡◌, ◌≢◌, ℕ, ◌+◌, ◌<◌, ◌≤◌, false, ltb, List, length, get_or, set, replicate, sym, ap, ◌∙◌, subst, inl, inr, arith, length-set, get_or-set_other, get_or-set_same}
+use Rattle.std.proofs.Common.{◌≡◌, ◌≢◌, ℕ, ◌+◌, ◌<◌, ◌≤◌, true, false, ltb, ltb-true, List, length, get_or, set, replicate, refl, sym, ap, ◌∙◌, subst, inl, inr, arith, length-set, get_or-set_other, get_or-set_same}
 use Rattle.std.proofs.lemmas.Bool.{cases_eq, cases_lt, le-ltb}
 use Rattle.std.proofs.lemmas.List.{get_or_default, length-replicate, get_or-replicate}
-use Rattle.classes.proofs.Counting.{count_below_same, count_below_none}
+use Rattle.classes.specs.Classes.{count_below}
+use Rattle.classes.proofs.Counting.{count_below-le, count_below_all, count_below_same, count_below_none, weaker_test_back}
 use Rattle.map_lists.specs.Lists.{Lists}
 use Rattle.map_theory.specs.Maps.{HasDart, list_of}
 use Rattle.graph_search.specs.Forests.{IsForestOf}
@@ -94,6 +95,43 @@ module _ (lists : Lists) (order number last parent cursor : List ℕ) (count cur
       let p = h.parents in
       let less = work_left-seen lists _ _ _ _ count current h.state _ _ _ w l (unseen_number w l unseen) dart (IsPut-set order count w (omega arith)) (IsPut-set number w count (omega arith)) (IsPut-set parent w current (omega arith)) in
       rw (length-set, u) less
+
+  -- entries of the current vertex are read
+  pub IsSearching-read : (place : ℕ) → current < length lists → place ≤ length (list_of lists current) → ((i : ℕ) → get_or cursor current 0 ≤ i → i < place → get_or number (get_or (list_of lists current) i 0) 0 < length lists) → IsSearching lists order number last parent (set cursor current place) count current
+  IsSearching-read place c_in within seen =
+      let o = h.cursors in
+      let put = IsPut-set cursor current place (omega arith) in
+      record {
+        orders = h.orders;
+        numbers = h.numbers;
+        lasts = h.lasts;
+        parents = h.parents;
+        cursors = length-set cursor current place ∙ o;
+        state = h.state;
+        read = record {
+          within = λ v m. elim (cases_eq v current) [
+            | inl e ↦ omega (arith, ap (λ x. get_or (set cursor current place) x 0) e, put.here, ap (λ x. length (list_of lists x)) e)
+            | inr ne ↦ omega (arith, put.elsewhere v ne, h.read.within v m)
+          ];
+          seen = λ v i m k. elim (cases_eq v current) [
+            | inl e ↦
+                let k' : i < place = omega (arith, ap (λ x. get_or (set cursor current place) x 0) e, put.here) in
+                let same = ap (λ x. get_or number (get_or (list_of lists x) i 0) 0) e in
+                elim (cases_lt i (get_or cursor current 0)) [
+                  | inl before ↦ omega (arith, h.read.seen current i c_in before)
+                  | inr from ↦ omega (arith, seen i from k')
+                ]
+            | inr ne ↦ h.read.seen v i m (omega (arith, put.elsewhere v ne))
+          ];
+        };
+      }
+
+  -- where as many were seen as there are, each was
+  pub all_seen : length lists ≤ count → (v : ℕ) → v < length lists → get_or number v 0 < length lists
+  all_seen most v l =
+      let n = length lists in
+      let counted : count_below (λ v. ltb (get_or number v 0) n) n ≡ count_below (λ v. true) n = omega (arith, h.state.counted, count_below-le (λ v. ltb (get_or number v 0) n) n, count_below_all n) in
+      ltb-true (get_or number v 0) n (weaker_test_back (λ v. ltb (get_or number v 0) n) (λ v. true) n (λ i m p. refl) counted v l refl)
 
   module _ (in_range : (v u : ℕ) → HasDart lists v u → u < length lists) (c_in : current < length lists) (all : get_or cursor current 0 ≡ length (list_of lists current)) where
     -- all neighbours of the current vertex were seen

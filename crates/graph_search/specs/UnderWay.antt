@@ -1,5 +1,5 @@
 -- A depth-first search under way. A vertex that was not seen has the number of vertices for its number, and one that is not done ends at 0.
-use Rattle.std.specs.Prelude.{ℕ, ◌+◌, ◌<◌, ◌≤◌, ◌≡◌, ◌≢◌, not, nat_lt, List, length, slice_index, replicate}
+use Rattle.std.specs.Prelude.{ℕ, ◌+◌, ◌<◌, ◌≤◌, ◌≡◌, ◌≢◌, ◌⊎◌, not, nat_lt, List, length, slice_index, replicate}
 use Rattle.classes.specs.Classes.{count_below}
 use Rattle.map_lists.specs.Lists.{Lists}
 use Rattle.map_theory.specs.Maps.{HasDart, list_of}
@@ -59,13 +59,43 @@ pub record IsSearching (lists : Lists) (order number last parent cursor : List �
   pub state : IsUnderWay lists (λ k. slice_index order k) (λ v. slice_index number v) (λ v. slice_index last v) (λ v. slice_index parent v) count current
   pub read : AreRead lists (λ v. slice_index number v) (λ v. slice_index cursor v)
 
+-- `least` is the number of a neighbour of w, where w is v or was seen after it; and before v was done, if it is
+pub record IsMetFrom (lists : Lists) (number last : ℕ → ℕ) (v least : ℕ) : Type 0 where
+  pub w : ℕ
+  pub u : ℕ
+  pub from : number v ≤ number w
+  pub before : 0 < last v → number w < last v
+  pub seen : number w < length lists
+  pub dart : HasDart lists w u
+  pub is : number u ≡ least
+
+-- Low points as far as they are found. No entry that was read is lower, nor is a child that is done; a neighbour of a vertex that is done is not lower either. What a vertex has is met.
+pub record AreLowering (lists : Lists) (number last parent cursor low : ℕ → ℕ) : Type 0 where
+  pub read : (v i : ℕ) → v < length lists → i < cursor v → low v ≤ number (slice_index (list_of lists v) i)
+  pub done : (v u : ℕ) → HasDart lists v u → 0 < last v → low v ≤ number u
+  pub children : (c : ℕ) → c < length lists → 0 < last c → parent c < length lists → low (parent c) ≤ low c
+  pub seen : (v : ℕ) → v < length lists → low v < length lists → number v < length lists
+  pub met : (v : ℕ) → v < length lists → low v < length lists → ∥ IsMetFrom lists number last v (low v) ∥₁
+
+-- the same of tables with an entry for each vertex
+pub record AreLowsSoFar (lists : Lists) (number last parent cursor low : List ℕ) : Type 0 where
+  pub lows : length low ≡ length lists
+  pub so_far : AreLowering lists (λ v. slice_index number v) (λ v. slice_index last v) (λ v. slice_index parent v) (λ v. slice_index cursor v) (λ v. slice_index low v)
+
+-- the least of `start` and of the numbers of the entries from place `from` on and before `place`
+pub record IsLeastFrom (entries number : List ℕ) (from place start least : ℕ) : Type 0 where
+  pub most : least ≤ start
+  pub below : (i : ℕ) → from ≤ i → i < place → least ≤ slice_index number (slice_index entries i)
+  pub met : (least ≡ start) ⊎ ((i : ℕ) × (i < length entries) × (slice_index number (slice_index entries i) ≡ least))
+
 -- tables of n vertices none of which was seen
-pub record AreCleared (n : ℕ) (order number last parent cursor : List ℕ) : Type 0 where
+pub record AreCleared (n : ℕ) (order number last parent cursor low : List ℕ) : Type 0 where
   pub orders : length order ≡ n
   pub unseen : number ≡ replicate n n
   pub open_all : last ≡ replicate n 0
   pub parents : length parent ≡ n
   pub unread : cursor ≡ replicate n 0
+  pub unlowered : low ≡ replicate n n
 
 -- the work left in tables
 abbrev pub work_in : List ℕ → List ℕ → ℕ

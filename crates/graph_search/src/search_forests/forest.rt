@@ -5,7 +5,6 @@ ghost use Rattle.graph_search.specs.Forests.{IsAdjacency, IsForestOf};
 ghost use Rattle.graph_search.specs.Lows.{AreLows};
 ghost use Rattle.graph_search.specs.UnderWay.{AreCleared};
 
-use crate::search_forests::lows::fill_lows;
 use crate::search_forests::steps::Search;
 use map_lists::Rotations;
 use std::alloc::{AllocError, Global};
@@ -31,9 +30,9 @@ pub fn search_forest(alloc: Global, lists: &Rotations) -> Result<Forest, AllocEr
 {
     let mut tables = SearchTables::new(alloc);
     tables.clear(lists.len())?;
-    let mut search = Search::begun(lists, tables.forest, tables.cursor);
+    let mut search = Search::begun(lists, tables);
     search.finish();
-    Ok(search.into_forest())
+    Ok(search.into_tables().forest)
 }
 
 impl Forest {
@@ -81,8 +80,8 @@ pub struct SearchTables {
     pub forest: Forest,
     /// For each vertex its low point.
     pub low: Vec<u16>,
-    // for each vertex how many entries of its list were read
-    cursor: Vec<usize>,
+    /// For each vertex how many entries of its list were read.
+    pub(crate) cursor: Vec<usize>,
 }
 
 impl SearchTables {
@@ -98,18 +97,19 @@ impl SearchTables {
     // Makes the tables those of a search in which none of `n` vertices was seen.
     fn clear(&mut self, n: usize) -> Result<(), AllocError>
         requires { n < 4096 }
-        ensures { IfOk result (λ _. AreCleared n self.new.forest.order.items self.new.forest.number.items self.new.forest.last.items self.new.forest.parent.items self.new.cursor.items) }
+        ensures { IfOk result (λ _. AreCleared n self.new.forest.order.items self.new.forest.number.items self.new.forest.last.items self.new.forest.parent.items self.new.cursor.items self.new.low.items) }
     {
         size(&mut self.forest.order, n)?;
         fill(&mut self.forest.number, n as u16, n)?;
         fill(&mut self.forest.last, 0, n)?;
         size(&mut self.forest.parent, n)?;
+        fill(&mut self.low, n as u16, n)?;
         unread(&mut self.cursor, n)?;
         Ok(())
     }
 
-    /// Searches lists in which adjacency goes both ways, from `s`, which sees its neighbour `t` next. It fails only when
-    /// out of memory.
+    /// Searches lists in which adjacency goes both ways, from `s`, which sees its neighbour `t` next, and finds the low
+    /// points. It fails only when out of memory.
     pub fn search(
         &mut self,
         alloc: Global,
@@ -121,29 +121,17 @@ impl SearchTables {
         requires dart { HasDart lists.now s t }
         requires two { s ≢ t }
         ensures forest { IfOk result (λ _. IsForestOf lists.now self.new.forest.order.items self.new.forest.number.items self.new.forest.last.items self.new.forest.parent.items) }
+        ensures lows { IfOk result (λ _. AreLows lists.now self.new.forest.number.items self.new.forest.last.items self.new.low.items) }
         ensures first { IfOk result (λ _. slice_index self.new.forest.number.items s ≡ 0) }
         ensures second { IfOk result (λ _. slice_index self.new.forest.number.items t ≡ 1) }
     {
         self.clear(lists.len())?;
-        let forest = mem::replace(&mut self.forest, Forest::new(alloc));
-        let cursor = mem::replace(&mut self.cursor, Vec::new(alloc));
-        let mut search = Search::begun(lists, forest, cursor);
+        let tables = mem::replace(self, SearchTables::new(alloc));
+        let mut search = Search::begun(lists, tables);
         search.see(s);
         search.see(t);
         search.finish();
-        search.put_back(&mut self.forest, &mut self.cursor);
-        Ok(())
-    }
-
-    /// Finds the low points of the search.
-    pub fn find_lows(&mut self, lists: &Rotations) -> Result<(), AllocError>
-        requires adjacency { IsAdjacency lists.now }
-        requires forest { IsForestOf lists.now self.old.forest.order.items self.old.forest.number.items self.old.forest.last.items self.old.forest.parent.items }
-        ensures forest { IfOk result (λ _. self.new.forest ≡ self.old.forest) }
-        ensures lows { IfOk result (λ _. AreLows lists.now self.new.forest.number.items self.new.forest.last.items self.new.low.items) }
-    {
-        fill(&mut self.low, lists.len() as u16, lists.len())?;
-        fill_lows(lists, &self.forest, &mut self.low);
+        *self = search.into_tables();
         Ok(())
     }
 }

@@ -9,7 +9,7 @@ use map_lists::Rotations;
 use std::alloc::{AllocError, Global};
 
 // Returns the lesser of two.
-fn lesser(one: u16, other: u16) -> u16
+pub(crate) fn lesser(one: u16, other: u16) -> u16
     ensures { result ≡ min one other }
 {
     if one < other { one } else { other }
@@ -28,7 +28,7 @@ fn least_number(least: u16, list: &[u16], number: &[u16]) -> u16
 }
 
 // Lowers the low point of `v` to `least`, where it is greater and `v` is a vertex.
-fn lower(low: &mut [u16], v: u16, least: u16)
+pub(crate) fn lower(low: &mut [u16], v: u16, least: u16)
     ensures { IsLowered low.old low.new v least }
 {
     let v = v as usize;

@@ -2,9 +2,11 @@
 ghost use Rattle.std.specs.Prelude.{◌≡◌, ◌+◌, ◌<◌, ◌≤◌, ◌↔◌, IsTrue, ℕ, length, slice_index, slice_set, replicate, IfOk};
 ghost use Rattle.map_theory.specs.Maps.{HasDart, list_of};
 ghost use Rattle.graph_search.specs.Forests.{IsForestOf};
-ghost use Rattle.graph_search.specs.UnderWay.{AreCleared, IsSearching, KeepsNumbers, work_in};
+ghost use Rattle.graph_search.specs.Lows.{AreLows};
+ghost use Rattle.graph_search.specs.UnderWay.{AreCleared, IsSearching, AreLowsSoFar, IsLeastFrom, KeepsNumbers, work_in};
 
-use crate::search_forests::forest::Forest;
+use crate::search_forests::forest::{Forest, SearchTables};
+use crate::search_forests::lows::{lesser, lower};
 use map_lists::Rotations;
 
 /// A search of lists under way: its tables, and where it stands.
@@ -17,6 +19,8 @@ pub(crate) struct Search<'a> {
     parent: Vec<u16>,
     // for each vertex how many entries of its list were read
     cursor: Vec<usize>,
+    // for each vertex its low point, as far as it is found
+    low: Vec<u16>,
     // how many vertices were seen
     count: u16,
     // the vertex whose neighbours are read, or the number of vertices where none is open
@@ -24,14 +28,15 @@ pub(crate) struct Search<'a> {
     ghost few: { length lists.now < 4096 },
     ghost in_range: { (v u : ℕ) → HasDart lists.now v u → u < length lists.now },
     ghost searching: { IsSearching lists.now order.items number.items last.items parent.items cursor.items count current },
+    ghost lows: { AreLowsSoFar lists.now number.items last.items parent.items cursor.items low.items },
 }
 
 impl<'a> Search<'a> {
     /// Begins a search in which no vertex was seen, in tables that say so.
     #[inline(always)]
-    pub(crate) fn begun(lists: &'a Rotations, forest: Forest, cursor: Vec<usize>) -> Search<'a>
+    pub(crate) fn begun(lists: &'a Rotations, tables: SearchTables) -> Search<'a>
         requires in_range { (v u : ℕ) → HasDart lists.now v u → u < length lists.now }
-        requires cleared { AreCleared (length lists.now) forest.order.items forest.number.items forest.last.items forest.parent.items cursor.items }
+        requires cleared { AreCleared (length lists.now) tables.forest.order.items tables.forest.number.items tables.forest.last.items tables.forest.parent.items tables.cursor.items tables.low.items }
         ensures lists { result.lists.now ≡ lists.now }
         ensures count { result.count ≡ 0 }
         ensures current { result.current ≡ length lists.now }
@@ -39,11 +44,12 @@ impl<'a> Search<'a> {
     {
         Search {
             lists,
-            order: forest.order,
-            number: forest.number,
-            last: forest.last,
-            parent: forest.parent,
-            cursor,
+            order: tables.forest.order,
+            number: tables.forest.number,
+            last: tables.forest.last,
+            parent: tables.forest.parent,
+            cursor: tables.cursor,
+            low: tables.low,
             count: 0,
             current: lists.len() as u16,
         }
@@ -66,23 +72,35 @@ impl<'a> Search<'a> {
         (self.current as usize) < self.lists.len()
     }
 
-    // Returns the first place from `from` on at which the current list has a vertex that was not seen, or its length.
+    // Whether as many vertices were seen as there are.
     #[inline(always)]
-    fn unseen_place(&self, from: usize) -> usize
+    fn has_seen_all(&self) -> bool
+        ensures { IsTrue result ↔ (length self.now.lists.now ≤ self.now.count) }
+    {
+        self.count as usize >= self.lists.len()
+    }
+
+    // Returns the first place from `from` on at which the current list has a vertex that was not seen, or its length, and
+    // the least of `start` and of the numbers of the vertices before that.
+    #[inline(always)]
+    fn unseen_place(&self, from: usize, start: u16) -> (usize, u16)
         requires vertex { self.now.current < length self.now.lists.now }
         requires from { from ≤ length (list_of self.now.lists.now self.now.current) }
-        ensures after { from ≤ result }
-        ensures within { result ≤ length (list_of self.now.lists.now self.now.current) }
-        ensures seen { (i : ℕ) → from ≤ i → i < result → slice_index self.now.number.items (slice_index (list_of self.now.lists.now self.now.current) i) < length self.now.lists.now }
-        ensures unseen { result < length (list_of self.now.lists.now self.now.current) → length self.now.lists.now ≤ slice_index self.now.number.items (slice_index (list_of self.now.lists.now self.now.current) result) }
+        ensures after { from ≤ result.0 }
+        ensures within { result.0 ≤ length (list_of self.now.lists.now self.now.current) }
+        ensures seen { (i : ℕ) → from ≤ i → i < result.0 → slice_index self.now.number.items (slice_index (list_of self.now.lists.now self.now.current) i) < length self.now.lists.now }
+        ensures unseen { result.0 < length (list_of self.now.lists.now self.now.current) → length self.now.lists.now ≤ slice_index self.now.number.items (slice_index (list_of self.now.lists.now self.now.current) result.0) }
+        ensures least { IsLeastFrom (list_of self.now.lists.now self.now.current) self.now.number.items from result.0 start result.1 }
     {
         let list = self.lists.list(self.current as usize);
+        let mut least = start;
         for i in from..list.len() {
             if self.is_unseen(list[i]) {
-                return i;
+                return (i, least);
             }
+            least = lesser(least, self.number[list[i] as usize]);
         }
-        list.len()
+        (list.len(), least)
     }
 
     // Sees a vertex from the current one, or as a top where there is none.
@@ -115,8 +133,11 @@ impl<'a> Search<'a> {
         ensures less { work_in self.new.number.items self.new.last.items < work_in self.old.number.items self.old.last.items }
     {
         let v = self.current as usize;
+        let above = self.parent[v];
+        let least = self.low[v];
         self.last[v] = self.count;
-        self.current = self.parent[v];
+        lower(&mut self.low, above, least);
+        self.current = above;
     }
 
     // Moves the cursor of the current vertex to the next neighbour that was not seen, and returns it.
@@ -132,8 +153,9 @@ impl<'a> Search<'a> {
         ensures unseen { result < length (list_of self.old.lists.now self.old.current) → length self.old.lists.now ≤ slice_index self.old.number.items (slice_index (list_of self.old.lists.now self.old.current) result) }
     {
         let v = self.current as usize;
-        let place = self.unseen_place(self.cursor[v]);
+        let (place, least) = self.unseen_place(self.cursor[v], self.low[v]);
         self.cursor[v] = place;
+        self.low[v] = least;
         place
     }
 
@@ -189,41 +211,35 @@ impl<'a> Search<'a> {
         ensures lists { self.new.lists.now ≡ self.old.lists.now }
         ensures keeps { KeepsNumbers self.old.number.items self.new.number.items }
         ensures forest { IsForestOf self.old.lists.now self.new.order.items self.new.number.items self.new.last.items self.new.parent.items }
+        ensures lows { AreLows self.old.lists.now self.new.number.items self.new.last.items self.new.low.items }
     {
         self.search_on();
+        if self.has_seen_all() {
+            return;
+        }
         for v in 0..self.lists.len() {
             self.search_from(v as u16);
         }
     }
 
-    /// Returns the forest.
+    /// Returns the tables.
     #[inline(always)]
-    pub(crate) fn into_forest(self) -> Forest
-        ensures order { result.order.items ≡ self.entry.order.items }
-        ensures number { result.number.items ≡ self.entry.number.items }
-        ensures last { result.last.items ≡ self.entry.last.items }
-        ensures parent { result.parent.items ≡ self.entry.parent.items }
+    pub(crate) fn into_tables(self) -> SearchTables
+        ensures order { result.forest.order.items ≡ self.entry.order.items }
+        ensures number { result.forest.number.items ≡ self.entry.number.items }
+        ensures last { result.forest.last.items ≡ self.entry.last.items }
+        ensures parent { result.forest.parent.items ≡ self.entry.parent.items }
+        ensures low { result.low.items ≡ self.entry.low.items }
     {
-        Forest {
-            order: self.order,
-            number: self.number,
-            last: self.last,
-            parent: self.parent,
+        SearchTables {
+            forest: Forest {
+                order: self.order,
+                number: self.number,
+                last: self.last,
+                parent: self.parent,
+            },
+            low: self.low,
+            cursor: self.cursor,
         }
-    }
-
-    /// Puts the tables of the forest into `forest`, and the cursors into `cursor`.
-    #[inline(always)]
-    pub(crate) fn put_back(self, forest: &mut Forest, cursor: &mut Vec<usize>)
-        ensures order { forest.new.order.items ≡ self.entry.order.items }
-        ensures number { forest.new.number.items ≡ self.entry.number.items }
-        ensures last { forest.new.last.items ≡ self.entry.last.items }
-        ensures parent { forest.new.parent.items ≡ self.entry.parent.items }
-    {
-        forest.order = self.order;
-        forest.number = self.number;
-        forest.last = self.last;
-        forest.parent = self.parent;
-        *cursor = self.cursor;
     }
 }

@@ -75,7 +75,6 @@ fn search_map(tables: &mut SearchTables, alloc: Global, map: &Rooted<'_>) -> Res
 {
     map.facts();
     tables.search(alloc, map.lists, 0, map.t)?;
-    tables.find_lows(map.lists)?;
     Ok(())
 }
 

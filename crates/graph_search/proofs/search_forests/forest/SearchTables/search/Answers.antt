@@ -19,7 +19,7 @@ returns-clause-first c =
     let s_in = c.requires.dart.0 in
     let t_in = c.requires.adjacency.in_range c.args.s c.args.t c.requires.dart in
     let blank = c.begun-search.result in
-    rw c.put_back.ensures.number (first_kept n c.args.s c.args.t blank.count c.see.new.self.count blank.number.items c.see.new.self.number.items c.see-2.new.self.number.items c.finish.new.self.number.items c.begun-search.ensures.count c.see.ensures.count c.begun-search.ensures.number c.see.ensures.number c.see-2.ensures.number s_in t_in c.requires.two c.finish.ensures.keeps)
+    rw c.into_tables.ensures.number (first_kept n c.args.s c.args.t blank.count c.see.new.self.count blank.number.items c.see.new.self.number.items c.see-2.new.self.number.items c.finish.new.self.number.items c.begun-search.ensures.count c.see.ensures.count c.begun-search.ensures.number c.see.ensures.number c.see-2.ensures.number s_in t_in c.requires.two c.finish.ensures.keeps)
 
 pub returns-clause-second : goal.returns-clause-second
 returns-clause-second c =
@@ -27,4 +27,4 @@ returns-clause-second c =
     let s_in = c.requires.dart.0 in
     let t_in = c.requires.adjacency.in_range c.args.s c.args.t c.requires.dart in
     let blank = c.begun-search.result in
-    rw c.put_back.ensures.number (second_kept n c.args.s c.args.t blank.count c.see.new.self.count blank.number.items c.see.new.self.number.items c.see-2.new.self.number.items c.finish.new.self.number.items c.begun-search.ensures.count c.see.ensures.count c.begun-search.ensures.number c.see.ensures.number c.see-2.ensures.number s_in t_in c.requires.two c.finish.ensures.keeps)
+    rw c.into_tables.ensures.number (second_kept n c.args.s c.args.t blank.count c.see.new.self.count blank.number.items c.see.new.self.number.items c.see-2.new.self.number.items c.finish.new.self.number.items c.begun-search.ensures.count c.see.ensures.count c.begun-search.ensures.number c.see.ensures.number c.see-2.ensures.number s_in t_in c.requires.two c.finish.ensures.keeps)

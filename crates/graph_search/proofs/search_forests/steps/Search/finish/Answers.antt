@@ -2,7 +2,9 @@ use Rattle.std.proofs.Common.{get_or, length, inl, inr, ap, ◌∙◌, subst, ar
 use Rattle.std.proofs.lemmas.Bool.{cases_eq}
 use Rattle.map_lists.specs.Lists.{Lists}
 use Rattle.graph_search.specs.Forests.{IsForestOf}
-use Rattle.graph_search.proofs.TableLemmas.{IsSearching-at_none, IsForestOf-finished, KeepsNumbers-chained}
+use Rattle.graph_search.proofs.TableLemmas.{IsSearching-at_none, IsForestOf-finished, KeepsNumbers-chained, all_seen}
+use Rattle.graph_search.specs.Lows.{AreLows}
+use Rattle.graph_search.proofs.LowsSoFar.{AreLows-found}
 use Rattle.graph_search.proofs.search_forests.steps.Search.finish.Goals as goal
 
 pub loop-v-preserved : goal.loop-v-preserved
@@ -31,3 +33,29 @@ returns-clause-forest c =
     subst (λ (ls : Lists). IsForestOf ls s.order.items s.number.items s.last.items s.parent.items) h.lists
     (IsForestOf-finished s.lists.now s.order.items s.number.items s.last.items s.parent.items s.cursor.items s.count (IsSearching-at_none s.lists.now s.order.items s.number.items s.last.items s.parent.items s.cursor.items s.count s.current h.none s.searching)
     (λ v l. h.seen v (omega (arith, l, c.loop-v-test.false, c.loop-v.auto.v-end, c.len-v-end.ensures.is, ap length h.lists, ap length c.search_on.ensures.lists))))
+
+pub returns-clause-lows : goal.returns-clause-lows
+returns-clause-lows c =
+    let h = c.loop-v.invariant in
+    let s = c.loop-v.self in
+    subst (λ (ls : Lists). AreLows ls s.number.items s.last.items s.low.items) h.lists
+    (AreLows-found s.lists.now s.in_range s.order.items s.number.items s.last.items s.parent.items s.cursor.items s.low.items
+    (IsForestOf-finished s.lists.now s.order.items s.number.items s.last.items s.parent.items s.cursor.items s.count (IsSearching-at_none s.lists.now s.order.items s.number.items s.last.items s.parent.items s.cursor.items s.count s.current h.none s.searching)
+    (λ v l. h.seen v (omega (arith, l, c.loop-v-test.false, c.loop-v.auto.v-end, c.len-v-end.ensures.is, ap length h.lists, ap length c.search_on.ensures.lists)))) s.lows)
+
+pub returns-then-has_seen_all-clause-forest : goal.returns-then-has_seen_all-clause-forest
+returns-then-has_seen_all-clause-forest c =
+    let s = c.search_on.new.self in
+    let e = c.search_on.ensures in
+    subst (λ (ls : Lists). IsForestOf ls s.order.items s.number.items s.last.items s.parent.items) e.lists
+    (IsForestOf-finished s.lists.now s.order.items s.number.items s.last.items s.parent.items s.cursor.items s.count (IsSearching-at_none s.lists.now s.order.items s.number.items s.last.items s.parent.items s.cursor.items s.count s.current (omega (arith, e.none, ap length e.lists)) s.searching)
+    (all_seen s.lists.now s.order.items s.number.items s.last.items s.parent.items s.cursor.items s.count s.current s.searching (c.has_seen_all.ensures.0 c.if-has_seen_all.true)))
+
+pub returns-then-has_seen_all-clause-lows : goal.returns-then-has_seen_all-clause-lows
+returns-then-has_seen_all-clause-lows c =
+    let s = c.search_on.new.self in
+    let e = c.search_on.ensures in
+    subst (λ (ls : Lists). AreLows ls s.number.items s.last.items s.low.items) e.lists
+    (AreLows-found s.lists.now s.in_range s.order.items s.number.items s.last.items s.parent.items s.cursor.items s.low.items
+    (IsForestOf-finished s.lists.now s.order.items s.number.items s.last.items s.parent.items s.cursor.items s.count (IsSearching-at_none s.lists.now s.order.items s.number.items s.last.items s.parent.items s.cursor.items s.count s.current (omega (arith, e.none, ap length e.lists)) s.searching)
+    (all_seen s.lists.now s.order.items s.number.items s.last.items s.parent.items s.cursor.items s.count s.current s.searching (c.has_seen_all.ensures.0 c.if-has_seen_all.true))) s.lows)
