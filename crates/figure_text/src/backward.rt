@@ -3,7 +3,7 @@ ghost use Rattle.std.specs.Prelude.{◌≡◌, ◌+◌, ◌*◌, ◌<◌, ◌≤
 ghost use Rattle.std.specs.Fmt.{signed_decimal};
 ghost use Rattle.figure_text.specs.Text.{spaced_signed, first_line, columns_line};
 
-use crate::numerals::Numerals;
+use crate::numerals::Texts;
 
 // Writes a byte before `end`, and returns where it stands.
 pub(crate) fn write_byte(byte: u8, bytes: &mut [u8], end: usize) -> usize
@@ -26,54 +26,51 @@ pub(crate) fn write_letter(letter: u8, bytes: &mut [u8], end: usize) -> usize
 }
 
 // Writes a space and a number before `end`, and returns where they start.
-fn write_next(numerals: &Numerals, number: u64, bytes: &mut [u8], end: usize) -> usize
+fn write_next(texts: &Texts<'_>, number: u64, bytes: &mut [u8], end: usize) -> usize
     requires { (length (decimal number) < end) × (4 ≤ end) × (end ≤ length bytes.old) }
     ensures start { result + 1 + length (decimal number) ≡ end }
     ensures written { drop result bytes.new ≡ 32 ∷ decimal number ++ drop end bytes.old }
 {
-    let start = numerals.write(number, bytes, end);
+    let start = texts.write(number, bytes, end);
     write_byte(b' ', bytes, start)
 }
 
 // Writes a space and a signed number before `end`, and returns where they start.
-pub(crate) fn write_signed(numerals: &Numerals, number: i32, bytes: &mut [u8], end: usize) -> usize
+#[inline(always)]
+pub(crate) fn write_signed(texts: &Texts<'_>, number: i32, bytes: &mut [u8], end: usize) -> usize
     requires { (12 ≤ end) × (end ≤ length bytes.old) }
     ensures within { (result < end) × (end ≤ result + 12) }
     ensures written { drop result bytes.new ≡ 32 ∷ signed_decimal number ++ drop end bytes.old }
 {
-    let start = numerals.write(u64::from(number.unsigned_abs()), bytes, end);
     if number >= 0 {
-        return write_byte(b' ', bytes, start);
+        return write_next(texts, u64::from(number.unsigned_abs()), bytes, end);
     }
+    let start = texts.write(u64::from(number.unsigned_abs()), bytes, end);
     let sign = write_byte(b'-', bytes, start);
     write_byte(b' ', bytes, sign)
 }
 
 // Writes what stands before the coordinates of a vertex: its number and a word.
-pub(crate) fn write_number(numerals: &Numerals, number: u64, bytes: &mut [u8], end: usize) -> usize
+pub(crate) fn write_number(texts: &Texts<'_>, number: u64, bytes: &mut [u8], end: usize) -> usize
     requires { (20 ≤ end) × (end ≤ length bytes.old) }
     ensures within { (result ≤ end) × (end ≤ result + 20) }
     ensures written { drop result bytes.new ≡ decimal number ++ drop end bytes.old }
 {
-    numerals.write(number, bytes, end)
+    texts.write(number, bytes, end)
 }
 
 // Writes vertices, numbered from 1 and each after a space, before `end`, and returns where they start.
-pub(crate) fn write_vertices(
-    numerals: &Numerals,
-    list: &[u16],
-    bytes: &mut [u8],
-    end: usize,
-) -> usize
+pub(crate) fn write_vertices(texts: &Texts<'_>, list: &[u16], bytes: &mut [u8], end: usize) -> usize
     requires room { 6 * length list.now ≤ end }
     requires end { end ≤ length bytes.old }
     ensures within { (result ≤ end) × (end ≤ result + 6 * length list.now) }
     ensures written { drop result bytes.new ≡ flat_map (λ u. 32 ∷ decimal (u + 1)) list.now ++ drop end bytes.old }
 {
+    let texts = *texts;
     let mut start = end;
     for k in 0..list.len() {
         let u = list[list.len() - 1 - k];
-        start = write_next(numerals, u64::from(u) + 1, bytes, start);
+        start = write_next(&texts, u64::from(u) + 1, bytes, start);
     }
     start
 }
@@ -93,7 +90,7 @@ fn write_text(text: &[u8], bytes: &mut [u8], end: usize) -> usize
 
 // Writes the first line of a figure before `end`, and returns where it starts.
 pub(crate) fn write_first(
-    numerals: &Numerals,
+    texts: &Texts<'_>,
     k: u32,
     word: &[u8],
     n: usize,
@@ -106,36 +103,37 @@ pub(crate) fn write_first(
     ensures written { drop result bytes.new ≡ first_line k word.now n ++ drop end bytes.old }
 {
     let newline = write_byte(b'\n', bytes, end);
-    let count = write_next(numerals, n as u64, bytes, newline);
+    let count = write_next(texts, n as u64, bytes, newline);
     let name = write_text(word, bytes, count);
     let space = write_byte(b' ', bytes, name);
-    let number = write_next(numerals, u64::from(k), bytes, space);
+    let number = write_next(texts, u64::from(k), bytes, space);
     write_text(b"figure", bytes, number)
 }
 
 // Writes signed numbers, each after a space, before `end`, and returns where they start.
-fn write_integers(numerals: &Numerals, list: &[i32], bytes: &mut [u8], end: usize) -> usize
+fn write_integers(texts: &Texts<'_>, list: &[i32], bytes: &mut [u8], end: usize) -> usize
     requires room { 12 * length list.now ≤ end }
     requires end { end ≤ length bytes.old }
     ensures within { (result ≤ end) × (end ≤ result + 12 * length list.now) }
     ensures written { drop result bytes.new ≡ spaced_signed list.now ++ drop end bytes.old }
 {
+    let texts = *texts;
     let mut start = end;
     for k in 0..list.len() {
         let z = list[list.len() - 1 - k];
-        start = write_signed(numerals, z, bytes, start);
+        start = write_signed(&texts, z, bytes, start);
     }
     start
 }
 
 // Writes the line of the columns at the end, and returns where it starts.
-pub(crate) fn write_columns(numerals: &Numerals, columns: &[i32], bytes: &mut [u8]) -> usize
+pub(crate) fn write_columns(texts: &Texts<'_>, columns: &[i32], bytes: &mut [u8]) -> usize
     requires { 12 * length columns.now + 8 ≤ length bytes.old }
     ensures within { (result ≤ length bytes.new) × (length bytes.new ≤ result + (12 * length columns.now + 8)) }
     ensures written { drop result bytes.new ≡ columns_line columns.now }
 {
     let end = bytes.len();
     let newline = write_byte(b'\n', bytes, end);
-    let numbers = write_integers(numerals, columns, bytes, newline);
+    let numbers = write_integers(texts, columns, bytes, newline);
     write_text(b"columns", bytes, numbers)
 }

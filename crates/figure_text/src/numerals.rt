@@ -81,6 +81,21 @@ impl Numerals {
         Ok(())
     }
 
+    /// Lends the texts.
+    pub fn lend(&self) -> Texts<'_> {
+        Texts { texts: &self.texts }
+    }
+}
+
+/// The texts of the numbers from 0 on, lent for the time of some writes. A loop copies them, so that their place is read
+/// once.
+#[derive(Clone, Copy)]
+pub struct Texts<'a> {
+    texts: &'a [Numeral],
+    pub ghost known: { AreNumerals texts.now },
+}
+
+impl Texts<'_> {
     /// Writes a number before `end`, and returns where it starts.
     pub fn write(&self, number: u64, bytes: &mut [u8], end: usize) -> usize
         requires { (length (decimal number) ≤ end) × (4 ≤ end) × (end ≤ length bytes.old) }

@@ -3,7 +3,7 @@ ghost use Rattle.std.specs.Prelude.{◌≡◌, ◌+◌, ◌++◌, ◌∷◌, [],
 ghost use Rattle.figure_text.specs.Text.{first_line, vertex_lines, fronts_room, job_word, grid_text, bars_text, rects_text, IsText, IsWhole, HasBars, HasRects};
 
 use crate::backward::{write_columns, write_first};
-use crate::numerals::Numerals;
+use crate::numerals::{Numerals, Texts};
 use crate::vertex_print::{Numbered, write_lines};
 use crate::witness_print::print_witness;
 use crate::{Figure, GridJob};
@@ -80,7 +80,7 @@ fn room_of<R: Numbered>(lists: &Rotations) -> Result<usize, AllocError>
 
 // Writes the first line and the lines of the vertices at the end, and returns where they start.
 fn write_figure<R: Numbered>(
-    numerals: &Numerals,
+    texts: &Texts<'_>,
     number: u32,
     word: &[u8],
     lists: &Rotations,
@@ -93,8 +93,8 @@ fn write_figure<R: Numbered>(
     ensures within { result ≤ length bytes.new }
     ensures written { drop result bytes.new ≡ first_line number word.now (length lists.now) ++ vertex_lines R.pieces (R.numbers figure.now) lists.now (length lists.now) }
 {
-    let lines = write_lines(numerals, figure, lists, bytes);
-    write_first(numerals, number, word, lists.len(), bytes, lines)
+    let lines = write_lines(texts, figure, lists, bytes);
+    write_first(texts, number, word, lists.len(), bytes, lines)
 }
 
 /// Appends the text of a figure with this number. Each list of the drawing has an entry for each vertex, but
@@ -185,7 +185,7 @@ fn bars_room(lists: &Rotations, columns: &Ints) -> Result<usize, AllocError>
 
 // Writes the text of a visibility drawing at the end, and returns where it starts.
 fn write_bars(
-    numerals: &Numerals,
+    texts: &Texts<'_>,
     number: u32,
     lists: &Rotations,
     bars: &BarFigure,
@@ -196,8 +196,8 @@ fn write_bars(
     ensures within { result ≤ length bytes.new }
     ensures written { drop result bytes.new ≡ bars_text number lists.now bars.now }
 {
-    let end = write_columns(numerals, bars.column.as_slice(), bytes);
-    write_figure(numerals, number, b"bars", lists, bars, &mut bytes[..end])
+    let end = write_columns(texts, bars.column.as_slice(), bytes);
+    write_figure(texts, number, b"bars", lists, bars, &mut bytes[..end])
 }
 
 /// Prints figures, one after another, and keeps its memory for the next: that of the longest text so far, and the texts of
@@ -244,7 +244,8 @@ impl Printer {
         ensures err { OnErr result (out.new.items ≡ out.old.items) }
     {
         self.prepare(lists.len(), room_of::<R>(lists)?)?;
-        let start = write_figure(&self.numerals, number, word, lists, figure, &mut self.bytes);
+        let texts = self.numerals.lend();
+        let start = write_figure(&texts, number, word, lists, figure, &mut self.bytes);
         out.extend_from_slice(&self.bytes[start..])
     }
 
@@ -277,7 +278,8 @@ impl Printer {
         ensures err { OnErr result (out.new.items ≡ out.old.items) }
     {
         self.prepare(lists.len(), bars_room(lists, &bars.column)?)?;
-        let start = write_bars(&self.numerals, number, lists, bars, &mut self.bytes);
+        let texts = self.numerals.lend();
+        let start = write_bars(&texts, number, lists, bars, &mut self.bytes);
         out.extend_from_slice(&self.bytes[start..])
     }
 

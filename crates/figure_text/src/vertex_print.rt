@@ -4,7 +4,7 @@ ghost use Rattle.figure_text.specs.declared.piece.Piece.{Piece};
 ghost use Rattle.figure_text.specs.Text.{integer_at, point_at, joined, front_words, vertex_line, vertex_lines, fronts_room};
 
 use crate::backward::{write_byte, write_letter, write_number, write_signed, write_vertices};
-use crate::numerals::Numerals;
+use crate::numerals::Texts;
 use map_lists::Rotations;
 use pg_plane::{BarFigure, Ints, Point, Points, RectFigure};
 
@@ -28,7 +28,7 @@ pub trait Numbered {
         ensures few { result ≤ 80 };
 
     /// Writes what stands before the neighbours of vertex `v` before `end`, and returns where it starts.
-    fn write_front(&self, numerals: &Numerals, v: usize, bytes: &mut [u8], end: usize) -> usize
+    fn write_front(&self, texts: &Texts<'_>, v: usize, bytes: &mut [u8], end: usize) -> usize
         requires max { v < usize.MAX }
         requires has { Has self.now v }
         requires room { (longest ≤ end) × (end ≤ length bytes.old) }
@@ -69,14 +69,14 @@ impl Numbered for Points {
         48
     }
 
-    fn write_front(&self, numerals: &Numerals, v: usize, bytes: &mut [u8], end: usize) -> usize {
+    fn write_front(&self, texts: &Texts<'_>, v: usize, bytes: &mut [u8], end: usize) -> usize {
         let point = point(self, v);
         let colon = write_byte(b':', bytes, end);
-        let y = write_signed(numerals, point.y, bytes, colon);
-        let x = write_signed(numerals, point.x, bytes, y);
+        let y = write_signed(texts, point.y, bytes, colon);
+        let x = write_signed(texts, point.x, bytes, y);
         let t = write_byte(b't', bytes, x);
         let at = write_letter(b'a', bytes, t);
-        write_number(numerals, v as u64 + 1, bytes, at)
+        write_number(texts, v as u64 + 1, bytes, at)
     }
 }
 
@@ -96,17 +96,17 @@ impl Numbered for BarFigure {
         61
     }
 
-    fn write_front(&self, numerals: &Numerals, v: usize, bytes: &mut [u8], end: usize) -> usize {
+    fn write_front(&self, texts: &Texts<'_>, v: usize, bytes: &mut [u8], end: usize) -> usize {
         let y = integer(&self.y, v);
         let a = integer(&self.x1, v);
         let b = integer(&self.x2, v);
         let colon = write_byte(b':', bytes, end);
-        let second = write_signed(numerals, b, bytes, colon);
-        let first = write_signed(numerals, a, bytes, second);
+        let second = write_signed(texts, b, bytes, colon);
+        let first = write_signed(texts, a, bytes, second);
         let x = write_letter(b'x', bytes, first);
-        let height = write_signed(numerals, y, bytes, x);
+        let height = write_signed(texts, y, bytes, x);
         let word = write_letter(b'y', bytes, height);
-        write_number(numerals, v as u64 + 1, bytes, word)
+        write_number(texts, v as u64 + 1, bytes, word)
     }
 }
 
@@ -126,25 +126,25 @@ impl Numbered for RectFigure {
         73
     }
 
-    fn write_front(&self, numerals: &Numerals, v: usize, bytes: &mut [u8], end: usize) -> usize {
+    fn write_front(&self, texts: &Texts<'_>, v: usize, bytes: &mut [u8], end: usize) -> usize {
         let a = integer(&self.x1, v);
         let b = integer(&self.x2, v);
         let c = integer(&self.y1, v);
         let d = integer(&self.y2, v);
         let colon = write_byte(b':', bytes, end);
-        let top = write_signed(numerals, d, bytes, colon);
-        let bottom = write_signed(numerals, c, bytes, top);
+        let top = write_signed(texts, d, bytes, colon);
+        let bottom = write_signed(texts, c, bytes, top);
         let y = write_letter(b'y', bytes, bottom);
-        let right = write_signed(numerals, b, bytes, y);
-        let left = write_signed(numerals, a, bytes, right);
+        let right = write_signed(texts, b, bytes, y);
+        let left = write_signed(texts, a, bytes, right);
         let x = write_letter(b'x', bytes, left);
-        write_number(numerals, v as u64 + 1, bytes, x)
+        write_number(texts, v as u64 + 1, bytes, x)
     }
 }
 
 // Writes the line of a vertex before `end`, and returns where it starts.
 fn write_line<R: Numbered>(
-    numerals: &Numerals,
+    texts: &Texts<'_>,
     figure: &R,
     v: usize,
     list: &[u16],
@@ -158,14 +158,15 @@ fn write_line<R: Numbered>(
     ensures within { (result ≤ end) × (end ≤ result + (6 * length list.now + 1 + R.longest)) }
     ensures written { drop result bytes.new ≡ vertex_line R.pieces v (R.numbers figure.now v) list.now ++ drop end bytes.old }
 {
+    let texts = *texts;
     let newline = write_byte(b'\n', bytes, end);
-    let front = write_vertices(numerals, list, bytes, newline);
-    figure.write_front(numerals, v, bytes, front)
+    let front = write_vertices(&texts, list, bytes, newline);
+    figure.write_front(&texts, v, bytes, front)
 }
 
 /// Writes the lines of the vertices at the end, and returns where they start: there is still room for a first line.
 pub fn write_lines<R: Numbered>(
-    numerals: &Numerals,
+    texts: &Texts<'_>,
     figure: &R,
     lists: &Rotations,
     bytes: &mut [u8],
@@ -178,7 +179,7 @@ pub fn write_lines<R: Numbered>(
     let mut start = bytes.len();
     for k in 0..lists.len() {
         let v = lists.len() - 1 - k;
-        start = write_line(numerals, figure, v, lists.list(v), bytes, start);
+        start = write_line(texts, figure, v, lists.list(v), bytes, start);
     }
     start
 }
