@@ -97,14 +97,31 @@ pub(crate) fn coordinates(alloc: Global, numbers: &Counts) -> Result<Ints, Alloc
     Ok(made)
 }
 
-// Converts a table of numbers into coordinates, in the memory of `spent`.
-pub(crate) fn coordinates_of(spent: Ints, numbers: &[u32]) -> Result<Ints, AllocError>
-    requires low { (i : ℕ) → slice_index numbers.now i < 2 ^ 31 }
-    ensures { IfOk result (λ made. made ≡ map pos numbers.now) }
+// Gives a table of ends `n` places.
+pub(crate) fn size_ends(table: &mut Vec<i32>, n: usize) -> Result<(), AllocError>
+    ensures { IfOk result (λ _. length table.new.items ≡ n) }
 {
-    let mut made = spent.emptied(numbers.len())?;
+    table.resize(n, 0)?;
+    Ok(())
+}
+
+// Writes numbers as coordinates.
+fn put_coordinates(made: &mut [i32], numbers: &[u32])
+    requires size { length made.old ≡ length numbers.now }
+    requires low { (i : ℕ) → slice_index numbers.now i < 2 ^ 31 }
+    ensures { made.new ≡ map pos numbers.now }
+{
     for i in 0..numbers.len() {
-        made.push(coordinate(numbers[i]))?;
+        made[i] = coordinate(numbers[i]);
     }
-    Ok(made)
+}
+
+// Fills a table with numbers as coordinates.
+pub(crate) fn fill_coordinates(made: &mut Vec<i32>, numbers: &[u32]) -> Result<(), AllocError>
+    requires low { (i : ℕ) → slice_index numbers.now i < 2 ^ 31 }
+    ensures { IfOk result (λ _. made.new.items ≡ map pos numbers.now) }
+{
+    size_ends(made, numbers.len())?;
+    put_coordinates(made, numbers);
+    Ok(())
 }

@@ -10,7 +10,7 @@ ghost use Rattle.visibility.specs.Figures.{IsBarFigure, IsSearchFrom, IsUncutSea
 ghost use Rattle.visibility.specs.Found.{IsRooted, IsFound};
 
 use crate::bar_figures::draw::bar_figure;
-use crate::ends::{coordinate, coordinates_of};
+use crate::ends::{coordinate, fill_coordinates, size_ends};
 use crate::spans::{Sides, SpanTables};
 use bipolar::dual_orders::{FaceTables, number_faces};
 use conn_parts::plane_count;
@@ -33,9 +33,9 @@ struct DualTables {
     faces: FaceTables,
     paths: PathTables,
     spans: SpanTables,
-    // memory for heights and columns
-    y: Ints,
-    column: Ints,
+    // the heights and columns of bars
+    y: Vec<i32>,
+    column: Vec<i32>,
 }
 
 // All tables. What they hold before a record says nothing.
@@ -111,15 +111,30 @@ fn first_of(numbers: &[u32]) -> u32
     numbers[0]
 }
 
-// Ranks as heights, in the memory of `spent`.
-fn heights(spent: Ints, rank: &[u16]) -> Result<Ints, AllocError>
-    ensures { IfOk result (λ made. made ≡ map pos rank.now) }
+// Writes ranks as heights.
+fn put_heights(made: &mut [i32], rank: &[u16])
+    requires { length made.old ≡ length rank.now }
+    ensures { made.new ≡ map pos rank.now }
 {
-    let mut made = spent.emptied(rank.len())?;
     for i in 0..rank.len() {
-        made.push(coordinate(rank[i] as u32))?;
+        made[i] = coordinate(rank[i] as u32);
     }
-    Ok(made)
+}
+
+// Fills a table with ranks as heights.
+fn fill_heights(made: &mut Vec<i32>, rank: &[u16]) -> Result<(), AllocError>
+    ensures { IfOk result (λ _. made.new.items ≡ map pos rank.now) }
+{
+    size_ends(made, rank.len())?;
+    put_heights(made, rank);
+    Ok(())
+}
+
+// Takes whole numbers out of a table, which is empty then.
+fn taken(alloc: Global, table: &mut Vec<i32>) -> Ints
+    ensures { result ≡ table.old.items }
+{
+    Ints::from_vec(mem::replace(table, Vec::new(alloc)))
 }
 
 // An answer for a map, by its lists, twins and search.
@@ -140,8 +155,8 @@ impl DualTables {
             faces: FaceTables::new(alloc),
             paths: PathTables::new(alloc),
             spans: SpanTables::new(alloc),
-            y: Ints::new(alloc),
-            column: Ints::new(alloc),
+            y: Vec::new(alloc),
+            column: Vec::new(alloc),
         }
     }
 
@@ -177,15 +192,13 @@ impl DualTables {
             twins: map.twins,
             numbers: &self.paths.number,
         };
-        self.spans.fill(alloc, &sides)?;
-        let y = heights(
-            mem::replace(&mut self.y, Ints::new(alloc)),
-            &self.ranges.from,
-        )?;
-        let column = mem::replace(&mut self.column, Ints::new(alloc));
-        let column = coordinates_of(column, &self.spans.columns)?;
-        let x1 = mem::replace(&mut self.spans.x1, Ints::new(alloc));
-        let x2 = mem::replace(&mut self.spans.x2, Ints::new(alloc));
+        self.spans.fill(&sides)?;
+        fill_heights(&mut self.y, &self.ranges.from)?;
+        fill_coordinates(&mut self.column, &self.spans.columns)?;
+        let y = taken(alloc, &mut self.y);
+        let column = taken(alloc, &mut self.column);
+        let x1 = taken(alloc, &mut self.spans.x1);
+        let x2 = taken(alloc, &mut self.spans.x2);
         Ok(Found::Drawn(BarFigure { y, x1, x2, column }))
     }
 
@@ -287,10 +300,10 @@ impl BarDrawer {
     /// Keeps the memory of a figure that is done with.
     pub fn keep(&mut self, figure: BarFigure) {
         let BarFigure { y, x1, x2, column } = figure;
-        self.tables.dual.y = y;
-        self.tables.dual.column = column;
-        self.tables.dual.spans.x1 = x1;
-        self.tables.dual.spans.x2 = x2;
+        self.tables.dual.y = y.into_vec();
+        self.tables.dual.column = column.into_vec();
+        self.tables.dual.spans.x1 = x1.into_vec();
+        self.tables.dual.spans.x2 = x2.into_vec();
     }
 
     // The first condition that a record breaks, if it breaks one.

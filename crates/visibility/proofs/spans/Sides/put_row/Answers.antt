@@ -1,6 +1,7 @@
 use Rattle.std.proofs.Common.{◌≡◌, ℕ, ◌+◌, ◌<◌, List, length, get_or, cond, ltb, set, refl, sym, ap, subst, arith}
 use Rattle.map_theory.specs.Maps.{list_of}
 use Rattle.map_theory.proofs.DartCounts.{few_darts-simple}
+use Rattle.map_theory.proofs.DartLemmas.{darts_before_end}
 use Rattle.graph_search.specs.Arcs.{arcs_of}
 use Rattle.bipolar.specs.FaceNumbers.{left_rows}
 use Rattle.bar_check.proofs.EdgeLemmas.{edges_until-all}
@@ -107,3 +108,9 @@ returns-clause-up c =
     let lists = c.args.self.now.lists.now in
     let e : c.loop-i.i ≡ length (list_of lists c.args.b) = omega (arith, c.loop-i-test.false, c.loop-i.auto.i-end, ap (λ (us : List ℕ). length us) c.list-list.ensures) in
     edges_until-all lists c.args.b (length lists) c.loop-i.i c.loop-i.up e c.loop-i.invariant.count
+
+pub overflow_add-result : goal.overflow_add-result
+overflow_add-result c =
+    let lists = c.args.self.now.lists.now in
+    let s = c.facts.ensures in
+    omega (arith, darts_before_end lists c.args.b, few_darts-simple lists s.few s.simple, c.requires.first, ap (λ (us : List ℕ). length us) c.list-list.ensures)

@@ -44,8 +44,8 @@ invariant_of-sides c =
     let known : AreSides lists c.deref-4.result.now c.deref-5.result.now c.args.map.now.twins.now c.deref-6.result.now = rw (c.deref-4.ensures.value, c.deref-5.ensures.value, c.deref-6.ensures.value) (are_sides lists r.few r.simple r.many c.requires.connected c.args.map.now.t r.first r.dart rank order.0 order.1 of (length arcs) c.in_ok-find_faces.ensures.numbers arcs lead counted numbers longest c.args.map.now.twins.now r.are_twins) in
     record { sides = ∣ known ∣₁ }
 
-pub coordinates_of-requires : goal.coordinates_of-requires
-coordinates_of-requires c =
+pub fill_coordinates-requires : goal.fill_coordinates-requires
+fill_coordinates-requires c =
     let lists = c.args.map.now.lists.now in
     let r = c.facts.ensures in
     let rank = c.fill_places.new.ranges.from.items in
@@ -57,7 +57,7 @@ coordinates_of-requires c =
     let longest = rw (c.first_of-base.ensures, c.deref-3.ensures.value) at c.in_ok-find.ensures.longest in
     let numbers = c.find.new.self.number.items in
     let spanned = rw (c.deref-4.ensures.value, c.deref-5.ensures.value, c.deref-6.ensures.value) at c.in_ok-fill.ensures in
-    record { low = rw c.deref-8.ensures.value (small lists r.few r.simple r.many c.requires.connected c.args.map.now.t r.first r.dart rank order.0 order.1 of (length arcs) c.in_ok-find_faces.ensures.numbers arcs lead counted numbers longest c.fill.new.self.columns.items c.fill.new.self.x1 c.fill.new.self.x2 spanned) }
+    record { low = rw c.deref-8.ensures.value (small lists r.few r.simple r.many c.requires.connected c.args.map.now.t r.first r.dart rank order.0 order.1 of (length arcs) c.in_ok-find_faces.ensures.numbers arcs lead counted numbers longest c.fill.new.self.columns.items c.fill.new.self.x1.items c.fill.new.self.x2.items spanned) }
 
 pub returns : goal.returns
 returns c =
@@ -72,8 +72,8 @@ returns c =
     let longest = rw (c.first_of-base.ensures, c.deref-3.ensures.value) at c.in_ok-find.ensures.longest in
     let numbers = c.find.new.self.number.items in
     let spanned = rw (c.deref-4.ensures.value, c.deref-5.ensures.value, c.deref-6.ensures.value) at c.in_ok-fill.ensures in
-    let made : BarFigure = record { y = c.in_ok-y.y; x1 = c.replace-x1.result; x2 = c.replace-x2.result; column = c.in_ok-column.column } in (
-      is_biconnected lists r.few r.simple r.many c.requires.connected c.args.map.now.t r.first r.dart rank order.0 order.1 of (length arcs) c.in_ok-find_faces.ensures.numbers arcs lead counted numbers longest c.fill.new.self.columns.items c.fill.new.self.x1 c.fill.new.self.x2 spanned c.requires.uncut,
-      is_figure lists r.few r.simple r.many c.requires.connected c.args.map.now.t r.first r.dart rank order.0 order.1 of (length arcs) c.in_ok-find_faces.ensures.numbers arcs lead counted numbers longest c.fill.new.self.columns.items c.fill.new.self.x1 c.fill.new.self.x2 spanned made
-          (rw c.deref-7.ensures.value at c.in_ok-y.ensures) (rw c.deref-8.ensures.value at c.in_ok-column.ensures) c.replace-x1.ensures.value c.replace-x2.ensures.value,
+    let made : BarFigure = record { y = c.taken-y.result; x1 = c.taken-x1.result; x2 = c.taken-x2.result; column = c.taken-column.result } in (
+      is_biconnected lists r.few r.simple r.many c.requires.connected c.args.map.now.t r.first r.dart rank order.0 order.1 of (length arcs) c.in_ok-find_faces.ensures.numbers arcs lead counted numbers longest c.fill.new.self.columns.items c.fill.new.self.x1.items c.fill.new.self.x2.items spanned c.requires.uncut,
+      is_figure lists r.few r.simple r.many c.requires.connected c.args.map.now.t r.first r.dart rank order.0 order.1 of (length arcs) c.in_ok-find_faces.ensures.numbers arcs lead counted numbers longest c.fill.new.self.columns.items c.fill.new.self.x1.items c.fill.new.self.x2.items spanned made
+          (c.taken-y.ensures ∙ (rw c.deref-7.ensures.value at c.in_ok-fill_heights.ensures)) (c.taken-column.ensures ∙ (rw c.deref-8.ensures.value at c.in_ok-fill_coordinates.ensures)) c.taken-x1.ensures c.taken-x2.ensures,
     )
