@@ -1,5 +1,5 @@
 -- A pass that comes to know behind each row where the next number of its vertex goes.
-use Rattle.std.proofs.Common.{◌≡◌, ℕ, zero, suc, ◌+◌, ◌<◌, ◌++◌, ◌&&◌, Bool, true, false, cond, ltb, eqb, List, [], ◌∷◌, length, get_or, set, take, length-set, refl, sym, ap, ap₂, ◌∙◌, inl, inr, arith}
+use Rattle.std.proofs.Common.{◌≡◌, ◌≢◌, ℕ, zero, suc, ◌+◌, ◌<◌, ◌++◌, ◌&&◌, Bool, true, false, cond, ltb, eqb, List, [], ◌∷◌, length, get_or, set, take, length-set, refl, sym, ap, ap₂, ◌∙◌, inl, inr, arith}
 use Rattle.std.specs.List.{count_by}
 use Rattle.std.proofs.lemmas.Bool.{cases_eq, cases_lt, lt-ltb, le-ltb}
 use Rattle.std.proofs.lemmas.List.{get_or-set_same, get_or-set_other, length-append, get_or_append_left, get_or_push}
@@ -60,6 +60,21 @@ above_more us b n i up one li within e h =
           let no' : (ltb b a && ltb a n) ≡ false = ap (λ p. p && ltb a n) (le-ltb b a most) in
           let is : one ≡ 0 = e ∙ ap (λ (q : Bool). cond {A = ℕ} q 1 0) (le-ltb b a most) in
           omega (arith, count_by_more_no (λ u. ltb b u && ltb u n) us i 0 li no', h, is)
+    ]
+
+-- the entries above b and those below it are all, where none is b
+pub below_more : (us : List ℕ) (b n i down one : ℕ) → i < length us → get_or us i 0 < n → get_or us i 0 ≢ b → one ≡ cond (ltb (get_or us i 0) b) 1 0 → count_by (λ u. ltb b u && ltb u n) (take i us) + down ≡ i → count_by (λ u. ltb b u && ltb u n) (take (i + 1) us) + (down + one) ≡ i + 1
+below_more us b n i down one li within ne e h =
+    let a = get_or us i 0 in
+    elim (cases_lt b a) [
+      | inl less ↦
+          let more = above_more us b n i (count_by (λ u. ltb b u && ltb u n) (take i us)) 1 li within (sym (ap (λ (q : Bool). cond {A = ℕ} q 1 0) (lt-ltb b a less))) refl in
+          let is : one ≡ 0 = e ∙ ap (λ (q : Bool). cond {A = ℕ} q 1 0) (le-ltb a b (omega arith)) in
+          omega (arith, more, is, h)
+      | inr most ↦
+          let more = above_more us b n i (count_by (λ u. ltb b u && ltb u n) (take i us)) 0 li within (sym (ap (λ (q : Bool). cond {A = ℕ} q 1 0) (le-ltb b a most))) refl in
+          let is : one ≡ 1 = e ∙ ap (λ (q : Bool). cond {A = ℕ} q 1 0) (lt-ltb a b (omega (arith, most, ne))) in
+          omega (arith, more, is, h)
     ]
 
 module _ (lists rows : Lists) (simple : IsSimpleMap lists) where

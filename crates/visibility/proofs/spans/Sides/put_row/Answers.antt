@@ -1,4 +1,5 @@
-use Rattle.std.proofs.Common.{◌≡◌, ℕ, ◌+◌, ◌<◌, List, length, get_or, cond, ltb, set, refl, sym, ap, subst, arith}
+use Rattle.std.proofs.Common.{◌≡◌, ◌≢◌, ℕ, ◌+◌, ◌<◌, List, length, get_or, cond, ltb, set, refl, sym, ap, subst, arith}
+use Rattle.std.proofs.lemmas.List.Elements.{Contains-get_or}
 use Rattle.map_theory.specs.Maps.{list_of}
 use Rattle.map_theory.proofs.DartCounts.{few_darts-simple}
 use Rattle.map_theory.proofs.DartLemmas.{darts_before_end}
@@ -6,7 +7,7 @@ use Rattle.graph_search.specs.Arcs.{arcs_of}
 use Rattle.bipolar.specs.FaceNumbers.{left_rows}
 use Rattle.bar_check.proofs.EdgeLemmas.{edges_until-all}
 use Rattle.bipolar.proofs.FaceAgree.{length-left_row}
-use Rattle.visibility.proofs.StartLemmas.{above_more, start_in, IsFilledTo-more}
+use Rattle.visibility.proofs.StartLemmas.{below_more, start_in, IsFilledTo-more}
 use Rattle.visibility.proofs.SpanLemmas.{IsSpan-more, IsLeastOf-span, IsGreatestOf-span, entry_in, entry_twin_in, entry_head, entry_is}
 use Rattle.visibility.proofs.spans.Sides.put_row.Goals as goal
 
@@ -74,9 +75,10 @@ loop-i-preserved c =
     let is : get_or (arcs_of rows b) i 0 ≡ x = entry_is lists rank of twins numbers s b i c.requires.vertex li (get_or rank b 0) (get_or rank (get_or list i 0) 0) x refl (ap (λ (us : List ℕ). get_or rank (get_or us i 0) 0) c.list-list.ensures) told in
     let within = entry_head lists rank of twins numbers s b i c.requires.vertex li in
     let same : get_or list i 0 ≡ get_or (list_of lists b) i 0 = ap (λ (us : List ℕ). get_or us i 0) c.list-list.ensures in
+    let apart : get_or (list_of lists b) i 0 ≢ b = λ e. s.simple.no_loop b (get_or (list_of lists b) i 0) (c.requires.vertex, Contains-get_or (list_of lists b) i 0 li) e in
     record {
-      few = omega (arith, h.few, c.one_above-up.ensures.most);
-      count = above_more (list_of lists b) b (length lists) i c.loop-i.up c.one_above-up.result li within (subst (λ (z : ℕ). c.one_above-up.result ≡ cond (ltb b z) 1 0) same c.one_above-up.ensures.is) h.count;
+      few = omega (arith, h.few, c.one_below-down.ensures.most);
+      count = below_more (list_of lists b) b (length lists) i c.loop-i.down c.one_below-down.result li within apart (subst (λ (z : ℕ). c.one_below-down.result ≡ cond (ltb z b) 1 0) same c.one_below-down.ensures.is) h.count;
       filled = IsFilledTo-more lists rows s.simple b i c.loop-i.starts c.loop-i.columns c.requires.vertex li h.filled list (arcs_of rows b) c.put_if.new.starts c.put_if.new.columns c.list-list.ensures refl
           (subst (λ z. c.put_if.new.columns ≡ cond (ltb (get_or list i 0) b) (set c.loop-i.columns (get_or c.loop-i.starts (get_or list i 0) 0) z) c.loop-i.columns) (sym is) c.put_if.ensures.columns) c.put_if.ensures.starts;
       span = IsSpan-more (arcs_of rows b) i c.loop-i.least c.loop-i.greatest x c.lesser-least.result c.greater-greatest.result h.span is c.lesser-least.ensures.fits c.lesser-least.ensures.below c.lesser-least.ensures.below_other c.lesser-least.ensures.one c.greater-greatest.ensures.above c.greater-greatest.ensures.above_other c.greater-greatest.ensures.one;
@@ -100,14 +102,15 @@ returns-clause-greatest c =
     let e : c.loop-i.i ≡ length row = omega (arith, c.loop-i-test.false, c.loop-i.auto.i-end, ap (λ (us : List ℕ). length us) c.list-list.ensures, long) in
     IsGreatestOf-span row c.loop-i.i c.loop-i.least c.loop-i.greatest e (omega (arith, long, s.some c.args.b c.requires.vertex)) c.loop-i.invariant.span
 
-pub overflow_add-up : goal.overflow_add-up
-overflow_add-up c = omega (arith, c.loop-i.invariant.few, c.one_above-up.ensures.most, c.loop-i-test.true)
+pub overflow_add-down : goal.overflow_add-down
+overflow_add-down c = omega (arith, c.loop-i.invariant.few, c.one_below-down.ensures.most, c.loop-i-test.true)
 
 pub returns-clause-up : goal.returns-clause-up
 returns-clause-up c =
     let lists = c.args.self.now.lists.now in
     let e : c.loop-i.i ≡ length (list_of lists c.args.b) = omega (arith, c.loop-i-test.false, c.loop-i.auto.i-end, ap (λ (us : List ℕ). length us) c.list-list.ensures) in
-    edges_until-all lists c.args.b (length lists) c.loop-i.i c.loop-i.up e c.loop-i.invariant.count
+    let up = edges_until-all lists c.args.b (length lists) c.loop-i.i _ e refl in
+    omega (arith, up, c.loop-i.invariant.count, e, ap (λ (us : List ℕ). length us) c.list-list.ensures)
 
 pub overflow_add-result : goal.overflow_add-result
 overflow_add-result c =

@@ -1,4 +1,4 @@
-use Rattle.std.proofs.Common.{◌≡◌, ◌≤◌, ◌&&◌, nat_lt, length, take, count_by}
+use Rattle.std.proofs.Common.{◌≡◌, ◌+◌, ◌≤◌, ◌&&◌, nat_lt, length, take, count_by}
 use Rattle.map_theory.specs.Maps.{list_of}
 use Rattle.graph_search.specs.Arcs.{arcs_of}
 use Rattle.bipolar.specs.FaceNumbers.{left_rows}
@@ -8,8 +8,8 @@ use Rattle.visibility.proofs.spans.Sides.put_row.Given as goal
 
 abbrev pub invariant-loop-i : goal.invariant-loop-i
 invariant-loop-i l = record {
-  few : l.up ≤ l.i;
-  count : l.up ≡ count_by (λ u. nat_lt l.b u && nat_lt u (length l.self.lists.now)) (take l.i (list_of l.self.lists.now l.b));
+  few : l.down ≤ l.i;
+  count : count_by (λ u. nat_lt l.b u && nat_lt u (length l.self.lists.now)) (take l.i (list_of l.self.lists.now l.b)) + l.down ≡ l.i;
   filled : IsFilledTo l.self.lists.now (left_rows l.self.lists.now l.self.rank.now l.self.of.now l.self.numbers.now) l.b l.i l.starts l.columns;
   span : IsSpan (arcs_of (left_rows l.self.lists.now l.self.rank.now l.self.of.now l.self.numbers.now) l.b) l.i l.least l.greatest;
 }
