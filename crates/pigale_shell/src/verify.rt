@@ -195,7 +195,9 @@ fn is_yes(verdict: FigureVerdict) -> bool
     }
 }
 
-// Appends the line of the verdict on a figure, and answers whether the figure is valid.
+// Appends the line of the verdict on a figure, and answers whether the figure is valid. The checks of bars and rectangles keep
+// large arrays on the stack: inside the step that takes a line they would make each line touch that stack.
+#[inline(never)]
 fn verify_figure(
     alloc: Global,
     number: u32,
