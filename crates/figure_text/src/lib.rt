@@ -34,6 +34,6 @@ pub use judge::{Judged, Kind};
 pub use lines::{line_length, next_line};
 pub use print::{Printer, print_bars, print_figure, print_grid, print_rects};
 pub use read::{Columns, Item, columns_line, draft_rects, draft_witness};
-pub use rows::{Draft, row_of};
+pub use rows::{Draft, quick_row, row_of};
 pub use witness_print::print_witness;
 pub use words::{Name, Signed, Word};

@@ -184,8 +184,11 @@ fn push_by_words(
     Ok(true)
 }
 
-// Appends what the line of a vertex gives, like `push_by_words`, and keeps no words where its numbers are written plainly.
-fn quick_row(
+/// Appends what the line of a vertex gives, where it is found good at sight, and says whether it is. The line is given without
+/// the byte 10 that closes it. Where it is not, the draft is as it was, and the line may still be good. No words are kept of
+/// numbers that are written plainly.
+#[inline(always)]
+pub fn quick_row(
     found: &mut Vec<Word>,
     kind: Kind,
     place: usize,
@@ -235,6 +238,7 @@ fn exact_row(
 /// Judges the line of a vertex, which is given without the byte 10 that closes it, and appends what a good
 /// one gives. Without memory there is no answer. The vector is for words of the line, and keeps its memory for
 /// those of the next.
+#[inline(never)]
 pub fn row_of(
     found: &mut Vec<Word>,
     kind: Kind,

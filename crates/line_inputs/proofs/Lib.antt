@@ -3,6 +3,7 @@ pub mod MoreLemmas
 pub mod ItemLemmas
 pub mod FigureLinesLineLemmas
 pub mod FigureLinesPartLemmas
+mod RunLemmas
 pub mod FigureLinesReadLemmas
 pub mod FigureLinesUniqueLemmas
 mod ReadToLemmas

@@ -1,12 +1,14 @@
 -- What contracts see of a reader, and what pieces do to it.
-use Rattle.std.specs.Prelude.{ℕ, ◌<◌, ◌≤◌, ◌≡◌, List, [], ◌∷◌, ◌++◌, length, take, Option, Some, None}
+use Rattle.std.specs.Prelude.{ℕ, ◌+◌, ◌<◌, ◌≤◌, ◌≡◌, List, [], ◌∷◌, ◌++◌, length, take, Option, Some, None}
 use Rattle.figure_text.specs.declared.figure.Figure.{Figure}
 use Rattle.line_inputs.specs.FigureLinesProgress.{Progress, Closes, IsWhole}
 use Rattle.line_inputs.specs.declared.figure_lines.ending.Ending.{Ending}
 use Rattle.line_inputs.specs.declared.figure_lines.ending.Ending.TheVariants.{Well, BadLine, EndInFigure}
 use Rattle.line_inputs.specs.declared.figure_lines.begun.Begun.{Begun}
 use Rattle.line_inputs.specs.declared.figure_lines.part.Line.{Line}
-use Rattle.line_inputs.specs.declared.figure_lines.part.Line.TheVariants.{Open, Closed}
+use Rattle.line_inputs.specs.declared.figure_lines.part.Line.TheVariants.{Open, Closed, Ran}
+use Rattle.line_inputs.specs.declared.figure_lines.run.Front.{Front}
+use Rattle.line_inputs.specs.declared.figure_lines.run.Front.TheVariants.{Lines, NoLine}
 
 -- A reader: how many bytes it has consumed, the number of the open line and what has come of it, the figure that has begun,
 -- and the one that became whole last.
@@ -28,11 +30,26 @@ ending_by None line [] = Well
 ending_by None line (b ∷ pending) = BadLine line
 ending_by (Some begun) line pending = EndInFigure begun.first
 
--- a part of a piece ends within the open line, or closes it
+-- a figure goes on behind so many bytes of a part, which are so many whole lines
+abbrev pub TakesRun : List ℕ → List Figure → ℕ → List ℕ → List ℕ → ℕ → ℕ → Begun → Type 0
+TakesRun consumed figures line part pending bytes lines begun = Progress (consumed ++ take bytes part) figures (line + lines) pending (Some begun)
+
+-- a part of a piece ends within the open line, closes it, or begins with whole lines of a figure
 abbrev pub IsLinePart : List ℕ → Line → Type 0
 IsLinePart part (Open begun) = Unit {0}
 IsLinePart part (Closed k after) = (0 < k) × (k ≤ length part) × IsWhole after
+IsLinePart part (Ran run) = (0 < run.bytes) × (run.bytes ≤ length part) × (run.lines ≤ run.bytes)
 
 abbrev pub TakesLine : List ℕ → List Figure → ℕ → List ℕ → List ℕ → Line → Type 0
 TakesLine consumed figures line part pending (Open begun) = Progress (consumed ++ part) figures line pending begun
 TakesLine consumed figures line part pending (Closed k after) = (pending ≡ []) × Closes (consumed ++ take k part) figures line after
+TakesLine consumed figures line part pending (Ran run) = TakesRun consumed figures line part pending run.bytes run.lines run.begun
+
+-- a part begins with whole lines of a figure, or none is taken
+abbrev pub IsFrontPart : List ℕ → Front → Type 0
+IsFrontPart part (Lines run) = (0 < run.bytes) × (run.bytes ≤ length part) × (run.lines ≤ run.bytes)
+IsFrontPart part (NoLine begun) = Unit {0}
+
+abbrev pub TakesFront : List ℕ → List Figure → ℕ → List ℕ → List ℕ → Front → Type 0
+TakesFront consumed figures line part pending (Lines run) = TakesRun consumed figures line part pending run.bytes run.lines run.begun
+TakesFront consumed figures line part pending (NoLine begun) = Progress consumed figures line pending begun

@@ -14,6 +14,7 @@ mod part;
 mod read;
 mod reader;
 mod rows;
+mod run;
 mod step;
 
 pub use ending::Ending;

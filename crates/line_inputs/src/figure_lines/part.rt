@@ -6,6 +6,7 @@ ghost use Rattle.line_inputs.specs.FigureLinesState.{IsLinePart, TakesLine};
 ghost use Rattle.figure_text.specs.declared.figure.Figure.{Figure as AFigure};
 
 use crate::figure_lines::begun::Begun;
+use crate::figure_lines::run::{Front, Run, first_lines};
 use crate::figure_lines::step::{After, after_line};
 use crate::whole_lines::{chosen, join};
 use figure_text::{Word, line_length};
@@ -18,11 +19,13 @@ pub enum Line {
     Open(Option<Begun>),
     /// It was closed by so many bytes of the part.
     Closed(usize, After),
+    /// Whole lines were taken.
+    Ran(Run),
 }
 
-/// Takes a part to the end of the open line, which is then judged, or to its own end. A line that stands whole in the
-/// part is judged where it stands.
-pub fn take_line(
+// Takes a part to the end of the open line, which is then judged, or to its own end. A line that stands whole in the
+// part is judged where it stands.
+fn take_line(
     alloc: Global,
     found: &mut Vec<Word>,
     pending: &mut Vec<u8>,
@@ -50,4 +53,26 @@ pub fn take_line(
     )?;
     pending.clear();
     Ok(Line::Closed(len + 1, after))
+}
+
+/// Takes lines of a figure at the front of a part, or else a part to the end of the open line, or to its own end.
+pub fn take_part(
+    alloc: Global,
+    found: &mut Vec<Word>,
+    pending: &mut Vec<u8>,
+    before: Option<Begun>,
+    line: u32,
+    part: &[u8],
+) -> Result<Line, AllocError>
+    ensures part { IfOk result (IsLinePart part.now) }
+    ensures takes { (consumed : List ℕ) (figures : List AFigure) → Progress consumed figures line pending.old.items before
+        → length consumed + length part.now ≤ input_limit → IfOk result (TakesLine consumed figures line part.now pending.new.items) }
+{
+    match first_lines(found, pending, before, part)? {
+        Front::Lines(run) => Ok(Line::Ran(run)),
+        Front::NoLine(begun) => {
+            let taken = take_line(alloc, found, pending, begun, line, part)?;
+            Ok(taken)
+        }
+    }
 }

@@ -4,7 +4,7 @@ ghost use Rattle.std.specs.Prelude.{◌≡◌, ◌+◌, ◌≤◌, []};
 use crate::figure_lines::begun::Begun;
 use crate::figure_lines::ending::Ending;
 use crate::figure_lines::held::Held;
-use crate::figure_lines::part::{Line, take_line};
+use crate::figure_lines::part::{Line, take_part};
 use crate::figure_lines::step::After;
 use figure_text::{Figure, GridJob, Word};
 use map_lists::Rotations;
@@ -95,7 +95,7 @@ impl Format for FigureReader {
 
     fn take(&mut self, piece: &[u8]) -> Result<Taken<Ending>, AllocError> {
         let before = self.begun.take();
-        match take_line(
+        match take_part(
             self.alloc,
             &mut self.found,
             &mut self.pending,
@@ -122,6 +122,12 @@ impl Format for FigureReader {
                     }
                     After::Bad(ending) => Ok(Taken::Bad(ending)),
                 }
+            }
+            Line::Ran(run) => {
+                self.begun = Some(run.begun);
+                self.place += run.bytes;
+                self.line += run.lines as u32;
+                Ok(Taken::Goes(run.bytes))
             }
         }
     }

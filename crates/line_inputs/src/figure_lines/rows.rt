@@ -1,5 +1,6 @@
 //! The lines of vertices, or of branches and paths, of a figure, as they come.
-ghost use Rattle.std.specs.Prelude.{◌≡◌, ◌+◌, ◌<◌, length, IfSome, nat_lt};
+ghost use Rattle.std.specs.Prelude.{◌≡◌, ◌+◌, ◌<◌, false, length, IfOk, IfSome, nat_lt};
+ghost use Rattle.std.specs.Bool.{OnTrue};
 ghost use Rattle.figure_text.specs.Words.{words_of};
 ghost use Rattle.figure_text.specs.Drafts.{with_row};
 ghost use Rattle.figure_text.specs.Reading.{Judges, IsRow, RowInRange};
@@ -8,10 +9,10 @@ ghost use Rattle.line_inputs.specs.Steps.{no_lines};
 
 use crate::figure_lines::head::Head;
 use crate::figure_lines::held::Held;
-use figure_text::{Draft, Judged, Word, row_of};
+use figure_text::{Draft, Judged, Word, quick_row, row_of};
 use map_lists::ItemLists;
 use pg_plane::{Ints, Points};
-use std::alloc::Global;
+use std::alloc::{AllocError, Global};
 
 /// A figure of which some lines of vertices, or of branches and paths, have come.
 #[derive(Drop)]
@@ -55,6 +56,30 @@ impl Rows {
         let place = self.draft.lists.len() + 1;
         row_of(found, kind, place, line, &mut self.draft)
     }
+
+    // Says whether a line is due behind that which is due next.
+    fn are_two_due(&self) -> bool
+        requires { length self.now.draft.lists < self.now.n }
+        ensures { OnTrue result (length self.now.draft.lists + 1 < self.now.n) }
+    {
+        let n = self.n;
+        self.draft.lists.len() + 1 < n
+    }
+
+    // Keeps what the line that is due gives, where it is found good at sight, and says whether it is.
+    #[inline(always)]
+    fn quick(&mut self, found: &mut Vec<Word>, line: &[u8]) -> Result<bool, AllocError>
+        requires { length self.old.draft.lists < self.old.n }
+        ensures good { IfOk result (λ good. OnTrue good (IsRow (head_kind self.old.head) (length self.old.draft.lists + 1) (words_of line.now)
+            × RowInRange (head_kind self.old.head) (words_of line.now)
+            × (self.new.draft ≡ with_row (head_kind self.old.head) self.old.draft (words_of line.now)))) }
+        ensures bad { IfOk result (λ good. good ≡ false → self.new.draft ≡ self.old.draft) }
+        ensures same { (self.new.head ≡ self.old.head) × (self.new.n ≡ self.old.n) }
+    {
+        let kind = self.head.kind();
+        let place = self.draft.lists.len() + 1;
+        quick_row(found, kind, place, line, &mut self.draft)
+    }
 }
 
 impl Held<Rows> {
@@ -67,6 +92,27 @@ impl Held<Rows> {
         ensures same { (self.new.head ≡ self.old.head) × (self.new.n ≡ self.old.n) }
     {
         self.inside.row(found, line)
+    }
+
+    /// Keeps what the line that is due gives, where it is found good at sight, and says whether it is.
+    #[inline(always)]
+    pub fn quick(&mut self, found: &mut Vec<Word>, line: &[u8]) -> Result<bool, AllocError>
+        requires { length self.old.draft.lists < self.old.n }
+        ensures good { IfOk result (λ good. OnTrue good (IsRow (head_kind self.old.head) (length self.old.draft.lists + 1) (words_of line.now)
+            × RowInRange (head_kind self.old.head) (words_of line.now)
+            × (self.new.draft ≡ with_row (head_kind self.old.head) self.old.draft (words_of line.now)))) }
+        ensures bad { IfOk result (λ good. good ≡ false → self.new.draft ≡ self.old.draft) }
+        ensures same { (self.new.head ≡ self.old.head) × (self.new.n ≡ self.old.n) }
+    {
+        self.inside.quick(found, line)
+    }
+
+    /// Says whether a line is due behind that which is due next.
+    pub fn are_two_due(&self) -> bool
+        requires { length self.now.draft.lists < self.now.n }
+        ensures { OnTrue result (length self.now.draft.lists + 1 < self.now.n) }
+    {
+        self.inside.are_two_due()
     }
 
     /// Says whether a line more is due.

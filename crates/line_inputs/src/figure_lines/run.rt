@@ -1,0 +1,179 @@
+//! Lines of vertices that stand one behind another in a part: taken with no step of the reader between them.
+ghost use Rattle.std.specs.Prelude.{◌≡◌, ◌+◌, ◌≤◌, [], Some, List, ℕ, length, IfOk};
+ghost use Rattle.record_runs.specs.Texts.{input_limit};
+ghost use Rattle.line_inputs.specs.FigureLinesProgress.{Progress};
+ghost use Rattle.line_inputs.specs.FigureLinesState.{TakesRun, IsFrontPart, TakesFront};
+ghost use Rattle.line_inputs.specs.declared.figure_lines.begun.Due.TheVariants.{Row};
+ghost use Rattle.figure_text.specs.declared.figure.Figure.{Figure as AFigure};
+
+use crate::figure_lines::begun::{Begun, Due, SomeRows};
+use figure_text::{Word, line_length};
+use std::alloc::AllocError;
+
+/// Whole lines of a figure at the front of a part, behind which it goes on.
+#[derive(Drop)]
+pub struct Run {
+    /// The figure.
+    pub begun: Begun,
+    /// How many bytes those lines are.
+    pub bytes: usize,
+    /// How many lines.
+    pub lines: usize,
+}
+
+/// The outcome of a part for the lines of vertices at its front.
+#[derive(Drop)]
+pub enum Front {
+    /// Some were taken.
+    Lines(Run),
+    /// None was, and this has begun as before.
+    NoLine(Option<Begun>),
+}
+
+// The rows of a figure behind a line of a part, or before it.
+#[derive(Drop)]
+struct Step {
+    rows: SomeRows,
+    bytes: usize,
+    lines: usize,
+}
+
+// Takes the line at the front of a part, where it is whole, is found good at sight, and is not the last that is due.
+#[inline(always)]
+fn with_line(found: &mut Vec<Word>, rows: SomeRows, part: &[u8]) -> Result<Step, AllocError>
+    ensures within { IfOk result (λ step. step.bytes ≤ length part.now) }
+    ensures few { IfOk result (λ step. step.lines ≤ step.bytes) }
+    ensures takes { (consumed : List ℕ) (figures : List AFigure) (number first : ℕ) → length consumed + length part.now ≤ input_limit
+        → Progress consumed figures number [] (Some (record { first = first; due = Row rows }))
+        → IfOk result (λ step. TakesRun consumed figures number part.now [] step.bytes step.lines (record { first = first; due = Row step.rows })) }
+{
+    let len = line_length(part);
+    let SomeRows { mut held } = rows;
+    if len == part.len() {
+        return Ok(Step {
+            rows: SomeRows { held },
+            bytes: 0,
+            lines: 0,
+        });
+    }
+    if !held.are_two_due() {
+        return Ok(Step {
+            rows: SomeRows { held },
+            bytes: 0,
+            lines: 0,
+        });
+    }
+    if held.quick(found, &part[..len])? {
+        Ok(Step {
+            rows: SomeRows { held },
+            bytes: len + 1,
+            lines: 1,
+        })
+    } else {
+        Ok(Step {
+            rows: SomeRows { held },
+            bytes: 0,
+            lines: 0,
+        })
+    }
+}
+
+// Makes a run of so many lines of so many bytes, behind which the figure has these rows.
+fn run_to(first: u32, rows: SomeRows, bytes: usize, lines: usize) -> Run
+    ensures { result ≡ record { begun = record { first = first; due = Row rows }; bytes = bytes; lines = lines } }
+{
+    Run {
+        begun: Begun {
+            first,
+            due: Due::Row(rows),
+        },
+        bytes,
+        lines,
+    }
+}
+
+// Takes lines so, one after another.
+fn rows_run(
+    found: &mut Vec<Word>,
+    first: u32,
+    rows: SomeRows,
+    part: &[u8],
+) -> Result<Run, AllocError>
+    ensures within { IfOk result (λ run. run.bytes ≤ length part.now) }
+    ensures few { IfOk result (λ run. run.lines ≤ run.bytes) }
+    ensures takes { (consumed : List ℕ) (figures : List AFigure) (number : ℕ) → length consumed + length part.now ≤ input_limit
+        → Progress consumed figures number [] (Some (record { first = first; due = Row rows }))
+        → IfOk result (λ run. TakesRun consumed figures number part.now [] run.bytes run.lines run.begun) }
+{
+    let mut rows = rows;
+    let mut bytes = 0;
+    let mut lines = 0;
+    while bytes < part.len() {
+        let step = with_line(found, rows, &part[bytes..])?;
+        let taken = bytes + step.bytes;
+        let count = lines + step.lines;
+        if step.bytes == 0 {
+            return Ok(run_to(first, step.rows, taken, count));
+        }
+        rows = step.rows;
+        bytes = taken;
+        lines = count;
+    }
+    Ok(run_to(first, rows, bytes, lines))
+}
+
+// Tells a run of lines from one with no line.
+fn front_of(run: Run) -> Front
+    ensures front { (part : List ℕ) → run.bytes ≤ length part → run.lines ≤ run.bytes → IsFrontPart part result }
+    ensures takes { (consumed : List ℕ) (figures : List AFigure) (number : ℕ) (part : List ℕ) → run.lines ≤ run.bytes
+        → TakesRun consumed figures number part [] run.bytes run.lines run.begun → TakesFront consumed figures number part [] result }
+{
+    if run.bytes == 0 {
+        Front::NoLine(Some(run.begun))
+    } else {
+        Front::Lines(run)
+    }
+}
+
+// Takes lines of a figure that has begun so.
+fn begun_lines(found: &mut Vec<Word>, begun: Begun, part: &[u8]) -> Result<Front, AllocError>
+    ensures front { IfOk result (IsFrontPart part.now) }
+    ensures takes { (consumed : List ℕ) (figures : List AFigure) (number : ℕ) → length consumed + length part.now ≤ input_limit
+        → Progress consumed figures number [] (Some begun) → IfOk result (TakesFront consumed figures number part.now []) }
+{
+    let Begun { first, due } = begun;
+    match due {
+        Due::Row(rows) => {
+            let run = rows_run(found, first, rows, part)?;
+            Ok(front_of(run))
+        }
+        Due::Columns(bars) => Ok(Front::NoLine(Some(Begun {
+            first,
+            due: Due::Columns(bars),
+        }))),
+    }
+}
+
+/// Takes lines of vertices at the front of a part, where a figure has begun and nothing has come of the line that is due: as
+/// long as they are whole, are found good at sight, and are not the last that is due.
+pub fn first_lines(
+    found: &mut Vec<Word>,
+    pending: &[u8],
+    before: Option<Begun>,
+    part: &[u8],
+) -> Result<Front, AllocError>
+    ensures front { IfOk result (IsFrontPart part.now) }
+    ensures takes { (consumed : List ℕ) (figures : List AFigure) (number : ℕ) → length consumed + length part.now ≤ input_limit
+        → Progress consumed figures number pending.now before → IfOk result (TakesFront consumed figures number part.now pending.now) }
+{
+    match before {
+        Some(begun) => {
+            if pending.is_empty() {
+                begun_lines(found, begun, part)
+            } else {
+                Ok(Front::NoLine(Some(begun)))
+            }
+        }
+        None => Ok(Front::NoLine(None)),
+    }
+}
