@@ -38,6 +38,17 @@ struct Step {
     lines: usize,
 }
 
+// Takes no line.
+fn no_step(rows: SomeRows) -> Step
+    ensures { result ≡ record { rows = rows; bytes = 0; lines = 0 } }
+{
+    Step {
+        rows,
+        bytes: 0,
+        lines: 0,
+    }
+}
+
 // Takes the line at the front of a part, where it is whole, is found good at sight, and is not the last that is due.
 #[inline(always)]
 fn with_line(found: &mut Vec<Word>, rows: SomeRows, part: &[u8]) -> Result<Step, AllocError>
@@ -50,18 +61,10 @@ fn with_line(found: &mut Vec<Word>, rows: SomeRows, part: &[u8]) -> Result<Step,
     let len = line_length(part);
     let SomeRows { mut held } = rows;
     if len == part.len() {
-        return Ok(Step {
-            rows: SomeRows { held },
-            bytes: 0,
-            lines: 0,
-        });
+        return Ok(no_step(SomeRows { held }));
     }
     if !held.are_two_due() {
-        return Ok(Step {
-            rows: SomeRows { held },
-            bytes: 0,
-            lines: 0,
-        });
+        return Ok(no_step(SomeRows { held }));
     }
     if held.quick(found, &part[..len])? {
         Ok(Step {
@@ -70,11 +73,7 @@ fn with_line(found: &mut Vec<Word>, rows: SomeRows, part: &[u8]) -> Result<Step,
             lines: 1,
         })
     } else {
-        Ok(Step {
-            rows: SomeRows { held },
-            bytes: 0,
-            lines: 0,
-        })
+        Ok(no_step(SomeRows { held }))
     }
 }
 

@@ -12,14 +12,14 @@ use Rattle.line_inputs.proofs.figure_lines.run.with_line.Goals as goal
 
 pub returns-then-len-part-clause-takes : goal.returns-then-len-part-clause-takes
 returns-then-len-part-clause-takes c = λ consumed figures number first few p.
-    run-same consumed figures number first c.args.rows _ c.args.part.now p refl refl refl
+    rw c.no_step.ensures (run-same consumed figures number first c.args.rows _ c.args.part.now p refl refl refl)
 
 pub returns-then-not-are_two_due-clause-takes : goal.returns-then-not-are_two_due-clause-takes
 returns-then-not-are_two_due-clause-takes c = λ consumed figures number first few p.
-    run-same consumed figures number first c.args.rows _ c.args.part.now p refl refl refl
+    rw c.no_step-then-not-are_two_due.ensures (run-same consumed figures number first c.args.rows _ c.args.part.now p refl refl refl)
 
-pub invariant_of-result-then-branch : goal.invariant_of-result-then-branch
-invariant_of-result-then-branch c =
+pub invariant_of-result : goal.invariant_of-result
+invariant_of-result c =
     let held = c.args.rows.held in
     let line = take c.line_length-len.result c.args.part.now in
     let new = c.quick.new.self in
@@ -46,4 +46,4 @@ returns-then-branch-clause-takes c = λ consumed figures number first few p.
 pub returns-else-branch-clause-takes : goal.returns-else-branch-clause-takes
 returns-else-branch-clause-takes c = λ consumed figures number first few p.
     let same = c.quick.ensures.same in
-    run-same consumed figures number first c.args.rows _ c.args.part.now p same.0 same.1 (c.in_ok-quick.ensures.bad c.if-branch.false)
+    rw c.no_step-else-branch.ensures (run-same consumed figures number first c.args.rows _ c.args.part.now p same.0 same.1 (c.in_ok-quick.ensures.bad c.if-branch.false))
