@@ -6,7 +6,7 @@ ghost use Rattle.embed_theorem.specs.Expanded.{IsMapOf};
 use crate::kernel::Kernel;
 use crate::marks::ConflictMarks;
 use crate::shrink::shrink;
-use crate::trace::traced;
+use crate::trace::Tracer;
 use graph6_text::Graph;
 use kuratowski::Witness;
 use left_right_test::{Edges, LeftRightTest};
@@ -21,6 +21,7 @@ pub struct Tables {
     test: LeftRightTest,
     marks: ConflictMarks,
     kernel: Kernel,
+    tracer: Tracer,
     // lists that are done with
     spent: Option<Rotations>,
 }
@@ -33,14 +34,14 @@ impl Tables {
             test: LeftRightTest::new(),
             marks: ConflictMarks::new(),
             kernel: Kernel::new(),
+            tracer: Tracer::new(),
             spent: None,
         }
     }
 
     // Takes a graph.
     fn begin(&mut self, graph: &Graph) {
-        self.edges.read(graph);
-        self.test.begin();
+        self.test.begin(&mut self.edges, graph);
     }
 
     // Leaves edges alone that are a subdivision of K5 or K3,3, after a conflict.
@@ -62,7 +63,7 @@ impl Tables {
         ensures { IfOk result (λ found. MatchOption found ((lists : Lists) → ¬ IsMapOf lists graph.now) (λ lists. length lists ≡ graph.now.n)) }
     {
         self.begin(graph);
-        if self.test.refuses(&self.edges, graph) {
+        if self.test.refuses(graph) {
             return Ok(None);
         }
         let lists = self.lists(alloc, graph.n())?;
@@ -87,7 +88,7 @@ impl Tables {
         ensures { IfOk result (λ found. IfSome found (λ lists. length lists ≡ graph.now.n)) }
     {
         self.begin(graph);
-        if self.edges.are_of_k5() || !self.test.passes_all(&self.edges) {
+        if self.edges.are_of_k5() || !self.test.passes_all() {
             return Ok(None);
         }
         let lists = self.lists(alloc, graph.n())?;
@@ -108,17 +109,22 @@ impl Tables {
         self.spent = Some(lists);
     }
 
+    /// Keeps the memory of a witness that is done with, for the next one.
+    pub fn keep_witness(&mut self, witness: Witness) {
+        self.tracer.keep(witness);
+    }
+
     /// A witness that the graph whose lists were asked for last is nonplanar, or none where that is not seen to be. It
     /// fails only when out of memory.
     pub fn witness(&mut self, alloc: Global) -> Result<Option<Witness>, AllocError> {
         if self.edges.are_of_k5() {
             self.test.links.put_all(&self.edges);
-        } else if !self.test.has_failed() && self.test.passes_all(&self.edges) {
+        } else if !self.test.has_failed() && self.test.passes_all() {
             return Ok(None);
         } else {
             self.shrink();
         }
-        traced(alloc, &self.test.links)
+        self.tracer.traced(alloc, &self.test.links)
     }
 }
 

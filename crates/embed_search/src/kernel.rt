@@ -102,7 +102,8 @@ impl Kernel {
     /// Chains the edges but one. A search then goes along those first along which the last one returned, and last along
     /// those of its tree that join two ways by which it did.
     pub fn chain_without(&self, links: &mut Links, out: u32) {
-        links.begin_chains(&self.edges);
+        links.begin_chains(self.edges.vertices);
+        links.darts = twice(self.edges.count);
         for turn in 0..3u32 {
             for edge in 0..self.edges.count {
                 if edge != out && turn_of(self.marks.get(edge)) == turn {

@@ -3,6 +3,7 @@ use kuratowski::{Kind, Witness};
 use left_right_test::{ByVertex, Links, NONE, plus};
 use map_lists::{PathList, VertexId, VertexList};
 use std::alloc::{AllocError, Global};
+use std::mem;
 
 // A vertex by its number.
 fn vertex_id(vertex: u32) -> VertexId {
@@ -44,11 +45,13 @@ struct Branches {
 }
 
 impl Branches {
-    fn new(count: u32) -> Branches {
+    // None.
+    #[inline(always)]
+    fn new() -> Branches {
         Branches {
             vertices: ByVertex::new(),
             places: ByVertex::new(),
-            count,
+            count: 0,
         }
     }
 
@@ -58,17 +61,15 @@ impl Branches {
         self.places.set(vertex, place);
     }
 
-    // The vertices of a degree above two, in rising order.
-    fn of(links: &Links) -> Branches {
-        let mut found = Branches::new(0);
+    // Takes the vertices of a degree above two, in rising order.
+    fn take(&mut self, links: &Links) {
+        self.count = 0;
         for vertex in 0..links.vertices {
             if links.degree.get(vertex) > 2 {
-                let place = found.count;
-                found.put(place, vertex);
-                found.count = plus(place, 1);
+                self.put(self.count, vertex);
+                self.count = plus(self.count, 1);
             }
         }
-        found
     }
 
     // By place, from one on and before another: the first dart of the path from a branch to the one at that place, or NONE.
@@ -88,27 +89,27 @@ impl Branches {
         found
     }
 
-    // Six in two parts: first those that no path joins to the first one.
-    fn in_parts(&self, links: &Links) -> Branches {
-        let darts = self.darts_from(links, 0, 0, 6);
-        let mut parted = Branches::new(6);
+    // Takes six others in two parts: first those that no path joins to the first one.
+    fn take_in_parts(&mut self, links: &Links, others: &Branches) {
+        self.count = 6;
+        let darts = others.darts_from(links, 0, 0, 6);
         let mut near = 0u32;
         let mut far = 3u32;
         for i in 0..6u32 {
-            let vertex = self.vertices.get(i);
+            let vertex = others.vertices.get(i);
             if darts[i as usize % 8] == NONE {
-                parted.put(near, vertex);
+                self.put(near, vertex);
                 near = plus(near, 1);
             } else {
-                parted.put(far, vertex);
+                self.put(far, vertex);
                 far = plus(far, 1);
             }
         }
-        parted
     }
 
-    fn list(&self, alloc: Global) -> Result<VertexList, AllocError> {
-        let mut list = VertexList::with_capacity(alloc, self.count as usize)?;
+    // As a list, in the memory of `spent`.
+    fn list(&self, spent: VertexList) -> Result<VertexList, AllocError> {
+        let mut list = spent.emptied(self.count as usize)?;
         for place in 0..self.count {
             list.push(vertex_id(self.vertices.get(place)))?;
         }
@@ -176,18 +177,81 @@ fn push_paths_from(
     Ok(true)
 }
 
-// The paths of a kind, in its order of pairs, or none.
-fn paths_of(
-    alloc: Global,
+/// The tables by which witnesses are traced, and the memory of one that is done with.
+#[derive(Drop)]
+pub struct Tracer {
+    branches: Branches,
+    // those of K3,3 in two parts
+    parted: Branches,
+    way: Way,
+    spent: Option<Witness>,
+}
+
+impl Tracer {
+    /// Tables before the first witness. They take no memory of an allocator.
+    #[inline(always)]
+    pub fn new() -> Tracer {
+        Tracer {
+            branches: Branches::new(),
+            parted: Branches::new(),
+            way: Way {
+                cells: [VertexId(0); 256],
+                count: 0,
+            },
+            spent: None,
+        }
+    }
+
+    /// Keeps the memory of a witness that is done with.
+    pub fn keep(&mut self, witness: Witness) {
+        self.spent = Some(witness);
+    }
+
+    // A witness of a kind, to be filled, in that memory, if some was kept.
+    fn take_spent(&mut self, alloc: Global, kind: Kind) -> Witness {
+        match mem::replace(&mut self.spent, None) {
+            Some(witness) => {
+                let Witness { branch, paths, .. } = witness;
+                Witness {
+                    kind,
+                    branch,
+                    paths,
+                }
+            }
+            None => Witness {
+                kind,
+                branch: VertexList::new(alloc),
+                paths: PathList::new(alloc),
+            },
+        }
+    }
+
+    /// The witness that the linked edges are, or none where they are no subdivision of K5 or K3,3.
+    pub fn traced(&mut self, alloc: Global, links: &Links) -> Result<Option<Witness>, AllocError> {
+        self.branches.take(links);
+        match self.branches.count {
+            5 => {
+                let spent = self.take_spent(alloc, Kind::K5);
+                filled(links, &mut self.way, &self.branches, spent)
+            }
+            6 => {
+                self.parted.take_in_parts(links, &self.branches);
+                let spent = self.take_spent(alloc, Kind::K33);
+                filled(links, &mut self.way, &self.parted, spent)
+            }
+            _ => Ok(None),
+        }
+    }
+}
+
+// Appends the paths of a kind, in its order of pairs. It answers whether all are there.
+fn push_paths(
     links: &Links,
+    way: &mut Way,
     branches: &Branches,
     kind: Kind,
-) -> Result<Option<PathList>, AllocError> {
-    let mut way = Way {
-        cells: [VertexId(0); 256],
-        count: 0,
-    };
-    let mut paths = PathList::with_capacity(alloc, plus(links.vertices, 20) as usize, 10)?;
+    paths: &mut PathList,
+) -> Result<bool, AllocError> {
     let (starts, end) = match kind {
         Kind::K5 => (4u32, 5u32),
         Kind::K33 => (3u32, 6u32),
@@ -198,39 +262,33 @@ fn paths_of(
             Kind::K33 => 3,
         };
         let darts = branches.darts_from(links, i, from, end);
-        if !push_paths_from(links, &mut way, &mut paths, darts, from, end)? {
-            return Ok(None);
+        if !push_paths_from(links, way, paths, darts, from, end)? {
+            return Ok(false);
         }
     }
-    Ok(Some(paths))
+    Ok(true)
 }
 
-// The witness of these branches, if the paths are there.
-fn witness_of(
-    alloc: Global,
+// The witness of these branches, if the paths are there, of the kind and in the memory of `spent`.
+fn filled(
     links: &Links,
+    way: &mut Way,
     branches: &Branches,
-    kind: Kind,
+    spent: Witness,
 ) -> Result<Option<Witness>, AllocError> {
-    match paths_of(alloc, links, branches, kind)? {
-        Some(paths) => {
-            let branch = branches.list(alloc)?;
-            Ok(Some(Witness {
-                kind,
-                branch,
-                paths,
-            }))
-        }
-        None => Ok(None),
+    let Witness {
+        kind,
+        branch,
+        mut paths,
+    } = spent;
+    paths.clear();
+    if !push_paths(links, way, branches, kind, &mut paths)? {
+        return Ok(None);
     }
-}
-
-/// The witness that the linked edges are, or none where they are no subdivision of K5 or K3,3.
-pub fn traced(alloc: Global, links: &Links) -> Result<Option<Witness>, AllocError> {
-    let branches = Branches::of(links);
-    match branches.count {
-        5 => witness_of(alloc, links, &branches, Kind::K5),
-        6 => witness_of(alloc, links, &branches.in_parts(links), Kind::K33),
-        _ => Ok(None),
-    }
+    let branch = branches.list(branch)?;
+    Ok(Some(Witness {
+        kind,
+        branch,
+        paths,
+    }))
 }

@@ -412,9 +412,9 @@ fn agrees_from(links: &Links, search: &mut Search, root: u32) -> bool {
 /// Whether the oriented edges can be put on two sides without a conflict.
 pub fn agrees(links: &Links, search: &mut Search) -> bool {
     search.ties.count = 0;
-    for root in 0..links.vertices {
-        let is_root = links.first.get(root) != NONE && search.parent.get(root) == NONE;
-        if is_root && !agrees_from(links, search, root) {
+    for place in 0..search.root_count {
+        let root = search.roots.get(place);
+        if !agrees_from(links, search, root) {
             return false;
         }
     }

@@ -1,5 +1,6 @@
 //! The edges of a graph, read out of its bits.
-use crate::row::{ByEdge, minus, plus};
+use crate::links::Links;
+use crate::row::{ByEdge, minus, plus, twice};
 use graph6_text::Graph;
 
 /// Edges by number.
@@ -27,11 +28,6 @@ impl Edges {
         }
     }
 
-    /// Whether there are more edges than a plane map has.
-    pub fn are_many(&self) -> bool {
-        most_edges(self.vertices) < self.count
-    }
-
     /// Appends an edge.
     #[inline(always)]
     pub fn push(&mut self, u: u32, v: u32) {
@@ -40,14 +36,15 @@ impl Edges {
         self.count = plus(self.count, 1);
     }
 
-    /// Takes the edges of a graph; of those that are too many for a plane map, the first ones, one too many.
-    pub fn read(&mut self, graph: &Graph) {
+    /// Takes the edges of a graph, and chains their darts; of edges that are too many for a plane map the first ones, one too
+    /// many.
+    pub fn read(&mut self, graph: &Graph, links: &mut Links) {
         self.vertices = u32::from(graph.n());
         self.count = 0;
-        self.push_all(graph.body());
-        if self.are_many() {
-            self.count = plus(most_edges(self.vertices), 1);
-        }
+        links.begin_chains(self.vertices);
+        links.degree.fill(self.vertices, 0);
+        self.push_all(graph.body(), links);
+        links.darts = twice(self.count);
     }
 
     /// Whether the graph is K5, if it has no loops and no parallels.
@@ -55,72 +52,75 @@ impl Edges {
         self.vertices == 5 && self.count == 10
     }
 
-    // Appends all edges, by the greater end and then by the lesser, until there are too many.
-    fn push_all(&mut self, bits: &[u8]) {
+    // Appends and chains all edges, by the greater end and then by the lesser, until there are too many.
+    fn push_all(&mut self, bits: &[u8], links: &mut Links) {
         let most = most_edges(self.vertices);
-        let mut place = Place {
-            u: 0,
-            v: 1,
-            ahead: 0,
-        };
+        let mut place = Place { v: 1, last: 5 };
         for byte in bits {
             if *byte > 63 {
-                place = self.push_byte(u32::from(*byte - 63), place);
+                place = self.push_byte(u32::from(*byte - 63), place, most, links);
                 if self.count > most {
                     return;
                 }
             }
-            place.ahead = plus(place.ahead, 6);
+            place.last = plus(place.last, 6);
         }
     }
 
-    // Appends the edges of one byte. It answers where the last one of them stands.
+    // Appends and chains the edges of one byte, until there are too many. It answers in which row the last one of them is.
     #[inline(always)]
-    fn push_byte(&mut self, bits: u32, place: Place) -> Place {
+    fn push_byte(&mut self, bits: u32, place: Place, most: u32, links: &mut Links) -> Place {
         let mut bits = bits;
         let mut place = place;
-        for _ in 0..6u32 {
+        for _ in self.count..plus(most, 1) {
             if bits == 0 {
                 break;
             }
-            let k = minus(bits.leading_zeros(), 26);
-            place = place.moved(k, self.vertices);
-            self.push(place.u, place.v);
-            bits = bits & (31 >> (k & 7));
+            let bit = 31 ^ bits.leading_zeros();
+            place = place.moved(bit);
+            let u = minus(place.last, bit);
+            links.chain_next(self.count, u, place.v);
+            self.push(u, place.v);
+            bits = bits ^ (1 << (bit & 31));
         }
         place
     }
 }
 
-// A pair of vertices among all pairs.
+// Where the pairs of a byte stand: for each v the pairs of v and a lesser vertex are one row.
 #[derive(Clone, Copy)]
 struct Place {
-    // the lesser one
-    u: u32,
-    // the greater one
+    // the vertex of the row
     v: u32,
-    // how many pairs behind it the first pair of a byte stands, which may be less than none
-    ahead: u32,
+    // the lesser vertex of the pair of the byte's last bit, if the row went on so far
+    last: u32,
 }
 
 impl Place {
-    // Pair number k of the byte.
+    // With the row of the pair of a bit, counted from the last one.
     #[inline(always)]
-    fn moved(self, k: u32, vertices: u32) -> Place {
-        let mut u = plus(self.u, plus(self.ahead, k));
-        let mut v = self.v;
-        for _ in 0..vertices {
-            if u < v {
+    fn moved(self, bit: u32) -> Place {
+        if minus(self.last, bit) < self.v {
+            self
+        } else {
+            self.in_later_row(bit)
+        }
+    }
+
+    // With that row, which is a later one.
+    #[inline(always)]
+    fn in_later_row(self, bit: u32) -> Place {
+        let mut place = self;
+        for _ in 0..256u32 {
+            place = Place {
+                v: plus(place.v, 1),
+                last: minus(place.last, place.v),
+            };
+            if minus(place.last, bit) < place.v {
                 break;
             }
-            u = minus(u, v);
-            v = plus(v, 1);
         }
-        Place {
-            u,
-            v,
-            ahead: minus(0, k),
-        }
+        place
     }
 }
 

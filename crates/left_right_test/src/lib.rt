@@ -8,7 +8,6 @@
 mod conflicts;
 mod edges;
 mod links;
-mod nesting;
 mod orient;
 mod placing;
 mod ring;

@@ -59,7 +59,7 @@ impl Links {
         self.prev.set(dart, NONE);
         self.prev.set(first, dart);
         self.first.set(vertex, dart);
-        self.degree.set(vertex, plus(self.degree.get(vertex), 1));
+        self.count_dart(vertex);
     }
 
     // Puts a dart first into the list of `vertex`, without what stands before a dart and without a count.
@@ -70,20 +70,37 @@ impl Links {
         self.first.set(vertex, dart);
     }
 
-    /// Empties all lists, which `chain_edge` is to fill: they can be gone along.
-    pub fn begin_chains(&mut self, edges: &Edges) {
-        self.vertices = edges.vertices;
-        self.darts = twice(edges.count);
-        self.first.fill(edges.vertices, NONE);
+    /// Empties the lists of so many vertices, which `chain_edge` or `chain_next` is to fill: they can be gone along.
+    pub fn begin_chains(&mut self, vertices: u32) {
+        self.vertices = vertices;
+        self.first.fill(vertices, NONE);
     }
 
     /// Puts both darts of an edge first, in lists that can be gone along.
     #[inline(always)]
     pub fn chain_edge(&mut self, edges: &Edges, edge: u32) {
-        let a = edges.one.get(edge);
-        let b = edges.other.get(edge);
+        self.chain(edge, edges.one.get(edge), edges.other.get(edge));
+    }
+
+    // Puts both darts of an edge between two vertices first.
+    #[inline(always)]
+    fn chain(&mut self, edge: u32, a: u32, b: u32) {
         self.chain_first(twice(edge), a, b);
         self.chain_first(twice(edge) ^ 1, b, a);
+    }
+
+    // Counts a dart of a vertex.
+    #[inline(always)]
+    fn count_dart(&mut self, vertex: u32) {
+        self.degree.set(vertex, plus(self.degree.get(vertex), 1));
+    }
+
+    /// Chains an edge between two vertices, and counts its darts.
+    #[inline(always)]
+    pub fn chain_next(&mut self, edge: u32, a: u32, b: u32) {
+        self.chain(edge, a, b);
+        self.count_dart(a);
+        self.count_dart(b);
     }
 
     /// Puts both darts of an edge first.

@@ -1,123 +1,172 @@
-//! The first search, the orientation phase: it orients edges, and finds their lowpoints and nesting depths.
+//! The first search, the orientation phase: it orients edges, finds their lowpoints, and puts the darts that leave each
+//! vertex into the order of their nesting depths.
 use crate::links::Links;
-use crate::row::{NONE, lesser, plus, twice};
+use crate::row::{NONE, lesser, minus, plus, twice};
 use crate::search::{Search, steps};
 
-// Tells the dart to a vertex of a dart that leaves it. A root has no such dart, and nothing reads what is
-// written for it.
-#[inline(always)]
-fn tell_parent(search: &mut Search, vertex: u32, low: u32, lowpt2: u32) {
-    let parent = search.parent.get(vertex);
-    let old = search.lowpt.get(parent);
-    let old2 = search.lowpt2.get(parent);
-    if low < old {
-        search.lowpt.set(parent, low);
-        search.lowpt2.set(parent, lesser(old, lowpt2));
-    } else if low > old {
-        search.lowpt2.set(parent, lesser(old2, low));
-    } else {
-        search.lowpt2.set(parent, lesser(old2, lowpt2));
-    }
+// Where the search stands, and what is known so far of the dart by which it came.
+#[derive(Clone, Copy)]
+struct Stand {
+    vertex: u32,
+    // how many steps the vertex is below its root
+    height: u32,
+    // the dart to it, or none at a root
+    parent: u32,
+    // the lowpoint of that dart
+    low: u32,
+    // its second lowpoint
+    second: u32,
 }
 
-// Ends a dart of a vertex along which the search went: all that returns along it is known.
-#[inline(always)]
-fn end_dart(search: &mut Search, vertex: u32, dart: u32) {
-    let low = search.lowpt.get(dart);
-    let lowpt2 = search.lowpt2.get(dart);
-    let chordal = if lowpt2 < search.height.get(vertex) {
-        1
-    } else {
-        0
-    };
-    let nest = plus(twice(low), chordal);
-    search.reference.set(dart, NONE);
-    search.side.set(dart, 0);
-    search.put_in_bucket(dart, nest);
-    tell_parent(search, vertex, low, lowpt2);
+impl Stand {
+    // At a root. Nothing reads the lowpoints of its dart, which is none.
+    fn at_root(root: u32) -> Stand {
+        Stand {
+            vertex: root,
+            height: 0,
+            parent: NONE,
+            low: 0,
+            second: 0,
+        }
+    }
+
+    // With these lowpoints.
+    #[inline(always)]
+    fn with(self, low: u32, second: u32) -> Stand {
+        Stand {
+            vertex: self.vertex,
+            height: self.height,
+            parent: self.parent,
+            low,
+            second,
+        }
+    }
+
+    // With what returns along a dart of the vertex, by its lowpoints.
+    #[inline(always)]
+    fn with_returns(self, low: u32, second: u32) -> Stand {
+        if low < self.low {
+            self.with(low, lesser(self.low, second))
+        } else if low > self.low {
+            self.with(self.low, lesser(self.second, low))
+        } else {
+            self.with(self.low, lesser(self.second, second))
+        }
+    }
+
+    // With a return edge of the vertex, which ends at this height.
+    #[inline(always)]
+    fn with_return(self, low: u32) -> Stand {
+        if low < self.low {
+            self.with(low, self.low)
+        } else if low > self.low {
+            self.with(self.low, lesser(self.second, low))
+        } else {
+            self
+        }
+    }
 }
 
 // Goes along a dart to a vertex that was not reached.
 #[inline(always)]
-fn go_down(search: &mut Search, vertex: u32, dart: u32, head: u32) {
-    let height = search.height.get(vertex);
-    search.lowpt.set(dart, height);
-    search.lowpt2.set(dart, height);
+fn go_down(search: &mut Search, at: Stand, dart: u32, head: u32) -> Stand {
+    let height = plus(at.height, 1);
+    search.lowpt.set(at.parent, at.low);
+    search.lowpt2.set(at.parent, at.second);
     search.parent.set(head, dart);
-    search.height.set(head, plus(height, 1));
-}
-
-// Tells the dart to a vertex of a return edge of that vertex, which ends at this height.
-#[inline(always)]
-fn tell_return(search: &mut Search, parent: u32, low: u32) {
-    let old = search.lowpt.get(parent);
-    if low < old {
-        search.lowpt.set(parent, low);
-        search.lowpt2.set(parent, old);
-    } else if low > old {
-        search
-            .lowpt2
-            .set(parent, lesser(search.lowpt2.get(parent), low));
+    search.height.set(head, height);
+    Stand {
+        vertex: head,
+        height,
+        parent: dart,
+        low: at.height,
+        second: at.height,
     }
 }
 
-// Looks at a dart of a vertex, to one that was reached: it may be a return edge.
+// Goes back along the dart to a vertex: all that returns along it is known.
 #[inline(always)]
-fn look_back(search: &mut Search, vertex: u32, dart: u32, head: u32) {
-    let low = search.height.get(head);
+fn go_up(links: &Links, search: &mut Search, at: Stand) -> Stand {
+    let vertex = links.tail(at.parent);
+    let height = minus(at.height, 1);
+    let chordal = if at.second < height { 1 } else { 0 };
     let parent = search.parent.get(vertex);
-    if low < search.height.get(vertex) && parent != dart ^ 1 {
-        search.lowpt.set(dart, low);
-        search.reference.set(dart, NONE);
-        search.side.set(dart, 0);
-        search.put_in_bucket(dart, twice(low));
-        tell_return(search, parent, low);
+    let above = Stand {
+        vertex,
+        height,
+        parent,
+        low: search.lowpt.get(parent),
+        second: search.lowpt2.get(parent),
+    };
+    search.end_dart(at.parent, at.low);
+    search.put_in_order(at.parent, vertex, plus(twice(at.low), chordal));
+    above.with_returns(at.low, at.second)
+}
+
+// Looks at a dart to a vertex of this height, which was reached: it may be a return edge.
+#[inline(always)]
+fn look_back(search: &mut Search, at: Stand, dart: u32, low: u32) -> Stand {
+    if low < at.height && at.parent != dart ^ 1 {
+        search.end_dart(dart, low);
+        search.put_in_order(dart, at.vertex, twice(low));
+        return at.with_return(low);
     }
+    at
 }
 
 // Goes on from a root until all that it reaches is done.
 fn orient_from(links: &Links, search: &mut Search, root: u32) {
     search.set_root(root);
-    let mut vertex = root;
+    let mut at = Stand::at_root(root);
     let mut dart = links.first.get(root);
     for _ in 0..steps(links.vertices, links.darts) {
         if dart == NONE {
-            let parent = search.parent.get(vertex);
-            if parent == NONE {
+            if at.parent == NONE {
                 return;
             }
-            vertex = links.tail(parent);
-            end_dart(search, vertex, parent);
-            dart = links.next.get(parent);
+            dart = links.next.get(at.parent);
+            at = go_up(links, search, at);
             continue;
         }
         let head = links.head.get(dart);
-        if search.is_reached(head) {
-            look_back(search, vertex, dart, head);
-            dart = links.next.get(dart);
-        } else {
-            go_down(search, vertex, dart, head);
-            vertex = head;
+        let low = search.height.get(head);
+        if low == NONE {
+            at = go_down(search, at, dart, head);
             dart = links.first.get(head);
+        } else {
+            at = look_back(search, at, dart, low);
+            dart = links.next.get(dart);
         }
     }
 }
 
-// Goes on from a root, if it has darts and was not reached.
+// Goes on from a root, if it was not reached.
 #[inline(always)]
 fn orient_root(links: &Links, search: &mut Search, root: u32) {
-    if links.first.get(root) != NONE && !search.is_reached(root) {
+    if !search.is_reached(root) && links.first.get(root) != NONE {
         orient_from(links, search, root);
     }
 }
 
-/// Orients all edges, and puts their darts into buckets by depth.
+// Goes on from a root behind the first one, and notes it.
+fn take_root(links: &Links, search: &mut Search, root: u32) {
+    if links.first.get(root) != NONE {
+        orient_root(links, search, root);
+        search.note_root(root);
+    }
+}
+
+/// Orients all edges, notes the roots in rising order, and puts the darts that leave each vertex into rising order of depth.
 pub fn orient_all(links: &Links, search: &mut Search) {
     search.height.fill(links.vertices, NONE);
     search.parent.fill(links.vertices, NONE);
+    search.leaving.fill(links.vertices, NONE);
+    search.root_count = 0;
     let first = search.root;
     orient_root(links, search, first);
     for root in 0..links.vertices {
-        orient_root(links, search, root);
+        if root == first || !search.is_reached(root) {
+            take_root(links, search, root);
+        }
     }
 }

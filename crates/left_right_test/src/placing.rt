@@ -3,7 +3,7 @@ ghost use Rattle.std.specs.Prelude.{◌≡◌, ◌<◌, ◌≤◌, length, IfOk}
 ghost use Rattle.map_lists.specs.Cuts.{AreCuts};
 
 use crate::links::Links;
-use crate::row::{ByArc, ByDart, ByVertex, NONE, plus};
+use crate::row::{ByArc, ByDart, ByVertex, NONE, minus, plus};
 use crate::search::{Search, steps};
 use map_lists::Rotations;
 use std::alloc::AllocError;
@@ -11,11 +11,10 @@ use std::alloc::AllocError;
 /// Where the twins of return edges stand: next to the dart along which the search came back by them.
 #[derive(Drop)]
 pub struct Places {
-    // for each vertex the one to which the search went from it
-    gone: ByVertex,
-    // for each vertex the first return edge whose twin is left of the dart to it
+    // for each vertex on the way to the search the first return edge whose twin is left of the dart by which the way
+    // leaves it
     left: ByVertex,
-    // for each vertex the first one whose twin is right of that dart
+    // for each such vertex the first one whose twin is right of that dart
     right: ByVertex,
     // for each return edge the next one there
     next: ByArc,
@@ -23,8 +22,8 @@ pub struct Places {
     entries: ByDart,
     // how many there are
     count: u32,
-    // for each vertex the place at which its list begins
-    start: ByVertex,
+    // for each vertex the place of the next entry of its list
+    place: ByVertex,
 }
 
 impl Places {
@@ -32,129 +31,122 @@ impl Places {
     #[inline(always)]
     pub fn new() -> Places {
         Places {
-            gone: ByVertex::new(),
             left: ByVertex::new(),
             right: ByVertex::new(),
             next: ByArc::new(),
             entries: ByDart::new(),
             count: 0,
-            start: ByVertex::new(),
+            place: ByVertex::new(),
         }
     }
 
     // Places the twin of a return edge, which leads to `head`.
     #[inline(always)]
     fn place_twin(&mut self, search: &Search, head: u32, dart: u32) {
-        let beside = self.gone.get(head);
         if search.side.get(dart) == 0 {
-            self.next.set(dart, self.right.get(beside));
-            self.right.set(beside, dart);
+            self.next.set(dart, self.right.get(head));
+            self.right.set(head, dart);
         } else {
-            self.next.set(dart, self.left.get(beside));
-            self.left.set(beside, dart);
+            self.next.set(dart, self.left.get(head));
+            self.left.set(head, dart);
         }
     }
 
-    // Goes on from a root until all that it reaches is done.
-    fn place_from(&mut self, links: &Links, search: &Search, root: u32) {
+    // Writes an entry. It answers the place behind it.
+    #[inline(always)]
+    fn put(&mut self, place: u32, vertex: u32) -> u32 {
+        self.entries.set(place, vertex);
+        plus(place, 1)
+    }
+
+    // Writes the vertices from which return edges come, from a first one on.
+    #[inline(always)]
+    fn put_tails(&mut self, links: &Links, place: u32, dart: u32) -> u32 {
+        let mut place = place;
+        let mut dart = dart;
+        for _ in 0..links.darts {
+            if dart == NONE {
+                break;
+            }
+            place = self.put(place, links.tail(dart));
+            dart = self.next.get(dart);
+        }
+        place
+    }
+
+    // Goes along a dart from a vertex to another. It answers the place of the next entry there.
+    #[inline(always)]
+    fn go_down(&mut self, vertex: u32, place: u32, head: u32) -> u32 {
+        self.place.set(vertex, place);
+        self.left.set(vertex, NONE);
+        self.right.set(vertex, NONE);
+        let start = self.place.get(head);
+        self.put(start, vertex)
+    }
+
+    // Goes back from a vertex whose list is done, and writes it with what stands next to it. It answers the place of the
+    // next entry there.
+    #[inline(always)]
+    fn go_up(&mut self, links: &Links, vertex: u32, place: u32, above: u32) -> u32 {
+        self.place.set(vertex, place);
+        let left = self.left.get(above);
+        let right = self.right.get(above);
+        let start = self.place.get(above);
+        let place = self.put_tails(links, start, left);
+        let place = self.put(place, vertex);
+        self.put_tails(links, place, right)
+    }
+
+    // Lists what leaves a root and all that it reaches.
+    fn list_from(&mut self, links: &Links, search: &Search, root: u32) {
         let mut vertex = root;
+        let mut place = self.place.get(root);
         let mut dart = search.leaving.get(root);
         for _ in 0..steps(links.vertices, links.darts) {
             if dart == NONE {
                 let parent = search.parent.get(vertex);
                 if parent == NONE {
-                    return;
+                    break;
                 }
-                vertex = links.tail(parent);
+                let above = links.tail(parent);
+                place = self.go_up(links, vertex, place, above);
+                vertex = above;
                 dart = search.chain.get(parent);
                 continue;
             }
             let head = links.head.get(dart);
             if search.parent.get(head) == dart {
-                self.gone.set(vertex, head);
+                place = self.go_down(vertex, place, head);
                 vertex = head;
                 dart = search.leaving.get(head);
             } else {
+                place = self.put(place, head);
                 self.place_twin(search, head, dart);
                 dart = search.chain.get(dart);
             }
         }
+        self.place.set(root, place);
     }
 
-    /// Places all twins.
-    pub fn place_all(&mut self, links: &Links, search: &Search) {
-        self.left.fill(links.vertices, NONE);
-        self.right.fill(links.vertices, NONE);
-        for root in 0..links.vertices {
-            if search.parent.get(root) == NONE {
-                self.place_from(links, search, root);
-            }
-        }
-    }
-
-    // Appends an entry.
-    #[inline(always)]
-    fn push(&mut self, vertex: u32) {
-        self.entries.set(self.count, vertex);
-        self.count = plus(self.count, 1);
-    }
-
-    // Appends the vertices from which return edges come, from a first one on.
-    #[inline(always)]
-    fn push_tails(&mut self, links: &Links, dart: u32) {
-        let mut dart = dart;
-        for _ in 0..links.darts {
-            if dart == NONE {
-                return;
-            }
-            self.push(links.tail(dart));
-            dart = self.next.get(dart);
-        }
-    }
-
-    // Appends a vertex to which a dart leads, and what stands next to it.
-    #[inline(always)]
-    fn push_head(&mut self, links: &Links, search: &Search, dart: u32) {
-        let head = links.head.get(dart);
-        if search.parent.get(head) == dart {
-            let left = self.left.get(head);
-            let right = self.right.get(head);
-            self.push_tails(links, left);
-            self.push(head);
-            self.push_tails(links, right);
-        } else {
-            self.push(head);
-        }
-    }
-
-    // Appends the list of a vertex.
-    #[inline(always)]
-    fn push_list(&mut self, links: &Links, search: &Search, vertex: u32) {
-        self.start.set(vertex, self.count);
-        let parent = search.parent.get(vertex);
-        if parent != NONE {
-            self.push(links.tail(parent));
-        }
-        let mut dart = search.leaving.get(vertex);
-        for _ in 0..links.darts {
-            if dart == NONE {
-                return;
-            }
-            self.push_head(links, search, dart);
-            dart = search.chain.get(dart);
-        }
-    }
-
-    /// Makes all lists, of edges whose twins are placed.
-    pub fn list_all(&mut self, links: &Links, search: &Search) {
+    // Gives each list as many places as its vertex has darts.
+    fn set_starts(&mut self, links: &Links) {
         self.count = 0;
         for vertex in 0..links.vertices {
-            self.push_list(links, search, vertex);
+            self.place.set(vertex, self.count);
+            self.count = plus(self.count, links.degree.get(vertex));
         }
     }
 
-    // The ends of `n` lists of `total` entries, each where the next one starts, and the last one behind all entries. A
-    // start that is out of order is moved to the end before it.
+    /// Makes all lists, of edges whose sides are settled.
+    pub fn list_all(&mut self, links: &Links, search: &Search) {
+        self.set_starts(links);
+        for place in 0..search.root_count {
+            self.list_from(links, search, search.roots.get(place));
+        }
+    }
+
+    // The ends of `n` lists of `total` entries, and the last one behind all entries. An end that is out of order is moved to
+    // the one before it.
     fn ends(&self, spent: Vec<usize>, n: u16, total: usize) -> Result<Vec<usize>, AllocError>
         ensures cuts { IfOk result (λ ends. AreCuts 0 ends.items total) }
         ensures count { 0 < n → IfOk result (λ ends. length ends.items ≡ n) }
@@ -163,7 +155,7 @@ impl Places {
         ends.clear();
         let mut end = 0usize;
         for vertex in 1..n {
-            end = within(end, self.start.get(u32::from(vertex)), total);
+            end = within(end, self.place.get(minus(u32::from(vertex), 1)), total);
             ends.push(end)?;
         }
         ends.push(total)?;

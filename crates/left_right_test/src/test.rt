@@ -5,7 +5,6 @@ ghost use Rattle.left_right_check.specs.Ties.{HasNoMap};
 use crate::conflicts::agrees;
 use crate::edges::Edges;
 use crate::links::Links;
-use crate::nesting::sort_leaving;
 use crate::orient::orient_all;
 use crate::placing::Places;
 use crate::ring::OddRing;
@@ -44,8 +43,9 @@ impl LeftRightTest {
         }
     }
 
-    /// Forgets the conflict of an earlier graph.
-    pub fn begin(&mut self) {
+    /// Takes a graph, and forgets the conflict of an earlier one.
+    pub fn begin(&mut self, edges: &mut Edges, graph: &Graph) {
+        edges.read(graph, &mut self.links);
         self.search.failed = NONE;
     }
 
@@ -54,12 +54,8 @@ impl LeftRightTest {
         self.search.failed != NONE
     }
 
-    /// Chains all edges, and tests them from the first vertex on.
-    pub fn passes_all(&mut self, edges: &Edges) -> bool {
-        self.links.begin_chains(edges);
-        for edge in 0..edges.count {
-            self.links.chain_edge(edges, edge);
-        }
+    /// Whether the chained edges are planar, by a search from the first vertex on; else it shows where it met its conflict.
+    pub fn passes_all(&mut self) -> bool {
         self.search.root = 0;
         self.passes()
     }
@@ -67,7 +63,6 @@ impl LeftRightTest {
     /// Whether the chained edges are planar; else it shows where it met its conflict.
     pub fn passes(&mut self) -> bool {
         orient_all(&self.links, &mut self.search);
-        sort_leaving(&self.links, &mut self.search);
         if agrees(&self.links, &mut self.search) {
             return true;
         }
@@ -75,14 +70,14 @@ impl LeftRightTest {
         false
     }
 
-    /// Whether it refuses a graph, whose edges these are; else `lists` answers lists, which may be those of no map.
-    pub fn refuses(&mut self, edges: &Edges, graph: &Graph) -> bool
+    /// Whether it refuses a graph, whose edges are chained; else `lists` answers lists, which may be those of no map.
+    pub fn refuses(&mut self, graph: &Graph) -> bool
         ensures { IsTrue result → HasNoMap graph.now }
     {
         if is_k5(graph) {
             return true;
         }
-        !self.passes_all(edges) && self.is_shown(graph)
+        !self.passes_all() && self.is_shown(graph)
     }
 
     /// The rotation lists of edges that pass, on `n` vertices, in the memory of `spent`. It fails only when out of memory.
@@ -91,7 +86,6 @@ impl LeftRightTest {
         ensures { IfOk result (λ lists. length lists ≡ n) }
     {
         settle_all(&self.links, &mut self.search);
-        self.places.place_all(&self.links, &self.search);
         self.places.list_all(&self.links, &self.search);
         self.places.lists(spent, n)
     }
