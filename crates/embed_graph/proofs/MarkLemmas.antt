@@ -1,13 +1,15 @@
 -- Edges as bits, set one by one, and what follows where they are those of a graph.
-use Rattle.std.proofs.Common.{◌≡◌, ℕ, ◌+◌, ◌/◌, ◌<◌, ◌≤◌, ◌==◌, ◌||◌, Bool, true, false, true≢false, List, [], ◌∷◌, ◌++◌, length, replicate, Contains, refl, sym, ap, ◌∙◌, subst, inl, inr, arith, eqb-true, eq-eqb}
+use Rattle.std.proofs.Common.{◌≡◌, ◌≢◌, ℕ, ◌+◌, ◌/◌, ◌%◌, ◌^◌, ◌<◌, ◌≤◌, ◌==◌, ◌||◌, Bool, true, false, true≢false, List, [], ◌∷◌, ◌++◌, length, take, drop, get_or, replicate, set, All, AllPairs, Contains, refl, sym, ap, ◌∙◌, subst, inl, inr, arith, eqb-true, eq-eqb}
 use Rattle.std.specs.List.{list_any}
 use Rattle.std.proofs.lemmas.Bool.{cases_eq, cases_lt, or_cases}
-use Rattle.std.proofs.lemmas.List.Elements.{Contains-append_left, Contains-append_right, Contains-append_cases}
+use Rattle.std.proofs.lemmas.List.{take-append-drop, take_more}
+use Rattle.std.proofs.lemmas.List.Elements.{All-set, Contains-append_left, Contains-append_right, Contains-append_cases}
 use Rattle.map_lists.specs.Lists.{Lists}
 use Rattle.map_theory.specs.Maps.{HasDart, IsSimpleMap, list_of}
+use Rattle.map_theory.proofs.EntryLemmas.{AllPairs-left, parts_apart}
 use Rattle.graph6_text.specs.Graphs.{EdgeGraph, AreEdges, joins, has_edge}
-use Rattle.graph6_text.specs.Lines.{pair_place, body_length, is_set, edges_of}
-use Rattle.graph6_text.proofs.BitLemmas.{one_pair, pair_place-lt, body_length-bounds}
+use Rattle.graph6_text.specs.Lines.{IsLineByte, pair_place, body_length, is_set, edges_of}
+use Rattle.graph6_text.proofs.BitLemmas.{range-with_bit, bits-with_bit, is_set-set, one_pair, pair_place-lt, body_length-bounds}
 use Rattle.graph6_text.proofs.PairLemmas.{Contains-first, Contains-cases, Contains-none}
 use Rattle.graph6_text.proofs.EdgeLemmas.{AreMarked-begin, AreEdges-edges_of, joined_as_bit, joined_is, has_edge-turned}
 use Rattle.embed_theorem.specs.Expanded.{HasJustEdges}
@@ -28,6 +30,17 @@ place_within n u v body bytes l m =
     let bounds = body_length-bounds n in
     let long = bytes.long in
     omega arith
+
+-- ---- a byte with one bit more
+pub bytes-put : (body : List ℕ) (place : ℕ) → place / 6 < length body → All IsLineByte body → is_set body place ≡ false → All IsLineByte (set body (place / 6) (get_or body (place / 6) 0 + 32 / 2 ^ (place % 6)))
+unfolding is_set
+bytes-put body place within bytes unset =
+    All-set (λ b. IsLineByte b) body (place / 6) (get_or body (place / 6) 0 + 32 / 2 ^ (place % 6)) (range-with_bit (get_or body (place / 6) 0) (place % 6) (bytes (place / 6) 0 within) (omega arith) unset) bytes
+
+pub bits-put : (body : List ℕ) (place : ℕ) → place / 6 < length body → All IsLineByte body → is_set body place ≡ false → (p : ℕ) → is_set (set body (place / 6) (get_or body (place / 6) 0 + 32 / 2 ^ (place % 6))) p ≡ (is_set body p || (p == place))
+unfolding is_set
+bits-put body place within bytes unset =
+    is_set-set body place (get_or body (place / 6) 0 + 32 / 2 ^ (place % 6)) within (bits-with_bit (get_or body (place / 6) 0) (place % 6) (bytes (place / 6) 0 within) (omega arith) unset)
 
 -- ---- the bits of one vertex
 pub Adds-nil : (v : ℕ) (body : List ℕ) → Adds v [] body body
@@ -66,7 +79,34 @@ Adds-more v list u old mid new a b = record {
   all = λ x l c. elim (Contains-append_cases list (u ∷ []) x c) [ inl d ↦ b.kept (pair_place x v) (a.all x l d) | inr d ↦ b.all x l d ];
 }
 
+-- the bit of a vertex that is yet to come in a list which has it once
+pub Adds-unset : (v : ℕ) (list : List ℕ) (i : ℕ) (old new : List ℕ) → AllPairs ◌≢◌ list → i < length list → Adds v (take i list) old new → ((u : ℕ) → u < v → is_set old (pair_place u v) ≡ false) → get_or list i 0 < v → is_set new (pair_place (get_or list i 0) v) ≡ false
+Adds-unset v list i old new once within adds unset less =
+    let u = get_or list i 0 in
+    let front = take i list in
+    let whole = subst (AllPairs ◌≢◌) (sym (take-append-drop (i + 1) list)) once in
+    let apart = parts_apart front (u ∷ []) (subst (AllPairs ◌≢◌) (take_more list i 0 within) (AllPairs-left (take (i + 1) list) (drop (i + 1) list) whole)) in
+    not_true (is_set new (pair_place u v)) (λ h. elim (adds.from (pair_place u v) h) [
+      | inl o ↦ absurd (true≢false (sym o ∙ unset u less))
+      | inr w ↦
+          let same = one_pair w.0 v u v w.1 less w.3 in
+          absurd (apart u (subst (λ (x : ℕ). Contains front x) same.0 w.2) (Contains-first u []))
+    ]) where
+      not_true : (b : Bool) → b ≢ true → b ≡ false
+      not_true true h = absurd (h refl)
+      not_true false h = refl
+
 -- ---- the bits of all vertices
+pub Marks-unset : (lists : Lists) (v : ℕ) (body : List ℕ) → Marks lists v body → (u : ℕ) → u < v → is_set body (pair_place u v) ≡ false
+Marks-unset lists v body marks u less =
+    not_true (is_set body (pair_place u v)) (λ h.
+    let w = marks.from (pair_place u v) h in
+    let same = one_pair w.0 w.1 u v w.2 less w.5 in
+    omega (arith, w.3, same.1)) where
+      not_true : (b : Bool) → b ≢ true → b ≡ false
+      not_true true h = absurd (h refl)
+      not_true false h = refl
+
 pub AreBytes-none : (n : ℕ) → AreBytes n (replicate (body_length n) 63)
 AreBytes-none n = let h = AreMarked-begin n [] in record { long = h.long; bytes = h.bytes }
 

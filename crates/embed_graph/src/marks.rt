@@ -1,31 +1,45 @@
 //! Whether lists have just the edges of a graph: their edges as bits are those of the graph.
-ghost use Rattle.std.specs.Prelude.{◌≡◌, ◌<◌, ◌≤◌, ◌∷◌, [], length, replicate, IfOk, IsTrue};
+ghost use Rattle.std.specs.Prelude.{◌≡◌, ◌<◌, ◌≤◌, ◌∷◌, ◌/◌, ◌≢◌, ◌==◌, ◌||◌, ℕ, false, [], length, replicate, All, AllPairs, Contains, IfOk, IsTrue};
 ghost use Rattle.map_theory.specs.Maps.{IsSimpleMap};
-ghost use Rattle.graph6_text.specs.Lines.{body_length as bytes_of_pairs};
+ghost use Rattle.graph6_text.specs.Lines.{pair_place as place_of_pair, body_length as bytes_of_pairs, is_set as is_place_set, IsLineByte};
 ghost use Rattle.embed_theorem.specs.Expanded.{HasJustEdges};
 ghost use Rattle.embed_graph.specs.Marks.{AreBytes, Adds, Marks};
 
 use graph6_text::Graph;
-use graph6_text::bits::{body_length, pair_place, set};
+use graph6_text::bits::{body_length, pair_place};
 use map_lists::Rotations;
 use std::alloc::{AllocError, Global};
 
-// Sets the bit of two vertices, if `u` is the lesser.
+// Sets the bit at a place, which is not set.
+fn set_unset(body: &mut [u8], place: usize)
+    requires within { place / 6 < length body.old }
+    requires bytes { All IsLineByte body.old }
+    requires unset { is_place_set body.old place ≡ false }
+    ensures bytes { All IsLineByte body.new }
+    ensures bits { (p : ℕ) → is_place_set body.new p ≡ (is_place_set body.old p || (p == place)) }
+{
+    body[place / 6] += 32u8 >> (place % 6);
+}
+
+// Sets the bit of two vertices, if `u` is the lesser. It is not set.
 fn set_pair(body: &mut [u8], n: u16, u: u16, v: u16)
     requires vertex { v < n }
     requires bytes { AreBytes n body.old }
+    requires unset { u < v → is_place_set body.old (place_of_pair u v) ≡ false }
     ensures bytes { AreBytes n body.new }
     ensures adds { Adds v (u ∷ []) body.old body.new }
 {
     if u < v {
-        set(body, pair_place(u, v));
+        set_unset(body, pair_place(u, v));
     }
 }
 
-// Sets the bits of a vertex and its lesser neighbours.
+// Sets the bits of a vertex and its lesser neighbours, each of which stands once in its list. None of them is set.
 fn set_list(body: &mut [u8], n: u16, v: u16, list: &[u16])
     requires vertex { v < n }
     requires bytes { AreBytes n body.old }
+    requires once { AllPairs ◌≢◌ list.now }
+    requires unset { (u : ℕ) → u < v → is_place_set body.old (place_of_pair u v) ≡ false }
     ensures bytes { AreBytes n body.new }
     ensures adds { Adds v list.now body.old body.new }
 {
@@ -34,8 +48,9 @@ fn set_list(body: &mut [u8], n: u16, v: u16, list: &[u16])
     }
 }
 
-// Sets the bits of all edges.
+// Sets the bits of all edges of a simple map.
 fn set_lists(body: &mut [u8], n: u16, lists: &Rotations)
+    requires simple { IsSimpleMap lists.now }
     requires vertices { length lists.now ≡ n }
     requires empty { body.old ≡ replicate (bytes_of_pairs n) 63 }
     ensures { Marks lists.now n body.new }
@@ -45,8 +60,9 @@ fn set_lists(body: &mut [u8], n: u16, lists: &Rotations)
     }
 }
 
-// The edges of lists as bits.
+// The edges of a simple map as bits.
 fn bits_of_lists(alloc: Global, lists: &Rotations, n: u16) -> Result<Vec<u8>, AllocError>
+    requires simple { IsSimpleMap lists.now }
     requires few { n ≤ 255 }
     requires vertices { length lists.now ≡ n }
     ensures { IfOk result (λ body. Marks lists.now n body.items) }

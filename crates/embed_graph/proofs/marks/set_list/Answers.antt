@@ -1,7 +1,7 @@
 use Rattle.std.proofs.Common.{ℕ, List, take, get_or, sym, subst, arith}
 use Rattle.std.proofs.lemmas.List.{take_more, take_all}
 use Rattle.embed_graph.specs.Marks.{Adds}
-use Rattle.embed_graph.proofs.MarkLemmas.{Adds-nil, Adds-more}
+use Rattle.embed_graph.proofs.MarkLemmas.{Adds-nil, Adds-more, Adds-unset}
 use Rattle.embed_graph.proofs.marks.set_list.Goals as goal
 
 pub loop-u-init : goal.loop-u-init
@@ -9,6 +9,10 @@ loop-u-init c = (c.requires.bytes, Adds-nil c.args.v c.args.body.now)
 
 pub set_pair-requires-clause-bytes : goal.set_pair-requires-clause-bytes
 set_pair-requires-clause-bytes c = c.loop-u.invariant.0
+
+pub set_pair-requires-clause-unset : goal.set_pair-requires-clause-unset
+set_pair-requires-clause-unset c =
+    Adds-unset c.args.v c.args.list.now c.loop-u.u-index c.args.body.now c.loop-u.body c.requires.once c.loop-u-test.true c.loop-u.invariant.1 c.requires.unset
 
 pub loop-u-preserved : goal.loop-u-preserved
 loop-u-preserved c =

@@ -1,7 +1,7 @@
-use Rattle.std.proofs.Common.{◌≡◌, ℕ, List, sym, subst, ap, ◌∙◌, arith}
+use Rattle.std.proofs.Common.{◌≡◌, ◌≢◌, AllPairs, ℕ, List, sym, subst, ap, ◌∙◌, arith}
 use Rattle.map_theory.specs.Maps.{list_of}
 use Rattle.embed_graph.specs.Marks.{AreBytes, Adds, Marks}
-use Rattle.embed_graph.proofs.MarkLemmas.{AreBytes-none, Marks-none, Marks-more}
+use Rattle.embed_graph.proofs.MarkLemmas.{AreBytes-none, Marks-none, Marks-more, Marks-unset}
 use Rattle.embed_graph.proofs.marks.set_lists.Goals as goal
 
 pub loop-v-init : goal.loop-v-init
@@ -10,6 +10,14 @@ loop-v-init c =
 
 pub set_list-requires-clause-bytes : goal.set_list-requires-clause-bytes
 set_list-requires-clause-bytes c = c.loop-v.invariant.0
+
+pub set_list-requires-clause-once : goal.set_list-requires-clause-once
+set_list-requires-clause-once c =
+    let v = c.loop-v.v in
+    subst (AllPairs ◌≢◌) (sym (c.list.ensures ∙ ap (λ k. list_of c.args.lists.now k) c.from.ensures)) (c.requires.simple.no_repeat v (omega arith))
+
+pub set_list-requires-clause-unset : goal.set_list-requires-clause-unset
+set_list-requires-clause-unset c = Marks-unset c.args.lists.now c.loop-v.v c.loop-v.body c.loop-v.invariant.1
 
 pub loop-v-preserved : goal.loop-v-preserved
 loop-v-preserved c =
