@@ -207,22 +207,31 @@ impl Tracer {
         self.spent = Some(witness);
     }
 
-    // A witness of a kind, to be filled, in that memory, if some was kept.
-    fn take_spent(&mut self, alloc: Global, kind: Kind) -> Witness {
+    // A witness of a kind, to be filled, in that memory, if some was kept; else with room for the paths.
+    fn take_spent(
+        &mut self,
+        alloc: Global,
+        links: &Links,
+        kind: Kind,
+    ) -> Result<Witness, AllocError> {
         match mem::replace(&mut self.spent, None) {
             Some(witness) => {
                 let Witness { branch, paths, .. } = witness;
-                Witness {
+                Ok(Witness {
                     kind,
                     branch,
                     paths,
-                }
+                })
             }
-            None => Witness {
-                kind,
-                branch: VertexList::new(alloc),
-                paths: PathList::new(alloc),
-            },
+            None => {
+                let room = plus(links.vertices, 20) as usize;
+                let paths = PathList::with_capacity(alloc, room, 10)?;
+                Ok(Witness {
+                    kind,
+                    branch: VertexList::new(alloc),
+                    paths,
+                })
+            }
         }
     }
 
@@ -231,12 +240,12 @@ impl Tracer {
         self.branches.take(links);
         match self.branches.count {
             5 => {
-                let spent = self.take_spent(alloc, Kind::K5);
+                let spent = self.take_spent(alloc, links, Kind::K5)?;
                 filled(links, &mut self.way, &self.branches, spent)
             }
             6 => {
                 self.parted.take_in_parts(links, &self.branches);
-                let spent = self.take_spent(alloc, Kind::K33);
+                let spent = self.take_spent(alloc, links, Kind::K33)?;
                 filled(links, &mut self.way, &self.parted, spent)
             }
             _ => Ok(None),
