@@ -8,7 +8,7 @@ ghost use Rattle.vertex_rounds.specs.Rounds.{HasEdge, dart_of};
 ghost use Rattle.bar_check.specs.Bars.{number_at, column_of, IsStruck};
 ghost use Rattle.bar_check.specs.Tables.{AreClear, HasTops, IsAtTop, IsSeen, StandsAt};
 
-use crate::drawing::Drawing;
+use crate::drawing::{Bar, Drawing};
 use crate::heights::number;
 use half_edges::{DartId, HalfMap, VertexId};
 use pg_plane::BarFigure;
@@ -111,68 +111,70 @@ pub(crate) fn is_clear(map: &HalfMap, clear: &[bool], d: DartId) -> bool
     is_marked(clear, d) || is_marked(clear, map.twin(d))
 }
 
-impl Drawing<'_> {
-    // Marks a dart of the vertex at height `h`, where its edge leads down and no bar is in its way. A dart beyond the
-    // tables gets no mark, so its column is not looked for.
-    fn mark_if_seen(&self, tops: &[u16], clear: &mut [bool], h: u16, d: DartId)
-        requires tops { HasTops (length self.now.map.now.lists) self.now.fig.now h tops.now }
-        requires live { IsLive self.now.map.now d.0 }
-        requires height { number_at self.now.fig.now.y (dart_of self.now.map.now d.0).0 ≡ pos h }
-        requires clear { AreClear self.now.map.now self.now.fig.now clear.old }
-        ensures { AreClear self.now.map.now self.now.fig.now clear.new }
+impl Bar<'_> {
+    // Marks a dart of the vertex, where its edge leads down and no bar is in the way. A dart beyond the tables gets no
+    // mark, so its column is not looked for.
+    fn mark_if_seen(&self, tops: &[u16], clear: &mut [bool], d: DartId)
+        requires tops { HasTops (length self.now.drawing.map.now.lists) self.now.drawing.fig.now self.now.h tops.now }
+        requires live { IsLive self.now.drawing.map.now d.0 }
+        requires height { number_at self.now.drawing.fig.now.y (dart_of self.now.drawing.map.now d.0).0 ≡ pos self.now.h }
+        requires clear { AreClear self.now.drawing.map.now self.now.drawing.fig.now clear.old }
+        ensures { AreClear self.now.drawing.map.now self.now.drawing.fig.now clear.new }
     {
-        if (d.0 as usize) >= clear.len() || (d.0 as usize) >= self.columns.len() {
+        let drawing = self.drawing;
+        if (d.0 as usize) >= clear.len() || (d.0 as usize) >= drawing.columns.len() {
             return;
         }
-        let x = self.column_at(d);
-        if is_seen(self.fig, tops, h, x, self.map.head(d)) {
+        let x = drawing.column_at(d);
+        if is_seen(drawing.fig, tops, self.h, x, drawing.map.head(d)) {
             mark(clear, d);
         }
     }
 
-    // Marks the clear edges that lead down from the vertex at height `h`, from dart `first` on.
-    fn mark_round(&self, tops: &[u16], clear: &mut [bool], h: u16, v: VertexId, first: DartId)
-        requires tops { HasTops (length self.now.map.now.lists) self.now.fig.now h tops.now }
-        requires vertex { StandsAt (length self.now.map.now.lists) self.now.fig.now h v.0 }
-        requires first { dart_at self.now.map.now first.0 ≡ Some (first_dart self.now.map.now.lists v.0) }
-        requires clear { AreClear self.now.map.now self.now.fig.now clear.old }
-        ensures { AreClear self.now.map.now self.now.fig.now clear.new }
+    // Marks the clear edges that lead down from the vertex, from dart `first` on.
+    fn mark_round(&self, tops: &[u16], clear: &mut [bool], first: DartId)
+        requires tops { HasTops (length self.now.drawing.map.now.lists) self.now.drawing.fig.now self.now.h tops.now }
+        requires first { dart_at self.now.drawing.map.now first.0 ≡ Some (first_dart self.now.drawing.map.now.lists self.now.v.0) }
+        requires clear { AreClear self.now.drawing.map.now self.now.drawing.fig.now clear.old }
+        ensures { AreClear self.now.drawing.map.now self.now.drawing.fig.now clear.new }
     {
-        self.map.facts();
+        self.drawing.map.facts();
+        let bar = *self;
         let mut d = first;
         'round: loop {
-            self.mark_if_seen(tops, clear, h, d);
-            match later_dart(self.map, d) {
+            bar.mark_if_seen(tops, clear, d);
+            match later_dart(bar.drawing.map, d) {
                 Some(later) => d = later,
                 None => return,
             }
         }
     }
 
-    // Marks the clear edges that lead down from the vertex at height `h`.
-    fn mark_list(&self, tops: &[u16], clear: &mut [bool], h: u16, v: VertexId)
-        requires tops { HasTops (length self.now.map.now.lists) self.now.fig.now h tops.now }
-        requires vertex { StandsAt (length self.now.map.now.lists) self.now.fig.now h v.0 }
-        requires clear { AreClear self.now.map.now self.now.fig.now clear.old }
-        ensures { AreClear self.now.map.now self.now.fig.now clear.new }
+    // Marks the clear edges that lead down from the vertex.
+    fn mark_list(&self, tops: &[u16], clear: &mut [bool])
+        requires tops { HasTops (length self.now.drawing.map.now.lists) self.now.drawing.fig.now self.now.h tops.now }
+        requires clear { AreClear self.now.drawing.map.now self.now.drawing.fig.now clear.old }
+        ensures { AreClear self.now.drawing.map.now self.now.drawing.fig.now clear.new }
     {
-        if let Some(first) = self.map.first_dart(v) {
-            self.mark_round(tops, clear, h, v, first);
+        if let Some(first) = self.drawing.map.first_dart(self.v) {
+            self.mark_round(tops, clear, first);
         }
     }
 
-    // Makes the bar at height `h` the highest of the columns that it holds.
-    fn put_bar(&self, tops: &mut [u16], h: u16, v: VertexId)
-        requires few { h < 65535 }
-        requires vertex { StandsAt (length self.now.map.now.lists) self.now.fig.now h v.0 }
-        requires tops { HasTops (length self.now.map.now.lists) self.now.fig.now h tops.old }
-        ensures { HasTops (length self.now.map.now.lists) self.now.fig.now (h + 1) tops.new }
+    // Makes the bar the highest of the columns that it holds.
+    fn put_top(&self, tops: &mut [u16])
+        requires few { self.now.h < 65535 }
+        requires tops { HasTops (length self.now.drawing.map.now.lists) self.now.drawing.fig.now self.now.h tops.old }
+        ensures { HasTops (length self.now.drawing.map.now.lists) self.now.drawing.fig.now (self.now.h + 1) tops.new }
     {
-        let left = natural(number(&self.fig.x1, v.0 as usize));
-        let right = natural(number(&self.fig.x2, v.0 as usize));
-        fill_between(tops, left, right, h + 1);
+        let fig = self.drawing.fig;
+        let left = natural(number(&fig.x1, self.v.0 as usize));
+        let right = natural(number(&fig.x2, self.v.0 as usize));
+        fill_between(tops, left, right, self.h + 1);
     }
+}
 
+impl Drawing<'_> {
     // Marks edges with no bar in their way, by a sweep over the bars in this order as long as it is that of
     // their heights.
     fn sweep(&self, order: &[u16], tops: &mut [u16], clear: &mut [bool])
@@ -186,8 +188,9 @@ impl Drawing<'_> {
             if !stands_at(drawing.fig, drawing.map.n(), h, v) {
                 return;
             }
-            drawing.mark_list(tops, clear, h, v);
-            drawing.put_bar(tops, h, v);
+            let bar = Bar { drawing, h, v };
+            bar.mark_list(tops, clear);
+            bar.put_top(tops);
         }
     }
 

@@ -3,14 +3,14 @@ ghost use Rattle.std.specs.Prelude.{◌≡◌, ◌*◌, ◌<◌, ◌≤◌, ◌�
 ghost use Rattle.half_edges.specs.Map.{IsLive, dart_at};
 ghost use Rattle.vertex_rounds.specs.Least.{IsLeast, IsLeastPair, IsLeastTriple};
 ghost use Rattle.vertex_rounds.specs.Rounds.{HasEdge, HoldsAt};
-ghost use Rattle.bar_check.specs.Bars.{number_at, edges_before, IsBetween, IsStruck};
+ghost use Rattle.bar_check.specs.Bars.{number_at, IsBetween, IsStruck};
 ghost use Rattle.bar_check.specs.Faults.{GoesThrough};
 ghost use Rattle.bar_check.specs.Verdicts.{NoneThrough};
 ghost use Rattle.bar_check.specs.Loops.{IsStruckBelow, IsBlocked, IsBlockedFrom, IsBlockedEdge};
 ghost use Rattle.bar_check.specs.Tables.{AreClear};
 
 use crate::clear::is_clear;
-use crate::drawing::Drawing;
+use crate::drawing::{Drawing, LesserEnd};
 use crate::edges::{column_of, edges_with};
 use crate::heights::{holds, number};
 use half_edges::{DartId, Ends, VertexId};
@@ -27,88 +27,76 @@ fn is_between(fig: &BarFigure, a: VertexId, b: VertexId, v: VertexId) -> bool
     (p < z && z < q) || (q < z && z < p)
 }
 
-// Says whether the bar of `v` is in the way of the edge from `a` to `b`, in column `x`.
-fn is_struck(fig: &BarFigure, a: VertexId, b: VertexId, x: i32, v: VertexId) -> bool
-    ensures { IsTrue result ↔ IsStruck fig.now a.0 b.0 x v.0 }
+// Says whether the bar of `v` is in the way of an edge, in column `x`.
+fn is_struck(fig: &BarFigure, e: Ends, x: i32, v: VertexId) -> bool
+    ensures { IsTrue result ↔ IsStruck fig.now e.a.0 e.b.0 x v.0 }
 {
-    is_between(fig, a, b, v) && holds(fig, v, x)
+    is_between(fig, e.a, e.b, v) && holds(fig, v, x)
 }
 
-// Returns the least vertex below `n` whose bar is in the way of the edge from `a` to `b`, in column `x`.
-fn first_struck(fig: &BarFigure, n: u16, a: VertexId, b: VertexId, x: i32) -> Option<VertexId>
-    ensures { MatchOption result ((v : ℕ) → ¬ IsStruckBelow n fig.now a.0 b.0 x v)
-        (λ v. IsLeast (IsStruckBelow n fig.now a.0 b.0 x) v.0) }
+// Returns the least vertex below `n` whose bar is in the way of an edge, in column `x`.
+fn first_struck(fig: &BarFigure, n: u16, e: Ends, x: i32) -> Option<VertexId>
+    ensures { MatchOption result ((v : ℕ) → ¬ IsStruckBelow n fig.now e.a.0 e.b.0 x v)
+        (λ v. IsLeast (IsStruckBelow n fig.now e.a.0 e.b.0 x) v.0) }
 {
     for v in 0..n {
-        if is_struck(fig, a, b, x, VertexId(v)) {
+        if is_struck(fig, e, x, VertexId(v)) {
             return Some(VertexId(v));
         }
     }
     None
 }
 
-// Says whether some bar of a vertex below `n` is in the way.
-fn is_blocked(fig: &BarFigure, n: u16, a: VertexId, b: VertexId, x: i32) -> bool
-    ensures { IsTrue result ↔ ((v : ℕ) × IsStruckBelow n fig.now a.0 b.0 x v) }
+// Says whether the bar of some vertex below `n` is in the way of an edge, in column `x`.
+fn is_blocked(fig: &BarFigure, n: u16, e: Ends, x: i32) -> bool
+    ensures { IsTrue result ↔ ((v : ℕ) × IsStruckBelow n fig.now e.a.0 e.b.0 x v) }
 {
-    match first_struck(fig, n, a, b, x) {
+    match first_struck(fig, n, e, x) {
         Some(_) => true,
         None => false,
     }
 }
 
-impl Drawing<'_> {
-    // Says whether a bar is in the way of the edge of a dart from `a` to `b`; `before` edges have their lesser end
-    // below `a`.
-    fn is_blocked_at(
-        &self,
-        clear: &[bool],
-        before: u32,
-        a: VertexId,
-        b: VertexId,
-        d: DartId,
-    ) -> bool
-        requires clear { AreClear self.now.map.now self.now.fig.now clear.now }
-        requires before { before ≡ edges_before self.now.map.now.lists a.0 }
-        requires few { before ≤ 65535 * a.0 }
-        requires dart { dart_at self.now.map.now d.0 ≡ Some (a.0, b.0) }
-        requires order { a.0 < b.0 }
-        ensures { IsTrue result ↔ IsBlocked self.now.map.now.lists self.now.fig.now a.0 b.0 }
+impl LesserEnd<'_> {
+    // Says whether a bar is in the way of the edge of a dart to `b`, its greater end.
+    fn is_blocked_at(&self, b: VertexId, d: DartId) -> bool
+        requires dart { dart_at self.now.drawing.map.now d.0 ≡ Some (self.now.a.0, b.0) }
+        requires order { self.now.a.0 < b.0 }
+        ensures { IsTrue result ↔ IsBlocked self.now.drawing.map.now.lists self.now.drawing.fig.now self.now.a.0 b.0 }
     {
-        self.map.facts();
-        if is_clear(self.map, clear, d) {
+        let map = self.drawing.map;
+        map.facts();
+        if is_clear(map, self.clear, d) {
             return false;
         }
-        let x = self.column_upwards(before, a, b, d);
-        is_blocked(self.fig, self.map.n(), a, b, x)
+        let x = self.column_to(b, d);
+        is_blocked(self.drawing.fig, map.n(), Ends { a: self.a, b }, x)
     }
 
-    // Says whether the dart leads from `a` to a greater vertex, and a bar is in the way of the edge; `before` edges
-    // have their lesser end below `a`.
-    fn leads_to_blocked(&self, clear: &[bool], before: u32, a: VertexId, d: DartId) -> bool
-        requires clear { AreClear self.now.map.now self.now.fig.now clear.now }
-        requires before { before ≡ edges_before self.now.map.now.lists a.0 }
-        requires few { before ≤ 65535 * a.0 }
-        requires live { IsLive self.now.map.now d.0 }
-        ensures { IsTrue result ↔ HoldsAt self.now.map.now (IsBlockedFrom self.now.map.now.lists self.now.fig.now a.0) d.0 }
+    // Says whether a dart leads from the lesser end to a greater vertex, and a bar is in the way of the edge.
+    fn leads_to_blocked(&self, d: DartId) -> bool
+        requires live { IsLive self.now.drawing.map.now d.0 }
+        ensures { IsTrue result ↔ HoldsAt self.now.drawing.map.now (IsBlockedFrom self.now.drawing.map.now.lists self.now.drawing.fig.now self.now.a.0) d.0 }
     {
-        let b = self.map.head(d);
-        self.map.tail(d).0 == a.0 && a.0 < b.0 && self.is_blocked_at(clear, before, a, b, d)
+        let map = self.drawing.map;
+        let b = map.head(d);
+        if map.tail(d).0 != self.a.0 || b.0 <= self.a.0 {
+            return false;
+        }
+        self.is_blocked_at(b, d)
     }
 
-    // Returns the least neighbour to which an edge from `a`, which is its lesser end, is blocked.
-    fn least_blocked(&self, clear: &[bool], before: u32, a: VertexId) -> Option<VertexId>
-        requires vertex { a.0 < length self.now.map.now.lists }
-        requires clear { AreClear self.now.map.now self.now.fig.now clear.now }
-        requires before { before ≡ edges_before self.now.map.now.lists a.0 }
-        requires few { before ≤ 65535 * a.0 }
-        ensures { MatchOption result ((b : ℕ) → ¬ IsBlockedEdge self.now.map.now.lists self.now.fig.now a.0 b)
-            (λ b. IsLeast (IsBlockedEdge self.now.map.now.lists self.now.fig.now a.0) b.0) }
+    // Returns the least neighbour to which an edge from the lesser end is blocked.
+    fn least_blocked(&self) -> Option<VertexId>
+        ensures { MatchOption result ((b : ℕ) → ¬ IsBlockedEdge self.now.drawing.map.now.lists self.now.drawing.fig.now self.now.a.0 b)
+            (λ b. IsLeast (IsBlockedEdge self.now.drawing.map.now.lists self.now.drawing.fig.now self.now.a.0) b.0) }
     {
-        self.map.facts();
-        least_head(self.map, a, |d| self.leads_to_blocked(clear, before, a, d))
+        self.drawing.map.facts();
+        least_head(self.drawing.map, self.a, |d| self.leads_to_blocked(d))
     }
+}
 
+impl Drawing<'_> {
     // Returns the first edge with a bar in its way.
     fn first_blocked(&self, clear: &[bool]) -> Option<Ends>
         requires clear { AreClear self.now.map.now self.now.fig.now clear.now }
@@ -118,10 +106,17 @@ impl Drawing<'_> {
         let drawing = *self;
         let mut before = 0;
         for a in 0..drawing.map.n() {
-            if let Some(b) = drawing.least_blocked(clear, before, VertexId(a)) {
-                return Some(Ends { a: VertexId(a), b });
+            let a = VertexId(a);
+            let end = LesserEnd {
+                drawing,
+                clear,
+                a,
+                before,
+            };
+            if let Some(b) = end.least_blocked() {
+                return Some(Ends { a, b });
             }
-            before = edges_with(drawing.map, VertexId(a), before);
+            before = edges_with(drawing.map, a, before);
         }
         None
     }
@@ -135,8 +130,7 @@ impl Drawing<'_> {
         first_struck(
             self.fig,
             self.map.n(),
-            e.a,
-            e.b,
+            e,
             column_of(self.map, self.fig, e.a, e.b),
         )
     }

@@ -1,8 +1,10 @@
 //! The bars of a figure that passed the first tests, and with them the columns of its edges.
+ghost use Rattle.std.specs.Prelude.{◌≡◌, ◌*◌, ◌<◌, ◌≤◌, length};
+ghost use Rattle.bar_check.specs.Bars.{edges_before};
 ghost use Rattle.bar_check.specs.Verdicts.{HasShape, HasHeights, AreBars, NoBadColumn};
-ghost use Rattle.bar_check.specs.Tables.{AreColumns};
+ghost use Rattle.bar_check.specs.Tables.{AreClear, AreColumns, StandsAt};
 
-use half_edges::HalfMap;
+use half_edges::{HalfMap, VertexId};
 use pg_plane::BarFigure;
 
 /// The bars of the vertices of a map: their heights are 0 to n - 1, each once, and all go from left to right within the
@@ -30,4 +32,27 @@ pub(crate) struct Drawing<'a> {
     ghost bars: { AreBars map.now.lists fig.now width },
     ghost within: { NoBadColumn map.now.lists fig.now width },
     ghost table: { AreColumns map.now fig.now columns.now },
+}
+
+/// The bar of a vertex in such a drawing, and its height.
+#[derive(Clone, Copy)]
+pub(crate) struct Bar<'a> {
+    pub(crate) drawing: Drawing<'a>,
+    pub(crate) h: u16,
+    pub(crate) v: VertexId,
+    ghost stands: { StandsAt (length drawing.map.now.lists) drawing.fig.now h v.0 },
+}
+
+/// A vertex as the lesser end of edges, with how many edges have a lesser first end, and marks at darts whose edges have
+/// no bar in their way.
+#[derive(Clone, Copy)]
+pub(crate) struct LesserEnd<'a> {
+    pub(crate) drawing: Drawing<'a>,
+    pub(crate) clear: &'a [bool],
+    pub(crate) a: VertexId,
+    pub(crate) before: u32,
+    ghost marks: { AreClear drawing.map.now drawing.fig.now clear.now },
+    ghost vertex: { a.0 < length drawing.map.now.lists },
+    ghost count: { before ≡ edges_before drawing.map.now.lists a.0 },
+    ghost few: { before ≤ 65535 * a.0 },
 }

@@ -12,7 +12,7 @@ ghost use Rattle.bar_check.specs.Tables.{StandsAt};
 ghost use Rattle.bar_check.specs.Reach.{IsRaised, IsReached, IsPassed, IsUp, IsBegun, HasReach, IsSwept};
 
 use crate::clear::{natural, stands_at};
-use crate::drawing::Drawing;
+use crate::drawing::{Bar, Drawing};
 use crate::heights::number;
 use half_edges::{DartId, VertexId};
 use vertex_rounds::later_dart;
@@ -122,116 +122,91 @@ fn passes_between(
     true
 }
 
-impl Drawing<'_> {
-    // Notes the edge of a dart from `v`, at height `h`, where it leads up, and says whether the tables reach so far.
+impl Bar<'_> {
+    // Notes the edge of a dart of the vertex, where it leads up, and says whether the tables reach so far.
     fn begin_if_up(
         &self,
         peaks: &mut [i32],
         blocks: &mut [i32],
         superblocks: &mut [i32],
-        h: u16,
-        v: VertexId,
         d: DartId,
     ) -> bool
-        requires live { IsLive self.now.map.now d.0 }
-        requires tail { (dart_of self.now.map.now d.0).0 ≡ v.0 }
-        requires reach { HasReach self.now.map.now.lists self.now.fig.now (IsBegun self.now.map.now.lists self.now.fig.now h v.0 (place_of (dart_of self.now.map.now d.0).1 (list_of self.now.map.now.lists v.0))) peaks.old blocks.old superblocks.old }
-        ensures { OnTrue result (HasReach self.now.map.now.lists self.now.fig.now (IsBegun self.now.map.now.lists self.now.fig.now h v.0 (place_of (dart_of self.now.map.now d.0).1 (list_of self.now.map.now.lists v.0) + 1)) peaks.new blocks.new superblocks.new) }
+        requires live { IsLive self.now.drawing.map.now d.0 }
+        requires tail { (dart_of self.now.drawing.map.now d.0).0 ≡ self.now.v.0 }
+        requires reach { HasReach self.now.drawing.map.now.lists self.now.drawing.fig.now (IsBegun self.now.drawing.map.now.lists self.now.drawing.fig.now self.now.h self.now.v.0 (place_of (dart_of self.now.drawing.map.now d.0).1 (list_of self.now.drawing.map.now.lists self.now.v.0))) peaks.old blocks.old superblocks.old }
+        ensures { OnTrue result (HasReach self.now.drawing.map.now.lists self.now.drawing.fig.now (IsBegun self.now.drawing.map.now.lists self.now.drawing.fig.now self.now.h self.now.v.0 (place_of (dart_of self.now.drawing.map.now d.0).1 (list_of self.now.drawing.map.now.lists self.now.v.0) + 1)) peaks.new blocks.new superblocks.new) }
     {
-        self.map.facts();
-        let y = number(&self.fig.y, self.map.head(d).0 as usize);
-        if y < i32::from(h) {
+        self.drawing.map.facts();
+        let y = number(&self.drawing.fig.y, self.drawing.map.head(d).0 as usize);
+        if y < i32::from(self.h) {
             return true;
         }
-        if self.columns.len() <= d.0 as usize {
+        if self.drawing.columns.len() <= d.0 as usize {
             return false;
         }
-        raise_column(peaks, blocks, superblocks, self.column_at(d), y)
+        raise_column(peaks, blocks, superblocks, self.drawing.column_at(d), y)
     }
 
-    // Notes the edges that lead up from `v`, at height `h`, from dart `first` on, and says whether the tables reach so
+    // Notes the edges that lead up from the vertex, from dart `first` on, and says whether the tables reach so
     // far.
     fn begin_round(
         &self,
         peaks: &mut [i32],
         blocks: &mut [i32],
         superblocks: &mut [i32],
-        h: u16,
-        v: VertexId,
         first: DartId,
     ) -> bool
-        requires first { dart_at self.now.map.now first.0 ≡ Some (first_dart self.now.map.now.lists v.0) }
-        requires reach { HasReach self.now.map.now.lists self.now.fig.now (IsBegun self.now.map.now.lists self.now.fig.now h v.0 0) peaks.old blocks.old superblocks.old }
-        ensures { OnTrue result (HasReach self.now.map.now.lists self.now.fig.now (IsBegun self.now.map.now.lists self.now.fig.now h v.0 (length (list_of self.now.map.now.lists v.0))) peaks.new blocks.new superblocks.new) }
+        requires first { dart_at self.now.drawing.map.now first.0 ≡ Some (first_dart self.now.drawing.map.now.lists self.now.v.0) }
+        requires reach { HasReach self.now.drawing.map.now.lists self.now.drawing.fig.now (IsBegun self.now.drawing.map.now.lists self.now.drawing.fig.now self.now.h self.now.v.0 0) peaks.old blocks.old superblocks.old }
+        ensures { OnTrue result (HasReach self.now.drawing.map.now.lists self.now.drawing.fig.now (IsBegun self.now.drawing.map.now.lists self.now.drawing.fig.now self.now.h self.now.v.0 (length (list_of self.now.drawing.map.now.lists self.now.v.0))) peaks.new blocks.new superblocks.new) }
     {
-        self.map.facts();
+        self.drawing.map.facts();
+        let bar = *self;
         let mut d = first;
         'round: loop {
-            if !self.begin_if_up(peaks, blocks, superblocks, h, v, d) {
+            if !bar.begin_if_up(peaks, blocks, superblocks, d) {
                 return false;
             }
-            match later_dart(self.map, d) {
+            match later_dart(bar.drawing.map, d) {
                 Some(later) => d = later,
                 None => return true,
             }
         }
     }
 
-    // Notes the edges that lead up from the vertex at height `h`, and says whether the tables reach so far.
-    fn begin_edges(
-        &self,
-        peaks: &mut [i32],
-        blocks: &mut [i32],
-        superblocks: &mut [i32],
-        h: u16,
-        v: VertexId,
-    ) -> bool
-        requires vertex { v.0 < length self.now.map.now.lists }
-        requires reach { HasReach self.now.map.now.lists self.now.fig.now (IsBegun self.now.map.now.lists self.now.fig.now h v.0 0) peaks.old blocks.old superblocks.old }
-        ensures { OnTrue result (HasReach self.now.map.now.lists self.now.fig.now (IsBegun self.now.map.now.lists self.now.fig.now h v.0 (length (list_of self.now.map.now.lists v.0))) peaks.new blocks.new superblocks.new) }
+    // Notes the edges that lead up from the vertex, and says whether the tables reach so far.
+    fn begin_edges(&self, peaks: &mut [i32], blocks: &mut [i32], superblocks: &mut [i32]) -> bool
+        requires reach { HasReach self.now.drawing.map.now.lists self.now.drawing.fig.now (IsBegun self.now.drawing.map.now.lists self.now.drawing.fig.now self.now.h self.now.v.0 0) peaks.old blocks.old superblocks.old }
+        ensures { OnTrue result (HasReach self.now.drawing.map.now.lists self.now.drawing.fig.now (IsBegun self.now.drawing.map.now.lists self.now.drawing.fig.now self.now.h self.now.v.0 (length (list_of self.now.drawing.map.now.lists self.now.v.0))) peaks.new blocks.new superblocks.new) }
     {
-        match self.map.first_dart(v) {
-            Some(first) => self.begin_round(peaks, blocks, superblocks, h, v, first),
+        match self.drawing.map.first_dart(self.v) {
+            Some(first) => self.begin_round(peaks, blocks, superblocks, first),
             None => true,
         }
     }
 
-    // Says whether no edge of a column that the bar of `v` holds reaches above `h`.
-    fn passes_bar(
-        &self,
-        peaks: &[i32],
-        blocks: &[i32],
-        superblocks: &[i32],
-        h: u16,
-        v: VertexId,
-    ) -> bool
-        requires vertex { v.0 < length self.now.map.now.lists }
-        ensures { OnTrue result ((k : ℕ) → Holds self.now.fig.now v.0 (pos k) → IsPassed h k peaks.now blocks.now superblocks.now) }
+    // Says whether no edge of a column that the bar holds reaches above it.
+    fn passes(&self, peaks: &[i32], blocks: &[i32], superblocks: &[i32]) -> bool
+        ensures { OnTrue result ((k : ℕ) → Holds self.now.drawing.fig.now self.now.v.0 (pos k) → IsPassed self.now.h k peaks.now blocks.now superblocks.now) }
     {
-        let left = natural(number(&self.fig.x1, v.0 as usize));
-        let right = natural(number(&self.fig.x2, v.0 as usize));
-        passes_between(peaks, blocks, superblocks, h, left, right)
+        let left = natural(number(&self.drawing.fig.x1, self.v.0 as usize));
+        let right = natural(number(&self.drawing.fig.x2, self.v.0 as usize));
+        passes_between(peaks, blocks, superblocks, self.h, left, right)
     }
 
-    // Meets the bar at height `h`, and says whether it is in the way of no edge.
-    fn meets_bar(
-        &self,
-        peaks: &mut [i32],
-        blocks: &mut [i32],
-        superblocks: &mut [i32],
-        h: u16,
-        v: VertexId,
-    ) -> bool
-        requires vertex { StandsAt (length self.now.map.now.lists) self.now.fig.now h v.0 }
-        requires swept { IsSwept self.now.map.now.lists self.now.fig.now h peaks.old blocks.old superblocks.old }
-        ensures { OnTrue result (IsSwept self.now.map.now.lists self.now.fig.now (h + 1) peaks.new blocks.new superblocks.new) }
+    // Meets the bar, and says whether it is in the way of no edge.
+    fn meets(&self, peaks: &mut [i32], blocks: &mut [i32], superblocks: &mut [i32]) -> bool
+        requires swept { IsSwept self.now.drawing.map.now.lists self.now.drawing.fig.now self.now.h peaks.old blocks.old superblocks.old }
+        ensures { OnTrue result (IsSwept self.now.drawing.map.now.lists self.now.drawing.fig.now (self.now.h + 1) peaks.new blocks.new superblocks.new) }
     {
-        if !self.passes_bar(peaks, blocks, superblocks, h, v) {
+        if !self.passes(peaks, blocks, superblocks) {
             return false;
         }
-        self.begin_edges(peaks, blocks, superblocks, h, v)
+        self.begin_edges(peaks, blocks, superblocks)
     }
+}
 
+impl Drawing<'_> {
     // Says whether a sweep over the bars in this order shows that none is in the way of an edge, with room for a number
     // at each column, each block of 16 columns and each superblock of 256, which are 0.
     pub(crate) fn passes_all(
@@ -251,7 +226,8 @@ impl Drawing<'_> {
             if !stands_at(drawing.fig, drawing.map.n(), h, v) {
                 return false;
             }
-            if !drawing.meets_bar(peaks, blocks, superblocks, h, v) {
+            let bar = Bar { drawing, h, v };
+            if !bar.meets(peaks, blocks, superblocks) {
                 return false;
             }
         }

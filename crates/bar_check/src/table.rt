@@ -9,7 +9,7 @@ ghost use Rattle.bar_check.specs.Faults.{HasBadColumn};
 ghost use Rattle.bar_check.specs.Verdicts.{NoBadColumn};
 ghost use Rattle.bar_check.specs.Tables.{AreColumns, AreFilled, AreNext, IsFirstMetBad, IsUpTo, IsWritten};
 
-use crate::drawing::{Bars, Drawing};
+use crate::drawing::{Bars, Drawing, LesserEnd};
 use crate::edges::{column_between, column_from, edges_with};
 use crate::heights::{is_column, number};
 use half_edges::{DartId, Ends, VertexId};
@@ -189,24 +189,24 @@ impl Bars<'_> {
     }
 }
 
-impl Drawing<'_> {
-    // Returns the column of the edge of a dart from `a` to `b`, its greater end, where `before` edges have their lesser
-    // end below `a`.
-    pub(crate) fn column_upwards(&self, before: u32, a: VertexId, b: VertexId, d: DartId) -> i32
-        requires before { before ≡ edges_before self.now.map.now.lists a.0 }
-        requires few { before ≤ 65535 * a.0 }
-        requires dart { dart_at self.now.map.now d.0 ≡ Some (a.0, b.0) }
-        requires order { a.0 < b.0 }
-        ensures { result ≡ the_column self.now.map.now.lists self.now.fig.now a.0 b.0 }
+impl LesserEnd<'_> {
+    // Returns the column of the edge of a dart to `b`, its greater end.
+    pub(crate) fn column_to(&self, b: VertexId, d: DartId) -> i32
+        requires dart { dart_at self.now.drawing.map.now d.0 ≡ Some (self.now.a.0, b.0) }
+        requires order { self.now.a.0 < b.0 }
+        ensures { result ≡ the_column self.now.drawing.map.now.lists self.now.drawing.fig.now self.now.a.0 b.0 }
     {
-        self.map.facts();
-        if (d.0 as usize) < self.columns.len() {
-            self.columns[d.0 as usize]
+        let drawing = self.drawing;
+        drawing.map.facts();
+        if (d.0 as usize) < drawing.columns.len() {
+            drawing.columns[d.0 as usize]
         } else {
-            column_from(self.map, self.fig, before, a, b)
+            column_from(drawing.map, drawing.fig, self.before, self.a, b)
         }
     }
+}
 
+impl Drawing<'_> {
     // Returns the column of the edge of a dart.
     pub(crate) fn column_at(&self, d: DartId) -> i32
         requires live { IsLive self.now.map.now d.0 }

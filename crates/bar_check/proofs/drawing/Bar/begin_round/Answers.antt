@@ -1,21 +1,21 @@
 use Rattle.std.proofs.Common.{ℕ, sym, subst, arith}
 use Rattle.vertex_rounds.proofs.RoundLemmas.{head_at, at_place, place_at-first, place_at-later, LeavesFrom-is}
 use Rattle.bar_check.specs.Reach.{HasReach, IsBegun}
-use Rattle.bar_check.proofs.drawing.Drawing.begin_round.Goals as goal
+use Rattle.bar_check.proofs.drawing.Bar.begin_round.Goals as goal
 
 pub round-init : goal.round-init
 round-init c =
-    let map = c.args.self.now.map.now in
-    let v = c.args.v.0 in
+    let map = c.args.self.now.drawing.map.now in
+    let v = c.args.self.now.v.0 in
     record {
       dart = LeavesFrom-is map v _ c.args.first.0 c.requires.first;
-      reach = subst (λ (k : ℕ). HasReach map.lists c.args.self.now.fig.now (IsBegun map.lists c.args.self.now.fig.now c.args.h v k) c.args.peaks.now c.args.blocks.now c.args.superblocks.now) (sym (place_at-first map v c.args.first.0 c.requires.first)) c.requires.reach;
+      reach = subst (λ (k : ℕ). HasReach map.lists c.args.self.now.drawing.fig.now (IsBegun map.lists c.args.self.now.drawing.fig.now c.args.self.now.h v k) c.args.peaks.now c.args.blocks.now c.args.superblocks.now) (sym (place_at-first map v c.args.first.0 c.requires.first)) c.requires.reach;
     }
 
 pub round-smaller : goal.round-smaller
 round-smaller c =
-    let map = c.args.self.now.map.now in
-    let v = c.args.v.0 in
+    let map = c.args.self.now.drawing.map.now in
+    let v = c.args.self.now.v.0 in
     let d = c.round.d.0 in
     let within = (at_place map c.facts.ensures v d c.round.invariant.dart).0 in
     let later = place_at-later map v d c.in-Some.later.0 (c.in-Some.ensures v (head_at map d) c.round.invariant.dart) in

@@ -7,30 +7,30 @@ use Rattle.vertex_rounds.proofs.DartIds.{head_is, has_dart}
 use Rattle.bar_check.specs.Bars.{number_at, column_between}
 use Rattle.bar_check.specs.Reach.{IsRaised, IsBegun, HasReach}
 use Rattle.bar_check.proofs.ReachLemmas.{HasReach-past, HasReach-more}
-use Rattle.bar_check.proofs.drawing.Drawing.begin_if_up.Goals as goal
+use Rattle.bar_check.proofs.drawing.Bar.begin_if_up.Goals as goal
 
 pub returns-then-y-from : goal.returns-then-y-from
 returns-then-y-from c =
-    let map = c.args.self.now.map.now in
-    let fig = c.args.self.now.fig.now in
+    let map = c.args.self.now.drawing.map.now in
+    let fig = c.args.self.now.drawing.fig.now in
     let d = c.args.d.0 in
-    let v = c.args.v.0 in
+    let v = c.args.self.now.v.0 in
     let u = (dart_of map d).1 in
     let same = head_is map d c.head.result.0 c.requires.live c.head.ensures in
     let dart = subst (λ (z : ℕ). HasDart map.lists z u) c.requires.tail (has_dart map c.facts.ensures d c.requires.live) in
     let less = c.if-y-from.true in
     let is = c.number-y.ensures in
     let from = c.from.ensures in
-    let below : number_at fig.y c.head.result.0 <ℤ pos c.args.h = omega (arith, ints, less, is, from) in
-    HasReach-past map.lists fig c.args.h v u c.args.peaks.now c.args.blocks.now c.args.superblocks.now dart (subst (λ (z : ℕ). number_at fig.y z <ℤ pos c.args.h) (sym same) below) c.requires.reach
+    let below : number_at fig.y c.head.result.0 <ℤ pos c.args.self.now.h = omega (arith, ints, less, is, from) in
+    HasReach-past map.lists fig c.args.self.now.h v u c.args.peaks.now c.args.blocks.now c.args.superblocks.now dart (subst (λ (z : ℕ). number_at fig.y z <ℤ pos c.args.self.now.h) (sym same) below) c.requires.reach
 
 pub returns : goal.returns
 returns c =
-    let map = c.args.self.now.map.now in
-    let fig = c.args.self.now.fig.now in
-    let h = c.args.h in
+    let map = c.args.self.now.drawing.map.now in
+    let fig = c.args.self.now.drawing.fig.now in
+    let h = c.args.self.now.h in
     let d = c.args.d.0 in
-    let v = c.args.v.0 in
+    let v = c.args.self.now.v.0 in
     let u = (dart_of map d).1 in
     let same = head_is map d c.head.result.0 c.requires.live c.head.ensures in
     let dart = subst (λ (z : ℕ). HasDart map.lists z u) c.requires.tail (has_dart map c.facts.ensures d c.requires.live) in

@@ -1,7 +1,0 @@
-use Rattle.std.proofs.Common.{rules}
-use Rattle.bar_check.proofs.ClearLemmas.{HasTops-more}
-use Rattle.bar_check.proofs.drawing.Drawing.put_bar.Goals as goal
-
-pub returns : goal.returns
-returns c =
-    HasTops-more c.args.self.now.map.now.lists c.args.self.now.fig.now c.args.self.now.heights c.args.h c.args.v.0 c.args.tops.now c.fill_between.new.tops c.natural-left.result c.natural-right.result (λ u l. let b = c.args.self.now.bars u l in (b.left, b.order)) c.requires.vertex (search rules) (search rules) c.requires.tops c.fill_between.ensures.size c.fill_between.ensures.inside c.fill_between.ensures.outside
