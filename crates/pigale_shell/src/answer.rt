@@ -11,7 +11,7 @@ use super::form::line_in;
 use super::kinds::JobKind;
 use super::lines::refusal_line;
 use super::map_jobs::answer_map;
-use super::method::Method;
+use super::method::{MapRecord, Method};
 use half_edges::Rotations;
 use pigale_words::{Form, Job};
 use refusals::{Refusal, Unserved};
@@ -36,7 +36,14 @@ pub fn answer_record(
     ensures err { OnErr result (out.new.items ≡ out.old.items) }
 {
     match JobKind::of(job) {
-        JobKind::Maps(job, form) => answer_map(alloc, job, form, number, lists, out),
+        JobKind::Maps(job, form) => {
+            let given = MapRecord {
+                form,
+                number,
+                lists,
+            };
+            answer_map(alloc, job, &given, out)
+        }
         _ => unreachable!(),
     }
 }
@@ -45,20 +52,17 @@ pub fn answer_record(
 pub(crate) fn answer_with<M: Method>(
     alloc: Global,
     method: &mut M,
-    form: Form,
-    number: u32,
-    lists: &Rotations,
+    given: &MapRecord<'_>,
     out: &mut Vec<u8>,
 ) -> Result<bool, AllocError>
-    requires some_list { 0 < length lists.now }
-    ensures block { OnOk result (Appends (IsMapBlock M.says form number lists.now) out.old.items out.new.items) }
-    ensures served { IfOk result (λ served. IsTrue served ↔ M.says.Serves lists.now) }
+    ensures block { OnOk result (Appends (IsMapBlock M.says given.now.form given.now.number given.now.lists.now) out.old.items out.new.items) }
+    ensures served { IfOk result (λ served. IsTrue served ↔ M.says.Serves given.now.lists.now) }
     ensures err { OnErr result (out.new.items ≡ out.old.items) }
 {
     M::lawful();
-    match serve(alloc, method, form, number, lists, out) {
+    match serve(alloc, method, given, out) {
         Ok(()) => Ok(true),
-        Err(Unserved::Refused(refusal)) => refuse(alloc, form, number, refusal, out),
+        Err(Unserved::Refused(refusal)) => refuse(alloc, given.form, given.number, refusal, out),
         Err(Unserved::NoMemory) => Err(AllocError),
     }
 }
@@ -67,19 +71,16 @@ pub(crate) fn answer_with<M: Method>(
 fn serve<M: Method>(
     alloc: Global,
     method: &mut M,
-    form: Form,
-    number: u32,
-    lists: &Rotations,
+    given: &MapRecord<'_>,
     out: &mut Vec<u8>,
 ) -> Result<(), Unserved>
-    requires some_list { 0 < length lists.now }
-    ensures served { OnOk result (M.says.Serves lists.now) }
-    ensures text { OnOk result (Appends (M.says.IsText form number lists.now) out.old.items out.new.items) }
-    ensures refused { IfErr result (IfRefused (M.says.Breaks lists.now)) }
+    ensures served { OnOk result (M.says.Serves given.now.lists.now) }
+    ensures text { OnOk result (Appends (M.says.IsText given.now.form given.now.number given.now.lists.now) out.old.items out.new.items) }
+    ensures refused { IfErr result (IfRefused (M.says.Breaks given.now.lists.now)) }
     ensures err { OnErr result (out.new.items ≡ out.old.items) }
 {
-    let figure = method.figure(alloc, lists)?;
-    method.print(form, number, lists, &figure, out)?;
+    let figure = method.figure(alloc, given.lists)?;
+    method.print(given, &figure, out)?;
     method.keep(figure);
     Ok(())
 }

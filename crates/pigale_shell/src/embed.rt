@@ -9,6 +9,7 @@ ghost use Rattle.pigale_shell.specs.EmbedText.{IsDrawnText, IsRefutedText, IsGra
 use super::answer::refuse;
 use super::form::{FormPrinter, line_in, print_witness_in};
 use super::lines::{end_line, stop_line};
+use super::method::MapRecord;
 use embed_graph::Tables;
 use embed_graph::embed_figures::{EmbedFigure, embed_figure_by};
 use figure_text::GridJob;
@@ -33,11 +34,17 @@ fn draw_map(
     figure: &GridFigure,
     out: &mut Vec<u8>,
 ) -> Result<(), AllocError>
-    requires { IsDrawnMap graph.now lists.now figure.now }
+    requires some { 3 ≤ graph.now.n }
+    requires drawn { IsDrawnMap graph.now lists.now figure.now }
     ensures block { OnOk result (Appends (IsDrawnText form number graph.now) out.old.items out.new.items) }
     ensures err { OnErr result (out.new.items ≡ out.old.items) }
 {
-    printer.print_grid(form, number, GridJob::Schnyder, lists, &figure.points, out)
+    let given = MapRecord {
+        form,
+        number,
+        lists,
+    };
+    printer.print_grid(&given, GridJob::Schnyder, &figure.points, out)
 }
 
 // Appends a witness of a graph.
@@ -79,11 +86,14 @@ fn push_figure(
     }
 }
 
-// Keeps the memory of a map and its drawing that are printed.
+// Keeps the memory of a map and its drawing, or of a witness, that are printed.
 fn keep_figure(tables: &mut Tables, drawer: &mut Drawer, figure: EmbedFigure) {
-    if let EmbedFigure::Drawn(lists, drawing) = figure {
-        tables.keep_lists(lists);
-        drawer.keep_schnyder(drawing);
+    match figure {
+        EmbedFigure::Drawn(lists, drawing) => {
+            tables.keep_lists(lists);
+            drawer.keep_schnyder(drawing);
+        }
+        EmbedFigure::NotPlanar(witness) => tables.keep_witness(witness),
     }
 }
 

@@ -6,6 +6,7 @@ ghost use Rattle.pigale_shell.specs.Forms.{commented as comment_of, line_in as l
 ghost use Rattle.figure_text.specs.Text.{HasRects};
 ghost use Rattle.pigale_shell.specs.EmbedText.{WritesWitness};
 
+use super::method::MapRecord;
 use figure_text::{GridJob, Printer, print_witness};
 use graph6_text::Graph;
 use half_edges::Rotations;
@@ -70,60 +71,69 @@ impl FormPrinter {
         }
     }
 
-    /// Appends a straight-line drawing of a simple map in this form. When memory runs out the bytes are as they were.
+    /// Appends a straight-line drawing of a simple map in the form of its record. When memory runs out the bytes are as they were.
     pub(crate) fn print_grid(
         &mut self,
-        form: Form,
-        number: u32,
+        given: &MapRecord<'_>,
         job: GridJob,
-        lists: &Rotations,
         points: &Points,
         out: &mut Vec<u8>,
     ) -> Result<(), AllocError>
-        requires simple { IsSimpleMap lists.now }
-        requires points { length points.now ≡ length lists.now }
-        ensures ok { OnOk result (out.new.items ≡ out.old.items ++ grid_in form number job lists.now points.now) }
+        requires simple { IsSimpleMap given.now.lists.now }
+        requires points { length points.now ≡ length given.now.lists.now }
+        ensures ok { OnOk result (out.new.items ≡ out.old.items ++ grid_in given.now.form given.now.number job given.now.lists.now points.now) }
         ensures err { OnErr result (out.new.items ≡ out.old.items) }
     {
+        let MapRecord {
+            form,
+            number,
+            lists,
+        } = *given;
         match form {
             Form::Text => self.printer.print_grid(number, job, lists, points, out),
             Form::Svg => svg_grid(self.alloc, lists, points, out),
         }
     }
 
-    /// Appends a visibility drawing of a simple map in this form. When memory runs out the bytes are as they were.
+    /// Appends a visibility drawing of a simple map in the form of its record. When memory runs out the bytes are as they were.
     pub(crate) fn print_bars(
         &mut self,
-        form: Form,
-        number: u32,
-        lists: &Rotations,
+        given: &MapRecord<'_>,
         bars: &BarFigure,
         out: &mut Vec<u8>,
     ) -> Result<(), AllocError>
-        requires simple { IsSimpleMap lists.now }
-        requires columns { HasColumns lists.now bars.now }
-        ensures ok { OnOk result (out.new.items ≡ out.old.items ++ bars_in form number lists.now bars.now) }
+        requires simple { IsSimpleMap given.now.lists.now }
+        requires columns { HasColumns given.now.lists.now bars.now }
+        ensures ok { OnOk result (out.new.items ≡ out.old.items ++ bars_in given.now.form given.now.number given.now.lists.now bars.now) }
         ensures err { OnErr result (out.new.items ≡ out.old.items) }
     {
+        let MapRecord {
+            form,
+            number,
+            lists,
+        } = *given;
         match form {
             Form::Text => self.printer.print_bars(number, lists, bars, out),
             Form::Svg => svg_bars(self.alloc, lists, bars, out),
         }
     }
 
-    /// Appends a rectangular dual in this form. When memory runs out the bytes are as they were.
+    /// Appends a rectangular dual in the form of its record. When memory runs out the bytes are as they were.
     pub(crate) fn print_rects(
         &mut self,
-        form: Form,
-        number: u32,
-        lists: &Rotations,
+        given: &MapRecord<'_>,
         rects: &RectFigure,
         out: &mut Vec<u8>,
     ) -> Result<(), AllocError>
-        requires { HasRects lists.now rects.now }
-        ensures ok { OnOk result (out.new.items ≡ out.old.items ++ rects_in form number lists.now rects.now) }
+        requires { HasRects given.now.lists.now rects.now }
+        ensures ok { OnOk result (out.new.items ≡ out.old.items ++ rects_in given.now.form given.now.number given.now.lists.now rects.now) }
         ensures err { OnErr result (out.new.items ≡ out.old.items) }
     {
+        let MapRecord {
+            form,
+            number,
+            lists,
+        } = *given;
         match form {
             Form::Text => self.printer.print_rects(number, lists, rects, out),
             Form::Svg => svg_rects(self.alloc, lists, rects, out),

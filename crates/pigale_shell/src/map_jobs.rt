@@ -1,5 +1,5 @@
 //! The jobs over maps: a module and a row each.
-ghost use Rattle.std.specs.Prelude.{◌≡◌, ◌+◌, ◌<◌, ◌↔◌, length, IsTrue, IfOk, OnOk, OnErr};
+ghost use Rattle.std.specs.Prelude.{◌≡◌, ◌+◌, ◌↔◌, IsTrue, IfOk, OnOk, OnErr};
 ghost use Rattle.pg_io.specs.Io.{TakesAtMost};
 ghost use Rattle.record_runs.specs.Texts.{input_limit};
 ghost use Rattle.record_runs.specs.Outcome.{ports, Outcome as RunOutcome};
@@ -18,12 +18,11 @@ mod shift;
 
 use super::answer::answer_with;
 use super::kinds::JobKind;
-use super::method::Method;
+use super::method::{MapRecord, Method};
 use super::planar::run_planar;
 use bars::Bars;
 use convex::Convex;
 use count::Count;
-use half_edges::Rotations;
 use pg_io::{Sink, Source};
 use pigale_words::{Form, Job};
 use record_runs::RunEnd;
@@ -95,41 +94,35 @@ pub(crate) fn run_maps<S: Source, K: Sink>(
 // Answers one map by a job whose memory is new.
 fn answer_by<M: Method>(
     alloc: Global,
-    form: Form,
-    number: u32,
-    lists: &Rotations,
+    given: &MapRecord<'_>,
     out: &mut Vec<u8>,
 ) -> Result<bool, AllocError>
-    requires some_list { 0 < length lists.now }
-    ensures block { OnOk result (Appends (IsMapBlock M.says form number lists.now) out.old.items out.new.items) }
-    ensures served { IfOk result (λ served. IsTrue served ↔ M.says.Serves lists.now) }
+    ensures block { OnOk result (Appends (IsMapBlock M.says given.now.form given.now.number given.now.lists.now) out.old.items out.new.items) }
+    ensures served { IfOk result (λ served. IsTrue served ↔ M.says.Serves given.now.lists.now) }
     ensures err { OnErr result (out.new.items ≡ out.old.items) }
 {
     let mut method = M::new(alloc);
-    answer_with(alloc, &mut method, form, number, lists, out)
+    answer_with(alloc, &mut method, given, out)
 }
 
 /// Appends the block of a job for one map, and answers whether the map was served.
 pub(crate) fn answer_map(
     alloc: Global,
     job: MapJob,
-    form: Form,
-    number: u32,
-    lists: &Rotations,
+    given: &MapRecord<'_>,
     out: &mut Vec<u8>,
 ) -> Result<bool, AllocError>
-    requires some_list { 0 < length lists.now }
-    ensures block { OnOk result (Appends (IsMapBlock (says_of job) form number lists.now) out.old.items out.new.items) }
-    ensures served { IfOk result (λ served. IsTrue served ↔ (says_of job).Serves lists.now) }
+    ensures block { OnOk result (Appends (IsMapBlock (says_of job) given.now.form given.now.number given.now.lists.now) out.old.items out.new.items) }
+    ensures served { IfOk result (λ served. IsTrue served ↔ (says_of job).Serves given.now.lists.now) }
     ensures err { OnErr result (out.new.items ≡ out.old.items) }
 {
     match job {
-        MapJob::Count => answer_by::<Count>(alloc, form, number, lists, out),
-        MapJob::Shift => answer_by::<Shift>(alloc, form, number, lists, out),
-        MapJob::Schnyder => answer_by::<Schnyder>(alloc, form, number, lists, out),
-        MapJob::Bars => answer_by::<Bars>(alloc, form, number, lists, out),
-        MapJob::Convex => answer_by::<Convex>(alloc, form, number, lists, out),
-        MapJob::Rect => answer_by::<Rect>(alloc, form, number, lists, out),
+        MapJob::Count => answer_by::<Count>(alloc, given, out),
+        MapJob::Shift => answer_by::<Shift>(alloc, given, out),
+        MapJob::Schnyder => answer_by::<Schnyder>(alloc, given, out),
+        MapJob::Bars => answer_by::<Bars>(alloc, given, out),
+        MapJob::Convex => answer_by::<Convex>(alloc, given, out),
+        MapJob::Rect => answer_by::<Rect>(alloc, given, out),
     }
 }
 

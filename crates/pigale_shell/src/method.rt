@@ -9,6 +9,18 @@ use pigale_words::Form;
 use refusals::Unserved;
 use std::alloc::{AllocError, Global};
 
+/// A record of the input: the form in which it is answered, its number, and its lists, of which there is one at least.
+#[derive(Clone, Copy)]
+pub struct MapRecord<'a> {
+    /// The form in which it is answered.
+    pub form: Form,
+    /// Its number, from 1 on.
+    pub number: u32,
+    /// Its lists.
+    pub lists: &'a Rotations,
+    pub ghost some: { 0 < length lists.now },
+}
+
 /// A job over maps: what it finds of a map, and how it writes that. It may keep memory of its own from map to map.
 pub trait Method: Drop {
     /// The answer to a map: a figure, or counts.
@@ -30,19 +42,16 @@ pub trait Method: Drop {
         ensures served { OnOk result (says.Serves lists.now) }
         ensures refused { IfErr result (IfRefused (says.Breaks lists.now)) };
 
-    /// Appends, in a form, what was found of lists that it serves. When memory runs out the bytes are as they were.
+    /// Appends what was found of a record that it serves. When memory runs out the bytes are as they were.
     fn print(
         &mut self,
-        form: Form,
-        number: u32,
-        lists: &Rotations,
+        given: &MapRecord<'_>,
         figure: &Self::Figure,
         out: &mut Vec<u8>,
     ) -> Result<(), AllocError>
-        requires some_list { 0 < length lists.now }
-        requires served { says.Serves lists.now }
-        requires figure { IsFigure lists.now figure.now }
-        ensures text { OnOk result (Appends (says.IsText form number lists.now) out.old.items out.new.items) }
+        requires served { says.Serves given.now.lists.now }
+        requires figure { IsFigure given.now.lists.now figure.now }
+        ensures text { OnOk result (Appends (says.IsText given.now.form given.now.number given.now.lists.now) out.old.items out.new.items) }
         ensures err { OnErr result (out.new.items ≡ out.old.items) };
 
     /// Keeps the memory of a figure that is printed.

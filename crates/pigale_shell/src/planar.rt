@@ -9,7 +9,7 @@ ghost use Rattle.pigale_shell.specs.PlanarCode.{planar_code};
 use super::answer::answer_with;
 use super::form::line_in;
 use super::lines::{Ending, last_line};
-use super::method::Method;
+use super::method::{MapRecord, Method};
 use map_lists::Rotations;
 use pg_io::{Sink, Source};
 use pigale_words::Form;
@@ -124,7 +124,12 @@ impl<M: Method> RecordJob<PlanarReader> for PlanarJob<M> {
         given: &Rotations,
         out: &mut Vec<u8>,
     ) -> Result<bool, AllocError> {
-        answer_with(self.alloc, &mut self.method, self.form, number, given, out)
+        let record = MapRecord {
+            form: self.form,
+            number,
+            lists: given,
+        };
+        answer_with(self.alloc, &mut self.method, &record, out)
     }
 
     fn last_line(

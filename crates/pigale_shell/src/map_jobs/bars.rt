@@ -1,9 +1,8 @@
 //! The job `bars`.
 use crate::form::FormPrinter;
-use crate::method::Method;
+use crate::method::{MapRecord, Method};
 use half_edges::Rotations;
 use pg_plane::BarFigure;
-use pigale_words::Form;
 use refusals::Unserved;
 use std::alloc::{AllocError, Global};
 use visibility::bar_figures::BarDrawer;
@@ -39,13 +38,11 @@ impl Method for Bars {
 
     fn print(
         &mut self,
-        form: Form,
-        number: u32,
-        lists: &Rotations,
+        given: &MapRecord<'_>,
         figure: &BarFigure,
         out: &mut Vec<u8>,
     ) -> Result<(), AllocError> {
-        self.printer.print_bars(form, number, lists, figure, out)
+        self.printer.print_bars(given, figure, out)
     }
 
     fn keep(&mut self, figure: BarFigure) {

@@ -1,11 +1,10 @@
 //! The job `convex`.
 use crate::form::FormPrinter;
-use crate::method::Method;
+use crate::method::{MapRecord, Method};
 use convex_draw::convex_figures::ConvexDrawer;
 use figure_text::GridJob;
 use half_edges::Rotations;
 use pg_plane::GridFigure;
-use pigale_words::Form;
 use refusals::Unserved;
 use std::alloc::{AllocError, Global};
 
@@ -41,15 +40,12 @@ impl Method for Convex {
 
     fn print(
         &mut self,
-        form: Form,
-        number: u32,
-        lists: &Rotations,
+        given: &MapRecord<'_>,
         figure: &GridFigure,
         out: &mut Vec<u8>,
     ) -> Result<(), AllocError> {
-        let points = &figure.points;
         self.printer
-            .print_grid(form, number, GridJob::Convex, lists, points, out)
+            .print_grid(given, GridJob::Convex, &figure.points, out)
     }
 
     fn keep(&mut self, _figure: GridFigure) {}

@@ -1,9 +1,8 @@
 //! The job `count`.
 use crate::lines::count_line;
-use crate::method::Method;
+use crate::method::{MapRecord, Method};
 use euler_faces::{Counter, EulerCount};
 use half_edges::Rotations;
-use pigale_words::Form;
 use refusals::Unserved;
 use std::alloc::{AllocError, Global};
 
@@ -41,13 +40,11 @@ impl Method for Count {
 
     fn print(
         &mut self,
-        _form: Form,
-        number: u32,
-        _lists: &Rotations,
+        given: &MapRecord<'_>,
         figure: &EulerCount,
         out: &mut Vec<u8>,
     ) -> Result<(), AllocError> {
-        let line = count_line(self.alloc, number, figure)?;
+        let line = count_line(self.alloc, given.number, figure)?;
         out.extend_from_slice(&line)
     }
 

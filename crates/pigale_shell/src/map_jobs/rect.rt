@@ -1,9 +1,8 @@
 //! The job `rect`.
 use crate::form::FormPrinter;
-use crate::method::Method;
+use crate::method::{MapRecord, Method};
 use half_edges::Rotations;
 use pg_plane::RectFigure;
-use pigale_words::Form;
 use rect_dual::figures::RectDrawer;
 use refusals::Unserved;
 use std::alloc::{AllocError, Global};
@@ -39,13 +38,11 @@ impl Method for Rect {
 
     fn print(
         &mut self,
-        form: Form,
-        number: u32,
-        lists: &Rotations,
+        given: &MapRecord<'_>,
         figure: &RectFigure,
         out: &mut Vec<u8>,
     ) -> Result<(), AllocError> {
-        self.printer.print_rects(form, number, lists, figure, out)
+        self.printer.print_rects(given, figure, out)
     }
 
     fn keep(&mut self, _figure: RectFigure) {}

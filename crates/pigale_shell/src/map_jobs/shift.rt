@@ -1,11 +1,10 @@
 //! The job `shift`.
 use crate::form::FormPrinter;
-use crate::method::Method;
+use crate::method::{MapRecord, Method};
 use figure_text::GridJob;
 use grid_figures::Drawer;
 use half_edges::Rotations;
 use pg_plane::GridFigure;
-use pigale_words::Form;
 use refusals::Unserved;
 use std::alloc::{AllocError, Global};
 
@@ -40,16 +39,13 @@ impl Method for Shift {
 
     fn print(
         &mut self,
-        form: Form,
-        number: u32,
-        lists: &Rotations,
+        given: &MapRecord<'_>,
         figure: &GridFigure,
         out: &mut Vec<u8>,
     ) -> Result<(), AllocError> {
         refusals::no_refusal_is_plane();
-        let points = &figure.points;
         self.printer
-            .print_grid(form, number, GridJob::Shift, lists, points, out)
+            .print_grid(given, GridJob::Shift, &figure.points, out)
     }
 
     fn keep(&mut self, figure: GridFigure) {
