@@ -10,6 +10,14 @@ use map_lists::Rotations;
 use pg_plane::{Point, Points};
 use std::alloc::{AllocError, Global};
 
+/// The arrays of a map, as they are given: where the list of each vertex ends, and the neighbours.
+#[derive(Clone, Copy)]
+pub(crate) struct MapArrays<'a> {
+    pub(crate) alloc: Global,
+    pub(crate) ends: &'a [usize],
+    pub(crate) neighbours: &'a [u16],
+}
+
 // Returns whether the ends do not fall and go to `total`.
 fn are_cuts(ends: &[usize], total: usize) -> bool
     ensures { IsTrue result ↔ AreCuts 0 ends.now total }

@@ -10,7 +10,7 @@ ghost use Rattle.pigale_c.specs.BarArrays.{bars_in, AreBarsFor, IsGivenBars, Are
 ghost use Rattle.pigale_c.specs.Failures.{Fails};
 ghost use Rattle.pigale_c.specs.Numbers.{Reports};
 
-use crate::arrays::lists_of;
+use crate::arrays::{MapArrays, lists_of};
 use crate::outcome::{Failure, Numbers, Outcome, report};
 use bar_check::{BarVerdict, check_bars};
 use half_edges::HalfMap;
@@ -18,20 +18,23 @@ use pg_plane::{BarFigure, Ints};
 use std::alloc::{AllocError, Global};
 use visibility::bar_figures::bar_figure;
 
+// The arrays of bars, as they are given: heights, left ends, right ends and columns.
+#[derive(Clone, Copy)]
+struct BarArrays<'a> {
+    y: &'a [i32],
+    x1: &'a [i32],
+    x2: &'a [i32],
+    column: &'a [i32],
+}
+
 // Returns the bars of four arrays.
-fn bars_of(
-    alloc: Global,
-    y: &[i32],
-    x1: &[i32],
-    x2: &[i32],
-    column: &[i32],
-) -> Result<BarFigure, AllocError>
-    ensures { IfOk result (λ fig. fig ≡ bars_in y.now x1.now x2.now column.now) }
+fn bars_of(alloc: Global, bars: &BarArrays<'_>) -> Result<BarFigure, AllocError>
+    ensures { IfOk result (λ fig. fig ≡ bars_in bars.now.y.now bars.now.x1.now bars.now.x2.now bars.now.column.now) }
 {
-    let y = Ints::from_vec(y.to_vec(alloc)?);
-    let x1 = Ints::from_vec(x1.to_vec(alloc)?);
-    let x2 = Ints::from_vec(x2.to_vec(alloc)?);
-    let column = Ints::from_vec(column.to_vec(alloc)?);
+    let y = Ints::from_vec(bars.y.to_vec(alloc)?);
+    let x1 = Ints::from_vec(bars.x1.to_vec(alloc)?);
+    let x2 = Ints::from_vec(bars.x2.to_vec(alloc)?);
+    let column = Ints::from_vec(bars.column.to_vec(alloc)?);
     Ok(BarFigure { y, x1, x2, column })
 }
 
@@ -43,24 +46,18 @@ fn are_bars(fig: &BarFigure, n: usize) -> bool
 }
 
 // Returns the verdict on bars of a map within a width.
-fn judged(
-    alloc: Global,
-    ends: &[usize],
-    neighbours: &[u16],
-    fig: &BarFigure,
-    width: i32,
-) -> Result<BarVerdict, Failure>
-    ensures given { IfOk result (λ verdict. IsGivenBars ends.now neighbours.now fig.now) }
-    ensures simple { IfOk result (λ verdict. first_fault (lists_in ends.now neighbours.now) ≡ None) }
-    ensures verdict { IfOk result (IsBarVerdict (lists_in ends.now neighbours.now) fig.now width) }
-    ensures failed { IfErr result (Fails (IsGivenBars ends.now neighbours.now fig.now)
-        (λ refusal. fault_refusal (lists_in ends.now neighbours.now) ≡ Some refusal)) }
+fn judged(given: &MapArrays<'_>, fig: &BarFigure, width: i32) -> Result<BarVerdict, Failure>
+    ensures given { IfOk result (λ verdict. IsGivenBars given.now.ends.now given.now.neighbours.now fig.now) }
+    ensures simple { IfOk result (λ verdict. first_fault (lists_in given.now.ends.now given.now.neighbours.now) ≡ None) }
+    ensures verdict { IfOk result (IsBarVerdict (lists_in given.now.ends.now given.now.neighbours.now) fig.now width) }
+    ensures failed { IfErr result (Fails (IsGivenBars given.now.ends.now given.now.neighbours.now fig.now)
+        (λ refusal. fault_refusal (lists_in given.now.ends.now given.now.neighbours.now) ≡ Some refusal)) }
 {
-    if !are_bars(fig, ends.len()) {
+    if !are_bars(fig, given.ends.len()) {
         return Err(Failure::BadArgument);
     }
-    let lists = lists_of(alloc, ends, neighbours)?;
-    let map = HalfMap::from_rotations(alloc, &lists)?;
+    let lists = lists_of(given.alloc, given.ends, given.neighbours)?;
+    let map = HalfMap::from_rotations(given.alloc, &lists)?;
     let verdict = check_bars(&map, fig, width);
     Ok(verdict)
 }
@@ -80,8 +77,14 @@ pub extern "C" fn pigale_check_bars(
 ) -> u8
     ensures { Reports (AreJudgedBars ends.now neighbours.now (bars_in y.now x1.now x2.now column.now) width) result found.new }
 {
-    match bars_of(alloc, y, x1, x2, column) {
-        Ok(fig) => match judged(alloc, ends, neighbours, &fig, width) {
+    let given = MapArrays {
+        alloc,
+        ends,
+        neighbours,
+    };
+    let bars = BarArrays { y, x1, x2, column };
+    match bars_of(alloc, &bars) {
+        Ok(fig) => match judged(&given, &fig, width) {
             Ok(verdict) => report(Outcome::Bars(verdict), found),
             Err(failure) => report(Outcome::Failed(failure), found),
         },
@@ -90,32 +93,24 @@ pub extern "C" fn pigale_check_bars(
 }
 
 // Returns the bars of a map, where there is room for them.
-fn drawn(
-    alloc: Global,
-    ends: &[usize],
-    neighbours: &[u16],
-    y: &[i32],
-    x1: &[i32],
-    x2: &[i32],
-    column: &[i32],
-) -> Result<BarFigure, Failure>
-    ensures shape { IfOk result (AreBarsFor (length ends.now)) }
-    ensures columns { IfOk result (λ fig. length fig.column ≡ length column.now) }
-    ensures given { IfOk result (λ fig. HasBarRoom ends.now neighbours.now (bars_in y.now x1.now x2.now column.now)) }
-    ensures served { IfOk result (λ fig. IsBiconnectedMap 3 (lists_in ends.now neighbours.now)) }
-    ensures figure { IfOk result (IsBarFigure (lists_in ends.now neighbours.now)) }
-    ensures failed { IfErr result (Fails (HasBarRoom ends.now neighbours.now (bars_in y.now x1.now x2.now column.now))
-        (BreaksFirst 3 (lists_in ends.now neighbours.now))) }
+fn drawn(given: &MapArrays<'_>, bars: &BarArrays<'_>) -> Result<BarFigure, Failure>
+    ensures shape { IfOk result (AreBarsFor (length given.now.ends.now)) }
+    ensures columns { IfOk result (λ fig. length fig.column ≡ length bars.now.column.now) }
+    ensures given { IfOk result (λ fig. HasBarRoom given.now.ends.now given.now.neighbours.now (bars_in bars.now.y.now bars.now.x1.now bars.now.x2.now bars.now.column.now)) }
+    ensures served { IfOk result (λ fig. IsBiconnectedMap 3 (lists_in given.now.ends.now given.now.neighbours.now)) }
+    ensures figure { IfOk result (IsBarFigure (lists_in given.now.ends.now given.now.neighbours.now)) }
+    ensures failed { IfErr result (Fails (HasBarRoom given.now.ends.now given.now.neighbours.now (bars_in bars.now.y.now bars.now.x1.now bars.now.x2.now bars.now.column.now))
+        (BreaksFirst 3 (lists_in given.now.ends.now given.now.neighbours.now))) }
 {
-    let n = ends.len();
-    if y.len() != n || x1.len() != n || x2.len() != n {
+    let n = given.ends.len();
+    if bars.y.len() != n || bars.x1.len() != n || bars.x2.len() != n {
         return Err(Failure::BadArgument);
     }
-    let lists = lists_of(alloc, ends, neighbours)?;
-    if column.len() != lists.total() / 2 {
+    let lists = lists_of(given.alloc, given.ends, given.neighbours)?;
+    if bars.column.len() != lists.total() / 2 {
         return Err(Failure::BadArgument);
     }
-    let figure = bar_figure(alloc, &lists)?;
+    let figure = bar_figure(given.alloc, &lists)?;
     Ok(figure)
 }
 
@@ -147,7 +142,13 @@ pub extern "C" fn pigale_bars(
 ) -> u8
     ensures { Reports (AreDrawnBars ends.now neighbours.now (bars_in y.old x1.old x2.old column.old) (bars_in y.new x1.new x2.new column.new)) result found.new }
 {
-    match drawn(alloc, ends, neighbours, y, x1, x2, column) {
+    let given = MapArrays {
+        alloc,
+        ends,
+        neighbours,
+    };
+    let bars = BarArrays { y, x1, x2, column };
+    match drawn(&given, &bars) {
         Ok(fig) => {
             put_bars(&fig, y, x1, x2, column);
             report(Outcome::Served, found)

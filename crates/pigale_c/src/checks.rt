@@ -9,7 +9,7 @@ ghost use Rattle.pigale_c.specs.Judged.{IsBendVerdict, IsJudged, IsShaped, IsJud
 ghost use Rattle.pigale_c.specs.Failures.{Fails};
 ghost use Rattle.pigale_c.specs.Numbers.{Reports};
 
-use crate::arrays::{lists_of, points_of};
+use crate::arrays::{MapArrays, lists_of, points_of};
 use crate::outcome::{Failure, Numbers, Outcome, report};
 use convex_check::{ConvexVerdict, check_convex_points};
 use draw_check::{Verdict, check_points};
@@ -25,43 +25,30 @@ struct Drawing {
 }
 
 // Returns the map and the places of arrays.
-fn drawing_of(
-    alloc: Global,
-    ends: &[usize],
-    neighbours: &[u16],
-    x: &[i32],
-    y: &[i32],
-) -> Result<Drawing, Failure>
-    ensures map { IfOk result (λ drawing. drawing.map.lists ≡ lists_in ends.now neighbours.now) }
+fn drawing_of(given: &MapArrays<'_>, x: &[i32], y: &[i32]) -> Result<Drawing, Failure>
+    ensures map { IfOk result (λ drawing. drawing.map.lists ≡ lists_in given.now.ends.now given.now.neighbours.now) }
     ensures points { IfOk result (λ drawing. drawing.points ≡ points_in x.now y.now) }
     ensures places { IfOk result (λ drawing. HasPlaces drawing.map.lists drawing.points) }
-    ensures simple { IfOk result (λ drawing. first_fault (lists_in ends.now neighbours.now) ≡ None) }
-    ensures given { IfOk result (λ drawing. IsGivenDrawing ends.now neighbours.now x.now y.now) }
-    ensures failed { IfErr result (Fails (IsGivenDrawing ends.now neighbours.now x.now y.now)
-        (λ refusal. fault_refusal (lists_in ends.now neighbours.now) ≡ Some refusal)) }
+    ensures simple { IfOk result (λ drawing. first_fault (lists_in given.now.ends.now given.now.neighbours.now) ≡ None) }
+    ensures given { IfOk result (λ drawing. IsGivenDrawing given.now.ends.now given.now.neighbours.now x.now y.now) }
+    ensures failed { IfErr result (Fails (IsGivenDrawing given.now.ends.now given.now.neighbours.now x.now y.now)
+        (λ refusal. fault_refusal (lists_in given.now.ends.now given.now.neighbours.now) ≡ Some refusal)) }
 {
-    let lists = lists_of(alloc, ends, neighbours)?;
-    let points = points_of(alloc, ends.len(), x, y)?;
-    let map = HalfMap::from_rotations(alloc, &lists)?;
+    let lists = lists_of(given.alloc, given.ends, given.neighbours)?;
+    let points = points_of(given.alloc, given.ends.len(), x, y)?;
+    let map = HalfMap::from_rotations(given.alloc, &lists)?;
     Ok(Drawing { map, points })
 }
 
 // Returns the verdict on the drawing of arrays.
-fn judged(
-    alloc: Global,
-    ends: &[usize],
-    neighbours: &[u16],
-    x: &[i32],
-    y: &[i32],
-    corner: Point,
-) -> Result<Verdict, Failure>
-    ensures verdict { IfOk result (λ verdict. IsGivenDrawing ends.now neighbours.now x.now y.now
-        × (first_fault (lists_in ends.now neighbours.now) ≡ None)
-        × IsVerdict (lists_in ends.now neighbours.now) (points_in x.now y.now) corner.x corner.y verdict) }
-    ensures failed { IfErr result (Fails (IsGivenDrawing ends.now neighbours.now x.now y.now)
-        (λ refusal. fault_refusal (lists_in ends.now neighbours.now) ≡ Some refusal)) }
+fn judged(given: &MapArrays<'_>, x: &[i32], y: &[i32], corner: Point) -> Result<Verdict, Failure>
+    ensures verdict { IfOk result (λ verdict. IsGivenDrawing given.now.ends.now given.now.neighbours.now x.now y.now
+        × (first_fault (lists_in given.now.ends.now given.now.neighbours.now) ≡ None)
+        × IsVerdict (lists_in given.now.ends.now given.now.neighbours.now) (points_in x.now y.now) corner.x corner.y verdict) }
+    ensures failed { IfErr result (Fails (IsGivenDrawing given.now.ends.now given.now.neighbours.now x.now y.now)
+        (λ refusal. fault_refusal (lists_in given.now.ends.now given.now.neighbours.now) ≡ Some refusal)) }
 {
-    let drawing = drawing_of(alloc, ends, neighbours, x, y)?;
+    let drawing = drawing_of(given, x, y)?;
     Ok(check_points(&drawing.map, &drawing.points, corner))
 }
 
@@ -83,7 +70,12 @@ pub extern "C" fn pigale_check(
         x: width,
         y: height,
     };
-    match judged(alloc, ends, neighbours, x, y, corner) {
+    let given = MapArrays {
+        alloc,
+        ends,
+        neighbours,
+    };
+    match judged(&given, x, y, corner) {
         Ok(verdict) => report(Outcome::Drawing(verdict), found),
         Err(failure) => report(Outcome::Failed(failure), found),
     }
@@ -125,21 +117,19 @@ fn shaped(
 
 // Returns the outcome of the drawing of arrays that is to be convex.
 fn judged_convex(
-    alloc: Global,
-    ends: &[usize],
-    neighbours: &[u16],
+    given: &MapArrays<'_>,
     x: &[i32],
     y: &[i32],
     corner: Point,
 ) -> Result<Outcome, Failure>
-    ensures given { IfOk result (λ outcome. IsGivenDrawing ends.now neighbours.now x.now y.now) }
-    ensures simple { IfOk result (λ outcome. first_fault (lists_in ends.now neighbours.now) ≡ None) }
-    ensures outcome { IfOk result (IsShaped (lists_in ends.now neighbours.now) (points_in x.now y.now) corner.x corner.y) }
-    ensures failed { IfErr result (Fails (IsGivenDrawing ends.now neighbours.now x.now y.now)
-        (λ refusal. fault_refusal (lists_in ends.now neighbours.now) ≡ Some refusal)) }
+    ensures given { IfOk result (λ outcome. IsGivenDrawing given.now.ends.now given.now.neighbours.now x.now y.now) }
+    ensures simple { IfOk result (λ outcome. first_fault (lists_in given.now.ends.now given.now.neighbours.now) ≡ None) }
+    ensures outcome { IfOk result (IsShaped (lists_in given.now.ends.now given.now.neighbours.now) (points_in x.now y.now) corner.x corner.y) }
+    ensures failed { IfErr result (Fails (IsGivenDrawing given.now.ends.now given.now.neighbours.now x.now y.now)
+        (λ refusal. fault_refusal (lists_in given.now.ends.now given.now.neighbours.now) ≡ Some refusal)) }
 {
-    let drawing = drawing_of(alloc, ends, neighbours, x, y)?;
-    let outcome = shaped(alloc, &drawing.map, &drawing.points, corner)?;
+    let drawing = drawing_of(given, x, y)?;
+    let outcome = shaped(given.alloc, &drawing.map, &drawing.points, corner)?;
     Ok(outcome)
 }
 
@@ -161,7 +151,12 @@ pub extern "C" fn pigale_check_convex(
         x: width,
         y: height,
     };
-    match judged_convex(alloc, ends, neighbours, x, y, corner) {
+    let given = MapArrays {
+        alloc,
+        ends,
+        neighbours,
+    };
+    match judged_convex(&given, x, y, corner) {
         Ok(outcome) => report(outcome, found),
         Err(failure) => report(Outcome::Failed(failure), found),
     }

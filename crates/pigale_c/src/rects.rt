@@ -11,7 +11,7 @@ ghost use Rattle.pigale_c.specs.RectArrays.{rects_in, AreRectsFor, IsGivenRects,
 ghost use Rattle.pigale_c.specs.Failures.{Fails};
 ghost use Rattle.pigale_c.specs.Numbers.{Reports};
 
-use crate::arrays::lists_of;
+use crate::arrays::{MapArrays, lists_of};
 use crate::outcome::{Failure, Numbers, Outcome, report};
 use half_edges::HalfMap;
 use pg_plane::{Ints, RectFigure};
@@ -19,20 +19,23 @@ use rect_check::{RectVerdict, check_rects};
 use rect_dual::figures::rect_figure;
 use std::alloc::{AllocError, Global};
 
+// The arrays of rectangles, as they are given: left, right, lower and upper sides.
+#[derive(Clone, Copy)]
+struct RectArrays<'a> {
+    x1: &'a [i32],
+    x2: &'a [i32],
+    y1: &'a [i32],
+    y2: &'a [i32],
+}
+
 // Returns the rectangles of four arrays.
-fn rects_of(
-    alloc: Global,
-    x1: &[i32],
-    x2: &[i32],
-    y1: &[i32],
-    y2: &[i32],
-) -> Result<RectFigure, AllocError>
-    ensures { IfOk result (λ fig. fig ≡ rects_in x1.now x2.now y1.now y2.now) }
+fn rects_of(alloc: Global, rects: &RectArrays<'_>) -> Result<RectFigure, AllocError>
+    ensures { IfOk result (λ fig. fig ≡ rects_in rects.now.x1.now rects.now.x2.now rects.now.y1.now rects.now.y2.now) }
 {
-    let x1 = Ints::from_vec(x1.to_vec(alloc)?);
-    let x2 = Ints::from_vec(x2.to_vec(alloc)?);
-    let y1 = Ints::from_vec(y1.to_vec(alloc)?);
-    let y2 = Ints::from_vec(y2.to_vec(alloc)?);
+    let x1 = Ints::from_vec(rects.x1.to_vec(alloc)?);
+    let x2 = Ints::from_vec(rects.x2.to_vec(alloc)?);
+    let y1 = Ints::from_vec(rects.y1.to_vec(alloc)?);
+    let y2 = Ints::from_vec(rects.y2.to_vec(alloc)?);
     Ok(RectFigure { x1, x2, y1, y2 })
 }
 
@@ -44,23 +47,18 @@ fn are_rects(fig: &RectFigure, n: usize) -> bool
 }
 
 // Returns the verdict on rectangles of a map.
-fn judged(
-    alloc: Global,
-    ends: &[usize],
-    neighbours: &[u16],
-    fig: &RectFigure,
-) -> Result<RectVerdict, Failure>
-    ensures given { IfOk result (λ verdict. IsGivenRects ends.now neighbours.now fig.now) }
-    ensures simple { IfOk result (λ verdict. first_fault (lists_in ends.now neighbours.now) ≡ None) }
-    ensures verdict { IfOk result (IsRectVerdict (lists_in ends.now neighbours.now) fig.now) }
-    ensures failed { IfErr result (Fails (IsGivenRects ends.now neighbours.now fig.now)
-        (λ refusal. fault_refusal (lists_in ends.now neighbours.now) ≡ Some refusal)) }
+fn judged(given: &MapArrays<'_>, fig: &RectFigure) -> Result<RectVerdict, Failure>
+    ensures given { IfOk result (λ verdict. IsGivenRects given.now.ends.now given.now.neighbours.now fig.now) }
+    ensures simple { IfOk result (λ verdict. first_fault (lists_in given.now.ends.now given.now.neighbours.now) ≡ None) }
+    ensures verdict { IfOk result (IsRectVerdict (lists_in given.now.ends.now given.now.neighbours.now) fig.now) }
+    ensures failed { IfErr result (Fails (IsGivenRects given.now.ends.now given.now.neighbours.now fig.now)
+        (λ refusal. fault_refusal (lists_in given.now.ends.now given.now.neighbours.now) ≡ Some refusal)) }
 {
-    if !are_rects(fig, ends.len()) {
+    if !are_rects(fig, given.ends.len()) {
         return Err(Failure::BadArgument);
     }
-    let lists = lists_of(alloc, ends, neighbours)?;
-    let map = HalfMap::from_rotations(alloc, &lists)?;
+    let lists = lists_of(given.alloc, given.ends, given.neighbours)?;
+    let map = HalfMap::from_rotations(given.alloc, &lists)?;
     let verdict = check_rects(&map, fig);
     Ok(verdict)
 }
@@ -79,8 +77,14 @@ pub extern "C" fn pigale_check_rects(
 ) -> u8
     ensures { Reports (AreJudgedRects ends.now neighbours.now (rects_in x1.now x2.now y1.now y2.now)) result found.new }
 {
-    match rects_of(alloc, x1, x2, y1, y2) {
-        Ok(fig) => match judged(alloc, ends, neighbours, &fig) {
+    let given = MapArrays {
+        alloc,
+        ends,
+        neighbours,
+    };
+    let rects = RectArrays { x1, x2, y1, y2 };
+    match rects_of(alloc, &rects) {
+        Ok(fig) => match judged(&given, &fig) {
             Ok(verdict) => report(Outcome::Rects(verdict), found),
             Err(failure) => report(Outcome::Failed(failure), found),
         },
@@ -89,28 +93,20 @@ pub extern "C" fn pigale_check_rects(
 }
 
 // Returns the rectangles of a map, where there is room for them.
-fn drawn(
-    alloc: Global,
-    ends: &[usize],
-    neighbours: &[u16],
-    x1: &[i32],
-    x2: &[i32],
-    y1: &[i32],
-    y2: &[i32],
-) -> Result<RectFigure, Failure>
-    ensures shape { IfOk result (AreRectsFor (length ends.now)) }
-    ensures given { IfOk result (λ fig. IsGivenRects ends.now neighbours.now (rects_in x1.now x2.now y1.now y2.now)) }
-    ensures served { IfOk result (λ fig. IsRectMap (lists_in ends.now neighbours.now)) }
-    ensures figure { IfOk result (IsRectFigure (lists_in ends.now neighbours.now)) }
-    ensures failed { IfErr result (Fails (IsGivenRects ends.now neighbours.now (rects_in x1.now x2.now y1.now y2.now))
-        (BreaksRect (lists_in ends.now neighbours.now))) }
+fn drawn(given: &MapArrays<'_>, rects: &RectArrays<'_>) -> Result<RectFigure, Failure>
+    ensures shape { IfOk result (AreRectsFor (length given.now.ends.now)) }
+    ensures given { IfOk result (λ fig. IsGivenRects given.now.ends.now given.now.neighbours.now (rects_in rects.now.x1.now rects.now.x2.now rects.now.y1.now rects.now.y2.now)) }
+    ensures served { IfOk result (λ fig. IsRectMap (lists_in given.now.ends.now given.now.neighbours.now)) }
+    ensures figure { IfOk result (IsRectFigure (lists_in given.now.ends.now given.now.neighbours.now)) }
+    ensures failed { IfErr result (Fails (IsGivenRects given.now.ends.now given.now.neighbours.now (rects_in rects.now.x1.now rects.now.x2.now rects.now.y1.now rects.now.y2.now))
+        (BreaksRect (lists_in given.now.ends.now given.now.neighbours.now))) }
 {
-    let n = ends.len();
-    if x1.len() != n || x2.len() != n || y1.len() != n || y2.len() != n {
+    let n = given.ends.len();
+    if rects.x1.len() != n || rects.x2.len() != n || rects.y1.len() != n || rects.y2.len() != n {
         return Err(Failure::BadArgument);
     }
-    let lists = lists_of(alloc, ends, neighbours)?;
-    match rect_figure(alloc, &lists) {
+    let lists = lists_of(given.alloc, given.ends, given.neighbours)?;
+    match rect_figure(given.alloc, &lists) {
         Ok(figure) => Ok(figure),
         Err(unserved) => Err(Failure::from(unserved)),
     }
@@ -144,7 +140,13 @@ pub extern "C" fn pigale_rect(
 ) -> u8
     ensures { Reports (AreDrawnRects ends.now neighbours.now (rects_in x1.old x2.old y1.old y2.old) (rects_in x1.new x2.new y1.new y2.new)) result found.new }
 {
-    match drawn(alloc, ends, neighbours, x1, x2, y1, y2) {
+    let given = MapArrays {
+        alloc,
+        ends,
+        neighbours,
+    };
+    let rects = RectArrays { x1, x2, y1, y2 };
+    match drawn(&given, &rects) {
         Ok(fig) => {
             put_rects(&fig, x1, x2, y1, y2);
             report(Outcome::Served, found)
