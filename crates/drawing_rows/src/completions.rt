@@ -7,8 +7,14 @@ use conn_parts::plane_map;
 use half_edges::{HalfMap, Rotations};
 use row_texts::lists::{SomeLists, put_lists};
 use row_texts::refusal::tell_no_memory;
-use row_texts::text::{put, put_one};
+use row_texts::reply::Reply;
 use std::alloc::Global;
+
+// Writes the numbers of vertices and edges of a map.
+fn put_size(map: &HalfMap, out: &mut Reply) {
+    out.put_one("n", u64::from(map.n()));
+    out.put_one(" m", u64::from(map.m()));
+}
 
 // Whether the entries of `old` stand in `new` in the same order.
 fn is_kept(old: &[u16], new: &[u16]) -> bool {
@@ -31,21 +37,19 @@ fn are_kept(old: &Rotations, new: &Rotations) -> bool {
     true
 }
 
-// The size of a triangulation, and whether the old lists are in the new ones.
-fn put_size(old: &Rotations, new: &Rotations, tri: &HalfMap, out: &mut String) {
-    put_one("n", u64::from(tri.n()), out);
-    put_one(" m", u64::from(tri.m()), out);
-    put(if are_kept(old, new) { " kept" } else { " lost" }, out);
-}
-
-/// The lists of a triangulation; or its size, and whether the old lists are in the new ones.
-pub fn answer(alloc: Global, call: &str, old: &Rotations, tri: &HalfMap, out: &mut String) {
-    match tri.rotations(alloc) {
+/// Writes the lists of a triangulation; or its size, and whether the old lists are in the new ones.
+pub fn answer(call: &str, old: &Rotations, tri: &HalfMap, out: &mut Reply) {
+    match tri.rotations(out.alloc) {
         Ok(new) => {
             if call == "lists" {
                 put_lists(&new, out);
             } else {
-                put_size(old, &new, tri, out);
+                put_size(tri, out);
+                out.put(if are_kept(old, &new) {
+                    " kept"
+                } else {
+                    " lost"
+                });
             }
         }
         Err(_) => tell_no_memory(out),
@@ -63,24 +67,12 @@ fn plane_of(alloc: Global, given: &SomeLists) -> Option<HalfMap>
     }
 }
 
-// The numbers of vertices and edges of a map with edges put in until all its faces are triangles.
-fn put_completed(alloc: Global, map: HalfMap, out: &mut String)
-    requires plane { IsPlane map.lists }
-    requires some { 3 ≤ vertex_count map.lists }
-{
-    match triangulate(alloc, map) {
-        Ok(tri) => {
-            put_one("n", u64::from(tri.n()), out);
-            put_one(" m", u64::from(tri.m()), out);
-        }
-        Err(_) => tell_no_memory(out),
-    }
-}
-
 /// Writes how many vertices and edges the map of lists has once it is completed by itself.
-pub fn alone(alloc: Global, given: &SomeLists, out: &mut String) {
-    match plane_of(alloc, given) {
-        Some(map) => put_completed(alloc, map, out),
-        None => {}
+pub fn alone(given: &SomeLists, out: &mut Reply) {
+    if let Some(map) = plane_of(out.alloc, given) {
+        match triangulate(out.alloc, map) {
+            Ok(tri) => put_size(&tri, out),
+            Err(_) => tell_no_memory(out),
+        }
     }
 }

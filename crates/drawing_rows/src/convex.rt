@@ -14,7 +14,8 @@ use pg_plane::GridFigure;
 use row_texts::lists::SomeLists;
 use row_texts::points::put_points;
 use row_texts::refusal::tell_no_memory;
-use row_texts::text::{put, put_number, put_one, put_whole};
+use row_texts::reply::Reply;
+use row_texts::rows::Row;
 use std::alloc::{AllocError, Global};
 
 // The map of lists, if it is three-connected and of genus zero.
@@ -84,19 +85,6 @@ fn coordinates(figure: &GridFigure, v: u16) -> [i64; 3] {
     ]
 }
 
-// Whether the regions of a vertex are its coordinates.
-fn agrees(alloc: Global, map: &HalfMap, wood: &ConvexWood, figure: &GridFigure, v: u16) -> bool
-    requires plane { IsPlane map.now.lists }
-    requires three { IsThreeConnected map.now.lists }
-    requires wood { (base : Dart) × IsWoodIn map.now base wood.now }
-    requires vertex { v < length map.now.lists }
-{
-    match regions(alloc, map, wood, VertexId(v)) {
-        Ok(regions) => regions == coordinates(figure, v),
-        Err(_) => false,
-    }
-}
-
 // The first vertex whose regions are not its coordinates.
 fn first_other(alloc: Global, map: &HalfMap, wood: &ConvexWood, figure: &GridFigure) -> Option<u16>
     requires plane { IsPlane map.now.lists }
@@ -104,47 +92,29 @@ fn first_other(alloc: Global, map: &HalfMap, wood: &ConvexWood, figure: &GridFig
     requires wood { (base : Dart) × IsWoodIn map.now base wood.now }
 {
     for v in 0..map.n() {
-        if !agrees(alloc, map, wood, figure, v) {
-            return Some(v);
+        match regions(alloc, map, wood, VertexId(v)) {
+            Ok(regions) if regions == coordinates(figure, v) => {}
+            _ => return Some(v),
         }
     }
     None
 }
 
-// Whether the regions of all vertices are their coordinates.
-fn put_compared(
-    alloc: Global,
-    map: &HalfMap,
-    wood: &ConvexWood,
-    figure: &GridFigure,
-    out: &mut String,
-)
+// Compares regions and coordinates of all vertices.
+fn put_compared(map: &HalfMap, wood: &ConvexWood, figure: &GridFigure, out: &mut Reply)
     requires plane { IsPlane map.now.lists }
     requires three { IsThreeConnected map.now.lists }
     requires wood { (base : Dart) × IsWoodIn map.now base wood.now }
 {
-    put_number(u64::from(map.n()), out);
-    match first_other(alloc, map, wood, figure) {
-        Some(v) => put_one(" vertices, not at", u64::from(v), out),
-        None => put(" vertices, all", out),
+    out.put_number(u64::from(map.n()));
+    match first_other(out.alloc, map, wood, figure) {
+        Some(v) => out.put_one(" vertices, not at", u64::from(v)),
+        None => out.put(" vertices, all"),
     }
 }
 
-// Compares regions and coordinates in the drawing over the base of the wood.
-fn compared(alloc: Global, map: &HalfMap, wood: &ConvexWood, base: DartId, out: &mut String)
-    requires plane { IsPlane map.now.lists }
-    requires three { IsThreeConnected map.now.lists }
-    requires wood { (base : Dart) × IsWoodIn map.now base wood.now }
-    requires base { IsLive map.now base.0 }
-{
-    match convex_draw(alloc, map, base) {
-        Ok(figure) => put_compared(alloc, map, wood, &figure, out),
-        Err(_) => tell_no_memory(out),
-    }
-}
-
-// The regions of a vertex, if it is one.
-fn put_region(alloc: Global, map: &HalfMap, wood: &ConvexWood, v: u16, out: &mut String)
+// Writes the regions of a vertex, if it is one.
+fn put_region(map: &HalfMap, wood: &ConvexWood, v: u16, out: &mut Reply)
     requires plane { IsPlane map.now.lists }
     requires three { IsThreeConnected map.now.lists }
     requires wood { (base : Dart) × IsWoodIn map.now base wood.now }
@@ -152,102 +122,67 @@ fn put_region(alloc: Global, map: &HalfMap, wood: &ConvexWood, v: u16, out: &mut
     if v >= map.n() {
         return;
     }
-    if let Ok(counts) = regions(alloc, map, wood, VertexId(v)) {
-        put_whole(counts[0], out);
-        put(" ", out);
-        put_whole(counts[1], out);
-        put(" ", out);
-        put_whole(counts[2], out);
+    if let Ok(counts) = regions(out.alloc, map, wood, VertexId(v)) {
+        out.put_whole(counts[0]);
+        out.put(" ");
+        out.put_whole(counts[1]);
+        out.put(" ");
+        out.put_whole(counts[2]);
     }
 }
 
-// The vertex to which a dart leads, if there is a dart.
-fn put_head(map: &HalfMap, found: Option<DartId>, out: &mut String) {
-    match found {
-        Some(d) if map.is_live(d) => put_number(u64::from(map.head(d).0), out),
-        _ => put("-", out),
-    }
-}
-
-// The vertices to which the edges lead along an axis, and the root.
-fn put_heads(map: &HalfMap, wood: &ConvexWood, axis: Axis, out: &mut String) {
+// Writes the vertices to which the edges lead along an axis, and the root.
+fn put_heads(map: &HalfMap, wood: &ConvexWood, axis: Axis, out: &mut Reply) {
     for v in 0..wood.n() {
-        put_head(map, wood.out(axis, VertexId(v)), out);
-        put(" ", out);
+        match wood.out(axis, VertexId(v)) {
+            Some(d) if map.is_live(d) => out.put_number(u64::from(map.head(d).0)),
+            _ => out.put("-"),
+        }
+        out.put(" ");
     }
-    put_one("to", u64::from(wood.root(axis).0), out);
-    put("; ", out);
+    out.put_one("to", u64::from(wood.root(axis).0));
+    out.put("; ");
 }
 
-// The vertices to which the edges lead along each axis, and the roots.
-fn put_all_heads(map: &HalfMap, wood: &ConvexWood, out: &mut String) {
-    put_heads(map, wood, Axis::One, out);
-    put_heads(map, wood, Axis::Two, out);
-    put_heads(map, wood, Axis::Three, out);
-}
-
-// The answer to a row on a wood.
-fn of_wood(
-    alloc: Global,
-    call: &str,
-    map: &HalfMap,
-    base: DartId,
-    wood: &ConvexWood,
-    v: u16,
-    out: &mut String,
-)
-    requires plane { IsPlane map.now.lists }
-    requires three { IsThreeConnected map.now.lists }
-    requires base { IsLive map.now base.0 }
-    requires wood { (base : Dart) × IsWoodIn map.now base wood.now }
-{
-    match call {
-        "regions" => compared(alloc, map, wood, base, out),
-        "region" => put_region(alloc, map, wood, v, out),
-        _ => put_all_heads(map, wood, out),
-    }
-}
-
-// Answers a row on the wood over a base.
-fn over_wood(alloc: Global, call: &str, map: &HalfMap, base: DartId, v: u16, out: &mut String)
+// Writes what a row asks of the wood over a base: all regions beside the coordinates, those of a vertex, or the edges.
+fn of_wood(row: &Row<'_>, map: &HalfMap, base: DartId, out: &mut Reply)
     requires plane { IsPlane map.now.lists }
     requires three { IsThreeConnected map.now.lists }
     requires base { IsLive map.now base.0 }
 {
-    match wood_over(alloc, map, base) {
-        Ok(wood) => of_wood(alloc, call, map, base, &wood, v, out),
+    match wood_over(out.alloc, map, base) {
+        Ok(wood) if row.call == "regions" => match convex_draw(out.alloc, map, base) {
+            Ok(figure) => put_compared(map, &wood, &figure, out),
+            Err(_) => tell_no_memory(out),
+        },
+        Ok(wood) if row.call == "region" => put_region(map, &wood, row.number(1), out),
+        Ok(wood) => {
+            put_heads(map, &wood, Axis::One, out);
+            put_heads(map, &wood, Axis::Two, out);
+            put_heads(map, &wood, Axis::Three, out);
+        }
         Err(_) => tell_no_memory(out),
     }
 }
 
-// The drawing over a base.
-fn drawing(alloc: Global, map: &HalfMap, base: DartId, out: &mut String)
-    requires plane { IsPlane map.now.lists }
-    requires three { IsThreeConnected map.now.lists }
-    requires base { IsLive map.now base.0 }
-{
-    match convex_draw(alloc, map, base) {
-        Ok(figure) => put_points(&figure.points, usize::MAX, out),
-        Err(_) => tell_no_memory(out),
-    }
-}
-
-// The answer to a row on a map.
-fn of_block(alloc: Global, call: &str, map: &HalfMap, v: u16, out: &mut String)
+// Answers a row on the drawing of a map, or on its wood.
+fn of_block(row: &Row<'_>, map: &HalfMap, out: &mut Reply)
     requires plane { IsPlane map.now.lists }
     requires three { IsThreeConnected map.now.lists }
 {
     match base_of(map) {
-        Some(base) if call == "drawing" => drawing(alloc, map, base, out),
-        Some(base) => over_wood(alloc, call, map, base, v, out),
+        Some(base) if row.call == "drawing" => match convex_draw(out.alloc, map, base) {
+            Ok(figure) => put_points(&figure.points, usize::MAX, out),
+            Err(_) => tell_no_memory(out),
+        },
+        Some(base) => of_wood(row, map, base, out),
         None => {}
     }
 }
 
-/// The answer to a row on convex drawings.
-pub fn answer(alloc: Global, call: &str, given: &SomeLists, v: u16, out: &mut String) {
-    match block_of(alloc, given) {
-        Some(map) => of_block(alloc, call, &map, v, out),
-        None => {}
+/// Answers a row on convex drawings.
+pub fn answer(row: &Row<'_>, given: &SomeLists, out: &mut Reply) {
+    if let Some(map) = block_of(out.alloc, given) {
+        of_block(row, &map, out);
     }
 }

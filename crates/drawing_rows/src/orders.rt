@@ -6,21 +6,23 @@ ghost use Rattle.plane_laws.specs.Triangulations.{IsTriangulation};
 ghost use Rattle.canon_order.specs.Orders.{IsCanonicalOrder, vertices_of};
 
 use crate::{completions, trees, verdicts, woods};
-use canon_order::{Order, canon_order};
+use canon_order::{Order, base_order, canon_order};
 use fpp_shift::shift_draw;
 use grid_figures::drawing_orders::{DrawingOrder, drawing_order};
 use grid_figures::schnyder_figures::schnyder_figure;
 use grid_figures::schnyder_grid::wood_draw;
 use grid_figures::shift_figures::shift_figure;
-use half_edges::{DartId, HalfMap, Rotations};
+use half_edges::{DartId, HalfMap};
 use pg_plane::GridFigure;
 use refusals::Unserved;
 use row_texts::darts::dart_between;
 use row_texts::lists::{SomeLists, put_counts, put_vertices};
 use row_texts::points::put_points;
 use row_texts::refusal::{tell_no_memory, tell_unserved};
-use row_texts::text::{number, pair, part, put, put_whole};
-use std::alloc::Global;
+use row_texts::reply::Reply;
+use row_texts::rows::Row;
+use row_texts::text::pair;
+use std::alloc::{AllocError, Global};
 
 // The triangulation of lists, and a canonical order of it for a dart from vertex 0.
 fn order_of(alloc: Global, given: &SomeLists) -> Result<DrawingOrder, Unserved>
@@ -33,48 +35,23 @@ fn order_of(alloc: Global, given: &SomeLists) -> Result<DrawingOrder, Unserved>
 }
 
 // An order, and the place of each vertex in it.
-fn put_order(order: &Order, out: &mut String) {
+fn put_order(order: &Order, out: &mut Reply) {
     put_vertices(&order.at, usize::MAX, out);
-    put(", places ", out);
+    out.put(", places ");
     put_counts(&order.rank, out);
 }
 
-// The size of a figure's grid, and its first points, so many.
-fn put_front(figure: &GridFigure, most: u16, out: &mut String) {
-    put_whole(i64::from(figure.width), out);
-    put(" by ", out);
-    put_whole(i64::from(figure.height), out);
-    put(", ", out);
-    put_points(&figure.points, usize::from(most), out);
-}
-
-// Writes the front of the figure of a record, or why it has none.
-fn put_served(figure: Result<GridFigure, Unserved>, most: u16, out: &mut String) {
+// Writes the size of the grid of a record's figure and its first points, so many; or why it has none.
+fn put_served(figure: Result<GridFigure, Unserved>, most: u16, out: &mut Reply) {
     match figure {
-        Ok(figure) => put_front(&figure, most, out),
+        Ok(figure) => {
+            out.put_whole(i64::from(figure.width));
+            out.put(" by ");
+            out.put_whole(i64::from(figure.height));
+            out.put(", ");
+            put_points(&figure.points, usize::from(most), out);
+        }
         Err(unserved) => tell_unserved(unserved, out),
-    }
-}
-
-// The drawing by the shift method.
-fn shift(alloc: Global, tri: &HalfMap, order: &Order, out: &mut String)
-    requires triangulation { IsTriangulation tri.now.lists }
-    requires order { (base : Dart) × IsCanonicalOrder tri.now.lists base (vertices_of order.now) }
-{
-    match shift_draw(alloc, tri, order) {
-        Ok(figure) => put_points(&figure.points, usize::MAX, out),
-        Err(_) => tell_no_memory(out),
-    }
-}
-
-// The drawing by Schnyder's coordinates.
-fn schnyder(alloc: Global, tri: &HalfMap, order: &Order, out: &mut String)
-    requires triangulation { IsTriangulation tri.now.lists }
-    requires order { (base : Dart) × IsCanonicalOrder tri.now.lists base (vertices_of order.now) }
-{
-    match wood_draw(alloc, tri, order) {
-        Ok(figure) => put_points(&figure.points, usize::MAX, out),
-        Err(_) => tell_no_memory(out),
     }
 }
 
@@ -89,91 +66,82 @@ fn base_of(map: &HalfMap, ends: (u16, u16)) -> Option<DartId>
     }
 }
 
-// The order of a triangulation for a base dart.
-fn put_order_for(alloc: Global, tri: &HalfMap, base: DartId, out: &mut String)
+// Returns the order of a triangulation for a dart by its lists alone.
+fn order_by_lists(alloc: Global, tri: &HalfMap, base: DartId) -> Result<Order, AllocError>
     requires triangulation { IsTriangulation tri.now.lists }
     requires live { IsLive tri.now base.0 }
 {
-    match canon_order(alloc, tri, base) {
-        Ok(order) => put_order(&order, out),
-        Err(_) => tell_no_memory(out),
-    }
+    tri.facts();
+    let lists = tri.rotations(alloc)?;
+    let order = base_order(alloc, &lists, tri.tail(base).0, tri.head(base).0)?;
+    Ok(order)
 }
 
-// The order of a triangulation for the dart between two vertices, if there is one.
-fn order_for(alloc: Global, tri: &HalfMap, ends: (u16, u16), out: &mut String)
+// Writes the order of a triangulation for the dart between two vertices, by the map or by its lists, if there is one.
+fn order_for(row: &Row<'_>, tri: &HalfMap, out: &mut Reply)
     requires triangulation { IsTriangulation tri.now.lists }
 {
-    match base_of(tri, ends) {
-        Some(base) => put_order_for(alloc, tri, base, out),
-        None => {}
+    if let Some(base) = base_of(tri, pair(row.arg(1))) {
+        if row.call == "order for" {
+            match canon_order(out.alloc, tri, base) {
+                Ok(order) => put_order(&order, out),
+                Err(_) => tell_no_memory(out),
+            }
+        } else {
+            match order_by_lists(out.alloc, tri, base) {
+                Ok(order) => put_order(&order, out),
+                Err(_) => tell_no_memory(out),
+            }
+        }
     }
 }
 
-// The answer to a row on drawings by an order.
-fn of_order(alloc: Global, call: &str, tri: &HalfMap, order: &Order, out: &mut String)
+// Writes an order, the points of a drawing by it, or the tree of offsets.
+fn of_order(call: &str, tri: &HalfMap, order: &Order, out: &mut Reply)
     requires triangulation { IsTriangulation tri.now.lists }
     requires order { (base : Dart) × IsCanonicalOrder tri.now.lists base (vertices_of order.now) }
 {
     match call {
         "order" => put_order(order, out),
-        "shift" => shift(alloc, tri, order, out),
-        "schnyder" => schnyder(alloc, tri, order, out),
-        _ => trees::answer(alloc, call == "offsets", tri, order, out),
+        "shift" => match shift_draw(out.alloc, tri, order) {
+            Ok(figure) => put_points(&figure.points, usize::MAX, out),
+            Err(_) => tell_no_memory(out),
+        },
+        "schnyder" => match wood_draw(out.alloc, tri, order) {
+            Ok(figure) => put_points(&figure.points, usize::MAX, out),
+            Err(_) => tell_no_memory(out),
+        },
+        _ => trees::answer(call == "offsets", tri, order, out),
     }
 }
 
-// The answer to a row on a triangulation and its order.
-fn of_found(
-    alloc: Global,
-    kind: (&str, &str),
-    lists: &Rotations,
-    found: &DrawingOrder,
-    args: &[&str],
-    out: &mut String,
-)
-    requires triangulation { IsTriangulation found.now.tri.lists }
-    requires order { (base : Dart) × IsCanonicalOrder found.now.tri.lists base (vertices_of found.now.order) }
-    requires based { (base : Dart) × HasDart found.now.tri.lists base.0 base.1 × IsCanonicalOrder found.now.tri.lists base (vertices_of found.now.order) }
-{
-    let (tri, order) = (&found.tri, &found.order);
-    match kind.0 {
-        "draw" if kind.1 == "order for" => order_for(alloc, tri, pair(part(args, 1)), out),
-        "draw" => of_order(alloc, kind.1, tri, order, out),
-        "wood" => woods::answer(alloc, kind.1, tri, order, number(part(args, 1)), out),
-        "complete" => completions::answer(alloc, kind.1, lists, tri, out),
-        _ => verdicts::faces(alloc, tri, args, out),
-    }
-}
-
-// Like [`of_found`], where the lists may have no order.
-fn over_order(
-    alloc: Global,
-    kind: (&str, &str),
-    given: &SomeLists,
-    args: &[&str],
-    out: &mut String,
-) {
-    match order_of(alloc, given) {
-        Ok(found) => of_found(alloc, kind, &given.lists, &found, args, out),
+// Answers a row on a triangulation of lists and its order, where these have one.
+fn over_order(row: &Row<'_>, given: &SomeLists, out: &mut Reply) {
+    match order_of(out.alloc, given) {
+        Ok(found) => {
+            let (tri, order) = (&found.tri, &found.order);
+            match row.family {
+                "draw" if row.call == "order for" || row.call == "order by lists" => {
+                    order_for(row, tri, out);
+                }
+                "draw" => of_order(row.call, tri, order, out),
+                "wood" => woods::answer(row, tri, order, out),
+                "complete" => completions::answer(row.call, &given.lists, tri, out),
+                _ => verdicts::faces(row, tri, out),
+            }
+        }
         Err(unserved) => tell_unserved(unserved, out),
     }
 }
 
-/// The answer to a row on orders and what stands on them.
-pub fn answer(
-    alloc: Global,
-    kind: (&str, &str),
-    given: &SomeLists,
-    args: &[&str],
-    out: &mut String,
-) {
-    let most = number(part(args, 1));
-    match kind.1 {
-        "shift figure" => put_served(shift_figure(alloc, &given.lists), most, out),
-        "schnyder figure" => put_served(schnyder_figure(alloc, &given.lists), most, out),
-        "alone" => completions::alone(alloc, given, out),
-        "node" => trees::node(alloc, number(part(args, 0)), most, out),
-        _ => over_order(alloc, kind, given, args, out),
+/// Answers a row on orders and what stands on them.
+pub fn answer(row: &Row<'_>, given: &SomeLists, out: &mut Reply) {
+    let most = row.number(1);
+    match row.call {
+        "shift figure" => put_served(shift_figure(out.alloc, &given.lists), most, out),
+        "schnyder figure" => put_served(schnyder_figure(out.alloc, &given.lists), most, out),
+        "alone" => completions::alone(given, out),
+        "node" => trees::node(row.number(0), most, out),
+        _ => over_order(row, given, out),
     }
 }

@@ -7,10 +7,11 @@ ghost use Rattle.schnyder_wood.specs.Parents.{count_in, IsInnerIn, IsWoodOf};
 
 use canon_order::Order;
 use half_edges::{HalfMap, VertexId};
-use pg_plane::{GridFigure, Points};
+use pg_plane::Points;
 use row_texts::points::put_points;
 use row_texts::refusal::tell_no_memory;
-use row_texts::text::{put, put_number, put_one};
+use row_texts::reply::Reply;
+use row_texts::rows::Row;
 use schnyder_grid::schnyder_draw;
 use schnyder_wood::schnyder_regions::region_count;
 use schnyder_wood::{Colour, Wood, path_len, wood};
@@ -29,30 +30,23 @@ fn wood_of(alloc: Global, tri: &HalfMap, order: &Order) -> Result<Wood, AllocErr
     Ok(found)
 }
 
-// The parent of a vertex in a colour, and the length of its path.
-fn put_parent(found: &Wood, colour: Colour, v: VertexId, out: &mut String)
+// Writes the parents of a vertex with the lengths of its paths, and the roots of the wood.
+fn put_parents(found: &Wood, v: VertexId, out: &mut Reply)
     requires { v.0 < count_in found.now }
 {
-    match found.parent(colour, v) {
-        Some(u) => {
-            put_number(u64::from(u.0), out);
-            put_one(" at", u64::from(path_len(found, v, colour)), out);
-            put(", ", out);
+    for colour in COLOURS {
+        match found.parent(colour, v) {
+            Some(u) => {
+                out.put_number(u64::from(u.0));
+                out.put_one(" at", u64::from(path_len(found, v, colour)));
+                out.put(", ");
+            }
+            None => out.put("root, "),
         }
-        None => put("root, ", out),
     }
-}
-
-// The parents of a vertex, and the roots of the wood.
-fn put_parents(found: &Wood, v: VertexId, out: &mut String)
-    requires { v.0 < count_in found.now }
-{
+    out.put("roots");
     for colour in COLOURS {
-        put_parent(found, colour, v, out);
-    }
-    put("roots", out);
-    for colour in COLOURS {
-        put_one("", u64::from(found.root(colour).0), out);
+        out.put_one("", u64::from(found.root(colour).0));
     }
 }
 
@@ -67,17 +61,17 @@ fn regions(alloc: Global, tri: &HalfMap, found: &Wood, v: VertexId) -> Result<[u
     Ok([one, two, three])
 }
 
-// The regions of a vertex, if it is an inner one.
-fn put_regions(alloc: Global, tri: &HalfMap, found: &Wood, v: VertexId, out: &mut String)
+// Writes the regions of a vertex, if it is an inner one.
+fn put_regions(tri: &HalfMap, found: &Wood, v: VertexId, out: &mut Reply)
     requires vertex { v.0 < count_in found.now }
     requires wood { (base : Dart) × HasDart tri.now.lists base.0 base.1 × IsWoodOf tri.now.lists base found.now }
 {
     if found.parent(Colour::One, v).is_some() {
-        match regions(alloc, tri, found, v) {
+        match regions(out.alloc, tri, found, v) {
             Ok(counts) => {
-                put_number(u64::from(counts[0]), out);
-                put_one("", u64::from(counts[1]), out);
-                put_one("", u64::from(counts[2]), out);
+                out.put_number(u64::from(counts[0]));
+                out.put_one("", u64::from(counts[1]));
+                out.put_one("", u64::from(counts[2]));
             }
             Err(_) => tell_no_memory(out),
         }
@@ -124,60 +118,35 @@ fn standing(alloc: Global, tri: &HalfMap, found: &Wood, points: &Points) -> u64
     count
 }
 
-// The first points of a drawing, and how many inner vertices stand where the regions say.
-fn put_drawn(
-    alloc: Global,
-    tri: &HalfMap,
-    found: &Wood,
-    figure: &GridFigure,
-    most: u16,
-    out: &mut String,
-)
-    requires { (base : Dart) × HasDart tri.now.lists base.0 base.1 × IsWoodOf tri.now.lists base found.now }
-{
-    put_points(&figure.points, usize::from(most), out);
-    put_one(",", standing(alloc, tri, found, &figure.points), out);
-    put(" by regions", out);
-}
-
-// The drawing by a wood.
-fn drawing(alloc: Global, tri: &HalfMap, found: &Wood, most: u16, out: &mut String)
+// Writes the first points of the drawing by a wood, and how many inner vertices stand where the regions say.
+fn put_drawing(tri: &HalfMap, found: &Wood, most: u16, out: &mut Reply)
     requires triangulation { IsTriangulation tri.now.lists }
     requires wood { (base : Dart) × HasDart tri.now.lists base.0 base.1 × IsWoodOf tri.now.lists base found.now }
 {
-    match schnyder_draw(alloc, tri, found) {
-        Ok(figure) => put_drawn(alloc, tri, found, &figure, most, out),
+    match schnyder_draw(out.alloc, tri, found) {
+        Ok(figure) => {
+            put_points(&figure.points, usize::from(most), out);
+            let count = standing(out.alloc, tri, found, &figure.points);
+            out.put_one(",", count);
+            out.put(" by regions");
+        }
         Err(_) => tell_no_memory(out),
     }
 }
 
-// The answer to a row on a wood, with a number: that of a vertex, or how many points are told.
-fn of_wood(alloc: Global, call: &str, tri: &HalfMap, found: &Wood, number: u16, out: &mut String)
-    requires triangulation { IsTriangulation tri.now.lists }
-    requires wood { (base : Dart) × HasDart tri.now.lists base.0 base.1 × IsWoodOf tri.now.lists base found.now }
-{
-    match call {
-        "parents" if number < found.n() => put_parents(found, VertexId(number), out),
-        "region" if number < found.n() => put_regions(alloc, tri, found, VertexId(number), out),
-        _ => drawing(alloc, tri, found, number, out),
-    }
-}
-
-/// The answer to a row on the wood of an order.
-pub fn answer(
-    alloc: Global,
-    call: &str,
-    tri: &HalfMap,
-    order: &Order,
-    number: u16,
-    out: &mut String,
-)
+/// Answers a row on the wood of an order, with a number: that of a vertex, or how many points are told.
+pub fn answer(row: &Row<'_>, tri: &HalfMap, order: &Order, out: &mut Reply)
     requires triangulation { IsTriangulation tri.now.lists }
     requires order { (base : Dart) × IsCanonicalOrder tri.now.lists base (vertices_of order.now) }
     requires based { (base : Dart) × HasDart tri.now.lists base.0 base.1 × IsCanonicalOrder tri.now.lists base (vertices_of order.now) }
 {
-    match wood_of(alloc, tri, order) {
-        Ok(found) => of_wood(alloc, call, tri, &found, number, out),
+    let number = row.number(1);
+    match wood_of(out.alloc, tri, order) {
+        Ok(found) => match row.call {
+            "parents" if number < found.n() => put_parents(&found, VertexId(number), out),
+            "region" if number < found.n() => put_regions(tri, &found, VertexId(number), out),
+            _ => put_drawing(tri, &found, number, out),
+        },
         Err(_) => tell_no_memory(out),
     }
 }

@@ -10,9 +10,10 @@ use embed_search::{find_witness, planar_lists};
 use euler_faces::count_lists;
 use graph6_text::{Graph, read_line};
 use half_edges::{Rotations, VertexId};
-use kuratowski::{Witness, WitnessVerdict, check_witness};
+use kuratowski::{WitnessVerdict, check_witness};
 use left_right_lists::{has_map, map_of_graph};
-use row_texts::text::{number, part, put, put_one};
+use row_texts::reply::Reply;
+use row_texts::rows::Row;
 use std::alloc::{AllocError, Global};
 
 // The text where there is no answer, or a wrong one.
@@ -62,34 +63,19 @@ fn is_drawn(alloc: Global, graph: &Graph, lists: &Rotations) -> bool {
     }
 }
 
-// The kind of a witness, if the check takes it.
-fn checked(graph: &Graph, witness: &Witness) -> &'static str {
-    match check_witness(graph, witness) {
-        WitnessVerdict::Yes => name_of(witness.kind),
-        _ => WRONG,
-    }
-}
-
-// The kind of the witness that the search finds, if the check takes it.
-fn witnessed(alloc: Global, graph: &Graph) -> &'static str {
-    match find_witness(alloc, graph) {
-        Ok(Some(witness)) => checked(graph, &witness),
-        _ => WRONG,
-    }
-}
-
-// Names the find of the searches: a map, a subdivision of one kind or the other, or something wrong.
+// Names the find of the searches: a map, a subdivision of one kind or the other that the check takes, or something
+// wrong.
 fn searched(alloc: Global, graph: &Graph) -> &'static str {
     match planar_lists(alloc, graph) {
-        Ok(Some(lists)) => {
-            if is_drawn(alloc, graph, &lists) {
-                "map"
-            } else {
-                WRONG
-            }
-        }
-        Ok(None) => witnessed(alloc, graph),
-        Err(_) => WRONG,
+        Ok(Some(lists)) if is_drawn(alloc, graph, &lists) => "map",
+        Ok(None) => match find_witness(alloc, graph) {
+            Ok(Some(witness)) => match check_witness(graph, &witness) {
+                WitnessVerdict::Yes => name_of(witness.kind),
+                _ => WRONG,
+            },
+            _ => WRONG,
+        },
+        _ => WRONG,
     }
 }
 
@@ -139,28 +125,24 @@ fn both_ways(alloc: Global, graph: &Graph) -> (&'static str, &'static str)
     (word_of(embed(alloc, graph)), slow_word(alloc, graph))
 }
 
-// The answers by both ways.
-fn put_both(alloc: Global, graph: &Graph, out: &mut String)
-    requires { 3 ≤ graph.now.n }
-{
-    let (quick, slow) = both_ways(alloc, graph);
-    put(quick, out);
-    put(", by sides ", out);
-    put(slow, out);
-}
-
-/// Appends the find of the searches for `graph`, or the answers by both ways.
-pub fn of_graph(alloc: Global, call: &str, graph: &Graph, out: &mut String) {
+/// Writes the find of the searches for `graph`, or the answers by both ways.
+pub fn of_graph(call: &str, graph: &Graph, out: &mut Reply) {
     if call == "graph" {
-        put(searched(alloc, graph), out);
+        out.put(searched(out.alloc, graph));
     } else if graph.n() >= 3 {
-        put_both(alloc, graph, out);
+        let (quick, slow) = both_ways(out.alloc, graph);
+        out.put(quick);
+        out.put(", by sides ");
+        out.put(slow);
     }
 }
 
-// How many graphs have a map, how many a witness, and of how many something is wrong.
+// How many graphs have a map, how many a witness, and of how many something is wrong: by the searches alone, or by both
+// ways.
 #[derive(Clone, Copy)]
 struct Tally {
+    alloc: Global,
+    both: bool,
     planar: u32,
     other: u32,
     wrong: u32,
@@ -178,57 +160,38 @@ impl Tally {
         }
     }
 
-    // Counts a graph, by the searches alone or by both ways.
-    fn add_graph(&mut self, alloc: Global, graph: &Graph, slow: bool) {
-        if slow && graph.n() >= 3 {
-            self.add(both_ways(alloc, graph));
-        } else {
-            let found = searched(alloc, graph);
-            self.add((found, found));
-        }
-    }
-
     // Counts the graph of a line.
-    fn add_line(&mut self, alloc: Global, line: &[u8], slow: bool) {
-        match read_line(alloc, line) {
-            Ok(graph) => self.add_graph(alloc, &graph, slow),
+    fn add_line(&mut self, line: &[u8]) {
+        match read_line(self.alloc, line) {
+            Ok(graph) if self.both && graph.n() >= 3 => self.add(both_ways(self.alloc, &graph)),
+            Ok(graph) => {
+                let found = searched(self.alloc, &graph);
+                self.add((found, found));
+            }
             Err(_) => self.add((WRONG, WRONG)),
         }
     }
 
     // Counts the graphs whose lines begin with a byte and have so many bits behind it, and so many bytes in all.
-    fn add_lines(&mut self, alloc: Global, first: u8, bits: u32, length: usize, slow: bool)
+    fn add_lines(&mut self, first: u8, bits: u32, length: usize)
         requires bits { bits ≤ 15 }
         requires length { length ≤ 4 }
     {
         for code in 0..1u32 << bits {
             let line = line_of(first, code << (18 - bits));
-            self.add_line(alloc, &line[..length], slow);
+            self.add_line(&line[..length]);
         }
     }
 
     // Counts all graphs of so many vertices, from three to six.
-    fn add_all(&mut self, alloc: Global, n: u16, slow: bool) {
+    fn add_all(&mut self, n: u16) {
         match n {
-            3 => self.add_lines(alloc, b'B', 3, 2, slow),
-            4 => self.add_lines(alloc, b'C', 6, 2, slow),
-            5 => self.add_lines(alloc, b'D', 10, 3, slow),
-            6 => self.add_lines(alloc, b'E', 15, 4, slow),
+            3 => self.add_lines(b'B', 3, 2),
+            4 => self.add_lines(b'C', 6, 2),
+            5 => self.add_lines(b'D', 10, 3),
+            6 => self.add_lines(b'E', 15, 4),
             _ => {}
         }
-    }
-
-    // Counts the graphs of some lines, by both ways.
-    fn add_each(&mut self, alloc: Global, text: &str) {
-        for line in text.split(' ') {
-            self.add_line(alloc, line.as_bytes(), true);
-        }
-    }
-
-    fn put(&self, out: &mut String) {
-        put_one("planar", u64::from(self.planar), out);
-        put_one(" other", u64::from(self.other), out);
-        put_one(" wrong", u64::from(self.wrong), out);
     }
 }
 
@@ -242,25 +205,31 @@ fn line_of(first: u8, bits: u32) -> [u8; 4] {
     [first, byte_of(bits, 12), byte_of(bits, 6), byte_of(bits, 0)]
 }
 
-// Counts the graphs of a row.
-fn count_graphs(alloc: Global, call: &str, text: &str, out: &mut String) {
+// Counts the graphs of a row, and writes the counts.
+fn put_tally(row: &Row<'_>, out: &mut Reply) {
     let mut told = Tally {
+        alloc: out.alloc,
+        both: row.call != "all",
         planar: 0,
         other: 0,
         wrong: 0,
     };
-    match call {
-        "all" => told.add_all(alloc, number(text), false),
-        "all both" => told.add_all(alloc, number(text), true),
-        _ => told.add_each(alloc, text),
+    if row.call == "all" || row.call == "all both" {
+        told.add_all(row.number(0));
+    } else {
+        for line in row.arg(0).split(' ') {
+            told.add_line(line.as_bytes());
+        }
     }
-    told.put(out);
+    out.put_one("planar", u64::from(told.planar));
+    out.put_one(" other", u64::from(told.other));
+    out.put_one(" wrong", u64::from(told.wrong));
 }
 
-/// The answer to a row on searches.
-pub fn answer(alloc: Global, call: &str, args: &[&str], out: &mut String) {
-    match call {
-        "graph" | "both" => over_line(alloc, ("search", call), args, out),
-        _ => count_graphs(alloc, call, part(args, 0), out),
+/// Answers a row on searches.
+pub fn answer(row: &Row<'_>, out: &mut Reply) {
+    match row.call {
+        "graph" | "both" => over_line(row, out),
+        _ => put_tally(row, out),
     }
 }

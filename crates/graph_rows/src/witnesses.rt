@@ -9,7 +9,8 @@ use graph6_text::Graph;
 use kuratowski::{Kind, Witness, WitnessVerdict, check_witness};
 use map_lists::Ends;
 use row_texts::refusal::tell_no_memory;
-use row_texts::text::{part, put, put_one};
+use row_texts::reply::Reply;
+use row_texts::rows::Row;
 use row_texts::witnesses::witness_of;
 use std::alloc::{AllocError, Global};
 
@@ -22,20 +23,20 @@ pub fn name_of(kind: Kind) -> &'static str {
 }
 
 // The verdict on a witness.
-fn put_verdict(graph: &Graph, witness: &Witness, out: &mut String) {
+fn put_verdict(graph: &Graph, witness: &Witness, out: &mut Reply) {
     match check_witness(graph, witness) {
-        WitnessVerdict::BadShape => put("BadShape", out),
-        WitnessVerdict::BadBranch(i) => put_one("BadBranch", i as u64, out),
+        WitnessVerdict::BadShape => out.put("BadShape"),
+        WitnessVerdict::BadBranch(i) => out.put_one("BadBranch", i as u64),
         WitnessVerdict::NotEdge(p, i) => {
-            put_one("NotEdge", p as u64, out);
-            put_one("", i as u64, out);
+            out.put_one("NotEdge", p as u64);
+            out.put_one("", i as u64);
         }
         WitnessVerdict::Shared(p, q, v) => {
-            put_one("Shared", p as u64, out);
-            put_one("", q as u64, out);
-            put_one("", u64::from(v.0), out);
+            out.put_one("Shared", p as u64);
+            out.put_one("", q as u64);
+            out.put_one("", u64::from(v.0));
         }
-        WitnessVerdict::Yes => put("Yes", out),
+        WitnessVerdict::Yes => out.put("Yes"),
     }
 }
 
@@ -55,43 +56,34 @@ fn lifted(
     }
 }
 
-// The kind, the number of paths and of their vertices, of a witness, and what the check says of it.
-fn put_witness(graph: &Graph, witness: &Witness, out: &mut String) {
-    put(name_of(witness.kind), out);
-    put_one(",", witness.paths.len() as u64, out);
-    put_one(" paths of", witness.paths.total() as u64, out);
-    put(" vertices, ", out);
-    put_verdict(graph, witness, out);
-}
-
-// A witness of the graph with an edge contracted, lifted.
-fn put_lifted(graph: &Graph, found: Result<Option<Witness>, AllocError>, out: &mut String) {
-    match found {
-        Ok(Some(new)) => put_witness(graph, &new, out),
+// Writes the kind, the number of paths and of their vertices, of the witness for a graph that comes of one for the
+// graph with an edge contracted, and what the check says of it.
+fn put_lifted(graph: &Graph, e: Ends, witness: &Witness, out: &mut Reply)
+    requires { has_edge graph.now e.a.0 e.b.0 ≡ true }
+{
+    match lifted(out.alloc, graph, e, witness) {
+        Ok(Some(new)) => {
+            out.put(name_of(new.kind));
+            out.put_one(",", new.paths.len() as u64);
+            out.put_one(" paths of", new.paths.total() as u64);
+            out.put(" vertices, ");
+            put_verdict(graph, &new, out);
+        }
         Ok(None) => {}
         Err(_) => tell_no_memory(out),
     }
 }
 
-// A witness of the graph with an edge contracted, lifted, if that is an edge.
-fn lift_over(alloc: Global, graph: &Graph, ends: &str, witness: &Witness, out: &mut String) {
-    match edge_of(graph, ends) {
-        Some(e) => put_lifted(graph, lifted(alloc, graph, e, witness), out),
-        None => {}
-    }
-}
-
-/// The answer to a row on witnesses.
-pub fn answer(alloc: Global, call: &str, graph: &Graph, args: &[&str], out: &mut String) {
-    let (first, second) = (part(args, 1), part(args, 2));
-    match call {
-        "check" => put_verdict(graph, &witness_of(alloc, first, second), out),
-        _ => lift_over(
-            alloc,
+/// Answers a row on witnesses.
+pub fn answer(row: &Row<'_>, graph: &Graph, out: &mut Reply) {
+    if row.call == "check" {
+        put_verdict(graph, &witness_of(out.alloc, row.arg(1), row.arg(2)), out);
+    } else if let Some(e) = edge_of(graph, row.arg(1)) {
+        put_lifted(
             graph,
-            first,
-            &witness_of(alloc, second, part(args, 3)),
+            e,
+            &witness_of(out.alloc, row.arg(2), row.arg(3)),
             out,
-        ),
+        );
     }
 }

@@ -3,131 +3,113 @@ ghost use Rattle.std.specs.Prelude.{◌≡◌, ◌<◌, length};
 ghost use Rattle.map_theory.specs.Maps.{vertex_count};
 
 use conn_parts::{Parts, components};
-use euler_faces::{Counter, EulerCount, Faces, count_lists, euler, faces};
-use half_edges::{DartId, FaceId, HalfMap, MapFault, VertexId};
+use euler_faces::{Counter, EulerCount, Faces, count_lists, euler, euler_by_components, faces};
+use half_edges::{FaceId, HalfMap, MapFault, VertexId};
 use row_texts::lists::{SomeLists, lists_of};
 use row_texts::refusal::{tell_fault, tell_no_memory};
-use row_texts::text::{put, put_gap, put_letter, put_number, put_one};
+use row_texts::reply::Reply;
+use row_texts::rows::Row;
 use std::alloc::{AllocError, Global};
 
-// The vertex that a dart of the walk of a face leaves, or a mark where the dart has another face.
-fn put_tail(map: &HalfMap, d: DartId, stands: bool, out: &mut String) {
-    if stands && map.is_live(d) {
-        put_number(u64::from(map.tail(d).0), out);
-    } else {
-        put_letter('!', out);
-    }
-}
-
-// The vertices that the walk of a face leaves.
-fn put_walk(map: &HalfMap, found: &Faces, f: u32, out: &mut String)
+// Writes the vertices that the walk of a face leaves, with a mark where a dart has another face.
+fn put_walk(map: &HalfMap, found: &Faces, f: u32, out: &mut Reply)
     requires { f < length found.now }
 {
     let walk = found.walk(FaceId(f));
     for i in 0..walk.len() {
         let d = walk[i];
-        put_gap(i, out);
-        put_tail(map, d, found.of_dart(d) == FaceId(f), out);
+        out.put_gap(i);
+        if found.of_dart(d) == FaceId(f) && map.is_live(d) {
+            out.put_number(u64::from(map.tail(d).0));
+        } else {
+            out.put_letter('!');
+        }
     }
 }
 
-// The walks of the faces of a map.
-fn put_walks(map: &HalfMap, found: &Faces, out: &mut String) {
+// Writes the walks of the faces of a map.
+fn put_walks(map: &HalfMap, found: &Faces, out: &mut Reply) {
     for f in 0..found.count() {
         if 0 < f {
-            put_letter(';', out);
+            out.put_letter(';');
         }
         put_walk(map, found, f, out);
     }
 }
 
-// Writes the walks that the call gives, or that there was not enough memory.
-fn put_faces(map: &HalfMap, found: Result<Faces, AllocError>, out: &mut String) {
-    match found {
-        Ok(found) => put_walks(map, &found, out),
-        Err(_) => tell_no_memory(out),
-    }
-}
-
-fn put_count(count: EulerCount, out: &mut String) {
-    put_one("n", u64::from(count.n), out);
-    put_one(" m", u64::from(count.m), out);
-    put_one(" f", u64::from(count.f), out);
-    put_one(" c", u64::from(count.c), out);
-    put_one(" genus", u64::from(count.genus()), out);
+fn put_count(count: EulerCount, out: &mut Reply) {
+    out.put_one("n", u64::from(count.n));
+    out.put_one(" m", u64::from(count.m));
+    out.put_one(" f", u64::from(count.f));
+    out.put_one(" c", u64::from(count.c));
+    out.put_one(" genus", u64::from(count.genus()));
 }
 
 // The counts of lists, or why they are no map.
-fn put_counted(found: Result<EulerCount, MapFault>, out: &mut String) {
+fn put_counted(found: Result<EulerCount, MapFault>, out: &mut Reply) {
     match found {
         Ok(count) => put_count(count, out),
         Err(fault) => tell_fault(fault, out),
     }
 }
 
-// The counts of lists by a counter that may have counted others before.
-fn count_next(alloc: Global, counter: &mut Counter, text: &str, out: &mut String) {
-    match lists_of(alloc, text) {
-        Some(given) => put_counted(counter.count(&given.lists), out),
-        None => {}
-    }
-}
-
-// The counts of some lists by one counter.
-fn count_all(alloc: Global, args: &[&str], out: &mut String) {
-    let mut counter = Counter::new(alloc);
+// Writes the counts of some lists by one counter.
+fn count_all(args: &[&str], out: &mut Reply) {
+    let mut counter = Counter::new(out.alloc);
     for i in 0..args.len() {
         if 0 < i {
-            put(", ", out);
+            out.put(", ");
         }
-        count_next(alloc, &mut counter, args[i], out);
+        if let Some(given) = lists_of(out.alloc, args[i]) {
+            put_counted(counter.count(&given.lists), out);
+        }
     }
 }
 
-// The counts of lists, and of their map.
-fn both(alloc: Global, given: &SomeLists, map: &HalfMap, out: &mut String) {
-    put_counted(count_lists(alloc, &given.lists), out);
-    put(", of the map ", out);
-    match euler(alloc, map) {
+// Returns the counts of a map whose components are counted first.
+fn by_components(alloc: Global, map: &HalfMap) -> Result<EulerCount, AllocError> {
+    let found = components(alloc, map)?;
+    euler_by_components(alloc, map, found.count())
+}
+
+// Writes the counts of lists, and of their map.
+fn put_both(given: &SomeLists, map: &HalfMap, out: &mut Reply) {
+    put_counted(count_lists(out.alloc, &given.lists), out);
+    out.put(", of the map ");
+    match euler(out.alloc, map) {
+        Ok(count) => put_count(count, out),
+        Err(_) => tell_no_memory(out),
+    }
+    out.put(", by its components ");
+    match by_components(out.alloc, map) {
         Ok(count) => put_count(count, out),
         Err(_) => tell_no_memory(out),
     }
 }
 
-// The number of each vertex's component.
-fn put_numbers_of(map: &HalfMap, found: &Parts, out: &mut String)
+// Writes the number of components, and the number of each vertex's.
+fn put_parts(map: &HalfMap, found: &Parts, out: &mut Reply)
     requires { length found.now.numbers ≡ vertex_count map.now.lists }
 {
+    out.put_number(u64::from(found.count()));
+    out.put_letter(':');
     for v in 0..map.n() {
-        put_one("", u64::from(found.of(VertexId(v))), out);
+        out.put_one("", u64::from(found.of(VertexId(v))));
     }
 }
 
-// The number of components, and the number of each vertex's.
-fn put_parts(alloc: Global, map: &HalfMap, out: &mut String) {
-    match components(alloc, map) {
-        Ok(found) => {
-            put_number(u64::from(found.count()), out);
-            put_letter(':', out);
-            put_numbers_of(map, &found, out);
-        }
-        Err(_) => tell_no_memory(out),
-    }
-}
-
-/// The answer to a row on counts.
-pub fn answer(
-    alloc: Global,
-    call: &str,
-    given: &SomeLists,
-    map: &HalfMap,
-    args: &[&str],
-    out: &mut String,
-) {
-    match call {
-        "faces" => put_faces(map, faces(alloc, map), out),
-        "lists" => count_all(alloc, args, out),
-        "both" => both(alloc, given, map, out),
-        _ => put_parts(alloc, map, out),
+/// Answers a row on counts.
+pub fn answer(row: &Row<'_>, given: &SomeLists, map: &HalfMap, out: &mut Reply) {
+    match row.call {
+        "faces" => match faces(out.alloc, map) {
+            Ok(found) => put_walks(map, &found, out),
+            Err(_) => tell_no_memory(out),
+        },
+        "lists" => count_all(row.args, out),
+        "both" => put_both(given, map, out),
+        _ => match components(out.alloc, map) {
+            Ok(found) => put_parts(map, &found, out),
+            Err(_) => tell_no_memory(out),
+        },
     }
 }

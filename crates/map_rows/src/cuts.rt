@@ -2,12 +2,12 @@
 use graph_search::map_cuts::{cut_vertex, separating_pair};
 use half_edges::HalfMap;
 use row_texts::refusal::{put_pair, put_vertex};
-use std::alloc::Global;
+use row_texts::reply::Reply;
 
 /// The least cut vertex of a map, or its least separating pair.
-pub fn answer(alloc: Global, call: &str, map: &HalfMap, out: &mut String) {
+pub fn answer(call: &str, map: &HalfMap, out: &mut Reply) {
     match call {
-        "vertex" => put_vertex(cut_vertex(alloc, map), out),
-        _ => put_pair(separating_pair(alloc, map), out),
+        "vertex" => put_vertex(cut_vertex(out.alloc, map), out),
+        _ => put_pair(separating_pair(out.alloc, map), out),
     }
 }

@@ -1,5 +1,5 @@
 //! Edges that come and go.
-ghost use Rattle.std.specs.Prelude.{◌≡◌, ◌<◌, Some, IfSome, length};
+ghost use Rattle.std.specs.Prelude.{◌≡◌, ◌<◌, Some, IfSome};
 ghost use Rattle.map_theory.specs.Maps.{vertex_count};
 ghost use Rattle.half_edges.specs.Edges.{IsCorner, corner_place};
 
@@ -7,8 +7,8 @@ use half_edges::{Corner, DartId, HalfMap, Rotations, VertexId};
 use row_texts::darts::{dart_between, put_dart};
 use row_texts::lists::put_lists;
 use row_texts::refusal::tell_no_memory;
-use row_texts::text::{halves, number, pair, put, put_number, put_numbers, put_one};
-use std::alloc::Global;
+use row_texts::reply::Reply;
+use row_texts::text::{halves, number, pair};
 
 // The corner at a vertex behind an entry of its list, or at an isolated one.
 fn corner_at(map: &HalfMap, v: u16, entry: Option<u16>) -> Option<Corner>
@@ -62,25 +62,6 @@ fn join_places(map: &mut HalfMap, places: &str) -> Option<DartId> {
     join(map, place_of(first), place_of(second))
 }
 
-// Puts in an edge.
-fn add(map: &mut HalfMap, places: &str, out: &mut String) {
-    match join_places(map, places) {
-        Some(d) => put_dart("", map, d, out),
-        None => put("refused", out),
-    }
-}
-
-// Takes out an edge, and tells its ends.
-fn remove(map: &mut HalfMap, (u, v): (u16, u16), out: &mut String) {
-    match dart_between(map, u, v) {
-        Some(d) if map.is_live(d) => {
-            let removed = map.remove_edge(d);
-            put_numbers(&[removed.a.0, removed.b.0], out);
-        }
-        _ => put("refused", out),
-    }
-}
-
 // Puts an edge in and takes it out again, if it can be.
 fn turn(map: &mut HalfMap, places: &str) -> bool {
     match join_places(map, places) {
@@ -93,15 +74,15 @@ fn turn(map: &mut HalfMap, places: &str) -> bool {
 }
 
 // Does a thousand turns, and writes how many there were.
-fn turns(map: &mut HalfMap, places: &str, out: &mut String) {
+fn turns(map: &mut HalfMap, places: &str, out: &mut Reply) {
     let mut count: u64 = 0;
     for _ in 0..1000 {
         if turn(map, places) {
             count = count.wrapping_add(1);
         }
     }
-    put_number(count, out);
-    put(" turns", out);
+    out.put_number(count);
+    out.put(" turns");
 }
 
 // The entry of vertex 0's list behind which the next one comes.
@@ -116,7 +97,7 @@ fn first_entry(map: &HalfMap) -> Option<u16> {
 }
 
 // Puts an edge in from vertex 0 to each other vertex, which is isolated.
-fn spokes(map: &mut HalfMap, out: &mut String) {
+fn spokes(map: &mut HalfMap, out: &mut Reply) {
     let mut count: u64 = 0;
     for v in 1..map.n() {
         let behind = first_entry(map);
@@ -124,70 +105,59 @@ fn spokes(map: &mut HalfMap, out: &mut String) {
             count = count.wrapping_add(1);
         }
     }
-    put_number(count, out);
-    put(" spokes", out);
+    out.put_number(count);
+    out.put(" spokes");
 }
 
-// Makes room for edges.
-fn reserve(map: &mut HalfMap, count: u16, out: &mut String) {
-    match map.reserve_edges(u32::from(count)) {
-        Ok(()) => put("room", out),
-        Err(_) => tell_no_memory(out),
-    }
-}
-
-// One edit of a map.
-fn edit(map: &mut HalfMap, (word, rest): (&str, &str), out: &mut String) {
+// Edits a map once.
+fn edit(map: &mut HalfMap, text: &str, out: &mut Reply) {
+    let (word, rest) = halves(text);
     match word {
-        "reserve" => reserve(map, number(rest), out),
-        "add" => add(map, rest, out),
-        "remove" => remove(map, pair(rest), out),
+        "reserve" => match map.reserve_edges(u32::from(number(rest))) {
+            Ok(()) => out.put("room"),
+            Err(_) => tell_no_memory(out),
+        },
+        "add" => match join_places(map, rest) {
+            Some(d) => put_dart("", map, d, out),
+            None => out.put("refused"),
+        },
+        "remove" => {
+            let (u, v) = pair(rest);
+            match dart_between(map, u, v) {
+                Some(d) if map.is_live(d) => {
+                    let removed = map.remove_edge(d);
+                    out.put_numbers(&[removed.a.0, removed.b.0]);
+                }
+                _ => out.put("refused"),
+            }
+        }
         "turn" => turns(map, rest, out),
         _ => spokes(map, out),
     }
 }
 
-// The size of lists, and the first and the last of them.
-fn put_ends(lists: &Rotations, n: usize, out: &mut String)
-    requires some { 0 < n }
-    requires all { n ≡ length lists.now }
-{
-    put_number(lists.total() as u64, out);
-    put_one(" entries,", lists.list(0).len() as u64, out);
-    put_one(" of vertex 0 and", lists.list(n - 1).len() as u64, out);
-    put(" of the last", out);
-}
-
-// Lists, or of large ones their size, and the first and the last.
-fn put_some(lists: &Rotations, out: &mut String) {
+// Writes lists, or of large ones their size, and the first and the last.
+fn put_some(lists: &Rotations, out: &mut Reply) {
     let n = lists.len();
     if n < 20 {
-        put_lists(lists, out);
-    } else {
-        put_ends(lists, n, out);
+        return put_lists(lists, out);
     }
+    out.put_number(lists.total() as u64);
+    out.put_one(" entries,", lists.list(0).len() as u64);
+    out.put_one(" of vertex 0 and", lists.list(n - 1).len() as u64);
+    out.put(" of the last");
 }
 
-// The lists of a map.
-fn put_left(alloc: Global, map: &HalfMap, out: &mut String) {
-    match map.rotations(alloc) {
+/// Edits a map, writes after each edit how much room it leaves, and the lists in the end.
+pub fn answer(map: &mut HalfMap, edits: &str, out: &mut Reply) {
+    for text in edits.split(';') {
+        edit(map, text, out);
+        out.put_one(" (m", u64::from(map.m()));
+        out.put_one(" spare", u64::from(map.spare()));
+        out.put("), ");
+    }
+    match map.rotations(out.alloc) {
         Ok(lists) => put_some(&lists, out),
         Err(_) => tell_no_memory(out),
     }
-}
-
-// Appends how much room an edit leaves.
-fn put_room(map: &HalfMap, out: &mut String) {
-    put_one(" (m", u64::from(map.m()), out);
-    put_one(" spare", u64::from(map.spare()), out);
-    put("), ", out);
-}
-
-/// The edits of a map, and its lists after them.
-pub fn answer(alloc: Global, map: &mut HalfMap, edits: &str, out: &mut String) {
-    for text in edits.split(';') {
-        edit(map, halves(text), out);
-        put_room(map, out);
-    }
-    put_left(alloc, map, out);
 }

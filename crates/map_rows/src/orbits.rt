@@ -3,26 +3,23 @@ ghost use Rattle.std.specs.Prelude.{◌<◌, length};
 
 use pg_perm::{Perm, PermFault};
 use row_texts::refusal::tell_no_memory;
-use row_texts::text::{number, pair, part, put, put_flag, put_letter, put_number, put_one};
-use std::alloc::{AllocError, Global};
+use row_texts::reply::Reply;
+use row_texts::rows::Row;
+use row_texts::text::{number, pair};
+use std::alloc::Global;
 
-// The number of orbits that a call gives.
-fn put_orbit_count(count: Result<u32, AllocError>, out: &mut String) {
-    match count {
-        Ok(count) => put_one(",", u64::from(count), out),
+// Writes a permutation by its length, its images and the number of its orbits.
+fn put_perm(perm: &Perm, out: &mut Reply) {
+    out.put_number(u64::from(perm.len()));
+    out.put(" numbers,");
+    for i in 0..perm.len() {
+        out.put_one("", u64::from(perm.image(i)));
+    }
+    match perm.orbit_count(out.alloc) {
+        Ok(count) => out.put_one(",", u64::from(count)),
         Err(_) => tell_no_memory(out),
     }
-    put(" orbits", out);
-}
-
-// A permutation by its length, its images and the number of its orbits.
-fn put_perm(alloc: Global, perm: &Perm, out: &mut String) {
-    put_number(u64::from(perm.len()), out);
-    put(" numbers,", out);
-    for i in 0..perm.len() {
-        put_one("", u64::from(perm.image(i)), out);
-    }
-    put_orbit_count(perm.orbit_count(alloc), out);
+    out.put(" orbits");
 }
 
 // The images that a text names.
@@ -34,36 +31,29 @@ fn images_in(alloc: Global, text: &str) -> Vec<u32> {
     images
 }
 
-// The permutation that leaves each number where it is.
-fn identity(alloc: Global, count: u16, out: &mut String) {
-    match Perm::identity(alloc, u32::from(count)) {
-        Ok(perm) => put_perm(alloc, &perm, out),
-        Err(_) => tell_no_memory(out),
-    }
-}
-
-fn put_fault(fault: PermFault, out: &mut String) {
+// Writes the fault of images.
+fn put_fault(fault: PermFault, out: &mut Reply) {
     match fault {
-        PermFault::OutOfRange(i) => put_one("OutOfRange", u64::from(i), out),
+        PermFault::OutOfRange(i) => out.put_one("OutOfRange", u64::from(i)),
         PermFault::Repeated(i, j) => {
-            put_one("Repeated", u64::from(i), out);
-            put_one("", u64::from(j), out);
+            out.put_one("Repeated", u64::from(i));
+            out.put_one("", u64::from(j));
         }
         PermFault::NoMemory => tell_no_memory(out),
     }
 }
 
 // Whether two numbers lie in one orbit.
-fn put_same(perm: &Perm, (a, b): (u16, u16), out: &mut String) {
-    put_letter(' ', out);
+fn put_same(perm: &Perm, (a, b): (u16, u16), out: &mut Reply) {
+    out.put_letter(' ');
     if u32::from(a) < perm.len() && u32::from(b) < perm.len() {
-        put_flag(perm.same_orbit(u32::from(a), u32::from(b)), out);
+        out.put_flag(perm.same_orbit(u32::from(a), u32::from(b)));
     }
 }
 
-// A permutation, and whether pairs of numbers lie in one orbit.
-fn put_orbits(alloc: Global, perm: &Perm, pairs: &str, out: &mut String) {
-    put_perm(alloc, perm, out);
+// Writes a permutation, and whether pairs of numbers lie in one orbit.
+fn put_orbits(perm: &Perm, pairs: &str, out: &mut Reply) {
+    put_perm(perm, out);
     for text in pairs.split(';') {
         put_same(perm, pair(text), out);
     }
@@ -76,38 +66,35 @@ fn swap(perm: &mut Perm, (a, b): (u16, u16)) {
     }
 }
 
-// A permutation and whether pairs lie in one orbit; and the same after an exchange of two images, if one is named.
-fn put_both(alloc: Global, perm: &mut Perm, args: &[&str], out: &mut String) {
-    put_orbits(alloc, perm, part(args, 1), out);
-    if args.len() > 2 {
-        swap(perm, pair(part(args, 2)));
-        put("; ", out);
-        put_orbits(alloc, perm, part(args, 3), out);
-    }
-}
-
-// The orbits of the permutation with these images, or the fault of the images.
-fn orbits(alloc: Global, images: &[u32], args: &[&str], out: &mut String)
+// Writes the orbits of the permutation with these images and whether pairs lie in one of them, and again after an
+// exchange of two images, if one is named; or the fault of the images.
+fn put_all(images: &[u32], row: &Row<'_>, out: &mut Reply)
     requires { length images.now < 65536 }
 {
-    match Perm::of_images(alloc, images) {
-        Ok(mut perm) => put_both(alloc, &mut perm, args, out),
+    match Perm::of_images(out.alloc, images) {
+        Ok(mut perm) => {
+            put_orbits(&perm, row.arg(1), out);
+            if row.args.len() > 2 {
+                swap(&mut perm, pair(row.arg(2)));
+                out.put("; ");
+                put_orbits(&perm, row.arg(3), out);
+            }
+        }
         Err(fault) => put_fault(fault, out),
     }
 }
 
-// Writes the orbits of a permutation whose images are few.
-fn few_orbits(alloc: Global, images: &[u32], args: &[&str], out: &mut String) {
-    if images.len() < 65536 {
-        orbits(alloc, images, args, out);
+/// Answers a row on permutations.
+pub fn answer(row: &Row<'_>, out: &mut Reply) {
+    if row.call == "identity" {
+        match Perm::identity(out.alloc, u32::from(row.number(0))) {
+            Ok(perm) => put_perm(&perm, out),
+            Err(_) => tell_no_memory(out),
+        }
+        return;
     }
-}
-
-/// The answer to a row on permutations.
-pub fn answer(alloc: Global, call: &str, args: &[&str], out: &mut String) {
-    let text = part(args, 0);
-    match call {
-        "identity" => identity(alloc, number(text), out),
-        _ => few_orbits(alloc, &images_in(alloc, text), args, out),
+    let images = images_in(out.alloc, row.arg(0));
+    if images.len() < 65536 {
+        put_all(&images, row, out);
     }
 }

@@ -1,5 +1,5 @@
 //! Bytes as texts, with `;` for the end of a line.
-use crate::text::put_letter;
+use crate::reply::Reply;
 use std::alloc::Global;
 
 /// The bytes of a text, with 10 for each `;`.
@@ -12,8 +12,8 @@ pub fn lines_of(alloc: Global, text: &str) -> Vec<u8> {
 }
 
 /// Writes bytes as a text, with `;` for the end of a line.
-pub fn put_bytes(bytes: &[u8], out: &mut String) {
+pub fn put_bytes(bytes: &[u8], out: &mut Reply) {
     for byte in bytes {
-        put_letter(if *byte == 10 { ';' } else { char::from(*byte) }, out);
+        out.put_letter(if *byte == 10 { ';' } else { char::from(*byte) });
     }
 }

@@ -2,7 +2,7 @@
 ghost use Rattle.std.specs.Prelude.{◌≡◌, IfSome, Some};
 ghost use Rattle.half_edges.specs.Map.{dart_at};
 
-use crate::text::{put, put_number, put_one};
+use crate::reply::Reply;
 use half_edges::{DartId, HalfMap, VertexId};
 
 /// The dart of a map from one vertex to another.
@@ -17,12 +17,12 @@ pub fn dart_between(map: &HalfMap, u: u16, v: u16) -> Option<DartId>
 }
 
 /// A dart by its ends, behind a text.
-pub fn put_dart(text: &str, map: &HalfMap, d: DartId, out: &mut String) {
-    put(text, out);
+pub fn put_dart(text: &str, map: &HalfMap, d: DartId, out: &mut Reply) {
+    out.put(text);
     if map.is_live(d) {
-        put_number(u64::from(map.tail(d).0), out);
-        put_one("", u64::from(map.head(d).0), out);
+        out.put_number(u64::from(map.tail(d).0));
+        out.put_one("", u64::from(map.head(d).0));
     } else {
-        put("none", out);
+        out.put("none");
     }
 }

@@ -8,6 +8,7 @@ pub mod darts;
 pub mod lists;
 pub mod points;
 pub mod refusal;
+pub mod reply;
 pub mod rows;
 pub mod text;
 pub mod witnesses;

@@ -1,7 +1,8 @@
 //! Lists as texts, and families of maps.
 ghost use Rattle.std.specs.Prelude.{◌<◌, length};
 
-use crate::text::{halves, numbers, pair, put_gap, put_letter, put_number, put_numbers};
+use crate::reply::Reply;
+use crate::text::{halves, numbers, pair};
 use half_edges::{Counts, Rotations, VertexList};
 use map_gen::stacked;
 use map_lists::ItemLists;
@@ -135,27 +136,27 @@ pub fn lists_of(alloc: Global, text: &str) -> Option<SomeLists> {
 }
 
 /// Writes lists as a text.
-pub fn put_lists(lists: &Rotations, out: &mut String) {
+pub fn put_lists(lists: &Rotations, out: &mut Reply) {
     for v in 0..lists.len() {
         if 0 < v {
-            put_letter(';', out);
+            out.put_letter(';');
         }
-        put_numbers(lists.list(v), out);
+        out.put_numbers(lists.list(v));
     }
 }
 
 /// Writes the first vertices, at most so many, with spaces between them.
-pub fn put_vertices(list: &VertexList, most: usize, out: &mut String) {
+pub fn put_vertices(list: &VertexList, most: usize, out: &mut Reply) {
     for i in 0..list.len().min(most) {
-        put_gap(i, out);
-        put_number(u64::from(list.get(i).0), out);
+        out.put_gap(i);
+        out.put_number(u64::from(list.get(i).0));
     }
 }
 
 /// Writes numbers with spaces between them.
-pub fn put_counts(list: &Counts, out: &mut String) {
+pub fn put_counts(list: &Counts, out: &mut Reply) {
     for i in 0..list.len() {
-        put_gap(i, out);
-        put_number(u64::from(list.get(i)), out);
+        out.put_gap(i);
+        out.put_number(u64::from(list.get(i)));
     }
 }

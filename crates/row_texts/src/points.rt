@@ -3,7 +3,8 @@ ghost use Rattle.std.specs.Prelude.{◌<◌, ℕ, IsTrue, length, All};
 ghost use Rattle.pg_plane.specs.Range.{IsInRange};
 ghost use Rattle.plane_drawings.specs.Drawing.{place};
 
-use crate::text::{halves, part, put_gap, put_letter, put_whole};
+use crate::reply::Reply;
+use crate::text::{halves, part};
 use pg_plane::{BarFigure, Ints, Point, Points};
 use std::alloc::Global;
 
@@ -29,10 +30,10 @@ pub fn integers(alloc: Global, text: &str) -> Ints {
 }
 
 /// Writes whole numbers with spaces between them.
-pub fn put_integers(list: &Ints, out: &mut String) {
+pub fn put_integers(list: &Ints, out: &mut Reply) {
     for i in 0..list.len() {
-        put_gap(i, out);
-        put_whole(i64::from(list.get(i)), out);
+        out.put_gap(i);
+        out.put_whole(i64::from(list.get(i)));
     }
 }
 
@@ -54,17 +55,17 @@ pub fn points_of(alloc: Global, text: &str) -> Points {
     points
 }
 
-fn put_point(point: Point, out: &mut String) {
-    put_whole(i64::from(point.x), out);
-    put_letter(' ', out);
-    put_whole(i64::from(point.y), out);
+fn put_point(point: Point, out: &mut Reply) {
+    out.put_whole(i64::from(point.x));
+    out.put_letter(' ');
+    out.put_whole(i64::from(point.y));
 }
 
 /// Writes the first points, at most so many, with `;` between them.
-pub fn put_points(points: &Points, most: usize, out: &mut String) {
+pub fn put_points(points: &Points, most: usize, out: &mut Reply) {
     for i in 0..points.len().min(most) {
         if 0 < i {
-            put_letter(';', out);
+            out.put_letter(';');
         }
         put_point(points.get(i), out);
     }

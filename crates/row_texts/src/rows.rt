@@ -1,18 +1,35 @@
 //! A row and its answer.
-use crate::text::{behind, halves, part, put, put_letter};
+use crate::reply::Reply;
+use crate::text::{behind, halves, number, part};
 use std::alloc::Global;
+
+/// A row without its heading.
+#[derive(Clone, Copy)]
+pub struct Row<'a> {
+    /// The family of the call.
+    pub family: &'a str,
+    /// The call.
+    pub call: &'a str,
+    /// Its arguments.
+    pub args: &'a [&'a str],
+}
+
+impl<'a> Row<'a> {
+    /// Returns argument `i`, and nothing where there is none.
+    pub fn arg(&self, i: usize) -> &'a str {
+        part(self.args, i)
+    }
+
+    /// Returns the number that argument `i` is, and 0 where it is none.
+    pub fn number(&self, i: usize) -> u16 {
+        number(self.arg(i))
+    }
+}
 
 /// Who answers the rows of a program.
 pub trait Answers {
-    /// Writes the answer to a row of a kind, which is a family and a call of it.
-    fn answer(alloc: Global, kind: (&str, &str), args: &[&str], out: &mut String);
-}
-
-// Appends the heading of a row, and its answer.
-fn put_row<A: Answers>(alloc: Global, parts: &[&str], out: &mut String) {
-    put(part(parts, 0), out);
-    put(": ", out);
-    A::answer(alloc, halves(part(parts, 1)), behind(parts, 2), out);
+    /// Writes the answer to a row.
+    fn answer(row: &Row<'_>, out: &mut Reply);
 }
 
 // The texts between the `/` of a row.
@@ -24,19 +41,28 @@ fn parts_of<'a>(alloc: Global, row: &'a str) -> Vec<&'a str> {
     parts
 }
 
-// The line that stands for a row in the answers, up to its end.
-fn put_line<A: Answers>(alloc: Global, row: &str, out: &mut String) {
+// Writes the line that stands for a row in the answers, up to its end: its heading, and its answer.
+fn put_line<A: Answers>(row: &str, out: &mut Reply) {
     if row.is_empty() || row.starts_with('#') {
-        put(row, out);
-    } else {
-        put_row::<A>(alloc, &parts_of(alloc, row), out);
+        out.put(row);
+        return;
     }
+    let parts = parts_of(out.alloc, row);
+    out.put(part(&parts, 0));
+    out.put(": ");
+    let (family, call) = halves(part(&parts, 1));
+    let row = Row {
+        family,
+        call,
+        args: behind(&parts, 2),
+    };
+    A::answer(&row, out);
 }
 
 /// Returns the line that stands for a row in the answers of `A`.
 pub fn answer<A: Answers>(alloc: Global, row: &str) -> String {
-    let mut out = String::new(alloc);
-    put_line::<A>(alloc, row, &mut out);
-    put_letter('\n', &mut out);
-    out
+    let mut out = Reply::new(alloc);
+    put_line::<A>(row, &mut out);
+    out.put_letter('\n');
+    out.into_text()
 }

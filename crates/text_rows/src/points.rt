@@ -4,7 +4,8 @@ ghost use Rattle.pg_plane.specs.Range.{IsInRange};
 
 use pg_plane::{Point, area2, clock_before, crosses, on_segment};
 use row_texts::points::{MOST, point_of};
-use row_texts::text::{part, put_flag, put_letter, put_whole};
+use row_texts::reply::Reply;
+use row_texts::rows::Row;
 
 // Whether no coordinate of a point is beyond the range.
 fn is_in_range(p: Point) -> bool
@@ -14,83 +15,59 @@ fn is_in_range(p: Point) -> bool
 }
 
 // The point of an argument, if it is within the range.
-fn point(args: &[&str], i: usize) -> Option<Point>
+fn point(row: &Row<'_>, i: usize) -> Option<Point>
     ensures { IfSome result IsInRange }
 {
-    let p = point_of(part(args, i));
+    let p = point_of(row.arg(i));
     if is_in_range(p) { Some(p) } else { None }
 }
 
-// Twice the area of a triangle.
-fn area(args: &[&str]) -> Option<i64> {
-    let (a, b, c) = (point(args, 0)?, point(args, 1)?, point(args, 2)?);
-    Some(area2(a, b, c))
+// Writes twice the area of a triangle.
+fn put_area(row: &Row<'_>, out: &mut Reply) -> Option<()> {
+    let (a, b, c) = (point(row, 0)?, point(row, 1)?, point(row, 2)?);
+    out.put_whole(area2(a, b, c));
+    Some(())
 }
 
-// Writes it.
-fn put_area(args: &[&str], out: &mut String) {
-    if let Some(area) = area(args) {
-        put_whole(area, out);
-    }
+// Writes whether a point is on a segment, from both of its ends.
+fn put_on(row: &Row<'_>, out: &mut Reply) -> Option<()> {
+    let (p, a, b) = (point(row, 0)?, point(row, 1)?, point(row, 2)?);
+    out.put_flag(on_segment(p, a, b));
+    out.put_letter(' ');
+    out.put_flag(on_segment(p, b, a));
+    Some(())
 }
 
-// Whether a point is on a segment, from both of its ends.
-fn on(args: &[&str]) -> Option<(bool, bool)> {
-    let (p, a, b) = (point(args, 0)?, point(args, 1)?, point(args, 2)?);
-    Some((on_segment(p, a, b), on_segment(p, b, a)))
-}
-
-// Writes it.
-fn put_on(args: &[&str], out: &mut String) {
-    if let Some((one, other)) = on(args) {
-        put_flag(one, out);
-        put_letter(' ', out);
-        put_flag(other, out);
-    }
-}
-
-// Whether two segments cross.
-fn cross(args: &[&str]) -> Option<bool> {
-    let (a, b) = (point(args, 0)?, point(args, 1)?);
-    let (c, d) = (point(args, 2)?, point(args, 3)?);
-    Some(crosses(a, b, c, d))
-}
-
-// Writes it.
-fn put_cross(args: &[&str], out: &mut String) {
-    if let Some(cross) = cross(args) {
-        put_flag(cross, out);
-    }
+// Writes whether two segments cross.
+fn put_cross(row: &Row<'_>, out: &mut Reply) -> Option<()> {
+    let (a, b) = (point(row, 0)?, point(row, 1)?);
+    let (c, d) = (point(row, 2)?, point(row, 3)?);
+    out.put_flag(crosses(a, b, c, d));
+    Some(())
 }
 
 // Whether a direction is before another one, where both are within the range.
-fn before(args: &[&str], i: usize, j: usize) -> Option<bool> {
-    Some(clock_before(point(args, i)?, point(args, j)?))
-}
-
-fn sign(before: Option<bool>) -> char {
-    match before {
-        Some(true) => '<',
-        _ => '.',
-    }
+fn is_before(row: &Row<'_>, i: usize, j: usize) -> Option<bool> {
+    Some(clock_before(point(row, i)?, point(row, j)?))
 }
 
 // Writes for each direction whether it is before each of them.
-fn put_clock(args: &[&str], out: &mut String) {
-    for i in 0..args.len() {
-        for j in 0..args.len() {
-            put_letter(sign(before(args, i, j)), out);
+fn put_clock(row: &Row<'_>, out: &mut Reply) {
+    for i in 0..row.args.len() {
+        for j in 0..row.args.len() {
+            let before = is_before(row, i, j).unwrap_or(false);
+            out.put_letter(if before { '<' } else { '.' });
         }
-        put_letter(' ', out);
+        out.put_letter(' ');
     }
 }
 
-/// The answer to a row on points.
-pub fn answer(call: &str, args: &[&str], out: &mut String) {
-    match call {
-        "area" => put_area(args, out),
-        "on" => put_on(args, out),
-        "cross" => put_cross(args, out),
-        _ => put_clock(args, out),
-    }
+/// Answers a row on points.
+pub fn answer(row: &Row<'_>, out: &mut Reply) {
+    let _ = match row.call {
+        "area" => put_area(row, out),
+        "on" => put_on(row, out),
+        "cross" => put_cross(row, out),
+        _ => Some(put_clock(row, out)),
+    };
 }

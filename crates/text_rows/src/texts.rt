@@ -3,18 +3,18 @@ ghost use Rattle.std.specs.Prelude.{IsTrue};
 ghost use Rattle.figure_text.specs.Text.{HasBars, IsWhole};
 
 use figure_text::{Figure, GridJob, Item, TextFault, print_figure, print_witness};
-use graph6_text::{Graph, read_line};
+use graph6_text::read_line;
 use half_edges::Rotations;
-use kuratowski::Witness;
 use line_inputs::read_figure;
 use pg_plane::{BarFigure, Points};
 use row_texts::bytes::{lines_of, put_bytes};
 use row_texts::lists::lists_of;
 use row_texts::points::{bars_of, points_of};
 use row_texts::refusal::{tell_line_fault, tell_no_memory};
-use row_texts::text::{behind, number, part, put, put_one};
+use row_texts::reply::Reply;
+use row_texts::rows::Row;
+use row_texts::text::behind;
 use row_texts::witnesses::witness_of;
-use std::alloc::Global;
 
 // The job of a name.
 fn job_of(text: &str) -> GridJob {
@@ -25,41 +25,20 @@ fn job_of(text: &str) -> GridJob {
     }
 }
 
-// The text of a figure.
-fn put_figure(alloc: Global, number: u16, figure: &Figure, out: &mut String)
+// Writes the text of a figure.
+fn put_figure(number: u16, figure: &Figure, out: &mut Reply)
     requires { IsWhole figure.now }
 {
-    let mut bytes = Vec::new(alloc);
-    let _ = print_figure(alloc, u32::from(number), figure, &mut bytes);
+    let mut bytes = Vec::new(out.alloc);
+    let _ = print_figure(out.alloc, u32::from(number), figure, &mut bytes);
     put_bytes(&bytes, out);
 }
 
-// The text of a drawing in a grid.
-fn put_grid(
-    alloc: Global,
-    number: u16,
-    job: GridJob,
-    lists: Rotations,
-    points: Points,
-    out: &mut String,
-) {
+// Writes the text of a drawing in a grid, if there is a point for each list.
+fn put_grid(row: &Row<'_>, lists: Rotations, points: Points, out: &mut Reply) {
     if points.len() == lists.len() {
-        put_figure(alloc, number, &Figure::Grid { job, lists, points }, out);
-    }
-}
-
-// The text of a drawing of some lists.
-fn grid(alloc: Global, number: u16, job: GridJob, args: &[&str], out: &mut String) {
-    match lists_of(alloc, part(args, 2)) {
-        Some(given) => put_grid(
-            alloc,
-            number,
-            job,
-            given.lists,
-            points_of(alloc, part(args, 3)),
-            out,
-        ),
-        None => {}
+        let job = job_of(row.arg(1));
+        put_figure(row.number(0), &Figure::Grid { job, lists, points }, out);
     }
 }
 
@@ -70,90 +49,71 @@ fn has_bars(lists: &Rotations, bars: &BarFigure) -> bool
     bars.y.len() == lists.len() && bars.x1.len() == lists.len() && bars.x2.len() == lists.len()
 }
 
-// The text of a visibility drawing.
-fn put_bars(alloc: Global, number: u16, lists: Rotations, bars: BarFigure, out: &mut String) {
-    if has_bars(&lists, &bars) {
-        put_figure(alloc, number, &Figure::Bars { lists, bars }, out);
+// Writes the text of a visibility drawing of some lists.
+fn put_bars(row: &Row<'_>, out: &mut Reply) {
+    if let Some(given) = lists_of(out.alloc, row.arg(1)) {
+        let lists = given.lists;
+        let bars = bars_of(out.alloc, behind(row.args, 2));
+        if has_bars(&lists, &bars) {
+            put_figure(row.number(0), &Figure::Bars { lists, bars }, out);
+        }
     }
 }
 
-// The text of a visibility drawing of some lists.
-fn bars(alloc: Global, number: u16, args: &[&str], out: &mut String) {
-    match lists_of(alloc, part(args, 1)) {
-        Some(given) => put_bars(
-            alloc,
-            number,
-            given.lists,
-            bars_of(alloc, behind(args, 2)),
-            out,
-        ),
-        None => {}
-    }
-}
-
-// The text of a witness in a graph.
-fn put_witness(alloc: Global, number: u16, graph: &Graph, witness: &Witness, out: &mut String) {
-    let mut bytes = Vec::new(alloc);
-    let _ = print_witness(alloc, u32::from(number), graph, witness, &mut bytes);
-    put_bytes(&bytes, out);
-}
-
-// The text of a witness in the graph of a line.
-fn witness(alloc: Global, number: u16, args: &[&str], out: &mut String) {
-    match read_line(alloc, part(args, 1).as_bytes()) {
+// Writes the text of a witness in the graph of a line.
+fn put_witness(row: &Row<'_>, out: &mut Reply) {
+    match read_line(out.alloc, row.arg(1).as_bytes()) {
         Ok(graph) => {
-            let witness = witness_of(alloc, part(args, 2), part(args, 3));
-            put_witness(alloc, number, &graph, &witness, out);
+            let witness = witness_of(out.alloc, row.arg(2), row.arg(3));
+            let mut bytes = Vec::new(out.alloc);
+            let _ = print_witness(
+                out.alloc,
+                u32::from(row.number(0)),
+                &graph,
+                &witness,
+                &mut bytes,
+            );
+            put_bytes(&bytes, out);
         }
         Err(fault) => tell_line_fault(fault, out),
     }
 }
 
 // An item by its name, the number of a line, and the offset behind it.
-fn put_place(name: &str, next: usize, line: u32, out: &mut String) {
-    put(name, out);
-    put_one(", line", u64::from(line), out);
-    put_one(" at", next as u64, out);
+fn put_place(name: &str, next: usize, line: u32, out: &mut Reply) {
+    out.put(name);
+    out.put_one(", line", u64::from(line));
+    out.put_one(" at", next as u64);
 }
 
 // Appends the item at the front of a text, or the fault there.
-fn put_item(found: &Result<Item, TextFault>, out: &mut String) {
+fn put_item(found: &Result<Item, TextFault>, out: &mut Reply) {
     match found {
         Ok(Item::Drawn(_, next, line)) => put_place("figure", *next, *line, out),
         Ok(Item::Note(next, line)) => put_place("note", *next, *line, out),
-        Ok(Item::End) => put("end", out),
-        Err(TextFault::BadLine(line)) => put_one("BadLine", u64::from(*line), out),
-        Err(TextFault::Limit(line)) => put_one("Limit", u64::from(*line), out),
-        Err(TextFault::EndInFigure(line)) => put_one("EndInFigure", u64::from(*line), out),
+        Ok(Item::End) => out.put("end"),
+        Err(TextFault::BadLine(line)) => out.put_one("BadLine", u64::from(*line)),
+        Err(TextFault::Limit(line)) => out.put_one("Limit", u64::from(*line)),
+        Err(TextFault::EndInFigure(line)) => out.put_one("EndInFigure", u64::from(*line)),
         Err(TextFault::NoMemory) => tell_no_memory(out),
     }
 }
 
-// Reads a text, and writes what stands at its front.
-fn read(alloc: Global, bytes: &[u8], out: &mut String) {
-    put_item(&read_figure(alloc, bytes, 0, 1), out);
-}
-
-// The text of a drawing of no vertices.
-fn nothing(alloc: Global, number: u16, job: GridJob, out: &mut String) {
-    put_grid(
-        alloc,
-        number,
-        job,
-        Rotations::new(alloc),
-        Points::new(alloc),
-        out,
-    );
-}
-
-/// The answer to a row on texts.
-pub fn answer(alloc: Global, call: &str, args: &[&str], out: &mut String) {
-    let (number, job) = (number(part(args, 0)), job_of(part(args, 1)));
-    match call {
-        "grid" => grid(alloc, number, job, args, out),
-        "nothing" => nothing(alloc, number, job, out),
-        "bars" => bars(alloc, number, args, out),
-        "witness" => witness(alloc, number, args, out),
-        _ => read(alloc, &lines_of(alloc, part(args, 0)), out),
+/// Answers a row on texts.
+pub fn answer(row: &Row<'_>, out: &mut Reply) {
+    match row.call {
+        "grid" => {
+            if let Some(given) = lists_of(out.alloc, row.arg(2)) {
+                let points = points_of(out.alloc, row.arg(3));
+                put_grid(row, given.lists, points, out);
+            }
+        }
+        "nothing" => put_grid(row, Rotations::new(out.alloc), Points::new(out.alloc), out),
+        "bars" => put_bars(row, out),
+        "witness" => put_witness(row, out),
+        _ => put_item(
+            &read_figure(out.alloc, &lines_of(out.alloc, row.arg(0)), 0, 1),
+            out,
+        ),
     }
 }

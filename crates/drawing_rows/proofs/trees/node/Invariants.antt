@@ -1,4 +1,4 @@
 use Rattle.drawing_rows.proofs.trees.node.Given as goal
 
-abbrev pub ghosts-counted_node : goal.ghosts-counted_node
-ghosts-counted_node a = record { name = a.blank.name; parts = a.blank.parts }
+abbrev pub ghosts-put_counted : goal.ghosts-put_counted
+ghosts-put_counted a = record { name = a.blank.name; parts = a.blank.parts }

@@ -1,7 +1,7 @@
 use Rattle.std.proofs.Common.{ℕ, subst}
 use Rattle.fpp_shift.specs.Ways.{IsTree}
 use Rattle.fpp_shift.proofs.TreeLemmas.{vertex-is}
-use Rattle.drawing_rows.proofs.trees.put_summed.Goals as goal
+use Rattle.drawing_rows.proofs.trees.put_sums.Goals as goal
 
 pub sum_offsets-requires : goal.sum_offsets-requires
 sum_offsets-requires g c =
