@@ -7,8 +7,8 @@ use Rattle.wood_laws.specs.Woods.{root, IsInner, LeadsBy}
 use Rattle.schnyder_wood.specs.Parents.{Parents, root_in, parent_in, IsRoot, IsInnerIn, LeadsIn, IsRooted, IsWoodOf}
 use Rattle.wood_laws.specs.Regions.{IsOnPath, IsPathEdge, IsBoundaryEdge, on_next, on_previous, on_outer, IsOnBoundary}
 use Rattle.schnyder_wood.specs.Boundaries.{NotesPath, base_in}
-use Rattle.schnyder_wood.specs.declared.schnyder_regions.boundary.ClosedPath.{ClosedPath}
-use Rattle.schnyder_wood.specs.ClosedPaths.{IsClosedPath, HasAll, IsEdgeOf, IsVertexOf}
+use Rattle.schnyder_wood.specs.declared.schnyder_regions.closed.ClosedPath.{ClosedPath}
+use Rattle.schnyder_wood.specs.ClosedPaths.{IsClosedPath, IsEdgeOf, IsVertexOf}
 use Rattle.schnyder_wood.specs.Search.{HasEdges}
 use Rattle.schnyder_wood.specs.Counting.{HasVertices}
 
@@ -124,9 +124,6 @@ module _ (lists : Lists) (base : Dart) (wood : Parents) (is : IsWoodOf lists bas
 
       pub has_vertices : HasVertices lists base (parent_in wood) c v path
       has_vertices = λ u l. (vertices_in u l, vertices_out u l)
-
-      pub has_all : HasAll (length lists) path
-      has_all = record { nexts = h.nexts.count ∙ is.count; previouses = h.previouses.count ∙ is.count }
 
   -- the base is the one that the wood tells
   pub base_is : base_in wood ≡ base

@@ -7,7 +7,7 @@ use Rattle.wood_runs.specs.Parents.{Colour}
 use Rattle.euler_faces.specs.Numbers.{mark_at}
 use Rattle.euler_faces.proofs.NumberLemmas.{live-lt, live_from}
 use Rattle.wood_laws.specs.Regions.{IsRegionCount, IsInRegion}
-use Rattle.schnyder_wood.specs.declared.schnyder_regions.boundary.ClosedPath.{ClosedPath}
+use Rattle.schnyder_wood.specs.declared.schnyder_regions.closed.ClosedPath.{ClosedPath}
 use Rattle.schnyder_wood.specs.ClosedPaths.{IsVertexOf}
 use Rattle.schnyder_wood.specs.Search.{AreReached}
 use Rattle.schnyder_wood.specs.Counting.{HasOdd, MarksMore, HasVertices}

@@ -1,9 +1,9 @@
 -- The closed path of a region, as the code holds it.
-use Rattle.std.specs.Prelude.{ℕ, ◌≡◌, ◌≢◌, ◌⊎◌, length, slice_index}
+use Rattle.std.specs.Prelude.{ℕ, ◌≡◌, ◌≢◌, ◌⊎◌, slice_index}
 use Rattle.wood_runs.specs.Parents.{Colour, next, previous}
 use Rattle.schnyder_wood.specs.Parents.{Parents, root_in}
 use Rattle.schnyder_wood.specs.Boundaries.{NotesPath}
-use Rattle.schnyder_wood.specs.declared.schnyder_regions.boundary.ClosedPath.{ClosedPath}
+use Rattle.schnyder_wood.specs.declared.schnyder_regions.closed.ClosedPath.{ClosedPath}
 
 -- the paths of the two other colours are noted, and their roots
 pub record IsClosedPath (wood : Parents) (c : Colour) (v : ℕ) (path : ClosedPath) : Type 0 where
@@ -11,11 +11,6 @@ pub record IsClosedPath (wood : Parents) (c : Colour) (v : ℕ) (path : ClosedPa
   pub previouses : NotesPath wood (previous c) v path.previouses.items
   pub next_root : path.next_root.0 ≡ root_in wood (next c)
   pub previous_root : path.previous_root.0 ≡ root_in wood (previous c)
-
--- the tables have all n vertices
-pub record HasAll (n : ℕ) (path : ClosedPath) : Type 0 where
-  pub nexts : length path.nexts.items ≡ n
-  pub previouses : length path.previouses.items ≡ n
 
 -- an edge along one of them, or between the roots
 abbrev pub IsEdgeOf : ClosedPath → ℕ → ℕ → Type 0

@@ -5,6 +5,7 @@ ghost use Rattle.schnyder_wood.specs.Parents.{kind, count_in, parent_in, IsInner
 ghost use Rattle.schnyder_wood.specs.Boundaries.{NotesPath};
 ghost use Rattle.schnyder_wood.specs.ClosedPaths.{IsClosedPath, IsEdgeOf, IsVertexOf};
 
+use crate::schnyder_regions::closed::ClosedPath;
 use crate::{Colour, Wood};
 use map_lists::VertexId;
 use std::alloc::{AllocError, Global};
@@ -39,32 +40,6 @@ fn note_path(ups: &mut [u16], wood: &Wood, v: VertexId, colour: Colour)
         at = up;
     }
     unreachable!()
-}
-
-// Whether an edge is one of the path.
-fn is_along(ups: &[u16], x: u16, y: u16) -> bool
-    requires x_in { x < length ups.now }
-    requires y_in { y < length ups.now }
-    ensures { IsTrue result ↔ ((slice_index ups.now x ≡ y) ⊎ (slice_index ups.now y ≡ x)) }
-{
-    ups[x as usize] == y || ups[y as usize] == x
-}
-
-// Whether an edge has these two ends.
-fn joins(a: u16, b: u16, x: u16, y: u16) -> bool
-    ensures { IsTrue result ↔ (((x ≡ a) × (y ≡ b)) ⊎ ((x ≡ b) × (y ≡ a))) }
-{
-    (x == a && y == b) || (x == b && y == a)
-}
-
-// The closed path of a region: for each vertex where it leads along the paths of the next colour and of the one
-// before, and the roots of both.
-#[derive(Drop)]
-pub(crate) struct ClosedPath {
-    nexts: Vec<u16>,
-    previouses: Vec<u16>,
-    next_root: VertexId,
-    previous_root: VertexId,
 }
 
 // The colour after another.
@@ -136,35 +111,45 @@ pub(crate) fn closed_path(
     })
 }
 
-// Whether an edge is one of the closed path.
-pub(crate) fn is_boundary(path: &ClosedPath, x: u16, y: u16) -> bool
-    requires x_next { x < length path.now.nexts.items }
-    requires y_next { y < length path.now.nexts.items }
-    requires x_previous { x < length path.now.previouses.items }
-    requires y_previous { y < length path.now.previouses.items }
-    ensures { IsTrue result ↔ IsEdgeOf path.now x y }
+// Whether an edge is one of the path.
+fn is_along(ups: &[u16], x: u16, y: u16) -> bool
+    requires x_in { x < length ups.now }
+    requires y_in { y < length ups.now }
+    ensures { IsTrue result ↔ ((slice_index ups.now x ≡ y) ⊎ (slice_index ups.now y ≡ x)) }
 {
-    is_along(&path.nexts, x, y)
-        || is_along(&path.previouses, x, y)
-        || joins(path.next_root.0, path.previous_root.0, x, y)
+    ups[x as usize] == y || ups[y as usize] == x
 }
 
-// Whether a path leads on from a vertex.
-fn leads_on(ups: &[u16], u: u16) -> bool
-    requires { u < length ups.now }
-    ensures { IsTrue result ↔ (slice_index ups.now u ≢ u) }
-{
-    ups[u as usize] != u
-}
+impl ClosedPath {
+    // The fact of the tables.
+    fn facts(&self)
+        ensures { length self.now.previouses.items ≡ length self.now.nexts.items }
+    {}
 
-// Whether a vertex is on the closed path.
-pub(crate) fn is_on_boundary(path: &ClosedPath, u: u16) -> bool
-    requires next { u < length path.now.nexts.items }
-    requires previous { u < length path.now.previouses.items }
-    ensures { IsTrue result ↔ IsVertexOf path.now u }
-{
-    leads_on(&path.nexts, u)
-        || leads_on(&path.previouses, u)
-        || u == path.next_root.0
-        || u == path.previous_root.0
+    // Whether an edge is one of the closed path: along one of its two, or between the roots.
+    pub(crate) fn has_edge(&self, x: u16, y: u16) -> bool
+        requires x_in { x < length self.now.nexts.items }
+        requires y_in { y < length self.now.nexts.items }
+        ensures { IsTrue result ↔ IsEdgeOf self.now x y }
+    {
+        self.facts();
+        let a = self.next_root.0;
+        let b = self.previous_root.0;
+        is_along(&self.nexts, x, y)
+            || is_along(&self.previouses, x, y)
+            || (x == a && y == b)
+            || (x == b && y == a)
+    }
+
+    // Whether a vertex is on the closed path: one of the two leads on from it, or it is a root.
+    pub(crate) fn has_vertex(&self, u: u16) -> bool
+        requires { u < length self.now.nexts.items }
+        ensures { IsTrue result ↔ IsVertexOf self.now u }
+    {
+        self.facts();
+        self.nexts[u as usize] != u
+            || self.previouses[u as usize] != u
+            || u == self.next_root.0
+            || u == self.previous_root.0
+    }
 }

@@ -1,5 +1,5 @@
 //! How many vertices a region has.
-ghost use Rattle.std.specs.Prelude.{◌≡◌, ◌<◌, ◌*◌, ℕ, false, true, Some, length, IfOk};
+ghost use Rattle.std.specs.Prelude.{◌≡◌, ◌<◌, ◌*◌, ℕ, false, true, Some, length, OnOk, IfOk};
 ghost use Rattle.classes.specs.Classes.{count_below};
 ghost use Rattle.map_theory.specs.Maps.{Dart, HasDart};
 ghost use Rattle.half_edges.specs.Map.{IsLive, dart_at, id_bound};
@@ -8,69 +8,25 @@ ghost use Rattle.euler_faces.specs.Numbers.{mark_at};
 ghost use Rattle.wood_laws.specs.Regions.{IsRegionCount};
 ghost use Rattle.schnyder_wood.specs.Parents.{kind, root_in, parent_in, IsInnerIn, IsWoodOf};
 ghost use Rattle.schnyder_wood.specs.Boundaries.{base_in};
-ghost use Rattle.schnyder_wood.specs.ClosedPaths.{HasAll, IsVertexOf};
+ghost use Rattle.schnyder_wood.specs.ClosedPaths.{IsVertexOf};
 ghost use Rattle.euler_faces.specs.ChainSearch.{IsMet};
-ghost use Rattle.schnyder_wood.specs.Search.{HasEdges};
+ghost use Rattle.schnyder_wood.specs.Search.{IsCrossed, HasEdges, AreMarked};
 ghost use Rattle.schnyder_wood.specs.Counting.{HasOdd, MarksMore, HasVertices};
 
-use crate::schnyder_regions::boundary::{ClosedPath, closed_path, is_on_boundary};
-use crate::schnyder_regions::search::search;
+use crate::schnyder_regions::boundary::closed_path;
+use crate::schnyder_regions::closed::ClosedPath;
 use crate::{Colour, Wood};
+use euler_faces::mark_reached;
 use half_edges::{DartId, HalfMap};
 use map_lists::VertexId;
 use std::alloc::{AllocError, Global};
 
-// Marks the vertex that a dart leaves, where its face is met with an odd number.
-fn mark_tail(map: &HalfMap, met: &[bool], inside: &mut [bool], d: DartId)
-    requires marks { length met.now ≡ 2 * id_bound map.now }
-    requires id { d.0 < id_bound map.now }
-    requires count { length inside.old ≡ length map.now.lists }
-    ensures { MarksMore (λ w. (y : ℕ) × (dart_at map.now d.0 ≡ Some (w, y)) × IsMet met.now d.0 true) inside.old inside.new }
-{
-    map.facts();
-    if !map.is_live(d) {
-        return;
-    }
-    if !met[2 * (d.0 as usize) + 1] {
-        return;
-    }
-    let v = map.tail(d);
-    inside[v.0 as usize] = true;
-}
-
-// Marks all such vertices.
-fn mark_tails(map: &HalfMap, met: &[bool], inside: &mut [bool])
-    requires marks { length met.now ≡ 2 * id_bound map.now }
-    requires count { length inside.old ≡ length map.now.lists }
-    ensures { MarksMore (HasOdd map.now met.now (id_bound map.now)) inside.old inside.new }
-{
-    map.facts();
-    let ids = 2 * (map.m() + map.spare());
-    for d in 0..ids {
-        mark_tail(map, met, inside, DartId(d));
-    }
-}
-
-// Marks a vertex that is on the closed path.
-fn mark_vertex(path: &ClosedPath, inside: &mut [bool], u: u16)
-    requires vertex { u < length inside.old }
-    requires all { HasAll (length inside.old) path.now }
-    ensures { MarksMore (λ w. (w ≡ u) × IsVertexOf path.now w) inside.old inside.new }
-{
-    if is_on_boundary(path, u) {
-        inside[u as usize] = true;
-    }
-}
-
-// Marks the vertices on the closed path.
-fn mark_boundary(path: &ClosedPath, inside: &mut [bool], n: u16)
-    requires count { length inside.old ≡ n }
-    requires all { HasAll n path.now }
-    ensures { MarksMore (IsVertexOf path.now) inside.old inside.new }
-{
-    for u in 0..n {
-        mark_vertex(path, inside, u);
-    }
+// The region of a closed path of a map, which notes all vertices.
+#[derive(Clone, Copy)]
+struct Region<'a> {
+    map: &'a HalfMap,
+    path: &'a ClosedPath,
+    ghost all: { length path.now.nexts.items ≡ length map.now.lists },
 }
 
 // How many are marked.
@@ -85,29 +41,113 @@ fn marked_count(inside: &[bool], n: u16) -> u32
     count
 }
 
-// How many vertices a region has, given its closed path, and no marks.
-fn count_with(
-    alloc: Global,
-    map: &HalfMap,
-    path: &ClosedPath,
-    met: &mut [bool],
-    inside: &mut [bool],
-    start: DartId,
-) -> Result<u32, AllocError>
-    requires live { IsLive map.now start.0 }
-    requires all { HasAll (length map.now.lists) path.now }
-    requires marks { length met.old ≡ 2 * id_bound map.now }
-    requires unset { (i : ℕ) → mark_at met.old i ≡ false }
-    requires count { length inside.old ≡ length map.now.lists }
-    requires none { (i : ℕ) → mark_at inside.old i ≡ false }
-    ensures { IfOk result (λ k. (base : Dart) (parent : TreeColour → ℕ → ℕ) (c : TreeColour) (v : ℕ) → dart_at map.now start.0 ≡ Some base → HasEdges map.now.lists base parent c v path.now → HasVertices map.now.lists base parent c v path.now
-        → IsRegionCount map.now.lists base parent c v k) }
-{
-    map.facts();
-    search(alloc, map, path, met, start)?;
-    mark_tails(map, met, inside);
-    mark_boundary(path, inside, map.n());
-    Ok(marked_count(inside, map.n()))
+impl Region<'_> {
+    // The fact of the tables.
+    fn facts(&self)
+        ensures { length self.now.path.now.nexts.items ≡ length self.now.map.now.lists }
+    {}
+
+    // Whether the edge of a dart is one of the closed path.
+    fn crosses(&self, d: DartId) -> bool
+        requires { IsLive self.now.map.now d.0 }
+        ensures { IsCrossed self.now.map.now self.now.path.now d.0 result }
+    {
+        self.facts();
+        self.map.facts();
+        self.path.has_edge(self.map.tail(d).0, self.map.head(d).0)
+    }
+
+    // Marks all that chains of faces from the start come to, with an even or an odd number of crossings each.
+    fn mark_met(&self, alloc: Global, met: &mut [bool], start: DartId) -> Result<(), AllocError>
+        requires live { IsLive self.now.map.now start.0 }
+        requires marks { length met.old ≡ 2 * id_bound self.now.map.now }
+        requires unset { (i : ℕ) → mark_at met.old i ≡ false }
+        ensures { OnOk result (AreMarked self.now.map.now self.now.path.now start.0 met.new) }
+    {
+        self.map.facts();
+        let region = *self;
+        mark_reached(alloc, self.map, met, start, |d| region.crosses(d))?;
+        Ok(())
+    }
+
+    // Marks the vertex that a dart leaves, where its face is met with an odd number.
+    fn mark_tail(&self, met: &[bool], inside: &mut [bool], d: DartId)
+        requires marks { length met.now ≡ 2 * id_bound self.now.map.now }
+        requires id { d.0 < id_bound self.now.map.now }
+        requires count { length inside.old ≡ length self.now.map.now.lists }
+        ensures { MarksMore (λ w. (y : ℕ) × (dart_at self.now.map.now d.0 ≡ Some (w, y)) × IsMet met.now d.0 true) inside.old inside.new }
+    {
+        self.map.facts();
+        if !self.map.is_live(d) {
+            return;
+        }
+        if !met[2 * (d.0 as usize) + 1] {
+            return;
+        }
+        let v = self.map.tail(d);
+        inside[v.0 as usize] = true;
+    }
+
+    // Marks all such vertices.
+    fn mark_tails(&self, met: &[bool], inside: &mut [bool])
+        requires marks { length met.now ≡ 2 * id_bound self.now.map.now }
+        requires count { length inside.old ≡ length self.now.map.now.lists }
+        ensures { MarksMore (HasOdd self.now.map.now met.now (id_bound self.now.map.now)) inside.old inside.new }
+    {
+        self.map.facts();
+        let ids = 2 * (self.map.m() + self.map.spare());
+        let region = *self;
+        for d in 0..ids {
+            region.mark_tail(met, inside, DartId(d));
+        }
+    }
+
+    // Marks a vertex that is on the closed path.
+    fn mark_vertex(&self, inside: &mut [bool], u: u16)
+        requires vertex { u < length self.now.map.now.lists }
+        requires count { length inside.old ≡ length self.now.map.now.lists }
+        ensures { MarksMore (λ w. (w ≡ u) × IsVertexOf self.now.path.now w) inside.old inside.new }
+    {
+        self.facts();
+        if self.path.has_vertex(u) {
+            inside[u as usize] = true;
+        }
+    }
+
+    // Marks the vertices on the closed path.
+    fn mark_boundary(&self, inside: &mut [bool])
+        requires { length inside.old ≡ length self.now.map.now.lists }
+        ensures { MarksMore (IsVertexOf self.now.path.now) inside.old inside.new }
+    {
+        self.map.facts();
+        let region = *self;
+        for u in 0..self.map.n() {
+            region.mark_vertex(inside, u);
+        }
+    }
+
+    // How many vertices the region has, on the side of the closed path that is not met from `start`, given no marks.
+    fn count(
+        &self,
+        alloc: Global,
+        met: &mut [bool],
+        inside: &mut [bool],
+        start: DartId,
+    ) -> Result<u32, AllocError>
+        requires live { IsLive self.now.map.now start.0 }
+        requires marks { length met.old ≡ 2 * id_bound self.now.map.now }
+        requires unset { (i : ℕ) → mark_at met.old i ≡ false }
+        requires count { length inside.old ≡ length self.now.map.now.lists }
+        requires none { (i : ℕ) → mark_at inside.old i ≡ false }
+        ensures { IfOk result (λ k. (base : Dart) (parent : TreeColour → ℕ → ℕ) (c : TreeColour) (v : ℕ) → dart_at self.now.map.now start.0 ≡ Some base → HasEdges self.now.map.now.lists base parent c v self.now.path.now → HasVertices self.now.map.now.lists base parent c v self.now.path.now
+            → IsRegionCount self.now.map.now.lists base parent c v k) }
+    {
+        self.map.facts();
+        self.mark_met(alloc, met, start)?;
+        self.mark_tails(met, inside);
+        self.mark_boundary(inside);
+        Ok(marked_count(inside, self.map.n()))
+    }
 }
 
 // The base of a wood: the dart from root two to root one.
@@ -147,15 +187,12 @@ pub fn region_count(
     tri.facts();
     wood.facts();
     let path = closed_path(alloc, wood, v, colour)?;
+    let region = Region {
+        map: tri,
+        path: &path,
+    };
     let ids = 2 * (tri.m() as usize + tri.spare() as usize);
     let mut met = vec![in alloc; false; 2 * ids]?;
     let mut inside = vec![in alloc; false; tri.n() as usize]?;
-    count_with(
-        alloc,
-        tri,
-        &path,
-        &mut met,
-        &mut inside,
-        base_dart(tri, wood),
-    )
+    region.count(alloc, &mut met, &mut inside, base_dart(tri, wood))
 }

@@ -13,14 +13,19 @@ base_dart-requires c =
     let (base, has, is) = c.requires.wood in
     subst (λ x. HasDart lists x (root_in wood one)) (sym (is.roots two)) (subst (HasDart lists base.0) (sym (is.roots one)) has)
 
+pub invariant_of-region : goal.invariant_of-region
+invariant_of-region c =
+    let (base, has, is) = c.requires.wood in
+    record { all = c.in_ok-path.ensures.nexts.count ∙ is.count }
+
 pub returns : goal.returns
 returns c =
     let wood = c.args.wood.now in
     let known = c.facts.ensures in
     let d = kind c.args.colour in
     let path = c.in_ok-path.path in
-    IfOk-weaker c.count_with.result _ _ (λ k h base is.
+    IfOk-weaker c.count.result _ _ (λ k h base is.
     h base (parent_in wood) d c.args.v.0 (c.base_dart.ensures ∙ ap Some (base_is c.args.tri.now.lists base wood is c.facts-2.ensures))
     (has_edges c.args.tri.now.lists base wood is c.facts-2.ensures known.simple c.args.v.0 c.requires.inner d path c.in_ok-path.ensures)
     (has_vertices c.args.tri.now.lists base wood is c.facts-2.ensures known.simple c.args.v.0 c.requires.inner d path c.in_ok-path.ensures))
-    c.count_with.ensures
+    c.count.ensures
