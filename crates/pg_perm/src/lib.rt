@@ -12,5 +12,5 @@ mod perm;
 mod repeat;
 
 pub use fault::PermFault;
-pub use law::{one_swap, two_permutations};
+pub use law::one_swap;
 pub use perm::Perm;

@@ -6,10 +6,9 @@ use Rattle.contour_runs.proofs.Stages.{count-stage_after}
 use Rattle.wood_runs.specs.Parents.{Colour, one, two, three, previous}
 use Rattle.wood_runs.specs.Fronts.{shades, IsOn}
 use Rattle.wood_runs.specs.Sides.{paths, sides}
-use Rattle.wood_runs.specs.Edges.{number, HasShade, IsInside}
-use Rattle.wood_runs.specs.Laws.{IsInShade, AreCrossed}
+use Rattle.wood_runs.specs.Edges.{number}
+use Rattle.wood_runs.specs.Laws.{IsInShade}
 use Rattle.wood_runs.proofs.Sided.{IsSided, IsSided-run, Known, beside, on_one, on_two, on_three}
-use Rattle.wood_runs.proofs.Darts.{has_twin, one_shade}
 
 module _ (steps : ℕ → Step) (n : ℕ) (run : IsRun steps n) where
   sided : IsSided (stage_after steps n) (shades steps n) (IsOn steps n) (paths steps n) (sides steps n)
@@ -63,8 +62,3 @@ module _ (steps : ℕ → Step) (n : ℕ) (run : IsRun steps n) where
       by three (on_one a b) e = absurd (omega (arith, b, e))
       by three (on_two a b) e = inr a
       by three (on_three a b) e = absurd (omega (arith, b, e))
-
-  pub darts_crossed : (v x y s : ℕ) → 0 < n → (stage_after steps n).width ≡ 3 → IsInside n v → HasShade steps n v x y s → AreCrossed steps n v x y s
-  darts_crossed v x y s some end inside h =
-      let t = has_twin steps n run some end v x y s inside.0 inside.1 h in
-      record { alone = λ r k. one_shade steps n run some end v x y r s k h; shade = t.shade; twin = t.twin; kind = t.kind }

@@ -1,6 +1,6 @@
 -- The rules that the wood of a run keeps.
-use Rattle.std.specs.Prelude.{ℕ, suc, ◌<◌, ◌≤◌, ◌≡◌, ◌≢◌, ◌⊎◌}
-use Rattle.contour_runs.specs.Runs.{Step, stage_after, IsRun, IsFaceOf}
+use Rattle.std.specs.Prelude.{ℕ, suc, ◌<◌, ◌≤◌, ◌≡◌, ◌⊎◌}
+use Rattle.contour_runs.specs.Runs.{Step, IsRun, IsFaceOf}
 use Rattle.wood_runs.specs.Parents.{Colour, one, two, three, IsParent, End, IsEnd, MayFollow}
 
 -- just one vertex is the parent of this colour
@@ -9,31 +9,17 @@ pub record HasOneParent (c : Colour) (steps : ℕ → Step) (n v : ℕ) : Type 0
   pub is_parent : IsParent c steps n v parent
   pub alone : (w : ℕ) → IsParent c steps n v w → w ≡ parent
 
--- Where the last vertex covers all but the base, each vertex but these three has just one parent of each colour.
-abbrev pub ThreeParents : Type 0
-ThreeParents = (steps : ℕ → Step) (n v : ℕ) (c : Colour) → IsRun steps n → (stage_after steps n).width ≡ 3 → 2 ≤ v → v < suc n → HasOneParent c steps n v
-
--- they are three vertices
-abbrev pub ParentsDiffer : Type 0
-ParentsDiffer = (steps : ℕ → Step) (n v u w : ℕ) (c d : Colour) → IsRun steps n → c ≢ d → IsParent c steps n v u → IsParent d steps n v w → u ≢ w
-
 -- Parents of colours one and two were put earlier, and that of colour three later: so parents of one colour never lead back.
 pub record LeadsAway (c : Colour) (v w : ℕ) : Type 0 where
   pub one_is_earlier : c ≡ one → w < v
   pub two_is_earlier : c ≡ two → w < v
   pub three_is_later : c ≡ three → v < w
 
-abbrev pub ParentsLeadAway : Type 0
-ParentsLeadAway = (steps : ℕ → Step) (n v w : ℕ) (c : Colour) → IsRun steps n → IsParent c steps n v w → LeadsAway c v w
-
 -- A parent of one colour is not the root of another: the vertices 0 and 1 and the last one, n + 1, are the roots of the colours one, two and three.
 pub record IsOwnRoot (c : Colour) (n w : ℕ) : Type 0 where
   pub root_one : w ≡ 0 → c ≡ one
   pub root_two : w ≡ 1 → c ≡ two
   pub root_three : w ≡ suc n → c ≡ three
-
-abbrev pub ParentsAreOwnRoots : Type 0
-ParentsAreOwnRoots = (steps : ℕ → Step) (n v w : ℕ) (c : Colour) → IsRun steps n → IsParent c steps n v w → IsOwnRoot c n w
 
 -- u and w follow one another counterclockwise round v, on a face that one of the first n steps makes
 pub record IsCorner (steps : ℕ → Step) (n v u w : ℕ) : Type 0 where
