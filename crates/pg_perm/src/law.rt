@@ -1,4 +1,4 @@
-//! Two laws of permutations, for all lists.
+//! A law of permutations, for all lists.
 ghost use Rattle.pg_perm.specs.Law.{OneSwap};
 
 /// The law of one swap. Let `images` be a permutation, and let a and b be different numbers below its

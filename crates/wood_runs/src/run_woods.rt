@@ -1,6 +1,6 @@
 //! Schnyder's wood (1990) of a run of insertions: each vertex but the roots has a parent of each of three
-//! colours. Each rule of a wood is the contract of a function that does nothing, and speaks of all runs.
-//! Vertices are numbered in the order in which the run places them.
+//! colours. The law is the contract of a function that does nothing, and speaks of all runs; the other rules of
+//! a wood are lemmas. Vertices are numbered in the order in which the run places them.
 
 ghost use Rattle.wood_runs.specs.Rules.{CornersOrdered};
 

@@ -121,7 +121,7 @@ fn is_along(ups: &[u16], x: u16, y: u16) -> bool
 }
 
 impl ClosedPath {
-    // The fact of the tables.
+    // Does nothing. By its contract a proof learns that both tables are of one length.
     fn facts(&self)
         ensures { length self.now.previouses.items ≡ length self.now.nexts.items }
     {}

@@ -1,4 +1,4 @@
-//! What a closed path is held as.
+//! The closed path of a region, as the code holds it.
 ghost use Rattle.std.specs.Prelude.{◌≡◌, length};
 
 use map_lists::VertexId;

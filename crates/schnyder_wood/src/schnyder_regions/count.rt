@@ -42,7 +42,7 @@ fn marked_count(inside: &[bool], n: u16) -> u32
 }
 
 impl Region<'_> {
-    // The fact of the tables.
+    // Does nothing. By its contract a proof learns that the closed path notes all vertices.
     fn facts(&self)
         ensures { length self.now.path.now.nexts.items ≡ length self.now.map.now.lists }
     {}
