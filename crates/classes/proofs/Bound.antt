@@ -1,11 +1,10 @@
 -- The Euler bound for two bijections: with f a bijection and g a pairing of the numbers below 2m, the orbits of f and of f after g are at most 2c + m, and differ from it by an even number; c counts the classes of the two together.
-use Rattle.std.proofs.Common.{◌≡◌, ◌≢◌, ◌⊎◌, ℕ, zero, suc, ◌+◌, ◌*◌, ◌<◌, min, Bool, true, false, not, cond, eqb, ltb, List, length, get_or, refl, sym, ap, ◌∙◌, subst, inl, inr, arith}
+use Rattle.std.proofs.Common.{◌≡◌, ◌≢◌, ◌⊎◌, ℕ, zero, suc, ◌+◌, ◌*◌, ◌<◌, min, Bool, true, false, not, cond, eqb, ltb, List, length, refl, sym, ap, ◌∙◌, subst, inl, inr, arith}
 use Rattle.std.proofs.lemmas.Bool.{cases_Bool, cases_eq, cases_lt, eq-eqb, ne_eqb, lt-ltb, le-ltb, true≢false}
-use Rattle.classes.specs.Classes.{count_below, label, image, same_class, merge, merge_all, class_count, orbits, composed, joint_classes, IsMerged, IsPermutationOfBelow, IsPairingOfBelow, IsWithinEuler}
-use Rattle.std.proofs.lemmas.List.{get_or-map, length-map}
+use Rattle.classes.specs.Classes.{count_below, label, same_class, merge, merge_all, class_count, IsMerged}
 use Rattle.classes.proofs.Counting.{count_below_all, count_below_same, count_below_more, count_below_weaker, count_below_not}
 use Rattle.classes.proofs.Classes.{Together, IsLabels, Together-label, same_class-from, cases_Together, labels_same, length-merge, IsLabels-merge, merge-joined, merge-keeps, merge-same, joined-merge, merge-within, class_count-merge_apart, length-merge_all, IsLabels-merge_all, merge_all-keeps, merge_all-holds, merge_all-lies, PairsBelow}
-use Rattle.classes.proofs.Orbits.{AllBelow, StaysBelow-image, images_onto, IsLabels-orbits, length-orbits, orbits-image, IsPermuting-image, steps, All-steps, All-steps_at, StaysBelow, PairsBelow-steps, orbits_of, length-orbits_of, IsLabels-orbits_of, orbits_of-step, orbits_of-marked, IsPermuting, count_below-images}
+use Rattle.classes.proofs.Orbits.{steps, All-steps, All-steps_at, StaysBelow, PairsBelow-steps, orbits_of, length-orbits_of, IsLabels-orbits_of, orbits_of-step, orbits_of-marked, IsPermuting, count_below-images}
 use Rattle.classes.proofs.Swap.{swapped, exchange, swapped_first, swapped_second, swapped_other, IsPermuting-exchange, exchange_orbits, orbits_of-same}
 
 -- ---- the classes of two functions together
@@ -309,39 +308,3 @@ pub euler_bound_at : (f g : ℕ → ℕ) (k m : ℕ) → k ≡ m + m → IsPermu
 euler_bound_at f g k m e w v =
     let found = euler_bound f g m (subst (IsPermuting f) e w) (subst (IsPairing g) e v) in
     (found.0, subst (λ n. Balances f g n m found.0) (sym e) found.1)
-
--- ---- over lists of images
-pub IsPairing-image : (images : List ℕ) → IsPairingOfBelow images → IsPairing (image images) (length images)
-IsPairing-image images v = record { within = StaysBelow-image images v.within; back = v.back; other = v.other }
-
-pub image-composed : (second first : List ℕ) (i : ℕ) → i < length first → image (composed second first) i ≡ after (image second) (image first) i
-image-composed second first i l = get_or-map (image second) first i i i l
-
--- what a list after another is a bijection of
-pub AllBelow-composed : (second first : List ℕ) → length first ≡ length second → AllBelow second → AllBelow first → AllBelow (composed second first)
-AllBelow-composed second first n h h' i d l =
-    let len = length-map first (image second) in
-    let li : i < length first = omega arith in
-    let at : get_or (composed second first) i d ≡ image second (get_or first i i) = get_or-map (image second) first i i d li in
-    omega (arith, at, StaysBelow-image second h (get_or first i i) (let m = h' i i li in omega arith))
-
-pub joint-image : (one other : List ℕ) → length one ≡ length other → AllBelow one → AllBelow other → joint_classes one other ≡ joint (image one) (image other) (length one)
-joint-image one other n h h' =
-    let k = length one in
-    images_onto (orbits one) other (IsLabels-orbits one h) (length-orbits one ∙ n) h' ∙ (ap (λ l. merge_all l (steps (image other) (length other))) (orbits-image one h) ∙ ap (λ x. merge_all (orbits_of (image one) k) (steps (image other) x)) (sym n))
-
--- THE EULER BOUND over lists: some number makes up for what is missing
-pub euler_bound_images : (permutation pairing : List ℕ) (m : ℕ) → IsPermutationOfBelow permutation → IsPairingOfBelow pairing → length pairing ≡ length permutation → length permutation ≡ m + m → (d : ℕ) × IsWithinEuler permutation pairing m d
-euler_bound_images permutation pairing m p v n e =
-    let f = image permutation in
-    let g = image pairing in
-    let w : IsPermuting f (m + m) = subst (IsPermuting f) e (IsPermuting-image permutation p) in
-    let v' : IsPairing g (m + m) = subst (IsPairing g) (n ∙ e) (IsPairing-image pairing v) in
-    let found = euler_bound f g m w v' in
-    let first : orbits permutation ≡ orbits_of f (m + m) = orbits-image permutation p.within ∙ ap (orbits_of f) e in
-    let len = length-map pairing f in
-    let second : orbits (composed permutation pairing) ≡ orbits_of (after f g) (m + m) =
-    orbits-image (composed permutation pairing) (AllBelow-composed permutation pairing n p.within v.within)
-    ∙ (ap (orbits_of (image (composed permutation pairing))) (len ∙ (n ∙ e)) ∙ orbits_of-same (image (composed permutation pairing)) (after f g) (m + m) (λ i l. image-composed permutation pairing i (omega arith))) in
-    let third : joint_classes permutation pairing ≡ joint f g (m + m) = joint-image permutation pairing (sym n) p.within v.within ∙ ap (joint f g) e in
-    (found.0, record { bound = let b = found.1 in omega (arith, ap class_count first, ap class_count second, ap class_count third) })

@@ -27,6 +27,3 @@ pub record GoesAlong (g : Stage) (x y i : ℕ) : Type 0 where
 abbrev pub FaceMadeOnce : Type 0
 FaceMadeOnce =
     (steps : ℕ → Step) (n k l i j x y : ℕ) → IsRun steps n → k < n → l < n → IsDartOf (stage_after steps k) (steps k) i x y → IsDartOf (stage_after steps l) (steps l) j x y → (k ≡ l) × (i ≡ j)
-
-abbrev pub NoneAlongLater : Type 0
-NoneAlongLater = (steps : ℕ → Step) (n k i j x y : ℕ) → IsRun steps n → k < n → IsDartOf (stage_after steps k) (steps k) i x y → ¬ GoesAlong (stage_after steps n) x y j

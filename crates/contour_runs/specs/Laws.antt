@@ -1,6 +1,6 @@
 -- The laws of runs.
-use Rattle.std.specs.Prelude.{ℕ, suc, ◌+◌, ◌*◌, ◌-◌, ◌<◌, ◌≤◌, ◌≡◌, ◌≢◌, ◌⊎◌, List, [], ◌∷◌, ◌++◌, map, length, take, drop, slice_index}
-use Rattle.contour_runs.specs.Runs.{Step, Stage, moved, after, stage_after, IsStep, IsRun, contour, IsCovered, IsFaceOf, IsDartOf, faces_made}
+use Rattle.std.specs.Prelude.{ℕ, suc, ◌+◌, ◌*◌, ◌-◌, ◌<◌, ◌≤◌, ◌≡◌, ◌≢◌, ◌⊎◌, List, [], ◌∷◌, ◌++◌, map, length, slice_index}
+use Rattle.contour_runs.specs.Runs.{Step, Stage, moved, stage_after, IsRun, contour, IsCovered, IsFaceOf, IsDartOf, faces_made}
 
 -- The place map does not fall.
 abbrev pub PlacesDoNotFall : Type 0
@@ -20,10 +20,6 @@ pub record IsStage (g : Stage) : Type 0 where
 abbrev pub StageOfRun : Type 0
 StageOfRun = (steps : ℕ → Step) (n : ℕ) → IsRun steps n → IsStage (stage_after steps n) × ((stage_after steps n).count ≡ n + 2)
 
--- After a step the contour has the new vertex in place of those strictly between the two places.
-abbrev pub ContourAfter : Type 0
-ContourAfter = (g : Stage) (s : Step) → IsStep g s → contour (after g s) ≡ take (suc s.first) (contour g) ++ g.count ∷ drop s.last (contour g)
-
 -- Along a run places keep their order: what is not before a vertex comes not before it later.
 abbrev pub OrderKept : Type 0
 OrderKept =
@@ -41,11 +37,6 @@ pub record IsCoveredOnce (steps : ℕ → Step) (n v : ℕ) : Type 0 where
 abbrev pub CoveredOnce : Type 0
 CoveredOnce =
     (steps : ℕ → Step) (n v : ℕ) → IsRun steps n → v < n + 2 → (((stage_after steps n).vertex ((stage_after steps n).place v) ≡ v) × ((k : ℕ) → k < n → ¬ IsCovered steps k v)) ⊎ IsCoveredOnce steps n v
-
--- A covered vertex goes with the one that covers it: from then on they have one place.
-abbrev pub CoveredTogether : Type 0
-CoveredTogether =
-    (steps : ℕ → Step) (k n v : ℕ) → IsRun steps n → k < n → IsCovered steps k v → (stage_after steps n).place v ≡ (stage_after steps n).place (k + 2)
 
 -- Each face is made by just one step, and no two faces have a dart in common.
 abbrev pub FaceMadeOnce : Type 0

@@ -14,10 +14,6 @@ SpreadArea = (at : Coordinates) (a b c : ℕ) → IsSpread at a b c → pos 0 <�
 abbrev pub ContourFalls : Type 0
 ContourFalls = (steps : ℕ → Step) (n : ℕ) → IsRun steps n → IsFalling (stage_after steps n) (coordinates steps n)
 
--- Each face that a run makes is spread from then on.
-abbrev pub FacesSpread : Type 0
-FacesSpread = (steps : ℕ → Step) (n k i a b v : ℕ) → IsRun steps n → k < n → IsFaceOf steps k i a b v → IsSpread (coordinates steps n) a b v
-
 -- a run of n steps that places m vertices, of which the last covers all but the base
 pub record IsWholeRun (steps : ℕ → Step) (n m : ℕ) : Type 0 where
   pub run : IsRun steps n

@@ -2,6 +2,7 @@
 use Rattle.std.proofs.Common.{◌≡◌, ℕ, ◌+◌, ◌-◌, ◌<◌, ◌≤◌, ℤ, pos, neg_ℤ, ◌-ℤ◌, ◌*ℤ◌, ◌<ℤ◌, ◌≤ℤ◌, sym, subst, ap₂, ◌∙◌, arith}
 use Rattle.std.proofs.lemmas.Int.{ints}
 use Rattle.pg_plane.specs.Geometry.{area}
+use Rattle.pg_plane.proofs.Identities.{area_turned}
 use Rattle.pg_plane.proofs.Ring.{ring, sums, neg_mul, mul_neg, product_signs}
 use Rattle.contour_runs.specs.Wood.{Coordinates, point_of}
 
@@ -21,7 +22,16 @@ level e d z = let a = neg_mul e (neg_ℤ d) in let b = mul_neg e d in let c = mu
 falling : (e d z : ℤ) → (e *ℤ (d -ℤ z)) -ℤ (z *ℤ neg_ℤ e) ≡ e *ℤ d
 falling e d z = simp ring (omega (arith, sums))
 
+-- three vertices by other names
+pub as_named : (at : Coordinates) (a b c x y z : ℕ) → x ≡ a → y ≡ b → z ≡ c → pos 0 ≤ℤ area (point_of at a) (point_of at b) (point_of at c) → pos 0 ≤ℤ area (point_of at x) (point_of at y) (point_of at z)
+as_named at a b c x y z e f d h =
+    subst (λ x. pos 0 ≤ℤ area (point_of at x) (point_of at y) (point_of at z)) (sym e) (subst (λ y. pos 0 ≤ℤ area (point_of at a) (point_of at y) (point_of at z)) (sym f) (subst (λ z. pos 0 ≤ℤ area (point_of at a) (point_of at b) (point_of at z)) (sym d) h))
+
 module _ (at : Coordinates) (a b c : ℕ) where
+  -- the same three, from the next one on
+  pub turned_weak : pos 0 ≤ℤ area (point_of at b) (point_of at c) (point_of at a) → pos 0 ≤ℤ area (point_of at a) (point_of at b) (point_of at c)
+  turned_weak h = subst (λ z. pos 0 ≤ℤ z) (area_turned (point_of at a) (point_of at b) (point_of at c)) h
+
   abbrev here : ℤ
   here = area (point_of at a) (point_of at b) (point_of at c)
 

@@ -1,16 +1,15 @@
 -- No face bends inwards.
-use Rattle.std.proofs.Common.{◌≡◌, ◌⊎◌, ℕ, suc, ◌+◌, ◌-◌, ◌<◌, ◌≤◌, pos, ◌≤ℤ◌, leb, sym, subst, inl, inr, arith}
+use Rattle.std.proofs.Common.{◌≡◌, ◌⊎◌, ℕ, suc, ◌+◌, ◌-◌, ◌<◌, ◌≤◌, pos, ◌≤ℤ◌, leb, inl, inr, arith}
 use Rattle.std.proofs.lemmas.Bool.{cases_lt, cond-true, cond-false, le-leb, lt-leb}
 use Rattle.std.proofs.lemmas.Int.{ints}
 use Rattle.pg_plane.specs.Geometry.{area}
-use Rattle.pg_plane.proofs.Identities.{area_turned}
 use Rattle.contour_runs.specs.Runs.{Stage}
 use Rattle.contour_runs.specs.Wood.{Coordinates, point_of}
 use Rattle.contour_runs.proofs.Areas.{spread_area}
 use Rattle.contour_runs.specs.FaceRuns.{Step, stage_after, IsStep, face_length, face_vertex}
 use Rattle.contour_runs.proofs.FaceRunsPlaces.{cut-next}
 use Rattle.convex_counts.specs.Counts.{face_counts, IsTurnedRun}
-use Rattle.convex_counts.proofs.Areas.{first_weak, second_weak, third_weak}
+use Rattle.convex_counts.proofs.Areas.{as_named, turned_weak, first_weak, second_weak, third_weak}
 use Rattle.convex_counts.proofs.FacePointsSides.{on_first, on_second, on_third, first_second, second_third, third_first, three_sides, step}
 
 -- on which side the vertex r of a face is
@@ -64,13 +63,6 @@ module _ (steps : ℕ → Step) (n k i : ℕ) (turned : IsTurnedRun steps n) (lk
   abbrev vertex : ℕ → ℕ
   vertex r = face_vertex g s i r
 
-  as_named : (a b c x y z : ℕ) → x ≡ a → y ≡ b → z ≡ c → pos 0 ≤ℤ area (point_of at a) (point_of at b) (point_of at c) → pos 0 ≤ℤ area (point_of at x) (point_of at y) (point_of at z)
-  as_named a b c x y z e f d h =
-      subst (λ x. pos 0 ≤ℤ area (point_of at x) (point_of at y) (point_of at z)) (sym e) (subst (λ y. pos 0 ≤ℤ area (point_of at a) (point_of at y) (point_of at z)) (sym f) (subst (λ z. pos 0 ≤ℤ area (point_of at a) (point_of at b) (point_of at z)) (sym d) h))
-
-  turn_on : (a b c : ℕ) → pos 0 ≤ℤ area (point_of at b) (point_of at c) (point_of at a) → pos 0 ≤ℤ area (point_of at a) (point_of at b) (point_of at c)
-  turn_on a b c h = subst (λ z. pos 0 ≤ℤ z) (area_turned (point_of at a) (point_of at b) (point_of at c)) h
-
   convex : (r r' r'' : ℕ) → r < r' → r' < r'' → r'' < face_length s i → pos 0 ≤ℤ area (point_of at (vertex r)) (point_of at (vertex r')) (point_of at (vertex r''))
   convex r r' r'' a b c =
       let st = step steps n turned k i lk li in
@@ -92,15 +84,15 @@ module _ (steps : ℕ → Step) (n k i : ℕ) (turned : IsTurnedRun steps n) (lk
                         let z2 = z.high in
                         let q = on_first steps n turned k i lk li x.place z.place (omega arith) (omega arith) z2 in
                         let q1 = q.one in
-                        as_named (g.vertex x.place) (g.vertex y.place) (g.vertex z.place) _ _ _ x.vertex y.vertex z.vertex (first_weak at _ _ _ p.one (omega arith) (omega arith))
+                        as_named at (g.vertex x.place) (g.vertex y.place) (g.vertex z.place) _ _ _ x.vertex y.vertex z.vertex (first_weak at _ _ _ p.one (omega arith) (omega arith))
                     | inr (inl z) ↦
                         let q = first_second steps n turned k i lk li x.place z.place (omega arith) x2 z.low z.high in
                         let q1 = q.one in
-                        as_named (g.vertex x.place) (g.vertex y.place) (g.vertex z.place) _ _ _ x.vertex y.vertex z.vertex (first_weak at _ _ _ p.one (omega arith) (omega arith))
+                        as_named at (g.vertex x.place) (g.vertex y.place) (g.vertex z.place) _ _ _ x.vertex y.vertex z.vertex (first_weak at _ _ _ p.one (omega arith) (omega arith))
                     | inr (inr z) ↦
                         let q = third_first steps n turned k i lk li (vertex r'') x.place z.low z.high (omega arith) x2 in
                         let q1 = q.one in
-                        as_named (g.vertex x.place) (g.vertex y.place) (vertex r'') _ _ _ x.vertex y.vertex (same (vertex r'')) (first_weak at _ _ _ p.one (omega arith) (omega arith))
+                        as_named at (g.vertex x.place) (g.vertex y.place) (vertex r'') _ _ _ x.vertex y.vertex (same (vertex r'')) (first_weak at _ _ _ p.one (omega arith) (omega arith))
                   ]
               | inr (inl y) ↦
                   let y1 = y.at in
@@ -112,10 +104,10 @@ module _ (steps : ℕ → Step) (n k i : ℕ) (turned : IsTurnedRun steps n) (lk
                         let z1 = z.at in
                         let q = on_second steps n turned k i lk li y.place z.place y.low (omega arith) z.high in
                         let q1 = q.one in
-                        as_named (g.vertex x.place) (g.vertex y.place) (g.vertex z.place) _ _ _ x.vertex y.vertex z.vertex (turn_on _ _ _ (second_weak at _ _ _ q.two (omega arith) (omega arith)))
+                        as_named at (g.vertex x.place) (g.vertex y.place) (g.vertex z.place) _ _ _ x.vertex y.vertex z.vertex (turned_weak at _ _ _ (second_weak at _ _ _ q.two (omega arith) (omega arith)))
                     | inr (inr z) ↦
                         let q = spread_area at _ _ _ (three_sides steps n turned k i lk li x.place y.place (vertex r'') (omega arith) x2 y.low y.high z.low z.high) in
-                        as_named (g.vertex x.place) (g.vertex y.place) (vertex r'') _ _ _ x.vertex y.vertex (same (vertex r'')) (omega (arith, ints))
+                        as_named at (g.vertex x.place) (g.vertex y.place) (vertex r'') _ _ _ x.vertex y.vertex (same (vertex r'')) (omega (arith, ints))
                   ]
               | inr (inr y) ↦
                   let y0 = y.behind in
@@ -128,7 +120,7 @@ module _ (steps : ℕ → Step) (n k i : ℕ) (turned : IsTurnedRun steps n) (lk
                         let p = third_first steps n turned k i lk li (vertex r') x.place y.low y.high (omega arith) x2 in
                         let p2 = p.sum in
                         let q = on_third steps n turned k i lk li (vertex r') (vertex r'') z.low (omega arith) y.high in
-                        as_named (g.vertex x.place) (vertex r') (vertex r'') _ _ _ x.vertex (same (vertex r')) (same (vertex r'')) (turn_on _ _ _ (third_weak at _ _ _ q.sum q.one (omega arith)))
+                        as_named at (g.vertex x.place) (vertex r') (vertex r'') _ _ _ x.vertex (same (vertex r')) (same (vertex r'')) (turned_weak at _ _ _ (third_weak at _ _ _ q.sum q.one (omega arith)))
                   ]
             ]
         | inr (inl x) ↦
@@ -146,11 +138,11 @@ module _ (steps : ℕ → Step) (n k i : ℕ) (turned : IsTurnedRun steps n) (lk
                         let z1 = z.at in
                         let q = on_second steps n turned k i lk li x.place z.place x.low (omega arith) z.high in
                         let q2 = q.two in
-                        as_named (g.vertex x.place) (g.vertex y.place) (g.vertex z.place) _ _ _ x.vertex y.vertex z.vertex (second_weak at _ _ _ p.two (omega arith) (omega arith))
+                        as_named at (g.vertex x.place) (g.vertex y.place) (g.vertex z.place) _ _ _ x.vertex y.vertex z.vertex (second_weak at _ _ _ p.two (omega arith) (omega arith))
                     | inr (inr z) ↦
                         let q = second_third steps n turned k i lk li x.place (vertex r'') x.low x.high z.low z.high in
                         let q2 = q.two in
-                        as_named (g.vertex x.place) (g.vertex y.place) (vertex r'') _ _ _ x.vertex y.vertex (same (vertex r'')) (second_weak at _ _ _ p.two (omega arith) (omega arith))
+                        as_named at (g.vertex x.place) (g.vertex y.place) (vertex r'') _ _ _ x.vertex y.vertex (same (vertex r'')) (second_weak at _ _ _ p.two (omega arith) (omega arith))
                   ]
               | inr (inr y) ↦
                   let y0 = y.behind in
@@ -163,7 +155,7 @@ module _ (steps : ℕ → Step) (n k i : ℕ) (turned : IsTurnedRun steps n) (lk
                         let p = second_third steps n turned k i lk li x.place (vertex r') x.low x.high y.low y.high in
                         let p2 = p.sum in
                         let q = on_third steps n turned k i lk li (vertex r') (vertex r'') z.low (omega arith) y.high in
-                        as_named (g.vertex x.place) (vertex r') (vertex r'') _ _ _ x.vertex (same (vertex r')) (same (vertex r'')) (turn_on _ _ _ (third_weak at _ _ _ q.sum q.one (omega arith)))
+                        as_named at (g.vertex x.place) (vertex r') (vertex r'') _ _ _ x.vertex (same (vertex r')) (same (vertex r'')) (turned_weak at _ _ _ (third_weak at _ _ _ q.sum q.one (omega arith)))
                   ]
             ]
         | inr (inr x) ↦

@@ -12,7 +12,7 @@ use Rattle.contour_runs.proofs.Areas.{spread_area}
 use Rattle.contour_runs.specs.FaceRuns.{Step, stage_after, IsStep, IsAlong, IsUp, IsAcross, IsDown, IsDartOf}
 use Rattle.convex_counts.specs.Counts.{face_counts, thrice, sum_of, middle}
 use Rattle.convex_counts.specs.FacePointsLaws.{IsWholeRun}
-use Rattle.convex_counts.proofs.Areas.{first_weak, first_strict, second_weak, second_strict, third_weak, third_strict}
+use Rattle.convex_counts.proofs.Areas.{turned_weak, first_weak, first_strict, second_weak, second_strict, third_weak, third_strict}
 use Rattle.convex_counts.proofs.FacePointsSides.{on_first, on_second, on_third, first_second, second_third, third_first, three_sides, first_weak_pair, second_weak_pair, step}
 use Rattle.convex_counts.proofs.Apart.{new_apart}
 
@@ -73,9 +73,6 @@ record HasLeft (at : Coordinates) (x y a b c : ℕ) : Type 0 where
   pub some : (pos 0 <ℤ area_of at x y a) ⊎ ((pos 0 <ℤ area_of at x y b) ⊎ (pos 0 <ℤ area_of at x y c))
 
 module _ (at : Coordinates) where
-  turned_weak : (x y z : ℕ) → pos 0 ≤ℤ area_of at y z x → pos 0 ≤ℤ area_of at x y z
-  turned_weak x y z h = subst (λ m. pos 0 ≤ℤ m) (area_turned (point_of at x) (point_of at y) (point_of at z)) h
-
   turned_strict : (x y z : ℕ) → pos 0 <ℤ area_of at y z x → pos 0 <ℤ area_of at x y z
   turned_strict x y z h = subst (λ m. pos 0 <ℤ m) (area_turned (point_of at x) (point_of at y) (point_of at z)) h
 

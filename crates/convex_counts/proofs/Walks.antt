@@ -1,8 +1,8 @@
 -- The darts of a face along its walk.
-use Rattle.std.proofs.Common.{◌≡◌, ◌⊎◌, ℕ, suc, ◌+◌, ◌-◌, ◌<◌, ◌≤◌, pos, ◌≤ℤ◌, leb, sym, ap, subst, ◌∙◌, inl, inr, arith}
+use Rattle.std.proofs.Common.{◌≡◌, ◌⊎◌, ℕ, suc, ◌+◌, ◌-◌, ◌<◌, ◌≤◌, pos, ◌≤ℤ◌, leb, sym, ap, ◌∙◌, inl, inr, arith}
 use Rattle.std.proofs.lemmas.Bool.{cases_lt, cond-true, cond-false, le-leb, lt-leb}
 use Rattle.pg_plane.specs.Geometry.{area}
-use Rattle.pg_plane.proofs.Identities.{area_turned}
+use Rattle.convex_counts.proofs.Areas.{as_named, turned_weak}
 use Rattle.contour_runs.specs.Runs.{Stage}
 use Rattle.contour_runs.specs.Laws.{IsStage}
 use Rattle.contour_runs.specs.Wood.{Coordinates, point_of}
@@ -112,13 +112,6 @@ module _ (steps : ℕ → Step) (n k i : ℕ) (turned : IsTurnedRun steps n) (lk
   step : IsStep g s
   step = turned.run k lk
 
-  renamed : (a b c x y z : ℕ) → a ≡ x → b ≡ y → c ≡ z → pos 0 ≤ℤ area (point_of at a) (point_of at b) (point_of at c) → pos 0 ≤ℤ area (point_of at x) (point_of at y) (point_of at z)
-  renamed a b c x y z e f d h =
-      subst (λ x. pos 0 ≤ℤ area (point_of at x) (point_of at y) (point_of at z)) e (subst (λ y. pos 0 ≤ℤ area (point_of at a) (point_of at y) (point_of at z)) f (subst (λ z. pos 0 ≤ℤ area (point_of at a) (point_of at b) (point_of at z)) d h))
-
-  turn_on : (a b c : ℕ) → pos 0 ≤ℤ area (point_of at b) (point_of at c) (point_of at a) → pos 0 ≤ℤ area (point_of at a) (point_of at b) (point_of at c)
-  turn_on a b c h = subst (λ z. pos 0 ≤ℤ z) (area_turned (point_of at a) (point_of at b) (point_of at c)) h
-
   at_corner : (x y z : ℕ) → IsDartOf g s i x y → IsDartOf g s i y z → pos 0 ≤ℤ area (point_of at x) (point_of at y) (point_of at z)
   at_corner x y z d e =
       let rise = cut-next g s step i li in
@@ -133,11 +126,11 @@ module _ (steps : ℕ → Step) (n k i : ℕ) (turned : IsTurnedRun steps n) (lk
                   let bw = b.within in
                   let same = passed_once g s i stage step li (suc p.0) q.0 aw (omega arith) (a.head ∙ sym b.tail) in
                   let after : suc q.0 ≡ suc (suc p.0) = omega arith in
-                  renamed (vertex p.0) (vertex (suc p.0)) (vertex (suc (suc p.0))) x y z a.tail a.head (ap vertex (sym after) ∙ b.head) (faces_convex steps n k i p.0 (suc p.0) (suc (suc p.0)) turned lk li (omega arith) (omega arith) (omega arith))
+                  as_named at (vertex p.0) (vertex (suc p.0)) (vertex (suc (suc p.0))) x y z (sym a.tail) (sym a.head) (sym b.head ∙ ap vertex after) (faces_convex steps n k i p.0 (suc p.0) (suc (suc p.0)) turned lk li (omega arith) (omega arith) (omega arith))
               | inr b ↦
                   let bl = b.last in
                   let same = passed_once g s i stage step li (suc p.0) q.0 aw (omega arith) (a.head ∙ sym b.tail) in
-                  renamed (vertex p.0) (vertex (suc p.0)) (vertex 0) x y z a.tail a.head b.head (turn_on (vertex p.0) (vertex (suc p.0)) (vertex 0) (turn_on (vertex (suc p.0)) (vertex 0) (vertex p.0) (faces_convex steps n k i 0 p.0 (suc p.0) turned lk li (omega arith) (omega arith) (omega arith))))
+                  as_named at (vertex p.0) (vertex (suc p.0)) (vertex 0) x y z (sym a.tail) (sym a.head) (sym b.head) (turned_weak at (vertex p.0) (vertex (suc p.0)) (vertex 0) (turned_weak at (vertex (suc p.0)) (vertex 0) (vertex p.0) (faces_convex steps n k i 0 p.0 (suc p.0) turned lk li (omega arith) (omega arith) (omega arith))))
             ]
         | inr a ↦
             let al = a.last in
@@ -146,7 +139,7 @@ module _ (steps : ℕ → Step) (n k i : ℕ) (turned : IsTurnedRun steps n) (lk
                   let bw = b.within in
                   let same = passed_once g s i stage step li 0 q.0 (omega arith) (omega arith) (a.head ∙ sym b.tail) in
                   let after : suc q.0 ≡ 1 = omega arith in
-                  renamed (vertex p.0) (vertex 0) (vertex 1) x y z a.tail a.head (ap vertex (sym after) ∙ b.head) (turn_on (vertex p.0) (vertex 0) (vertex 1) (faces_convex steps n k i 0 1 p.0 turned lk li (omega arith) (omega arith) (omega arith)))
+                  as_named at (vertex p.0) (vertex 0) (vertex 1) x y z (sym a.tail) (sym a.head) (sym b.head ∙ ap vertex after) (turned_weak at (vertex p.0) (vertex 0) (vertex 1) (faces_convex steps n k i 0 1 p.0 turned lk li (omega arith) (omega arith) (omega arith)))
               | inr b ↦ let bl = b.last in let same = passed_once g s i stage step li 0 q.0 (omega arith) (omega arith) (a.head ∙ sym b.tail) in absurd (omega arith)
             ]
       ]

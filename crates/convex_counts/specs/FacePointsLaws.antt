@@ -1,22 +1,15 @@
 -- The laws of points by counts of faces.
-use Rattle.std.specs.Prelude.{ℕ, suc, ◌<◌, ◌≤◌, ◌≡◌, ◌⊎◌, pos, negsuc, ◌<ℤ◌, ◌≤ℤ◌}
+use Rattle.std.specs.Prelude.{ℕ, suc, ◌<◌, ◌≤◌, ◌≡◌, ◌⊎◌, pos, negsuc, ◌<ℤ◌}
 use Rattle.pg_plane.specs.declared.point.Point.{Point}
 use Rattle.pg_plane.specs.Geometry.{area, IsOnSegment}
 use Rattle.contour_runs.specs.Wood.{point_of}
-use Rattle.contour_runs.specs.FaceRuns.{Step, stage_after, IsRun, IsDartOf, face_length, face_vertex, faces_made}
-use Rattle.convex_counts.specs.Counts.{face_counts, IsLeft, IsRight, IsTurnedRun, thrice, middle}
+use Rattle.contour_runs.specs.FaceRuns.{Step, stage_after, IsRun, faces_made}
+use Rattle.convex_counts.specs.Counts.{face_counts, IsLeft, IsRight, IsTurnedRun}
 use Rattle.convex_counts.specs.Contours.{IsFalling}
-use Rattle.convex_counts.specs.Turns.{well_turned, IsTouchedRun}
 
 -- At each stage the contour has these facts, so all vertices lie in a grid as wide and as high as there are faces.
 abbrev pub ContourFalls : Type 0
 ContourFalls = (steps : ℕ → Step) (n : ℕ) → IsRun steps n → IsFalling (stage_after steps n) (face_counts steps n) (faces_made steps n)
-
--- No face bends inwards: any three of its vertices, in the order of its walk, have no negative area.
-abbrev pub FacesConvex : Type 0
-FacesConvex =
-    (steps : ℕ → Step) (n k i r r' r'' : ℕ) → IsTurnedRun steps n → k < n → i < (steps k).faces → r < r' → r' < r'' → r'' < face_length (steps k) i
-    → (let at = face_counts steps n in let vertex = face_vertex (stage_after steps k) (steps k) i in pos 0 ≤ℤ area (point_of at (vertex r)) (point_of at (vertex r')) (point_of at (vertex r'')))
 
 -- A whole run turns well, and its last contour goes right up to the last vertex, and left from it on.
 pub record IsWholeRun (steps : ℕ → Step) (n : ℕ) : Type 0 where
@@ -27,19 +20,6 @@ pub record IsWholeRun (steps : ℕ → Step) (n : ℕ) : Type 0 where
   pub right : (j : ℕ) → j < top → IsRight (stage_after steps n) (face_counts steps n) j
   pub left : (j : ℕ) → top ≤ j → suc j < (stage_after steps n).width → IsLeft (stage_after steps n) (face_counts steps n) j
 
--- The middle of a face is strictly to the left of each of its darts.
-abbrev pub MiddleWithin : Type 0
-MiddleWithin =
-    (steps : ℕ → Step) (n k i x y : ℕ) → IsWholeRun steps n → k < n → IsDartOf (stage_after steps k) (steps k) i x y → (let at = face_counts steps n in pos 0 <ℤ area (thrice at x) (thrice at y) (middle steps at k i))
-
--- In such a run turns can be read off: with them the run is whole. Its contours are as before.
-abbrev pub TouchedTurns : Type 0
-TouchedTurns = (steps : ℕ → Step) (n : ℕ) → IsTouchedRun steps n → IsWholeRun (well_turned steps) n
-
-abbrev pub ContoursAsBefore : Type 0
-ContoursAsBefore =
-    (steps : ℕ → Step) (n : ℕ) → ((stage_after (well_turned steps) n).width ≡ (stage_after steps n).width) × ((stage_after (well_turned steps) n).count ≡ (stage_after steps n).count) × ((stage_after (well_turned steps) n).vertex ≡ (stage_after steps n).vertex)
-
 -- A whole run of m faces stands in the grid m by m: the first vertex at (m, 0), the second at (0, m) and the last at (0, 0), and all of the contour on the axes.
 pub record IsCornered (steps : ℕ → Step) (n m : ℕ) : Type 0 where
   pub grid : (v : ℕ) → v < (stage_after steps n).count → ((face_counts steps n).one v ≤ m) × ((face_counts steps n).two v ≤ m)
@@ -48,31 +28,11 @@ pub record IsCornered (steps : ℕ → Step) (n m : ℕ) : Type 0 where
   pub last : (v : ℕ) → suc v ≡ (stage_after steps n).count → ((face_counts steps n).one v ≡ 0) × ((face_counts steps n).two v ≡ 0)
   pub axes : (j : ℕ) → j < (stage_after steps n).width → ((face_counts steps n).two ((stage_after steps n).vertex j) ≡ 0) ⊎ ((face_counts steps n).one ((stage_after steps n).vertex j) ≡ 0)
 
-abbrev pub WholeRunCorners : Type 0
-WholeRunCorners = (steps : ℕ → Step) (n : ℕ) → IsWholeRun steps n → IsCornered steps n (faces_made steps n)
-
 -- Outside, a point below and to the left of all is strictly to the left of each edge of the contour, walked from the first vertex to the second, and strictly to the right of the base.
 abbrev pub outside : Point
 outside = record { x = negsuc 0; y = negsuc 0 }
-
-abbrev pub OutsideLeft : Type 0
-OutsideLeft =
-    (steps : ℕ → Step) (n j : ℕ) → IsWholeRun steps n → suc j < (stage_after steps n).width
-    → (let at = face_counts steps n in let g = stage_after steps n in pos 0 <ℤ area (thrice at (g.vertex j)) (thrice at (g.vertex (suc j))) outside)
-
-abbrev pub OutsideRight : Type 0
-OutsideRight = (steps : ℕ → Step) (n : ℕ) → IsWholeRun steps n → 0 < n → (let at = face_counts steps n in area (thrice at 1) (thrice at 0) outside <ℤ pos 0)
-
--- So it is for two darts of a face that follow one another.
-abbrev pub CornersConvex : Type 0
-CornersConvex =
-    (steps : ℕ → Step) (n k i x y z : ℕ) → IsTurnedRun steps n → k < n → IsDartOf (stage_after steps k) (steps k) i x y → IsDartOf (stage_after steps k) (steps k) i y z
-    → (let at = face_counts steps n in pos 0 ≤ℤ area (point_of at x) (point_of at y) (point_of at z))
 
 -- The outer face of a whole run is a triangle with flat angles: its corners are the base and the last vertex e, and each vertex of the last contour is on the segment from the first to e or on that from e to the second.
 pub record IsOuterTriangle (steps : ℕ → Step) (n e : ℕ) : Type 0 where
   pub corners : (let at = face_counts steps n in pos 0 <ℤ area (point_of at 0) (point_of at 1) (point_of at e))
   pub sides : (j : ℕ) → j < (stage_after steps n).width → (let at = face_counts steps n in let v = (stage_after steps n).vertex j in IsOnSegment (point_of at v) (point_of at 0) (point_of at e) ⊎ IsOnSegment (point_of at v) (point_of at e) (point_of at 1))
-
-abbrev pub OuterTriangle : Type 0
-OuterTriangle = (steps : ℕ → Step) (n e : ℕ) → IsWholeRun steps n → 0 < n → suc e ≡ (stage_after steps n).count → IsOuterTriangle steps n e

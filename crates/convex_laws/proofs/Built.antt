@@ -25,7 +25,7 @@ abbrev pub HasRun : Lists → (ℕ → Bool) → (ℕ → ℕ) → ℕ → Type 
 HasRun lists alive w r = (steps : ℕ → Step) × (n : ℕ) × (rank : ℕ → ℕ) × (number : ℕ → ℕ) × IsBuilt lists alive w r steps n rank number × AreTouched lists alive w r steps n rank
 
 -- no faces are none by their labels
-none_counted : (lists : Lists) (alive : ℕ → Bool) → IsSimpleMap lists → AreLabels lists alive → ((x y : ℕ) → HasDart lists x y → alive (face_of lists x y) ≢ true) → count_below alive (dart_count lists) ≡ 0
+pub none_counted : (lists : Lists) (alive : ℕ → Bool) → IsSimpleMap lists → AreLabels lists alive → ((x y : ℕ) → HasDart lists x y → alive (face_of lists x y) ≢ true) → count_below alive (dart_count lists) ≡ 0
 none_counted lists alive simple labels none =
     let k = dart_count lists in
     count_below_same alive (λ i. false) k (λ i l. elim (cases_Bool (alive i)) [

@@ -1,32 +1,16 @@
 -- Where the base alone is left, the rows are those of a run.
 use Rattle.std.proofs.Common.{◌≡◌, ◌≢◌, ℕ, zero, suc, ◌+◌, ◌≤◌, Bool, true, false, ap, ◌∙◌, subst, inl, inr, arith}
-use Rattle.std.proofs.lemmas.Bool.{cases_Bool}
 use Rattle.classes.specs.Classes.{label, count_below}
-use Rattle.classes.proofs.Counting.{count_below_same, count_below_none}
 use Rattle.map_lists.specs.Lists.{Lists}
 use Rattle.map_theory.specs.Maps.{HasDart, IsSimpleMap, dart_count, face_classes}
-use Rattle.map_theory.proofs.DartPermutations.{dart_of, dart_of-number}
 use Rattle.contour_runs.specs.FaceRuns.{Step, faces_made, IsRun}
 use Rattle.convex_peeling.specs.Contours.{face_of}
 use Rattle.convex_laws.specs.declared.convex_rows.rows.ConvexRows.{ConvexRows}
 use Rattle.convex_laws.specs.RunsOfMaps.{IsRunOf}
-use Rattle.convex_laws.proofs.Built.{AreLabels, base_built}
+use Rattle.convex_laws.proofs.Built.{AreLabels, none_counted, base_built}
 use Rattle.convex_laws.specs.Removed.{AreRowsOfRun}
 use Rattle.convex_laws.proofs.Ends.{IsEnded, GoesOn}
 use Rattle.convex_laws.proofs.Ranked.{rows_of_run}
-
--- no faces are none by their labels
-none_counted : (lists : Lists) (alive : ℕ → Bool) → IsSimpleMap lists → AreLabels lists alive → ((x y : ℕ) → HasDart lists x y → alive (face_of lists x y) ≢ true) → count_below alive (dart_count lists) ≡ 0
-none_counted lists alive simple labels none =
-    let k = dart_count lists in
-    count_below_same alive (λ i. false) k (λ i l. elim (cases_Bool (alive i)) [
-      | inr f ↦ f
-      | inl t ↦
-          let d = dart_of lists i in
-          let number = dart_of-number lists simple i l in
-          let e : face_of lists d.0 d.1 ≡ i = ap (label (face_classes lists)) number.number ∙ labels i t in
-          absurd (none d.0 d.1 number.is_dart (ap alive e ∙ t))
-    ]) ∙ count_below_none k
 
 -- each step makes a face
 steps-le-faces_made : (steps : ℕ → Step) (n : ℕ) → IsRun steps n → n ≤ faces_made steps n

@@ -66,6 +66,25 @@ off_contour lists alive w r simple only round v x z off has live has_z =
     (λ t p. (HasDart-follows lists v t p.0, ap alive (face_of-step lists simple t v (simple.both_ways v t p.0)) ∙ behind t p.0 p.1)) has_z.1 in
     (end.1, behind z end.0 end.1)
 
+module _ (lists : Lists) (alive : ℕ → Bool) (w : ℕ → ℕ) (r : ℕ) (o : Removal) (simple : IsSimpleMap lists) (contour : IsContour lists alive w r) (off : IsTakenOff lists alive w r o) (shore : IsShore lists o.alive o.contour o.places) where
+  round_after : o.contour (suc o.places) ≡ o.contour 0
+  round_after =
+      let a = gone_within lists alive w r o off in
+      let b = off.width in
+      let q : ℕ = suc r - (o.first + o.vertices + 1) in
+      let z : suc o.places ≡ o.last + q = omega arith in
+      let z' : o.first + o.vertices + 1 + q ≡ suc r = omega arith in
+      ap o.contour z ∙ (off.behind q ∙ (ap w z' ∙ (contour.round ∙ sym (begins_as_before lists alive w r o off))))
+
+  -- no face that is left passes a vertex that goes
+  pub goer_off : (q x : ℕ) → q < o.vertices → HasDart lists (w (suc (o.first + q))) x → o.alive (face_of lists (w (suc (o.first + q))) x) ≢ true
+  goer_off q x l has live =
+      let a = gone_within lists alive w r o off in
+      let i = suc (o.first + q) in
+      let rim = contour.edge i (omega arith) in
+      let all = off_contour lists o.alive o.contour o.places simple shore.only round_after (w i) x (w (suc i)) (λ p m. gone_from lists alive w r o off contour q p l m) has live rim.dart in
+      true≢false (sym all.0 ∙ stays_dead lists alive w r o off (face_of lists (w i) (w (suc i))) rim.outside)
+
 module _ (lists : Lists) (alive : ℕ → Bool) (w : ℕ → ℕ) (r : ℕ) (o : Removal) (steps : ℕ → Step) (n : ℕ) (rank number : ℕ → ℕ) (simple : IsSimpleMap lists) (contour : IsContour lists alive w r) (off : IsTakenOff lists alive w r o) (shore : IsShore lists o.alive o.contour o.places) (built : IsBuilt lists o.alive o.contour o.places steps n rank number) where
   abbrev pub g : Stage
   g = stage_after steps n
@@ -169,26 +188,8 @@ module _ (lists : Lists) (alive : ℕ → Bool) (w : ℕ → ℕ) (r : ℕ) (o :
         | inr (inr high) ↦ vertex_after-high g step i high.0 high.1.far high.1.from ∙ (on_rank high.0 high.1.within ∙ ap rank' high.1.vertex)
       ]
 
-  round_after : o.contour (suc o.places) ≡ o.contour 0
-  round_after =
-      let a = gone_within lists alive w r o off in
-      let b = off.width in
-      let q : ℕ = suc r - (o.first + o.vertices + 1) in
-      let z : suc o.places ≡ o.last + q = omega arith in
-      let z' : o.first + o.vertices + 1 + q ≡ suc r = omega arith in
-      ap o.contour z ∙ (off.behind q ∙ (ap w z' ∙ (contour.round ∙ sym (begins_as_before lists alive w r o off))))
-
-  -- no face that is left passes a vertex that goes
-  goer_dead : (q x : ℕ) → q < o.vertices → HasDart lists (goer q) x → o.alive (face_of lists (goer q) x) ≢ true
-  goer_dead q x l has live =
-      let a = gone_within lists alive w r o off in
-      let i = suc (o.first + q) in
-      let rim = contour.edge i (omega arith) in
-      let all = off_contour lists o.alive o.contour o.places simple shore.only round_after (goer q) x (w (suc i)) (λ p m. gone_from lists alive w r o off contour q p l m) has live rim.dart in
-      true≢false (sym all.0 ∙ stays_dead lists alive w r o off (face_of lists (w i) (w (suc i))) rim.outside)
-
   living_stays : (v x : ℕ) → HasDart lists v x → o.alive (face_of lists v x) ≡ true → Stays v
-  living_stays v x has live q l e = goer_dead q x l (subst (λ t. HasDart lists t x) (sym e) has) (ap (λ t. o.alive (face_of lists t x)) e ∙ live)
+  living_stays v x has live q l e = goer_off lists alive w r o simple contour off shore q x l (subst (λ t. HasDart lists t x) (sym e) has) (ap (λ t. o.alive (face_of lists t x)) e ∙ live)
 
   -- what the removed faces pass
   cut_within : (i : ℕ) → i ≤ o.faces → o.cut i ≤ o.places

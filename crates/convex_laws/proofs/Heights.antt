@@ -37,6 +37,15 @@ module _ (lists : Lists) (simple : IsSimpleMap lists) (up : ℕ → ℕ) (m : �
     pub same : face_of lists x y ≡ face_of lists tail head
     pub far : P k tail
 
+  step_on : (k : ℕ) (P : ℕ → ℕ → Type 0) (h : IsSteps k P) → P (suc k) h.head → IsSteps (suc k) P
+  step_on k P h far = record {
+    tail = h.head;
+    head = follows lists h.head h.tail;
+    dart = HasDart-face_step lists (h.tail, h.head) simple h.dart;
+    same = h.same ∙ sym (face_of-step lists simple h.tail h.head h.dart);
+    far = far;
+  }
+
   abbrev Along : Type 0
   Along = (x' y' : ℕ) → HasDart lists x' y' → SameFace lists (x, y) (x', y') → up x' < up y'
 
@@ -49,13 +58,7 @@ module _ (lists : Lists) (simple : IsSimpleMap lists) (up : ℕ → ℕ) (m : �
       let h = climb all k in
       let less = all h.tail h.head h.dart (SameFace-labels lists x y h.tail h.head h.same) in
       let f = h.far in
-      record {
-        tail = h.head;
-        head = follows lists h.head h.tail;
-        dart = HasDart-face_step lists (h.tail, h.head) simple h.dart;
-        same = h.same ∙ sym (face_of-step lists simple h.tail h.head h.dart);
-        far = omega arith;
-      }
+      step_on k _ h (omega arith)
 
   sink : Against → (k : ℕ) → IsSteps k (λ k v. up v + k ≤ m)
   sink all zero = let l = most x y has in record { tail = x; head = y; dart = has; same = refl; far = omega arith }
@@ -63,13 +66,7 @@ module _ (lists : Lists) (simple : IsSimpleMap lists) (up : ℕ → ℕ) (m : �
       let h = sink all k in
       let less = all h.tail h.head h.dart (SameFace-labels lists x y h.tail h.head h.same) in
       let f = h.far in
-      record {
-        tail = h.head;
-        head = follows lists h.head h.tail;
-        dart = HasDart-face_step lists (h.tail, h.head) simple h.dart;
-        same = h.same ∙ sym (face_of-step lists simple h.tail h.head h.dart);
-        far = omega arith;
-      }
+      step_on k _ h (omega arith)
 
   pub never_along : ¬ Along
   never_along all = let h = climb all (suc m) in let f = h.far in let l = most h.tail h.head h.dart in omega arith

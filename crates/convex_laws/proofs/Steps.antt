@@ -1,6 +1,6 @@
 -- One removal read backwards: what stays keeps its rank, and the row of the removal is that of the step.
 use Rattle.std.proofs.Common.{◌≡◌, ◌≢◌, ℕ, suc, ◌+◌, ◌-◌, ◌<◌, ◌≤◌, Bool, true, List, length, slice_index, refl, sym, ap, ◌∙◌, subst, inl, inr, arith}
-use Rattle.std.proofs.lemmas.Bool.{cases_lt, true≢false}
+use Rattle.std.proofs.lemmas.Bool.{cases_lt}
 use Rattle.map_lists.specs.Lists.{Lists}
 use Rattle.map_theory.specs.Maps.{HasDart, IsSimpleMap, follows}
 use Rattle.map_theory.proofs.DartLemmas.{HasDart-follows}
@@ -9,9 +9,9 @@ use Rattle.contour_runs.specs.FaceRuns.{Step, stage_after}
 use Rattle.convex_peeling.specs.Contours.{face_of, IsContour}
 use Rattle.convex_peeling.specs.Removals.{Removal, IsTakenOff}
 use Rattle.convex_peeling.proofs.Faces.{face_of-step}
-use Rattle.convex_peeling.proofs.Removed.{gone_within, first_lt, stays_dead, begins_as_before, gone_from}
+use Rattle.convex_peeling.proofs.Removed.{gone_within, first_lt, gone_from}
 use Rattle.convex_laws.proofs.Longer.{put-old, put-found}
-use Rattle.convex_laws.proofs.Grown.{IsPlaced, IsShore, IsBuilt, off_contour, rank'}
+use Rattle.convex_laws.proofs.Grown.{IsPlaced, IsShore, IsBuilt, goer_off, rank'}
 use Rattle.convex_laws.specs.Rows.{AreCuts}
 use Rattle.convex_laws.specs.Removed.{IsRowOf}
 
@@ -31,30 +31,12 @@ module _ (lists : Lists) (alive : ℕ → Bool) (w : ℕ → ℕ) (r : ℕ) (o :
   abbrev goer : ℕ → ℕ
   goer q = w (suc (o.first + q))
 
-  round_after : o.contour (suc o.places) ≡ o.contour 0
-  round_after =
-      let a = gone_within lists alive w r o off in
-      let b = off.width in
-      let q : ℕ = suc r - (o.first + o.vertices + 1) in
-      let z : suc o.places ≡ o.last + q = omega arith in
-      let z' : o.first + o.vertices + 1 + q ≡ suc r = omega arith in
-      ap o.contour z ∙ (off.behind q ∙ (ap w z' ∙ (contour.round ∙ sym (begins_as_before lists alive w r o off))))
-
-  -- no face that is left passes a vertex that goes
-  pub goer_off : (q x : ℕ) → q < o.vertices → HasDart lists (goer q) x → o.alive (face_of lists (goer q) x) ≢ true
-  goer_off q x l has live =
-      let a = gone_within lists alive w r o off in
-      let i = suc (o.first + q) in
-      let rim = contour.edge i (omega arith) in
-      let all = off_contour lists o.alive o.contour o.places simple shore.only round_after (goer q) x (w (suc i)) (λ p m. gone_from lists alive w r o off contour q p l m) has live rim.dart in
-      true≢false (sym all.0 ∙ stays_dead lists alive w r o off (face_of lists (w i) (w (suc i))) rim.outside)
-
   -- what is placed after it stays
   pub placed_stays : (v q : ℕ) → IsPlaced lists o.alive o.contour o.places v → q < o.vertices → goer q ≢ v
   placed_stays v q p l e =
       elim p [
         | inl at ↦ gone_from lists alive w r o off contour q at.0 l at.1 (at.2 ∙ sym e)
-        | inr at ↦ goer_off q at.0 l (subst (λ t. HasDart lists t at.0) (sym e) at.1) (ap (λ t. o.alive (face_of lists t at.0)) e ∙ at.2)
+        | inr at ↦ goer_off lists alive w r o simple contour off shore q at.0 l (subst (λ t. HasDart lists t at.0) (sym e) at.1) (ap (λ t. o.alive (face_of lists t at.0)) e ∙ at.2)
       ]
 
   -- and was placed before

@@ -254,9 +254,6 @@ module _ (steps : ℕ → Step) (n : ℕ) (whole : IsWholeRun steps n) (some : 0
         let t = step.high i li in
         ap₂ flipped (lt-leb p j (omega arith)) (lt-leb p ((steps m).turn i) (omega arith))
 
-    third_of : ℕ → Bool
-    third_of v = third_test steps m over_test v
-
     over_old : (q u : ℕ) → q < (st m).width → (st m).vertex q ≡ u → third_test steps m over_test u ≡ over_test q
     over_old q u l e =
         let stage = stage_at m (omega arith) in

@@ -1,17 +1,11 @@
 //! The regions of convex woods (Felsner, 2001), each as the number of its faces. A law is the contract of a function
 //! that does nothing.
 
-ghost use Rattle.convex_laws.specs.FaceRegionsLaws.{RegionsAreOne, RegionsDraw, RisingWoodsDraw};
+ghost use Rattle.convex_laws.specs.FaceRegionsLaws.{RegionsAreOne, RisingWoodsDraw};
 
 /// The closed path of a vertex for an axis is one, and so is the number of faces in its region.
 pub fn regions_are_one()
     ensures { RegionsAreOne }
-{}
-
-/// Points by the counts of faces over a run of a map are placed by regions: the coordinate of a vertex for an axis is
-/// the number of faces in its region, in the wood of the edges along which one coordinate alone rises.
-pub fn regions_draw()
-    ensures { RegionsDraw }
 {}
 
 /// The wood of such a drawing can be read off it: where each dart of a convex wood leads along the axis whose coordinate

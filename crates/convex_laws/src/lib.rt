@@ -7,6 +7,5 @@ pub mod convex_removals;
 pub mod convex_rows;
 pub mod convex_runs;
 pub mod convex_woods;
-pub mod face_drawings;
 pub mod face_middles;
 pub mod face_regions;

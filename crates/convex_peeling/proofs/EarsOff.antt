@@ -9,7 +9,6 @@ use Rattle.plane_peeling.specs.Restricted.{kept_but}
 use Rattle.plane_peeling.proofs.RestrictedMaps.{kept_but-old, kept_but-new, kept_but-itself}
 use Rattle.convex_peeling.specs.Polyhedral.{IsPolyhedral}
 use Rattle.convex_peeling.specs.Contours.{face_of, Passes, IsRim, IsContour, IsEar, spliced}
-use Rattle.convex_peeling.specs.FacePeelingLaws.{EarTakenOff}
 use Rattle.convex_peeling.proofs.Faces.{SameFace-labels, face_of-step}
 
 module _ (lists : Lists) (w : ℕ → ℕ) (r face a b : ℕ) (walk : ℕ → ℕ) (many : ℕ) (ear : IsEar lists w r face a b walk many) where
@@ -262,9 +261,3 @@ module _ (lists : Lists) (alive : ℕ → Bool) (w : ℕ → ℕ) (r face a b : 
         edge = λ i l. new_edge r' i e l;
         only = λ x y rim. new_only r' x y e rim;
       }
-
--- THE LAW: an ear taken off
-pub ear_taken_off_law : EarTakenOff
-ear_taken_off_law lists alive w r face a b walk many simple polyhedral contour ear inner =
-    let within = ear.within in
-    contour_after lists alive w r face a b walk many simple polyhedral contour ear inner (r + a + many - b) (omega arith)

@@ -12,25 +12,10 @@ use Rattle.graph_search.proofs.ForestLemmas.{IsAdjacency-simple}
 use Rattle.graph_search.specs.Cuts.{AreSeparated, IsCutVertex}
 use Rattle.graph_search.proofs.WalkLemmas.{Off, linked_turned, linked_path, path_linked_by, walks_keep}
 use Rattle.graph_search.proofs.CutLemmas.{off_one, ne_off}
-use Rattle.graph_search.proofs.PairLemmas.{AreBoth-pair}
+use Rattle.graph_search.proofs.PairLemmas.{AreBoth-pair, separated_turned}
 use Rattle.convex_peeling.specs.TwoFaces.{MeetTwice}
 use Rattle.convex_peeling.proofs.Corners.{SameFace-turned, SameFace-step, passed_once, comes_along}
 use Rattle.convex_peeling.proofs.Sides.{face_closed, some_entry, ring_changes, IsSide, IsSide-other, side_of}
-
-AreSeparated-turned : (lists : Lists) → IsAdjacency lists → (avoided : List ℕ) (s t : ℕ) → AreSeparated lists avoided s t → AreSeparated lists avoided t s
-AreSeparated-turned lists adjacency avoided s t separated =
-    let w = linked_turned lists adjacency (Off []) s t (linked_path lists adjacency [] s t separated.path separated.joined) in
-    let path = path_linked_by lists adjacency [] t s w in
-    record {
-      s_off = separated.t_off;
-      t_off = separated.s_off;
-      path = path.0;
-      joined = path.1;
-      apart = λ other j.
-          let k = linked_turned lists adjacency (Off avoided) t s (linked_path lists adjacency avoided t s other j) in
-          let p = path_linked_by lists adjacency avoided s t k in
-          separated.apart p.0 p.1;
-    }
 
 module _ (lists : Lists) (simple : IsSimpleMap lists) (u v : ℕ) (u_in : u < length lists) where
   -- u has a neighbour of the colour of s, which v alone does not part from t
@@ -179,7 +164,7 @@ module _ (lists : Lists) (simple : IsSimpleMap lists) (plane : IsPlane lists) (u
       let other : ℕ → Bool = λ x. not (side x) in
       let h' = IsSide-other lists u v side h in
       let a = neighbour_of_side lists simple u v u_in (uncut v) s t separated side h found.2 found.3 in
-      let b = neighbour_of_side lists simple u v u_in (uncut v) t s (AreSeparated-turned lists (IsAdjacency-simple lists simple) (u ∷ v ∷ []) s t separated) other h' (ap not found.3) (ap not found.2) in
+      let b = neighbour_of_side lists simple u v u_in (uncut v) t s (separated_turned lists (IsAdjacency-simple lists simple) (u ∷ v ∷ []) s t separated) other h' (ap not found.3) (ap not found.2) in
       let distinct = simple.no_repeat u u_in in
       let at_a : colour_at side a.0 ≡ true = colour-other side a.0 a.2 ∙ a.3 in
       let at_b : colour_at side b.0 ≡ false = colour-other side b.0 b.2 ∙ not-true (side b.0) b.3 in

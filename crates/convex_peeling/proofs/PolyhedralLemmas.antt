@@ -12,7 +12,7 @@ use Rattle.graph_search.specs.Cuts.{AreSeparated, IsSeparatingPair}
 use Rattle.graph_search.proofs.PairLemmas.{AreBoth-pair}
 use Rattle.convex_peeling.specs.Polyhedral.{IsEdgeBetween, IsPolyhedral}
 use Rattle.convex_peeling.specs.TwoFaces.{AreOnTwoFaces}
-use Rattle.convex_peeling.specs.PolyhedralMapsLaws.{IsPlaneUncut, FacesPassOnce, PairsStandOnTwoFaces, PairsMeetTwice, ThreeConnectedIsPolyhedral, PolyhedralIsThreeConnected}
+use Rattle.convex_peeling.specs.PolyhedralMapsLaws.{IsPlaneUncut, FacesPassOnce, PairsStandOnTwoFaces, PairsMeetTwice, ThreeConnectedIsPolyhedral}
 use Rattle.convex_peeling.proofs.Corners.{SameFace-turned, SameFace-chained, SameFace-step, cases_SameFace, passed_once}
 use Rattle.convex_peeling.proofs.TwoFaces.{two_faces_part, AreOnTwoFaces-met}
 use Rattle.convex_peeling.proofs.Meetings.{meet_twice}
@@ -125,17 +125,3 @@ pub three_connected_is_polyhedral : ThreeConnectedIsPolyhedral
 three_connected_is_polyhedral lists three plane =
     let some = three.some in
     polyhedral_of_unpaired lists (record { simple = three.simple; plane = plane; uncut = three.uncut }) (omega arith) three.connected three.unpaired
-
-pub polyhedral_is_three_connected : PolyhedralIsThreeConnected
-polyhedral_is_three_connected lists map some one polyhedral =
-    record {
-      simple = map.simple;
-      some = some;
-      connected = one;
-      uncut = map.uncut;
-      unpaired = λ u v pair.
-          let on = (pairs_stand_on_two_faces lists u v map pair.0 pair.1).0 pair in
-          let at = on.4 in
-          let ne : u ≢ v = λ e. (let q = e in let l = pair.0 in omega arith) in
-          at.no_edge (polyhedral.share u v on.0 on.1 on.2 on.3 ne at.from_u.0 at.from_v.0 at.from_u.1 at.from_v.1 at.one at.other at.apart);
-    }

@@ -30,11 +30,6 @@ StretchIsEar =
     (lists : Lists) (alive : ℕ → Bool) (w : ℕ → ℕ) (r i : ℕ) → IsSimpleMap lists → IsPolyhedral lists → IsContour lists alive w r → i < r → IsStretch lists w r (face_of lists (w (suc i)) (w i))
     → (a : ℕ) × (b : ℕ) × (walk : ℕ → ℕ) × (many : ℕ) × IsEar lists w r (face_of lists (w (suc i)) (w i)) a b walk many
 
--- Without an ear that is not the face inside of the base there is a contour again, with the walk in place of the stretch.
-abbrev pub EarTakenOff : Type 0
-EarTakenOff =
-    (lists : Lists) (alive : ℕ → Bool) (w : ℕ → ℕ) (r face a b : ℕ) (walk : ℕ → ℕ) (many : ℕ) → IsSimpleMap lists → IsPolyhedral lists → IsContour lists alive w r → IsEar lists w r face a b walk many → face ≢ face_of lists (w 0) (w r) → IsContour lists (kept_but alive face) (spliced w a b walk many) (r + a + many - b)
-
 -- each vertex has at least three neighbours
 abbrev pub HasThree : Lists → Type 0
 HasThree lists = (v : ℕ) → v < length lists → 3 ≤ length (list_of lists v)

@@ -32,11 +32,6 @@ PairsMeetTwice =
 abbrev pub ThreeConnectedIsPolyhedral : Type 0
 ThreeConnectedIsPolyhedral = (lists : Lists) → IsThreeConnected lists → IsPlane lists → IsPolyhedral lists
 
--- A connected map of genus zero with at least four vertices and no cut vertex is three-connected where it is polyhedral.
-abbrev pub PolyhedralIsThreeConnected : Type 0
-PolyhedralIsThreeConnected =
-    (lists : Lists) → IsPlaneUncut lists → 4 ≤ length lists → component_count lists ≡ 1 → IsPolyhedral lists → IsThreeConnected lists
-
 -- Each vertex of a three-connected map has three neighbours at least.
 abbrev pub ThreeNeighbours : Type 0
 ThreeNeighbours =

@@ -2,4 +2,3 @@
 #![tactic(auto)]
 
 pub mod face_peeling;
-pub mod polyhedral_maps;

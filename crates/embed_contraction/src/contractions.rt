@@ -2,7 +2,7 @@
 //! in for an edge, as contracts of functions that do nothing.
 
 ghost use Rattle.embed_contraction.specs.Contracted.{LiftedContraction, LiftedWitness};
-ghost use Rattle.embed_contraction.specs.Routed.{RoutedWitness, SomeRoute};
+ghost use Rattle.embed_contraction.specs.Routed.{RoutedWitness};
 
 /// Where a graph with an edge contracted has a Kuratowski witness, the graph has one, of the same kind or of
 /// K3,3 in place of K5.
@@ -19,9 +19,4 @@ pub fn lifted_contraction()
 /// edge over vertices that the witness does not meet.
 pub fn routed_witness()
     ensures { RoutedWitness }
-{}
-
-/// Two vertices in one component are joined by a path that meets no vertex twice.
-pub fn some_route()
-    ensures { SomeRoute }
 {}

@@ -3,4 +3,3 @@
 
 pub mod contractible_edges;
 pub mod contractions;
-pub mod ring_witness;

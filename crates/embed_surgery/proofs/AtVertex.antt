@@ -14,7 +14,7 @@ use Rattle.map_theory.proofs.DartPermutations.{tail_of, dart_classes, IsLabels-d
 use Rattle.plane_laws.proofs.DartPaths.{tail_of-number, face_step_together}
 use Rattle.embed_surgery.specs.Marks.{KeepsFaces}
 use Rattle.embed_surgery.proofs.Marks.{face_orbits, IsLabels-face_orbits, components_by_marks, genus_by_marks}
-use Rattle.embed_surgery.specs.Glued.{glued_lists, IsUnion, GluedAtVertex, GluedSideBySide}
+use Rattle.embed_surgery.specs.Glued.{glued_lists, IsUnion, GluedAtVertex}
 use Rattle.embed_surgery.proofs.Labels.{counted_joined, counted_apart}
 use Rattle.embed_surgery.proofs.Unions.{length-face_orbits, length-dart_classes, joined_more, isolated-below, count_below-both, count_below-one, face_one, face_other, face_mark, face_mark-one, face_mark-joined, face_mark-same, face_test, AreMet, face_marks, part_mark, part_test, part_marks, darts_few}
 use Rattle.embed_surgery.proofs.Entries.{head_of, entry_after-left, entry_after-right}
@@ -314,7 +314,3 @@ glued_at_vertex one other s s1 p1 s2 p2 same shared =
         ])
       ]
     ])
-
--- THE LAW: two maps side by side
-pub glued_side_by_side : GluedSideBySide
-glued_side_by_side one other s1 p1 s2 p2 same apart = glued_at_vertex one other 0 s1 p1 s2 p2 same (λ w p q d d'. absurd (apart w p q d d'))

@@ -29,11 +29,6 @@ pub record IsUnion (one other new : Lists) : Type 0 where
   pub vertices : length new ≡ length one
   pub darts : (u v : ℕ) → HasDart new u v ↔ (HasDart one u v ⊎ HasDart other u v)
 
--- Maps of genus zero that have edges at no common vertex make one.
-abbrev pub GluedSideBySide : Type 0
-GluedSideBySide =
-    (one other : Lists) → IsSimpleMap one → IsPlane one → IsSimpleMap other → IsPlane other → length other ≡ length one → ((w p q : ℕ) → HasDart one w p → ¬ HasDart other w q) → IsUnion one other (glued_lists one other)
-
 -- So do those that have edges at one common vertex.
 abbrev pub GluedAtVertex : Type 0
 GluedAtVertex =

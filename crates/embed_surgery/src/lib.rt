@@ -1,5 +1,2 @@
 //! Marks on faces and gluing of maps, which the theorem on planar graphs rests on.
 #![tactic(auto)]
-
-pub mod face_marks;
-pub mod gluing;

@@ -113,14 +113,6 @@ place_of-here x y ys e = cond-true (eqb y x) 0 (place_of x ys + 1) (eq-eqb y x e
 pub place_of-there : (x y : ℕ) (ys : List ℕ) → y ≢ x → place_of x (y ∷ ys) ≡ suc (place_of x ys)
 place_of-there x y ys n = cond-false (eqb y x) 0 (place_of x ys + 1) (ne_eqb y x n) ∙ add-one (place_of x ys)
 
-pub place_of-le-length : (x : ℕ) (us : List ℕ) → place_of x us ≤ length us
-place_of-le-length x [] = omega arith
-place_of-le-length x (y ∷ ys) =
-    elim (cases_eq y x) [
-      | inl e ↦ omega (arith, place_of-here x y ys e)
-      | inr n ↦ omega (arith, place_of-there x y ys n, place_of-le-length x ys)
-    ]
-
 -- it stands there
 pub get_or-place_of : (x : ℕ) (us : List ℕ) (d : ℕ) → place_of x us < length us → get_or us (place_of x us) d ≡ x
 get_or-place_of x [] d h = absurd (omega (arith, h))

@@ -3,7 +3,7 @@ use Rattle.std.proofs.Common.{◌≡◌, ℕ, zero, suc, ◌+◌, ◌*◌, ◌<�
 use Rattle.std.proofs.lemmas.Bool.{cases_Bool, cond-true, false≢true}
 use Rattle.std.proofs.lemmas.List.{get_or_default}
 use Rattle.std.proofs.lemmas.List.Sums.{sum_by-cons}
-use Rattle.classes.specs.Classes.{count_below, label, image, classes, class_count, orbits, alone}
+use Rattle.classes.specs.Classes.{count_below, label, image, class_count, alone}
 use Rattle.map_lists.specs.Lists.{Lists}
 use Rattle.map_theory.specs.Maps.{Dart, twin_dart, list_of, HasDart, IsSimpleMap, darts, place_of, follows, darts_before, dart_number, face_images, vertex_count, dart_count, edge_count, is_empty_list, isolated_count, face_count, component_count, face_classes, component_classes}
 use Rattle.classes.proofs.Counting.{count_below_all, count_below_same}

@@ -15,7 +15,7 @@ use Rattle.plane_laws.proofs.PlaneCuts.{lone, lone_before, lone_other}
 use Rattle.map_theory.proofs.Transfer.{IsTransfer}
 use Rattle.plane_laws.proofs.Generated.{IsRenumbering, neither_first, IsGenerated-orbits, GoesOver-after, IsTransfer-renumbered, neither}
 use Rattle.plane_laws.proofs.LoneEdge.{IsPermuting-lone_edge, GoesOver-out, off_alike, off_joined, second_alike}
-use Rattle.map_theory.proofs.WithoutEdge.{back, u_not_v, length-without_edge, dart_old, dart_new, IsSimpleMap-without_edge, edge_count-without}
+use Rattle.map_theory.proofs.WithoutEdge.{back, u_not_v, length-without_edge, dart_new, IsSimpleMap-without_edge, edge_count-without}
 use Rattle.plane_laws.proofs.EdgeRemoved.{before_first, before_second, rest_counts, apart_twin, apart_twin', edge_removed_plane, in_out, twin_out, renumbering, twin_over, rotation_over, apart, apart'}
 use Rattle.map_theory.proofs.DartLemmas.{dart_number-lt, get_or-dart_number, HasDart-follows}
 use Rattle.map_theory.proofs.DartPermutations.{dart_of, tail_of, rotation, twin, IsPermuting-rotation, IsPairing-twin, two_m, vertex_count-orbits, face_count-orbits}
@@ -173,9 +173,6 @@ module _ (lists : Lists) (simple : IsSimpleMap lists) (u v : ℕ) (edge : HasDar
     abbrev P2 : List ℕ
     P2 = orbits_of (after f2 g) k
 
-    p1n : length P1 ≡ k
-    p1n = length-orbits_of (after f1' g) k
-
     p2n : length P2 ≡ k
     p2n = length-orbits_of (after f2 g) k
 
@@ -250,9 +247,6 @@ module _ (lists : Lists) (simple : IsSimpleMap lists) (u v : ℕ) (edge : HasDar
     -- a dart that is left, by its numbers
     left_in : (b : Dart) → HasDart rest b.0 b.1 → dart_number rest b < dart_count rest
     left_in b h = dart_number-lt rest b.0 b.1 h
-
-    was_dart : (b : Dart) → HasDart rest b.0 b.1 → HasDart lists b.0 b.1
-    was_dart b h = (dart_old lists simple u v edge b.0 b.1 h).0
 
     number_over : (b : Dart) → HasDart rest b.0 b.1 → dart_number lists (dart_of rest (dart_number rest b)) ≡ dart_number lists b
     number_over b h = ap (dart_number lists) (get_or-dart_number rest b.0 b.1 (0, 0) h)

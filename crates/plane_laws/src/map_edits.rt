@@ -7,7 +7,7 @@ ghost use Rattle.plane_laws.specs.MapEditsCompleted.{Completion};
 ghost use Rattle.plane_laws.specs.Kept.{KeptEdges};
 ghost use Rattle.plane_laws.specs.OuterFaces.{OuterEar, OuterLeaf};
 ghost use Rattle.plane_laws.specs.Smoothed.{VertexSmoothed};
-ghost use Rattle.plane_laws.specs.WithEdge.{EdgePutBetween, EdgePutInFace, WithEdge, WithEdgeAfter};
+ghost use Rattle.plane_laws.specs.WithEdge.{WithEdge, WithEdgeAfter};
 
 /// An edge may be put between any two vertices that are not adjacent, at any places of their lists: the
 /// lists with it are a simple map, and without it the old ones.
@@ -19,18 +19,6 @@ pub fn with_edge()
 /// entry before it; what follows what is as it was, but at the two corners.
 pub fn with_edge_after()
     ensures { WithEdgeAfter }
-{}
-
-/// An edge put between two corners of one face of a map of genus zero, in the words of the map before:
-/// a map of genus zero, with one face more and as many components.
-pub fn edge_put_in_face()
-    ensures { EdgePutInFace }
-{}
-
-/// An edge put between two components, at any places of the two lists, in the words of the map before:
-/// a map of genus zero, with one face and one component less.
-pub fn edge_put_between()
-    ensures { EdgePutBetween }
 {}
 
 /// An edge between two corners of one face of a map of genus zero gives a map of genus zero, with one

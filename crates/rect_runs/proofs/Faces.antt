@@ -55,31 +55,21 @@ module _ (steps : ℕ → Step) (n : ℕ) (run : IsRun steps n) where
       elim d [
         | inl d ↦
             let f = d.face in
-            let lo = f.low in
-            let hi = f.high in
-            let new = f.new in
-            let left = f.left in
-            let right = f.right in
-            let a = older k i l (omega arith) in
-            let b = older k (suc i) l hi in
+            let a = older k i l (omega (arith, f.high)) in
+            let b = older k (suc i) l f.high in
             elim d.dart [
-              | inl x ↦ edge_joined k i u v (omega arith) (omega arith) less (inl (left ∙ sym x.0, right ∙ sym x.1))
-              | inr (inl x) ↦ inr (k, l, record { new = x.1 ∙ sym new ∙ count; place = suc i; low = omega arith; high = hi; vertex = right ∙ sym x.0 })
-              | inr (inr x) ↦ absurd (omega (arith, x.0, x.1))
+              | inl x ↦ edge_joined k i u v (omega arith) (omega (arith, f.high)) less (inl (f.left ∙ sym x.0, f.right ∙ sym x.1))
+              | inr (inl x) ↦ inr (k, l, record { new = x.1 ∙ sym f.new ∙ count; place = suc i; low = omega (arith, f.low); high = f.high; vertex = f.right ∙ sym x.0 })
+              | inr (inr x) ↦ absurd (omega (arith, f.left, f.right, f.new, x.0, x.1))
             ]
         | inr d ↦
             let f = d.face in
-            let lo = f.low in
-            let hi = f.high in
-            let new = f.new in
-            let left = f.left in
-            let right = f.right in
-            let a = older k i l (omega arith) in
-            let b = older k (suc i) l hi in
+            let a = older k i l (omega (arith, f.high)) in
+            let b = older k (suc i) l f.high in
             elim d.dart [
-              | inl x ↦ edge_joined k i u v (omega arith) (omega arith) less (inr (left ∙ sym x.0, right ∙ sym x.1))
-              | inr (inl x) ↦ absurd (omega (arith, x.0, x.1))
-              | inr (inr x) ↦ inr (k, l, record { new = x.0 ∙ sym new ∙ count; place = i; low = lo; high = omega arith; vertex = left ∙ sym x.1 })
+              | inl x ↦ edge_joined k i u v (omega arith) (omega (arith, f.high)) less (inr (f.left ∙ sym x.0, f.right ∙ sym x.1))
+              | inr (inl x) ↦ absurd (omega (arith, f.left, f.right, f.new, x.0, x.1))
+              | inr (inr x) ↦ inr (k, l, record { new = x.0 ∙ sym f.new ∙ count; place = i; low = f.low; high = omega (arith, f.high); vertex = f.left ∙ sym x.1 })
             ]
       ]
 

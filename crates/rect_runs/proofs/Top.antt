@@ -31,34 +31,10 @@ record IsSameBox (b d : Boxes) (u : ℕ) : Type 0 where
   high : d.high u ≡ b.high u
 
 IsBeside-same : (b d : Boxes) (u v : ℕ) → IsSameBox b d u → IsSameBox b d v → IsBeside b u v → IsBeside d u v
-IsBeside-same b d u v e f x =
-    let e1 = e.left in
-    let e2 = e.right in
-    let e3 = e.low in
-    let e4 = e.high in
-    let f1 = f.left in
-    let f2 = f.right in
-    let f3 = f.low in
-    let f4 = f.high in
-    let x1 = x.line in
-    let x2 = x.first in
-    let x3 = x.second in
-    record { line = omega arith; first = omega arith; second = omega arith }
+IsBeside-same b d u v e f x = record { line = omega (arith, e.right, f.left, x.line); first = omega (arith, e.low, f.high, x.first); second = omega (arith, f.low, e.high, x.second) }
 
 IsAbove-same : (b d : Boxes) (u v : ℕ) → IsSameBox b d u → IsSameBox b d v → IsAbove b u v → IsAbove d u v
-IsAbove-same b d u v e f x =
-    let e1 = e.left in
-    let e2 = e.right in
-    let e3 = e.low in
-    let e4 = e.high in
-    let f1 = f.left in
-    let f2 = f.right in
-    let f3 = f.low in
-    let f4 = f.high in
-    let x1 = x.line in
-    let x2 = x.first in
-    let x3 = x.second in
-    record { line = omega arith; first = omega arith; second = omega arith }
+IsAbove-same b d u v e f x = record { line = omega (arith, e.high, f.low, x.line); first = omega (arith, e.left, f.right, x.first); second = omega (arith, f.left, e.right, x.second) }
 
 ShareSide-same : (b d : Boxes) (u v : ℕ) → IsSameBox b d u → IsSameBox b d v → ShareSide b u v → ShareSide d u v
 ShareSide-same b d u v e f x = elim x [

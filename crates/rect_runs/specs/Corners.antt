@@ -1,6 +1,6 @@
 -- How labels follow one another round a vertex.
 use Rattle.std.specs.Prelude.{ℕ, suc, ◌<◌, ◌≤◌, ◌≡◌, ◌⊎◌, nat_le, if◌then◌else◌, Bool}
-use Rattle.contour_runs.specs.Runs.{Step, stage_after, IsCovered}
+use Rattle.contour_runs.specs.Runs.{Step, stage_after}
 use Rattle.rect_runs.specs.Labels.{labels, IsLabelledRun}
 use Rattle.rect_runs.specs.Numbers.{turn_of}
 
@@ -62,7 +62,3 @@ pub record HasUpper (steps : ℕ → Step) (n v : ℕ) : Type 0 where
   pub low : turn_of steps step < place
   pub high : place ≤ (steps step).last
   pub vertex : (stage_after steps step).vertex place ≡ v
-
--- A covered vertex has both.
-abbrev pub CoveredLeaves : Type 0
-CoveredLeaves = (steps : ℕ → Step) (k n v : ℕ) → IsLabelledRun steps n → k < n → IsCovered steps k v → HasRight steps n v × HasUpper steps n v

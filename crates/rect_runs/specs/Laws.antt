@@ -1,8 +1,7 @@
 -- The laws of labels and numbers.
-use Rattle.std.specs.Prelude.{ℕ, suc, ◌+◌, ◌<◌, ◌≤◌, ◌≡◌, Bool, true, false}
-use Rattle.contour_runs.specs.Runs.{Step, Stage, stage_after}
-use Rattle.rect_runs.specs.Labels.{labels, IsLabelledRun}
-use Rattle.rect_runs.specs.Numbers.{Numbers, numbers, turn_of, rise_turns, run_turns}
+use Rattle.std.specs.Prelude.{ℕ, suc, ◌<◌, ◌≤◌, ◌≡◌, Bool, true, false}
+use Rattle.contour_runs.specs.Runs.{Stage}
+use Rattle.rect_runs.specs.Numbers.{Numbers}
 
 -- What is behind a run has a greater x than all up to the run; what is before a rise has a greater y than all behind it.
 pub record IsNumbered (g : Stage) (label : ℕ → Bool) (at : Numbers) : Type 0 where
@@ -17,18 +16,3 @@ pub record IsPut (g : Stage) (label : ℕ → Bool) (c z : ℕ) (at : Numbers) :
   pub before : (i : ℕ) → c < i → suc i < g.width → label i ≡ true → at.x z < at.x (g.vertex (suc i))
   pub at_rise : label c ≡ false → (at.x (g.vertex (suc c)) < at.x z) × (at.y z ≡ at.y (g.vertex c))
   pub at_run : label c ≡ true → (at.y (g.vertex c) < at.y z) × (at.x z ≡ at.x (g.vertex (suc c)))
-
--- The final numbers fit each stage, and each step.
-abbrev pub NumbersFit : Type 0
-NumbersFit = (steps : ℕ → Step) (k n : ℕ) → IsLabelledRun steps n → k ≤ n → IsNumbered (stage_after steps k) (labels steps k) (numbers steps n)
-
-abbrev pub StepsFit : Type 0
-StepsFit = (steps : ℕ → Step) (k n : ℕ) → IsLabelledRun steps n → k < n → IsPut (stage_after steps k) (labels steps k) (turn_of steps k) (k + 2) (numbers steps n)
-
--- No x is greater than the number of turns at rises, no y greater by more than one than that of turns at runs.
-abbrev pub NumbersBounded : Type 0
-NumbersBounded = (steps : ℕ → Step) (n v : ℕ) → IsLabelledRun steps n → v < n + 2 → ((numbers steps n).x v ≤ rise_turns steps n) × ((numbers steps n).y v ≤ suc (run_turns steps n))
-
--- Each step turns at a rise or at a run.
-abbrev pub TurnsCounted : Type 0
-TurnsCounted = (steps : ℕ → Step) (n : ℕ) → rise_turns steps n + run_turns steps n ≡ n

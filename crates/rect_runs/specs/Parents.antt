@@ -1,6 +1,6 @@
 -- Where labels lead: between a vertex and the first or the last of its neighbours when it was put on.
 use Rattle.std.specs.Prelude.{ℕ, suc, ◌+◌, ◌<◌, ◌≡◌, ◌⊎◌, true, false}
-use Rattle.contour_runs.specs.Runs.{Step, stage_after, IsRun}
+use Rattle.contour_runs.specs.Runs.{Step, stage_after}
 use Rattle.rect_runs.specs.Labels.{labels}
 
 -- v is put on over a row of the contour that begins with u
@@ -21,6 +21,3 @@ pub record IsLastUnder (steps : ℕ → Step) (k u v : ℕ) : Type 0 where
 pub record AreParents (steps : ℕ → Step) (k i : ℕ) : Type 0 where
   pub run : labels steps k i ≡ true → IsFirstUnder steps k ((stage_after steps k).vertex i) ((stage_after steps k).vertex (suc i))
   pub rise : labels steps k i ≡ false → (((stage_after steps k).vertex i ≡ 0) × ((stage_after steps k).vertex (suc i) ≡ 1)) ⊎ IsLastUnder steps k ((stage_after steps k).vertex (suc i)) ((stage_after steps k).vertex i)
-
-abbrev pub LabelsLead : Type 0
-LabelsLead = (steps : ℕ → Step) (k i : ℕ) → IsRun steps k → suc i < (stage_after steps k).width → AreParents steps k i

@@ -1,6 +1,6 @@
 -- That the boxes of a run are a rectangular dual of it.
 use Rattle.std.specs.Prelude.{ℕ, zero, suc, ◌+◌, ◌*◌, ◌-◌, ◌<◌, ◌≤◌, ◌≡◌, ◌⊎◌, ◌↔◌}
-use Rattle.contour_runs.specs.Runs.{Step, IsRun, IsDartOf}
+use Rattle.contour_runs.specs.Runs.{Step}
 use Rattle.rect_runs.specs.Later.{StandsOver}
 use Rattle.rect_runs.specs.Boxes.{Boxes, boxes, grid_width, grid_height, IsRectRun}
 
@@ -57,8 +57,3 @@ pub record IsRunDual (steps : ℕ → Step) (n : ℕ) (b : Boxes) (width height 
 
 abbrev pub BoxesAreDual : Type 0
 BoxesAreDual = (steps : ℕ → Step) (n : ℕ) → IsRectRun steps n → IsRunDual steps n (boxes steps n) (grid_width steps n) (grid_height steps n)
-
--- Vertices are joined exactly where a face that a step makes has a dart between them.
-abbrev pub JoinedByFaces : Type 0
-JoinedByFaces =
-    (steps : ℕ → Step) (n u v : ℕ) → IsRun steps (suc n) → u < v → AreJoined steps (suc n) u v ↔ ((k : ℕ) × (i : ℕ) × (k < suc n) × (IsDartOf steps k i u v ⊎ IsDartOf steps k i v u))

@@ -2,13 +2,7 @@
 //! law is the contract of a function that does nothing. The first two vertices of the run are the left one and
 //! the bottom of the frame, the last but one is at the right, and the last lies on top.
 
-ghost use Rattle.rect_runs.specs.RectBoxesLaws.{BoxesAreDual, JoinedByFaces};
-ghost use Rattle.rect_runs.specs.Frame.{FrameLabelled};
-
-/// Each inner vertex has neighbours on all four sides, and each of the frame on the sides that are within it.
-pub fn frame_labelled()
-    ensures { FrameLabelled }
-{}
+ghost use Rattle.rect_runs.specs.RectBoxesLaws.{BoxesAreDual};
 
 /// The boxes of m vertices fill a grid of at most m - 2 by m - 2: no two overlap, and their areas sum to that
 /// of the grid. Two of them share a side of positive length exactly where their vertices are joined. The
@@ -16,10 +10,4 @@ pub fn frame_labelled()
 /// the top.
 pub fn boxes_are_dual()
     ensures { BoxesAreDual }
-{}
-
-/// Two vertices are joined exactly where a face that the run makes has a dart between them: in this form a
-/// run that makes the faces of a map has the map's edges.
-pub fn joined_by_faces()
-    ensures { JoinedByFaces }
 {}

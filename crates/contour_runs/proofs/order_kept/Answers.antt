@@ -1,5 +1,0 @@
-use Rattle.contour_runs.proofs.Stages.{order_kept}
-use Rattle.contour_runs.proofs.order_kept.Goals as goal
-
-pub returns : goal.returns
-returns c = order_kept

@@ -1,5 +1,0 @@
-use Rattle.contour_runs.proofs.Places.{moved-le}
-use Rattle.contour_runs.proofs.places_do_not_fall.Goals as goal
-
-pub returns : goal.returns
-returns c = moved-le
