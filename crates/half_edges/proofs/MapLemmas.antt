@@ -155,16 +155,8 @@ module _ (lists : Lists) (starts : List ℕ) (ends : List Dart) (twins : List �
     in_lists : v < length lists
     in_lists = omega (arith, v_in, ap length same_lists)
 
-    pub within_starts : v + 1 < length starts
-    within_starts = omega (arith, in_lists, t.starts_are.count)
-
     pub vertex_start : get_or starts v 0 ≡ darts_before lists v
     vertex_start = t.starts_are.at v (omega (arith, in_lists))
-
-    pub vertex_end : get_or starts (v + 1) 0 ≡ darts_before lists v + length (list_of map.lists v)
-    vertex_end =
-        t.starts_are.at (v + 1) (omega (arith, in_lists)) ∙ darts_before_more lists v
-        ∙ ap (λ (ls : Lists). darts_before lists v + length (list_of ls v)) (sym same_lists)
 
     -- the first dart of a vertex
     pub first_at : (s : ℕ) → s ≡ get_or starts v 0 → 0 < length (list_of map.lists v) → dart_at map s ≡ Some (v, get_or (list_of map.lists v) 0 0)

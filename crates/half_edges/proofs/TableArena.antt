@@ -28,20 +28,11 @@ module _ (lists : Lists) (starts : List ℕ) (ends : List Dart) (twins : List �
     here : slice_get ends d ≡ Some (get_or ends d (0, 0))
     here = slice_get-get_or ends d (0, 0) l
 
-    pub tail_below : (get_or ends d (0, 0)).0 < length lists
-    tail_below = tail_in lists starts ends twins t (map_of lists ends) refl d (get_or ends d (0, 0)) here
-
-    pub start_within : (get_or ends d (0, 0)).0 + 1 < length starts
-    start_within = omega (arith, tail_below, t.starts_are.count)
-
     pub start_before : get_or starts (get_or ends d (0, 0)).0 0 ≤ d
     start_before = from_start lists starts ends twins t (map_of lists ends) refl d (get_or ends d (0, 0)) here
 
     pub end_behind : d < get_or starts ((get_or ends d (0, 0)).0 + 1) 0
     end_behind = below_end lists starts ends twins t (map_of lists ends) refl d (get_or ends d (0, 0)) here
-
-    pub number_fits : d < 4294967296
-    number_fits = omega (arith, l, few_ends lists starts ends twins t)
 
   -- two numbers with one dart are one
   one_number : (d e v u : ℕ) → slice_get ends d ≡ Some (v, u) → slice_get ends e ≡ Some (v, u) → d ≡ e

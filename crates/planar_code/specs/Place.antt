@@ -1,5 +1,7 @@
 -- Where in a file a reader stands, and how its scanner moves it on.
-use Rattle.std.specs.Prelude.{◌+◌, ◌-◌, ◌<◌, false}
+use Rattle.std.specs.Prelude.{ℕ, ◌+◌, ◌-◌, ◌<◌, ◌≤◌, false, List, length}
+use Rattle.planar_code.specs.Reading.{input_limit}
+use Rattle.planar_code.specs.Front.{IsCounted}
 use Rattle.planar_code.specs.State.{State}
 use Rattle.planar_code.specs.Scan.{Scan}
 use Rattle.planar_code.specs.declared.scan.Scanned.{Scanned}
@@ -25,6 +27,12 @@ abbrev pub told : Place → Scanned → Taken
 told place (More k) = TakenMore
 told place (Ended k) = TakenEnded k
 told place (Bad k) = TakenBad k place.start
+
+-- a reader with these parts may take a piece: there is room for it, and the file stays within its limit
+pub record CanRead (scan : Scan) (place : Place) (piece : List ℕ) : Type 0 where
+  pub counted : IsCounted place.header_may_come scan.bytes place.pending_len place.in_header
+  pub room : length piece ≤ scan.room
+  pub limit : place.start + place.pending_len + length piece ≤ input_limit
 
 -- a bad count is at least one byte
 abbrev pub HasByte : Scanned → Type 0

@@ -42,6 +42,19 @@ IsScanned (Narrow count) gathered = IsOpen 256 255 count gathered.lists gathered
 IsScanned (Wide count) gathered = IsOpen 4096 65535 count gathered.lists gathered.last
 IsScanned (WideHalf count high) gathered = IsOpen 4096 65535 count gathered.lists gathered.last
 
+-- a piece has bytes and room, among those of a record that stands in a phase
+pub record CanTake (phase : Phase) (gathered : Open) (piece : List ℕ) : Type 0 where
+  pub some : 0 < length piece
+  pub room : length piece ≤ room_of gathered.most gathered.room
+  pub is : IsScanned phase gathered
+
+-- a piece has more than `least` bytes and room, and there is room for so many lists
+pub record CanGather (least : ℕ) (phase : Phase) (count : ℕ) (gathered : Open) (piece : List ℕ) : Type 0 where
+  pub some : least < length piece
+  pub is : IsScanned phase gathered
+  pub room : length piece ≤ gathered.room
+  pub most : count ≤ gathered.most
+
 -- the bytes are no bad count and no record
 abbrev pub GoesOn : List ℕ → Type 0
 GoesOn bytes = IsFalse (is_bad_count bytes) × ((lists : Lists) → ¬ IsRecord bytes lists)

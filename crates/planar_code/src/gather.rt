@@ -3,7 +3,7 @@ ghost use Rattle.std.specs.Prelude.{◌≡◌, ◌+◌, ◌-◌, ◌*◌, ◌<�
 ghost use Rattle.std.specs.Bool.{OnTrue, OnFalse};
 ghost use Rattle.planar_code.specs.Reading.{two_bytes};
 ghost use Rattle.planar_code.specs.Open.{Gathers};
-ghost use Rattle.planar_code.specs.Scan.{IsScanned};
+ghost use Rattle.planar_code.specs.Scan.{CanGather};
 ghost use Rattle.planar_code.specs.declared.scan.Phase.TheVariants.{Narrow, Wide};
 
 use super::open::OpenLists;
@@ -23,10 +23,7 @@ pub fn number_of(high: u8, low: u8) -> u16
 ///
 /// The lists are a value of its own for the loop, so that their ends stay in registers.
 pub fn gather_narrow(alloc: Global, gathered: &mut OpenLists, count: usize, piece: &[u8]) -> usize
-    requires some { 0 < length piece.now }
-    requires is { IsScanned (Narrow count) gathered.old }
-    requires room { length piece.now ≤ gathered.old.room }
-    requires most { count ≤ gathered.old.most }
+    requires { CanGather 0 (Narrow count) count gathered.old piece.now }
     ensures some { 0 < result }
     ensures within { result ≤ length piece.now }
     ensures gathers { Gathers 255 count (take result piece.now) gathered.old gathered.new }
@@ -57,10 +54,7 @@ fn behind_last_zero(piece: &[u8]) -> usize
 // piece, and behind the last 0 no list is closed.
 #[inline(always)]
 fn narrow_numbers(gathered: &mut OpenLists, count: usize, piece: &[u8]) -> usize
-    requires some { 0 < length piece.now }
-    requires is { IsScanned (Narrow count) gathered.old }
-    requires room { length piece.now ≤ gathered.old.room }
-    requires most { count ≤ gathered.old.most }
+    requires { CanGather 0 (Narrow count) count gathered.old piece.now }
     ensures some { 0 < result }
     ensures within { result ≤ length piece.now }
     ensures gathers { Gathers 255 count (take result piece.now) gathered.old gathered.new }
@@ -87,10 +81,7 @@ fn narrow_numbers(gathered: &mut OpenLists, count: usize, piece: &[u8]) -> usize
 /// Numbers of two bytes each join the lists, up to the one that closes list number `count`. It answers
 /// how many bytes they were; a last byte alone is none of them.
 pub fn gather_wide(alloc: Global, gathered: &mut OpenLists, count: usize, piece: &[u8]) -> usize
-    requires some { 1 < length piece.now }
-    requires is { IsScanned (Wide count) gathered.old }
-    requires room { length piece.now ≤ gathered.old.room }
-    requires most { count ≤ gathered.old.most }
+    requires { CanGather 1 (Wide count) count gathered.old piece.now }
     ensures some { 0 < result }
     ensures within { result ≤ length piece.now }
     ensures gathers { (numbers : List ℕ) × (flat_map two_bytes numbers ≡ take result piece.now)
@@ -129,10 +120,7 @@ fn pairs_to_last_zero(piece: &[u8]) -> usize
 // The loops of `gather_wide`, as those of `narrow_numbers`.
 #[inline(always)]
 fn wide_numbers(gathered: &mut OpenLists, count: usize, piece: &[u8]) -> usize
-    requires some { 1 < length piece.now }
-    requires is { IsScanned (Wide count) gathered.old }
-    requires room { length piece.now ≤ gathered.old.room }
-    requires most { count ≤ gathered.old.most }
+    requires { CanGather 1 (Wide count) count gathered.old piece.now }
     ensures some { 0 < result }
     ensures within { result ≤ length piece.now }
     ensures gathers { (numbers : List ℕ) × (flat_map two_bytes numbers ≡ take result piece.now)

@@ -4,7 +4,7 @@ ghost use Rattle.planar_code.specs.Reading.{header, input_limit};
 ghost use Rattle.planar_code.specs.Fed.{Feeds};
 ghost use Rattle.planar_code.specs.Scan.{seen_of};
 ghost use Rattle.planar_code.specs.Front.{IsCounted};
-ghost use Rattle.planar_code.specs.Place.{state_of, moved, told, HasByte};
+ghost use Rattle.planar_code.specs.Place.{state_of, moved, told, HasByte, CanRead};
 ghost use Rattle.planar_code.specs.Taken.{Takes, shifted, looked_at};
 
 use crate::HEADER;
@@ -116,10 +116,8 @@ fn answer(place: &mut Place, scanned: Scanned) -> Taken
 
 /// Takes a piece where no header may end in it.
 fn take_plain(scanner: &mut Scanner, place: &mut Place, piece: &[u8]) -> Taken
-    requires counted { IsCounted place.old.header_may_come scanner.old.bytes place.old.pending_len place.old.in_header }
+    requires can { CanRead scanner.old place.old piece.now }
     requires no_header { IsFalse place.old.in_header }
-    requires room { length piece.now ≤ scanner.old.room }
-    requires limit { place.old.start + place.old.pending_len + length piece.now ≤ input_limit }
     ensures takes { Takes (state_of scanner.old place.old) piece.now result (state_of scanner.new place.new) }
     ensures counted { IsCounted place.new.header_may_come scanner.new.bytes place.new.pending_len place.new.in_header }
 {
@@ -129,9 +127,7 @@ fn take_plain(scanner: &mut Scanner, place: &mut Place, piece: &[u8]) -> Taken
 
 /// Takes a byte, with which the header may end.
 fn take_byte(scanner: &mut Scanner, place: &mut Place, byte: u8) -> Taken
-    requires counted { IsCounted place.old.header_may_come scanner.old.bytes place.old.pending_len place.old.in_header }
-    requires room { 0 < scanner.old.room }
-    requires limit { place.old.start + place.old.pending_len < input_limit }
+    requires { CanRead scanner.old place.old (byte ∷ []) }
     ensures takes { Takes (state_of scanner.old place.old) (byte ∷ []) result (state_of scanner.new place.new) }
     ensures counted { IsCounted place.new.header_may_come scanner.new.bytes place.new.pending_len place.new.in_header }
     ensures room { result ≡ Taken.More → scanner.old.room ≤ scanner.new.room + 1 }
@@ -155,9 +151,7 @@ fn take_byte(scanner: &mut Scanner, place: &mut Place, byte: u8) -> Taken
 
 /// Takes a piece, for which there has to be room.
 fn take_piece(scanner: &mut Scanner, place: &mut Place, piece: &[u8]) -> Taken
-    requires counted { IsCounted place.old.header_may_come scanner.old.bytes place.old.pending_len place.old.in_header }
-    requires room { length piece.now ≤ scanner.old.room }
-    requires limit { place.old.start + place.old.pending_len + length piece.now ≤ input_limit }
+    requires { CanRead scanner.old place.old piece.now }
     ensures takes { Takes (state_of scanner.old place.old) piece.now result (state_of scanner.new place.new) }
     ensures counted { IsCounted place.new.header_may_come scanner.new.bytes place.new.pending_len place.new.in_header }
 {

@@ -5,7 +5,7 @@
 ghost use Rattle.std.specs.Prelude.{◌≡◌, ◌+◌, ◌<◌, ◌≤◌, [], length, OnOk};
 ghost use Rattle.map_lists.specs.Lists.{Lists};
 ghost use Rattle.planar_code.specs.Open.{Open};
-ghost use Rattle.planar_code.specs.Scan.{Scans, Exhausts, IsScanned, Advances, room_of, seen_of, shifted};
+ghost use Rattle.planar_code.specs.Scan.{Scans, Exhausts, IsScanned, CanTake, Advances, seen_of, shifted};
 ghost use Rattle.planar_code.specs.declared.scan.Phase.TheVariants.{Start, WideStart, WideHigh, Narrow, Wide, WideHalf};
 
 use super::gather::{gather_narrow, gather_wide, lend_whole, number_of};
@@ -90,9 +90,7 @@ fn take_narrow(
     count: u8,
     piece: &[u8],
 ) -> (Phase, Scanned)
-    requires some { 0 < length piece.now }
-    requires room { length piece.now ≤ room_of gathered.old.most gathered.old.room }
-    requires is { IsScanned (Narrow count) gathered.old }
+    requires { CanTake (Narrow count) gathered.old piece.now }
     ensures { Advances (Narrow count) gathered.old lent.old piece.now result.0 result.1 gathered.new lent.new }
 {
     let taken = gather_narrow(alloc, gathered, usize::from(count), piece);
@@ -111,9 +109,7 @@ fn take_wide(
     count: u16,
     piece: &[u8],
 ) -> (Phase, Scanned)
-    requires some { 0 < length piece.now }
-    requires room { length piece.now ≤ room_of gathered.old.most gathered.old.room }
-    requires is { IsScanned (Wide count) gathered.old }
+    requires { CanTake (Wide count) gathered.old piece.now }
     ensures { Advances (Wide count) gathered.old lent.old piece.now result.0 result.1 gathered.new lent.new }
 {
     if piece.len() == 1 {
@@ -136,9 +132,7 @@ fn end_number(
     high: u8,
     piece: &[u8],
 ) -> (Phase, Scanned)
-    requires some { 0 < length piece.now }
-    requires room { length piece.now ≤ room_of gathered.old.most gathered.old.room }
-    requires is { IsScanned (WideHalf count high) gathered.old }
+    requires { CanTake (WideHalf count high) gathered.old piece.now }
     ensures { Advances (WideHalf count high) gathered.old lent.old piece.now result.0 result.1 gathered.new lent.new }
 {
     gathered.collect(number_of(high, piece[0]));
@@ -157,9 +151,7 @@ fn advance(
     lent: &mut Rotations,
     piece: &[u8],
 ) -> (Phase, Scanned)
-    requires some { 0 < length piece.now }
-    requires room { length piece.now ≤ room_of gathered.old.most gathered.old.room }
-    requires is { IsScanned phase gathered.old }
+    requires { CanTake phase gathered.old piece.now }
     ensures { Advances phase gathered.old lent.old piece.now result.0 result.1 gathered.new lent.new }
 {
     match phase {
