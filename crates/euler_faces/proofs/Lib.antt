@@ -5,6 +5,7 @@ mod IsolatedLemmas
 pub mod SearchLemmas
 mod FaceWalkLemmas
 mod OrbitLemmas
+mod TriangleLemmas
 -- Lemmas on the search by chains of faces.
 pub mod SideMarks
 mod ChainLemmas

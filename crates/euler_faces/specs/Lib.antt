@@ -1,6 +1,7 @@
 -- Darts by their numbers, under the ids of a map.
 pub mod Chains
 pub mod ChainSearch
+pub mod Corners
 pub mod FaceSearch
 pub mod FaceWalks
 pub mod Numbers

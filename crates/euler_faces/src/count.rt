@@ -69,6 +69,7 @@ fn count_twins(
 }
 
 // The counts of lists by the twins of their darts, where there are so many components.
+#[inline(always)]
 fn count_known(entries: &[u16], ends: &[usize], twins: &mut [u32], c: u16) -> EulerCount
     requires cuts { AreCuts 0 ends.now (length entries.now) }
     requires few { length ends.now < 4096 }
@@ -132,16 +133,18 @@ impl Counter {
         }
     }
 
-    // No number for any of `n` vertices, and a queue with room for all.
+    // No number for any of `n` vertices, and a queue with room for all, or for more.
     fn clear(&mut self, n: usize) -> Result<(), AllocError>
         ensures marks { OnOk result (length self.new.numbers.items ≡ n) }
-        ensures room { OnOk result (length self.new.queue.items ≡ n) }
+        ensures room { OnOk result (n ≤ length self.new.queue.items) }
         ensures unset { OnOk result ((u : ℕ) → mark_at (marks_of self.new.numbers.items) u ≡ false) }
         ensures twins { self.new.twins ≡ self.old.twins }
     {
         self.numbers.clear();
         self.numbers.resize(n, UNMET)?;
-        self.queue.resize(n, 0)?;
+        if self.queue.len() < n {
+            self.queue.resize(n, 0)?;
+        }
         Ok(())
     }
 
@@ -170,7 +173,7 @@ impl Counter {
             lists.ends(),
             &mut self.twins,
             &mut self.numbers,
-            &mut self.queue,
+            &mut self.queue[..lists.len()],
         ))
     }
 }

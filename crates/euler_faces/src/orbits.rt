@@ -1,9 +1,11 @@
-//! The faces of a map, counted by walks that overwrite the twins of the darts that they meet.
+//! The faces of a map, counted: at once where all are triangles, and else by walks that overwrite the twins of darts.
 ghost use Rattle.std.specs.Prelude.{◌≡◌, ◌+◌, ◌≤◌, ◌<◌, ◌||◌, ℕ, [], List, length, false};
+ghost use Rattle.std.specs.Bool.{OnTrue};
 ghost use Rattle.classes.specs.Classes.{class_count, same_class};
 ghost use Rattle.classes.proofs.Marks.{KeepsMarks};
 ghost use Rattle.map_lists.specs.Cuts.{cut, AreCuts};
 ghost use Rattle.map_theory.specs.Maps.{IsSimpleMap, face_images, face_classes, component_count, isolated_count};
+ghost use Rattle.euler_faces.specs.Corners.{AreCornersBelow};
 ghost use Rattle.euler_faces.specs.Slots.{walked, HaveTwins};
 
 use crate::slots::{WALKED, after};
@@ -29,8 +31,60 @@ fn walk_face(entries: &[u16], ends: &[usize], twins: &mut [u32], start: usize)
     }
 }
 
-// The number of orbits of the face step, where no dart was walked over.
+// Whether at each entry of each list the face is found to be a triangle: the entry before it is the one that follows the
+// list's vertex in the entry's own list. Lists with more or fewer entries than a triangulation are not gone over.
+fn are_triangles(entries: &[u16], ends: &[usize], twins: &[u32]) -> bool
+    requires cuts { AreCuts 0 ends.now (length entries.now) }
+    requires simple { IsSimpleMap (cut 0 ends.now entries.now) }
+    requires few { length entries.now < 16777216 }
+    requires long { length twins.now ≡ length entries.now }
+    requires twins { HaveTwins (cut 0 ends.now entries.now) twins.now }
+    requires unwalked { (i : ℕ) → i < length entries.now → walked twins.now i ≡ false }
+    ensures { OnTrue result (AreCornersBelow (cut 0 ends.now entries.now) (length entries.now)) }
+{
+    if entries.len().wrapping_add(12) != ends.len().wrapping_mul(6) {
+        return false;
+    }
+    let mut start = 0;
+    for v in 0..ends.len() {
+        let behind = ends[v];
+        if behind <= start {
+            return false;
+        }
+        let mut before = entries[behind - 1];
+        for d in start..behind {
+            let u = entries[d];
+            if entries[after(ends, u as usize, twins[d] as usize)] != before {
+                return false;
+            }
+            before = u;
+        }
+        start = behind;
+    }
+    true
+}
+
+// The number of orbits of the face step, where no dart was walked over: a third of the darts where all faces are found
+// to be triangles, and else by a walk along each.
+#[inline(always)]
 pub(crate) fn count_orbits(entries: &[u16], ends: &[usize], twins: &mut [u32]) -> u32
+    requires cuts { AreCuts 0 ends.now (length entries.now) }
+    requires simple { IsSimpleMap (cut 0 ends.now entries.now) }
+    requires few { length entries.now < 16777216 }
+    requires long { length twins.old ≡ length entries.now }
+    requires twins { HaveTwins (cut 0 ends.now entries.now) twins.old }
+    requires unwalked { (i : ℕ) → i < length entries.now → walked twins.old i ≡ false }
+    ensures count { result ≡ class_count (face_classes (cut 0 ends.now entries.now)) }
+    ensures few { result ≤ length entries.now }
+{
+    if are_triangles(entries, ends, twins) {
+        return (entries.len() / 3) as u32;
+    }
+    walk_orbits(entries, ends, twins)
+}
+
+// The number of orbits of the face step, where no dart was walked over.
+fn walk_orbits(entries: &[u16], ends: &[usize], twins: &mut [u32]) -> u32
     requires cuts { AreCuts 0 ends.now (length entries.now) }
     requires simple { IsSimpleMap (cut 0 ends.now entries.now) }
     requires few { length entries.now < 16777216 }

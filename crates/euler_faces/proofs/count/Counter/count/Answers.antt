@@ -1,4 +1,5 @@
 use Rattle.std.proofs.Common.{length, ap, ◌∙◌, arith}
+use Rattle.std.proofs.lemmas.List.{length-take-le}
 use Rattle.map_lists.proofs.CutLemmas.{IsStored, IsStored-cuts, IsStored-cut, length-cut}
 use Rattle.map_theory.specs.Maps.{vertex_count, edge_count, face_count, component_count}
 use Rattle.simple_maps.proofs.FaultLemmas.{first_fault-IsSimpleMap}
@@ -31,7 +32,8 @@ count_twins-requires-clause-marks c =
 pub count_twins-requires-clause-room : goal.count_twins-requires-clause-room
 count_twins-requires-clause-room c =
     let stored : IsStored c.args.lists.now c.entries.result.now c.ends.result.now = record { entries_are = c.entries.ensures; ends_are = c.ends.ensures } in
-    omega (arith, ap length c.deref_mut-3.ensures.value, c.in_ok-clear.ensures.room, c.len.ensures.is, ap length (IsStored-cut _ _ _ stored), length-cut 0 c.ends.result.now c.entries.result.now)
+    let taken = length-take-le c.len-2.result c.deref_mut-3.result.now (omega (arith, ap length c.deref_mut-3.ensures.value, c.in_ok-clear.ensures.room, c.len.ensures.is, c.len-2.ensures.is)) in
+    omega (arith, taken, c.len-2.ensures.is, ap length (IsStored-cut _ _ _ stored), length-cut 0 c.ends.result.now c.entries.result.now)
 
 pub returns-clause-n : goal.returns-clause-n
 returns-clause-n c =

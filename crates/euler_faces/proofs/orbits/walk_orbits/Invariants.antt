@@ -3,7 +3,7 @@ use Rattle.classes.proofs.Marks.{IsCounting}
 use Rattle.map_lists.specs.Cuts.{cut}
 use Rattle.map_theory.specs.Maps.{face_classes}
 use Rattle.euler_faces.specs.Slots.{walked, HaveTwins}
-use Rattle.euler_faces.proofs.orbits.count_orbits.Given as goal
+use Rattle.euler_faces.proofs.orbits.walk_orbits.Given as goal
 
 abbrev pub invariant-loop-d : goal.invariant-loop-d
 invariant-loop-d l = record {
