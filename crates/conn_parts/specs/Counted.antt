@@ -19,9 +19,3 @@ pub record IsCountedMap (lists : Lists) (found : CountedMap) : Type 0 where
   pub lists_are : found.map.lists ≡ lists
   pub parts : ArePartsOf lists found.parts
   pub count : IsCountOf lists found.count
-
--- The same of a map of genus zero with at least so many vertices.
-pub record IsPlaneMap (least : ℕ) (lists : Lists) (found : CountedMap) : Type 0 where
-  pub counted : IsCountedMap lists found
-  pub some : least ≤ vertex_count lists
-  pub plane : IsPlane lists

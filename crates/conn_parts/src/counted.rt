@@ -5,7 +5,7 @@ ghost use Rattle.simple_maps.specs.Faults.{first_fault};
 ghost use Rattle.simple_maps.specs.MapFault.{Names};
 ghost use Rattle.simple_maps.specs.Tables.{AreTwins};
 ghost use Rattle.refusals.specs.Conditions.{first_refusal, IfRefused};
-ghost use Rattle.conn_parts.specs.Counted.{IsCountOf, IsCountedMap, IsPlaneMap};
+ghost use Rattle.conn_parts.specs.Counted.{IsCountOf, IsCountedMap};
 ghost use Rattle.conn_parts.specs.Parts.{ArePartsOf};
 
 use crate::Parts;
@@ -106,8 +106,12 @@ impl CountedMaker {
         Ok(map)
     }
 
-    /// The map of a record, as `plane_map` has it, with its components in `parts`. After `NoMemory` the maker serves as
-    /// before.
+    /// The map of a record with these lists, which are from 1 to 4095, where it has genus zero and at least `least`
+    /// vertices, with its components in `parts`.
+    ///
+    /// `Err` names the first condition that the lists break, of these in this order: the four faults of a map, each with
+    /// the least vertices; too few vertices; a genus above zero. Or there was not enough memory: after that the maker
+    /// serves as before. The time is linear in the entries.
     #[inline(always)]
     pub fn plane_half_map(&mut self, lists: &Rotations, least: u16) -> Result<HalfMap, Unserved>
         requires some_list { 0 < length lists.now }
@@ -126,27 +130,9 @@ impl CountedMaker {
         Ok(map)
     }
 
-    /// The map of a record, as `plane_map` has it. After `NoMemory` the maker serves as before.
-    pub fn plane_map(&mut self, lists: &Rotations, least: u16) -> Result<CountedMap, Unserved>
-        requires some_list { 0 < length lists.now }
-        ensures plane { IfOk result (IsPlaneMap least lists.now) }
-        ensures served { OnOk result (first_refusal least lists.now ≡ None) }
-        ensures refused { IfErr result (IfRefused (λ refusal. first_refusal least lists.now ≡ Some refusal)) }
-    {
-        refuse_dense(self.alloc, lists, least)?;
-        let counted = self.counted_map(lists)?;
-        refuse_counted(lists, counted.count, least)?;
-        Ok(counted)
-    }
-
     /// Keeps the memory of a map that is done with.
     pub fn keep_map(&mut self, map: HalfMap) {
         self.maps.keep(map);
-    }
-
-    /// Keeps the memory of components that are done with.
-    pub fn keep_parts(&mut self, parts: Parts) {
-        self.parts = parts;
     }
 }
 
@@ -172,7 +158,7 @@ fn refuse_counted(lists: &Rotations, count: EulerCount, least: u16) -> Result<()
 /// The counts of a record with these lists, which are from 1 to 4095, where it is a map of genus zero with at least
 /// `least` vertices, by a counter that may have counted other records before. No map is made of the lists.
 ///
-/// `Err` is as for `plane_map`. The time is linear in the entries.
+/// `Err` is as for `CountedMaker::plane_half_map`. The time is linear in the entries.
 pub fn plane_count(
     counter: &mut Counter,
     lists: &Rotations,
@@ -202,20 +188,4 @@ fn refuse_dense(alloc: Global, lists: &Rotations, least: u16) -> Result<(), Unse
     }
     let count = count_lists(alloc, lists)?;
     refuse_counted(lists, count, least)
-}
-
-/// The map of a record with these lists, which are from 1 to 4095, where it has genus zero and at least `least`
-/// vertices, with its components and its counts.
-///
-/// `Err` names the first condition that the lists break, of these in this order: the four faults of a map, each with
-/// the least vertices; too few vertices; a genus above zero. Or there was not enough memory. The time is linear in the
-/// entries.
-pub fn plane_map(alloc: Global, lists: &Rotations, least: u16) -> Result<CountedMap, Unserved>
-    requires some_list { 0 < length lists.now }
-    ensures plane { IfOk result (IsPlaneMap least lists.now) }
-    ensures served { OnOk result (first_refusal least lists.now ≡ None) }
-    ensures refused { IfErr result (IfRefused (λ refusal. first_refusal least lists.now ≡ Some refusal)) }
-{
-    let mut maker = CountedMaker::new(alloc);
-    maker.plane_map(lists, least)
 }

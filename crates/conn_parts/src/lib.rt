@@ -6,7 +6,7 @@ mod counted;
 pub mod graph_cuts;
 mod parts;
 
-pub use counted::{CountedMaker, CountedMap, counted_map, plane_count, plane_map};
+pub use counted::{CountedMaker, CountedMap, counted_map, plane_count};
 pub use graph_cuts::{graph_components, graph_cut_vertex, graph_separating_pair};
 pub use graph_search::map_cuts::{cut_vertex, separating_pair};
 pub use parts::{Parts, components, list_components};

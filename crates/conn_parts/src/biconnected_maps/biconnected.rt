@@ -6,7 +6,7 @@ ghost use Rattle.graph_search.specs.Forests.{IsForestOf};
 ghost use Rattle.conn_parts.specs.BiconnectedMaps.{IsBiconnectedMap, BreaksFirst};
 ghost use Rattle.conn_parts.specs.Searched.{IsSearchOf, IsFirstSearch};
 
-use crate::plane_map;
+use crate::CountedMaker;
 use graph_search::map_cuts::searched_cut_vertex;
 use graph_search::search_forests::{Forest, low_points, search_forest, search_forest_along};
 use half_edges::{HalfMap, Rotations, VertexId};
@@ -51,19 +51,16 @@ pub fn searched_map(alloc: Global, lists: &Rotations, least: u16) -> Result<Sear
     ensures served { IfOk result (λ found. IsBiconnectedMap least lists.now) }
     ensures refused { IfErr result (IfRefused (BreaksFirst least lists.now)) }
 {
-    let plane = plane_map(alloc, lists, least)?;
-    if plane.count.c != 1 {
+    let mut maker = CountedMaker::new(alloc);
+    let map = maker.plane_half_map(lists, least)?;
+    if maker.parts.count() != 1 {
         return Err(Unserved::Refused(Refusal::NotConnected));
     }
     let forest = first_search(alloc, lists)?;
     let low = low_points(alloc, lists, &forest)?;
     match searched_cut_vertex(lists, &forest, &low) {
         Some(v) => Err(Unserved::Refused(Refusal::CutVertex(VertexId(v)))),
-        None => Ok(SearchedMap {
-            map: plane.map,
-            forest,
-            low,
-        }),
+        None => Ok(SearchedMap { map, forest, low }),
     }
 }
 
