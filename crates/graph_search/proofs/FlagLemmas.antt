@@ -1,5 +1,5 @@
 -- Children that are parted tell cut vertices, one by one and by flags.
-use Rattle.std.proofs.Common.{◌≡◌, ℕ, ◌<◌, Bool, List, [], ◌∷◌, MatchOption, Option, Some, None, length, get_or, sym, subst, inl, inr, arith}
+use Rattle.std.proofs.Common.{◌≡◌, ℕ, ◌<◌, ◌≤◌, Bool, List, [], ◌∷◌, MatchOption, Option, Some, None, length, get_or, sym, ap, subst, inl, inr, arith}
 use Rattle.std.proofs.lemmas.Bool.{cases_lt}
 use Rattle.map_lists.specs.Lists.{Lists}
 use Rattle.map_theory.specs.Maps.{HasDart, list_of}
@@ -57,8 +57,41 @@ module _ (lists : Lists) (adjacency : IsAdjacency lists) (order number last pare
   }
 
   -- where no child is parted, no vertex is a cut vertex
-  pub none_separating : ((v u : ℕ) → v < length number → ¬ IsSeparatedIn number parent low v u) → (v : ℕ) → ¬ IsCutVertex lists v
+  none_separating : ((v u : ℕ) → v < length number → ¬ IsSeparatedIn number parent low v u) → (v : ℕ) → ¬ IsCutVertex lists v
   none_separating none v cut =
       let l = IsCutVertex-within lists adjacency v cut in
       let in_numbers : v < length number = omega (arith, l, all.numbers) in
       not_IsCutVertex-none v l (λ h. none v h.0 in_numbers h.2) cut
+
+  -- a child that is parted has a low point not before its parent, also where that is a top
+  separated_low : (v u : ℕ) → v < length number → IsSeparatedIn number parent low v u → get_or number v 0 ≤ get_or low u 0
+  separated_low v u l h =
+      elim (cases_lt (get_or parent v 0) (length number)) [
+        | inl inner ↦ h.from_parent inner
+        | inr top ↦
+            let f = all.forest in
+            let n = all.numbers in
+            let q = h.vertex in
+            let v_in : v < length lists = omega (arith, l, n) in
+            let u_in : u < length lists = omega (arith, q, n) in
+            let child = h.child in
+            let held = f.held u u_in (omega (arith, child, v_in)) in
+            let known = lows.at u u_in in
+            elim (cases_lt (get_or low u 0) (length lists)) [
+              | inl some ↦
+                  let m = known.met some in
+                  let back = adjacency.both_ways m.1.w m.0 m.1.dart in
+                  elim (cases_lt (get_or number m.0 0) (get_or number v 0)) [
+                    | inl before ↦
+                        let within : get_or number v 0 < get_or last m.0 0 = omega (arith, held.after, ap (λ z. get_or number z 0) child, m.1.within.from, f.edges m.0 m.1.w back) in
+                        let up = f.has_parent m.0 v (adjacency.in_range m.1.w m.0 m.1.dart) v_in (record { after = before; before = within }) in
+                        absurd (omega (arith, up, top, n))
+                    | inr most ↦ omega (arith, most, m.2)
+                  ]
+              | inr none ↦ omega (arith, f.numbered v v_in, none)
+            ]
+      ]
+
+  -- where no child with a low point not before its parent is parted, no vertex is a cut vertex
+  pub none_low : ((v u : ℕ) → v < length number → get_or number v 0 ≤ get_or low u 0 → ¬ IsSeparatedIn number parent low v u) → (v : ℕ) → ¬ IsCutVertex lists v
+  none_low none = none_separating (λ v u l h. none v u l (separated_low v u l h) h)

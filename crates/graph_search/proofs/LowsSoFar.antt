@@ -9,7 +9,7 @@ use Rattle.map_lists.specs.Lists.{Lists}
 use Rattle.map_theory.specs.Maps.{HasDart, list_of, place_of}
 use Rattle.map_theory.proofs.DartLemmas.{place_of-lt-length, Contains-from_place_of}
 use Rattle.graph_search.specs.Forests.{IsForestOf}
-use Rattle.graph_search.specs.Lows.{IsWithin, Meets, AreLows, IsLowered}
+use Rattle.graph_search.specs.Lows.{Meets, AreLows, IsLowered}
 use Rattle.graph_search.specs.UnderWay.{IsUnderWay, AreRead, IsPut, IsMetFrom, AreLowering, AreLowsSoFar, IsSearching, IsLeastFrom}
 use Rattle.graph_search.proofs.ForestLemmas.{IsWithin-cases, child_towards}
 use Rattle.graph_search.proofs.StepLemmas.{IsPut-set, unseen_open}

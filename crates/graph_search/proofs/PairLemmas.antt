@@ -244,7 +244,7 @@ module _ (lists : Lists) (adjacency : IsAdjacency lists) where
         },
       )
 
-  separated_turned : (avoided : List ℕ) (s t : ℕ) → AreSeparated lists avoided s t → AreSeparated lists avoided t s
+  pub separated_turned : (avoided : List ℕ) (s t : ℕ) → AreSeparated lists avoided s t → AreSeparated lists avoided t s
   separated_turned avoided s t separated =
       let w = linked_turned lists adjacency (Off []) s t (linked_path lists adjacency [] s t separated.path separated.joined) in
       let path = path_linked_by lists adjacency [] t s w in

@@ -27,7 +27,7 @@ IsPermuting-places lists order number last parent low s t w from to side recent 
       ];
     }
 
-module _ (lists : Lists) (adjacency : IsAdjacency lists) (order number last parent low from to : List ℕ) (side recent : List Bool) (w : IsWholeSearch lists order number last parent low) (p : IsPlacingIn lists order number last parent low from to side recent (length lists)) where
+module _ (lists : Lists) (adjacency : IsAdjacency lists) (order number last parent low from to : List ℕ) (recent : List Bool) (w : IsWholeSearch lists order number last parent low) (p : IsPlacingIn lists order number last parent low from to recent (length lists)) where
   abbrev s : ℕ
   s = get_or order 0 0
 
@@ -50,7 +50,7 @@ module _ (lists : Lists) (adjacency : IsAdjacency lists) (order number last pare
             let a = across lists adjacency _ _ _ _ _ _ _ w.whole _ _ _ _ p.placing v l (omega arith) in
             let up = w.whole.has_parent v l (omega arith) in
             let b = by_parent lists adjacency _ _ _ _ _ _ _ w.whole _ _ _ _ p.placing v l up in
-            elim (cases_Bool (get_or side v false)) [
+            elim (cases_Bool (p.side v)) [
               | inl is_set ↦ (a.0, a.1, a.2 is_set)
               | inr is_clear ↦ (get_or parent v 0, adjacency.both_ways (get_or parent v 0) v (f.adjacent v l up), b.1 is_clear)
             ]
@@ -72,7 +72,7 @@ module _ (lists : Lists) (adjacency : IsAdjacency lists) (order number last pare
             let a = across lists adjacency _ _ _ _ _ _ _ w.whole _ _ _ _ p.placing v l (omega arith) in
             let up = w.whole.has_parent v l (omega arith) in
             let b = by_parent lists adjacency _ _ _ _ _ _ _ w.whole _ _ _ _ p.placing v l up in
-            elim (cases_Bool (get_or side v false)) [
+            elim (cases_Bool (p.side v)) [
               | inl is_set ↦ (get_or parent v 0, adjacency.both_ways (get_or parent v 0) v (f.adjacent v l up), b.0 is_set)
               | inr is_clear ↦ (a.0, a.1, a.3 is_clear)
             ]

@@ -1,6 +1,6 @@
 -- Ranges in tables.
-use Rattle.std.proofs.Common.{◌≡◌, ◌≢◌, ◌⊎◌, ℕ, ◌+◌, ◌-◌, ◌<◌, ◌≤◌, Bool, false, not, List, length, get_or, set, take, ◌++◌, refl, sym, ap, ◌∙◌, subst, inl, inr, arith, get_or-set_same, get_or-set_other, length-set}
-use Rattle.std.proofs.lemmas.Bool.{cases_eq, false≢true}
+use Rattle.std.proofs.Common.{◌≡◌, ◌≢◌, ◌⊎◌, ℕ, ◌+◌, ◌-◌, ◌<◌, ◌≤◌, Bool, false, not, cond, eqb, List, length, get_or, set, take, ◌++◌, refl, sym, ap, ◌∙◌, subst, inl, inr, arith, get_or-set_same, get_or-set_other, length-set}
+use Rattle.std.proofs.lemmas.Bool.{cases_eq, eq-eqb, ne_eqb, false≢true}
 use Rattle.std.proofs.lemmas.List.{get_or_default, take_at}
 use Rattle.map_lists.specs.Lists.{Lists}
 use Rattle.graph_search.proofs.ForestLemmas.{same_vertex}
@@ -10,7 +10,10 @@ use Rattle.st_orders.proofs.PlacingLemmas.{room_left, IsPlacing-more}
 pub IsMarked-set : (xs : List Bool) (i : ℕ) (b : Bool) → i < length xs → IsMarked (λ v. get_or xs v false) (λ v. get_or (set xs i b) v false) i b
 IsMarked-set xs i b l = record { here = get_or-set_same xs i b false l; elsewhere = λ v ne. get_or-set_other xs i v b false ne }
 
-module _ (lists : Lists) (order number last parent low : List ℕ) (w : IsWholeSearch lists order number last parent low) (from to : List ℕ) (side recent : List Bool) where
+pub IsMarked-at : (f : ℕ → Bool) (i : ℕ) (b : Bool) → IsMarked f (λ v. cond (eqb v i) b (f v)) i b
+IsMarked-at f i b = record { here = rw (eq-eqb i i refl) refl; elsewhere = λ v ne. rw (ne_eqb v i ne) refl }
+
+module _ (lists : Lists) (order number last parent low : List ℕ) (w : IsWholeSearch lists order number last parent low) (from to : List ℕ) (recent : List Bool) where
   -- what the next vertex takes is there, and where its low point is
   pub record IsNext (k : ℕ) : Type 0 where
     pub v_in : get_or order k 0 < length lists
@@ -21,7 +24,7 @@ module _ (lists : Lists) (order number last parent low : List ℕ) (w : IsWholeS
     pub low_in : get_or low (get_or order k 0) 0 < length lists
     pub far_in : get_or order (get_or low (get_or order k 0) 0) 0 < length lists
 
-  pub next : (k : ℕ) → IsPlacingIn lists order number last parent low from to side recent k → 2 ≤ k → k < length lists → IsNext k
+  pub next : (k : ℕ) → IsPlacingIn lists order number last parent low from to recent k → 2 ≤ k → k < length lists → IsNext k
   next k h two few =
       let left = room_left lists _ _ _ _ _ _ _ w.whole _ _ _ _ k h.placing two few in
       let f = w.whole.forest in
@@ -39,7 +42,7 @@ module _ (lists : Lists) (order number last parent low : List ℕ) (w : IsWholeS
       }
 
   -- one vertex more
-  pub IsPlacingIn-more : (k : ℕ) → IsPlacingIn lists order number last parent low from to side recent k → 2 ≤ k → k < length lists → (from' to' : List ℕ) → length from' ≡ length from → length to' ≡ length to → IsCarved (λ x. get_or from x 0) (λ x. get_or to x 0) (λ x. get_or from' x 0) (λ x. get_or to' x 0) (get_or order k 0) (get_or parent (get_or order k 0) 0) (get_or last (get_or order k 0) 0 - k) (not (get_or recent (get_or order (get_or low (get_or order k 0) 0) 0) false)) → IsPlacingIn lists order number last parent low from' to' (set side (get_or order k 0) (not (get_or recent (get_or order (get_or low (get_or order k 0) 0) 0) false))) (set recent (get_or parent (get_or order k 0) 0) (not (get_or recent (get_or order (get_or low (get_or order k 0) 0) 0) false))) (k + 1)
+  pub IsPlacingIn-more : (k : ℕ) → IsPlacingIn lists order number last parent low from to recent k → 2 ≤ k → k < length lists → (from' to' : List ℕ) → length from' ≡ length from → length to' ≡ length to → IsCarved (λ x. get_or from x 0) (λ x. get_or to x 0) (λ x. get_or from' x 0) (λ x. get_or to' x 0) (get_or order k 0) (get_or parent (get_or order k 0) 0) (get_or last (get_or order k 0) 0 - k) (not (get_or recent (get_or order (get_or low (get_or order k 0) 0) 0) false)) → IsPlacingIn lists order number last parent low from' to' (set recent (get_or parent (get_or order k 0) 0) (not (get_or recent (get_or order (get_or low (get_or order k 0) 0) 0) false))) (k + 1)
   IsPlacingIn-more k h two few from' to' same_from same_to carved =
       let i = next k h two few in
       let v = get_or order k 0 in
@@ -49,14 +52,14 @@ module _ (lists : Lists) (order number last parent low : List ℕ) (w : IsWholeS
       let p_in = i.p_in in
       let ends = i.ends in
       let tables = h.tables in
-      let ls = tables.sides in
       let lr = tables.recents in
       record {
-        tables = record { froms = same_from ∙ tables.froms; tos = same_to ∙ tables.tos; sides = length-set side v b ∙ ls; recents = length-set recent p b ∙ lr };
-        placing = IsPlacing-more lists _ _ _ _ _ _ _ w.whole _ _ _ _ k h.placing two few _ _ _ _ (get_or last v 0 - k) (omega arith) b refl carved (IsMarked-set side v b (omega arith)) (IsMarked-set recent p b (omega arith));
+        side = λ x. cond (eqb x v) b (h.side x);
+        tables = record { froms = same_from ∙ tables.froms; tos = same_to ∙ tables.tos; recents = length-set recent p b ∙ lr };
+        placing = IsPlacing-more lists _ _ _ _ _ _ _ w.whole _ _ _ _ k h.placing two few _ _ _ _ (get_or last v 0 - k) (omega arith) b refl carved (IsMarked-at h.side v b) (IsMarked-set recent p b (omega arith));
       }
 
-  module _ (k : ℕ) (h : IsPlacingIn lists order number last parent low from to side recent k) (two : 2 ≤ k) (few : k < length lists) (v p far : ℕ) (v_read : v ≡ get_or order k v) (p_read : p ≡ get_or parent v p) (far_read : far ≡ get_or order (get_or low v 0) far) where
+  module _ (k : ℕ) (h : IsPlacingIn lists order number last parent low from to recent k) (two : 2 ≤ k) (few : k < length lists) (v p far : ℕ) (v_read : v ≡ get_or order k v) (p_read : p ≡ get_or parent v p) (far_read : far ≡ get_or order (get_or low v 0) far) where
     -- what is read of the next vertex is there
     pub record IsNextAt : Type 0 where
       pub v_is : v ≡ get_or order k 0
@@ -90,7 +93,7 @@ module _ (lists : Lists) (order number last parent low : List ℕ) (w : IsWholeS
         }
 
     -- one vertex more, by what was read, where the ranges were lent
-    pub IsPlacingIn-next : (r : Bool) → r ≡ get_or recent far r → (l : ℕ) → l ≡ get_or last v l → (from' to' behind behind' : List ℕ) (m m' : ℕ) → length from' ≡ length from → length to' ≡ length to → length from' ≡ m → length to' ≡ m' → IsCarved (λ x. get_or from x 0) (λ x. get_or to x 0) (λ x. get_or from' x 0) (λ x. get_or to' x 0) v p (l - k) (not r) → IsPlacingIn lists order number last parent low (take m (from' ++ behind)) (take m' (to' ++ behind')) (set side v (not r)) (set recent p (not r)) (k + 1)
+    pub IsPlacingIn-next : (r : Bool) → r ≡ get_or recent far r → (l : ℕ) → l ≡ get_or last v l → (from' to' behind behind' : List ℕ) (m m' : ℕ) → length from' ≡ length from → length to' ≡ length to → length from' ≡ m → length to' ≡ m' → IsCarved (λ x. get_or from x 0) (λ x. get_or to x 0) (λ x. get_or from' x 0) (λ x. get_or to' x 0) v p (l - k) (not r) → IsPlacingIn lists order number last parent low (take m (from' ++ behind)) (take m' (to' ++ behind')) (set recent p (not r)) (k + 1)
     IsPlacingIn-next r r_read l l_read from' to' behind behind' m m' same_from same_to long long' carved =
         let i = next_at in
         let V = get_or order k 0 in
@@ -103,11 +106,10 @@ module _ (lists : Lists) (order number last parent low : List ℕ) (w : IsWholeS
         let at_l = subst (λ x. IsCarved (λ x. get_or from x 0) (λ x. get_or to x 0) (λ x. get_or from' x 0) (λ x. get_or to' x 0) V P (x - k) (not r)) l_is at_p in
         let at_r = subst (λ x. IsCarved (λ x. get_or from x 0) (λ x. get_or to x 0) (λ x. get_or from' x 0) (λ x. get_or to' x 0) V P (get_or last V 0 - k) x) r_is at_l in
         let more = IsPlacingIn-more k h two few from' to' same_from same_to at_r in
-        let back_r = subst (λ x. IsPlacingIn lists order number last parent low from' to' (set side V x) (set recent P x) (k + 1)) (sym r_is) more in
-        let back_v = subst (λ x. IsPlacingIn lists order number last parent low from' to' (set side x (not r)) (set recent P (not r)) (k + 1)) (sym i.v_is) back_r in
-        let back_p = subst (λ x. IsPlacingIn lists order number last parent low from' to' (set side v (not r)) (set recent x (not r)) (k + 1)) (sym i.p_is) back_v in
-        subst (λ xs. IsPlacingIn lists order number last parent low xs (take m' (to' ++ behind')) (set side v (not r)) (set recent p (not r)) (k + 1)) (sym (take_at from' behind m long))
-        (subst (λ xs. IsPlacingIn lists order number last parent low from' xs (set side v (not r)) (set recent p (not r)) (k + 1)) (sym (take_at to' behind' m' long')) back_p)
+        let back_r = subst (λ x. IsPlacingIn lists order number last parent low from' to' (set recent P x) (k + 1)) (sym r_is) more in
+        let back_p = subst (λ x. IsPlacingIn lists order number last parent low from' to' (set recent x (not r)) (k + 1)) (sym i.p_is) back_r in
+        subst (λ xs. IsPlacingIn lists order number last parent low xs (take m' (to' ++ behind')) (set recent p (not r)) (k + 1)) (sym (take_at from' behind m long))
+        (subst (λ xs. IsPlacingIn lists order number last parent low from' xs (set recent p (not r)) (k + 1)) (sym (take_at to' behind' m' long')) back_p)
 
 -- the first two
 module _ (lists : Lists) (order number last parent low : ℕ → ℕ) (s t : ℕ) (w : IsWholeForest lists order number last parent low s t) (from to : ℕ → ℕ) (side recent : ℕ → Bool) (from_s : from s ≡ 0) (to_s : to s ≡ 1) (from_t : from t ≡ 1) (to_t : to t ≡ length lists) (side_t : side t ≡ false) (recent_s : recent s ≡ false) (some : 2 ≤ length lists) where
@@ -183,11 +185,10 @@ module _ (lists : Lists) (order number last parent low : ℕ → ℕ) (s t : ℕ
       }
 
 -- the first two, in tables
-pub IsPlacingIn-two : (lists : Lists) (order number last parent low from to : List ℕ) (side recent : List Bool) → IsWholeSearch lists order number last parent low → 2 ≤ length lists → AreTables lists from to side recent → IsPlacingIn lists order number last parent low (set (set from (get_or order 0 0) 0) (get_or order 1 0) 1) (set (set to (get_or order 0 0) 1) (get_or order 1 0) (length lists)) (set side (get_or order 1 0) false) (set recent (get_or order 0 0) false) 2
-IsPlacingIn-two lists order number last parent low from to side recent w some tables =
+pub IsPlacingIn-two : (lists : Lists) (order number last parent low from to : List ℕ) (recent : List Bool) → IsWholeSearch lists order number last parent low → 2 ≤ length lists → AreTables lists from to recent → IsPlacingIn lists order number last parent low (set (set from (get_or order 0 0) 0) (get_or order 1 0) 1) (set (set to (get_or order 0 0) 1) (get_or order 1 0) (length lists)) (set recent (get_or order 0 0) false) 2
+IsPlacingIn-two lists order number last parent low from to recent w some tables =
     let froms = tables.froms in
     let tos = tables.tos in
-    let sides = tables.sides in
     let recents = tables.recents in
     let s = get_or order 0 0 in
     let t = get_or order 1 0 in
@@ -197,10 +198,10 @@ IsPlacingIn-two lists order number last parent low from to side recent w some ta
     let long_from = length-set from s 0 in
     let long_to = length-set to s 1 in
     record {
+      side = λ _. false;
       tables = record {
         froms = length-set (set from s 0) t 1 ∙ (long_from ∙ froms);
         tos = length-set (set to s 1) t (length lists) ∙ (long_to ∙ tos);
-        sides = length-set side t false ∙ sides;
         recents = length-set recent s false ∙ recents;
       };
       placing = IsPlacing-two lists _ _ _ _ _ s t w.whole _ _ _ _
@@ -208,15 +209,15 @@ IsPlacingIn-two lists order number last parent low from to side recent w some ta
           (get_or-set_other (set to s 1) t s (length lists) 0 ne ∙ get_or-set_same to s 1 0 (omega arith))
           (get_or-set_same (set from s 0) t 1 0 (omega arith))
           (get_or-set_same (set to s 1) t (length lists) 0 (omega arith))
-          (get_or-set_same side t false false (omega arith))
+          refl
           (get_or-set_same recent s false false (omega arith)) some;
     }
 
 -- the first two, by what was read of them
-pub IsPlacingIn-first : (lists : Lists) (order number last parent low from to : List ℕ) (side recent : List Bool) → IsWholeSearch lists order number last parent low → 2 ≤ length lists → AreTables lists from to side recent → (s t n : ℕ) → s ≡ get_or order 0 s → t ≡ get_or order 1 t → n ≡ length lists → IsPlacingIn lists order number last parent low (set (set from s 0) t 1) (set (set to s 1) t n) (set side t false) (set recent s false) 2
-IsPlacingIn-first lists order number last parent low from to side recent w some tables s t n s_read t_read n_is =
+pub IsPlacingIn-first : (lists : Lists) (order number last parent low from to : List ℕ) (recent : List Bool) → IsWholeSearch lists order number last parent low → 2 ≤ length lists → AreTables lists from to recent → (s t n : ℕ) → s ≡ get_or order 0 s → t ≡ get_or order 1 t → n ≡ length lists → IsPlacingIn lists order number last parent low (set (set from s 0) t 1) (set (set to s 1) t n) (set recent s false) 2
+IsPlacingIn-first lists order number last parent low from to recent w some tables s t n s_read t_read n_is =
     let o = w.orders in
     let s_is : s ≡ get_or order 0 0 = s_read ∙ get_or_default order 0 s 0 (omega (arith, some, o)) in
     let t_is : t ≡ get_or order 1 0 = t_read ∙ get_or_default order 1 t 0 (omega (arith, some, o)) in
-    let at = λ (x y z : ℕ). IsPlacingIn lists order number last parent low (set (set from x 0) y 1) (set (set to x 1) y z) (set side y false) (set recent x false) 2 in
-    subst (λ x. at x t n) (sym s_is) (subst (λ y. at (get_or order 0 0) y n) (sym t_is) (subst (λ z. at (get_or order 0 0) (get_or order 1 0) z) (sym n_is) (IsPlacingIn-two lists order number last parent low from to side recent w some tables)))
+    let at = λ (x y z : ℕ). IsPlacingIn lists order number last parent low (set (set from x 0) y 1) (set (set to x 1) y z) (set recent x false) 2 in
+    subst (λ x. at x t n) (sym s_is) (subst (λ y. at (get_or order 0 0) y n) (sym t_is) (subst (λ z. at (get_or order 0 0) (get_or order 1 0) z) (sym n_is) (IsPlacingIn-two lists order number last parent low from to recent w some tables)))

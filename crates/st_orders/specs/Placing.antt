@@ -62,16 +62,16 @@ pub record IsWholeSearch (lists : Lists) (order number last parent low : List �
   pub whole : IsWholeForest lists (λ k. slice_index order k) (λ v. slice_index number v) (λ v. slice_index last v) (λ v. slice_index parent v) (λ v. slice_index low v) (slice_index order 0) (slice_index order 1)
 
 -- the ranges, and what goes with them, have an entry for each vertex
-pub record AreTables (lists : Lists) (from to : List ℕ) (side recent : List Bool) : Type 0 where
+pub record AreTables (lists : Lists) (from to : List ℕ) (recent : List Bool) : Type 0 where
   pub froms : length from ≡ length lists
   pub tos : length to ≡ length lists
-  pub sides : length side ≡ length lists
   pub recents : length recent ≡ length lists
 
--- and the ranges in tables
-pub record IsPlacingIn (lists : Lists) (order number last parent low from to : List ℕ) (side recent : List Bool) (k : ℕ) : Type 0 where
-  pub tables : AreTables lists from to side recent
-  pub placing : IsPlacing lists (λ i. slice_index order i) (λ v. slice_index number v) (λ v. slice_index last v) (λ v. slice_index parent v) (λ v. slice_index low v) (slice_index order 1) (λ v. slice_index from v) (λ v. slice_index to v) (λ v. slice_index_or side v false) (λ v. slice_index_or recent v false) k
+-- and the ranges in tables, with the sides, which are in none
+pub record IsPlacingIn (lists : Lists) (order number last parent low from to : List ℕ) (recent : List Bool) (k : ℕ) : Type 0 where
+  pub side : ℕ → Bool
+  pub tables : AreTables lists from to recent
+  pub placing : IsPlacing lists (λ i. slice_index order i) (λ v. slice_index number v) (λ v. slice_index last v) (λ v. slice_index parent v) (λ v. slice_index low v) (slice_index order 1) (λ v. slice_index from v) (λ v. slice_index to v) side (λ v. slice_index_or recent v false) k
 
 -- such a search as code has it, with its low points
 abbrev pub IsWholeBy : Lists → Forest → (low : List ℕ) → Type 0
@@ -79,7 +79,7 @@ IsWholeBy lists forest low = IsWholeSearch lists forest.order.items forest.numbe
 
 -- and the ranges of the vertices numbered below k by it
 abbrev pub ArePlacedBelow : Lists → Forest → (low : List ℕ) → Ranges → ℕ → Type 0
-ArePlacedBelow lists forest low ranges k = IsPlacingIn lists forest.order.items forest.number.items forest.last.items forest.parent.items low ranges.from.items ranges.to.items ranges.side.items ranges.recent.items k
+ArePlacedBelow lists forest low ranges k = IsPlacingIn lists forest.order.items forest.number.items forest.last.items forest.parent.items low ranges.from.items ranges.to.items ranges.recent.items k
 
 -- Different places below the number of vertices, which with the vertices at them are an st-order.
 pub record ArePlaces (lists : Lists) (s t : ℕ) (from : List ℕ) : Type 0 where

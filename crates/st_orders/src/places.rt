@@ -14,8 +14,6 @@ pub struct Ranges {
     pub from: Vec<u16>,
     // for each vertex where its range ends
     to: Vec<u16>,
-    // for each vertex whether it took its range from below its parent's
-    side: Vec<bool>,
     // for each vertex the side of its last child
     recent: Vec<bool>,
 }
@@ -43,17 +41,27 @@ fn take_places(from: &mut [u16], to: &mut [u16], vertex: u16, parent: u16, size:
 }
 
 // Gives a table `n` places.
+#[inline(always)]
 fn size(table: &mut Vec<u16>, n: usize) -> Result<(), AllocError>
     ensures { IfOk result (λ _. length table.new.items ≡ n) }
 {
+    if n <= table.len() {
+        table.truncate(n);
+        return Ok(());
+    }
     table.resize(n, 0)?;
     Ok(())
 }
 
 // Gives a table of marks `n` places.
+#[inline(always)]
 fn size_marks(table: &mut Vec<bool>, n: usize) -> Result<(), AllocError>
     ensures { IfOk result (λ _. length table.new.items ≡ n) }
 {
+    if n <= table.len() {
+        table.truncate(n);
+        return Ok(());
+    }
     table.resize(n, false)?;
     Ok(())
 }
@@ -64,19 +72,17 @@ impl Ranges {
         Ranges {
             from: Vec::new(alloc),
             to: Vec::new(alloc),
-            side: Vec::new(alloc),
             recent: Vec::new(alloc),
         }
     }
 
     // Makes room for the vertices of a map.
     pub(crate) fn make_room(&mut self, lists: &Rotations) -> Result<(), AllocError>
-        ensures { IfOk result (λ _. AreTables lists.now self.new.from.items self.new.to.items self.new.side.items self.new.recent.items) }
+        ensures { IfOk result (λ _. AreTables lists.now self.new.from.items self.new.to.items self.new.recent.items) }
     {
         let n = lists.len();
         size(&mut self.from, n)?;
         size(&mut self.to, n)?;
-        size_marks(&mut self.side, n)?;
         size_marks(&mut self.recent, n)?;
         Ok(())
     }
@@ -95,7 +101,6 @@ impl Ranges {
         let below = !self.recent[far as usize];
         let size = forest.last[vertex as usize] - next;
         take_places(&mut self.from, &mut self.to, vertex, above, size, below);
-        self.side[vertex as usize] = below;
         self.recent[above as usize] = below;
     }
 
@@ -103,7 +108,7 @@ impl Ranges {
     fn place_two(&mut self, lists: &Rotations, forest: &Forest, low: &[u16])
         requires some { 2 ≤ length lists.now }
         requires whole { IsWholeBy lists.now forest.now low.now }
-        requires tables { AreTables lists.now self.old.from.items self.old.to.items self.old.side.items self.old.recent.items }
+        requires tables { AreTables lists.now self.old.from.items self.old.to.items self.old.recent.items }
         ensures { ArePlacedBelow lists.now forest.now low.now self.new 2 }
     {
         let _low = low;
@@ -113,7 +118,6 @@ impl Ranges {
         self.to[s] = 1;
         self.from[t] = 1;
         self.to[t] = lists.len() as u16;
-        self.side[t] = false;
         self.recent[s] = false;
     }
 
@@ -121,7 +125,7 @@ impl Ranges {
     pub(crate) fn place_all(&mut self, lists: &Rotations, forest: &Forest, low: &[u16])
         requires some { 2 ≤ length lists.now }
         requires whole { IsWholeBy lists.now forest.now low.now }
-        requires tables { AreTables lists.now self.old.from.items self.old.to.items self.old.side.items self.old.recent.items }
+        requires tables { AreTables lists.now self.old.from.items self.old.to.items self.old.recent.items }
         ensures { ArePlacedBelow lists.now forest.now low.now self.new (length lists.now) }
     {
         self.place_two(lists, forest, low);

@@ -40,13 +40,23 @@ impl Searched<'_> {
         false
     }
 
-    // Whether no vertex is a child that its parent parts from others.
+    // Whether `u` has a low point not before `v`, and is a child of `v` that `v` parts from other vertices. Most children
+    // have a low point before their parent, which one look tells.
+    fn is_apart(&self, v: u16, u: u16) -> bool
+        requires v_in { v < length self.now.lists.now }
+        requires u_in { u < length self.now.lists.now }
+        ensures { IsTrue result ↔ ((slice_index self.now.number.now v ≤ slice_index self.now.low.now u) × IsSeparatedIn self.now.number.now self.now.parent.now self.now.low.now v u) }
+    {
+        self.number[v as usize] <= self.low[u as usize] && self.is_separated(v, u)
+    }
+
+    // Whether no vertex with a low point not before its parent is a child that this parts from others.
     fn no_child_apart(&self) -> bool
-        ensures { IsTrue result → (v u : ℕ) → v < length self.now.number.now → ¬ IsSeparatedIn self.now.number.now self.now.parent.now self.now.low.now v u }
+        ensures { IsTrue result → (v u : ℕ) → v < length self.now.number.now → slice_index self.now.number.now v ≤ slice_index self.now.low.now u → ¬ IsSeparatedIn self.now.number.now self.now.parent.now self.now.low.now v u }
     {
         for u in 0..self.number.len() {
             let v = self.parent[u];
-            if (v as usize) < self.number.len() && self.is_separated(v, u as u16) {
+            if (v as usize) < self.number.len() && self.is_apart(v, u as u16) {
                 return false;
             }
         }

@@ -48,29 +48,49 @@ impl Forest {
 }
 
 // Gives a table `n` places.
+#[inline(always)]
 fn size(table: &mut Vec<u16>, n: usize) -> Result<(), AllocError>
     ensures { IfOk result (λ _. length table.new.items ≡ n) }
 {
+    if n <= table.len() {
+        table.truncate(n);
+        return Ok(());
+    }
     table.resize(n, 0)?;
     Ok(())
 }
 
-// Fills a table with `value` at each of `n` places.
-pub(crate) fn fill(table: &mut Vec<u16>, value: u16, n: usize) -> Result<(), AllocError>
-    ensures { IfOk result (λ _. table.new.items ≡ replicate n value) }
+// Gives a table of cursors `n` places.
+#[inline(always)]
+fn size_cursors(table: &mut Vec<usize>, n: usize) -> Result<(), AllocError>
+    ensures { IfOk result (λ _. length table.new.items ≡ n) }
 {
-    table.clear();
-    table.resize(n, value)?;
+    if n <= table.len() {
+        table.truncate(n);
+        return Ok(());
+    }
+    table.resize(n, 0)?;
     Ok(())
 }
 
-// Fills a table with 0 at each of `n` places.
-fn unread(table: &mut Vec<usize>, n: usize) -> Result<(), AllocError>
-    ensures { IfOk result (λ _. table.new.items ≡ replicate n 0) }
+// Marks all vertices as unseen and open, with no low point found and no entry read.
+fn unsee(number: &mut [u16], last: &mut [u16], low: &mut [u16], cursor: &mut [usize])
+    requires few { length number.old < 4096 }
+    requires lasts { length last.old ≡ length number.old }
+    requires lows { length low.old ≡ length number.old }
+    requires cursors { length cursor.old ≡ length number.old }
+    ensures number { number.new ≡ replicate (length number.old) (length number.old) }
+    ensures last { last.new ≡ replicate (length number.old) 0 }
+    ensures low { low.new ≡ replicate (length number.old) (length number.old) }
+    ensures cursor { cursor.new ≡ replicate (length number.old) 0 }
 {
-    table.clear();
-    table.resize(n, 0)?;
-    Ok(())
+    let n = number.len();
+    for v in 0..n {
+        number[v] = n as u16;
+        last[v] = 0;
+        low[v] = n as u16;
+        cursor[v] = 0;
+    }
 }
 
 /// The tables of a search with its low points, which keep their memory from one search to the next.
@@ -100,11 +120,17 @@ impl SearchTables {
         ensures { IfOk result (λ _. AreCleared n self.new.forest.order.items self.new.forest.number.items self.new.forest.last.items self.new.forest.parent.items self.new.cursor.items self.new.low.items) }
     {
         size(&mut self.forest.order, n)?;
-        fill(&mut self.forest.number, n as u16, n)?;
-        fill(&mut self.forest.last, 0, n)?;
+        size(&mut self.forest.number, n)?;
+        size(&mut self.forest.last, n)?;
         size(&mut self.forest.parent, n)?;
-        fill(&mut self.low, n as u16, n)?;
-        unread(&mut self.cursor, n)?;
+        size(&mut self.low, n)?;
+        size_cursors(&mut self.cursor, n)?;
+        unsee(
+            &mut self.forest.number,
+            &mut self.forest.last,
+            &mut self.low,
+            &mut self.cursor,
+        );
         Ok(())
     }
 

@@ -80,19 +80,19 @@ impl<'a> Search<'a> {
         self.count as usize >= self.lists.len()
     }
 
-    // Returns the first place from `from` on at which the current list has a vertex that was not seen, or its length, and
-    // the least of `start` and of the numbers of the vertices before that.
+    // Returns the first place from `from` on at which the current list, lent as `list`, has a vertex that was not seen, or
+    // its length, and the least of `start` and of the numbers of the vertices before that.
     #[inline(always)]
-    fn unseen_place(&self, from: usize, start: u16) -> (usize, u16)
+    fn unseen_place(&self, list: &[u16], from: usize, start: u16) -> (usize, u16)
         requires vertex { self.now.current < length self.now.lists.now }
-        requires from { from ≤ length (list_of self.now.lists.now self.now.current) }
+        requires list { list.now ≡ list_of self.now.lists.now self.now.current }
+        requires from { from ≤ length list.now }
         ensures after { from ≤ result.0 }
-        ensures within { result.0 ≤ length (list_of self.now.lists.now self.now.current) }
-        ensures seen { (i : ℕ) → from ≤ i → i < result.0 → slice_index self.now.number.items (slice_index (list_of self.now.lists.now self.now.current) i) < length self.now.lists.now }
-        ensures unseen { result.0 < length (list_of self.now.lists.now self.now.current) → length self.now.lists.now ≤ slice_index self.now.number.items (slice_index (list_of self.now.lists.now self.now.current) result.0) }
-        ensures least { IsLeastFrom (list_of self.now.lists.now self.now.current) self.now.number.items from result.0 start result.1 }
+        ensures within { result.0 ≤ length list.now }
+        ensures seen { (i : ℕ) → from ≤ i → i < result.0 → slice_index self.now.number.items (slice_index list.now i) < length self.now.lists.now }
+        ensures unseen { result.0 < length list.now → length self.now.lists.now ≤ slice_index self.now.number.items (slice_index list.now result.0) }
+        ensures least { IsLeastFrom list.now self.now.number.items from result.0 start result.1 }
     {
-        let list = self.lists.list(self.current as usize);
         let mut least = start;
         for i in from..list.len() {
             if self.is_unseen(list[i]) {
@@ -140,20 +140,21 @@ impl<'a> Search<'a> {
         self.current = above;
     }
 
-    // Moves the cursor of the current vertex to the next neighbour that was not seen, and returns it.
+    // Moves the cursor of the current vertex to the next neighbour in its list that was not seen, and returns it.
     #[inline(always)]
-    fn go_on(&mut self) -> usize
-        requires { self.old.current < length self.old.lists.now }
+    fn go_on(&mut self, list: &[u16]) -> usize
+        requires vertex { self.old.current < length self.old.lists.now }
+        requires list { list.now ≡ list_of self.old.lists.now self.old.current }
         ensures lists { self.new.lists.now ≡ self.old.lists.now }
         ensures number { self.new.number.items ≡ self.old.number.items }
         ensures last { self.new.last.items ≡ self.old.last.items }
         ensures current { self.new.current ≡ self.old.current }
         ensures cursor { slice_index self.new.cursor.items self.old.current ≡ result }
-        ensures within { result ≤ length (list_of self.old.lists.now self.old.current) }
-        ensures unseen { result < length (list_of self.old.lists.now self.old.current) → length self.old.lists.now ≤ slice_index self.old.number.items (slice_index (list_of self.old.lists.now self.old.current) result) }
+        ensures within { result ≤ length list.now }
+        ensures unseen { result < length list.now → length self.old.lists.now ≤ slice_index self.old.number.items (slice_index list.now result) }
     {
         let v = self.current as usize;
-        let (place, least) = self.unseen_place(self.cursor[v], self.low[v]);
+        let (place, least) = self.unseen_place(list, self.cursor[v], self.low[v]);
         self.cursor[v] = place;
         self.low[v] = least;
         place
@@ -169,7 +170,7 @@ impl<'a> Search<'a> {
     {
         let lists = self.lists;
         let list = lists.list(self.current as usize);
-        let place = self.go_on();
+        let place = self.go_on(list);
         if place < list.len() {
             self.see(list[place]);
         } else {

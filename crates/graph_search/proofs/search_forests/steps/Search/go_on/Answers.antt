@@ -12,16 +12,18 @@ invariant_of-self-clause-lows c =
     let place = c.unseen_place-place.result.0 in
     let least = c.unseen_place-place.result.1 in
     let list = list_of s.lists.now s.current in
-    let from : c.index.result.now ≡ get_or s.cursor.items s.current 0 = c.index.ensures ∙ get_or_default s.cursor.items s.current c.index.result.now 0 (omega (arith, s.searching.cursors, c.requires)) in
-    let start : c.index-2.result.now ≡ get_or s.low.items s.current 0 = c.index-2.ensures ∙ get_or_default s.low.items s.current c.index-2.result.now 0 (omega (arith, s.lows.lows, c.requires)) in
-    AreLowsSoFar-read s.lists.now s.order.items s.number.items s.last.items s.parent.items s.cursor.items s.low.items s.count s.current s.searching s.lows place least c.requires
+    let told = rw c.requires.list at c.unseen_place-place.ensures.least in
+    let from : c.index.result.now ≡ get_or s.cursor.items s.current 0 = c.index.ensures ∙ get_or_default s.cursor.items s.current c.index.result.now 0 (omega (arith, s.searching.cursors, c.requires.vertex)) in
+    let start : c.index-2.result.now ≡ get_or s.low.items s.current 0 = c.index-2.ensures ∙ get_or_default s.low.items s.current c.index-2.result.now 0 (omega (arith, s.lows.lows, c.requires.vertex)) in
+    AreLowsSoFar-read s.lists.now s.order.items s.number.items s.last.items s.parent.items s.cursor.items s.low.items s.count s.current s.searching s.lows place least c.requires.vertex
     (subst (λ (x : ℕ). IsLeastFrom list s.number.items (get_or s.cursor.items s.current 0) place x least) start
-    (subst (λ (x : ℕ). IsLeastFrom list s.number.items x place c.index-2.result.now least) from c.unseen_place-place.ensures.least))
+    (subst (λ (x : ℕ). IsLeastFrom list s.number.items x place c.index-2.result.now least) from told))
 
 pub invariant_of-self-clause-searching : goal.invariant_of-self-clause-searching
 invariant_of-self-clause-searching c =
     let s = c.args.self.now in
     let place = c.unseen_place-place.result.0 in
     let told = c.unseen_place-place.ensures in
-    let from : c.index.result.now ≡ get_or s.cursor.items s.current 0 = c.index.ensures ∙ get_or_default s.cursor.items s.current c.index.result.now 0 (omega (arith, s.searching.cursors, c.requires)) in
-    IsSearching-read s.lists.now s.order.items s.number.items s.last.items s.parent.items s.cursor.items s.count s.current s.searching place c.requires told.within (λ i a b. told.seen i (omega (arith, a, from)) b)
+    let seen = rw c.requires.list at told.seen in
+    let from : c.index.result.now ≡ get_or s.cursor.items s.current 0 = c.index.ensures ∙ get_or_default s.cursor.items s.current c.index.result.now 0 (omega (arith, s.searching.cursors, c.requires.vertex)) in
+    IsSearching-read s.lists.now s.order.items s.number.items s.last.items s.parent.items s.cursor.items s.count s.current s.searching place c.requires.vertex (rw c.requires.list at told.within) (λ i a b. seen i (omega (arith, a, from)) b)

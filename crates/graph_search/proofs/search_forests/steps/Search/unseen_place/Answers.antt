@@ -8,26 +8,26 @@ use Rattle.graph_search.proofs.search_forests.steps.Search.unseen_place.Goals as
 pub is_unseen-requires : goal.is_unseen-requires
 is_unseen-requires c =
     let s = c.args.self.now in
-    let list = c.list-list.result.now in
+    let list = c.args.list.now in
     let u = get_or list c.loop-i.i 0 in
-    s.in_range s.current u (c.requires.vertex, subst (λ (us : List ℕ). Contains us u) c.list-list.ensures (Contains-get_or list c.loop-i.i 0 (omega (arith, c.loop-i-test.true))))
+    s.in_range s.current u (c.requires.vertex, subst (λ (us : List ℕ). Contains us u) c.requires.list (Contains-get_or list c.loop-i.i 0 (omega (arith, c.loop-i-test.true))))
 
 pub index-requires : goal.index-requires
 index-requires c =
     let s = c.args.self.now in
-    let list = c.list-list.result.now in
+    let list = c.args.list.now in
     let u = get_or list c.loop-i.i 0 in
-    let within = s.in_range s.current u (c.requires.vertex, subst (λ (us : List ℕ). Contains us u) c.list-list.ensures (Contains-get_or list c.loop-i.i 0 (omega (arith, c.loop-i-test.true)))) in
+    let within = s.in_range s.current u (c.requires.vertex, subst (λ (us : List ℕ). Contains us u) c.requires.list (Contains-get_or list c.loop-i.i 0 (omega (arith, c.loop-i-test.true)))) in
     omega (arith, within, s.searching.numbers, s.number.ok.0)
 
 pub loop-i-preserved : goal.loop-i-preserved
 loop-i-preserved c =
     let s = c.args.self.now in
-    let list = c.list-list.result.now in
+    let list = c.args.list.now in
     let i = c.loop-i.i in
     let u = get_or list i 0 in
     let in_list : i < length list = omega (arith, c.loop-i-test.true) in
-    let within = s.in_range s.current u (c.requires.vertex, subst (λ (us : List ℕ). Contains us u) c.list-list.ensures (Contains-get_or list i 0 in_list)) in
+    let within = s.in_range s.current u (c.requires.vertex, subst (λ (us : List ℕ). Contains us u) c.requires.list (Contains-get_or list i 0 in_list)) in
     let read : c.index.result.now ≡ get_or s.number.items u 0 = c.index.ensures ∙ get_or_default s.number.items u c.index.result.now 0 (omega (arith, within, s.searching.numbers)) in
     let seen_now : get_or s.number.items u 0 < length s.lists.now = elim (cases_lt (get_or s.number.items u 0) (length s.lists.now)) [ inl l ↦ l | inr m ↦ absurd (false≢true (sym c.if-is_unseen.false ∙ c.is_unseen.ensures.1 m)) ] in
     record {
