@@ -1,9 +1,8 @@
 -- The outer cycle as marks: how it begins, that some vertex looks removable, one taken off, and how it ends.
-use Rattle.std.proofs.Common.{◌≡◌, ◌≢◌, ◌↔◌, ℕ, ◌+◌, ◌<◌, Bool, true, false, List, [], ◌∷◌, ◌++◌, length, Contains, All, AllPairs, reverse, refl, sym, ap, ◌∙◌, subst, inl, inr, arith, lt-ltb, ltb, ltb-true}
-use Rattle.std.proofs.lemmas.List.{length-reverse}
+use Rattle.std.proofs.Common.{◌≡◌, ◌≢◌, ◌↔◌, ℕ, ◌+◌, ◌<◌, Bool, true, false, List, [], ◌∷◌, ◌++◌, length, Contains, All, AllPairs, refl, sym, ap, ◌∙◌, subst, inl, inr, arith, lt-ltb, ltb, ltb-true}
 use Rattle.std.proofs.lemmas.List.Elements.{All-cons, All-nil}
 use Rattle.map_lists.specs.Lists.{Lists}
-use Rattle.map_theory.specs.Maps.{Dart, HasDart, follows}
+use Rattle.map_theory.specs.Maps.{HasDart, follows}
 use Rattle.map_theory.proofs.EntryLemmas.{Contains-here}
 use Rattle.plane_laws.specs.Triangulations.{IsTriangulation}
 use Rattle.plane_peeling.specs.Restricted.{restricted}
@@ -19,7 +18,6 @@ use Rattle.canon_order.specs.Lefts.{IsLeft}
 use Rattle.canon_order.specs.Marks.{is_set, kept_of, IsTally, IsNoted, IsTaken}
 use Rattle.canon_order.specs.Contours.{LooksRemovable, IsPrepared, IsContour}
 use Rattle.canon_order.proofs.Lefts.{IsLeft-begin, IsLeft-taken, IsLeft-three}
-use Rattle.canon_order.proofs.Counters.{All-from_reverse, AllPairs-from_reverse}
 use Rattle.canon_order.proofs.Marks.{is_set-lt, kept_of-parts, kept_of-from, kept_of-set, marks_after}
 
 -- what looks removable and is not noted looked removable before
@@ -106,13 +104,3 @@ module _ (lists : Lists) (t s : ℕ) (triangulation : IsTriangulation lists) whe
                 (IsLeft-taken lists s t (kept_of gone) h.ws rest triangulation h.left v fan.0 fan.1 fan.2 fan.3 fan.4 removable.on fan.5 less (omega arith));
             marks = marks_after lists gone marked v gone' marked' h.ws ws' triangulation.simple l len (omega arith) kept after h.marks taken;
           }
-
--- the vertices taken off, from the last to the first, are all of them, each once
-pub taken_within : (lists : Lists) (base : Dart) (us : List ℕ) → IsCanonicalOrder lists base (reverse us) → All (λ v. v < length us) us
-taken_within lists base us h =
-    let n = length-reverse us in
-    let count = h.count in
-    λ k d l. let lt = All-from_reverse (λ v. v < length lists) us h.vertices k d l in omega arith
-
-pub taken_apart : (lists : Lists) (base : Dart) (us : List ℕ) → IsCanonicalOrder lists base (reverse us) → AllPairs ◌≢◌ us
-taken_apart lists base us h = AllPairs-from_reverse us h.built.once

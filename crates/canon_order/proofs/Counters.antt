@@ -74,25 +74,25 @@ all_of_them us v within distinct l =
     same_at : (us : List ℕ) (i v : ℕ) → i < length us → get_or us i 0 ≡ v → get_or us i v ≡ v
     same_at us i v m e = sym (get_or_default us i 0 v m) ∙ e
 
--- the ranks that were written, from the last entry on
-pub IsRankOf-turned : (rank taken : List ℕ) → length rank ≡ length taken → All (λ v. v < length taken) taken → AllPairs ◌≢◌ taken → ((i : ℕ) → i < length taken → get_or rank (get_or taken i 0) 0 + i + 1 ≡ length taken) → IsRankOf rank (reverse taken)
-IsRankOf-turned rank taken n within distinct h =
-    let len = length-reverse taken in
-    record {
-      count = omega arith;
-      of_place = λ i l.
-          let at = get_or-reverse taken i 0 (omega arith) in
-          let there = h (length taken - 1 - i) (omega arith) in
-          ap (λ v. get_or rank v 0) at ∙ omega arith;
-      of_vertex = λ v l.
-          let c = all_of_them taken v within distinct (omega arith) in
-          let at : get_or taken c.0 0 ≡ v = get_or_default taken c.0 0 v c.1 ∙ c.2 in
-          let there = h c.0 c.1 in
-          let r : get_or rank v 0 + c.0 + 1 ≡ length taken = ap (λ z. get_or rank z 0 + c.0 + 1) (sym at) ∙ there in
-          let k = c.1 in
-          let place : length taken - 1 - get_or rank v 0 ≡ c.0 = omega arith in
-          get_or-reverse taken (get_or rank v 0) 0 (omega arith) ∙ (ap (λ z. get_or taken z 0) place ∙ at);
-    }
+-- one place more is written
+pub places_more : (rank at : List ℕ) (i : ℕ) → i < length at → get_or at i 0 < length rank → AllPairs ◌≢◌ at → ((k : ℕ) → k < i → get_or rank (get_or at k 0) 0 ≡ k) → (k : ℕ) → k < i + 1 → get_or (set rank (get_or at i 0) i) (get_or at k 0) 0 ≡ k
+places_more rank at i l within distinct h k m =
+    elim (cases_eq k i) [
+      | inl e ↦ ap (λ j. get_or (set rank (get_or at i 0) i) (get_or at j 0) 0) e ∙ get_or-set_same rank (get_or at i 0) i 0 within ∙ sym e
+      | inr ne ↦ get_or-set_other rank (get_or at i 0) (get_or at k 0) i 0 (distinct k i 0 (omega arith) l) ∙ h k (omega arith)
+    ]
+
+-- the places that were written
+pub IsRankOf-places : (rank at : List ℕ) → length rank ≡ length at → All (λ v. v < length at) at → AllPairs ◌≢◌ at → ((i : ℕ) → i < length at → get_or rank (get_or at i 0) 0 ≡ i) → IsRankOf rank at
+IsRankOf-places rank at n within distinct h = record {
+  count = n;
+  of_place = h;
+  of_vertex = λ v l.
+      let c = all_of_them at v within distinct l in
+      let here : get_or at c.0 0 ≡ v = get_or_default at c.0 0 v c.1 ∙ c.2 in
+      let place : get_or rank v 0 ≡ c.0 = ap (λ z. get_or rank z 0) (sym here) ∙ h c.0 c.1 in
+      ap (λ z. get_or at z 0) place ∙ here;
+}
 
 -- a list from its end
 pub AllPairs-from_reverse : (us : List ℕ) → AllPairs ◌≢◌ (reverse us) → AllPairs ◌≢◌ us

@@ -12,3 +12,4 @@ mod Refused
 mod EntryLemmas
 pub mod Filled
 mod Known
+mod PlaceLemmas

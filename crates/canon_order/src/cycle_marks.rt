@@ -28,6 +28,7 @@ pub fn mark(marks: &mut [bool], counts: &mut [u16], lists: &Rotations, v: u16)
 }
 
 /// Marks three vertices, where none is marked.
+#[inline(always)]
 pub fn mark_three(
     marks: &mut [bool],
     counts: &mut [u16],
@@ -80,10 +81,12 @@ fn unmark_old(
     near: &mut [u16],
     stack: &mut Vec<u16>,
     lists: &Rotations,
+    list: &[u16],
     v: u16,
 ) -> Result<(), AllocError>
     requires simple { IsSimpleMap lists.now }
     requires vertex { v < length lists.now }
+    requires list { list.now ≡ list_of lists.now v }
     requires tally { IsTally lists.now marked.old near.old }
     requires vertices { All (λ u. u < length lists.now) stack.old.items }
     requires marked { is_set marked.old v ≡ true }
@@ -92,7 +95,7 @@ fn unmark_old(
     ensures marks { marked.new ≡ slice_set marked.old v false }
 {
     marked[v as usize] = false;
-    lower_noting(near, stack, marked, lists.list(v as usize))
+    lower_noting(near, stack, marked, list)
 }
 
 // Marks a vertex, if it is left and not marked.
@@ -161,6 +164,7 @@ pub fn leave_cycle(
     ensures neighbours { IfOk result (λ _. (u : ℕ) → Contains (list_of lists.now v) u → is_set marked.new u ≡ true → slice_index near.new u ≡ 2 → Contains stack.new.items u) }
     ensures marks { IfOk result (λ _. (u : ℕ) → (is_set marked.new u ≡ true) ↔ ((is_set (slice_set marked.old v false) u ≡ true) ⊎ (Contains (list_of lists.now v) u × (is_set gone.now u ≡ false)))) }
 {
-    unmark_old(marked, near, stack, lists, v)?;
-    mark_all(marked, near, stack, gone, lists, lists.list(v as usize))
+    let list = lists.list(v as usize);
+    unmark_old(marked, near, stack, lists, list, v)?;
+    mark_all(marked, near, stack, gone, lists, list)
 }

@@ -15,7 +15,7 @@ mod order;
 pub use fault::OrderFault;
 pub use lists::push_three;
 pub use numbered::Order;
-pub use order::{Peeler, base_order, canon_order, list_order, turned_order};
+pub use order::{Peeler, canon_order, turned_order};
 
 /// Each triangulation has a canonical order for each base dart.
 pub fn some_order()

@@ -4,8 +4,8 @@ ghost use Rattle.map_theory.specs.Maps.{entry_after};
 ghost use Rattle.canon_order.specs.Marks.{is_set};
 ghost use Rattle.canon_order.specs.Ranks.{IsRankOf};
 
-use half_edges::{Counts, VertexId, VertexList};
-use std::alloc::AllocError;
+use half_edges::{Counts, VertexId};
+use std::alloc::{AllocError, Global};
 
 // Adds one for each entry of a list.
 pub(crate) fn raise(counts: &mut [u16], entries: &[u16])
@@ -107,50 +107,49 @@ pub(crate) fn entry_behind(list: &[u16], u: u16) -> u16
     list[0]
 }
 
-// The vertices of these numbers, from the last to the first, in the memory of `spent`.
-pub(crate) fn turned_vertices(spent: VertexList, taken: &[u16]) -> Result<VertexList, AllocError>
-    ensures { IfOk result (λ at. map (λ v. v.0) at ≡ reverse taken.now) }
+// The vertices of these numbers, from the last to the first.
+pub(crate) fn turned_vertices(alloc: Global, taken: &[u16]) -> Result<Vec<VertexId>, AllocError>
+    ensures { IfOk result (λ at. map (λ v. v.0) at.items ≡ reverse taken.now) }
 {
-    let mut at = spent.into_vec();
-    at.clear();
-    at.reserve(taken.len())?;
+    let mut at = Vec::with_capacity(alloc, taken.len())?;
     for v in taken.iter().rev() {
         at.push_reserved(VertexId(*v));
     }
-    Ok(VertexList::from_vec(at))
+    Ok(at)
 }
 
-// Writes each number's place, counted from the last, at the number.
-fn write_ranks(ranks: &mut [u32], taken: &[u16])
-    requires count { length ranks.old ≡ length taken.now }
-    requires few { length taken.now < 4096 }
-    requires within { All (λ v. v < length taken.now) taken.now }
-    requires distinct { AllPairs ◌≢◌ taken.now }
-    ensures { (i : ℕ) → i < length taken.now → slice_index ranks.new (slice_index taken.now i) + i + 1 ≡ length taken.now }
-{
-    for (i, v) in taken.iter().enumerate() {
-        ranks[*v as usize] = (taken.len() - 1 - i) as u32;
-    }
-}
-
-// A table of `n` numbers, whatever they are, in the memory of another.
-fn resized(table: Vec<u32>, n: usize) -> Result<Vec<u32>, AllocError>
+// A table of `n` items, whatever they are, in the memory of another. What it lacks is `item`.
+pub(crate) fn resized<T: Copy>(table: Vec<T>, n: usize, item: T) -> Result<Vec<T>, AllocError>
     ensures { IfOk result (λ made. length made.items ≡ n) }
 {
     let mut table = table;
-    table.resize(n, 0)?;
+    table.resize(n, item)?;
     Ok(table)
 }
 
-// For each number its place, counted from the last, in the memory of `spent`.
-pub(crate) fn turned_ranks(spent: Counts, taken: &[u16]) -> Result<Counts, AllocError>
-    requires few { length taken.now < 4096 }
-    requires within { All (λ v. v < length taken.now) taken.now }
-    requires distinct { AllPairs ◌≢◌ taken.now }
-    ensures { IfOk result (λ rank. IsRankOf rank (reverse taken.now)) }
+// Writes the place of each vertex of an order at its number.
+fn write_places(ranks: &mut [u32], at: &[VertexId])
+    requires count { length ranks.old ≡ length at.now }
+    requires few { length at.now < 4096 }
+    requires within { All (λ v. v < length at.now) (map (λ v. v.0) at.now) }
+    requires distinct { AllPairs ◌≢◌ (map (λ v. v.0) at.now) }
+    ensures { (i : ℕ) → i < length at.now → slice_index ranks.new (slice_index (map (λ v. v.0) at.now) i) ≡ i }
 {
-    let mut ranks = resized(spent.into_vec(), taken.len())?;
-    write_ranks(&mut ranks, taken);
+    for (i, v) in at.iter().enumerate() {
+        ranks[v.0 as usize] = i as u32;
+    }
+}
+
+// For each vertex of an order its place, in the memory of `spent`.
+#[inline(always)]
+pub(crate) fn ranks_of(spent: Counts, at: &[VertexId]) -> Result<Counts, AllocError>
+    requires few { length at.now < 4096 }
+    requires within { All (λ v. v < length at.now) (map (λ v. v.0) at.now) }
+    requires distinct { AllPairs ◌≢◌ (map (λ v. v.0) at.now) }
+    ensures { IfOk result (λ rank. IsRankOf rank (map (λ v. v.0) at.now)) }
+{
+    let mut ranks = resized(spent.into_vec(), at.len(), 0)?;
+    write_places(&mut ranks, at);
     Ok(Counts::from_vec(ranks))
 }
 

@@ -1,9 +1,10 @@
 //! An order of vertices, with the place of each.
-ghost use Rattle.std.specs.Prelude.{map};
+ghost use Rattle.std.specs.Prelude.{◌≡◌, ◌≢◌, ◌<◌, map, length, All, AllPairs, IfOk};
 ghost use Rattle.canon_order.specs.Ranks.{IsRankOf};
 
-use half_edges::{Counts, VertexList};
-use std::alloc::Global;
+use crate::lists::ranks_of;
+use half_edges::{Counts, VertexId, VertexList};
+use std::alloc::{AllocError, Global};
 
 /// An order of a map's vertices, and its inverse.
 #[derive(Drop)]
@@ -22,5 +23,20 @@ impl Order {
             at: VertexList::new(alloc),
             rank: Counts::new(alloc),
         }
+    }
+
+    // The order of these vertices, with their places in the memory of `spent`.
+    #[inline(always)]
+    pub(crate) fn of(at: Vec<VertexId>, spent: Counts) -> Result<Order, AllocError>
+        requires few { length at.items < 4096 }
+        requires within { All (λ v. v < length at.items) (map (λ v. v.0) at.items) }
+        requires distinct { AllPairs ◌≢◌ (map (λ v. v.0) at.items) }
+        ensures { IfOk result (λ order. map (λ v. v.0) order.at ≡ map (λ v. v.0) at.items) }
+    {
+        let rank = ranks_of(spent, &at)?;
+        Ok(Order {
+            at: VertexList::from_vec(at),
+            rank,
+        })
     }
 }

@@ -4,7 +4,6 @@ use Rattle.std.specs.List.{range_with_len}
 use Rattle.contour_runs.specs.Runs.{Step, vertex_after, place_after, moved}
 use Rattle.contour_runs.proofs.Cases.{tetrahedron, octahedron}
 use Rattle.fpp_shift.specs.Shift.{shift, x_after, y_after, shift_points}
-use Rattle.fpp_shift.specs.Parents.{parent_after, parents}
 
 -- x of the vertices, then y
 abbrev xs : (ℕ → Step) → ℕ → List ℕ
@@ -30,8 +29,3 @@ octahedron_x = refl
 octahedron_y : ys octahedron 4 ≡ 0 ∷ 0 ∷ 1 ∷ 2 ∷ 3 ∷ 4 ∷ []
 unfolding shift x_after y_after vertex_after place_after moved
 octahedron_y = refl
-
--- the parents of the octahedron: the sixth vertex hangs on the first; on it the fourth and the second, on the fourth the fifth, and on that the third
-octahedron_parents : map (parents octahedron 4) (range_with_len 0 6) ≡ 0 ∷ 5 ∷ 4 ∷ 5 ∷ 3 ∷ 0 ∷ []
-unfolding vertex_after parent_after
-octahedron_parents = refl

@@ -3,7 +3,6 @@ pub mod Areas
 pub mod Steps
 pub mod Opening
 pub mod Corners
-pub mod ParentLemmas
 mod Cases
 -- The lemmas on drawings by shift points.
 pub mod ShiftLemmas

@@ -16,10 +16,6 @@ FacesCounterclockwise =
     (steps : ℕ → Step) (n k i a b v : ℕ) → IsRun steps n → k < n → IsFaceOf steps k i a b v
     → (let at = shift_points steps n in pos 0 <ℤ area (point_of at a) (point_of at b) (point_of at v))
 
--- At each stage the contour has these facts.
-abbrev pub ContourRises : Type 0
-ContourRises = (steps : ℕ → Step) (n : ℕ) → IsRun steps n → IsShift (stage_after steps n) (shift_points steps n)
-
 -- All m vertices lie in the grid 2m - 4 by m - 2.
 abbrev pub PointsInGrid : Type 0
 PointsInGrid =
@@ -38,10 +34,6 @@ pub record IsCornered (at : Places) (m : ℕ) : Type 0 where
 abbrev pub ThreeCorners : Type 0
 ThreeCorners =
     (steps : ℕ → Step) (n m : ℕ) → IsRun steps n → m ≡ n + 2 → 3 ≤ m → (stage_after steps n).width ≡ 3 → IsCornered (shift_points steps n) m
-
--- So the first three vertices stand at (0, 0), (2, 0) and (1, 1) when they are placed.
-abbrev pub FirstThree : Type 0
-FirstThree = (steps : ℕ → Step) → IsRun steps 1 → IsCornered (shift_points steps 1) 3
 
 -- There the face on the other side of the base is clockwise.
 abbrev pub BaseClockwise : Type 0

@@ -2,7 +2,6 @@
 pub mod Shift
 pub mod Contours
 pub mod Opened
-pub mod Parents
 pub mod Laws
 -- Drawings by the shift method.
 pub mod ShiftDrawings

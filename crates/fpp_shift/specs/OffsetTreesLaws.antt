@@ -4,12 +4,6 @@ use Rattle.contour_runs.specs.Runs.{Step, stage_after, IsRun}
 use Rattle.fpp_shift.specs.Shift.{shift_points}
 use Rattle.fpp_shift.specs.Grown.{Links, IsGrown, IsWritten, IsOffsetTree}
 
--- Two nodes of zeros, of which the first leads to the second, are the tree of no steps.
-abbrev pub TreeBegins : Type 0
-TreeBegins =
-    (name : ℕ → ℕ) (steps : ℕ → Step) (t : Links) → (t.left 0 ≡ None) × (t.left 1 ≡ None) → t.right 0 ≡ Some (name 1) → t.right 1 ≡ None
-    → (t.x 0 ≡ pos 0) × (t.x 1 ≡ pos 0) → (t.y 0 ≡ pos 0) × (t.y 1 ≡ pos 0) → IsGrown name steps 0 t
-
 -- What a step writes makes the tree of n steps that of one more.
 abbrev pub TreeGrows : Type 0
 TreeGrows =

@@ -1,8 +1,9 @@
 -- Drawings of triangulations by shift points.
 use Rattle.std.specs.Prelude.{ℕ, ◌-◌, ◌*◌, ◌<◌, ◌≡◌, List, length, slice_index, pos}
 use Rattle.map_lists.specs.Lists.{Lists}
-use Rattle.map_theory.specs.Maps.{Dart, HasDart, follows}
+use Rattle.map_theory.specs.Maps.{Dart, HasDart, follows, vertex_count}
 use Rattle.plane_laws.specs.Triangulations.{IsTriangulation}
+use Rattle.pg_plane.specs.declared.figure.GridFigure.{GridFigure}
 use Rattle.pg_plane.specs.declared.point.Point.{Point}
 use Rattle.plane_drawings.specs.Drawing.{place, IsInGrid, IsPlaneDrawing, KeepsRotations, IsCounterclockwise}
 use Rattle.canon_order.specs.Orders.{IsCanonicalOrder}
@@ -26,6 +27,13 @@ pub record IsShiftDrawing (lists : Lists) (base : Dart) (points : List Point) : 
   pub first : place points base.1 ≡ record { x = pos 0; y = pos 0 }
   pub second : place points base.0 ≡ record { x = pos (2 * length lists - 4); y = pos 0 }
   pub top : place points (follows lists base.1 base.0) ≡ record { x = pos (length lists - 2); y = pos (length lists - 2) }
+
+-- The figure of the triangulation with these lists by the shift method over an order, for each base that the order is for.
+pub record IsShiftOf (lists : Lists) (at : List ℕ) (figure : GridFigure) : Type 0 where
+  pub points : (base : Dart) (canonical : IsCanonicalOrder lists base at) → AreShiftPoints lists base at canonical.cycle figure.points
+  pub drawing : (base : Dart) → HasDart lists base.0 base.1 → IsCanonicalOrder lists base at → IsShiftDrawing lists base figure.points
+  pub width : figure.width ≡ pos (2 * vertex_count lists - 4)
+  pub height : figure.height ≡ pos (vertex_count lists - 2)
 
 -- Shift points are such a drawing.
 abbrev pub ShiftPointsDraw : Type 0

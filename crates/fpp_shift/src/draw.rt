@@ -1,9 +1,9 @@
 //! Drawings by the shift method.
-ghost use Rattle.std.specs.Prelude.{◌≡◌, ◌<◌, ◌-◌, ◌*◌, length, pos, IfOk};
-ghost use Rattle.map_theory.specs.Maps.{Dart, HasDart, vertex_count};
+ghost use Rattle.std.specs.Prelude.{◌≡◌, ◌<◌, length, IfOk};
+ghost use Rattle.map_theory.specs.Maps.{Dart};
 ghost use Rattle.plane_laws.specs.Triangulations.{IsTriangulation};
 ghost use Rattle.canon_order.specs.Orders.{IsCanonicalOrder, vertices_of};
-ghost use Rattle.fpp_shift.specs.ShiftDrawings.{AreShiftPoints, IsShiftDrawing};
+ghost use Rattle.fpp_shift.specs.ShiftDrawings.{AreShiftPoints, IsShiftOf};
 
 use crate::fault::ShiftFault;
 use crate::offset_trees::{Node, Offsets, SumMemory};
@@ -32,16 +32,12 @@ use std::sync::ledger::{Blank, Ledger};
 pub fn shift_draw(alloc: Global, tri: &HalfMap, order: &Order) -> Result<GridFigure, ShiftFault>
     requires triangulation { IsTriangulation tri.now.lists }
     requires order { (base : Dart) × IsCanonicalOrder tri.now.lists base (vertices_of order.now) }
-    ensures points { IfOk result (λ figure. (base : Dart) (canonical : IsCanonicalOrder tri.now.lists base (vertices_of order.now))
-        → AreShiftPoints tri.now.lists base (vertices_of order.now) canonical.cycle figure.points) }
-    ensures drawing { IfOk result (λ figure. (base : Dart) → HasDart tri.now.lists base.0 base.1 → IsCanonicalOrder tri.now.lists base (vertices_of order.now)
-        → IsShiftDrawing tri.now.lists base figure.points) }
-    ensures width { IfOk result (λ figure. figure.width ≡ pos (2 * vertex_count tri.now.lists - 4)) }
-    ensures height { IfOk result (λ figure. figure.height ≡ pos (vertex_count tri.now.lists - 2)) }
+    ensures { IfOk result (IsShiftOf tri.now.lists (vertices_of order.now)) }
 {
     tri.facts();
     let lists = tri.rotations(alloc)?;
-    let figure = list_draw(alloc, &lists, order)?;
+    let mut shifter = Shifter::new(alloc);
+    let figure = shifter.list_draw(&lists, order)?;
     Ok(figure)
 }
 
@@ -112,16 +108,11 @@ impl Shifter {
         self.sums.keep(figure.points);
     }
 
-    /// Draws as [`list_draw`] does. When memory runs out the shifter serves as before.
+    /// Draws the triangulation with these lists as [`shift_draw`] does. When memory runs out the shifter serves as before.
     pub fn list_draw(&mut self, lists: &Rotations, order: &Order) -> Result<GridFigure, AllocError>
         requires triangulation { IsTriangulation lists.now }
         requires order { (base : Dart) × IsCanonicalOrder lists.now base (vertices_of order.now) }
-        ensures points { IfOk result (λ figure. (base : Dart) (canonical : IsCanonicalOrder lists.now base (vertices_of order.now))
-            → AreShiftPoints lists.now base (vertices_of order.now) canonical.cycle figure.points) }
-        ensures drawing { IfOk result (λ figure. (base : Dart) → HasDart lists.now base.0 base.1 → IsCanonicalOrder lists.now base (vertices_of order.now)
-            → IsShiftDrawing lists.now base figure.points) }
-        ensures width { IfOk result (λ figure. figure.width ≡ pos (2 * vertex_count lists.now - 4)) }
-        ensures height { IfOk result (λ figure. figure.height ≡ pos (vertex_count lists.now - 2)) }
+        ensures { IfOk result (IsShiftOf lists.now (vertices_of order.now)) }
     {
         crate::shift_drawings::shift_points_draw();
         let count = lists.len();
@@ -132,20 +123,4 @@ impl Shifter {
             height: (count - 2) as i32,
         })
     }
-}
-
-/// Draws a triangulation as `shift_draw` does, by its lists, which are at most 4095.
-pub fn list_draw(alloc: Global, lists: &Rotations, order: &Order) -> Result<GridFigure, AllocError>
-    requires triangulation { IsTriangulation lists.now }
-    requires order { (base : Dart) × IsCanonicalOrder lists.now base (vertices_of order.now) }
-    ensures points { IfOk result (λ figure. (base : Dart) (canonical : IsCanonicalOrder lists.now base (vertices_of order.now))
-        → AreShiftPoints lists.now base (vertices_of order.now) canonical.cycle figure.points) }
-    ensures drawing { IfOk result (λ figure. (base : Dart) → HasDart lists.now base.0 base.1 → IsCanonicalOrder lists.now base (vertices_of order.now)
-        → IsShiftDrawing lists.now base figure.points) }
-    ensures width { IfOk result (λ figure. figure.width ≡ pos (2 * vertex_count lists.now - 4)) }
-    ensures height { IfOk result (λ figure. figure.height ≡ pos (vertex_count lists.now - 2)) }
-{
-    let mut shifter = Shifter::new(alloc);
-    let figure = shifter.list_draw(lists, order)?;
-    Ok(figure)
 }

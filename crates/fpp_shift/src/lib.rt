@@ -9,7 +9,7 @@ pub mod shift_drawings;
 pub mod shift_points;
 pub mod shift_trees;
 
-pub use draw::{Shifter, list_draw, shift_draw};
+pub use draw::{Shifter, shift_draw};
 pub use fault::ShiftFault;
 pub use offset_trees::{Node, Offsets, sum_offsets};
 pub use shift_trees::offset_tree;

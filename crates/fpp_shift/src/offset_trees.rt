@@ -1,7 +1,7 @@
 //! Trees of offsets: a node for each vertex, whose place is told by how far it stands to the right of the
 //! node that leads to it. Each use of a tree is counted.
 
-ghost use Rattle.fpp_shift.specs.OffsetTreesLaws.{TreeBegins, TreeGrows, GrownIsOffsetTree};
+ghost use Rattle.fpp_shift.specs.OffsetTreesLaws.{TreeGrows, GrownIsOffsetTree};
 
 mod grow;
 mod nodes;
@@ -12,11 +12,6 @@ pub use grow::{begin_tree, put_over};
 pub use nodes::{Node, Offsets};
 pub(crate) use sums::SumMemory;
 pub use sums::sum_offsets;
-
-/// Two nodes of which the first leads to the second are the tree of a run of no steps.
-pub fn tree_begins()
-    ensures { TreeBegins }
-{}
 
 /// Where a step of a run writes at most five nodes, as said, they are the tree of the run with that step.
 pub fn tree_grows()

@@ -3,4 +3,4 @@
 mod draw;
 mod gaps;
 
-pub use draw::{WoodDrawer, list_draw, wood_draw};
+pub use draw::{WoodDrawer, wood_draw};

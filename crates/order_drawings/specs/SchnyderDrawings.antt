@@ -1,8 +1,9 @@
 -- Drawings of triangulations by Schnyder's coordinates.
 use Rattle.std.specs.Prelude.{ℕ, ◌-◌, ◌<◌, ◌≡◌, List, length, slice_index, pos}
 use Rattle.map_lists.specs.Lists.{Lists}
-use Rattle.map_theory.specs.Maps.{Dart, HasDart, follows}
+use Rattle.map_theory.specs.Maps.{Dart, HasDart, follows, vertex_count}
 use Rattle.plane_laws.specs.Triangulations.{IsTriangulation}
+use Rattle.pg_plane.specs.declared.figure.GridFigure.{GridFigure}
 use Rattle.pg_plane.specs.declared.point.Point.{Point}
 use Rattle.plane_drawings.specs.Drawing.{place, IsInGrid, IsPlaneDrawing, KeepsRotations, IsCounterclockwise}
 use Rattle.canon_order.specs.Orders.{IsCanonicalOrder}
@@ -26,6 +27,13 @@ pub record IsSchnyderDrawing (lists : Lists) (base : Dart) (points : List Point)
   pub root_one : place points base.1 ≡ record { x = pos (length lists - 2); y = pos 1 }
   pub root_two : place points base.0 ≡ record { x = pos 0; y = pos (length lists - 2) }
   pub root_three : place points (follows lists base.1 base.0) ≡ record { x = pos 1; y = pos 0 }
+
+-- The figure of the triangulation with these lists by Schnyder's coordinates over an order, for each base that the order is for.
+pub record IsSchnyderOf (lists : Lists) (at : List ℕ) (figure : GridFigure) : Type 0 where
+  pub points : (base : Dart) (canonical : IsCanonicalOrder lists base at) → AreWoodPoints lists base at canonical.cycle figure.points
+  pub drawing : (base : Dart) → HasDart lists base.0 base.1 → IsCanonicalOrder lists base at → IsSchnyderDrawing lists base figure.points
+  pub width : figure.width ≡ pos (vertex_count lists - 2)
+  pub height : figure.height ≡ pos (vertex_count lists - 2)
 
 -- Such points are such a drawing.
 abbrev pub WoodPointsDraw : Type 0

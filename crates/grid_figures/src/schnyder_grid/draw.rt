@@ -1,11 +1,11 @@
 //! Drawings by Schnyder's coordinates.
-ghost use Rattle.std.specs.Prelude.{◌≡◌, ◌<◌, ◌+◌, ◌-◌, ℕ, length, replicate, slice_index, All, pos, OnOk, IfOk};
-ghost use Rattle.map_theory.specs.Maps.{Dart, HasDart, vertex_count};
+ghost use Rattle.std.specs.Prelude.{◌≡◌, ◌<◌, ◌+◌, ◌-◌, ℕ, length, replicate, slice_index, All, OnOk, IfOk};
+ghost use Rattle.map_theory.specs.Maps.{Dart};
 ghost use Rattle.plane_laws.specs.Triangulations.{IsTriangulation};
 ghost use Rattle.canon_order.specs.Orders.{IsCanonicalOrder, vertices_of};
 ghost use Rattle.contour_runs.specs.Runs.{Step};
 ghost use Rattle.order_drawings.specs.Rows.{AreAllRows};
-ghost use Rattle.order_drawings.specs.SchnyderDrawings.{AreWoodPoints, IsSchnyderDrawing};
+ghost use Rattle.order_drawings.specs.SchnyderDrawings.{IsSchnyderOf};
 ghost use Rattle.grid_figures.specs.Gaps.{AreTables};
 ghost use Rattle.grid_figures.specs.Points.{ArePoints};
 
@@ -110,16 +110,11 @@ impl WoodDrawer {
         self.spent = figure.points;
     }
 
-    /// Draws as [`list_draw`] does. When memory runs out the drawer serves as before.
+    /// Draws the triangulation with these lists as [`wood_draw`] does. When memory runs out the drawer serves as before.
     pub fn list_draw(&mut self, lists: &Rotations, order: &Order) -> Result<GridFigure, AllocError>
         requires triangulation { IsTriangulation lists.now }
         requires order { (base : Dart) × IsCanonicalOrder lists.now base (vertices_of order.now) }
-        ensures points { IfOk result (λ figure. (base : Dart) (canonical : IsCanonicalOrder lists.now base (vertices_of order.now))
-            → AreWoodPoints lists.now base (vertices_of order.now) canonical.cycle figure.points) }
-        ensures drawing { IfOk result (λ figure. (base : Dart) → HasDart lists.now base.0 base.1 → IsCanonicalOrder lists.now base (vertices_of order.now)
-            → IsSchnyderDrawing lists.now base figure.points) }
-        ensures width { IfOk result (λ figure. figure.width ≡ pos (vertex_count lists.now - 2)) }
-        ensures height { IfOk result (λ figure. figure.height ≡ pos (vertex_count lists.now - 2)) }
+        ensures { IfOk result (IsSchnyderOf lists.now (vertices_of order.now)) }
     {
         order_drawings::order_tables::ranks_are_places();
         order_drawings::order_runs::order_is_run();
@@ -152,31 +147,11 @@ impl WoodDrawer {
 pub fn wood_draw(alloc: Global, tri: &HalfMap, order: &Order) -> Result<GridFigure, AllocError>
     requires triangulation { IsTriangulation tri.now.lists }
     requires order { (base : Dart) × IsCanonicalOrder tri.now.lists base (vertices_of order.now) }
-    ensures points { IfOk result (λ figure. (base : Dart) (canonical : IsCanonicalOrder tri.now.lists base (vertices_of order.now))
-        → AreWoodPoints tri.now.lists base (vertices_of order.now) canonical.cycle figure.points) }
-    ensures drawing { IfOk result (λ figure. (base : Dart) → HasDart tri.now.lists base.0 base.1 → IsCanonicalOrder tri.now.lists base (vertices_of order.now)
-        → IsSchnyderDrawing tri.now.lists base figure.points) }
-    ensures width { IfOk result (λ figure. figure.width ≡ pos (vertex_count tri.now.lists - 2)) }
-    ensures height { IfOk result (λ figure. figure.height ≡ pos (vertex_count tri.now.lists - 2)) }
+    ensures { IfOk result (IsSchnyderOf tri.now.lists (vertices_of order.now)) }
 {
     tri.facts();
     let lists = tri.rotations(alloc)?;
-    let figure = list_draw(alloc, &lists, order)?;
-    Ok(figure)
-}
-
-/// Like [`wood_draw`], but takes the lists of the map.
-pub fn list_draw(alloc: Global, lists: &Rotations, order: &Order) -> Result<GridFigure, AllocError>
-    requires triangulation { IsTriangulation lists.now }
-    requires order { (base : Dart) × IsCanonicalOrder lists.now base (vertices_of order.now) }
-    ensures points { IfOk result (λ figure. (base : Dart) (canonical : IsCanonicalOrder lists.now base (vertices_of order.now))
-        → AreWoodPoints lists.now base (vertices_of order.now) canonical.cycle figure.points) }
-    ensures drawing { IfOk result (λ figure. (base : Dart) → HasDart lists.now base.0 base.1 → IsCanonicalOrder lists.now base (vertices_of order.now)
-        → IsSchnyderDrawing lists.now base figure.points) }
-    ensures width { IfOk result (λ figure. figure.width ≡ pos (vertex_count lists.now - 2)) }
-    ensures height { IfOk result (λ figure. figure.height ≡ pos (vertex_count lists.now - 2)) }
-{
     let mut woods = WoodDrawer::new(alloc);
-    let figure = woods.list_draw(lists, order)?;
+    let figure = woods.list_draw(&lists, order)?;
     Ok(figure)
 }

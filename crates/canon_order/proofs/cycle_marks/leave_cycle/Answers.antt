@@ -7,7 +7,7 @@ use Rattle.canon_order.proofs.cycle_marks.leave_cycle.Goals as goal
 
 pub mark_all-requires-clause-entries : goal.mark_all-requires-clause-entries
 mark_all-requires-clause-entries c =
-    subst (λ (us : List ℕ). All (λ u. u < length c.args.lists.now) us) (sym c.list.ensures) (list_within c.args.lists.now c.requires.simple c.args.v c.requires.vertex)
+    subst (λ (us : List ℕ). All (λ u. u < length c.args.lists.now) us) (sym c.list-list.ensures) (list_within c.args.lists.now c.requires.simple c.args.v c.requires.vertex)
 
 pub returns-clause-noted : goal.returns-clause-noted
 returns-clause-noted c =
@@ -27,5 +27,5 @@ pub returns-clause-marks : goal.returns-clause-marks
 returns-clause-marks c =
     let lists = c.args.lists.now in
     let marks = λ (m : List Bool) (us : List ℕ). (u : ℕ) → (is_set c.mark_all.new.marked u ≡ true) ↔ ((is_set m u ≡ true) ⊎ (Contains us u × (is_set c.args.gone.now u ≡ false))) in
-    IfOk-weaker c.mark_all.result (λ _. marks c.unmark_old.new.marked c.list.result.now) (λ _. marks _ (list_of lists c.args.v))
-    (λ _ h. subst (λ (m : List Bool). marks m (list_of lists c.args.v)) c.unmark_old.ensures.marks (subst (λ (us : List ℕ). marks c.unmark_old.new.marked us) c.list.ensures h)) c.mark_all.ensures.marks
+    IfOk-weaker c.mark_all.result (λ _. marks c.unmark_old.new.marked c.list-list.result.now) (λ _. marks _ (list_of lists c.args.v))
+    (λ _ h. subst (λ (m : List Bool). marks m (list_of lists c.args.v)) c.unmark_old.ensures.marks (subst (λ (us : List ℕ). marks c.unmark_old.new.marked us) c.list-list.ensures h)) c.mark_all.ensures.marks

@@ -1,4 +1,3 @@
-use Rattle.std.proofs.Common.{length, ap, arith}
 use Rattle.map_lists.specs.Lists.{Lists}
 use Rattle.std.proofs.Common.{sym, subst}
 use Rattle.map_theory.specs.Maps.{Dart}

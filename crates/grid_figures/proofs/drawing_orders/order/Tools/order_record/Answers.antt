@@ -1,8 +1,6 @@
 -- The lists of the map are those of the record.
 use Rattle.std.proofs.Common.{sym, ap, subst, ◌∙◌}
 use Rattle.map_lists.specs.Lists.{Lists}
-use Rattle.map_theory.specs.Maps.{IsPlane, vertex_count}
-use Rattle.conn_parts.specs.Parts.{ArePartsOf}
 use Rattle.grid_figures.specs.Orders.{IsOrdered, lists_by}
 use Rattle.grid_figures.proofs.drawing_orders.order.Tools.order_record.Goals as goal
 
