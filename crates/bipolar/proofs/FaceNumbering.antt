@@ -322,10 +322,6 @@ module _ (entries ends twins : List ℕ) (t : AreDarts entries ends twins) where
         some = λ f l. let i = w.some f l in (i.0, i.1, i.3);
       }
 
-      -- what stands in the rows are darts
-      pub arcs_within : (i : ℕ) → i < length arcs → get_or arcs i 0 < length of
-      arcs_within i l = omega (arith, w.within i 0 l, w.size)
-
       pub AreFaceArcs-all : (arcs' : List ℕ) → arcs' ≡ map (λ d. get_or of d 0) arcs → AreFaceArcs lists rank of (length arc_ends) (cut 0 arc_ends arcs')
       AreFaceArcs-all arcs' is =
           let row : (f : ℕ) → f < length arc_ends → arcs_of (cut 0 arc_ends arcs') f ≡ map (λ d. get_or of d 0) (arcs_of (cut 0 arc_ends arcs) f) = λ f m. ap (λ (xs : List ℕ). arcs_of (cut 0 arc_ends xs) f) is ∙ row-map (λ d. get_or of d 0) arc_ends arcs f m in

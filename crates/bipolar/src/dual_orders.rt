@@ -7,7 +7,7 @@ mod numbers;
 mod rows;
 
 pub use arcs::face_arcs;
-pub use columns::{edge_columns, fill_starts, put_if};
+pub use columns::edge_columns;
 pub use faces::{FaceTables, number_faces};
 pub use numbers::{dual_numbers, dual_rows, rank_rows};
 pub use rows::number_rows;

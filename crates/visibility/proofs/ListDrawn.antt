@@ -64,9 +64,6 @@ module _ (lists : Lists) (few : length lists < 4096) (rank at : List ℕ) (s t :
     small_rows v i = omega (arith, g.low v i, few_faces)
 
     module _ (columns : List ℕ) (c : AreColumns lists rows columns) where
-      pub small_columns : (i : ℕ) → get_or columns i 0 < 2 ^ 31
-      small_columns i = omega (arith, c.most (face_count lists) (λ v j. omega (arith, g.low v j)) i, few_faces)
-
       module _ (fig : BarFigure) (fy : fig.y ≡ list_pos rank) (fc : fig.column ≡ list_pos columns) (f1 : AreEnds rows IsLeastOf fig.x1) (f2 : AreEnds rows IsGreatestOf fig.x2) where
         -- the column of an edge is the number in a row
         col : (v u : ℕ) → HasDart lists v u → column_between lists fig v u ≡ pos (in_row lists rows v u)

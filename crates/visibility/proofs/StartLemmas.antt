@@ -1,8 +1,8 @@
 -- A pass that comes to know behind each row where the next number of its vertex goes.
-use Rattle.std.proofs.Common.{◌≡◌, ◌≢◌, ℕ, zero, suc, ◌+◌, ◌<◌, ◌++◌, ◌&&◌, Bool, true, false, cond, ltb, eqb, List, [], ◌∷◌, length, get_or, set, take, length-set, refl, sym, ap, ap₂, ◌∙◌, inl, inr, arith}
+use Rattle.std.proofs.Common.{◌≡◌, ◌≢◌, ℕ, zero, suc, ◌+◌, ◌<◌, ◌≤◌, ◌++◌, ◌&&◌, Bool, true, false, cond, ltb, eqb, List, [], ◌∷◌, length, get_or, set, map, replicate, take, length-set, ℤ, pos, refl, sym, ap, ap₂, ◌∙◌, inl, inr, arith}
 use Rattle.std.specs.List.{count_by}
 use Rattle.std.proofs.lemmas.Bool.{cases_eq, cases_lt, lt-ltb, le-ltb}
-use Rattle.std.proofs.lemmas.List.{get_or-set_same, get_or-set_other, length-append, get_or_append_left, get_or_push}
+use Rattle.std.proofs.lemmas.List.{map-set, get_or_past, get_or-replicate, length-replicate, get_or-set_same, get_or-set_other, length-append, get_or_append_left, get_or_push}
 use Rattle.std.proofs.lemmas.List.Sums.{count_by_more_yes, count_by_more_no}
 use Rattle.pg_plane.proofs.Counts.{count_none}
 use Rattle.map_lists.specs.Lists.{Lists}
@@ -76,6 +76,24 @@ below_more us b n i down one li within ne e h =
           let is : one ≡ 1 = e ∙ ap (λ (q : Bool). cond {A = ℕ} q 1 0) (lt-ltb a b (omega (arith, most, ne))) in
           omega (arith, more, is, h)
     ]
+
+pub one_most : (t : Bool) → cond {A = ℕ} t 1 0 ≤ 1
+one_most true = omega arith
+one_most false = omega arith
+
+-- a write to numbers is one to whole numbers
+pub columns_put : (t : Bool) (old new : List ℤ) (numbers : List ℕ) (k x : ℕ) → old ≡ map pos numbers → new ≡ cond t (set old k (pos x)) old → new ≡ map pos (cond t (set numbers k x) numbers)
+columns_put true old new numbers k x are put = put ∙ (ap (λ (zs : List ℤ). set zs k (pos x)) are ∙ sym (map-set pos numbers k x))
+columns_put false old new numbers k x are put = put ∙ are
+
+pub zero_at : (n x : ℕ) → get_or {A = ℕ} (replicate n 0) x 0 ≡ 0
+zero_at n x =
+    let zeros : List ℕ = replicate n 0 in
+    elim (cases_lt x n) [ inl l ↦ get_or-replicate {A = ℕ} n x 0 0 l | inr past ↦ get_or_past zeros x 0 (omega (arith, past, length-replicate {A = ℕ} n 0)) ]
+
+pub columns_none : (n : ℕ) → replicate n (pos 0) ≡ map pos (replicate n 0)
+columns_none zero = refl
+columns_none (suc n) = ap (λ (zs : List ℤ). pos 0 ∷ zs) (columns_none n)
 
 module _ (lists rows : Lists) (simple : IsSimpleMap lists) where
   -- before all rows

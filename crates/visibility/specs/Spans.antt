@@ -1,5 +1,5 @@
 -- What the pass over the lists reads and makes: the numbers of the faces beside each dart, and columns with the ends of bars.
-use Rattle.std.specs.Prelude.{ℕ, ◌<◌, ◌≡◌, ◌^◌, List, length, slice_index, ℤ}
+use Rattle.std.specs.Prelude.{ℕ, ◌<◌, ◌≡◌, ◌^◌, List, length, map, slice_index, ℤ, pos}
 use Rattle.map_lists.specs.Lists.{Lists}
 use Rattle.map_theory.specs.Maps.{IsSimpleMap, HasDart, list_of, dart_count, dart_number}
 use Rattle.graph_search.specs.Arcs.{arcs_of}
@@ -27,8 +27,20 @@ pub record IsFilledTo (lists rows : Lists) (b i : ℕ) (starts columns : List �
   pub same : (a : ℕ) → a < b → slice_index starts a ≡ slice_index places a
   pub vertices : length starts ≡ length lists
 
+-- the same with the numbers as whole ones
+pub record AreFilledTo (lists rows : Lists) (b i : ℕ) (starts : List ℕ) (columns : List ℤ) : Type 0 where
+  pub numbers : List ℕ
+  pub are : columns ≡ map pos numbers
+  pub filled : IsFilledTo lists rows b i starts numbers
+
+-- columns from rows, as whole numbers
+pub record ArePutColumns (lists rows : Lists) (columns : List ℤ) : Type 0 where
+  pub numbers : List ℕ
+  pub are : columns ≡ map pos numbers
+  pub from_rows : AreColumns lists rows numbers
+
 -- columns from rows, and the least and the greatest of each row
-pub record AreSpanned (lists rows : Lists) (columns : List ℕ) (x1 x2 : List ℤ) : Type 0 where
-  pub are_columns : AreColumns lists rows columns
+pub record AreSpanned (lists rows : Lists) (columns x1 x2 : List ℤ) : Type 0 where
+  pub are_columns : ArePutColumns lists rows columns
   pub left : AreEnds rows IsLeastOf x1
   pub right : AreEnds rows IsGreatestOf x2

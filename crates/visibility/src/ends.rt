@@ -98,30 +98,14 @@ pub(crate) fn coordinates(alloc: Global, numbers: &Counts) -> Result<Ints, Alloc
 }
 
 // Gives a table of ends `n` places.
+#[inline(always)]
 pub(crate) fn size_ends(table: &mut Vec<i32>, n: usize) -> Result<(), AllocError>
     ensures { IfOk result (λ _. length table.new.items ≡ n) }
 {
-    table.resize(n, 0)?;
-    Ok(())
-}
-
-// Writes numbers as coordinates.
-fn put_coordinates(made: &mut [i32], numbers: &[u32])
-    requires size { length made.old ≡ length numbers.now }
-    requires low { (i : ℕ) → slice_index numbers.now i < 2 ^ 31 }
-    ensures { made.new ≡ map pos numbers.now }
-{
-    for i in 0..numbers.len() {
-        made[i] = coordinate(numbers[i]);
+    if n <= table.len() {
+        table.truncate(n);
+        return Ok(());
     }
-}
-
-// Fills a table with numbers as coordinates.
-pub(crate) fn fill_coordinates(made: &mut Vec<i32>, numbers: &[u32]) -> Result<(), AllocError>
-    requires low { (i : ℕ) → slice_index numbers.now i < 2 ^ 31 }
-    ensures { IfOk result (λ _. made.new.items ≡ map pos numbers.now) }
-{
-    size_ends(made, numbers.len())?;
-    put_coordinates(made, numbers);
+    table.resize(n, 0)?;
     Ok(())
 }

@@ -10,7 +10,7 @@ ghost use Rattle.visibility.specs.Figures.{IsBarFigure, IsSearchFrom, IsUncutSea
 ghost use Rattle.visibility.specs.Found.{IsRooted, IsFound};
 
 use crate::bar_figures::draw::bar_figure;
-use crate::ends::{coordinate, fill_coordinates, size_ends};
+use crate::ends::{coordinate, size_ends};
 use crate::spans::{Sides, SpanTables};
 use bipolar::dual_orders::{FaceTables, number_faces};
 use conn_parts::plane_count;
@@ -33,9 +33,8 @@ struct DualTables {
     faces: FaceTables,
     paths: PathTables,
     spans: SpanTables,
-    // the heights and columns of bars
+    // the heights of bars
     y: Vec<i32>,
-    column: Vec<i32>,
 }
 
 // All tables. What they hold before a record says nothing.
@@ -156,7 +155,6 @@ impl DualTables {
             paths: PathTables::new(alloc),
             spans: SpanTables::new(alloc),
             y: Vec::new(alloc),
-            column: Vec::new(alloc),
         }
     }
 
@@ -194,9 +192,8 @@ impl DualTables {
         };
         self.spans.fill(&sides)?;
         fill_heights(&mut self.y, &self.ranges.from)?;
-        fill_coordinates(&mut self.column, &self.spans.columns)?;
         let y = taken(alloc, &mut self.y);
-        let column = taken(alloc, &mut self.column);
+        let column = taken(alloc, &mut self.spans.columns);
         let x1 = taken(alloc, &mut self.spans.x1);
         let x2 = taken(alloc, &mut self.spans.x2);
         Ok(Found::Drawn(BarFigure { y, x1, x2, column }))
@@ -301,7 +298,7 @@ impl BarDrawer {
     pub fn keep(&mut self, figure: BarFigure) {
         let BarFigure { y, x1, x2, column } = figure;
         self.tables.dual.y = y.into_vec();
-        self.tables.dual.column = column.into_vec();
+        self.tables.dual.spans.columns = column.into_vec();
         self.tables.dual.spans.x1 = x1.into_vec();
         self.tables.dual.spans.x2 = x2.into_vec();
     }

@@ -1,4 +1,5 @@
-use Rattle.std.proofs.Common.{◌≡◌, ◌≢◌, ℕ, ◌+◌, ◌<◌, List, length, get_or, cond, ltb, set, refl, sym, ap, subst, arith}
+use Rattle.std.proofs.Common.{◌≡◌, ◌≢◌, ℕ, ◌+◌, ◌<◌, List, length, get_or, cond, ltb, set, ℤ, pos, refl, sym, ap, ◌∙◌, subst, arith}
+use Rattle.std.proofs.lemmas.List.{length-map}
 use Rattle.std.proofs.lemmas.List.Elements.{Contains-get_or}
 use Rattle.map_theory.specs.Maps.{list_of}
 use Rattle.map_theory.proofs.DartCounts.{few_darts-simple}
@@ -7,7 +8,7 @@ use Rattle.graph_search.specs.Arcs.{arcs_of}
 use Rattle.bipolar.specs.FaceNumbers.{left_rows}
 use Rattle.bar_check.proofs.EdgeLemmas.{edges_until-all}
 use Rattle.bipolar.proofs.FaceAgree.{length-left_row}
-use Rattle.visibility.proofs.StartLemmas.{below_more, start_in, IsFilledTo-more}
+use Rattle.visibility.proofs.StartLemmas.{below_more, one_most, columns_put, start_in, IsFilledTo-more}
 use Rattle.visibility.proofs.SpanLemmas.{IsSpan-more, IsLeastOf-span, IsGreatestOf-span, entry_in, entry_twin_in, entry_head, entry_is}
 use Rattle.visibility.proofs.spans.Sides.put_row.Goals as goal
 
@@ -39,22 +40,49 @@ left_number-x-requires-clause-twin c =
     let li : c.loop-i.i < length (list_of lists c.args.b) = omega (arith, c.loop-i-test.true, ap (λ (us : List ℕ). length us) c.list-list.ensures) in
     omega (arith, entry_twin_in lists c.args.self.now.rank.now c.args.self.now.of.now c.args.self.now.twins.now c.args.self.now.numbers.now s c.args.b c.loop-i.i c.requires.vertex li, ap (λ k. get_or c.args.self.now.twins.now (k + c.loop-i.i) 0) c.requires.first, s.faces)
 
-pub put_if-requires-clause-vertex : goal.put_if-requires-clause-vertex
-put_if-requires-clause-vertex c =
+pub put_if-down-requires-clause-vertex : goal.put_if-down-requires-clause-vertex
+put_if-down-requires-clause-vertex c =
     let lists = c.args.self.now.lists.now in
     let s = c.facts.ensures in
     let li : c.loop-i.i < length (list_of lists c.args.b) = omega (arith, c.loop-i-test.true, ap (λ (us : List ℕ). length us) c.list-list.ensures) in
-    omega (arith, entry_head lists c.args.self.now.rank.now c.args.self.now.of.now c.args.self.now.twins.now c.args.self.now.numbers.now s c.args.b c.loop-i.i c.requires.vertex li, c.loop-i.invariant.filled.vertices, ap (λ (us : List ℕ). get_or us c.loop-i.i 0) c.list-list.ensures)
+    omega (arith, entry_head lists c.args.self.now.rank.now c.args.self.now.of.now c.args.self.now.twins.now c.args.self.now.numbers.now s c.args.b c.loop-i.i c.requires.vertex li, c.loop-i.invariant.filled.filled.vertices, ap (λ (us : List ℕ). get_or us c.loop-i.i 0) c.list-list.ensures)
 
-pub put_if-requires-clause-place : goal.put_if-requires-clause-place
-put_if-requires-clause-place c = λ l.
+pub put_if-down-requires-clause-place : goal.put_if-down-requires-clause-place
+put_if-down-requires-clause-place c = λ l.
     let lists = c.args.self.now.lists.now in
     let s = c.facts.ensures in
     let rows = left_rows lists c.args.self.now.rank.now c.args.self.now.of.now c.args.self.now.numbers.now in
     let i = c.loop-i.i in
+    let w = c.loop-i.invariant.filled in
     let li : i < length (list_of lists c.args.b) = omega (arith, c.loop-i-test.true, ap (λ (us : List ℕ). length us) c.list-list.ensures) in
     let same : get_or c.list-list.result.now i 0 ≡ get_or (list_of lists c.args.b) i 0 = ap (λ (us : List ℕ). get_or us i 0) c.list-list.ensures in
-    omega (arith, start_in lists rows s.simple c.args.b i c.loop-i.starts c.loop-i.columns c.requires.vertex li c.loop-i.invariant.filled (omega (arith, l, same)), ap (λ z. get_or c.loop-i.starts z 0) same)
+    let long : length c.loop-i.columns ≡ length w.numbers = ap (λ (zs : List ℤ). length zs) w.are ∙ length-map w.numbers pos in
+    omega (arith, start_in lists rows s.simple c.args.b i c.loop-i.starts w.numbers c.requires.vertex li w.filled (omega (arith, l, same)), ap (λ z. get_or c.loop-i.starts z 0) same, long)
+
+pub put_if-down-requires-clause-low : goal.put_if-down-requires-clause-low
+put_if-down-requires-clause-low c =
+    let lists = c.args.self.now.lists.now in
+    let s = c.facts.ensures in
+    let rank = c.args.self.now.rank.now in
+    let of = c.args.self.now.of.now in
+    let twins = c.args.self.now.twins.now in
+    let numbers = c.args.self.now.numbers.now in
+    let rows = left_rows lists rank of numbers in
+    let b = c.args.b in
+    let i = c.loop-i.i in
+    let list = c.list-list.result.now in
+    let x = c.left_number-x.result in
+    let li : i < length (list_of lists b) = omega (arith, c.loop-i-test.true, ap (λ (us : List ℕ). length us) c.list-list.ensures) in
+    let told = subst (λ k. x ≡ get_or numbers (cond (ltb (get_or rank b 0) (get_or rank (get_or list i 0) 0)) (get_or of (k + i) 0) (get_or of (get_or twins (k + i) 0) 0)) 0) c.requires.first c.left_number-x.ensures in
+    let is : get_or (arcs_of rows b) i 0 ≡ x = entry_is lists rank of twins numbers s b i c.requires.vertex li (get_or rank b 0) (get_or rank (get_or list i 0) 0) x refl (ap (λ (us : List ℕ). get_or rank (get_or us i 0) 0) c.list-list.ensures) told in
+    omega (arith, s.low b i, is)
+
+pub put_if-down-requires-clause-few : goal.put_if-down-requires-clause-few
+put_if-down-requires-clause-few c =
+    let lists = c.args.self.now.lists.now in
+    let s = c.facts.ensures in
+    let li : c.loop-i.i < length (list_of lists c.args.b) = omega (arith, c.loop-i-test.true, ap (λ (us : List ℕ). length us) c.list-list.ensures) in
+    omega (arith, c.loop-i.invariant.few, entry_in lists c.args.self.now.rank.now c.args.self.now.of.now c.args.self.now.twins.now c.args.self.now.numbers.now s c.args.b c.loop-i.i c.requires.vertex li, few_darts-simple lists s.few s.simple)
 
 pub loop-i-preserved : goal.loop-i-preserved
 loop-i-preserved c =
@@ -76,11 +104,20 @@ loop-i-preserved c =
     let within = entry_head lists rank of twins numbers s b i c.requires.vertex li in
     let same : get_or list i 0 ≡ get_or (list_of lists b) i 0 = ap (λ (us : List ℕ). get_or us i 0) c.list-list.ensures in
     let apart : get_or (list_of lists b) i 0 ≢ b = λ e. s.simple.no_loop b (get_or (list_of lists b) i 0) (c.requires.vertex, Contains-get_or (list_of lists b) i 0 li) e in
+    let w = h.filled in
+    let here : ℕ = get_or list i 0 in
+    let place : ℕ = get_or c.loop-i.starts here 0 in
+    let now : List ℕ = cond (ltb here b) (set w.numbers place x) w.numbers in
+    let one : ℕ = cond (ltb here b) 1 0 in
     record {
-      few = omega (arith, h.few, c.one_below-down.ensures.most);
-      count = below_more (list_of lists b) b (length lists) i c.loop-i.down c.one_below-down.result li within apart (subst (λ (z : ℕ). c.one_below-down.result ≡ cond (ltb z b) 1 0) same c.one_below-down.ensures.is) h.count;
-      filled = IsFilledTo-more lists rows s.simple b i c.loop-i.starts c.loop-i.columns c.requires.vertex li h.filled list (arcs_of rows b) c.put_if.new.starts c.put_if.new.columns c.list-list.ensures refl
-          (subst (λ z. c.put_if.new.columns ≡ cond (ltb (get_or list i 0) b) (set c.loop-i.columns (get_or c.loop-i.starts (get_or list i 0) 0) z) c.loop-i.columns) (sym is) c.put_if.ensures.columns) c.put_if.ensures.starts;
+      few = omega (arith, h.few, c.put_if-down.ensures.count, one_most (ltb here b));
+      count = omega (arith, c.put_if-down.ensures.count, below_more (list_of lists b) b (length lists) i c.loop-i.down one li within apart (ap (λ (z : ℕ). cond {A = ℕ} (ltb z b) 1 0) same) h.count);
+      filled = record {
+        numbers = now;
+        are = columns_put (ltb here b) c.loop-i.columns c.put_if-down.new.columns w.numbers place x w.are c.put_if-down.ensures.columns;
+        filled = IsFilledTo-more lists rows s.simple b i c.loop-i.starts w.numbers c.requires.vertex li w.filled list (arcs_of rows b) c.put_if-down.new.starts now c.list-list.ensures refl
+            (ap (λ z. cond (ltb here b) (set w.numbers place z) w.numbers) (sym is)) c.put_if-down.ensures.starts;
+      };
       span = IsSpan-more (arcs_of rows b) i c.loop-i.least c.loop-i.greatest x c.lesser-least.result c.greater-greatest.result h.span is c.lesser-least.ensures.fits c.lesser-least.ensures.below c.lesser-least.ensures.below_other c.lesser-least.ensures.one c.greater-greatest.ensures.above c.greater-greatest.ensures.above_other c.greater-greatest.ensures.one;
     }
 
@@ -101,9 +138,6 @@ returns-clause-greatest c =
     let long = length-left_row lists c.args.self.now.rank.now c.args.self.now.of.now c.args.self.now.numbers.now c.args.b in
     let e : c.loop-i.i ≡ length row = omega (arith, c.loop-i-test.false, c.loop-i.auto.i-end, ap (λ (us : List ℕ). length us) c.list-list.ensures, long) in
     IsGreatestOf-span row c.loop-i.i c.loop-i.least c.loop-i.greatest e (omega (arith, long, s.some c.args.b c.requires.vertex)) c.loop-i.invariant.span
-
-pub overflow_add-down : goal.overflow_add-down
-overflow_add-down c = omega (arith, c.loop-i.invariant.few, c.one_below-down.ensures.most, c.loop-i-test.true)
 
 pub returns-clause-up : goal.returns-clause-up
 returns-clause-up c =
