@@ -136,16 +136,6 @@ module _ (lists : Lists) (fig : BarFigure) where
     }
 
   module _ (simple : IsSimpleMap lists) (heights : HasHeights lists fig) where
-    -- before all bars
-    pub IsSwept-none : (peaks blocks superblocks : List ℤ) → IsSwept lists fig 0 peaks blocks superblocks
-    IsSwept-none peaks blocks superblocks = record {
-      reach = record { each = λ a b k p. absurd (low a p.dart.0 p.below) };
-      clear = λ a b w dart lw below. absurd (low w lw below);
-    }
-      where
-        low : (w : ℕ) → w < length lists → number_at fig.y w <ℤ pos 0 → ⊥
-        low w lw below = let l = (heights w lw).low in omega (arith, ints, l, below)
-
     -- behind them
     pub NoneThrough-from : (peaks blocks superblocks : List ℤ) → IsSwept lists fig (length lists) peaks blocks superblocks → NoneThrough lists fig
     NoneThrough-from peaks blocks superblocks swept = λ a b w through.

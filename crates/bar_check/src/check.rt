@@ -6,7 +6,7 @@ ghost use Rattle.bar_check.specs.Verdicts.{HasShape, HasHeights, AreBars, NoneTh
 
 use crate::BarVerdict;
 use crate::clear::fill_order;
-use crate::drawing::{Bars, Drawing};
+use crate::drawing::{Bars, Drawing, Ordered};
 use crate::heights::{first_bad_bar, first_bad_height};
 use half_edges::HalfMap;
 use pg_plane::BarFigure;
@@ -41,101 +41,81 @@ impl Drawing<'_> {
         }
     }
 
-    // Returns the first fault of an edge with a bar in its way or of a list, with room for the vertices in the order of
-    // their heights, for the highest bars of columns, and for a mark at each dart.
-    fn first_struck_in(&self, order: &mut [u16], tops: &mut [u16], clear: &mut [bool]) -> BarVerdict
-        requires order { length order.old ≡ length self.now.map.now.lists }
+    // Finds the first fault of an edge with a bar in its way or of a list, in tables of `MOST` vertices and of `COLUMNS`
+    // columns, which are `BLOCKS` blocks of 16 and `SUPERBLOCKS` superblocks of 256.
+    fn first_fault_of<
+        const MOST: usize,
+        const COLUMNS: usize,
+        const BLOCKS: usize,
+        const SUPERBLOCKS: usize,
+    >(&self, n: usize) -> BarVerdict
+        requires n { n ≡ length self.now.map.now.lists }
+        requires most { n ≤ MOST }
+        requires room { (MOST < 4096) × (COLUMNS < 65536) × (BLOCKS < 65536) × (SUPERBLOCKS < 65536) }
         ensures { IsBarVerdict self.now.map.now.lists self.now.fig.now self.now.width result }
     {
-        self.fill_clear(order, tops, clear);
-        match self.first_through(clear) {
-            Some((e, v)) => BarVerdict::Through(e, v),
-            None => self.first_of_turns(),
-        }
+        let mut order = [0; MOST];
+        let mut peaks = [0; COLUMNS];
+        let mut blocks = [0; BLOCKS];
+        let mut superblocks = [0; SUPERBLOCKS];
+        fill_order(self.fig, &mut order[..n]);
+        let ordered = Ordered {
+            drawing: *self,
+            order: &order[..n],
+        };
+        ordered.first_fault(&mut peaks, &mut blocks, &mut superblocks)
     }
+}
 
-    // Finds that fault in tables of `COLUMNS` columns and `DARTS` darts.
-    fn first_struck_of<const COLUMNS: usize, const DARTS: usize>(
-        &self,
-        order: &mut [u16],
-    ) -> BarVerdict
-        requires order { length order.old ≡ length self.now.map.now.lists }
+impl Ordered<'_> {
+    // Finds the first fault of an edge with a bar in its way or of a list, in tables of `COLUMNS` columns and `DARTS`
+    // darts.
+    fn first_struck_of<const COLUMNS: usize, const DARTS: usize>(&self) -> BarVerdict
         requires room { (COLUMNS < 65536) × (DARTS < 65536) }
-        ensures { IsBarVerdict self.now.map.now.lists self.now.fig.now self.now.width result }
+        ensures { IsBarVerdict self.now.drawing.map.now.lists self.now.drawing.fig.now self.now.drawing.width result }
     {
         let mut tops = [0; COLUMNS];
         let mut clear = [false; DARTS];
-        self.first_struck_in(order, &mut tops, &mut clear)
-    }
-
-    // Returns the first fault of an edge with a bar in its way or of a list, with room for the vertices in the order of
-    // their heights.
-    fn first_struck(&self, order: &mut [u16]) -> BarVerdict
-        requires order { length order.old ≡ length self.now.map.now.lists }
-        ensures { IsBarVerdict self.now.map.now.lists self.now.fig.now self.now.width result }
-    {
-        let n = self.map.n();
-        // room for 2n - 4 faces and 3n - 6 edges, the most of a plane map
-        if n <= 63 {
-            self.first_struck_of::<122, 366>(order)
-        } else if n <= 255 {
-            self.first_struck_of::<506, 1518>(order)
-        } else {
-            self.first_struck_of::<8186, 24558>(order)
+        self.fill_clear(&mut tops, &mut clear);
+        match self.drawing.first_through(&clear) {
+            Some((e, v)) => BarVerdict::Through(e, v),
+            None => self.drawing.first_of_turns(),
         }
     }
 
-    // Returns the first fault of an edge with a bar in its way or of a list, with room for the vertices in the order of
-    // their heights, and for a number at each column, each block and each superblock. The exact search comes only where
-    // the quick sweep does not pass.
+    // Returns the first fault of an edge with a bar in its way or of a list.
+    fn first_struck(&self) -> BarVerdict
+        ensures { IsBarVerdict self.now.drawing.map.now.lists self.now.drawing.fig.now self.now.drawing.width result }
+    {
+        let n = self.drawing.map.n();
+        // room for 2n - 4 faces and 3n - 6 edges, the most of a plane map
+        if n <= 63 {
+            self.first_struck_of::<122, 366>()
+        } else if n <= 255 {
+            self.first_struck_of::<506, 1518>()
+        } else {
+            self.first_struck_of::<8186, 24558>()
+        }
+    }
+
+    // Returns the first fault of an edge with a bar in its way or of a list, with room for a number at each column, each
+    // block and each superblock. The exact search comes only where the quick sweep does not pass.
     fn first_fault(
         &self,
-        order: &mut [u16],
         peaks: &mut [i32],
         blocks: &mut [i32],
         superblocks: &mut [i32],
     ) -> BarVerdict
-        requires order { length order.old ≡ length self.now.map.now.lists }
-        ensures { IsBarVerdict self.now.map.now.lists self.now.fig.now self.now.width result }
+        ensures { IsBarVerdict self.now.drawing.map.now.lists self.now.drawing.fig.now self.now.drawing.width result }
     {
-        self.map.facts();
-        fill_order(self.fig, order);
-        if self.passes_all(order, peaks, blocks, superblocks) {
-            return self.first_of_turns();
+        if self.passes_all(peaks, blocks, superblocks) {
+            return self.drawing.first_of_turns();
         }
-        self.first_struck(order)
+        self.first_struck()
     }
 }
 
 impl Bars<'_> {
-    // Returns the first fault of an edge or of a list, with room for a number at each vertex, for the vertices in the
-    // order of their heights, for the column of each dart, and for a number at each column, each block and each
-    // superblock.
-    fn first_fault_in(
-        &self,
-        next: &mut [u32],
-        order: &mut [u16],
-        columns: &mut [i32],
-        peaks: &mut [i32],
-        blocks: &mut [i32],
-        superblocks: &mut [i32],
-    ) -> BarVerdict
-        requires next { length next.old ≡ length self.now.map.now.lists }
-        requires order { length order.old ≡ length self.now.map.now.lists }
-        ensures { IsBarVerdict self.now.map.now.lists self.now.fig.now self.now.width result }
-    {
-        if let Some(e) = self.fill_columns(next, columns) {
-            return BarVerdict::BadColumn(e);
-        }
-        let drawing = Drawing {
-            map: self.map,
-            fig: self.fig,
-            width: self.width,
-            columns,
-        };
-        drawing.first_fault(order, peaks, blocks, superblocks)
-    }
-
     // Finds the first fault of an edge or of a list, in tables of `MOST` vertices, `COLUMNS` columns, which are
     // `BLOCKS` blocks of 16 and `SUPERBLOCKS` superblocks of 256, and `DARTS` darts.
     fn first_fault_of<
@@ -150,20 +130,19 @@ impl Bars<'_> {
         requires room { (MOST < 4096) × (COLUMNS < 65536) × (BLOCKS < 65536) × (SUPERBLOCKS < 65536) × (DARTS < 65536) }
         ensures { IsBarVerdict self.now.map.now.lists self.now.fig.now self.now.width result }
     {
+        let Bars { map, fig, width } = *self;
         let mut next = [0; MOST];
-        let mut order = [0; MOST];
         let mut columns = [0; DARTS];
-        let mut peaks = [0; COLUMNS];
-        let mut blocks = [0; BLOCKS];
-        let mut superblocks = [0; SUPERBLOCKS];
-        self.first_fault_in(
-            &mut next[..n],
-            &mut order[..n],
-            &mut columns,
-            &mut peaks,
-            &mut blocks,
-            &mut superblocks,
-        )
+        match self.fill_columns(&mut next[..n], &mut columns) {
+            Some(e) => BarVerdict::BadColumn(e),
+            None => Drawing {
+                map,
+                fig,
+                width,
+                columns: &columns,
+            }
+            .first_fault_of::<MOST, COLUMNS, BLOCKS, SUPERBLOCKS>(n),
+        }
     }
 
     // Returns the first fault of an edge or of a list.

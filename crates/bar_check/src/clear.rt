@@ -8,7 +8,7 @@ ghost use Rattle.vertex_rounds.specs.Rounds.{HasEdge, dart_of};
 ghost use Rattle.bar_check.specs.Bars.{number_at, column_of, IsStruck};
 ghost use Rattle.bar_check.specs.Tables.{AreClear, HasTops, IsAtTop, IsSeen, StandsAt};
 
-use crate::drawing::{Bar, Drawing};
+use crate::drawing::{Bar, Ordered};
 use crate::heights::number;
 use half_edges::{DartId, HalfMap, VertexId};
 use pg_plane::BarFigure;
@@ -27,16 +27,6 @@ pub(crate) fn fill_order(fig: &BarFigure, order: &mut [u16])
     }
 }
 
-// Takes all marks off.
-fn clear_all(clear: &mut [bool])
-    ensures size { length clear.new ≡ length clear.old }
-    ensures none { (d : ℕ) → d < length clear.new → slice_index_or clear.new d false ≡ false }
-{
-    for d in 0..clear.len() {
-        clear[d] = false;
-    }
-}
-
 // Marks a dart, where the table reaches so far.
 fn mark(clear: &mut [bool], d: DartId)
     ensures { (e : ℕ) → slice_index_or clear.new e false ≡ true → (e ≡ d.0) ⊎ (slice_index_or clear.old e false ≡ true) }
@@ -52,14 +42,6 @@ fn is_at_top(tops: &[u16], x: i32, height: i32) -> bool
     ensures { OnTrue result (IsAtTop tops.now x height) }
 {
     0 <= x && (x as usize) < tops.len() && i32::from(tops[x as usize]) <= height + 1
-}
-
-// Says whether the bar of `u` is below height `h`, and the highest of those that hold column `x`.
-fn is_seen(fig: &BarFigure, tops: &[u16], h: u16, x: i32, u: VertexId) -> bool
-    ensures { OnTrue result (IsSeen fig.now h tops.now x u.0) }
-{
-    let height = number(&fig.y, u.0 as usize);
-    height < i32::from(h) && is_at_top(tops, x, height)
 }
 
 // Writes `top` at the columns from `left` to `right`, where the table reaches so far.
@@ -112,6 +94,14 @@ pub(crate) fn is_clear(map: &HalfMap, clear: &[bool], d: DartId) -> bool
 }
 
 impl Bar<'_> {
+    // Says whether the bar of `u` is below this one, and the highest of those that hold column `x`.
+    fn is_seen(&self, tops: &[u16], u: VertexId, x: i32) -> bool
+        ensures { OnTrue result (IsSeen self.now.drawing.fig.now self.now.h tops.now x u.0) }
+    {
+        let height = number(&self.drawing.fig.y, u.0 as usize);
+        height < i32::from(self.h) && is_at_top(tops, x, height)
+    }
+
     // Marks a dart of the vertex, where its edge leads down and no bar is in the way. A dart beyond the tables gets no
     // mark, so its column is not looked for.
     fn mark_if_seen(&self, tops: &[u16], clear: &mut [bool], d: DartId)
@@ -125,28 +115,8 @@ impl Bar<'_> {
         if (d.0 as usize) >= clear.len() || (d.0 as usize) >= drawing.columns.len() {
             return;
         }
-        let x = drawing.column_at(d);
-        if is_seen(drawing.fig, tops, self.h, x, drawing.map.head(d)) {
+        if self.is_seen(tops, drawing.map.head(d), drawing.column_at(d)) {
             mark(clear, d);
-        }
-    }
-
-    // Marks the clear edges that lead down from the vertex, from dart `first` on.
-    fn mark_round(&self, tops: &[u16], clear: &mut [bool], first: DartId)
-        requires tops { HasTops (length self.now.drawing.map.now.lists) self.now.drawing.fig.now self.now.h tops.now }
-        requires first { dart_at self.now.drawing.map.now first.0 ≡ Some (first_dart self.now.drawing.map.now.lists self.now.v.0) }
-        requires clear { AreClear self.now.drawing.map.now self.now.drawing.fig.now clear.old }
-        ensures { AreClear self.now.drawing.map.now self.now.drawing.fig.now clear.new }
-    {
-        self.drawing.map.facts();
-        let bar = *self;
-        let mut d = first;
-        'round: loop {
-            bar.mark_if_seen(tops, clear, d);
-            match later_dart(bar.drawing.map, d) {
-                Some(later) => d = later,
-                None => return,
-            }
         }
     }
 
@@ -156,8 +126,18 @@ impl Bar<'_> {
         requires clear { AreClear self.now.drawing.map.now self.now.drawing.fig.now clear.old }
         ensures { AreClear self.now.drawing.map.now self.now.drawing.fig.now clear.new }
     {
-        if let Some(first) = self.drawing.map.first_dart(self.v) {
-            self.mark_round(tops, clear, first);
+        let bar = *self;
+        bar.drawing.map.facts();
+        let Some(first) = bar.drawing.map.first_dart(bar.v) else {
+            return;
+        };
+        let mut d = first;
+        'round: loop {
+            bar.mark_if_seen(tops, clear, d);
+            match later_dart(bar.drawing.map, d) {
+                Some(later) => d = later,
+                None => return,
+            }
         }
     }
 
@@ -174,15 +154,15 @@ impl Bar<'_> {
     }
 }
 
-impl Drawing<'_> {
-    // Marks edges with no bar in their way, by a sweep over the bars in this order as long as it is that of
-    // their heights.
-    fn sweep(&self, order: &[u16], tops: &mut [u16], clear: &mut [bool])
-        requires order { length order.now ≡ length self.now.map.now.lists }
-        requires clear { AreClear self.now.map.now self.now.fig.now clear.old }
-        ensures { AreClear self.now.map.now self.now.fig.now clear.new }
+impl Ordered<'_> {
+    // Marks edges with no bar in their way, by a sweep over the bars in this order as long as it is that of their
+    // heights, with room for the highest bars of columns and no mark yet.
+    pub(crate) fn fill_clear(&self, tops: &mut [u16], clear: &mut [bool])
+        requires none { (d : ℕ) → slice_index_or clear.old d false ≡ false }
+        ensures { AreClear self.now.drawing.map.now self.now.drawing.fig.now clear.new }
     {
-        let drawing = *self;
+        let Ordered { drawing, order } = *self;
+        drawing.map.facts();
         for h in 0..drawing.map.n() {
             let v = VertexId(order[h as usize]);
             if !stands_at(drawing.fig, drawing.map.n(), h, v) {
@@ -192,17 +172,5 @@ impl Drawing<'_> {
             bar.mark_list(tops, clear);
             bar.put_top(tops);
         }
-    }
-
-    // Marks edges with no bar in their way, with room for the vertices in the order of their heights and for the
-    // highest bars of columns.
-    pub(crate) fn fill_clear(&self, order: &mut [u16], tops: &mut [u16], clear: &mut [bool])
-        requires order { length order.old ≡ length self.now.map.now.lists }
-        ensures { AreClear self.now.map.now self.now.fig.now clear.new }
-    {
-        self.map.facts();
-        fill_order(self.fig, order);
-        clear_all(clear);
-        self.sweep(order, tops, clear);
     }
 }

@@ -11,7 +11,7 @@ ghost use Rattle.bar_check.specs.Tables.{AreClear};
 
 use crate::clear::is_clear;
 use crate::drawing::{Drawing, LesserEnd};
-use crate::edges::{column_of, edges_with};
+use crate::edges::edges_with;
 use crate::heights::{holds, number};
 use half_edges::{DartId, Ends, VertexId};
 use pg_plane::BarFigure;
@@ -127,12 +127,7 @@ impl Drawing<'_> {
         ensures { MatchOption result ((v : ℕ) → ¬ GoesThrough self.now.map.now.lists self.now.fig.now e.a.0 e.b.0 v)
             (λ v. IsLeast (GoesThrough self.now.map.now.lists self.now.fig.now e.a.0 e.b.0) v.0) }
     {
-        first_struck(
-            self.fig,
-            self.map.n(),
-            e,
-            column_of(self.map, self.fig, e.a, e.b),
-        )
+        first_struck(self.fig, self.map.n(), e, self.column_of(e.a, e.b))
     }
 
     // Returns the first edge that goes through a bar, with the least such bar.

@@ -34,6 +34,22 @@ pub(crate) struct Drawing<'a> {
     ghost table: { AreColumns map.now fig.now columns.now },
 }
 
+/// A vertex as the greater end of edges, for their columns by the number of the next edge upwards of each lesser end.
+#[derive(Clone, Copy)]
+pub(crate) struct GreaterEnd<'a> {
+    pub(crate) bars: Bars<'a>,
+    pub(crate) b: VertexId,
+    ghost vertex: { b.0 < length bars.map.now.lists },
+}
+
+/// Such a drawing with its vertices in an order, which a sweep compares with that of their heights.
+#[derive(Clone, Copy)]
+pub(crate) struct Ordered<'a> {
+    pub(crate) drawing: Drawing<'a>,
+    pub(crate) order: &'a [u16],
+    ghost size: { length order.now ≡ length drawing.map.now.lists },
+}
+
 /// The bar of a vertex in such a drawing, and its height.
 #[derive(Clone, Copy)]
 pub(crate) struct Bar<'a> {

@@ -4,9 +4,9 @@ ghost use Rattle.map_theory.specs.Maps.{list_of};
 ghost use Rattle.half_edges.specs.Map.{dart_at, first_dart};
 ghost use Rattle.bar_check.specs.Bars.{number_at, edges_until as the_edges_until, edges_before as the_edges_before, column_of as the_column, column_between as the_column_between};
 
+use crate::drawing::Drawing;
 use crate::heights::number;
-use half_edges::{DartId, HalfMap, VertexId};
-use pg_plane::BarFigure;
+use half_edges::{HalfMap, VertexId};
 use vertex_rounds::later_dart;
 
 // The count with one more where `u` is above `v` and below `end`.
@@ -24,15 +24,17 @@ fn counted(count: u32, v: VertexId, u: VertexId, end: u16) -> u32
     }
 }
 
-// Returns how many entries of the list of `v` are above it and below `end`; `first` is the dart to the first of the
-// `degree` entries.
-fn edges_until_round(map: &HalfMap, v: VertexId, first: DartId, degree: u16, end: u16) -> u32
-    requires first { dart_at map.now first.0 ≡ Some (first_dart map.now.lists v.0) }
-    requires degree { degree ≡ length (list_of map.now.lists v.0) }
+// Returns how many edges lead from `v` to vertices above `v` and below `end`.
+fn edges_until(map: &HalfMap, v: VertexId, end: u16) -> u32
+    requires vertex { v.0 < length map.now.lists }
     ensures count { result ≡ the_edges_until map.now.lists v.0 end }
     ensures few { result ≤ 65535 }
 {
     map.facts();
+    let degree = map.degree(v);
+    let Some(first) = map.first_dart(v) else {
+        return 0;
+    };
     let mut count = 0;
     let mut d = first;
     'round: loop {
@@ -41,18 +43,6 @@ fn edges_until_round(map: &HalfMap, v: VertexId, first: DartId, degree: u16, end
             Some(next) => d = next,
             None => return count,
         }
-    }
-}
-
-// Returns how many edges lead from `v` to vertices above `v` and below `end`.
-fn edges_until(map: &HalfMap, v: VertexId, end: u16) -> u32
-    requires vertex { v.0 < length map.now.lists }
-    ensures count { result ≡ the_edges_until map.now.lists v.0 end }
-    ensures few { result ≤ 65535 }
-{
-    match map.first_dart(v) {
-        Some(first) => edges_until_round(map, v, first, map.degree(v), end),
-        None => 0,
     }
 }
 
@@ -80,41 +70,37 @@ fn edges_before(map: &HalfMap, v: VertexId) -> u32
     count
 }
 
-// Returns the column of the edge from `a` to `b`, its greater end, where `before` edges have their lesser end below
-// `a`.
-pub(crate) fn column_from(
-    map: &HalfMap,
-    fig: &BarFigure,
-    before: u32,
-    a: VertexId,
-    b: VertexId,
-) -> i32
-    requires vertex { a.0 < length map.now.lists }
-    requires before { before ≡ the_edges_before map.now.lists a.0 }
-    requires few { before ≤ 65535 * a.0 }
-    ensures { result ≡ the_column map.now.lists fig.now a.0 b.0 }
-{
-    let edge = before + edges_until(map, a, b.0);
-    number(&fig.column, edge as usize)
-}
+impl Drawing<'_> {
+    // Returns the column of the edge from `a` to `b`, its greater end, where `before` edges have their lesser end below
+    // `a`.
+    pub(crate) fn column_from(&self, before: u32, a: VertexId, b: VertexId) -> i32
+        requires vertex { a.0 < length self.now.map.now.lists }
+        requires before { before ≡ the_edges_before self.now.map.now.lists a.0 }
+        requires few { before ≤ 65535 * a.0 }
+        ensures { result ≡ the_column self.now.map.now.lists self.now.fig.now a.0 b.0 }
+    {
+        let edge = before + edges_until(self.map, a, b.0);
+        number(&self.fig.column, edge as usize)
+    }
 
-// Returns the column of the edge from `a` to `b`, its greater end.
-pub(crate) fn column_of(map: &HalfMap, fig: &BarFigure, a: VertexId, b: VertexId) -> i32
-    requires vertex { a.0 < length map.now.lists }
-    ensures { result ≡ the_column map.now.lists fig.now a.0 b.0 }
-{
-    column_from(map, fig, edges_before(map, a), a, b)
-}
+    // Returns the column of the edge from `a` to `b`, its greater end.
+    pub(crate) fn column_of(&self, a: VertexId, b: VertexId) -> i32
+        requires vertex { a.0 < length self.now.map.now.lists }
+        ensures { result ≡ the_column self.now.map.now.lists self.now.fig.now a.0 b.0 }
+    {
+        self.column_from(edges_before(self.map, a), a, b)
+    }
 
-// Returns the column of the edge between `u` and `v`.
-pub(crate) fn column_between(map: &HalfMap, fig: &BarFigure, u: VertexId, v: VertexId) -> i32
-    requires u { u.0 < length map.now.lists }
-    requires v { v.0 < length map.now.lists }
-    ensures { result ≡ the_column_between map.now.lists fig.now u.0 v.0 }
-{
-    if u.0 < v.0 {
-        column_of(map, fig, u, v)
-    } else {
-        column_of(map, fig, v, u)
+    // Returns the column of the edge between `u` and `v`.
+    pub(crate) fn column_between(&self, u: VertexId, v: VertexId) -> i32
+        requires u { u.0 < length self.now.map.now.lists }
+        requires v { v.0 < length self.now.map.now.lists }
+        ensures { result ≡ the_column_between self.now.map.now.lists self.now.fig.now u.0 v.0 }
+    {
+        if u.0 < v.0 {
+            self.column_of(u, v)
+        } else {
+            self.column_of(v, u)
+        }
     }
 }

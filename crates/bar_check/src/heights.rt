@@ -6,6 +6,7 @@ ghost use Rattle.bar_check.specs.Faults.{HasBadHeight, HasBadBar};
 ghost use Rattle.bar_check.specs.Verdicts.{HasHeights, AreBars};
 ghost use Rattle.bar_check.specs.Tables.{IsFree};
 
+use crate::drawing::Bars;
 use half_edges::{HalfMap, VertexId};
 use pg_plane::{BarFigure, Ints};
 
@@ -109,9 +110,11 @@ pub(crate) fn holds(fig: &BarFigure, v: VertexId, x: i32) -> bool
     number(&fig.x1, v.0 as usize) <= x && x <= number(&fig.x2, v.0 as usize)
 }
 
-// Says whether column `x` lies within the width and within the bars of `a` and `b`.
-pub(crate) fn is_column(fig: &BarFigure, width: i32, a: VertexId, b: VertexId, x: i32) -> bool
-    ensures { IsTrue result ↔ IsColumn fig.now width a.0 b.0 x }
-{
-    0 <= x && x <= width && holds(fig, a, x) && holds(fig, b, x)
+impl Bars<'_> {
+    // Says whether column `x` lies within the width and within the bars of `a` and `b`.
+    pub(crate) fn is_column(&self, a: VertexId, b: VertexId, x: i32) -> bool
+        ensures { IsTrue result ↔ IsColumn self.now.fig.now self.now.width a.0 b.0 x }
+    {
+        0 <= x && x <= self.width && holds(self.fig, a, x) && holds(self.fig, b, x)
+    }
 }

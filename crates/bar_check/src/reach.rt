@@ -12,7 +12,7 @@ ghost use Rattle.bar_check.specs.Tables.{StandsAt};
 ghost use Rattle.bar_check.specs.Reach.{IsRaised, IsReached, IsPassed, IsUp, IsBegun, HasReach, IsSwept};
 
 use crate::clear::{natural, stands_at};
-use crate::drawing::{Bar, Drawing};
+use crate::drawing::{Bar, Ordered};
 use crate::heights::number;
 use half_edges::{DartId, VertexId};
 use vertex_rounds::later_dart;
@@ -76,50 +76,52 @@ fn low_until(table: &[i32], h: u16, k: usize, end: usize) -> usize
     at
 }
 
-// Returns a place up to which no edge of the columns from `k` on reaches above `h`, in steps of whole blocks where
-// these begin at `k`, and else up to the end of its block of 16 at most.
-fn passed_to(
-    peaks: &[i32],
-    blocks: &[i32],
-    superblocks: &[i32],
-    h: u16,
-    k: usize,
-    right: usize,
-) -> usize
-    requires k { k < 4294967296 }
-    requires right { right < 4294967296 }
-    ensures { (x : ℕ) → k ≤ x → x < result → IsPassed h x peaks.now blocks.now superblocks.now }
-{
-    if k % 256 == 0 && is_low(superblocks, k / 256, h) {
-        low_until(superblocks, h, k / 256, right / 256 + 1) * 256
-    } else if k % 16 == 0 && is_low(blocks, k / 16, h) {
-        low_until(blocks, h, k / 16, ((k / 256 + 1) * 16).min(right / 16 + 1)) * 16
-    } else {
-        low_until(peaks, h, k, ((k / 16 + 1) * 16).min(right + 1))
-    }
+// The peaks of columns, of blocks and of superblocks, as a bar meets them.
+#[derive(Clone, Copy)]
+struct Peaks<'a> {
+    columns: &'a [i32],
+    blocks: &'a [i32],
+    superblocks: &'a [i32],
 }
 
-// Says whether no edge of a column from `left` to `right` reaches above `h`.
-fn passes_between(
-    peaks: &[i32],
-    blocks: &[i32],
-    superblocks: &[i32],
-    h: u16,
-    left: usize,
-    right: usize,
-) -> bool
-    requires { right < 4294967296 }
-    ensures { OnTrue result ((x : ℕ) → left ≤ x → x ≤ right → IsPassed h x peaks.now blocks.now superblocks.now) }
-{
-    let mut k = left;
-    while k <= right {
-        let next = passed_to(peaks, blocks, superblocks, h, k, right);
-        if next <= k {
-            return false;
+impl Peaks<'_> {
+    // Returns a place up to which no edge of the columns from `k` on reaches above `h`, in steps of whole blocks where
+    // these begin at `k`, and else up to the end of its block of 16 at most.
+    fn passed_to(&self, h: u16, k: usize, right: usize) -> usize
+        requires k { k < 4294967296 }
+        requires right { right < 4294967296 }
+        ensures { (x : ℕ) → k ≤ x → x < result → IsPassed h x self.now.columns.now self.now.blocks.now self.now.superblocks.now }
+    {
+        if k % 256 == 0 && is_low(self.superblocks, k / 256, h) {
+            low_until(self.superblocks, h, k / 256, right / 256 + 1) * 256
+        } else if k % 16 == 0 && is_low(self.blocks, k / 16, h) {
+            low_until(
+                self.blocks,
+                h,
+                k / 16,
+                ((k / 256 + 1) * 16).min(right / 16 + 1),
+            ) * 16
+        } else {
+            low_until(self.columns, h, k, ((k / 16 + 1) * 16).min(right + 1))
         }
-        k = next;
     }
-    true
+
+    // Says whether no edge of a column from `left` to `right` reaches above `h`.
+    fn passes_between(&self, h: u16, left: usize, right: usize) -> bool
+        requires { right < 4294967296 }
+        ensures { OnTrue result ((x : ℕ) → left ≤ x → x ≤ right → IsPassed h x self.now.columns.now self.now.blocks.now self.now.superblocks.now) }
+    {
+        let peaks = *self;
+        let mut k = left;
+        while k <= right {
+            let next = peaks.passed_to(h, k, right);
+            if next <= k {
+                return false;
+            }
+            k = next;
+        }
+        true
+    }
 }
 
 impl Bar<'_> {
@@ -147,21 +149,16 @@ impl Bar<'_> {
         raise_column(peaks, blocks, superblocks, self.drawing.column_at(d), y)
     }
 
-    // Notes the edges that lead up from the vertex, from dart `first` on, and says whether the tables reach so
-    // far.
-    fn begin_round(
-        &self,
-        peaks: &mut [i32],
-        blocks: &mut [i32],
-        superblocks: &mut [i32],
-        first: DartId,
-    ) -> bool
-        requires first { dart_at self.now.drawing.map.now first.0 ≡ Some (first_dart self.now.drawing.map.now.lists self.now.v.0) }
+    // Notes the edges that lead up from the vertex, and says whether the tables reach so far.
+    fn begin_edges(&self, peaks: &mut [i32], blocks: &mut [i32], superblocks: &mut [i32]) -> bool
         requires reach { HasReach self.now.drawing.map.now.lists self.now.drawing.fig.now (IsBegun self.now.drawing.map.now.lists self.now.drawing.fig.now self.now.h self.now.v.0 0) peaks.old blocks.old superblocks.old }
         ensures { OnTrue result (HasReach self.now.drawing.map.now.lists self.now.drawing.fig.now (IsBegun self.now.drawing.map.now.lists self.now.drawing.fig.now self.now.h self.now.v.0 (length (list_of self.now.drawing.map.now.lists self.now.v.0))) peaks.new blocks.new superblocks.new) }
     {
-        self.drawing.map.facts();
         let bar = *self;
+        bar.drawing.map.facts();
+        let Some(first) = bar.drawing.map.first_dart(bar.v) else {
+            return true;
+        };
         let mut d = first;
         'round: loop {
             if !bar.begin_if_up(peaks, blocks, superblocks, d) {
@@ -174,24 +171,13 @@ impl Bar<'_> {
         }
     }
 
-    // Notes the edges that lead up from the vertex, and says whether the tables reach so far.
-    fn begin_edges(&self, peaks: &mut [i32], blocks: &mut [i32], superblocks: &mut [i32]) -> bool
-        requires reach { HasReach self.now.drawing.map.now.lists self.now.drawing.fig.now (IsBegun self.now.drawing.map.now.lists self.now.drawing.fig.now self.now.h self.now.v.0 0) peaks.old blocks.old superblocks.old }
-        ensures { OnTrue result (HasReach self.now.drawing.map.now.lists self.now.drawing.fig.now (IsBegun self.now.drawing.map.now.lists self.now.drawing.fig.now self.now.h self.now.v.0 (length (list_of self.now.drawing.map.now.lists self.now.v.0))) peaks.new blocks.new superblocks.new) }
-    {
-        match self.drawing.map.first_dart(self.v) {
-            Some(first) => self.begin_round(peaks, blocks, superblocks, first),
-            None => true,
-        }
-    }
-
     // Says whether no edge of a column that the bar holds reaches above it.
-    fn passes(&self, peaks: &[i32], blocks: &[i32], superblocks: &[i32]) -> bool
-        ensures { OnTrue result ((k : ℕ) → Holds self.now.drawing.fig.now self.now.v.0 (pos k) → IsPassed self.now.h k peaks.now blocks.now superblocks.now) }
+    fn passes(&self, peaks: &Peaks<'_>) -> bool
+        ensures { OnTrue result ((k : ℕ) → Holds self.now.drawing.fig.now self.now.v.0 (pos k) → IsPassed self.now.h k peaks.now.columns.now peaks.now.blocks.now peaks.now.superblocks.now) }
     {
         let left = natural(number(&self.drawing.fig.x1, self.v.0 as usize));
         let right = natural(number(&self.drawing.fig.x2, self.v.0 as usize));
-        passes_between(peaks, blocks, superblocks, self.h, left, right)
+        peaks.passes_between(self.h, left, right)
     }
 
     // Meets the bar, and says whether it is in the way of no edge.
@@ -199,28 +185,31 @@ impl Bar<'_> {
         requires swept { IsSwept self.now.drawing.map.now.lists self.now.drawing.fig.now self.now.h peaks.old blocks.old superblocks.old }
         ensures { OnTrue result (IsSwept self.now.drawing.map.now.lists self.now.drawing.fig.now (self.now.h + 1) peaks.new blocks.new superblocks.new) }
     {
-        if !self.passes(peaks, blocks, superblocks) {
+        let known = Peaks {
+            columns: peaks,
+            blocks,
+            superblocks,
+        };
+        if !self.passes(&known) {
             return false;
         }
         self.begin_edges(peaks, blocks, superblocks)
     }
 }
 
-impl Drawing<'_> {
+impl Ordered<'_> {
     // Says whether a sweep over the bars in this order shows that none is in the way of an edge, with room for a number
     // at each column, each block of 16 columns and each superblock of 256, which are 0.
     pub(crate) fn passes_all(
         &self,
-        order: &[u16],
         peaks: &mut [i32],
         blocks: &mut [i32],
         superblocks: &mut [i32],
     ) -> bool
-        requires order { length order.now ≡ length self.now.map.now.lists }
-        ensures { OnTrue result (NoneThrough self.now.map.now.lists self.now.fig.now) }
+        ensures { OnTrue result (NoneThrough self.now.drawing.map.now.lists self.now.drawing.fig.now) }
     {
-        self.map.facts();
-        let drawing = *self;
+        let Ordered { drawing, order } = *self;
+        drawing.map.facts();
         for h in 0..drawing.map.n() {
             let v = VertexId(order[h as usize]);
             if !stands_at(drawing.fig, drawing.map.n(), h, v) {

@@ -9,9 +9,9 @@ ghost use Rattle.bar_check.specs.Faults.{HasBadColumn};
 ghost use Rattle.bar_check.specs.Verdicts.{NoBadColumn};
 ghost use Rattle.bar_check.specs.Tables.{AreColumns, AreFilled, AreNext, IsFirstMetBad, IsUpTo, IsWritten};
 
-use crate::drawing::{Bars, Drawing, LesserEnd};
-use crate::edges::{column_between, column_from, edges_with};
-use crate::heights::{is_column, number};
+use crate::drawing::{Bars, Drawing, GreaterEnd, LesserEnd};
+use crate::edges::edges_with;
+use crate::heights::number;
 use half_edges::{DartId, Ends, VertexId};
 use vertex_rounds::later_dart;
 
@@ -44,118 +44,82 @@ fn is_up_to(found: Option<Ends>, a: VertexId) -> bool
     }
 }
 
-impl Bars<'_> {
-    // Writes the column of the next edge upwards of `a` at its darts.
-    fn put_next(&self, next: &mut [u32], columns: &mut [i32], a: VertexId, d: DartId, twin: DartId)
-        requires vertex { a.0 < length next.old }
-        requires few { slice_index next.old a.0 < 4294967295 }
-        ensures next { next.new ≡ slice_set next.old a.0 (slice_index next.old a.0 + 1) }
-        ensures columns { IsWritten d.0 twin.0 (number_at self.now.fig.now.column (slice_index next.old a.0)) columns.old columns.new }
+impl GreaterEnd<'_> {
+    // Writes the column of the edge of dart `d` at its darts, where it leads down.
+    fn put_edge(&self, next: &mut [u32], columns: &mut [i32], d: DartId)
+        requires live { IsLive self.now.bars.map.now d.0 }
+        requires tail { (dart_of self.now.bars.map.now d.0).0 ≡ self.now.b.0 }
+        requires filled { AreFilled self.now.bars.map.now self.now.bars.fig.now self.now.b.0 (place_of (dart_of self.now.bars.map.now d.0).1 (list_of self.now.bars.map.now.lists self.now.b.0)) next.old columns.old }
+        ensures { AreFilled self.now.bars.map.now self.now.bars.fig.now self.now.b.0 (place_of (dart_of self.now.bars.map.now d.0).1 (list_of self.now.bars.map.now.lists self.now.b.0) + 1) next.new columns.new }
     {
-        let edge = next[a.0 as usize];
-        next[a.0 as usize] = edge + 1;
-        put_both(columns, d, twin, number(&self.fig.column, edge as usize));
-    }
-
-    // Writes the column of the next edge upwards of a lesser vertex, where the dart `d` from `b` leads down to it.
-    fn put_edge(&self, next: &mut [u32], columns: &mut [i32], b: VertexId, d: DartId)
-        requires live { IsLive self.now.map.now d.0 }
-        requires tail { (dart_of self.now.map.now d.0).0 ≡ b.0 }
-        requires filled { AreFilled self.now.map.now self.now.fig.now b.0 (place_of (dart_of self.now.map.now d.0).1 (list_of self.now.map.now.lists b.0)) next.old columns.old }
-        ensures { AreFilled self.now.map.now self.now.fig.now b.0 (place_of (dart_of self.now.map.now d.0).1 (list_of self.now.map.now.lists b.0) + 1) next.new columns.new }
-    {
-        self.map.facts();
-        let a = self.map.head(d);
-        if a.0 < b.0 {
-            self.put_next(next, columns, a, d, self.map.twin(d));
+        let map = self.bars.map;
+        map.facts();
+        let a = map.head(d);
+        if a.0 < self.b.0 {
+            let edge = next[a.0 as usize];
+            next[a.0 as usize] = edge + 1;
+            put_both(
+                columns,
+                d,
+                map.twin(d),
+                number(&self.bars.fig.column, edge as usize),
+            );
         }
     }
 
-    // Says whether the edge that was found comes before the one from `a` to `b`, or that one has no bad column, by the
-    // number of the next edge upwards of `a`.
-    fn is_passed(&self, next: &[u32], found: Option<Ends>, a: VertexId, b: VertexId) -> bool
-        requires vertex { a.0 < length next.now }
-        ensures { IsTrue result ↔ (IsUpTo found a.0 ⊎ IsColumn self.now.fig.now self.now.width a.0 b.0 (number_at self.now.fig.now.column (slice_index next.now a.0))) }
+    // Returns the first edge with a bad column of those met and that of a dart `d`, which is met next; `found` is the
+    // first of those met.
+    fn with_next(&self, next: &[u32], found: Option<Ends>, d: DartId) -> Option<Ends>
+        requires live { IsLive self.now.bars.map.now d.0 }
+        requires tail { (dart_of self.now.bars.map.now d.0).0 ≡ self.now.b.0 }
+        requires vertices { length next.now ≡ length self.now.bars.map.now.lists }
+        requires numbers { AreNext self.now.bars.map.now.lists self.now.b.0 (place_of (dart_of self.now.bars.map.now d.0).1 (list_of self.now.bars.map.now.lists self.now.b.0)) next.now }
+        requires found { IsFirstMetBad self.now.bars.map.now.lists self.now.bars.fig.now self.now.bars.width self.now.b.0 (place_of (dart_of self.now.bars.map.now d.0).1 (list_of self.now.bars.map.now.lists self.now.b.0)) found }
+        ensures { IsFirstMetBad self.now.bars.map.now.lists self.now.bars.fig.now self.now.bars.width self.now.b.0 (place_of (dart_of self.now.bars.map.now d.0).1 (list_of self.now.bars.map.now.lists self.now.b.0) + 1) result }
     {
-        let edge = next[a.0 as usize] as usize;
-        is_up_to(found, a) || is_column(self.fig, self.width, a, b, number(&self.fig.column, edge))
-    }
-
-    // Returns the first edge with a bad column of those met and that of a dart from `b`, which is met next; `found` is
-    // the first of those met.
-    fn with_next(&self, next: &[u32], found: Option<Ends>, b: VertexId, d: DartId) -> Option<Ends>
-        requires live { IsLive self.now.map.now d.0 }
-        requires tail { (dart_of self.now.map.now d.0).0 ≡ b.0 }
-        requires vertices { length next.now ≡ length self.now.map.now.lists }
-        requires numbers { AreNext self.now.map.now.lists b.0 (place_of (dart_of self.now.map.now d.0).1 (list_of self.now.map.now.lists b.0)) next.now }
-        requires found { IsFirstMetBad self.now.map.now.lists self.now.fig.now self.now.width b.0 (place_of (dart_of self.now.map.now d.0).1 (list_of self.now.map.now.lists b.0)) found }
-        ensures { IsFirstMetBad self.now.map.now.lists self.now.fig.now self.now.width b.0 (place_of (dart_of self.now.map.now d.0).1 (list_of self.now.map.now.lists b.0) + 1) result }
-    {
-        self.map.facts();
-        let a = self.map.head(d);
-        if a.0 < b.0 {
-            if self.is_passed(next, found, a, b) {
-                found
-            } else {
-                Some(Ends { a, b })
-            }
-        } else {
-            found
+        let bars = self.bars;
+        bars.map.facts();
+        let a = bars.map.head(d);
+        if self.b.0 <= a.0 {
+            return found;
         }
+        if is_up_to(found, a) {
+            return found;
+        }
+        let x = number(&bars.fig.column, next[a.0 as usize] as usize);
+        if bars.is_column(a, self.b, x) {
+            return found;
+        }
+        Some(Ends { a, b: self.b })
     }
 
-    // Writes the columns of the edges of `b` to lesser vertices, from dart `first` on, and returns the first edge
-    // with a bad column; `found` is the first of those of lesser vertices.
-    fn put_round(
-        &self,
-        next: &mut [u32],
-        columns: &mut [i32],
-        found: Option<Ends>,
-        b: VertexId,
-        first: DartId,
-    ) -> Option<Ends>
-        requires vertex { b.0 < length self.now.map.now.lists }
-        requires first { dart_at self.now.map.now first.0 ≡ Some (first_dart self.now.map.now.lists b.0) }
-        requires filled { AreFilled self.now.map.now self.now.fig.now b.0 0 next.old columns.old }
-        requires found { IsFirstMetBad self.now.map.now.lists self.now.fig.now self.now.width b.0 0 found }
-        ensures filled { AreFilled self.now.map.now self.now.fig.now (b.0 + 1) 0 next.new columns.new }
-        ensures found { IsFirstMetBad self.now.map.now.lists self.now.fig.now self.now.width (b.0 + 1) 0 result }
+    // Writes the columns of the edges to lesser vertices, and returns the first edge with a bad column; `found` is the
+    // first of those of lesser vertices.
+    fn put_list(&self, next: &mut [u32], columns: &mut [i32], found: Option<Ends>) -> Option<Ends>
+        requires filled { AreFilled self.now.bars.map.now self.now.bars.fig.now self.now.b.0 0 next.old columns.old }
+        requires found { IsFirstMetBad self.now.bars.map.now.lists self.now.bars.fig.now self.now.bars.width self.now.b.0 0 found }
+        ensures filled { AreFilled self.now.bars.map.now self.now.bars.fig.now (self.now.b.0 + 1) 0 next.new columns.new }
+        ensures found { IsFirstMetBad self.now.bars.map.now.lists self.now.bars.fig.now self.now.bars.width (self.now.b.0 + 1) 0 result }
     {
-        self.map.facts();
+        let end = *self;
+        end.bars.map.facts();
+        let Some(first) = end.bars.map.first_dart(end.b) else {
+            return found;
+        };
         let mut bad = found;
         let mut d = first;
         'round: loop {
-            bad = self.with_next(next, bad, b, d);
-            self.put_edge(next, columns, b, d);
-            match later_dart(self.map, d) {
+            bad = end.with_next(next, bad, d);
+            end.put_edge(next, columns, d);
+            match later_dart(end.bars.map, d) {
                 Some(later) => d = later,
                 None => return bad,
             }
         }
     }
+}
 
-    // Writes the columns of the edges of `b` to lesser vertices, and returns the first edge with a bad column;
-    // `found` is the first of those of lesser vertices.
-    fn put_list(
-        &self,
-        next: &mut [u32],
-        columns: &mut [i32],
-        found: Option<Ends>,
-        b: VertexId,
-    ) -> Option<Ends>
-        requires vertex { b.0 < length self.now.map.now.lists }
-        requires filled { AreFilled self.now.map.now self.now.fig.now b.0 0 next.old columns.old }
-        requires found { IsFirstMetBad self.now.map.now.lists self.now.fig.now self.now.width b.0 0 found }
-        ensures filled { AreFilled self.now.map.now self.now.fig.now (b.0 + 1) 0 next.new columns.new }
-        ensures found { IsFirstMetBad self.now.map.now.lists self.now.fig.now self.now.width (b.0 + 1) 0 result }
-    {
-        self.map.facts();
-        match self.map.first_dart(b) {
-            Some(first) => self.put_round(next, columns, found, b, first),
-            None => found,
-        }
-    }
-
+impl Bars<'_> {
     // Writes for each vertex the number of edges with a lesser first end.
     fn fill_next(&self, next: &mut [u32])
         requires vertices { length next.old ≡ length self.now.map.now.lists }
@@ -183,7 +147,11 @@ impl Bars<'_> {
         let mut bad = None;
         let bars = *self;
         for b in 0..bars.map.n() {
-            bad = bars.put_list(next, columns, bad, VertexId(b));
+            bad = GreaterEnd {
+                bars,
+                b: VertexId(b),
+            }
+            .put_list(next, columns, bad);
         }
         bad
     }
@@ -201,7 +169,7 @@ impl LesserEnd<'_> {
         if (d.0 as usize) < drawing.columns.len() {
             drawing.columns[d.0 as usize]
         } else {
-            column_from(drawing.map, drawing.fig, self.before, self.a, b)
+            drawing.column_from(self.before, self.a, b)
         }
     }
 }
@@ -216,7 +184,7 @@ impl Drawing<'_> {
         if (d.0 as usize) < self.columns.len() {
             self.columns[d.0 as usize]
         } else {
-            column_between(self.map, self.fig, self.map.tail(d), self.map.head(d))
+            self.column_between(self.map.tail(d), self.map.head(d))
         }
     }
 }

@@ -23,12 +23,21 @@ fn is_above(fig: &BarFigure, v: VertexId, u: VertexId) -> bool
     number(&fig.y, v.0 as usize) < number(&fig.y, u.0 as usize)
 }
 
-// Whether, of the edges of `v`, that to `u`, in column `x`, comes before that to `w`, in column `z`: upwards
-// by rising column, and then downwards by falling column.
-fn is_earlier(fig: &BarFigure, v: VertexId, u: VertexId, w: VertexId, x: i32, z: i32) -> bool
-    ensures { (lists : Lists) → x ≡ the_column lists fig.now v.0 u.0 → z ≡ the_column lists fig.now v.0 w.0
-        → IsTrue result ↔ IsEarlier lists fig.now v.0 u.0 w.0 }
+// A vertex, and two of its neighbours.
+#[derive(Clone, Copy)]
+struct Corner {
+    v: VertexId,
+    u: VertexId,
+    w: VertexId,
+}
+
+// Says whether, of the edges of `v`, that to `u`, in column `x`, comes before that to `w`, in column `z`: upwards by
+// rising column, and then downwards by falling column.
+fn is_earlier(fig: &BarFigure, corner: Corner, x: i32, z: i32) -> bool
+    ensures { (lists : Lists) → x ≡ the_column lists fig.now corner.v.0 corner.u.0 → z ≡ the_column lists fig.now corner.v.0 corner.w.0
+        → IsTrue result ↔ IsEarlier lists fig.now corner.v.0 corner.u.0 corner.w.0 }
 {
+    let Corner { v, u, w } = corner;
     if x < z {
         is_above(fig, v, u)
     } else {
@@ -46,14 +55,12 @@ impl Drawing<'_> {
         let next = self.map.next(d);
         let x = self.column_at(d);
         let z = self.column_at(next);
-        !is_earlier(
-            self.fig,
-            self.map.tail(d),
-            self.map.head(d),
-            self.map.head(next),
-            x,
-            z,
-        )
+        let corner = Corner {
+            v: self.map.tail(d),
+            u: self.map.head(d),
+            w: self.map.head(next),
+        };
+        !is_earlier(self.fig, corner, x, z)
     }
 
     // Says whether the list of `v` goes once round, where it has at least two entries.

@@ -1,18 +1,27 @@
 -- What the searches for met edges say of crossings, and of a vertex's edges.
-use Rattle.std.proofs.Common.{ℕ, ◌+◌, List, Option, Some, None, sym, inl, ⊎_elim, arith}
-use Rattle.std.specs.Option.{MatchOption}
+use Rattle.std.proofs.Common.{◌≡◌, ℕ, ◌+◌, ◌<◌, List, length, Option, Some, None, sym, inl, ⊎_elim, arith}
+use Rattle.std.specs.Option.{MatchOption, option_map}
 use Rattle.map_lists.specs.Lists.{Lists}
 use Rattle.map_lists.specs.declared.ids.VertexId.{VertexId}
 use Rattle.map_lists.specs.declared.items.Ends.{Ends}
 use Rattle.pg_plane.specs.declared.point.Point.{Point}
-use Rattle.map_theory.specs.Maps.{HasDart}
+use Rattle.map_theory.specs.Maps.{Dart, HasDart}
+use Rattle.half_edges.specs.Map.{Map, IsHalfMap, IsLive, dart_at}
 use Rattle.vertex_rounds.specs.Least.{IsLeast, IsLeastPair}
-use Rattle.vertex_rounds.specs.Rounds.{HasEdge}
+use Rattle.vertex_rounds.specs.Rounds.{HasEdge, dart_of}
+use Rattle.vertex_rounds.proofs.DartIds.{has_dart, head_is}
 use Rattle.draw_check.specs.Faults.{EdgesCross}
 use Rattle.draw_check.specs.Loops.{IsMet, IsMetFrom}
 use Rattle.vertex_rounds.proofs.LeastLemmas.{IsLeastPair-alike}
 use Rattle.draw_check.specs.declared.edges.Probe.{Probe}
 use Rattle.draw_check.specs.declared.edges.Probe.TheVariants.{Edge}
+
+-- the head of a dart is one of as many vertices as there are lists
+pub head_below : (map : Map) → IsHalfMap map → (d u n : ℕ) → IsLive map d → option_map (λ (x : Dart). x.1) (dart_at map d) ≡ Some u → n ≡ length map.lists → u < n
+head_below map h d u n live e same =
+    let l = h.simple.in_range (dart_of map d).0 (dart_of map d).1 (has_dart map h d live) in
+    let is = head_is map d u live e in
+    omega arith
 
 module _ (lists : Lists) (points : List Point) (a b : VertexId) (edge : HasEdge lists a.0 b.0) where
   met_by_edge : (c d : ℕ) → EdgesCross lists points a.0 b.0 c d → IsMetFrom lists points (Edge a b) (a.0 + 1) c d

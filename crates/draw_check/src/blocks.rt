@@ -6,7 +6,6 @@ ghost use Rattle.draw_check.specs.Stars.{Reaches, AreBlocks};
 
 use crate::drawing::Drawing;
 use crate::heads::run_begin;
-use crate::places::place_at;
 use crate::spans::{NO_SPAN, Span, joined, widened};
 use half_edges::VertexId;
 
@@ -21,7 +20,7 @@ impl Drawing<'_> {
         self.map.facts();
         let count = self.star_heads(v, v.0 + 1, heads);
         let span = self.run_of(&heads[..count], 0, count);
-        widened(span, place_at(self.points, v))
+        widened(span, self.spot(v))
     }
 
     // Returns a box of what the edges of a block reach.

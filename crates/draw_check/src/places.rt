@@ -1,5 +1,6 @@
 //! Where the vertices stand.
 ghost use Rattle.std.specs.Prelude.{◌≡◌, ℕ, ◌<◌, ◌↔◌, length, IsTrue, MatchOption};
+ghost use Rattle.pg_plane.specs.Range.{IsInRange};
 ghost use Rattle.plane_drawings.specs.Drawing.{place, IsInGrid};
 ghost use Rattle.vertex_rounds.specs.Least.{IsLeast, IsLeastPair};
 ghost use Rattle.draw_check.specs.Faults.{LeavesGrid, ShareAPlace};
@@ -8,6 +9,13 @@ ghost use Rattle.draw_check.specs.Verdicts.{AllInGrid, NoneShareAPlace};
 use crate::drawing::Drawing;
 use half_edges::VertexId;
 use pg_plane::{GridFigure, Point, Points};
+
+// A point within the range of coordinates.
+#[derive(Clone, Copy)]
+pub(crate) struct Spot {
+    pub(crate) point: Point,
+    ghost range: { IsInRange point },
+}
 
 // The place of a vertex.
 pub(crate) fn place_at(points: &Points, v: VertexId) -> Point
@@ -43,6 +51,16 @@ fn is_same_place(p: Point, q: Point) -> bool
 }
 
 impl Drawing<'_> {
+    // The place of a vertex, which is within the range of coordinates.
+    pub(crate) fn spot(&self, v: VertexId) -> Spot
+        requires { v.0 < length self.now.points.now }
+        ensures { result.point ≡ place self.now.points.now v.0 }
+    {
+        Spot {
+            point: place_at(self.points, v),
+        }
+    }
+
     // Returns the least vertex outside the grid.
     pub(crate) fn first_outside(&self, corner: Point) -> Option<VertexId>
         ensures { MatchOption result (AllInGrid self.now.map.now.lists self.now.points.now corner.x corner.y)

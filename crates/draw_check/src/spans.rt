@@ -5,6 +5,7 @@ ghost use Rattle.pg_plane.specs.Geometry.{area, IsOnSegment};
 ghost use Rattle.pg_plane.specs.Range.{IsInRange, IsWithin};
 ghost use Rattle.draw_check.specs.Spans.{IsIn, IsBoxInRange, IsApart, IsLeftOf, IsStrictlyLeftOf, MissesStar, MissesFan};
 
+use crate::places::Spot;
 use pg_plane::{Point, area2};
 
 // A box of points. It has none where its right side is to the left of its left one.
@@ -14,6 +15,13 @@ pub(crate) struct Span {
     pub(crate) right: i32,
     pub(crate) bottom: i32,
     pub(crate) top: i32,
+}
+
+// A box within the range of coordinates.
+#[derive(Clone, Copy)]
+pub(crate) struct Extent {
+    pub(crate) span: Span,
+    ghost range: { IsBoxInRange span },
 }
 
 // The greatest coordinate.
@@ -28,18 +36,17 @@ pub(crate) const NO_SPAN: Span = Span {
 };
 
 // The box with one point more.
-pub(crate) fn widened(span: Span, p: Point) -> Span
-    requires span { IsBoxInRange span }
-    requires p { IsInRange p }
+pub(crate) fn widened(span: Span, p: Spot) -> Span
+    requires { IsBoxInRange span }
     ensures range { IsBoxInRange result }
-    ensures point { IsIn result p }
+    ensures point { IsIn result p.point }
     ensures more { (u : Point) → IsIn span u → IsIn result u }
 {
     Span {
-        left: span.left.min(p.x),
-        right: span.right.max(p.x),
-        bottom: span.bottom.min(p.y),
-        top: span.top.max(p.y),
+        left: span.left.min(p.point.x),
+        right: span.right.max(p.point.x),
+        bottom: span.bottom.min(p.point.y),
+        top: span.top.max(p.point.y),
     }
 }
 
@@ -58,51 +65,56 @@ fn are_greater(s: i32, t: i32, bound: i32) -> bool
 }
 
 // Says whether two points lie on one side of a box.
-fn is_apart(span: Span, p: Point, q: Point) -> bool
-    ensures { OnTrue result (IsApart span p q) }
+fn is_apart(span: Span, p: Spot, q: Spot) -> bool
+    ensures { OnTrue result (IsApart span p.point q.point) }
 {
-    if are_less(p.x, q.x, span.left) {
+    if are_less(p.point.x, q.point.x, span.left) {
         return true;
     }
-    if are_greater(p.x, q.x, span.right) {
+    if are_greater(p.point.x, q.point.x, span.right) {
         return true;
     }
-    if are_less(p.y, q.y, span.bottom) {
+    if are_less(p.point.y, q.point.y, span.bottom) {
         return true;
     }
-    if are_greater(p.y, q.y, span.top) {
+    if are_greater(p.point.y, q.point.y, span.top) {
         return true;
     }
     false
 }
 
 // The side of a box that is farther to the right of the way from `p` to `q`, of the left one and the right one.
-fn far_side(span: Span, p: Point, q: Point) -> i32
-    requires { IsBoxInRange span }
+fn far_side(extent: Extent, p: Point, q: Point) -> i32
     ensures range { IsWithin (pos 1048576) result }
-    ensures far { (u : Point) → IsIn span u → ((p.y ≤ℤ q.y) × (u.x ≤ℤ result)) ⊎ ((q.y ≤ℤ p.y) × (result ≤ℤ u.x)) }
+    ensures far { (u : Point) → IsIn extent.span u → ((p.y ≤ℤ q.y) × (u.x ≤ℤ result)) ⊎ ((q.y ≤ℤ p.y) × (result ≤ℤ u.x)) }
 {
-    if p.y <= q.y { span.right } else { span.left }
+    if p.y <= q.y {
+        extent.span.right
+    } else {
+        extent.span.left
+    }
 }
 
 // Returns the bottom or the top of a box, whichever is farther to the right of the way from `p` to `q`.
-fn far_level(span: Span, p: Point, q: Point) -> i32
-    requires { IsBoxInRange span }
+fn far_level(extent: Extent, p: Point, q: Point) -> i32
     ensures range { IsWithin (pos 1048576) result }
-    ensures far { (u : Point) → IsIn span u → ((p.x ≤ℤ q.x) × (result ≤ℤ u.y)) ⊎ ((q.x ≤ℤ p.x) × (u.y ≤ℤ result)) }
+    ensures far { (u : Point) → IsIn extent.span u → ((p.x ≤ℤ q.x) × (result ≤ℤ u.y)) ⊎ ((q.x ≤ℤ p.x) × (u.y ≤ℤ result)) }
 {
-    if p.x <= q.x { span.bottom } else { span.top }
+    if p.x <= q.x {
+        extent.span.bottom
+    } else {
+        extent.span.top
+    }
 }
 
 // The corner of a box that is farthest to the right of the way from `p` to `q`.
-fn far_corner(span: Span, p: Point, q: Point) -> Point
-    requires { IsBoxInRange span }
+fn far_corner(extent: Extent, p: Point, q: Point) -> Point
     ensures range { IsInRange result }
-    ensures least { (u : Point) → IsIn span u → area p q result ≤ℤ area p q u }
+    ensures least { (u : Point) → IsIn extent.span u → area p q result ≤ℤ area p q u }
 {
     Point {
-        x: far_side(span, p, q),
-        y: far_level(span, p, q),
+        x: far_side(extent, p, q),
+        y: far_level(extent, p, q),
     }
 }
 
@@ -114,69 +126,50 @@ fn is_not_negative(z: i64) -> bool
 }
 
 // Says whether no point of a box is to the right of the way from `p` to `q`.
-fn is_left_of(span: Span, p: Point, q: Point) -> bool
-    requires span { IsBoxInRange span }
-    requires p { IsInRange p }
-    requires q { IsInRange q }
-    ensures { OnTrue result (IsLeftOf span p q) }
+fn is_left_of(extent: Extent, p: Spot, q: Spot) -> bool
+    ensures { OnTrue result (IsLeftOf extent.span p.point q.point) }
 {
-    is_not_negative(area2(p, q, far_corner(span, p, q)))
+    is_not_negative(area2(p.point, q.point, far_corner(extent, p.point, q.point)))
 }
 
 // Says whether neither the box nor `r` is to the right of the way from `p` to `q`.
-fn is_past(span: Span, r: Point, p: Point, q: Point) -> bool
-    requires span { IsBoxInRange span }
-    requires r { IsInRange r }
-    requires p { IsInRange p }
-    requires q { IsInRange q }
-    ensures { OnTrue result (MissesStar span r p q) }
+fn is_past(extent: Extent, r: Spot, p: Spot, q: Spot) -> bool
+    ensures { OnTrue result (MissesStar extent.span r.point p.point q.point) }
 {
-    is_not_negative(area2(p, q, r)) && is_left_of(span, p, q)
+    is_not_negative(area2(p.point, q.point, r.point)) && is_left_of(extent, p, q)
 }
 
 // Says whether seen from `r` both points are to the right of the box.
-fn are_to_right(span: Span, r: Point, p: Point, q: Point) -> bool
-    requires span { IsBoxInRange span }
-    requires r { IsInRange r }
-    requires p { IsInRange p }
-    requires q { IsInRange q }
-    ensures { OnTrue result (MissesStar span r p q) }
+fn are_to_right(extent: Extent, r: Spot, p: Spot, q: Spot) -> bool
+    ensures { OnTrue result (MissesStar extent.span r.point p.point q.point) }
 {
-    is_left_of(span, r, p) && is_left_of(span, r, q)
+    is_left_of(extent, r, p) && is_left_of(extent, r, q)
 }
 
 // Says whether seen from `r` both points are to the left of the box.
-fn are_to_left(span: Span, r: Point, p: Point, q: Point) -> bool
-    requires span { IsBoxInRange span }
-    requires r { IsInRange r }
-    requires p { IsInRange p }
-    requires q { IsInRange q }
-    ensures { OnTrue result (MissesStar span r p q) }
+fn are_to_left(extent: Extent, r: Spot, p: Spot, q: Spot) -> bool
+    ensures { OnTrue result (MissesStar extent.span r.point p.point q.point) }
 {
-    is_left_of(span, p, r) && is_left_of(span, q, r)
+    is_left_of(extent, p, r) && is_left_of(extent, q, r)
 }
 
 // Says whether a line surely parts the segment from `p` to `q` from the segments from `r` into a box.
-pub(crate) fn misses_star(span: Span, r: Point, p: Point, q: Point) -> bool
-    requires span { IsBoxInRange span }
-    requires r { IsInRange r }
-    requires p { IsInRange p }
-    requires q { IsInRange q }
-    ensures { OnTrue result (MissesStar span r p q) }
+pub(crate) fn misses_star(extent: Extent, r: Spot, p: Spot, q: Spot) -> bool
+    ensures { OnTrue result (MissesStar extent.span r.point p.point q.point) }
 {
-    if is_apart(widened(span, r), p, q) {
+    if is_apart(widened(extent.span, r), p, q) {
         return true;
     }
-    if are_to_right(span, r, p, q) {
+    if are_to_right(extent, r, p, q) {
         return true;
     }
-    if are_to_left(span, r, p, q) {
+    if are_to_left(extent, r, p, q) {
         return true;
     }
-    if is_past(span, r, p, q) {
+    if is_past(extent, r, p, q) {
         return true;
     }
-    is_past(span, r, q, p)
+    is_past(extent, r, q, p)
 }
 
 // Says whether a number is positive.
@@ -187,41 +180,43 @@ fn is_positive(z: i64) -> bool
 }
 
 // Says whether all points of a box are to the left of the way from `p` to `q`.
-fn is_strictly_left_of(span: Span, p: Point, q: Point) -> bool
-    requires span { IsBoxInRange span }
-    requires p { IsInRange p }
-    requires q { IsInRange q }
-    ensures { OnTrue result (IsStrictlyLeftOf span p q) }
+fn is_strictly_left_of(extent: Extent, p: Spot, q: Spot) -> bool
+    ensures { OnTrue result (IsStrictlyLeftOf extent.span p.point q.point) }
 {
-    is_positive(area2(p, q, far_corner(span, p, q)))
+    is_positive(area2(p.point, q.point, far_corner(extent, p.point, q.point)))
 }
 
 // Says whether surely no point of a box lies on the segment from `p` to `q`.
-pub(crate) fn misses_segment(span: Span, p: Point, q: Point) -> bool
-    requires span { IsBoxInRange span }
-    requires p { IsInRange p }
-    requires q { IsInRange q }
-    ensures { OnTrue result ((u : Point) → IsIn span u → ¬ IsOnSegment u p q) }
+pub(crate) fn misses_segment(extent: Extent, p: Spot, q: Spot) -> bool
+    ensures { OnTrue result ((u : Point) → IsIn extent.span u → ¬ IsOnSegment u p.point q.point) }
 {
-    if is_apart(span, p, q) {
+    if is_apart(extent.span, p, q) {
         return true;
     }
-    if is_strictly_left_of(span, p, q) {
+    if is_strictly_left_of(extent, p, q) {
         return true;
     }
-    is_strictly_left_of(span, q, p)
+    is_strictly_left_of(extent, q, p)
 }
 
 // Returns a corner of a box: on its left or its right side, at its bottom or its top.
-fn corner(span: Span, right: bool, top: bool) -> Point
-    requires { IsBoxInRange span }
-    ensures x { result.x ≡ (if right then span.right else span.left) }
-    ensures y { result.y ≡ (if top then span.top else span.bottom) }
-    ensures range { IsInRange result }
+fn corner(extent: Extent, right: bool, top: bool) -> Spot
+    ensures x { result.point.x ≡ (if right then extent.span.right else extent.span.left) }
+    ensures y { result.point.y ≡ (if top then extent.span.top else extent.span.bottom) }
 {
-    Point {
-        x: if right { span.right } else { span.left },
-        y: if top { span.top } else { span.bottom },
+    Spot {
+        point: Point {
+            x: if right {
+                extent.span.right
+            } else {
+                extent.span.left
+            },
+            y: if top {
+                extent.span.top
+            } else {
+                extent.span.bottom
+            },
+        },
     }
 }
 
@@ -233,8 +228,9 @@ pub(crate) fn joined(span: Span, other: Span) -> Span
     ensures first { (u : Point) → IsIn span u → IsIn result u }
     ensures second { (u : Point) → IsIn other u → IsIn result u }
 {
-    let wide = widened(span, corner(other, false, false));
-    widened(wide, corner(other, true, true))
+    let extent = Extent { span: other };
+    let wide = widened(span, corner(extent, false, false));
+    widened(wide, corner(extent, true, true))
 }
 
 // Says whether a box lies on one side of another.
@@ -257,56 +253,47 @@ fn are_boxes_apart(span: Span, other: Span) -> bool
 }
 
 // Says whether all points of a box are to the left of the ways from `r` to the points of another.
-fn is_left_of_ways(span: Span, r: Point, other: Span) -> bool
-    requires span { IsBoxInRange span }
-    requires r { IsInRange r }
-    requires other { IsBoxInRange other }
-    ensures { OnTrue result ((p : Point) → IsIn other p → IsStrictlyLeftOf span r p) }
+fn is_left_of_ways(extent: Extent, r: Spot, other: Extent) -> bool
+    ensures { OnTrue result ((p : Point) → IsIn other.span p → IsStrictlyLeftOf extent.span r.point p) }
 {
-    if !is_strictly_left_of(span, r, corner(other, false, false)) {
+    if !is_strictly_left_of(extent, r, corner(other, false, false)) {
         return false;
     }
-    if !is_strictly_left_of(span, r, corner(other, true, false)) {
+    if !is_strictly_left_of(extent, r, corner(other, true, false)) {
         return false;
     }
-    if !is_strictly_left_of(span, r, corner(other, false, true)) {
+    if !is_strictly_left_of(extent, r, corner(other, false, true)) {
         return false;
     }
-    is_strictly_left_of(span, r, corner(other, true, true))
+    is_strictly_left_of(extent, r, corner(other, true, true))
 }
 
 // Says whether all points of a box are to the left of the ways from the points of another to `r`.
-fn is_left_of_ways_back(span: Span, r: Point, other: Span) -> bool
-    requires span { IsBoxInRange span }
-    requires r { IsInRange r }
-    requires other { IsBoxInRange other }
-    ensures { OnTrue result ((p : Point) → IsIn other p → IsStrictlyLeftOf span p r) }
+fn is_left_of_ways_back(extent: Extent, r: Spot, other: Extent) -> bool
+    ensures { OnTrue result ((p : Point) → IsIn other.span p → IsStrictlyLeftOf extent.span p r.point) }
 {
-    if !is_strictly_left_of(span, corner(other, false, false), r) {
+    if !is_strictly_left_of(extent, corner(other, false, false), r) {
         return false;
     }
-    if !is_strictly_left_of(span, corner(other, true, false), r) {
+    if !is_strictly_left_of(extent, corner(other, true, false), r) {
         return false;
     }
-    if !is_strictly_left_of(span, corner(other, false, true), r) {
+    if !is_strictly_left_of(extent, corner(other, false, true), r) {
         return false;
     }
-    is_strictly_left_of(span, corner(other, true, true), r)
+    is_strictly_left_of(extent, corner(other, true, true), r)
 }
 
 // Says whether surely no segment in a box crosses one from `r` into another, and no point of it lies on such a one.
-pub(crate) fn misses_block(span: Span, r: Point, block: Span) -> bool
-    requires span { IsBoxInRange span }
-    requires r { IsInRange r }
-    requires block { IsBoxInRange block }
-    ensures star { OnTrue result ((p q : Point) → IsIn block p → IsIn block q → MissesStar span r p q) }
-    ensures fan { OnTrue result ((p : Point) → IsIn block p → MissesFan span r p) }
+pub(crate) fn misses_block(extent: Extent, r: Spot, block: Extent) -> bool
+    ensures star { OnTrue result ((p q : Point) → IsIn block.span p → IsIn block.span q → MissesStar extent.span r.point p q) }
+    ensures fan { OnTrue result ((p : Point) → IsIn block.span p → MissesFan extent.span r.point p) }
 {
-    if are_boxes_apart(widened(span, r), block) {
+    if are_boxes_apart(widened(extent.span, r), block.span) {
         return true;
     }
-    if is_left_of_ways(span, r, block) {
+    if is_left_of_ways(extent, r, block) {
         return true;
     }
-    is_left_of_ways_back(span, r, block)
+    is_left_of_ways_back(extent, r, block)
 }

@@ -41,24 +41,6 @@ impl Drawing<'_> {
         sums[face.0 as usize] += i128::from(area);
     }
 
-    // Adds what the darts round `v` sweep, from its first dart on.
-    fn add_round(&self, faces: &Faces, sums: &mut [i128], v: VertexId, first: DartId)
-        requires faces { AreFaces self.now.map.now faces.now }
-        requires first { dart_at self.now.map.now first.0 ≡ Some (first_dart self.now.map.now.lists v.0) }
-        requires sums { AreSumsBelow self.now.map.now self.now.points.now faces.now (darts_before self.now.map.now.lists v.0) sums.old }
-        ensures { AreSumsBelow self.now.map.now self.now.points.now faces.now (darts_before self.now.map.now.lists (v.0 + 1)) sums.new }
-    {
-        self.map.facts();
-        let mut d = first;
-        'round: loop {
-            self.add_dart(faces, sums, d);
-            d = self.map.next(d);
-            if d.0 == first.0 {
-                return;
-            }
-        }
-    }
-
     // Adds what the darts from `v` sweep.
     fn add_vertex(&self, faces: &Faces, sums: &mut [i128], v: VertexId)
         requires faces { AreFaces self.now.map.now faces.now }
@@ -66,8 +48,17 @@ impl Drawing<'_> {
         requires sums { AreSumsBelow self.now.map.now self.now.points.now faces.now (darts_before self.now.map.now.lists v.0) sums.old }
         ensures { AreSumsBelow self.now.map.now self.now.points.now faces.now (darts_before self.now.map.now.lists (v.0 + 1)) sums.new }
     {
-        if let Some(first) = self.map.first_dart(v) {
-            self.add_round(faces, sums, v, first);
+        self.map.facts();
+        let Some(first) = self.map.first_dart(v) else {
+            return;
+        };
+        let mut d = first;
+        'round: loop {
+            self.add_dart(faces, sums, d);
+            d = self.map.next(d);
+            if d.0 == first.0 {
+                return;
+            }
         }
     }
 

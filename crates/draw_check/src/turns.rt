@@ -3,7 +3,7 @@ ghost use Rattle.std.specs.Prelude.{◌≡◌, ◌+◌, ◌<◌, ◌≤◌, ◌�
 ghost use Rattle.map_theory.specs.Maps.{list_of};
 ghost use Rattle.half_edges.specs.Map.{IsLive};
 ghost use Rattle.pg_plane.specs.Geometry.{vector, IsClockBefore};
-ghost use Rattle.pg_plane.specs.Range.{IsInRange, IsDirection};
+ghost use Rattle.pg_plane.specs.Range.{IsDirection};
 ghost use Rattle.plane_drawings.specs.Drawing.{place, GoesOnceRound, KeepsRotations};
 ghost use Rattle.vertex_rounds.specs.Least.{IsLeast};
 ghost use Rattle.vertex_rounds.specs.Rounds.{HoldsAt};
@@ -11,21 +11,19 @@ ghost use Rattle.draw_check.specs.Faults.{IsTurned};
 ghost use Rattle.draw_check.specs.Loops.{Breaks};
 
 use crate::drawing::Drawing;
-use crate::places::place_at;
+use crate::places::Spot;
 use half_edges::{DartId, VertexId};
 use pg_plane::{Point, clock_before};
 use vertex_rounds::turns_once;
 
 // The direction from one point to another.
-fn direction(a: Point, b: Point) -> Point
-    requires a { IsInRange a }
-    requires b { IsInRange b }
-    ensures vector { result ≡ vector a b }
+fn direction(a: Spot, b: Spot) -> Point
+    ensures vector { result ≡ vector a.point b.point }
     ensures range { IsDirection result }
 {
     Point {
-        x: b.x - a.x,
-        y: b.y - a.y,
+        x: b.point.x - a.point.x,
+        y: b.point.y - a.point.y,
     }
 }
 
@@ -38,9 +36,9 @@ impl Drawing<'_> {
         ensures { IsTrue result ↔ (¬ IsClockBefore (vector (place self.now.points.now v.0) (place self.now.points.now u.0))
             (vector (place self.now.points.now v.0) (place self.now.points.now w.0))) }
     {
-        let center = place_at(self.points, v);
-        let to_u = direction(center, place_at(self.points, u));
-        let to_w = direction(center, place_at(self.points, w));
+        let center = self.spot(v);
+        let to_u = direction(center, self.spot(u));
+        let to_w = direction(center, self.spot(w));
         !clock_before(to_u, to_w)
     }
 

@@ -36,22 +36,13 @@ fn greater(u: i32, v: i32) -> i32
     u.max(v)
 }
 
-// Returns the greatest number so far, with number `i` beside those before.
-fn greatest_with(best: i32, list: &Ints, i: usize) -> i32
-    requires { i < length list.now }
-    ensures { best ≡ the_greatest (take i list.now) → result ≡ the_greatest (take (i + 1) list.now) }
-{
-    let next = number_in(list, i);
-    greater(best, next)
-}
-
 // Returns the greatest of 0 and some numbers.
 pub(crate) fn greatest(list: &Ints) -> i32
     ensures { result ≡ the_greatest list.now }
 {
     let mut best = 0;
     for i in 0..list.len() {
-        best = greatest_with(best, list, i);
+        best = greater(best, number_in(list, i));
     }
     best
 }

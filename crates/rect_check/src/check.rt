@@ -68,29 +68,19 @@ impl Rects<'_> {
         }
     }
 
-    // Returns the first fault of the frame.
-    fn first_of_frame(&self) -> RectVerdict
-        requires apart { NoneMeet self.now.map.now.lists self.now.fig.now }
-        requires fill { DoFill self.now.map.now.lists self.now.fig.now }
-        requires contacts { HasContacts self.now.map.now.lists self.now.fig.now }
-        ensures { IsRectVerdict self.now.map.now.lists self.now.fig.now result }
-    {
-        match outer_four(self.map) {
-            Some(found) => match first_unframed(self.fig, found) {
-                Some(v) => RectVerdict::Frame(v),
-                None => RectVerdict::Yes,
-            },
-            None => RectVerdict::NoFrame,
-        }
-    }
-
     // Returns the first fault of pairs, areas and frame.
     fn first_fault(&self) -> RectVerdict
         ensures { IsRectVerdict self.now.map.now.lists self.now.fig.now result }
     {
-        match self.first_of_pairs() {
-            Some(verdict) => verdict,
-            None => self.first_of_frame(),
+        if let Some(verdict) = self.first_of_pairs() {
+            return verdict;
+        }
+        let Some(found) = outer_four(self.map) else {
+            return RectVerdict::NoFrame;
+        };
+        match first_unframed(self.fig, found) {
+            Some(v) => RectVerdict::Frame(v),
+            None => RectVerdict::Yes,
         }
     }
 }

@@ -7,7 +7,7 @@ ghost use Rattle.rect_check.specs.Loops.{AreFour, IsRoundOfFour, IsFrame};
 
 use crate::areas::greatest;
 use crate::rects::number;
-use half_edges::{DartId, HalfMap, VertexId};
+use half_edges::{HalfMap, VertexId};
 use pg_plane::RectFigure;
 
 /// The vertices behind vertex 0 on an outer face of four.
@@ -21,38 +21,13 @@ pub struct OuterFour {
     pub bottom: VertexId,
 }
 
-// Says whether `d`, `p` and `q` are three vertices other than 0.
-fn are_four(d: VertexId, p: VertexId, q: VertexId) -> bool
-    ensures { IsTrue result ↔ AreFour d.0 p.0 q.0 }
+// Says whether a walk that passes 0, the three vertices of a frame, `s` and `e` is at 0 and the first of these again,
+// past four vertices.
+fn is_round_of_four(frame: OuterFour, s: VertexId, e: VertexId) -> bool
+    ensures { IsTrue result ↔ IsRoundOfFour frame.top.0 frame.right.0 frame.bottom.0 s.0 e.0 }
 {
-    0 != d.0 && 0 != p.0 && 0 != q.0 && d.0 != p.0 && d.0 != q.0 && p.0 != q.0
-}
-
-// Says whether a walk that passes 0, `d`, `p`, `q`, `s` and `e` is at 0 and `d` again, past four vertices.
-fn is_round_of_four(d: VertexId, p: VertexId, q: VertexId, s: VertexId, e: VertexId) -> bool
-    ensures { IsTrue result ↔ IsRoundOfFour d.0 p.0 q.0 s.0 e.0 }
-{
-    s.0 == 0 && e.0 == d.0 && are_four(d, p, q)
-}
-
-// The frame, if the face of the dart `first` from vertex 0 is walked by four darts over four vertices.
-fn frame_from(map: &HalfMap, first: DartId) -> Option<OuterFour>
-    requires first { dart_at map.now first.0 ≡ Some (first_dart map.now.lists 0) }
-    ensures { MatchOption result (¬ HasFrame map.now.lists) (λ f. IsFrame map.now.lists f.top.0 f.right.0 f.bottom.0) }
-{
-    map.facts();
-    let second = map.face_step(first);
-    let third = map.face_step(second);
-    let fourth = map.face_step(third);
-    let fifth = map.face_step(fourth);
-    let top = map.head(first);
-    let right = map.head(second);
-    let bottom = map.head(third);
-    if is_round_of_four(top, right, bottom, map.head(fourth), map.head(fifth)) {
-        Some(OuterFour { top, right, bottom })
-    } else {
-        None
-    }
+    let (d, p, q) = (frame.top.0, frame.right.0, frame.bottom.0);
+    s.0 == 0 && e.0 == d && 0 != d && 0 != p && 0 != q && d != p && d != q && p != q
 }
 
 /// Returns the vertices of the outer face after vertex 0, where vertex 0 has a neighbour and the face of the dart to
@@ -61,9 +36,21 @@ pub fn outer_four(map: &HalfMap) -> Option<OuterFour>
     ensures { MatchOption result (¬ HasFrame map.now.lists) (λ f. IsFrame map.now.lists f.top.0 f.right.0 f.bottom.0) }
 {
     map.facts();
-    match map.first_dart(VertexId(0)) {
-        Some(first) => frame_from(map, first),
-        None => None,
+    let Some(first) = map.first_dart(VertexId(0)) else {
+        return None;
+    };
+    let second = map.face_step(first);
+    let third = map.face_step(second);
+    let fourth = map.face_step(third);
+    let fifth = map.face_step(fourth);
+    let top = map.head(first);
+    let right = map.head(second);
+    let bottom = map.head(third);
+    let frame = OuterFour { top, right, bottom };
+    if is_round_of_four(frame, map.head(fourth), map.head(fifth)) {
+        Some(frame)
+    } else {
+        None
     }
 }
 
@@ -72,20 +59,6 @@ fn is_wide(fig: &RectFigure, v: VertexId) -> bool
     ensures { IsTrue result ↔ IsAsWide fig.now v.0 }
 {
     number(&fig.x1, v) == 0 && number(&fig.x2, v) == greatest(&fig.x2)
-}
-
-// Says whether it is at the left end.
-fn is_leftmost(fig: &RectFigure, v: VertexId) -> bool
-    ensures { IsTrue result ↔ IsLeftmost fig.now v.0 }
-{
-    number(&fig.x1, v) == 0
-}
-
-// Says whether it is at the right end.
-fn is_rightmost(fig: &RectFigure, v: VertexId) -> bool
-    ensures { IsTrue result ↔ IsRightmost fig.now v.0 }
-{
-    number(&fig.x2, v) == greatest(&fig.x2)
 }
 
 // Says whether it reaches along the top.
@@ -107,13 +80,13 @@ pub(crate) fn first_unframed(fig: &RectFigure, frame: OuterFour) -> Option<Verte
     ensures { MatchOption result (IsFramed fig.now 0 frame.top.0 frame.right.0 frame.bottom.0)
         (λ v. IsFirstUnframed fig.now 0 frame.top.0 frame.right.0 frame.bottom.0 v.0) }
 {
-    if !is_leftmost(fig, VertexId(0)) {
+    if number(&fig.x1, VertexId(0)) != 0 {
         return Some(VertexId(0));
     }
     if !is_top(fig, frame.top) {
         return Some(frame.top);
     }
-    if !is_rightmost(fig, frame.right) {
+    if number(&fig.x2, frame.right) != greatest(&fig.x2) {
         return Some(frame.right);
     }
     if is_bottom(fig, frame.bottom) {

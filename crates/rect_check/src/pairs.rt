@@ -13,22 +13,8 @@ use crate::sides::{are_adjacent, do_meet, share_side};
 use half_edges::VertexId;
 
 impl Rects<'_> {
-    // Returns the least vertex after `u` whose rectangle meets that of `u`.
-    fn first_meet_with(&self, u: VertexId) -> Option<VertexId>
-        requires vertex { u.0 < length self.now.map.now.lists }
-        ensures { MatchOption result ((v : ℕ) → ¬ RectsMeet self.now.map.now.lists self.now.fig.now u.0 v)
-            (λ v. IsLeast (RectsMeet self.now.map.now.lists self.now.fig.now u.0) v.0) }
-    {
-        self.map.facts();
-        for v in u.0 + 1..self.map.n() {
-            if do_meet(self.fig, u, VertexId(v)) {
-                return Some(VertexId(v));
-            }
-        }
-        None
-    }
-
-    // Returns that vertex, where each vertex has a mark whose rectangle meets that of a greater one.
+    // Returns the least vertex after `u` whose rectangle meets that of `u`, where each vertex has a mark whose rectangle
+    // meets that of a greater one.
     fn first_meet_at(&self, marks: &[bool], u: VertexId) -> Option<VertexId>
         requires vertex { u.0 < length self.now.map.now.lists }
         requires marks { length marks.now ≡ length self.now.map.now.lists }
@@ -36,11 +22,16 @@ impl Rects<'_> {
         ensures { MatchOption result ((v : ℕ) → ¬ RectsMeet self.now.map.now.lists self.now.fig.now u.0 v)
             (λ v. IsLeast (RectsMeet self.now.map.now.lists self.now.fig.now u.0) v.0) }
     {
-        if marks[u.0 as usize] {
-            self.first_meet_with(u)
-        } else {
-            None
+        if !marks[u.0 as usize] {
+            return None;
         }
+        self.map.facts();
+        for v in u.0 + 1..self.map.n() {
+            if do_meet(self.fig, u, VertexId(v)) {
+                return Some(VertexId(v));
+            }
+        }
+        None
     }
 
     // Returns the least two rectangles that meet. Only of a vertex with a mark all pairs are tried.
@@ -72,22 +63,8 @@ impl Rects<'_> {
         }
     }
 
-    // Returns the least vertex after `u` with a wrong contact.
-    fn first_wrong_with(&self, u: VertexId) -> Option<VertexId>
-        requires vertex { u.0 < length self.now.map.now.lists }
-        ensures { MatchOption result ((v : ℕ) → u.0 < v → v < length self.now.map.now.lists → ShareSide self.now.fig.now u.0 v ↔ HasDart self.now.map.now.lists u.0 v)
-            (λ v. IsLeast (HasWrongContact self.now.map.now.lists self.now.fig.now u.0) v.0) }
-    {
-        self.map.facts();
-        for v in u.0 + 1..self.map.n() {
-            if !self.is_right(u, VertexId(v)) {
-                return Some(VertexId(v));
-            }
-        }
-        None
-    }
-
-    // Returns that vertex, where a vertex without a mark is adjacent to those that share a side with it.
+    // Returns the least vertex after `u` with a wrong contact, where a vertex without a mark is adjacent to those that
+    // share a side with it.
     fn first_wrong_at(&self, marks: &[bool], u: VertexId) -> Option<VertexId>
         requires vertex { u.0 < length self.now.map.now.lists }
         requires marks { length marks.now ≡ length self.now.map.now.lists }
@@ -95,11 +72,16 @@ impl Rects<'_> {
         ensures { MatchOption result ((v : ℕ) → u.0 < v → v < length self.now.map.now.lists → ShareSide self.now.fig.now u.0 v ↔ HasDart self.now.map.now.lists u.0 v)
             (λ v. IsLeast (HasWrongContact self.now.map.now.lists self.now.fig.now u.0) v.0) }
     {
-        if marks[u.0 as usize] {
-            self.first_wrong_with(u)
-        } else {
-            self.first_missed_with(u)
+        if !marks[u.0 as usize] {
+            return self.first_missed_with(u);
         }
+        self.map.facts();
+        for v in u.0 + 1..self.map.n() {
+            if !self.is_right(u, VertexId(v)) {
+                return Some(VertexId(v));
+            }
+        }
+        None
     }
 
     // Returns the least two vertices with a wrong contact. Only of a vertex with a mark all pairs are tried.

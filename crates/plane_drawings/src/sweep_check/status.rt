@@ -17,13 +17,16 @@ pub(crate) struct Gap {
     pub(crate) end: usize,
 }
 
-// The points of the vertices in the order of a sweep, and the vertex that it is at, by its place there.
+// The points of the vertices in the order of a sweep, and the vertex that it is at, by its place there, with the lines
+// that begin at it.
 #[derive(Clone, Copy)]
 pub(crate) struct AtVertex<'a> {
     pub(crate) places: &'a [Point],
     pub(crate) v: u16,
+    pub(crate) fresh: &'a [Line],
     pub(crate) ghost in_range: { All IsInRange places.now },
     pub(crate) ghost vertex: { v < length places.now },
+    pub(crate) ghost lines: { All (IsLine (length places.now)) fresh.now },
 }
 
 // The end of the run of lines that end at the vertex, of those from `begin` on.
@@ -129,15 +132,14 @@ impl AtVertex<'_> {
         end == status.len() || rise(self.places, status[end], self.v) < 0
     }
 
-    // Whether each line from `begin` on before `end`, with the next one, ends in its order; if not, the ends of
-    // two that do not are suspects.
-    fn all_end_apart(&self, status: &[Line], begin: usize, end: usize, suspects: &mut [u16]) -> bool
+    // Whether each line from `begin` on, with the next one, ends in its order; if not, the ends of two that do not are
+    // suspects.
+    fn all_end_apart(&self, status: &[Line], begin: usize, suspects: &mut [u16]) -> bool
         requires lines { All (IsLine (length self.now.places.now)) status.now }
-        requires within { end ≤ length status.now }
-        ensures { OnTrue result ((k : ℕ) (d : Line) → begin ≤ k → k < end → k + 1 < length status.now
+        ensures { OnTrue result ((k : ℕ) (d : Line) → begin ≤ k → k + 1 < length status.now
             → Ends (place self.now.places.now) (slice_index_or status.now k d) (slice_index_or status.now (k + 1) d)) }
     {
-        for k in begin..end {
+        for k in begin..status.len() {
             if k + 1 < status.len() && !end_apart(self.places, status[k], status[k + 1]) {
                 suspect(suspects, status[k], status[k + 1]);
                 return false;
@@ -166,26 +168,19 @@ impl AtVertex<'_> {
         false
     }
 
-    // Takes the lines round a gap over the vertex at place `v`, at which the lines `fresh` begin, where the gap
-    // is behind the lines that the vertex is above: the gap afterwards, or None where a test fails or there is
-    // no room. Where one fails, the ends of the lines at fault are suspects.
-    fn pass(
-        &self,
-        status: &mut [Line],
-        gap: Gap,
-        fresh: &[Line],
-        suspects: &mut [u16],
-    ) -> Option<Gap>
+    // Takes the lines round a gap over the vertex, where the gap is behind the lines that the vertex is above: the gap
+    // afterwards, or None where a test fails or there is no room. Where one fails, the ends of the lines at fault are
+    // suspects.
+    fn pass(&self, status: &mut [Line], gap: Gap, suspects: &mut [u16]) -> Option<Gap>
         requires order { gap.begin ≤ gap.end }
         requires within { gap.end ≤ length status.old }
         requires lines { All (IsLine (length self.now.places.now)) (around gap.begin gap.end status.old) }
-        requires fresh { All (IsLine (length self.now.places.now)) fresh.now }
         ensures order { IfSome result (λ g. (g.begin ≤ g.end) × (g.end ≤ length status.new)) }
-        ensures passed { IfSome result (λ g. IsPassed (place self.now.places.now) self.now.v fresh.now (around gap.begin gap.end status.old) (around g.begin g.end status.new)) }
+        ensures passed { IfSome result (λ g. IsPassed (place self.now.places.now) self.now.v self.now.fresh.now (around gap.begin gap.end status.old) (around g.begin g.end status.new)) }
     {
         let lines = &status[..];
         let end = gap.end + run_end(&lines[gap.end..], 0, self.v);
-        let begin = gap.begin + fresh.len();
+        let begin = gap.begin + self.fresh.len();
         if end < begin {
             return None;
         }
@@ -196,14 +191,9 @@ impl AtVertex<'_> {
             suspect_first(suspects, &lines[end..], self.v);
             return None;
         }
-        status[gap.begin..begin].copy_from_slice(fresh);
+        status[gap.begin..begin].copy_from_slice(self.fresh);
         let lines = &status[..];
-        if !self.all_end_apart(
-            &lines[..begin],
-            gap.begin.saturating_sub(1),
-            begin,
-            suspects,
-        ) {
+        if !self.all_end_apart(&lines[..begin], gap.begin.saturating_sub(1), suspects) {
             return None;
         }
         if self.is_seam_apart(&lines[..begin], &lines[end..], suspects) {
@@ -214,23 +204,16 @@ impl AtVertex<'_> {
     }
 
     // Takes the lines round a gap over the vertex as `pass` does, wherever the gap is.
-    pub(crate) fn step(
-        &self,
-        status: &mut [Line],
-        gap: Gap,
-        fresh: &[Line],
-        suspects: &mut [u16],
-    ) -> Option<Gap>
+    pub(crate) fn step(&self, status: &mut [Line], gap: Gap, suspects: &mut [u16]) -> Option<Gap>
         requires order { gap.begin ≤ gap.end }
         requires within { gap.end ≤ length status.old }
         requires lines { All (IsLine (length self.now.places.now)) (around gap.begin gap.end status.old) }
-        requires fresh { All (IsLine (length self.now.places.now)) fresh.now }
         ensures order { IfSome result (λ g. (g.begin ≤ g.end) × (g.end ≤ length status.new)) }
-        ensures passed { IfSome result (λ g. IsPassed (place self.now.places.now) self.now.v fresh.now (around gap.begin gap.end status.old) (around g.begin g.end status.new)) }
+        ensures passed { IfSome result (λ g. IsPassed (place self.now.places.now) self.now.v self.now.fresh.now (around gap.begin gap.end status.old) (around g.begin g.end status.new)) }
     {
         let lines = &status[..];
         let begin = self.count_around(&lines[..gap.begin], &lines[gap.end..]);
         let end = move_gap(status, gap, begin);
-        self.pass(status, Gap { begin, end }, fresh, suspects)
+        self.pass(status, Gap { begin, end }, suspects)
     }
 }

@@ -3,8 +3,8 @@ use Rattle.draw_check.proofs.spans.is_apart.Goals as goal
 
 pub returns-then-are_greater : goal.returns-then-are_greater
 returns-then-are_greater c =
-    let p : FitsSigned w32 c.args.p.x = search rules in
-    let q : FitsSigned w32 c.args.q.x = search rules in
+    let p : FitsSigned w32 c.args.p.point.x = search rules in
+    let q : FitsSigned w32 c.args.q.point.x = search rules in
     let bound : FitsSigned w32 c.args.span.right = search rules in
     let h = c.are_greater.ensures.0 c.if-are_greater.true in
     let there = simp to_z-of_z at h in
@@ -12,8 +12,8 @@ returns-then-are_greater c =
 
 pub returns-then-are_less-2 : goal.returns-then-are_less-2
 returns-then-are_less-2 c =
-    let p : FitsSigned w32 c.args.p.y = search rules in
-    let q : FitsSigned w32 c.args.q.y = search rules in
+    let p : FitsSigned w32 c.args.p.point.y = search rules in
+    let q : FitsSigned w32 c.args.q.point.y = search rules in
     let bound : FitsSigned w32 c.args.span.bottom = search rules in
     let h = c.are_less-2.ensures.0 c.if-are_less-2.true in
     let there = simp to_z-of_z at h in
@@ -21,8 +21,8 @@ returns-then-are_less-2 c =
 
 pub returns-then-are_greater-2 : goal.returns-then-are_greater-2
 returns-then-are_greater-2 c =
-    let p : FitsSigned w32 c.args.p.y = search rules in
-    let q : FitsSigned w32 c.args.q.y = search rules in
+    let p : FitsSigned w32 c.args.p.point.y = search rules in
+    let q : FitsSigned w32 c.args.q.point.y = search rules in
     let bound : FitsSigned w32 c.args.span.top = search rules in
     let h = c.are_greater-2.ensures.0 c.if-are_greater-2.true in
     let there = simp to_z-of_z at h in

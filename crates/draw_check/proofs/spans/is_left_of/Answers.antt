@@ -6,5 +6,5 @@ use Rattle.draw_check.proofs.spans.is_left_of.Goals as goal
 
 pub returns : goal.returns
 returns c =
-    OnTrue_from c.is_not_negative.result (IsLeftOf c.args.span c.args.p c.args.q)
+    OnTrue_from c.is_not_negative.result (IsLeftOf c.args.extent.span c.args.p.point c.args.q.point)
     (λ t u inside. let up = c.is_not_negative.ensures.0 t in let least = c.far_corner.ensures.least u inside in let area = c.area2.ensures in omega (arith, ints))

@@ -5,7 +5,7 @@ use Rattle.draw_check.proofs.spans.misses_star.Goals as goal
 
 pub returns-then-is_apart : goal.returns-then-is_apart
 returns-then-is_apart c = λ u inside.
-    apart_uncrossed c.widened.result c.args.p c.args.q c.args.r u (OnTrue_at c.if-is_apart.true c.is_apart.ensures) c.widened.ensures.point (c.widened.ensures.more u inside)
+    apart_uncrossed c.widened.result c.args.p.point c.args.q.point c.args.r.point u (OnTrue_at c.if-is_apart.true c.is_apart.ensures) c.widened.ensures.point (c.widened.ensures.more u inside)
 
 pub returns : goal.returns
-returns c = OnTrue_from c.is_past-2.result (MissesStar c.args.span c.args.r c.args.p c.args.q) (λ t. missed_back c.args.span c.args.r c.args.p c.args.q (OnTrue_at t c.is_past-2.ensures))
+returns c = OnTrue_from c.is_past-2.result (MissesStar c.args.extent.span c.args.r.point c.args.p.point c.args.q.point) (λ t. missed_back c.args.extent.span c.args.r.point c.args.p.point c.args.q.point (OnTrue_at t c.is_past-2.ensures))

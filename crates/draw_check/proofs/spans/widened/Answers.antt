@@ -32,8 +32,8 @@ returns-clause-more c = λ u inside.
 
 pub returns-clause-range : goal.returns-clause-range
 returns-clause-range c =
-    let span = c.requires.span in
-    let p = c.requires.p in
+    let span = c.requires in
+    let p = c.args.p.range in
     let n = pos 1048576 in
     let left : FitsSigned w32 c.min.result = search rules in
     let right : FitsSigned w32 c.max.result = search rules in
@@ -43,15 +43,15 @@ returns-clause-range c =
     let r : FitsSigned w32 c.args.span.right = search rules in
     let b : FitsSigned w32 c.args.span.bottom = search rules in
     let t : FitsSigned w32 c.args.span.top = search rules in
-    let x : FitsSigned w32 c.args.p.x = search rules in
-    let y : FitsSigned w32 c.args.p.y = search rules in
+    let x : FitsSigned w32 c.args.p.point.x = search rules in
+    let y : FitsSigned w32 c.args.p.point.y = search rules in
     let left_is = simp to_z-of_z at c.min.ensures.value in
     let right_is = simp to_z-of_z at c.max.ensures.value in
     let bottom_is = simp to_z-of_z at c.min-2.ensures.value in
     let top_is = simp to_z-of_z at c.max-2.ensures.value in
     rw (to_z-of_z left, to_z-of_z right, to_z-of_z bottom, to_z-of_z top) (record {
-      left = subst (IsWithin n) (sym left_is) (within-min n c.args.span.left c.args.p.x span.left p.x);
-      right = subst (IsWithin n) (sym right_is) (within-max n c.args.span.right c.args.p.x span.right p.x);
-      bottom = subst (IsWithin n) (sym bottom_is) (within-min n c.args.span.bottom c.args.p.y span.bottom p.y);
-      top = subst (IsWithin n) (sym top_is) (within-max n c.args.span.top c.args.p.y span.top p.y);
+      left = subst (IsWithin n) (sym left_is) (within-min n c.args.span.left c.args.p.point.x span.left p.x);
+      right = subst (IsWithin n) (sym right_is) (within-max n c.args.span.right c.args.p.point.x span.right p.x);
+      bottom = subst (IsWithin n) (sym bottom_is) (within-min n c.args.span.bottom c.args.p.point.y span.bottom p.y);
+      top = subst (IsWithin n) (sym top_is) (within-max n c.args.span.top c.args.p.point.y span.top p.y);
     })

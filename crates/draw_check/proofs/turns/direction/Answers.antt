@@ -4,12 +4,12 @@ use Rattle.draw_check.proofs.turns.direction.Goals as goal
 
 pub returns-clause-vector : goal.returns-clause-vector
 returns-clause-vector c =
-    let ra = c.requires.a in
-    let rb = c.requires.b in
-    let ax : FitsSigned w32 c.args.a.x = search rules in
-    let ay : FitsSigned w32 c.args.a.y = search rules in
-    let bx : FitsSigned w32 c.args.b.x = search rules in
-    let by_ : FitsSigned w32 c.args.b.y = search rules in
-    let dx : FitsSigned w32 (c.args.b.x -ℤ c.args.a.x) = omega (arith, ints) in
-    let dy : FitsSigned w32 (c.args.b.y -ℤ c.args.a.y) = omega (arith, ints) in
+    let ra = c.args.a.range in
+    let rb = c.args.b.range in
+    let ax : FitsSigned w32 c.args.a.point.x = search rules in
+    let ay : FitsSigned w32 c.args.a.point.y = search rules in
+    let bx : FitsSigned w32 c.args.b.point.x = search rules in
+    let by_ : FitsSigned w32 c.args.b.point.y = search rules in
+    let dx : FitsSigned w32 (c.args.b.point.x -ℤ c.args.a.point.x) = omega (arith, ints) in
+    let dy : FitsSigned w32 (c.args.b.point.y -ℤ c.args.a.point.y) = omega (arith, ints) in
     simp to_z-of_z

@@ -1,5 +1,4 @@
 use Rattle.std.proofs.Common.{ℕ, ◌<◌, sym, subst, ◌∙◌}
-use Rattle.vertex_rounds.specs.Rounds.{dart_of}
 use Rattle.vertex_rounds.proofs.DartIds.{head_is, tail_is}
 use Rattle.bar_check.specs.Loops.{IsBlocked}
 use Rattle.bar_check.proofs.drawing.LesserEnd.leads_to_blocked.Goals as goal

@@ -21,4 +21,4 @@ returns-clause-reach c =
     let heads = take c.star_heads-count.result c.star_heads-count.new.heads in
     reaches_from c.args.self.now.map.now.lists c.args.self.now.points.now c.args.v.0 heads c.run_of-span.result c.widened.result c.star_heads-count.ensures.heads
     (λ i l. c.run_of-span.ensures.holds i (omega arith) (omega (arith, l, length-take-le c.star_heads-count.result c.star_heads-count.new.heads c.star_heads-count.ensures.count)))
-    (subst (IsIn c.widened.result) c.place_at.ensures c.widened.ensures.point) c.widened.ensures.more
+    (subst (IsIn c.widened.result) c.spot.ensures c.widened.ensures.point) c.widened.ensures.more

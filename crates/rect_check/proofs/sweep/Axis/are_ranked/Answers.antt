@@ -7,11 +7,11 @@ use Rattle.rect_check.proofs.SweepLemmas.{AreRanked-from_order, AreLast-none}
 use Rattle.rect_check.proofs.RunLemmas.{zero_past}
 use Rattle.rect_check.proofs.sweep.Axis.are_ranked.Goals as goal
 
-pub follow_all-requires-clause-vertices : goal.follow_all-requires-clause-vertices
-follow_all-requires-clause-vertices c =
+pub invariant_of-follow_all : goal.invariant_of-follow_all
+invariant_of-follow_all c =
     let each = OnTrue_at c.if-not-sort_by_corners.false c.sort_by_corners.ensures.sorted in
     let n = length c.args.self.now.map.now.lists in
-    All-from_get_or (λ v. v < n) c.sort_by_corners.new.order 0 (λ i l. let e = each.below i l in omega (arith, e, c.requires.order))
+    record { vertices = All-from_get_or (λ v. v < n) c.sort_by_corners.new.order 0 (λ i l. let e = each.below i l in omega (arith, e, c.requires.order)) }
 
 pub follow_all-requires-clause-last : goal.follow_all-requires-clause-last
 follow_all-requires-clause-last c =

@@ -22,30 +22,33 @@ is_below-requires-clause-lines c =
     let upper = All-append-right P (take c.args.gap.begin status) (drop c.args.gap.end status) c.requires.lines in
     All-take P (length status - end) (drop end status) (subst (All P) (rest status c.args.gap.end c.run_end.result) (All-drop P c.run_end.result (drop c.args.gap.end status) upper))
 
-pub all_end_apart-requires-clause-lines : goal.all_end_apart-requires-clause-lines
-all_end_apart-requires-clause-lines c =
+pub all_end_apart-requires : goal.all_end_apart-requires
+all_end_apart-requires c =
     let status = c.args.status.now in
     let P = IsLine (length c.args.self.now.places.now) in
     let begin = c.args.gap.begin in
-    let fresh = c.args.fresh.now in
-    rw (c.copy_from_slice.ensures.after)
-    (subst (All P) (sym (filled_front status fresh begin (omega arith))) (All-append P (take begin status) fresh (All-append-left P (take begin status) (drop c.args.gap.end status) c.requires.lines) c.requires.fresh))
+    let fresh = c.args.self.now.fresh.now in
+    record {
+      lines =
+          rw (c.copy_from_slice.ensures.after)
+          (subst (All P) (sym (filled_front status fresh begin (omega arith))) (All-append P (take begin status) fresh (All-append-left P (take begin status) (drop c.args.gap.end status) c.requires.lines) c.args.self.now.lines));
+    }
 
 pub is_seam_apart-requires-clause-lower : goal.is_seam_apart-requires-clause-lower
 is_seam_apart-requires-clause-lower c =
     let status = c.args.status.now in
     let P = IsLine (length c.args.self.now.places.now) in
     let begin = c.args.gap.begin in
-    let fresh = c.args.fresh.now in
+    let fresh = c.args.self.now.fresh.now in
     rw (c.copy_from_slice.ensures.after)
-    (subst (All P) (sym (filled_front status fresh begin (omega arith))) (All-append P (take begin status) fresh (All-append-left P (take begin status) (drop c.args.gap.end status) c.requires.lines) c.requires.fresh))
+    (subst (All P) (sym (filled_front status fresh begin (omega arith))) (All-append P (take begin status) fresh (All-append-left P (take begin status) (drop c.args.gap.end status) c.requires.lines) c.args.self.now.lines))
 
 pub is_seam_apart-requires-clause-upper : goal.is_seam_apart-requires-clause-upper
 is_seam_apart-requires-clause-upper c =
     let status = c.args.status.now in
     let P = IsLine (length c.args.self.now.places.now) in
     let begin = c.args.gap.begin in
-    let fresh = c.args.fresh.now in
+    let fresh = c.args.self.now.fresh.now in
     let end = c.args.gap.end + c.run_end.result in
     let upper = All-append-right P (take begin status) (drop c.args.gap.end status) c.requires.lines in
     let all = subst (All P) (rest status c.args.gap.end c.run_end.result) (All-drop P c.run_end.result (drop c.args.gap.end status) upper) in
@@ -56,7 +59,7 @@ pub returns-then-is_seam_apart-clause-passed : goal.returns-then-is_seam_apart-c
 returns-then-is_seam_apart-clause-passed c =
     let status = c.args.status.now in
     let begin = c.args.gap.begin in
-    let fresh = c.args.fresh.now in
+    let fresh = c.args.self.now.fresh.now in
     let end = c.args.gap.end + c.run_end.result in
     let written = c.copy_from_slice.ensures.after in
     let new = put_mid begin (begin + length fresh - begin) status c.copy_from_slice.new.self in
@@ -65,4 +68,4 @@ returns-then-is_seam_apart-clause-passed c =
     let back : drop end new ≡ drop end status = ap (λ (us : List Line). drop end (put_mid begin (begin + length fresh - begin) status us)) written ∙ filled_back status fresh begin end (omega arith) within in
     passed_gap (place c.args.self.now.places.now) c.args.self.now.v status new fresh _ _ _ begin c.args.gap.end c.run_end.result (omega arith) within front back
     (take_rest status c.args.gap.end) (take_rest status end) (take_rest new end ∙ back)
-    c.run_end.ensures.run c.if-not-is_above.ensures c.if-not-is_below.ensures (λ k d first. c.if-not-all_end_apart.ensures k d (omega arith)) c.if-is_seam_apart.ensures
+    c.run_end.ensures.run c.if-not-is_above.ensures c.if-not-is_below.ensures (λ k d first last. c.if-not-all_end_apart.ensures k d (omega arith)) c.if-is_seam_apart.ensures

@@ -1,9 +1,0 @@
-use Rattle.std.proofs.Common.{ℕ, ◌+◌, ◌-◌, ◌<◌, ◌≤◌}
-use Rattle.bar_check.specs.Reach.{IsPassed}
-use Rattle.bar_check.proofs.reach.passes_between.Given as goal
-
-abbrev pub invariant-loop-k : goal.invariant-loop-k
-invariant-loop-k l = (x : ℕ) → l.left ≤ x → x < l.k → IsPassed l.h x l.peaks l.blocks l.superblocks
-
-abbrev pub decreases-loop-k : goal.decreases-loop-k
-decreases-loop-k l = l.right + 1 - l.k

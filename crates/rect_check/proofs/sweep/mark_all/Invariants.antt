@@ -1,6 +1,0 @@
-use Rattle.std.proofs.Common.{ℕ, ◌<◌}
-use Rattle.rect_check.specs.Loops.{IsMarked}
-use Rattle.rect_check.proofs.sweep.mark_all.Given as goal
-
-abbrev pub invariant-loop-v : goal.invariant-loop-v
-invariant-loop-v l = (k : ℕ) → k < l.v → IsMarked l.marks k
