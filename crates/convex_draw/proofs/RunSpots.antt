@@ -83,6 +83,15 @@ module _ (steps : ℕ → Step) (name : ℕ → ℕ) (rows : ConvexRows) (count 
         turns = h.turns k;
       }
 
+  -- the row, the cuts and the new vertices of a step as they are read, with room for the next width
+  pub IsPut-read :
+      (k j width : ℕ) (spots : List Spot) (row cuts news : List ℕ) → k + suc j ≡ n → length spots ≡ count → AreKept steps name k width spots → row ≡ list_of rows.rows j → cuts ≡ list_of rows.cuts j → news ≡ list_of rows.news j
+      → IsPut (setting steps name k) spots row cuts news × (width + length news + 2 < 1048576) × (length row ≤ width + length news + 2)
+  IsPut-read k j width spots row cuts news e same kept r c m =
+      let put = IsPut-same (setting steps name k) spots _ _ _ row cuts news r c m (IsPut-run k j width spots e same kept) in
+      let room = width_room steps name k width spots row cuts news kept put in
+      (put, room.0, room.1)
+
   pub AreKept-more :
       (k j width width' : ℕ) (old now : List Spot) → k + suc j ≡ n → length old ≡ count → AreKept steps name k width old → IsWritten (setting steps name k) old now
       → width' + length (list_of rows.rows j) ≡ width + length (list_of rows.news j) + 2 → AreKept steps name (suc k) width' now

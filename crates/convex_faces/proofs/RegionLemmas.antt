@@ -61,14 +61,6 @@ module _ (map : Map) (known : IsHalfMap map) (start : Dart) (wood : Directions) 
     before_is : dart_of map before ≡ (root Three, root Two)
     before_is = dart_of-is map before (root Three, root Two) at_before
 
-    pub outer_corner : IsOuterCorner map base before
-    outer_corner = record {
-      base_live = live_from (dart_at map base) (root Two, root One) at_base;
-      before_live = live_from (dart_at map before) (root Three, root Two) at_before;
-      meets = ap (λ (x : Dart). x.1) before_is ∙ sym (ap (λ (x : Dart). x.0) base_is);
-      step = ap₂ (follows lists) (ap (λ (x : Dart). x.0) base_is ∙ roots.two) (ap (λ (x : Dart). x.0) before_is) ∙ (roots.step ∙ (sym roots.one ∙ sym (ap (λ (x : Dart). x.1) base_is)));
-    }
-
     corner_is : (c : Axis) → corner map base before c ≡ root c
     corner_is One = ap (λ (x : Dart). x.1) base_is
     corner_is Two = ap (λ (x : Dart). x.0) base_is

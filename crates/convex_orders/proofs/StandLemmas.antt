@@ -49,19 +49,6 @@ module _ (lists : Lists) (s d : ℕ) (based : IsBased lists s d) where
   base_back = simple.both_ways s d based.base
 
   module _ (own : Lists) (marks : List Bool) (ws : List ℕ) (rows : ConvexRows) (bound : ℕ) (st : Stands lists own marks s d ws rows bound) where
-    pub stands_vertices : (i : ℕ) → i < length ws → slice_index ws i < length lists
-    stands_vertices i l = let long = st.list.long in subst (λ v. v < length lists) (sym (st.list.each i (omega arith))) (st.shown.contour.edge i (omega arith)).dart.0
-
-    pub stands_edges : (i : ℕ) → suc i < length ws → HasDart lists (slice_index ws (suc i)) (slice_index ws i)
-    stands_edges i l =
-        let long = st.list.long in
-        let w = st.w in
-        let back = simple.both_ways (w i) (w (suc i)) (st.shown.contour.edge i (omega arith)).dart in
-        subst (λ v. HasDart lists v (slice_index ws i)) (sym (st.list.each (suc i) (omega arith))) (subst (HasDart lists (w (suc i))) (sym (st.list.each i (omega arith))) back)
-
-    pub stands_some : 0 < length ws
-    stands_some = let long = st.list.long in omega arith
-
     pub choice : HasOther lists own s d ws → IsChoice lists own marks s d ws st.alive st.w st.r
     choice o =
         let long = st.list.long in

@@ -9,8 +9,7 @@ use Rattle.convex_peeling.specs.Removals.{Removal, IsTakenOff}
 use Rattle.convex_peeling.proofs.ChainsOff.{edge_passes}
 use Rattle.convex_peeling.proofs.TakenOff.{chain_taken_off_law}
 use Rattle.convex_peeling.proofs.VertexOff.{vertex_taken_off_law}
-use Rattle.convex_laws.proofs.Grown.{IsShore-contour}
-use Rattle.convex_laws.proofs.Steps.{goer_off}
+use Rattle.convex_laws.proofs.Grown.{IsShore-contour, goer_off}
 use Rattle.convex_orders.specs.FaceNumbers.{entry, AreFaceNumbers}
 use Rattle.convex_orders.specs.Shown.{is_set, IsBased, AreMarks, IsChoice, GoesOffNear}
 use Rattle.convex_orders.proofs.Flags.{set_less}

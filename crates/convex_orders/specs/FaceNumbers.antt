@@ -3,7 +3,7 @@ use Rattle.std.specs.Prelude.{ℕ, ◌<◌, ◌≡◌, ◌↔◌, List, ◌++◌
 use Rattle.map_lists.specs.Lists.{Lists}
 use Rattle.map_theory.specs.Maps.{list_of, HasDart, place_of}
 use Rattle.half_edges.specs.Map.{Map, dart_at}
-use Rattle.euler_faces.specs.FaceWalks.{walk_at}
+use Rattle.euler_faces.specs.FaceWalks.{AreFaces, walk_at}
 use Rattle.convex_peeling.specs.Contours.{face_of}
 
 -- what a table over the entries has at the dart (x, y)
@@ -22,6 +22,11 @@ pub record AreFaceNumbers (lists own other : Lists) (count : ℕ) : Type 0 where
   pub other_table : IsTable lists other count
   pub alike : (x y u v : ℕ) → HasDart lists x y → HasDart lists u v → (entry lists own x y ≡ entry lists own u v) ↔ (face_of lists x y ≡ face_of lists u v)
   pub back : (x y : ℕ) → HasDart lists x y → entry lists other x y ≡ entry lists own y x
+
+-- v is a vertex of a map with these faces
+pub record HasFacesAt (map : Map) (walks : List (List ℕ)) (v : ℕ) : Type 0 where
+  pub faces : AreFaces map walks
+  pub vertex : v < length map.lists
 
 -- the dart (u, v) stands in walk f
 abbrev pub InWalk : Map → List (List ℕ) → ℕ → ℕ → ℕ → Type 0

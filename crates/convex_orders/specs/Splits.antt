@@ -22,6 +22,11 @@ pub record IsRimAt (own other : List ℕ) (marks : List Bool) (i : ℕ) : Type 0
   pub outside : is_set marks (slice_index own i) ≡ false
   pub inside : is_set marks (slice_index other i) ≡ true
 
+-- there is such a place in two rows
+pub record HasRim (own other : List ℕ) (marks : List Bool) : Type 0 where
+  pub rows : AreRowsBelow own other (length marks)
+  pub some : (k : ℕ) × IsRimAt own other marks k
+
 -- each marked number of a row is met at one vertex more than it has edges
 abbrev pub NoneSplit : List ℕ → List Bool → List ℕ → List ℕ → Type 0
 NoneSplit own marks places edges = (i : ℕ) → i < length own → is_set marks (slice_index own i) ≡ true → slice_index places (slice_index own i) ≡ slice_index edges (slice_index own i) + 1

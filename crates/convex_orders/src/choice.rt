@@ -1,11 +1,11 @@
 //! Which vertices go next, and the marks of the faces that go with them.
 ghost use Rattle.std.specs.Prelude.{◌≡◌, ◌≢◌, ◌+◌, ◌<◌, ◌≤◌, ◌⊎◌, ◌↔◌, ℕ, suc, Bool, true, false, [], ◌∷◌, ◌++◌, length, slice_index, slice_set, Contains, IsTrue, IfOk};
 ghost use Rattle.map_theory.specs.Maps.{HasDart, list_of};
-ghost use Rattle.convex_orders.specs.Contours.{vertices_of, number_at, AreWithin, HaveNumbers, AreInner};
+ghost use Rattle.convex_orders.specs.Contours.{vertices_of, number_at, AreWithin, HaveNumbers, HaveNumbersAt};
 ghost use Rattle.convex_orders.specs.Moved.{AreLong};
 ghost use Rattle.convex_orders.specs.Shown.{is_set, IsChoice, GoesOffNear, GoesOffAt};
 ghost use Rattle.convex_orders.specs.Splits.{IsOpenAt, NoneSplit, AreRowsBelow, IsRemovableRow, IsRemovablePlace, IsGoneRun};
-ghost use Rattle.convex_orders.specs.Tables.{CanGo};
+ghost use Rattle.convex_orders.specs.Tables.{CanFind, CanTake};
 
 use crate::contour::Contour;
 use crate::counts::Counts;
@@ -95,9 +95,7 @@ fn seek_all(
     marks: &[bool],
     counts: &Counts,
 ) -> Result<(), AllocError>
-    requires long { AreLong tables.now.faces.count marks.now counts.now }
-    requires vertices { AreWithin (vertices_of contour.old) (length tables.now.lists) }
-    requires removable { (j : ℕ) × IsRemovablePlace tables.now.faces.own tables.now.faces.other marks.now counts.now.places.items counts.now.edges.items (vertices_of contour.old) j }
+    requires { CanFind tables.now marks.now counts.now (vertices_of contour.old) }
     ensures same { IfOk result (λ _. vertices_of contour.new ≡ vertices_of contour.old) }
     ensures found { IfOk result (λ _. (j : ℕ) → suc j ≡ length contour.new.left.items → IsRemovablePlace tables.now.faces.own tables.now.faces.other marks.now counts.now.places.items counts.now.edges.items (vertices_of contour.old) j) }
     ensures some { IfOk result (λ _. 0 < length contour.new.left.items) }
@@ -116,10 +114,8 @@ pub(crate) fn find(
     marks: &[bool],
     counts: &Counts,
 ) -> Result<(), AllocError>
-    requires long { AreLong tables.now.faces.count marks.now counts.now }
-    requires vertices { AreWithin (vertices_of contour.old) (length tables.now.lists) }
+    requires can { CanFind tables.now marks.now counts.now (vertices_of contour.old) }
     requires some { 0 < length contour.old.left.items }
-    requires removable { (j : ℕ) × IsRemovablePlace tables.now.faces.own tables.now.faces.other marks.now counts.now.places.items counts.now.edges.items (vertices_of contour.old) j }
     ensures same { IfOk result (λ _. vertices_of contour.new ≡ vertices_of contour.old) }
     ensures found { IfOk result (λ _. (j : ℕ) → suc j ≡ length contour.new.left.items → IsRemovablePlace tables.now.faces.own tables.now.faces.other marks.now counts.now.places.items counts.now.edges.items (vertices_of contour.old) j) }
     ensures some { IfOk result (λ _. 0 < length contour.new.left.items) }
@@ -191,9 +187,7 @@ fn clear_one(marks: &mut [bool], f: u32)
 
 // Takes the marks away of what goes with the vertex before the place.
 fn take_at(marks: &mut [bool], tables: &Tables, contour: &Contour, inner: &[u32])
-    requires some { 0 < length contour.now.left.items }
-    requires inner { AreInner tables.now.lists tables.now.faces.own (vertices_of contour.now) inner.now }
-    requires place { (j : ℕ) → suc j ≡ length contour.now.left.items → CanGo tables.now marks.old (vertices_of contour.now) j }
+    requires { CanTake tables.now marks.old contour.now inner.now }
     ensures long { length marks.new ≡ length marks.old }
     ensures goes { (alive : ℕ → Bool) (w : ℕ → ℕ) (r j : ℕ) → suc j ≡ length contour.now.left.items → IsChoice tables.now.lists tables.now.faces.own marks.old tables.now.tail tables.now.head (vertices_of contour.now) alive w r → GoesOffNear tables.now.lists tables.now.faces.own marks.new alive w r j }
 {
@@ -218,8 +212,7 @@ fn is_kept(marks: &[bool], contour: &Contour, inner: &[u32], i: usize) -> bool
 
 // Returns where the edges without marks end, from the vertex before the place on.
 fn end_of(marks: &[bool], contour: &Contour, inner: &[u32]) -> usize
-    requires some { 0 < length contour.now.left.items }
-    requires numbers { HaveNumbers (vertices_of contour.now) inner.now (length marks.now) }
+    requires { HaveNumbersAt contour.now inner.now (length marks.now) }
     ensures { (first end j : ℕ) → suc j ≡ length contour.now.left.items → first ≤ j → j ≤ end → IsGoneRun (number_at inner.now (vertices_of contour.now)) marks.now (length (vertices_of contour.now)) first end → result ≡ end }
 {
     for i in contour.left.len() - 1..contour.len() - 1 {
@@ -232,8 +225,7 @@ fn end_of(marks: &[bool], contour: &Contour, inner: &[u32]) -> usize
 
 // Returns where they begin, from the vertex before the place back.
 fn first_of(marks: &[bool], contour: &Contour, inner: &[u32]) -> usize
-    requires some { 0 < length contour.now.left.items }
-    requires numbers { HaveNumbers (vertices_of contour.now) inner.now (length marks.now) }
+    requires { HaveNumbersAt contour.now inner.now (length marks.now) }
     ensures { (first end j : ℕ) → suc j ≡ length contour.now.left.items → first ≤ j → j ≤ end → IsGoneRun (number_at inner.now (vertices_of contour.now)) marks.now (length (vertices_of contour.now)) first end → result ≡ first }
 {
     for k in 1..contour.left.len() {
@@ -251,9 +243,7 @@ pub(crate) fn take_run(
     contour: &Contour,
     inner: &[u32],
 ) -> (usize, usize)
-    requires some { 0 < length contour.now.left.items }
-    requires inner { AreInner tables.now.lists tables.now.faces.own (vertices_of contour.now) inner.now }
-    requires place { (j : ℕ) → suc j ≡ length contour.now.left.items → CanGo tables.now marks.old (vertices_of contour.now) j }
+    requires { CanTake tables.now marks.old contour.now inner.now }
     ensures long { length marks.new ≡ length marks.old }
     ensures goes { (alive : ℕ → Bool) (w : ℕ → ℕ) (r : ℕ) → IsChoice tables.now.lists tables.now.faces.own marks.old tables.now.tail tables.now.head (vertices_of contour.now) alive w r → GoesOffAt tables.now.lists tables.now.faces.own marks.new alive w r result.0 result.1 }
 {

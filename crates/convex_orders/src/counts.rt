@@ -1,9 +1,10 @@
 //! How often a contour meets each number of a face, as parts of it come and go.
 ghost use Rattle.std.specs.Prelude.{◌≡◌, ◌-◌, ◌<◌, ◌==◌, ℕ, suc, length, slice_index, count_by, All};
 ghost use Rattle.map_theory.specs.Maps.{list_of};
-ghost use Rattle.convex_orders.specs.Contours.{AreInner, number_at};
+ghost use Rattle.convex_orders.specs.Contours.{number_at};
 ghost use Rattle.convex_orders.specs.Counts.{met_below, numbered_below, AreCounts};
-ghost use Rattle.convex_orders.specs.Moved.{HaveSize, AreNone, CanMoveAll, AreMoved};
+ghost use Rattle.convex_orders.specs.Moved.{AreNone, CanMoveAll, AreMoved};
+ghost use Rattle.convex_orders.specs.Tables.{CanCount};
 ghost use Rattle.convex_orders.specs.Ways.{CanMove, IsMoved};
 
 use crate::contour::part;
@@ -76,8 +77,7 @@ impl Counts {
         first: usize,
         last: usize,
     )
-        requires size { HaveSize self.old tables.now.faces.count }
-        requires inner { AreInner tables.now.lists tables.now.faces.own ws.now inner.now }
+        requires along { CanCount tables.now self.old ws.now inner.now }
         requires order { first < last }
         requires within { last < length ws.now }
         requires can { CanMoveAll tables.now.lists tables.now.faces.own tables.now.faces.count way ws.now first last self.old }
@@ -90,8 +90,7 @@ impl Counts {
 
     /// Counts a whole contour, where there are no counts yet.
     pub(crate) fn count_all(&mut self, tables: &Tables, inner: &[u32], ws: &[u16])
-        requires size { HaveSize self.old tables.now.faces.count }
-        requires inner { AreInner tables.now.lists tables.now.faces.own ws.now inner.now }
+        requires along { CanCount tables.now self.old ws.now inner.now }
         requires some { 0 < length ws.now }
         requires few { length ws.now < 65536 }
         requires none { AreNone self.old }

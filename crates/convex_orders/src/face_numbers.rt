@@ -5,7 +5,7 @@ ghost use Rattle.std.specs.Prelude.{◌≡◌, ◌<◌, ◌^◌, ℕ, [], length
 ghost use Rattle.map_theory.specs.Maps.{list_of};
 ghost use Rattle.half_edges.specs.Map.{IsHalfMap, IsLive, dart_at, first_dart};
 ghost use Rattle.euler_faces.specs.FaceWalks.{AreFaces};
-ghost use Rattle.convex_orders.specs.FaceNumbers.{InWalk, AreOwn, AreOther, AreFaceNumbers, IsRowPut};
+ghost use Rattle.convex_orders.specs.FaceNumbers.{HasFacesAt, InWalk, AreOwn, AreOther, AreFaceNumbers, IsRowPut};
 ghost use Rattle.map_lists.specs.Cuts.{cut, AreCuts};
 
 use euler_faces::Faces;
@@ -43,8 +43,7 @@ fn put_round(
     own: &mut Vec<u32>,
     other: &mut Vec<u32>,
 ) -> Result<(), AllocError>
-    requires faces { AreFaces map.now faces.now }
-    requires vertex { v.0 < length map.now.lists }
+    requires stands { HasFacesAt map.now faces.now v.0 }
     requires first { dart_at map.now first.0 ≡ Some (first_dart map.now.lists v.0) }
     ensures own { IfOk result (λ _. IsRowPut (AreOwn map.now faces.now v.0) (length (list_of map.now.lists v.0)) own.old.items own.new.items) }
     ensures other { IfOk result (λ _. IsRowPut (AreOther map.now faces.now v.0) (length (list_of map.now.lists v.0)) other.old.items other.new.items) }
@@ -71,8 +70,7 @@ fn put_vertex(
     own: &mut Vec<u32>,
     other: &mut Vec<u32>,
 ) -> Result<(), AllocError>
-    requires faces { AreFaces map.now faces.now }
-    requires vertex { v.0 < length map.now.lists }
+    requires { HasFacesAt map.now faces.now v.0 }
     ensures own { IfOk result (λ _. IsRowPut (AreOwn map.now faces.now v.0) (length (list_of map.now.lists v.0)) own.old.items own.new.items) }
     ensures other { IfOk result (λ _. IsRowPut (AreOther map.now faces.now v.0) (length (list_of map.now.lists v.0)) other.old.items other.new.items) }
 {

@@ -1,7 +1,7 @@
 //! The rows of a removal.
 ghost use Rattle.std.specs.Prelude.{◌≡◌, ◌+◌, ◌<◌, ℕ, if◌then◌else◌, [], ◌∷◌, ◌++◌, length, slice_index, IfOk};
 ghost use Rattle.convex_orders.specs.Contours.{number_at};
-ghost use Rattle.convex_orders.specs.Cuts.{AreCutPlaces, IsCutRow, IsPutIn};
+ghost use Rattle.convex_orders.specs.Cuts.{AreCutPlaces, HasNumbersTo, IsCutRow, IsPutIn};
 
 use crate::contour::part;
 use convex_laws::convex_rows::ConvexRows;
@@ -26,10 +26,7 @@ fn put_cuts(
     first: usize,
     last: usize,
 ) -> Result<(), AllocError>
-    requires order { first < last }
-    requires within { last < length ws.now }
-    requires few { length ws.now < 65536 }
-    requires vertices { (p : ℕ) → p < last → slice_index ws.now p < length outer.now }
+    requires to { HasNumbersTo outer.now ws.now first last }
     requires empty { row.old.items ≡ [] }
     ensures { IfOk result (λ _. (count : ℕ) (cut : ℕ → ℕ) → AreCutPlaces (number_at outer.now ws.now) first last count cut → IsCutRow row.new.items first count cut) }
 {
@@ -85,10 +82,7 @@ pub(crate) fn put_row(
     first: usize,
     last: usize,
 ) -> Result<(), AllocError>
-    requires order { first < last }
-    requires within { last < length us.now }
-    requires few { length us.now < 65536 }
-    requires vertices { (p : ℕ) → p < last → slice_index us.now p < length outer.now }
+    requires { HasNumbersTo outer.now us.now first last }
     ensures { IfOk result (λ _. (count : ℕ) (cut : ℕ → ℕ) → AreCutPlaces (number_at outer.now us.now) first last count cut → IsPutIn us.now first last count cut rows.old rows.new) }
 {
     cuts.clear();

@@ -3,8 +3,9 @@ ghost use Rattle.std.specs.Prelude.{◌≡◌, ◌≢◌, ◌+◌, ◌<◌, ◌�
 ghost use Rattle.map_theory.specs.Maps.{HasDart, list_of};
 ghost use Rattle.convex_orders.specs.FaceNumbers.{entry};
 ghost use Rattle.convex_orders.specs.Shown.{is_set, IsListOf, IsTrace, SomeTrace, IsRimIn};
-ghost use Rattle.convex_orders.specs.Splits.{IsRimAt, AreRowsBelow};
+ghost use Rattle.convex_orders.specs.Splits.{IsRimAt, AreRowsBelow, HasRim};
 ghost use Rattle.convex_orders.specs.Noted.{AreRims, IsSeen, AreNoted};
+ghost use Rattle.convex_orders.specs.Tables.{CanNote};
 
 use crate::tables::Tables;
 use std::alloc::{AllocError, Global};
@@ -22,8 +23,7 @@ pub(crate) struct Rims {
 
 // Returns the first place where the one number has no mark, and the other one has.
 fn first_rim(own: &[u32], other: &[u32], marks: &[bool]) -> usize
-    requires rows { AreRowsBelow own.now other.now (length marks.now) }
-    requires some { (k : ℕ) × IsRimAt own.now other.now marks.now k }
+    requires { HasRim own.now other.now marks.now }
     ensures { IsRimAt own.now other.now marks.now result }
 {
     for k in 0..own.len() {
@@ -49,8 +49,7 @@ fn rim_from(own: &[u32], other: &[u32], marks: &[bool], from: usize) -> Option<u
 
 // Returns such a place, which is looked for from `from` on first.
 fn rim_near(own: &[u32], other: &[u32], marks: &[bool], from: usize) -> usize
-    requires rows { AreRowsBelow own.now other.now (length marks.now) }
-    requires some { (k : ℕ) × IsRimAt own.now other.now marks.now k }
+    requires { HasRim own.now other.now marks.now }
     ensures { IsRimAt own.now other.now marks.now result }
 {
     match rim_from(own, other, marks, from) {
@@ -72,8 +71,7 @@ impl Rims {
     // Notes the edge at place `k` of the list of a vertex, which is looked for where it was last seen: at a hub it goes
     // on in one direction. Returns the vertex to which it leads.
     fn see(&mut self, tables: &Tables, marks: &[bool], x: u16) -> u16
-        requires marks { length marks.now ≡ tables.now.faces.count }
-        requires size { AreRims self.old (length tables.now.lists) }
+        requires can { CanNote tables.now marks.now self.old }
         requires some { (y : ℕ) × IsRimIn tables.now.lists tables.now.faces.own tables.now.faces.other marks.now x y }
         ensures rim { IsRimIn tables.now.lists tables.now.faces.own tables.now.faces.other marks.now x result }
         ensures seen { IsSeen tables.now.lists tables.now.faces.own x result self.old self.new }
@@ -96,8 +94,7 @@ impl Rims {
         marks: &[bool],
         stop: u16,
     ) -> Result<(), AllocError>
-        requires marks { length marks.now ≡ tables.now.faces.count }
-        requires size { AreRims self.old (length tables.now.lists) }
+        requires can { CanNote tables.now marks.now self.old }
         requires some { SomeTrace tables.now.lists tables.now.faces.own marks.now left.old.items stop }
         ensures list { IfOk result (λ _. (alive : ℕ → Bool) (w : ℕ → ℕ) (r a b : ℕ) → IsTrace tables.now.lists tables.now.faces.own marks.now left.old.items stop alive w r a b → IsListOf left.new.items w b) }
         ensures noted { IfOk result (λ _. (alive : ℕ → Bool) (w : ℕ → ℕ) (r a b : ℕ) → IsTrace tables.now.lists tables.now.faces.own marks.now left.old.items stop alive w r a b → AreNoted tables.now.lists tables.now.faces.own w a b self.old self.new) }

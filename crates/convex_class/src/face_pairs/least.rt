@@ -3,9 +3,11 @@ ghost use Rattle.std.specs.Prelude.{◌≡◌, ◌<◌, ◌≤◌, ℕ, length, 
 ghost use Rattle.graph_search.specs.Cuts.{IsSeparatingPair};
 ghost use Rattle.convex_class.specs.Clear.{IsClearVertex, IsClearFace};
 
+use crate::face_pairs::corners::WalkedFace;
 use crate::face_pairs::meetings::Meeting;
 use crate::face_pairs::uncut::UncutMap;
-use half_edges::{DartId, VertexId};
+use crate::face_pairs::vertices::Star;
+use half_edges::{DartId, FaceId, VertexId};
 use std::alloc::{AllocError, Global};
 
 impl UncutMap<'_> {
@@ -21,7 +23,13 @@ impl UncutMap<'_> {
         let view = *self;
         let mut best = view.map.n();
         for u in 0..view.map.n() {
-            best = view.least_at_vertex(VertexId(u), ring, marks, best)?;
+            view.put_ring(VertexId(u), ring)?;
+            let star = Star {
+                uncut: view,
+                u,
+                ring,
+            };
+            best = star.least(marks, best);
         }
         Ok(best)
     }
@@ -39,7 +47,12 @@ impl UncutMap<'_> {
     {
         let view = *self;
         for f in 0..view.faces.count() {
-            best = view.least_at_face(f, ring, met, best)?;
+            let face = WalkedFace {
+                uncut: view,
+                f,
+                walk: view.faces.walk(FaceId(f)),
+            };
+            best = face.least(ring, met, best)?;
         }
         Ok(best)
     }

@@ -18,43 +18,44 @@ fn mark(marks: &mut [u16], u: u16, w: u16, best: u16) -> u16
     if again && w < best { w } else { best }
 }
 
-impl UncutMap<'_> {
-    // Marks the tail of a dart by u, where it is greater than u and the dart does not lead to u.
-    fn mark_tail(&self, u: VertexId, d: DartId, marks: &mut [u16], best: u16) -> u16
-        requires live { IsLive self.now.map.now d.0 }
-        requires marks { length marks.old ≡ length self.now.map.now.lists }
-        ensures passed { (w h : ℕ) → dart_at self.now.map.now d.0 ≡ Some (w, h) → u.0 < w → h ≢ u.0 → IsMarked u.0 w marks.old best marks.new result }
-        ensures other { (w h : ℕ) → dart_at self.now.map.now d.0 ≡ Some (w, h) → (w ≤ u.0) ⊎ (h ≡ u.0) → (marks.new ≡ marks.old) × (result ≡ best) }
+/// A vertex of which the walks of its faces are gone over, for the greater vertices that two of them pass.
+#[derive(Clone, Copy)]
+pub(crate) struct AtVertex<'a> {
+    pub(crate) uncut: UncutMap<'a>,
+    pub(crate) u: VertexId,
+}
+
+impl AtVertex<'_> {
+    // Marks the tail of a dart, where it is greater than the vertex and the dart does not lead to that.
+    fn mark_tail(&self, d: DartId, marks: &mut [u16], best: u16) -> u16
+        requires live { IsLive self.now.uncut.map.now d.0 }
+        requires marks { length marks.old ≡ length self.now.uncut.map.now.lists }
+        ensures passed { (w h : ℕ) → dart_at self.now.uncut.map.now d.0 ≡ Some (w, h) → self.now.u.0 < w → h ≢ self.now.u.0 → IsMarked self.now.u.0 w marks.old best marks.new result }
+        ensures other { (w h : ℕ) → dart_at self.now.uncut.map.now d.0 ≡ Some (w, h) → (w ≤ self.now.u.0) ⊎ (h ≡ self.now.u.0) → (marks.new ≡ marks.old) × (result ≡ best) }
     {
-        self.facts();
-        let w = self.map.tail(d);
-        let h = self.map.head(d);
-        if u.0 < w.0 && h.0 != u.0 {
-            mark(marks, u.0, w.0, best)
+        self.uncut.facts();
+        let w = self.uncut.map.tail(d);
+        let h = self.uncut.map.head(d);
+        if self.u.0 < w.0 && h.0 != self.u.0 {
+            mark(marks, self.u.0, w.0, best)
         } else {
             best
         }
     }
 
-    // Marks by u what the face of one of its darts passes.
-    pub(crate) fn mark_walk(
-        &self,
-        walk: &[DartId],
-        u: VertexId,
-        marks: &mut [u16],
-        mut best: u16,
-    ) -> u16
-        requires walk { IsFaceWalk self.now.map.now (ids_of walk.now) }
-        requires marks { length marks.old ≡ length self.now.map.now.lists }
-        ensures marked { (d : ℕ) → LeavesFrom self.now.map.now u.0 d → Contains (ids_of walk.now) d
-            → AreMarksOf self.now.map.now.lists u.0 (place_at self.now.map.now u.0 d) marks.old best
-            → AreMarksOf self.now.map.now.lists u.0 (place_at self.now.map.now u.0 d + 1) marks.new result }
-        ensures unused { (x : ℕ) → x ≢ u.0 → IsUnused marks.old x → IsUnused marks.new x }
+    // Marks what the face of one of the vertex's darts passes.
+    pub(crate) fn mark_walk(&self, walk: &[DartId], marks: &mut [u16], mut best: u16) -> u16
+        requires walk { IsFaceWalk self.now.uncut.map.now (ids_of walk.now) }
+        requires marks { length marks.old ≡ length self.now.uncut.map.now.lists }
+        ensures marked { (d : ℕ) → LeavesFrom self.now.uncut.map.now self.now.u.0 d → Contains (ids_of walk.now) d
+            → AreMarksOf self.now.uncut.map.now.lists self.now.u.0 (place_at self.now.uncut.map.now self.now.u.0 d) marks.old best
+            → AreMarksOf self.now.uncut.map.now.lists self.now.u.0 (place_at self.now.uncut.map.now self.now.u.0 d + 1) marks.new result }
+        ensures unused { (x : ℕ) → x ≢ self.now.u.0 → IsUnused marks.old x → IsUnused marks.new x }
     {
-        self.facts();
-        let view = *self;
+        self.uncut.facts();
+        let at = *self;
         for d in walk {
-            best = view.mark_tail(u, *d, marks, best);
+            best = at.mark_tail(*d, marks, best);
         }
         best
     }

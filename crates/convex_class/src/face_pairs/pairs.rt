@@ -6,36 +6,13 @@ ghost use Rattle.euler_faces.specs.FaceWalks.{AreFaces, walk_at};
 ghost use Rattle.graph_search.specs.Cuts.{IsCutVertex, IsSeparatingPair, IsLeastPair};
 ghost use Rattle.convex_class.specs.Passing.{IsUnused};
 
+use crate::face_pairs::marks::AtVertex;
 use crate::face_pairs::uncut::UncutMap;
 use euler_faces::Faces;
-use half_edges::{DartId, FaceId, HalfMap, VertexId};
+use half_edges::{FaceId, HalfMap, VertexId};
 use std::alloc::{AllocError, Global};
 
 impl UncutMap<'_> {
-    // The least greater vertex with which u is a separating pair, or the number of vertices; `first` is the
-    // dart to the first entry of its list.
-    fn partner_in_round(&self, u: VertexId, first: DartId, marks: &mut [u16]) -> u16
-        requires first { dart_at self.now.map.now first.0 ≡ Some (first_dart self.now.map.now.lists u.0) }
-        requires marks { length marks.old ≡ length self.now.map.now.lists }
-        requires unused { IsUnused marks.old u.0 }
-        ensures pair { result < length self.now.map.now.lists → IsSeparatingPair self.now.map.now.lists u.0 result }
-        ensures least { (w : ℕ) → IsSeparatingPair self.now.map.now.lists u.0 w → result ≤ w }
-        ensures unused { (x : ℕ) → x ≢ u.0 → IsUnused marks.old x → IsUnused marks.new x }
-    {
-        self.facts();
-        let view = *self;
-        let mut best = view.map.n();
-        let mut d = first;
-        'round: loop {
-            let walk = view.faces.walk(view.faces.of_dart(d));
-            best = view.mark_walk(walk, u, marks, best);
-            d = view.map.next(d);
-            if d.0 == first.0 {
-                return best;
-            }
-        }
-    }
-
     // Returns the least greater vertex with which `u` is a separating pair, or the number of vertices; `u` may have no
     // neighbours.
     fn partner(&self, u: VertexId, marks: &mut [u16]) -> u16
@@ -47,9 +24,20 @@ impl UncutMap<'_> {
         ensures unused { (x : ℕ) → x ≢ u.0 → IsUnused marks.old x → IsUnused marks.new x }
     {
         self.facts();
-        match self.map.first_dart(u) {
-            Some(first) => self.partner_in_round(u, first, marks),
-            None => self.map.n(),
+        let uncut = *self;
+        let at = AtVertex { uncut, u };
+        let mut best = uncut.map.n();
+        let Some(first) = uncut.map.first_dart(u) else {
+            return best;
+        };
+        let mut d = first;
+        'round: loop {
+            let walk = uncut.faces.walk(uncut.faces.of_dart(d));
+            best = at.mark_walk(walk, marks, best);
+            d = uncut.map.next(d);
+            if d.0 == first.0 {
+                return best;
+            }
         }
     }
 

@@ -8,7 +8,7 @@ use Rattle.convex_orders.proofs.choice.find.Goals as goal
 pub before_last-count-requires-clause-two : goal.before_last-count-requires-clause-two
 before_last-count-requires-clause-two c =
     let n = length-contour c.args.contour.now.left.items c.args.contour.now.right.items in
-    omega (arith, n, c.requires.removable.1.before, c.requires.removable.1.after)
+    omega (arith, n, c.requires.can.removable.1.before, c.requires.can.removable.1.after)
 
 pub seek-requires-clause-behind : goal.seek-requires-clause-behind
 seek-requires-clause-behind c =

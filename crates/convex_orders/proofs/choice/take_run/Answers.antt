@@ -5,22 +5,28 @@ use Rattle.convex_orders.proofs.GoneRuns.{gone_run}
 use Rattle.convex_orders.proofs.Known.{based}
 use Rattle.convex_orders.proofs.choice.take_run.Goals as goal
 
-pub first_of-requires-clause-numbers : goal.first_of-requires-clause-numbers
-first_of-requires-clause-numbers c =
+pub first_of-requires : goal.first_of-requires
+first_of-requires c =
     let t = c.args.tables.now in
     let go = c.requires.place (length c.args.contour.now.left.items - 1) (omega (arith, c.requires.some)) in
     record {
-      within = λ i l. omega (arith, c.requires.inner.vertices i l, c.requires.inner.long);
-      below = λ i l. omega (arith, AreInner-below t.lists t.faces.own t.faces.count (vertices_of c.args.contour.now) c.args.inner.now t.numbers.own_table c.requires.inner i l, go.marks_long, c.take_at.ensures.long);
+      some = c.requires.some;
+      numbers = record {
+        within = λ i l. omega (arith, c.requires.inner.vertices i l, c.requires.inner.long);
+        below = λ i l. omega (arith, AreInner-below t.lists t.faces.own t.faces.count (vertices_of c.args.contour.now) c.args.inner.now t.numbers.own_table c.requires.inner i l, go.marks_long, c.take_at.ensures.long);
+      };
     }
 
-pub end_of-requires-clause-numbers : goal.end_of-requires-clause-numbers
-end_of-requires-clause-numbers c =
+pub end_of-requires : goal.end_of-requires
+end_of-requires c =
     let t = c.args.tables.now in
     let go = c.requires.place (length c.args.contour.now.left.items - 1) (omega (arith, c.requires.some)) in
     record {
-      within = λ i l. omega (arith, c.requires.inner.vertices i l, c.requires.inner.long);
-      below = λ i l. omega (arith, AreInner-below t.lists t.faces.own t.faces.count (vertices_of c.args.contour.now) c.args.inner.now t.numbers.own_table c.requires.inner i l, go.marks_long, c.take_at.ensures.long);
+      some = c.requires.some;
+      numbers = record {
+        within = λ i l. omega (arith, c.requires.inner.vertices i l, c.requires.inner.long);
+        below = λ i l. omega (arith, AreInner-below t.lists t.faces.own t.faces.count (vertices_of c.args.contour.now) c.args.inner.now t.numbers.own_table c.requires.inner i l, go.marks_long, c.take_at.ensures.long);
+      };
     }
 
 pub returns-clause-goes : goal.returns-clause-goes

@@ -26,5 +26,5 @@ pub returns : goal.returns
 returns c = λ faces cut are.
     let first = c.args.first in
     let last = c.args.last in
-    let end : c.loop-p.p ≡ last = omega (arith, c.loop-p-test.false, c.loop-p.auto.p-end, c.requires.order) in
-    cuts_last (number_at c.args.outer.now c.args.ws.now) first last faces cut are c.loop-p.row.items c.push-2.new.self.items (last - first) (omega (arith, c.requires.order)) c.in_ok-push-2.ensures.items (subst (λ z. IsCutTo c.loop-p.row.items first z faces cut) end (c.loop-p.invariant.cuts faces cut are))
+    let end : c.loop-p.p ≡ last = omega (arith, c.loop-p-test.false, c.loop-p.auto.p-end, c.requires.to.order) in
+    cuts_last (number_at c.args.outer.now c.args.ws.now) first last faces cut are c.loop-p.row.items c.push-2.new.self.items (last - first) (omega (arith, c.requires.to.order)) c.in_ok-push-2.ensures.items (subst (λ z. IsCutTo c.loop-p.row.items first z faces cut) end (c.loop-p.invariant.cuts faces cut are))

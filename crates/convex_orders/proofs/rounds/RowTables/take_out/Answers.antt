@@ -1,4 +1,4 @@
-use Rattle.std.proofs.Common.{◌+◌, List, ℕ, sym, ap, ◌∙◌, subst, arith}
+use Rattle.std.proofs.Common.{rules, ◌+◌, List, ℕ, sym, ap, ◌∙◌, subst, arith}
 use Rattle.std.specs.Prelude.{slice_range}
 use Rattle.std.proofs.lemmas.List.{get_or_default}
 use Rattle.convex_orders.specs.declared.way.Way.TheVariants.{Goes}
@@ -7,13 +7,16 @@ use Rattle.convex_orders.specs.Moved.{CanMoveAll, AreMoved}
 use Rattle.convex_orders.proofs.Outs.{inner_prefix, can_go, gone_all, taken_out}
 use Rattle.convex_orders.proofs.rounds.RowTables.take_out.Goals as goal
 
-pub move_part-requires-clause-inner : goal.move_part-requires-clause-inner
-move_part-requires-clause-inner c =
+pub move_part-requires-clause-along : goal.move_part-requires-clause-along
+move_part-requires-clause-along c =
     let t = c.args.tables.now in
     let s = c.args.self.now in
     let now = c.move_to.new.self in
     let prefix = inner_prefix (vertices_of s.contour) now.left.items now.right.items c.in_ok-move_to.ensures.same t.lists t.faces.own s.rims.inner.items c.requires.kept.inner in
-    subst (λ (z : List ℕ). AreInner t.lists t.faces.own z c.deref.result.now) (sym c.deref-2.ensures.value) (subst (AreInner t.lists t.faces.own now.left.items) (sym c.deref.ensures.value) prefix)
+    record {
+      size = search rules;
+      inner = subst (λ (z : List ℕ). AreInner t.lists t.faces.own z c.deref.result.now) (sym c.deref-2.ensures.value) (subst (AreInner t.lists t.faces.own now.left.items) (sym c.deref.ensures.value) prefix);
+    }
 
 pub move_part-requires-clause-can : goal.move_part-requires-clause-can
 move_part-requires-clause-can c =

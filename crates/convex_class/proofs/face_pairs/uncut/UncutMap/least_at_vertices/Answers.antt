@@ -8,8 +8,8 @@ pub loop-u-preserved : goal.loop-u-preserved
 loop-u-preserved c = λ x l.
     let map = c.args.self.now.map.now in
     let walks = c.args.self.now.faces.now in
-    let least = c.in_ok-best.best in
-    let here = c.in_ok-best.ensures in
+    let least = c.least-best.result in
+    let here = c.least-best.ensures in
     elim (cases_lt x c.loop-u.u) [
       | inl less ↦ IsClearVertex-lower map walks c.loop-u.best least x here.lower (c.loop-u.invariant x less)
       | inr most ↦ let same : x ≡ c.loop-u.u = omega arith in subst (IsClearVertex map walks least) (sym same) here.clear
