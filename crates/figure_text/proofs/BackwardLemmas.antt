@@ -1,13 +1,13 @@
 -- A list from its end: one entry more, and the text of it before the texts of those behind.
 use Rattle.std.proofs.Common.{◌≡◌, ℕ, ◌+◌, ◌*◌, ◌-◌, ◌<◌, List, [], ◌∷◌, ◌++◌, length, take, drop, flat_map, get_or, refl, subst, arith, rules, ap, ◌∙◌, add-one, append_assoc, ℤ}
 use Rattle.std.proofs.Math.Nat.{mul-suc}
-use Rattle.std.specs.Prelude.{codes}
+use Rattle.std.specs.Prelude.{codes, decimal}
 use Rattle.std.specs.List.{sum_by}
 use Rattle.std.proofs.lemmas.List.{drop_more}
 use Rattle.std.proofs.lemmas.List.Sums.{sum_by_more}
 use Rattle.map_lists.specs.Lists.{Lists}
 use Rattle.figure_text.specs.declared.piece.Piece.{Piece}
-use Rattle.figure_text.specs.Text.{joined, vertex_line, vertex_lines, fronts_room}
+use Rattle.figure_text.specs.Text.{joined, first_line, vertex_line, vertex_lines, fronts_room}
 use Rattle.figure_text.proofs.TextLemmas.{vertex_lines-more}
 
 module _ {X : Type 0} (xs : List X) (k : ℕ) (d : X) (less : k < length xs) where
@@ -61,3 +61,10 @@ bar_words v y a b rest = search (rules, append_assoc)
 
 pub rect_words : (v a b c d rest : List ℕ) → v ++ 32 ∷ 120 ∷ 32 ∷ (a ++ 32 ∷ (b ++ 32 ∷ 121 ∷ 32 ∷ (c ++ 32 ∷ (d ++ 58 ∷ rest)))) ≡ joined (v ∷ codes "x" ∷ a ∷ b ∷ codes "y" ∷ c ∷ (d ++ 58 ∷ []) ∷ []) ++ rest
 rect_words v a b c d rest = search (rules, append_assoc)
+
+-- a first line, part by part from its end
+pub first_line-written : (k m n l : ℕ) (word rest a b c d e f : List ℕ)
+    → a ≡ codes "figure" ++ b → b ≡ 32 ∷ decimal m ++ c → m ≡ k → c ≡ 32 ∷ d → d ≡ word ++ e → e ≡ 32 ∷ decimal l ++ f → l ≡ n → f ≡ 10 ∷ rest
+    → a ≡ first_line k word n ++ rest
+unfolding first_line
+first_line-written k m n l word rest a b c d e f ab bc mk cd de ef ln fr = rw (ab, bc, mk, cd, de, ef, ln, fr) (search (rules, append_assoc))

@@ -4,6 +4,7 @@ ghost use Rattle.std.specs.Fmt.{signed_decimal};
 ghost use Rattle.figure_text.specs.Text.{spaced_signed, first_line, columns_line};
 
 use crate::numerals::Texts;
+use crate::print::Heading;
 
 // Writes a byte before `end`, and returns where it stands.
 pub(crate) fn write_byte(byte: u8, bytes: &mut [u8], end: usize) -> usize
@@ -91,22 +92,20 @@ fn write_text(text: &[u8], bytes: &mut [u8], end: usize) -> usize
 // Writes the first line of a figure before `end`, and returns where it starts.
 pub(crate) fn write_first(
     texts: &Texts<'_>,
-    k: u32,
-    word: &[u8],
-    n: usize,
+    heading: &Heading<'_>,
     bytes: &mut [u8],
     end: usize,
 ) -> usize
-    requires word { length word.now ≤ 8 }
-    requires room { (60 ≤ end) × (end ≤ length bytes.old) }
+    requires { (60 ≤ end) × (end ≤ length bytes.old) }
     ensures within { result ≤ length bytes.new }
-    ensures written { drop result bytes.new ≡ first_line k word.now n ++ drop end bytes.old }
+    ensures written { drop result bytes.new ≡ first_line heading.now.number heading.now.word.now (length heading.now.lists.now) ++ drop end bytes.old }
 {
+    let n = heading.lists.len();
     let newline = write_byte(b'\n', bytes, end);
     let count = write_next(texts, n as u64, bytes, newline);
-    let name = write_text(word, bytes, count);
+    let name = write_text(heading.word, bytes, count);
     let space = write_byte(b' ', bytes, name);
-    let number = write_next(texts, u64::from(k), bytes, space);
+    let number = write_next(texts, u64::from(heading.number), bytes, space);
     write_text(b"figure", bytes, number)
 }
 

@@ -2,13 +2,6 @@
 ghost use Rattle.std.specs.Prelude.{◌≡◌, ◌≤◌, min, option_map, IfSome};
 ghost use Rattle.figure_text.specs.Words.{is_digit, one_more, canonical, decimal_from};
 
-// The number, or `most` if it is beyond.
-fn nearer(most: u64, value: u64) -> u64
-    ensures { result ≡ min most value }
-{
-    if value < most { value } else { most }
-}
-
 /// Whether a byte is from 0 to 9.
 pub fn is_digit_byte(byte: u8) -> bool
     ensures { result ≡ is_digit byte }
@@ -23,7 +16,7 @@ pub fn with_digit(most: u64, value: u64, byte: u8) -> Option<u64>
     ensures { result ≡ one_more most value byte }
 {
     if is_digit_byte(byte) {
-        Some(nearer(most, 10 * value + u64::from(byte - b'0')))
+        Some(most.min(10 * value + u64::from(byte - b'0')))
     } else {
         None
     }

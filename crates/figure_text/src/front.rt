@@ -39,18 +39,6 @@ fn part(line: &[u8], i: usize) -> &[u8]
     }
 }
 
-// Judges a line that holds the line of a graph with this fault. When memory ran out there is no answer.
-fn fault_worth(fault: G6Fault) -> Option<Judged>
-    ensures { (line : List ℕ) → NamesFault line fault → MatchOption result (line_fault line ≡ None)
-        (Judges (IsTrue (is_graph_shaped (line_fault line))) (line_fault line ≡ None)) }
-{
-    match fault {
-        G6Fault::TooMany(_) => Some(Judged::Limit),
-        G6Fault::NoMemory => None,
-        _ => Some(Judged::Bad),
-    }
-}
-
 // Judges the line of a graph.
 fn graph_worth(alloc: Global, line: &[u8]) -> Result<Judged, AllocError>
     ensures { IfOk result (Judges (IsTrue (is_graph_shaped (line_fault line.now))) (line_fault line.now ≡ None)) }
@@ -58,23 +46,9 @@ fn graph_worth(alloc: Global, line: &[u8]) -> Result<Judged, AllocError>
     lines_are_graphs();
     match read_line(alloc, line) {
         Ok(_) => Ok(Judged::Good),
-        Err(fault) => match fault_worth(fault) {
-            Some(judged) => Ok(judged),
-            None => Err(AllocError),
-        },
-    }
-}
-
-// Judges what stands behind the word of the job in the first line of a witness.
-fn witness_tail(alloc: Global, line: &[u8], words: &[Word]) -> Result<Judged, AllocError>
-    requires { words.now ≡ words_of line.now }
-    ensures { IfOk result (Judges ((length (words_of line.now) ≡ 5) × IsTrue (is_graph_shaped (line_fault (part_at line.now 4))))
-        (line_fault (part_at line.now 4) ≡ None)) }
-{
-    if words.len() == 5 {
-        graph_worth(alloc, part(line, 4))
-    } else {
-        Ok(Judged::Bad)
+        Err(G6Fault::TooMany(_)) => Ok(Judged::Limit),
+        Err(G6Fault::NoMemory) => Err(AllocError),
+        Err(_) => Ok(Judged::Bad),
     }
 }
 
@@ -84,7 +58,8 @@ fn tail_worth(alloc: Global, kind: Kind, line: &[u8], words: &[Word]) -> Result<
     ensures { IfOk result (Judges (IsTail (Some kind) line.now) (TailInRange (Some kind) line.now)) }
 {
     match kind {
-        Kind::Witness(_) => witness_tail(alloc, line, words),
+        Kind::Witness(_) if words.len() == 5 => graph_worth(alloc, part(line, 4)),
+        Kind::Witness(_) => Ok(Judged::Bad),
         _ => Ok(worth(is_counted(words), is_count_in_range(words))),
     }
 }

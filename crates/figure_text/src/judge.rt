@@ -114,22 +114,6 @@ pub fn behind(words: &[Word], from: usize) -> &[Word]
     }
 }
 
-// Whether all words from number `from` on are numbers without a minus.
-fn are_naturals(words: &[Word], from: usize) -> bool
-    ensures { IsTrue result ↔ All (λ w. IsTrue (is_natural w)) (drop from words.now) }
-{
-    behind(words, from)
-        .iter()
-        .all(|word| is_natural_word(*word))
-}
-
-// Whether all words from number `from` on are numbers.
-fn are_numbers(words: &[Word], from: usize) -> bool
-    ensures { IsTrue result ↔ All (λ w. IsTrue (is_number w)) (drop from words.now) }
-{
-    behind(words, from).iter().all(|word| is_number_word(*word))
-}
-
 // Whether a number is a coordinate.
 pub fn is_inside(word: Word) -> bool
     ensures { IsTrue result ↔ IsInside word }
@@ -144,45 +128,22 @@ fn is_vertex(word: Word) -> bool
     1 <= size_of(word) && size_of(word) <= 65535
 }
 
-// Whether all numbers from word `from` on are coordinates.
-fn are_inside(words: &[Word], from: usize) -> bool
-    ensures { IsTrue result ↔ All (λ w. IsInside w) (drop from words.now) }
-{
-    behind(words, from).iter().all(|word| is_inside(*word))
-}
-
-// Whether all numbers from word `from` on number vertices.
-fn are_vertices(words: &[Word], from: usize) -> bool
-    ensures { IsTrue result ↔ All (λ w. IsVertex w) (drop from words.now) }
-{
-    behind(words, from).iter().all(|word| is_vertex(*word))
-}
-
 // Whether a line has the shape of that of the columns.
 fn is_columns_line(words: &[Word]) -> bool
     ensures { IsTrue result ↔ IsColumnsLine words.now }
 {
-    is_name(word(words, 0), Name::Columns) && are_numbers(words, 1)
-}
-
-// The graph that a witness subdivides, by its word.
-fn subdivided(word: Word) -> Option<Subdivided>
-    ensures { result ≡ subdivided_of word }
-{
-    match word {
-        Word::Named(Name::K5) => Some(Subdivided::K5),
-        Word::Named(Name::K33) => Some(Subdivided::K33),
-        _ => None,
-    }
+    is_name(word(words, 0), Name::Columns)
+        && behind(words, 1).iter().all(|word| is_number_word(*word))
 }
 
 // The kind of a witness, by the word of the graph that it subdivides.
 fn witness_kind(word: Word) -> Option<Kind>
     ensures { result ≡ option_map (λ k. Kind.Witness k) (subdivided_of word) }
 {
-    match subdivided(word) {
-        Some(kind) => Some(Kind::Witness(kind)),
-        None => None,
+    match word {
+        Word::Named(Name::K5) => Some(Kind::Witness(Subdivided::K5)),
+        Word::Named(Name::K33) => Some(Kind::Witness(Subdivided::K33)),
+        _ => None,
     }
 }
 
@@ -248,16 +209,23 @@ fn is_long(kind: Kind, place: usize, len: usize) -> bool
 fn is_row(kind: Kind, place: usize, words: &[Word]) -> bool
     ensures { IsTrue result ↔ IsRow kind place words.now }
 {
-    are_fitting(pieces(kind), place, words)
+    let front = pieces(kind);
+    are_fitting(front, place, words)
         && is_long(kind, place, words.len())
-        && are_naturals(words, pieces(kind).len())
+        && behind(words, front.len())
+            .iter()
+            .all(|word| is_natural_word(*word))
 }
 
 // Whether the numbers of such a line are within their ranges.
 fn is_row_in_range(kind: Kind, words: &[Word]) -> bool
     ensures { IsTrue result ↔ RowInRange kind words.now }
 {
-    are_within(pieces(kind), words) && are_vertices(words, pieces(kind).len())
+    let front = pieces(kind);
+    are_within(front, words)
+        && behind(words, front.len())
+            .iter()
+            .all(|word| is_vertex(*word))
 }
 
 // Whether a figure's first line begins as one.
@@ -310,5 +278,6 @@ pub fn judged_row(kind: Kind, place: usize, words: &[Word]) -> Judged
 pub fn judged_columns(words: &[Word]) -> Judged
     ensures { Judges (IsColumnsLine words.now) (ColumnsInRange words.now) result }
 {
-    worth(is_columns_line(words), are_inside(words, 1))
+    let inside = behind(words, 1).iter().all(|word| is_inside(*word));
+    worth(is_columns_line(words), inside)
 }

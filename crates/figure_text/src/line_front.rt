@@ -6,7 +6,7 @@ ghost use Rattle.figure_text.specs.Plain.{IsPieceAt, IsFrontOf, plain_value};
 use crate::judge::{Kind, size_of};
 use crate::piece::{Piece, pieces};
 use crate::plain::short_coordinate_at;
-use crate::rows::signed_number;
+use crate::rows::{VertexLine, signed_number};
 use crate::words::{Name, Next, Signed, Word, closing_at, is_letter_at, is_word_at, short_at};
 
 /// The most words that a front has.
@@ -19,69 +19,6 @@ pub struct LineFront {
     pub numbers: [u32; MOST],
     /// The place behind them.
     pub end: usize,
-}
-
-// Returns a number of a vertex that begins at `at`, where it is written plainly.
-#[inline(always)]
-fn value_at(line: &[u8], at: usize) -> Option<Next>
-    ensures { (place : ℕ) → IfSome result (IsPieceAt Piece.Value place line.now at) }
-{
-    match short_coordinate_at(line, at) {
-        Some(digits) => Some(Next {
-            word: Word::Number(Signed {
-                negative: false,
-                size: digits.value,
-            }),
-            end: digits.end,
-        }),
-        None => None,
-    }
-}
-
-// Returns the last number of a vertex, which begins at `at`, where it is written plainly.
-#[inline(always)]
-fn last_at(line: &[u8], at: usize) -> Option<Next>
-    ensures { (place : ℕ) → IfSome result (IsPieceAt Piece.Last place line.now at) }
-{
-    match closing_at(line, at) {
-        Some(digits) => {
-            if digits.value <= 1_048_576 {
-                Some(Next {
-                    word: Word::Closing(Signed {
-                        negative: false,
-                        size: digits.value,
-                    }),
-                    end: digits.end,
-                })
-            } else {
-                None
-            }
-        }
-        None => None,
-    }
-}
-
-// Returns the number of the vertex `place`, where it begins at `at`.
-#[inline(always)]
-fn place_at(line: &[u8], at: usize, place: usize) -> Option<Next>
-    ensures { IfSome result (IsPieceAt Piece.Place place line.now at) }
-{
-    match short_at(line, at) {
-        Some(digits) => {
-            if digits.value as usize == place {
-                Some(Next {
-                    word: Word::Number(Signed {
-                        negative: false,
-                        size: digits.value,
-                    }),
-                    end: digits.end,
-                })
-            } else {
-                None
-            }
-        }
-        None => None,
-    }
 }
 
 // Returns a word with this end, where it is there.
@@ -121,27 +58,38 @@ fn plain_piece(piece: Piece, place: usize, line: &[u8], at: usize) -> Option<Nex
     ensures { IfSome result (IsPieceAt piece place line.now at) }
 {
     match piece {
-        Piece::Place => place_at(line, at, place),
+        Piece::Place => match short_at(line, at) {
+            Some(digits) if digits.value as usize == place => Some(Next {
+                word: Word::Number(Signed {
+                    negative: false,
+                    size: digits.value,
+                }),
+                end: digits.end,
+            }),
+            _ => None,
+        },
         Piece::Literal(name) => literal_at(line, at, name),
-        Piece::Value => value_at(line, at),
-        Piece::Last => last_at(line, at),
+        Piece::Value => match short_coordinate_at(line, at) {
+            Some(digits) => Some(Next {
+                word: Word::Number(Signed {
+                    negative: false,
+                    size: digits.value,
+                }),
+                end: digits.end,
+            }),
+            None => None,
+        },
+        Piece::Last => match closing_at(line, at) {
+            Some(digits) if digits.value <= 1_048_576 => Some(Next {
+                word: Word::Closing(Signed {
+                    negative: false,
+                    size: digits.value,
+                }),
+                end: digits.end,
+            }),
+            _ => None,
+        },
         Piece::Row => None,
-    }
-}
-
-// Reads piece `k` of a front, behind those before it, and says whether it is there.
-#[inline(always)]
-fn with_piece(front: &mut LineFront, k: usize, piece: Piece, place: usize, line: &[u8]) -> bool
-    requires { k < 7 }
-    ensures { (pieces : List Piece) → length pieces ≡ k → IsFrontOf pieces place line.now front.old → IsTrue result → IsFrontOf (pieces ++ piece ∷ []) place line.now front.new }
-{
-    match plain_piece(piece, place, line, front.end) {
-        Some(next) => {
-            front.numbers[k] = size_of(next.word);
-            front.end = next.end + 1;
-            true
-        }
-        None => false,
     }
 }
 
@@ -170,51 +118,71 @@ impl LineFront {
     }
 }
 
-// Reads what stands before the neighbours of vertex `place`, piece by piece, and says whether its words are good.
-fn any_front(pieces: &[Piece], front: &mut LineFront, place: usize, line: &[u8]) -> bool
-    requires { length pieces.now ≤ 7 }
-    ensures { IsFrontOf [] place line.now front.old → IsTrue result → IsFrontOf pieces.now place line.now front.new }
-{
-    for k in 0..pieces.len() {
-        if !with_piece(front, k, pieces[k], place, line) {
-            return false;
+impl VertexLine<'_> {
+    // Reads piece `k` of its front, behind those before it, and says whether it is there.
+    #[inline(always)]
+    fn with_piece(&self, front: &mut LineFront, k: usize, piece: Piece) -> bool
+        requires { k < 7 }
+        ensures { (pieces : List Piece) → length pieces ≡ k → IsFrontOf pieces self.now.place self.now.line.now front.old → IsTrue result
+            → IsFrontOf (pieces ++ piece ∷ []) self.now.place self.now.line.now front.new }
+    {
+        match plain_piece(piece, self.place, self.line, front.end) {
+            Some(next) => {
+                front.numbers[k] = size_of(next.word);
+                front.end = next.end + 1;
+                true
+            }
+            None => false,
         }
     }
-    true
-}
 
-// Reads the front of a line of a straight-line drawing like `any_front`, with no loop, which takes fewer instructions.
-#[inline(always)]
-fn grid_front(front: &mut LineFront, place: usize, line: &[u8]) -> bool
-    ensures { IsFrontOf [] place line.now front.old → IsTrue result → IsFrontOf grid_pieces place line.now front.new }
-{
-    with_piece(front, 0, Piece::Place, place, line)
-        && with_piece(front, 1, Piece::Literal(Name::At), place, line)
-        && with_piece(front, 2, Piece::Value, place, line)
-        && with_piece(front, 3, Piece::Last, place, line)
-}
+    // Reads what stands before its neighbours, piece by piece, and says whether its words are good.
+    fn any_front(&self, pieces: &[Piece], front: &mut LineFront) -> bool
+        requires { length pieces.now ≤ 7 }
+        ensures { IsFrontOf [] self.now.place self.now.line.now front.old → IsTrue result → IsFrontOf pieces.now self.now.place self.now.line.now front.new }
+    {
+        for k in 0..pieces.len() {
+            if !self.with_piece(front, k, pieces[k]) {
+                return false;
+            }
+        }
+        true
+    }
 
-// Reads the front of a line of a visibility drawing so.
-#[inline(always)]
-fn bar_front(front: &mut LineFront, place: usize, line: &[u8]) -> bool
-    ensures { IsFrontOf [] place line.now front.old → IsTrue result → IsFrontOf bar_pieces place line.now front.new }
-{
-    with_piece(front, 0, Piece::Place, place, line)
-        && with_piece(front, 1, Piece::Literal(Name::Y), place, line)
-        && with_piece(front, 2, Piece::Value, place, line)
-        && with_piece(front, 3, Piece::Literal(Name::X), place, line)
-        && with_piece(front, 4, Piece::Value, place, line)
-        && with_piece(front, 5, Piece::Last, place, line)
-}
+    // Reads the front of a line of a straight-line drawing like `any_front`, with no loop, which takes fewer instructions.
+    #[inline(always)]
+    fn grid_front(&self, front: &mut LineFront) -> bool
+        ensures { IsFrontOf [] self.now.place self.now.line.now front.old → IsTrue result → IsFrontOf grid_pieces self.now.place self.now.line.now front.new }
+    {
+        self.with_piece(front, 0, Piece::Place)
+            && self.with_piece(front, 1, Piece::Literal(Name::At))
+            && self.with_piece(front, 2, Piece::Value)
+            && self.with_piece(front, 3, Piece::Last)
+    }
 
-/// Reads what stands before the neighbours of vertex `place`, and says whether its words are good.
-#[inline(always)]
-pub fn read_front(kind: Kind, front: &mut LineFront, place: usize, line: &[u8]) -> bool
-    ensures { IsFrontOf [] place line.now front.old → IsTrue result → IsFrontOf (the_pieces kind) place line.now front.new }
-{
-    match kind {
-        Kind::Grid(_) => grid_front(front, place, line),
-        Kind::Bars => bar_front(front, place, line),
-        _ => any_front(pieces(kind), front, place, line),
+    // Reads the front of a line of a visibility drawing so.
+    #[inline(always)]
+    fn bar_front(&self, front: &mut LineFront) -> bool
+        ensures { IsFrontOf [] self.now.place self.now.line.now front.old → IsTrue result → IsFrontOf bar_pieces self.now.place self.now.line.now front.new }
+    {
+        self.with_piece(front, 0, Piece::Place)
+            && self.with_piece(front, 1, Piece::Literal(Name::Y))
+            && self.with_piece(front, 2, Piece::Value)
+            && self.with_piece(front, 3, Piece::Literal(Name::X))
+            && self.with_piece(front, 4, Piece::Value)
+            && self.with_piece(front, 5, Piece::Last)
+    }
+
+    /// Reads what stands before its neighbours, and says whether its words are good.
+    #[inline(always)]
+    pub fn read_front(&self, front: &mut LineFront) -> bool
+        ensures { IsFrontOf [] self.now.place self.now.line.now front.old → IsTrue result → IsFrontOf (the_pieces self.now.kind) self.now.place self.now.line.now front.new }
+    {
+        let row = *self;
+        match self.kind {
+            Kind::Grid(_) => self.grid_front(front),
+            Kind::Bars => self.bar_front(front),
+            _ => row.any_front(pieces(self.kind), front),
+        }
     }
 }

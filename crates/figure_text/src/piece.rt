@@ -49,20 +49,13 @@ pub fn pieces(kind: Kind) -> &'static [Piece]
     }
 }
 
-// Whether a word is the number of this place.
-fn is_place(word: Word, place: usize) -> bool
-    ensures { IsTrue result ↔ (IsTrue (is_natural word) × (size word ≡ place)) }
-{
-    is_natural_word(word) && size_of(word) as usize == place
-}
-
 /// Says whether a word of the line at this place has the shape of a piece.
 #[inline(always)]
 pub fn fits(piece: Piece, place: usize, word: Word) -> bool
     ensures { IsTrue result ↔ Fits place piece word }
 {
     match piece {
-        Piece::Place => is_place(word, place),
+        Piece::Place => is_natural_word(word) && size_of(word) as usize == place,
         Piece::Literal(name) => is_name(word, name),
         Piece::Row => is_name(word, row_word(place)),
         Piece::Value => is_number_word(word),

@@ -46,6 +46,7 @@ pub(crate) fn push_number(out: &mut Vec<u8>, number: u64) -> Result<(), AllocErr
 }
 
 // Appends a space and a number.
+#[inline(always)]
 pub(crate) fn push_next(out: &mut Vec<u8>, number: u64) -> Result<(), AllocError>
     ensures { OnOk result (out.new.items ≡ out.old.items ++ 32 ∷ decimal number) }
 {
@@ -65,6 +66,18 @@ fn word_of(job: GridJob) -> &'static [u8]
     }
 }
 
+/// What the first line of a drawing says of it, with the lists whose lines follow.
+#[derive(Clone, Copy)]
+pub(crate) struct Heading<'a> {
+    /// The number of the figure.
+    pub number: u32,
+    /// The word of its job.
+    pub word: &'a [u8],
+    /// The neighbours of each vertex in clockwise order.
+    pub lists: &'a Rotations,
+    pub ghost short: { length word.now ≤ 8 },
+}
+
 // How many bytes the first line and the lines of the vertices take at most.
 fn room_of<R: Numbered>(lists: &Rotations) -> Result<usize, AllocError>
     ensures { IfOk result (λ room. room ≡ 60 + 6 * sum_by length lists.now + fronts_room R.longest (length lists.now)) }
@@ -81,20 +94,18 @@ fn room_of<R: Numbered>(lists: &Rotations) -> Result<usize, AllocError>
 // Writes the first line and the lines of the vertices at the end, and returns where they start.
 fn write_figure<R: Numbered>(
     texts: &Texts<'_>,
-    number: u32,
-    word: &[u8],
-    lists: &Rotations,
+    heading: &Heading<'_>,
     figure: &R,
     bytes: &mut [u8],
 ) -> usize
-    requires word { length word.now ≤ 8 }
-    requires has { (v : ℕ) → v < length lists.now → R.Has figure.now v }
-    requires room { 60 + 6 * sum_by length lists.now + fronts_room R.longest (length lists.now) ≤ length bytes.old }
+    requires has { (v : ℕ) → v < length heading.now.lists.now → R.Has figure.now v }
+    requires room { 60 + 6 * sum_by length heading.now.lists.now + fronts_room R.longest (length heading.now.lists.now) ≤ length bytes.old }
     ensures within { result ≤ length bytes.new }
-    ensures written { drop result bytes.new ≡ first_line number word.now (length lists.now) ++ vertex_lines R.pieces (R.numbers figure.now) lists.now (length lists.now) }
+    ensures written { drop result bytes.new ≡ first_line heading.now.number heading.now.word.now (length heading.now.lists.now)
+        ++ vertex_lines R.pieces (R.numbers figure.now) heading.now.lists.now (length heading.now.lists.now) }
 {
-    let lines = write_lines(texts, figure, lists, bytes);
-    write_first(texts, number, word, lists.len(), bytes, lines)
+    let lines = write_lines(texts, figure, heading.lists, bytes);
+    write_first(texts, heading, bytes, lines)
 }
 
 /// Appends the text of a figure with this number. Each list of the drawing has an entry for each vertex, but
@@ -110,64 +121,13 @@ pub fn print_figure(
     ensures ok { OnOk result ((text : List ℕ) × IsText number fig.now text × (out.new.items ≡ out.old.items ++ text)) }
     ensures err { OnErr result (out.new.items ≡ out.old.items) }
 {
+    let mut printer = Printer::new(alloc);
     match fig {
-        Figure::Grid { job, lists, points } => print_grid(alloc, number, *job, lists, points, out),
-        Figure::Bars { lists, bars } => print_bars(alloc, number, lists, bars, out),
-        Figure::Rects { lists, rects } => print_rects(alloc, number, lists, rects, out),
+        Figure::Grid { job, lists, points } => printer.print_grid(number, *job, lists, points, out),
+        Figure::Bars { lists, bars } => printer.print_bars(number, lists, bars, out),
+        Figure::Rects { lists, rects } => printer.print_rects(number, lists, rects, out),
         Figure::Witness { graph, witness } => print_witness(alloc, number, graph, witness, out),
     }
-}
-
-/// Appends the text of a straight-line drawing with this number, of lists and a point for each of them. When
-/// memory runs out the bytes are as they were.
-pub fn print_grid(
-    alloc: Global,
-    number: u32,
-    job: GridJob,
-    lists: &Rotations,
-    points: &Points,
-    out: &mut Vec<u8>,
-) -> Result<(), AllocError>
-    requires { length points.now ≡ length lists.now }
-    ensures ok { OnOk result (out.new.items ≡ out.old.items ++ grid_text number job lists.now points.now) }
-    ensures err { OnErr result (out.new.items ≡ out.old.items) }
-{
-    let mut printer = Printer::new(alloc);
-    printer.print_grid(number, job, lists, points, out)
-}
-
-/// Appends the text of a visibility drawing with this number, of lists and a bar for each of them. When memory
-/// runs out the bytes are as they were.
-pub fn print_bars(
-    alloc: Global,
-    number: u32,
-    lists: &Rotations,
-    bars: &BarFigure,
-    out: &mut Vec<u8>,
-) -> Result<(), AllocError>
-    requires { HasBars lists.now bars.now }
-    ensures ok { OnOk result (out.new.items ≡ out.old.items ++ bars_text number lists.now bars.now) }
-    ensures err { OnErr result (out.new.items ≡ out.old.items) }
-{
-    let mut printer = Printer::new(alloc);
-    printer.print_bars(number, lists, bars, out)
-}
-
-/// Appends the text of a rectangular dual with this number, of lists and a rectangle for each of them. When
-/// memory runs out the bytes are as they were.
-pub fn print_rects(
-    alloc: Global,
-    number: u32,
-    lists: &Rotations,
-    rects: &RectFigure,
-    out: &mut Vec<u8>,
-) -> Result<(), AllocError>
-    requires { HasRects lists.now rects.now }
-    ensures ok { OnOk result (out.new.items ≡ out.old.items ++ rects_text number lists.now rects.now) }
-    ensures err { OnErr result (out.new.items ≡ out.old.items) }
-{
-    let mut printer = Printer::new(alloc);
-    printer.print_rects(number, lists, rects, out)
 }
 
 // How many bytes the text of a visibility drawing takes at most.
@@ -196,8 +156,13 @@ fn write_bars(
     ensures within { result ≤ length bytes.new }
     ensures written { drop result bytes.new ≡ bars_text number lists.now bars.now }
 {
+    let heading = Heading {
+        number,
+        word: b"bars",
+        lists,
+    };
     let end = write_columns(texts, bars.column.as_slice(), bytes);
-    write_figure(texts, number, b"bars", lists, bars, &mut bytes[..end])
+    write_figure(texts, &heading, bars, &mut bytes[..end])
 }
 
 /// Prints figures, one after another, and keeps its memory for the next: that of the longest text so far, and the texts of
@@ -232,24 +197,23 @@ impl Printer {
     // Appends the first line and the lines of the vertices.
     fn print_lines<R: Numbered>(
         &mut self,
-        number: u32,
-        word: &[u8],
-        lists: &Rotations,
+        heading: &Heading<'_>,
         figure: &R,
         out: &mut Vec<u8>,
     ) -> Result<(), AllocError>
-        requires word { length word.now ≤ 8 }
-        requires has { (v : ℕ) → v < length lists.now → R.Has figure.now v }
-        ensures ok { OnOk result (out.new.items ≡ out.old.items ++ (first_line number word.now (length lists.now) ++ vertex_lines R.pieces (R.numbers figure.now) lists.now (length lists.now))) }
+        requires { (v : ℕ) → v < length heading.now.lists.now → R.Has figure.now v }
+        ensures ok { OnOk result (out.new.items ≡ out.old.items ++ (first_line heading.now.number heading.now.word.now (length heading.now.lists.now)
+            ++ vertex_lines R.pieces (R.numbers figure.now) heading.now.lists.now (length heading.now.lists.now))) }
         ensures err { OnErr result (out.new.items ≡ out.old.items) }
     {
-        self.prepare(lists.len(), room_of::<R>(lists)?)?;
+        self.prepare(heading.lists.len(), room_of::<R>(heading.lists)?)?;
         let texts = self.numerals.lend();
-        let start = write_figure(&texts, number, word, lists, figure, &mut self.bytes);
+        let start = write_figure(&texts, heading, figure, &mut self.bytes);
         out.extend_from_slice(&self.bytes[start..])
     }
 
-    /// Appends the text of a straight-line drawing, as `print_grid` does.
+    /// Appends the text of a straight-line drawing with this number, of lists and a point for each of them. When
+    /// memory runs out the bytes are as they were.
     pub fn print_grid(
         &mut self,
         number: u32,
@@ -262,10 +226,16 @@ impl Printer {
         ensures ok { OnOk result (out.new.items ≡ out.old.items ++ grid_text number job lists.now points.now) }
         ensures err { OnErr result (out.new.items ≡ out.old.items) }
     {
-        self.print_lines(number, word_of(job), lists, points, out)
+        let heading = Heading {
+            number,
+            word: word_of(job),
+            lists,
+        };
+        self.print_lines(&heading, points, out)
     }
 
-    /// Appends the text of a visibility drawing, as `print_bars` does.
+    /// Appends the text of a visibility drawing with this number, of lists and a bar for each of them. When memory
+    /// runs out the bytes are as they were.
     pub fn print_bars(
         &mut self,
         number: u32,
@@ -283,7 +253,8 @@ impl Printer {
         out.extend_from_slice(&self.bytes[start..])
     }
 
-    /// Appends the text of a rectangular dual, as `print_rects` does.
+    /// Appends the text of a rectangular dual with this number, of lists and a rectangle for each of them. When
+    /// memory runs out the bytes are as they were.
     pub fn print_rects(
         &mut self,
         number: u32,
@@ -295,6 +266,11 @@ impl Printer {
         ensures ok { OnOk result (out.new.items ≡ out.old.items ++ rects_text number lists.now rects.now) }
         ensures err { OnErr result (out.new.items ≡ out.old.items) }
     {
-        self.print_lines(number, b"rect", lists, rects, out)
+        let heading = Heading {
+            number,
+            word: b"rect",
+            lists,
+        };
+        self.print_lines(&heading, rects, out)
     }
 }

@@ -119,46 +119,21 @@ fn ids_of(alloc: Global, list: &[u16]) -> Result<Vec<VertexId>, AllocError>
     list.iter().map(|u| VertexId(*u)).collect(alloc)
 }
 
-// The branches, which are the first list.
-fn branch_of(alloc: Global, lists: &ItemLists<u16>) -> Result<VertexList, AllocError>
-    requires { 0 < length lists.now }
-    ensures { IfOk result (λ branch. branch ≡ ids (slice_index_or lists.now 0 [])) }
-{
-    let mut branch = VertexList::new(alloc);
-    let list = lists.list(0);
-    for k in 0..list.len() {
-        branch.push(VertexId(list[k]))?;
-    }
-    Ok(branch)
-}
-
-// Appends a path.
-fn push_path(alloc: Global, list: &[u16], paths: &mut PathList) -> Result<(), AllocError>
-    ensures { OnOk result (paths.new ≡ paths.old ++ ids list.now ∷ []) }
-{
-    let path = ids_of(alloc, list)?;
-    paths.push(&path)?;
-    Ok(())
-}
-
-// The paths, which are the other lists.
-fn paths_behind(alloc: Global, lists: &ItemLists<u16>) -> Result<PathList, AllocError>
-    ensures { IfOk result (λ paths. paths ≡ map ids (drop 1 lists.now)) }
-{
-    let mut paths = PathList::new(alloc);
-    for p in 1..lists.len() {
-        push_path(alloc, lists.list(p), &mut paths)?;
-    }
-    Ok(paths)
-}
-
 /// The witness of a draft, whose lists are the branches and then the paths.
 pub fn draft_witness(alloc: Global, kind: Subdivided, draft: &Draft) -> Result<Witness, AllocError>
     requires { 0 < length draft.now.lists }
     ensures { IfOk result (λ witness. witness ≡ witness_of kind draft.now.lists) }
 {
-    let branch = branch_of(alloc, &draft.lists)?;
-    let paths = paths_behind(alloc, &draft.lists)?;
+    let mut branch = VertexList::new(alloc);
+    let first = draft.lists.list(0);
+    for k in 0..first.len() {
+        branch.push(VertexId(first[k]))?;
+    }
+    let mut paths = PathList::new(alloc);
+    for p in 1..draft.lists.len() {
+        let path = ids_of(alloc, draft.lists.list(p))?;
+        paths.push(&path)?;
+    }
     Ok(Witness {
         kind,
         branch,

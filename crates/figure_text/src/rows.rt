@@ -7,7 +7,7 @@ ghost use Rattle.figure_text.specs.Reading.{Judges, IsRow, RowInRange};
 ghost use Rattle.figure_text.specs.Drafts.{with_values, with_row};
 
 use crate::judge::{Judged, Kind, MOST, behind, is_witness, judged_row, size_of, word};
-use crate::line_front::{LineFront, read_front};
+use crate::line_front::LineFront;
 use crate::piece::{is_front, pieces};
 use crate::plain::push_plain;
 use crate::words::{Signed, Word, fill_front, fill_known};
@@ -27,6 +27,17 @@ pub struct Draft {
     pub x2: Ints,
     /// The upper side of each rectangle.
     pub y2: Ints,
+}
+
+/// The line of a vertex, or of branches or a path, without the byte 10 that closes it.
+#[derive(Clone, Copy)]
+pub struct VertexLine<'a> {
+    /// The kind of its figure.
+    pub kind: Kind,
+    /// Its number behind the first line, from 1.
+    pub place: usize,
+    /// Its bytes.
+    pub line: &'a [u8],
 }
 
 // The vertex that a number from 1 to 65535 names, from 0.
@@ -159,99 +170,78 @@ fn push_row(kind: Kind, words: &Vec<Word>, draft: &mut Draft) -> Result<(), Allo
     push_values(kind, words, draft)
 }
 
-// Appends what the line of a vertex gives, by the words of its front, and says whether it is found good: its neighbours are
-// written plainly, and are not kept as words. Where it is not, the draft is as it was.
-fn push_by_words(
-    found: &mut Vec<Word>,
-    kind: Kind,
-    place: usize,
-    line: &[u8],
-    draft: &mut Draft,
-) -> Result<bool, AllocError>
-    ensures good { IfOk result (λ good. OnTrue good (IsRow kind place (words_of line.now) × RowInRange kind (words_of line.now)
-        × (draft.new ≡ with_row kind draft.old (words_of line.now)))) }
-    ensures bad { IfOk result (λ good. good ≡ false → draft.new ≡ draft.old) }
-{
-    let pieces = pieces(kind);
-    let at = fill_front(line, pieces.len(), found)?;
-    if is_witness(kind) || !is_front(pieces, place, found) {
-        return Ok(false);
+impl VertexLine<'_> {
+    // Appends what it gives, by the words of its front, and says whether it is found good: its neighbours are written plainly,
+    // and are not kept as words. Where it is not, the draft is as it was.
+    fn push_by_words(&self, found: &mut Vec<Word>, draft: &mut Draft) -> Result<bool, AllocError>
+        ensures good { IfOk result (λ good. OnTrue good (IsRow self.now.kind self.now.place (words_of self.now.line.now)
+            × RowInRange self.now.kind (words_of self.now.line.now)
+            × (draft.new ≡ with_row self.now.kind draft.old (words_of self.now.line.now)))) }
+        ensures bad { IfOk result (λ good. good ≡ false → draft.new ≡ draft.old) }
+    {
+        let pieces = pieces(self.kind);
+        let at = fill_front(self.line, pieces.len(), found)?;
+        if is_witness(self.kind) || !is_front(pieces, self.place, found) {
+            return Ok(false);
+        }
+        if !push_plain(self.line, at, &mut draft.lists)? {
+            return Ok(false);
+        }
+        push_values(self.kind, found, draft)?;
+        Ok(true)
     }
-    if !push_plain(line, at, &mut draft.lists)? {
-        return Ok(false);
-    }
-    push_values(kind, found, draft)?;
-    Ok(true)
-}
 
-/// Appends what the line of a vertex gives, where it is found good at sight, and says whether it is. The line is given without
-/// the byte 10 that closes it. Where it is not, the draft is as it was, and the line may still be good. No words are kept of
-/// numbers that are written plainly.
-#[inline(always)]
-pub fn quick_row(
-    found: &mut Vec<Word>,
-    kind: Kind,
-    place: usize,
-    line: &[u8],
-    draft: &mut Draft,
-) -> Result<bool, AllocError>
-    ensures good { IfOk result (λ good. OnTrue good (IsRow kind place (words_of line.now) × RowInRange kind (words_of line.now)
-        × (draft.new ≡ with_row kind draft.old (words_of line.now)))) }
-    ensures bad { IfOk result (λ good. good ≡ false → draft.new ≡ draft.old) }
-{
-    let mut front = LineFront::new();
-    if is_witness(kind) || !read_front(kind, &mut front, place, line) {
-        return push_by_words(found, kind, place, line, draft);
+    /// Appends what it gives, where it is found good at sight, and says whether it is. Where it is not, the draft is as it was,
+    /// and the line may still be good. No words are kept of numbers that are written plainly.
+    #[inline(always)]
+    pub fn quick(&self, found: &mut Vec<Word>, draft: &mut Draft) -> Result<bool, AllocError>
+        ensures good { IfOk result (λ good. OnTrue good (IsRow self.now.kind self.now.place (words_of self.now.line.now)
+            × RowInRange self.now.kind (words_of self.now.line.now)
+            × (draft.new ≡ with_row self.now.kind draft.old (words_of self.now.line.now)))) }
+        ensures bad { IfOk result (λ good. good ≡ false → draft.new ≡ draft.old) }
+    {
+        let row = *self;
+        let mut front = LineFront::new();
+        if is_witness(self.kind) || !self.read_front(&mut front) {
+            return row.push_by_words(found, draft);
+        }
+        if !push_plain(self.line, front.end, &mut draft.lists)? {
+            return Ok(false);
+        }
+        push_values(self.kind, &front, draft)?;
+        Ok(true)
     }
-    if !push_plain(line, front.end, &mut draft.lists)? {
-        return Ok(false);
-    }
-    push_values(kind, &front, draft)?;
-    Ok(true)
-}
 
-// Judges the line of a vertex by its words, and appends what a good one gives.
-fn exact_row(
-    found: &mut Vec<Word>,
-    kind: Kind,
-    place: usize,
-    line: &[u8],
-    draft: &mut Draft,
-) -> Option<Judged>
-    ensures { IfSome result (λ judged. Judges (IsRow kind place (words_of line.now)) (RowInRange kind (words_of line.now)) judged
-        × (judged ≡ Judged.Good → draft.new ≡ with_row kind draft.old (words_of line.now))) }
-{
-    match fill_known(line, found) {
-        Ok(false) => Some(Judged::Bad),
-        Ok(true) => match judged_row(kind, place, found) {
-            Judged::Good => match push_row(kind, found, draft) {
-                Ok(()) => Some(Judged::Good),
-                Err(_) => None,
+    // Judges it by its words, and appends what a good one gives.
+    fn exact(&self, found: &mut Vec<Word>, draft: &mut Draft) -> Option<Judged>
+        ensures { IfSome result (λ judged. Judges (IsRow self.now.kind self.now.place (words_of self.now.line.now)) (RowInRange self.now.kind (words_of self.now.line.now)) judged
+            × (judged ≡ Judged.Good → draft.new ≡ with_row self.now.kind draft.old (words_of self.now.line.now))) }
+    {
+        match fill_known(self.line, found) {
+            Ok(false) => Some(Judged::Bad),
+            Ok(true) => match judged_row(self.kind, self.place, found) {
+                Judged::Good => match push_row(self.kind, found, draft) {
+                    Ok(()) => Some(Judged::Good),
+                    Err(_) => None,
+                },
+                Judged::Bad => Some(Judged::Bad),
+                Judged::Limit => Some(Judged::Limit),
             },
-            Judged::Bad => Some(Judged::Bad),
-            Judged::Limit => Some(Judged::Limit),
-        },
-        Err(_) => None,
+            Err(_) => None,
+        }
     }
-}
 
-/// Judges the line of a vertex, which is given without the byte 10 that closes it, and appends what a good
-/// one gives. Without memory there is no answer. The vector is for words of the line, and keeps its memory for
-/// those of the next.
-#[inline(never)]
-pub fn row_of(
-    found: &mut Vec<Word>,
-    kind: Kind,
-    place: usize,
-    line: &[u8],
-    draft: &mut Draft,
-) -> Option<Judged>
-    ensures { IfSome result (λ judged. Judges (IsRow kind place (words_of line.now)) (RowInRange kind (words_of line.now)) judged
-        × (judged ≡ Judged.Good → draft.new ≡ with_row kind draft.old (words_of line.now))) }
-{
-    match quick_row(found, kind, place, line, draft) {
-        Ok(true) => Some(Judged::Good),
-        Ok(false) => exact_row(found, kind, place, line, draft),
-        Err(_) => None,
+    /// Judges it, and appends what a good one gives. Without memory there is no answer. The vector is for its words, and keeps
+    /// its memory for those of the next line.
+    #[inline(never)]
+    pub fn judge(&self, found: &mut Vec<Word>, draft: &mut Draft) -> Option<Judged>
+        ensures { IfSome result (λ judged. Judges (IsRow self.now.kind self.now.place (words_of self.now.line.now)) (RowInRange self.now.kind (words_of self.now.line.now)) judged
+            × (judged ≡ Judged.Good → draft.new ≡ with_row self.now.kind draft.old (words_of self.now.line.now))) }
+    {
+        match self.quick(found, draft) {
+            Ok(true) => Some(Judged::Good),
+            Ok(false) => self.exact(found, draft),
+            Err(_) => None,
+        }
     }
 }

@@ -1,5 +1,5 @@
 //! A witness as text.
-ghost use Rattle.std.specs.Prelude.{◌≡◌, ◌+◌, ◌++◌, ◌∷◌, [], List, ℕ, length, take, flat_map, decimal, ◌<◌, OnOk, OnErr, IfOk};
+ghost use Rattle.std.specs.Prelude.{◌≡◌, ◌+◌, ◌++◌, ◌∷◌, [], List, ℕ, length, flat_map, codes, decimal, ◌<◌, OnOk, OnErr, IfOk};
 ghost use Rattle.graph6_text.specs.Lines.{IsLine as IsGraphLine};
 ghost use Rattle.figure_text.specs.Lines.{row_name};
 ghost use Rattle.figure_text.specs.Pieces.{row_front};
@@ -21,25 +21,39 @@ fn word_of(kind: Kind) -> &'static [u8]
     }
 }
 
-// Appends the first line of a witness.
-fn push_first(out: &mut Vec<u8>, number: u32, kind: Kind, line: &[u8]) -> Result<(), AllocError>
-    ensures { OnOk result (out.new.items ≡ out.old.items ++ witness_first_line number kind line.now) }
+// Appends the first line of a witness, with the line of its graph.
+fn push_first(out: &mut Vec<u8>, number: u32, graph: &Graph, kind: Kind) -> Result<(), AllocError>
+    ensures { OnOk result ((line : List ℕ) × IsGraphLine line graph.now × (out.new.items ≡ out.old.items ++ witness_first_line number kind line)) }
 {
     out.extend_from_slice(b"figure")?;
     push_next(out, u64::from(number))?;
     out.extend_from_slice(b" witness ")?;
     out.extend_from_slice(word_of(kind))?;
     out.push(b' ')?;
-    out.extend_from_slice(line)?;
+    write_line(graph, out)?;
     out.push(b'\n')?;
     Ok(())
 }
 
-// The word with which line `v` behind the first begins, from 0.
-fn row_text(v: usize) -> &'static [u8]
-    ensures { result.now ≡ name_text (row_name (v + 1)) }
+// Appends the word of a path.
+fn push_path_word(out: &mut Vec<u8>) -> Result<(), AllocError>
+    ensures { OnOk result (out.new.items ≡ out.old.items ++ codes "path") }
 {
-    if v == 0 { b"branch" } else { b"path" }
+    out.push(b'p')?;
+    out.push(b'a')?;
+    out.push(b't')?;
+    out.push(b'h')?;
+    Ok(())
+}
+
+// Appends the word with which line `v` behind the first begins, from 0.
+fn push_word(out: &mut Vec<u8>, v: usize) -> Result<(), AllocError>
+    ensures { OnOk result (out.new.items ≡ out.old.items ++ name_text (row_name (v + 1))) }
+{
+    if v == 0 {
+        return out.extend_from_slice(b"branch");
+    }
+    push_path_word(out)
 }
 
 // Appends vertices.
@@ -56,7 +70,7 @@ fn push_ids(out: &mut Vec<u8>, ids: &[VertexId]) -> Result<(), AllocError>
 fn push_row(out: &mut Vec<u8>, v: usize, ids: &[VertexId]) -> Result<(), AllocError>
     ensures { OnOk result (out.new.items ≡ out.old.items ++ vertex_line row_front v [] (vertex_numbers ids.now)) }
 {
-    out.extend_from_slice(row_text(v))?;
+    push_word(out, v)?;
     push_ids(out, ids)?;
     out.push(b'\n')?;
     Ok(())
@@ -76,21 +90,6 @@ fn push_rows(out: &mut Vec<u8>, witness: &Witness) -> Result<(), AllocError>
 // How many bytes the text of a witness of few vertices has at most.
 const ROOM: usize = 256;
 
-// The text of a witness, by the line of its graph.
-fn text_by_line(
-    alloc: Global,
-    number: u32,
-    line: &[u8],
-    witness: &Witness,
-) -> Result<Vec<u8>, AllocError>
-    ensures { IfOk result (λ text. text.items ≡ witness_text number line.now witness.now) }
-{
-    let mut text = Vec::with_capacity(alloc, ROOM)?;
-    push_first(&mut text, number, witness.kind, line)?;
-    push_rows(&mut text, witness)?;
-    Ok(text)
-}
-
 // The text of a witness.
 fn witness_text_of(
     alloc: Global,
@@ -101,9 +100,10 @@ fn witness_text_of(
     ensures { IfOk result (λ text. (line : List ℕ) × IsGraphLine line graph.now
         × (text.items ≡ witness_text number line witness.now)) }
 {
-    let mut line = Vec::new(alloc);
-    write_line(graph, &mut line)?;
-    text_by_line(alloc, number, &line, witness)
+    let mut text = Vec::with_capacity(alloc, ROOM)?;
+    push_first(&mut text, number, graph, witness.kind)?;
+    push_rows(&mut text, witness)?;
+    Ok(text)
 }
 
 /// Appends the text of a witness with this number, and with the line of its graph. When memory runs out the bytes are

@@ -66,55 +66,26 @@ fn number(word: &[u8]) -> Option<u32>
     }
 }
 
-// A number without a minus.
-fn without_minus(found: Option<u32>) -> Option<Signed>
-    ensures { result ≡ plus found }
-{
-    match found {
-        Some(size) => Some(Signed {
-            negative: false,
-            size,
-        }),
-        None => None,
-    }
-}
-
-// A number behind a minus, which is not 0.
-fn with_minus(found: Option<u32>) -> Option<Signed>
-    ensures { result ≡ minus found }
-{
-    match found {
-        Some(size) => {
-            if size == 0 {
-                None
-            } else {
-                Some(Signed {
-                    negative: true,
-                    size,
-                })
-            }
-        }
-        None => None,
-    }
-}
-
 // The signed number that a word is, if it is one.
 fn signed_number(word: &[u8]) -> Option<Signed>
     ensures { result ≡ signed_of word.now }
 {
     match word {
-        [b'-', digits @ ..] => with_minus(number(digits)),
-        _ => without_minus(number(word)),
-    }
-}
-
-// The signed number before the colon with which a word ends.
-fn closing(word: &[u8]) -> Option<Signed>
-    ensures { result ≡ closing_of word.now }
-{
-    match word {
-        [front @ .., b':'] => signed_number(front),
-        _ => None,
+        [b'-', digits @ ..] => match number(digits) {
+            Some(0) => None,
+            Some(size) => Some(Signed {
+                negative: true,
+                size,
+            }),
+            None => None,
+        },
+        _ => match number(word) {
+            Some(size) => Some(Signed {
+                negative: false,
+                size,
+            }),
+            None => None,
+        },
     }
 }
 
@@ -124,9 +95,12 @@ fn numeral(word: &[u8]) -> Word
 {
     match signed_number(word) {
         Some(z) => Word::Number(z),
-        None => match closing(word) {
-            Some(z) => Word::Closing(z),
-            None => Word::Other,
+        None => match word {
+            [front @ .., b':'] => match signed_number(front) {
+                Some(z) => Word::Closing(z),
+                None => Word::Other,
+            },
+            _ => Word::Other,
         },
     }
 }
@@ -187,17 +161,6 @@ fn is_low(word: &[u8]) -> bool
     }
 }
 
-// Reads a word that may be any.
-fn other_word(word: &[u8]) -> Word
-    ensures { result ≡ word_meant word.now }
-{
-    if is_low(word) {
-        numeral(word)
-    } else {
-        named(word)
-    }
-}
-
 // Reads a word. The words within the lines of vertices are told first.
 fn word_of(word: &[u8]) -> Word
     ensures { result ≡ word_meant word.now }
@@ -206,7 +169,8 @@ fn word_of(word: &[u8]) -> Word
         [b'x'] => Word::Named(Name::X),
         [b'y'] => Word::Named(Name::Y),
         [b'a', b't'] => Word::Named(Name::At),
-        _ => other_word(word),
+        _ if is_low(word) => numeral(word),
+        _ => named(word),
     }
 }
 

@@ -4,18 +4,18 @@ ghost use Rattle.map_lists.specs.Lists.{Lists};
 ghost use Rattle.pg_plane.specs.declared.point.Point.{Point};
 ghost use Rattle.map_theory.specs.Maps.{face_count};
 ghost use Rattle.half_edges.specs.Map.{first_dart};
-ghost use Rattle.draw_check.specs.Faults.{HasPlaces};
 ghost use Rattle.draw_check.specs.Verdicts.{IsVerdict};
 ghost use Rattle.draw_check.specs.declared.verdict.Verdict.TheVariants.{Yes as NoFault};
 ghost use Rattle.convex_check.specs.Verdicts.{IsConvexVerdict};
 ghost use Rattle.figure_verdicts.specs.Verdicts.{HasBase, IsBendVerdict, IsShapedVerdict};
 
 use crate::FigureVerdict;
+use crate::drawn::MapDrawing;
 use convex_check::{ConvexVerdict, check_convex_points};
 use draw_check::{Verdict, check_points};
-use half_edges::{HalfMap, VertexId};
-use pg_plane::{Point, Points};
-use std::alloc::{AllocError, Global};
+use half_edges::VertexId;
+use pg_plane::Point;
+use std::alloc::AllocError;
 
 // The verdict on a drawing without another fault, by that of the check of bends.
 fn of_convex(verdict: ConvexVerdict) -> FigureVerdict
@@ -28,37 +28,31 @@ fn of_convex(verdict: ConvexVerdict) -> FigureVerdict
     }
 }
 
-// The verdict on a drawing without another fault, by its bends.
-fn bend_verdict(alloc: Global, map: &HalfMap, points: &Points) -> Result<FigureVerdict, AllocError>
-    requires places { HasPlaces map.now.lists points.now }
-    ensures { IfOk result (IsBendVerdict map.now.lists points.now) }
-{
-    map.facts();
-    match map.first_dart(VertexId(0)) {
-        Some(base) => {
-            let verdict = check_convex_points(alloc, map, base, points)?;
-            Ok(of_convex(verdict))
+impl MapDrawing<'_> {
+    // The verdict on one without another fault, by its bends.
+    fn bend_verdict(&self) -> Result<FigureVerdict, AllocError>
+        ensures { IfOk result (IsBendVerdict self.now.map.now.lists self.now.points.now) }
+    {
+        self.map.facts();
+        match self.map.first_dart(VertexId(0)) {
+            Some(base) => {
+                let verdict = check_convex_points(self.alloc, self.map, base, self.points)?;
+                Ok(of_convex(verdict))
+            }
+            None => Ok(FigureVerdict::Convex(ConvexVerdict::OuterBent)),
         }
-        None => Ok(FigureVerdict::Convex(ConvexVerdict::OuterBent)),
     }
-}
 
-/// The verdict on a drawing of a simple map that is to be convex, whose coordinates are not beyond 2^20 in size: its
-/// first fault; or, where it has none, how a face bends; or `Yes`.
-pub fn convex_verdict(
-    alloc: Global,
-    map: &HalfMap,
-    points: &Points,
-    corner: Point,
-) -> Result<FigureVerdict, AllocError>
-    requires places { HasPlaces map.now.lists points.now }
-    ensures { IfOk result (IsShapedVerdict map.now.lists points.now corner.x corner.y) }
-{
-    match check_points(map, points, corner) {
-        Verdict::Yes => {
-            let verdict = bend_verdict(alloc, map, points)?;
-            Ok(verdict)
+    /// The verdict on one that is to be convex: its first fault; or, where it has none, how a face bends; or `Yes`.
+    pub fn convex_verdict(&self, corner: Point) -> Result<FigureVerdict, AllocError>
+        ensures { IfOk result (IsShapedVerdict self.now.map.now.lists self.now.points.now corner.x corner.y) }
+    {
+        match check_points(self.map, self.points, corner) {
+            Verdict::Yes => {
+                let verdict = self.bend_verdict()?;
+                Ok(verdict)
+            }
+            verdict => Ok(FigureVerdict::Drawing(verdict)),
         }
-        verdict => Ok(FigureVerdict::Drawing(verdict)),
     }
 }

@@ -58,61 +58,57 @@ pub fn is_drawn_triangulation(
         && are_triangulation(alloc, lists)
 }
 
-// The verdict on a drawing of a connected map by its outer face.
-fn outer_verdict(alloc: Global, map: &HalfMap, points: &Points) -> Result<FigureVerdict, AllocError>
-    requires places { HasPlaces map.now.lists points.now }
-    requires connected { component_count map.now.lists ≡ 1 }
-    ensures { IfOk result (λ verdict. (width height : ℤ) → IsVerdict map.now.lists points.now width height NoFault
-        → IsDrawnVerdict map.now.lists points.now width height verdict) }
-{
-    map.facts();
-    match map.first_dart(VertexId(0)) {
-        Some(base) => match check_outer_connected(alloc, map, base, points)? {
-            OuterVerdict::Inside(v, u) => Ok(FigureVerdict::Inside(v, u)),
-            OuterVerdict::Yes => Ok(FigureVerdict::Yes),
-        },
-        // the map has one vertex
-        None => Ok(FigureVerdict::Yes),
-    }
+/// A straight-line drawing of a simple map with its counts, whose coordinates are not beyond 2^20 in size.
+#[derive(Clone, Copy)]
+pub struct MapDrawing<'a> {
+    pub alloc: Global,
+    pub map: &'a HalfMap,
+    pub count: EulerCount,
+    pub points: &'a Points,
+    pub ghost counted: { IsCountOf map.now.lists count },
+    pub ghost places: { HasPlaces map.now.lists points.now },
 }
 
-// The verdict on a drawing without a fault, by its outer face.
-fn faultless_verdict(
-    alloc: Global,
-    map: &HalfMap,
-    count: EulerCount,
-    points: &Points,
-) -> Result<FigureVerdict, AllocError>
-    requires counted { IsCountOf map.now.lists count }
-    requires places { HasPlaces map.now.lists points.now }
-    ensures { IfOk result (λ verdict. (width height : ℤ) → IsVerdict map.now.lists points.now width height NoFault
-        → IsDrawnVerdict map.now.lists points.now width height verdict) }
-{
-    if count.c == 1 {
-        outer_verdict(alloc, map, points)
-    } else {
-        Ok(FigureVerdict::Yes)
-    }
-}
-
-/// The verdict on a drawing of a simple map with these counts, whose coordinates are not beyond 2^20 in size: its first
-/// fault; or, where it has none, the least dart of a face that is turned inside out; or `Yes`.
-pub fn drawn_verdict(
-    alloc: Global,
-    map: &HalfMap,
-    count: EulerCount,
-    points: &Points,
-    corner: Point,
-) -> Result<FigureVerdict, AllocError>
-    requires counted { IsCountOf map.now.lists count }
-    requires places { HasPlaces map.now.lists points.now }
-    ensures { IfOk result (IsDrawnVerdict map.now.lists points.now corner.x corner.y) }
-{
-    match check_points(map, points, corner) {
-        Verdict::Yes => {
-            let verdict = faultless_verdict(alloc, map, count, points)?;
-            Ok(verdict)
+impl MapDrawing<'_> {
+    // The verdict on one of a connected map by its outer face.
+    fn outer_verdict(&self) -> Result<FigureVerdict, AllocError>
+        requires { component_count self.now.map.now.lists ≡ 1 }
+        ensures { IfOk result (λ verdict. (width height : ℤ) → IsVerdict self.now.map.now.lists self.now.points.now width height NoFault
+            → IsDrawnVerdict self.now.map.now.lists self.now.points.now width height verdict) }
+    {
+        self.map.facts();
+        match self.map.first_dart(VertexId(0)) {
+            Some(base) => match check_outer_connected(self.alloc, self.map, base, self.points)? {
+                OuterVerdict::Inside(v, u) => Ok(FigureVerdict::Inside(v, u)),
+                OuterVerdict::Yes => Ok(FigureVerdict::Yes),
+            },
+            // the map has one vertex
+            None => Ok(FigureVerdict::Yes),
         }
-        verdict => Ok(FigureVerdict::Drawing(verdict)),
+    }
+
+    // The verdict on one without a fault, by its outer face.
+    fn faultless_verdict(&self) -> Result<FigureVerdict, AllocError>
+        ensures { IfOk result (λ verdict. (width height : ℤ) → IsVerdict self.now.map.now.lists self.now.points.now width height NoFault
+            → IsDrawnVerdict self.now.map.now.lists self.now.points.now width height verdict) }
+    {
+        if self.count.c == 1 {
+            self.outer_verdict()
+        } else {
+            Ok(FigureVerdict::Yes)
+        }
+    }
+
+    /// Returns its first fault; or, where it has none, the least dart of a face that is turned inside out; or `Yes`.
+    pub fn drawn_verdict(&self, corner: Point) -> Result<FigureVerdict, AllocError>
+        ensures { IfOk result (IsDrawnVerdict self.now.map.now.lists self.now.points.now corner.x corner.y) }
+    {
+        match check_points(self.map, self.points, corner) {
+            Verdict::Yes => {
+                let verdict = self.faultless_verdict()?;
+                Ok(verdict)
+            }
+            verdict => Ok(FigureVerdict::Drawing(verdict)),
+        }
     }
 }

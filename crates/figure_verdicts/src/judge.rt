@@ -1,7 +1,6 @@
 //! The verdict on a figure.
 ghost use Rattle.std.specs.Prelude.{◌≡◌, ◌≢◌, ◌<◌, ◌≤◌, length, ℤ, pos, ◌-ℤ◌, IfOk};
 ghost use Rattle.map_lists.specs.Lists.{Lists};
-ghost use Rattle.draw_check.specs.Faults.{HasPlaces};
 ghost use Rattle.bar_check.specs.Verdicts.{IsBarVerdict};
 ghost use Rattle.pg_plane.specs.declared.figure.BarFigure.{BarFigure as Bars};
 ghost use Rattle.pg_plane.specs.declared.figure.RectFigure.{RectFigure as Rects};
@@ -10,7 +9,6 @@ ghost use Rattle.graph6_text.specs.Graphs.{EdgeGraph};
 ghost use Rattle.kuratowski.specs.declared.witness.Witness.{Witness as AWitness};
 ghost use Rattle.kuratowski.specs.Verdicts.{IsVerdict};
 ghost use Rattle.line_inputs.specs.Given.{IsGiven, IsGivenGrid, IsGivenBars, IsGivenRects};
-ghost use Rattle.conn_parts.specs.Counted.{IsCountOf};
 ghost use Rattle.std.specs.Bool.{OnTrue};
 ghost use Rattle.figure_text.specs.declared.figure.GridJob.TheVariants.{Convex as ConvexJob};
 ghost use Rattle.figure_verdicts.specs.declared.verdict.FigureVerdict.TheVariants.{Yes as FigureYes};
@@ -19,11 +17,9 @@ ghost use Rattle.map_theory.specs.Maps.{face_count};
 ghost use Rattle.figure_verdicts.specs.Verdicts.{IsDrawnVerdict, IsShapedVerdict, IsJobVerdict, IsFittingVerdict, IsGridVerdict, IsColumnsVerdict, IsBarsVerdict, IsTiledVerdict, IsRectsVerdict, IsWitnessVerdict, IsFigureVerdict};
 
 use crate::FigureVerdict;
-use crate::convex::convex_verdict;
-use crate::drawn::{drawn_verdict, is_drawn_triangulation};
+use crate::drawn::{MapDrawing, is_drawn_triangulation};
 use bar_check::{BarVerdict, check_bars};
 use conn_parts::counted_map;
-use euler_faces::EulerCount;
 use figure_text::{Figure, GridJob};
 use graph6_text::Graph;
 use half_edges::{HalfMap, MapFault};
@@ -90,25 +86,6 @@ fn is_seen_valid(alloc: Global, job: GridJob, lists: &Rotations, points: &Points
     }
 }
 
-// The verdict on a drawing of a simple map with these counts, by what it is to be.
-fn job_verdict(
-    alloc: Global,
-    job: GridJob,
-    map: &HalfMap,
-    count: EulerCount,
-    points: &Points,
-    corner: Point,
-) -> Result<FigureVerdict, AllocError>
-    requires counted { IsCountOf map.now.lists count }
-    requires places { HasPlaces map.now.lists points.now }
-    ensures { IfOk result (IsJobVerdict job map.now.lists points.now corner.x corner.y) }
-{
-    match job {
-        GridJob::Convex => convex_verdict(alloc, map, points, corner),
-        _ => drawn_verdict(alloc, map, count, points, corner),
-    }
-}
-
 // The verdict on lists with a fault.
 fn refused(fault: MapFault) -> Result<FigureVerdict, AllocError>
     ensures { IfOk result (λ verdict. (verdict ≡ FigureVerdict.Refused fault) × (fault ≢ MapFault.NoMemory)) }
@@ -119,24 +96,28 @@ fn refused(fault: MapFault) -> Result<FigureVerdict, AllocError>
     }
 }
 
-// The verdict on a straight-line drawing of a simple map with these counts, in the grid of its job.
-fn map_verdict(
-    alloc: Global,
-    job: GridJob,
-    map: &HalfMap,
-    count: EulerCount,
-    points: &Points,
-) -> Result<FigureVerdict, AllocError>
-    requires counted { IsCountOf map.now.lists count }
-    requires places { HasPlaces map.now.lists points.now }
-    ensures { IfOk result (IsFittingVerdict job map.now.lists points.now) }
-{
-    let n = usize::from(map.n());
-    let wide = width(job, n, count.f);
-    let high = height(job, n, count.f);
-    let corner = Point { x: wide, y: high };
-    let verdict = job_verdict(alloc, job, map, count, points, corner)?;
-    Ok(verdict)
+impl MapDrawing<'_> {
+    // The verdict on it, by what it is to be.
+    fn job_verdict(&self, job: GridJob, corner: Point) -> Result<FigureVerdict, AllocError>
+        ensures { IfOk result (IsJobVerdict job self.now.map.now.lists self.now.points.now corner.x corner.y) }
+    {
+        match job {
+            GridJob::Convex => self.convex_verdict(corner),
+            _ => self.drawn_verdict(corner),
+        }
+    }
+
+    // The verdict on it in the grid of its job.
+    fn map_verdict(&self, job: GridJob) -> Result<FigureVerdict, AllocError>
+        ensures { IfOk result (IsFittingVerdict job self.now.map.now.lists self.now.points.now) }
+    {
+        let n = usize::from(self.map.n());
+        let wide = width(job, n, self.count.f);
+        let high = height(job, n, self.count.f);
+        let corner = Point { x: wide, y: high };
+        let verdict = self.job_verdict(job, corner)?;
+        Ok(verdict)
+    }
 }
 
 // The verdict on a straight-line drawing of lists that may be no simple map.
@@ -154,7 +135,13 @@ fn grid_verdict(
     }
     match counted_map(alloc, lists) {
         Ok(found) => {
-            let verdict = map_verdict(alloc, job, &found.map, found.count, points)?;
+            let drawing = MapDrawing {
+                alloc,
+                map: &found.map,
+                count: found.count,
+                points,
+            };
+            let verdict = drawing.map_verdict(job)?;
             Ok(verdict)
         }
         Err(fault) => refused(fault),

@@ -6,7 +6,7 @@ use Rattle.std.specs.List.{list_all}
 use Rattle.std.specs.Map.{lookup}
 use Rattle.std.proofs.lemmas.Slice.Eq.{bytes_eq-Decides}
 use Rattle.clap.specs.Walk.{Text, plain_word}
-use Rattle.pigale_words.specs.Words.{Given, given_in, has_option, Takes, Takes.no_option, Takes.a_form, Takes.two_numbers, jobs, taken_by, job_with, number_given, gen_of, job_given, job_named, job_of, CountWords, has_number, form_of, IsCountWords}
+use Rattle.pigale_words.specs.Words.{Given, given_in, has_option, Takes, Takes.no_option, Takes.a_form, Takes.two_numbers, jobs, taken_by, job_with, number_given, gen_of, job_given, job_named, job_of, has_number, form_of}
 use Rattle.pigale_words.specs.Spelling.{NamesForm, NamesNumbers, Fits, IsNamed, JobWords, Spell, Spell.nothing, Spell.hyphens, Spell.behind, Spell.job_word}
 use Rattle.pigale_words.specs.Numbers.{number_in, within}
 use Rattle.figure_text.specs.Words.{canonical, decimal_from, is_digit}
@@ -295,30 +295,3 @@ job_alone (job_word {word = word} spell) = go (no_job_alone spell)
     go : {words : List Text} → (words ≡ []) ⊎ (words ≡ codes "--" ∷ []) → (word ∷ words ≡ word ∷ []) ⊎ ((word ∷ words ≡ codes "--" ∷ word ∷ []) ⊎ (word ∷ words ≡ word ∷ codes "--" ∷ []))
     go (inl e) = inl (ap (λ ws. word ∷ ws) e)
     go (inr e) = inr (inr (ap (λ ws. word ∷ ws) e))
-
-abbrev is_count : Job → Bool
-is_count Count = true
-is_count job = false
-
-count_named : (word : Text) (options : List (Text × Text)) → IsNamed Count word options → (word ≡ codes "count") × (options ≡ [])
-count_named word options (takes, is, fits) = go takes fits (found_is (only is_count (λ w. bytes_eq w (codes "count"))) word takes jobs refl is)
-  where
-    go : (takes : Takes) → Fits takes Count options → only is_count (λ w. bytes_eq w (codes "count")) (word, takes) ≡ true → (word ≡ codes "count") × (options ≡ [])
-    go (no_option job) (same, none) one = ((bytes_eq-Decides word (codes "count")).0 (subst (λ j. (not (is_count j) || bytes_eq word (codes "count")) ≡ true) (sym same) one), none)
-    go (a_form job) (forms.Text, same, names) one = absurd (let lacks = not_true _ (and_left _ _ one) in true≢false (ap is_count same ∙ lacks))
-    go (a_form job) (forms.Svg, same, names) one = absurd (let lacks = not_true _ (and_right _ _ one) in true≢false (ap is_count same ∙ lacks))
-    go two_numbers (size, number, same, names) one = absurd (true≢false (ap is_count same))
-
-pub count_words-law : CountWords
-count_words-law words = (there, back)
-  where
-    there : job_of words ≡ Some Count → IsCountWords words
-    there e =
-        let (word, options, spell, named) = spelled_by words Count e in
-        let (is, none) = count_named word options named in
-        subst (λ w. (words ≡ w ∷ []) ⊎ ((words ≡ codes "--" ∷ w ∷ []) ⊎ (words ≡ w ∷ codes "--" ∷ []))) is (job_alone (subst (λ os. Spell words (Some word) os) none spell))
-
-    back : IsCountWords words → job_of words ≡ Some Count
-    back (inl e) = job_by words Count (codes "count", [], subst (λ ws. Spell ws (Some (codes "count")) []) (sym e) (job_word nothing), (no_option Count, refl, (refl, refl)))
-    back (inr (inl e)) = job_by words Count (codes "count", [], subst (λ ws. Spell ws (Some (codes "count")) []) (sym e) behind, (no_option Count, refl, (refl, refl)))
-    back (inr (inr e)) = job_by words Count (codes "count", [], subst (λ ws. Spell ws (Some (codes "count")) []) (sym e) (job_word hyphens), (no_option Count, refl, (refl, refl)))

@@ -119,13 +119,3 @@ job_given g = option_and_then (job_named g) g.job
 -- the job of the words after the program's name, each a list of bytes; None where they are bad
 abbrev pub job_of : List (List ℕ) → Option Job
 job_of words = option_and_then job_given (given words)
-
--- `count`, alone or with `--` before or behind it
-abbrev pub IsCountWords : List (List ℕ) → Type 0
-IsCountWords words =
-    (words ≡ codes "count" ∷ [])
-    ⊎ ((words ≡ codes "--" ∷ codes "count" ∷ []) ⊎ (words ≡ codes "count" ∷ codes "--" ∷ []))
-
--- those are the words of the job `Count`, and no others
-abbrev pub CountWords : Type 0
-CountWords = (words : List (List ℕ)) → (job_of words ≡ Some Count) ↔ IsCountWords words

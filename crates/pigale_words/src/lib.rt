@@ -8,4 +8,4 @@ mod words;
 
 pub use form::Form;
 pub use job::{Job, Status, WordFault};
-pub use words::{count_words, job_words, words_to_job};
+pub use words::{job_words, words_to_job};

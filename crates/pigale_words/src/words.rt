@@ -5,7 +5,7 @@ ghost use Rattle.clap.specs.Values.{kind_of};
 ghost use Rattle.clap.specs.Walk.{first_of, rows_of};
 ghost use Rattle.clap.specs.Simple.{app_of};
 ghost use Rattle.pigale_words.specs.Words.{command as the_command, given, given_in, has_option as gives_option, has_number as gives_number, form_of as form_by, form_given as form_from, number_given as number_by, gen_of, gen_given as gen_by, Takes, job_with as job_by_options, job_named as job_by_word, job_given as job_by};
-ghost use Rattle.pigale_words.specs.Words.{job_of, CountWords};
+ghost use Rattle.pigale_words.specs.Words.{job_of};
 ghost use Rattle.pigale_words.specs.Spelling.{JobWords};
 ghost use Rattle.pigale_words.specs.Status.{RefusesWords};
 ghost use Rattle.pigale_words.specs.Jobs.{HasSize};
@@ -217,11 +217,6 @@ pub fn words_to_job(alloc: Global, words: &[String]) -> Result<Job, WordFault>
         None => Err(WordFault::BadWords),
     }
 }
-
-/// A law: the words of `count` are that word, alone or with `--` before or behind it, and no others.
-pub fn count_words()
-    ensures { CountWords }
-{}
 
 /// A law: the words of each job are its word and its options, and no others.
 ///

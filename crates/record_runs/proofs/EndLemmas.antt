@@ -124,27 +124,6 @@ module _ {Record Ending Reader : Type 0} (format : Reads Record Ending) (job : A
     pub ends-all : (end : Ending) → end ≡ ending reader → IsAllConsumed start.left left stands.consumed → WhereTold start.left (λ input. EndsAs format job input end stands.text count refused)
     ends-all end is all = λ input told. rw ((all input told).1, is) (record { records = stands.at.records; reading = stands-reading; answered = stands.at.answered })
 
-    -- a read failed
-    pub ends-read_fault : (left' : Option (List ℕ)) (reads' : ℕ) → HasRisen reads reads' × (left' ≡ left) → Outcome format job start (ports left' reads' written writes) ReadFault
-    ends-read_fault left' reads' failed = (
-      rw stands.wrote.reads at failed.0,
-      stands.wrote.writes,
-      λ (input : List ℕ) (told : start.left ≡ Some input).
-          let took = stands-takes.split input told in
-          record {
-            taken = stands.consumed;
-            rest = took.0;
-            parts = took.1;
-            left_is = failed.1 ∙ took.2;
-            records = stands.at.records;
-            ending = ending reader;
-            blocks = stands.text;
-            reading = stands-reading;
-            answers = stands.at.answered.answers;
-            grows = stands.wrote.grows;
-          },
-    )
-
     -- some bytes were read
     pub stands-read : (left' : Option (List ℕ)) (reads' : ℕ) (piece : List ℕ) → Takes left left' piece → reads' ≡ reads → Stands At job start (ports left' reads' written writes) piece reader count refused
     stands-read left' reads' piece takes kept = record {

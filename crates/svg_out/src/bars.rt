@@ -3,8 +3,8 @@ ghost use Rattle.std.specs.Prelude.{◌≡◌, ◌<◌, ℕ, ℤ, pos, ◌+ℤ�
 ghost use Rattle.std.specs.Int.{int_max};
 ghost use Rattle.map_theory.specs.Maps.{Dart, IsSimpleMap, edge_count};
 ghost use Rattle.figure_text.specs.Text.{integer_at, HasBars};
-ghost use Rattle.svg_out.specs.Edges.{edges as the_edges, AreBelow};
-ghost use Rattle.svg_out.specs.Svg.{across as far_right, greatest, thick as the_width, bar, upright, bar_marks, column_marks, bars_body, bars_svg, HasColumns};
+ghost use Rattle.svg_out.specs.Edges.{AreBelow};
+ghost use Rattle.svg_out.specs.Svg.{across as far_right, down as far_down, greatest, thick as the_width, bar, upright, bar_marks, column_marks, bars_body, bars_svg, HasColumns};
 
 use crate::edges::edges;
 use crate::tags::{Spot, across, down, push_closing, push_opening, push_segment};
@@ -31,18 +31,43 @@ pub(crate) fn greatest_from(least: i32, list: &Ints) -> i32
     most
 }
 
-// Where a bar that begins at `a` begins in the picture.
-fn bar_start(a: i32) -> i64
-    ensures { result ≡ far_right a -ℤ pos 3 }
+// Where the bar of vertex `v` begins in the picture of a drawing of this height: a little before it.
+fn bar_start(bars: &BarFigure, height: i32, v: usize) -> Spot
+    requires y { v < length bars.now.y }
+    requires x { v < length bars.now.x1 }
+    ensures x { result.x ≡ far_right (integer_at bars.now.x1 v) -ℤ pos 3 }
+    ensures y { result.y ≡ far_down height (integer_at bars.now.y v) }
 {
-    across(a) - 3
+    Spot {
+        x: across(integer(&bars.x1, v)) - 3,
+        y: down(height, integer(&bars.y, v)),
+    }
 }
 
-// Where a bar that ends at `b` ends in the picture.
-fn bar_end(b: i32) -> i64
-    ensures { result ≡ far_right b +ℤ pos 3 }
+// Where it ends there: a little behind it.
+fn bar_end(bars: &BarFigure, height: i32, v: usize) -> Spot
+    requires y { v < length bars.now.y }
+    requires x { v < length bars.now.x2 }
+    ensures x { result.x ≡ far_right (integer_at bars.now.x2 v) +ℤ pos 3 }
+    ensures y { result.y ≡ far_down height (integer_at bars.now.y v) }
 {
-    across(b) + 3
+    Spot {
+        x: across(integer(&bars.x2, v)) + 3,
+        y: down(height, integer(&bars.y, v)),
+    }
+}
+
+// Where edge `i` ends in such a picture, at the bar of vertex `v`.
+fn edge_end(bars: &BarFigure, height: i32, i: usize, v: usize) -> Spot
+    requires column { i < length bars.now.column }
+    requires y { v < length bars.now.y }
+    ensures x { result.x ≡ far_right (integer_at bars.now.column i) }
+    ensures y { result.y ≡ far_down height (integer_at bars.now.y v) }
+{
+    Spot {
+        x: across(integer(&bars.column, i)),
+        y: down(height, integer(&bars.y, v)),
+    }
 }
 
 // How thick a bar is.
@@ -52,67 +77,22 @@ fn thick() -> &'static [u8]
     b" stroke-width=\"3\""
 }
 
-// Appends the bar from `a` to `b` at `y`, in a drawing of this height.
-fn push_bar(out: &mut Vec<u8>, height: i32, y: i32, a: i32, b: i32) -> Result<(), AllocError>
-    ensures { OnOk result (out.new.items ≡ out.old.items ++ bar height y a b) }
-{
-    let level = down(height, y);
-    let from = Spot {
-        x: bar_start(a),
-        y: level,
-    };
-    let to = Spot {
-        x: bar_end(b),
-        y: level,
-    };
-    push_segment(out, from, to, thick())
-}
-
-// Appends the bars of `count` vertices.
+// Appends the bars of all vertices.
 fn push_bars(
     out: &mut Vec<u8>,
+    lists: &Rotations,
     bars: &BarFigure,
     height: i32,
-    count: usize,
 ) -> Result<(), AllocError>
-    requires y { length bars.now.y ≡ count }
-    requires x1 { length bars.now.x1 ≡ count }
-    requires x2 { length bars.now.x2 ≡ count }
-    ensures { OnOk result (out.new.items ≡ out.old.items ++ bar_marks bars.now height count) }
+    requires { HasBars lists.now bars.now }
+    ensures { OnOk result (out.new.items ≡ out.old.items ++ bar_marks bars.now height (length lists.now)) }
 {
-    for v in 0..count {
-        push_bar(
-            out,
-            height,
-            integer(&bars.y, v),
-            integer(&bars.x1, v),
-            integer(&bars.x2, v),
-        )?;
+    for v in 0..lists.len() {
+        let from = bar_start(bars, height, v);
+        let to = bar_end(bars, height, v);
+        push_segment(out, from, to, thick())?;
     }
     Ok(())
-}
-
-// Appends an edge at column `x` of a visibility drawing of this height, with the heights of its ends' bars.
-fn push_upright_edge(
-    out: &mut Vec<u8>,
-    height: i32,
-    x: i32,
-    first: i32,
-    second: i32,
-) -> Result<(), AllocError>
-    ensures { OnOk result (out.new.items ≡ out.old.items
-        ++ upright height x first second) }
-{
-    let column = across(x);
-    let from = Spot {
-        x: column,
-        y: down(height, first),
-    };
-    let to = Spot {
-        x: column,
-        y: down(height, second),
-    };
-    push_segment(out, from, to, b"")
 }
 
 // Appends the edges of a visibility drawing of this height.
@@ -129,13 +109,9 @@ fn push_columns(
 {
     for i in 0..edges.len() {
         let (a, b) = edges[i];
-        push_upright_edge(
-            out,
-            height,
-            integer(&bars.column, i),
-            integer(&bars.y, a),
-            integer(&bars.y, b),
-        )?;
+        let from = edge_end(bars, height, i, a);
+        let to = edge_end(bars, height, i, b);
+        push_segment(out, from, to, b"")?;
     }
     Ok(())
 }
@@ -145,23 +121,6 @@ fn width_of(bars: &BarFigure) -> i32
     ensures { result ≡ greatest (bars.now.x2 ++ bars.now.column) }
 {
     greatest_from(greatest_from(0, &bars.x2), &bars.column)
-}
-
-// Appends the bars and then the edges of a visibility drawing of this height.
-fn push_body(
-    out: &mut Vec<u8>,
-    lists: &Rotations,
-    edges: &[(usize, usize)],
-    bars: &BarFigure,
-    height: i32,
-) -> Result<(), AllocError>
-    requires bars { HasBars lists.now bars.now }
-    requires edges { edges.now ≡ the_edges lists.now }
-    requires columns { length bars.now.column ≡ length edges.now }
-    ensures { OnOk result (out.new.items ≡ out.old.items ++ bars_body lists.now bars.now height) }
-{
-    push_bars(out, bars, height, lists.len())?;
-    push_columns(out, edges, bars, height)
 }
 
 // A visibility drawing as SVG.
@@ -174,7 +133,8 @@ fn bars_text(alloc: Global, lists: &Rotations, bars: &BarFigure) -> Result<Vec<u
     let height = greatest_from(0, &bars.y);
     let mut text = Vec::new(alloc);
     push_opening(&mut text, width_of(bars), height)?;
-    push_body(&mut text, lists, &edges, bars, height)?;
+    push_bars(&mut text, lists, bars, height)?;
+    push_columns(&mut text, &edges, bars, height)?;
     push_closing(&mut text)?;
     Ok(text)
 }

@@ -1,6 +1,6 @@
 //! Rectangular duals as SVG.
 ghost use Rattle.std.specs.Prelude.{◌≡◌, ◌<◌, ℕ, ◌++◌, length, OnOk, OnErr, IfOk};
-ghost use Rattle.figure_text.specs.Text.{HasRects};
+ghost use Rattle.figure_text.specs.Text.{integer_at, HasRects};
 ghost use Rattle.svg_out.specs.Svg.{greatest, tile, unfilled as the_style, tiles, rects_svg};
 
 use crate::bars::{greatest_from, integer};
@@ -16,17 +16,17 @@ fn unfilled() -> &'static [u8]
     b" fill=\"none\" stroke=\"black\"/>\n"
 }
 
-// Appends the rectangle from `a` to `b` and from `c` up to `d`, in a drawing of this height.
-fn push_tile(
-    out: &mut Vec<u8>,
-    height: i32,
-    a: i32,
-    b: i32,
-    c: i32,
-    d: i32,
-) -> Result<(), AllocError>
-    ensures { OnOk result (out.new.items ≡ out.old.items ++ tile height a b c d) }
+// Appends the rectangle of vertex `v`, in a drawing of this height.
+fn push_tile(out: &mut Vec<u8>, rects: &RectFigure, height: i32, v: usize) -> Result<(), AllocError>
+    requires x { (v < length rects.now.x1) × (v < length rects.now.x2) }
+    requires y { (v < length rects.now.y1) × (v < length rects.now.y2) }
+    ensures { OnOk result (out.new.items ≡ out.old.items
+        ++ tile height (integer_at rects.now.x1 v) (integer_at rects.now.x2 v) (integer_at rects.now.y1 v) (integer_at rects.now.y2 v)) }
 {
+    let a = integer(&rects.x1, v);
+    let b = integer(&rects.x2, v);
+    let c = integer(&rects.y1, v);
+    let d = integer(&rects.y2, v);
     let corner = Spot {
         x: across(a),
         y: down(height, d),
@@ -36,28 +36,18 @@ fn push_tile(
     out.extend_from_slice(unfilled())
 }
 
-// Appends the rectangles of `count` vertices.
+// Appends the rectangles of all vertices.
 fn push_tiles(
     out: &mut Vec<u8>,
+    lists: &Rotations,
     rects: &RectFigure,
     height: i32,
-    count: usize,
 ) -> Result<(), AllocError>
-    requires x1 { length rects.now.x1 ≡ count }
-    requires x2 { length rects.now.x2 ≡ count }
-    requires y1 { length rects.now.y1 ≡ count }
-    requires y2 { length rects.now.y2 ≡ count }
-    ensures { OnOk result (out.new.items ≡ out.old.items ++ tiles rects.now height count) }
+    requires { HasRects lists.now rects.now }
+    ensures { OnOk result (out.new.items ≡ out.old.items ++ tiles rects.now height (length lists.now)) }
 {
-    for v in 0..count {
-        push_tile(
-            out,
-            height,
-            integer(&rects.x1, v),
-            integer(&rects.x2, v),
-            integer(&rects.y1, v),
-            integer(&rects.y2, v),
-        )?;
+    for v in 0..lists.len() {
+        push_tile(out, rects, height, v)?;
     }
     Ok(())
 }
@@ -70,7 +60,7 @@ fn rects_text(alloc: Global, lists: &Rotations, rects: &RectFigure) -> Result<Ve
     let height = greatest_from(0, &rects.y2);
     let mut text = Vec::new(alloc);
     push_opening(&mut text, greatest_from(0, &rects.x2), height)?;
-    push_tiles(&mut text, rects, height, lists.len())?;
+    push_tiles(&mut text, lists, rects, height)?;
     push_closing(&mut text)?;
     Ok(text)
 }

@@ -7,7 +7,7 @@ ghost use Rattle.figure_text.specs.declared.figure.Figure.{Figure as AFigure};
 
 use crate::figure_lines::begun::Begun;
 use crate::figure_lines::run::{Front, Run, first_lines};
-use crate::figure_lines::step::{After, after_line};
+use crate::figure_lines::step::{After, ClosedLine};
 use crate::whole_lines::{chosen, join};
 use figure_text::{Word, line_length};
 use std::alloc::{AllocError, Global};
@@ -44,13 +44,12 @@ fn take_line(
     }
     let alone = pending.is_empty();
     join(alone, pending, &part[..len])?;
-    let after = after_line(
+    let closed = ClosedLine {
         alloc,
-        found,
-        before,
-        chosen(alone, &part[..len], pending),
-        line,
-    )?;
+        number: line,
+        text: chosen(alone, &part[..len], pending),
+    };
+    let after = closed.after(found, before)?;
     pending.clear();
     Ok(Line::Closed(len + 1, after))
 }

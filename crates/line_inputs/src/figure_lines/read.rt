@@ -5,7 +5,7 @@ ghost use Rattle.line_inputs.specs.FigureLinesProgress.{IsAtLine, fault_at, end_
 
 use crate::figure_lines::begun::Begun;
 use crate::figure_lines::ending::Ending;
-use crate::figure_lines::step::{After, after_line};
+use crate::figure_lines::step::{After, ClosedLine};
 use figure_text::{Item, TextFault, next_line};
 use std::alloc::Global;
 
@@ -52,7 +52,12 @@ pub fn read_figure(alloc: Global, bytes: &[u8], at: usize, line: u32) -> Result<
     let mut next = at;
     let mut number = line;
     while let Some((text, behind)) = next_line(bytes, next) {
-        match after_line(alloc, &mut found, begun, text, number) {
+        let closed = ClosedLine {
+            alloc,
+            number,
+            text,
+        };
+        match closed.after(&mut found, begun) {
             Ok(After::Goes(Some(figure))) => begun = Some(figure),
             Ok(After::Goes(None)) => return Ok(Item::Note(behind, number + 1)),
             Ok(After::Whole(held)) => {

@@ -9,7 +9,7 @@ ghost use Rattle.line_inputs.specs.Steps.{no_lines};
 
 use crate::figure_lines::head::Head;
 use crate::figure_lines::held::Held;
-use figure_text::{Draft, Judged, Word, quick_row, row_of};
+use figure_text::{Draft, Judged, VertexLine, Word};
 use map_lists::ItemLists;
 use pg_plane::{Ints, Points};
 use std::alloc::{AllocError, Global};
@@ -54,7 +54,8 @@ impl Rows {
     {
         let kind = self.head.kind();
         let place = self.draft.lists.len() + 1;
-        row_of(found, kind, place, line, &mut self.draft)
+        let row = VertexLine { kind, place, line };
+        row.judge(found, &mut self.draft)
     }
 
     // Says whether a line is due behind that which is due next.
@@ -78,7 +79,8 @@ impl Rows {
     {
         let kind = self.head.kind();
         let place = self.draft.lists.len() + 1;
-        quick_row(found, kind, place, line, &mut self.draft)
+        let row = VertexLine { kind, place, line };
+        row.quick(found, &mut self.draft)
     }
 }
 

@@ -18,6 +18,17 @@ use map_lists::Rotations;
 use pg_plane::{BarFigure, Ints};
 use std::alloc::{AllocError, Global};
 
+/// A closed line, without the byte 10 that closes it.
+#[derive(Clone, Copy)]
+pub struct ClosedLine<'a> {
+    /// Where memory for it comes from.
+    pub alloc: Global,
+    /// Its number in the input.
+    pub number: u32,
+    /// Its bytes.
+    pub text: &'a [u8],
+}
+
 /// The outcome of a closed line, with what had come before it.
 #[derive(Drop)]
 pub enum After {
@@ -41,23 +52,6 @@ fn begun_figure(alloc: Global, head: Head, n: usize, first: u32) -> Result<Begun
         first,
         due: Due::Row(SomeRows { held }),
     })
-}
-
-// Takes a line outside a figure, which has this number.
-fn after_front(alloc: Global, line: &[u8], number: u32) -> Result<After, AllocError>
-    ensures whole { IfOk result IsWhole }
-    ensures makes { IsPlain line.now → IfOk result (Makes number number (line.now ++ 10 ∷ [])) }
-{
-    match front_line(alloc, line)? {
-        Front::Note => Ok(After::Goes(None)),
-        Front::Begins(kind, n) => {
-            let head = head_of(alloc, kind, line)?;
-            let begun = begun_figure(alloc, head, n, number)?;
-            Ok(After::Goes(Some(begun)))
-        }
-        Front::Limit(_) => Ok(After::Bad(Ending::Limit(number))),
-        Front::Bad => Ok(After::Bad(Ending::BadLine(number))),
-    }
 }
 
 // Ends a figure of which all lines of vertices, or of branches and paths, are there.
@@ -115,32 +109,6 @@ fn grown(alloc: Global, first: u32, held: Held<Rows>) -> Result<After, AllocErro
     }
 }
 
-// Takes the next line of vertices, or of branches and paths, of a figure.
-#[inline(always)]
-fn after_row(
-    alloc: Global,
-    found: &mut Vec<Word>,
-    first: u32,
-    rows: SomeRows,
-    line: &[u8],
-    number: u32,
-) -> Result<After, AllocError>
-    ensures whole { IfOk result IsWhole }
-    ensures makes { (text : List ℕ) (start : ℕ) → IsPlain line.now → first ≡ start → IsDue (Due.Row rows) start number text line.now
-        → IfOk result (Makes start number (text ++ 10 ∷ [])) }
-{
-    let SomeRows { mut held } = rows;
-    match held.row(found, line) {
-        Some(Judged::Good) => {
-            let after = grown(alloc, first, held)?;
-            Ok(after)
-        }
-        Some(Judged::Bad) => Ok(After::Bad(Ending::BadLine(number))),
-        Some(Judged::Limit) => Ok(After::Bad(Ending::Limit(number))),
-        None => Err(AllocError),
-    }
-}
-
 // Bars with these columns.
 fn with_columns(bars: AllBars, column: Ints) -> Figure
     ensures whole { IsGiven result }
@@ -160,65 +128,89 @@ fn with_columns(bars: AllBars, column: Ints) -> Figure
     }
 }
 
-// Takes the line of the columns of bars.
-fn after_columns(
-    alloc: Global,
-    first: u32,
-    bars: AllBars,
-    line: &[u8],
-    number: u32,
-) -> Result<After, AllocError>
-    ensures whole { IfOk result IsWhole }
-    ensures makes { (text : List ℕ) (start : ℕ) → IsPlain line.now → first ≡ start → IsDue (Due.Columns bars) start number text line.now
-        → IfOk result (Makes start number (text ++ 10 ∷ [])) }
-{
-    match columns_line(alloc, line) {
-        Columns::Good(column) => {
-            let held = Held::new(alloc, with_columns(bars, column))?;
-            Ok(After::Whole(held))
+impl ClosedLine<'_> {
+    // Takes it as a line outside a figure.
+    fn after_front(&self) -> Result<After, AllocError>
+        ensures whole { IfOk result IsWhole }
+        ensures makes { IsPlain self.now.text.now → IfOk result (Makes self.now.number self.now.number (self.now.text.now ++ 10 ∷ [])) }
+    {
+        match front_line(self.alloc, self.text)? {
+            Front::Note => Ok(After::Goes(None)),
+            Front::Begins(kind, n) => {
+                let head = head_of(self.alloc, kind, self.text)?;
+                let begun = begun_figure(self.alloc, head, n, self.number)?;
+                Ok(After::Goes(Some(begun)))
+            }
+            Front::Limit(_) => Ok(After::Bad(Ending::Limit(self.number))),
+            Front::Bad => Ok(After::Bad(Ending::BadLine(self.number))),
         }
-        Columns::Bad => Ok(After::Bad(Ending::BadLine(number))),
-        Columns::Limit => Ok(After::Bad(Ending::Limit(number))),
-        Columns::NoMemory => Err(AllocError),
     }
-}
 
-// Takes the line of a figure that is due.
-#[inline(always)]
-fn after_due(
-    alloc: Global,
-    found: &mut Vec<Word>,
-    begun: Begun,
-    line: &[u8],
-    number: u32,
-) -> Result<After, AllocError>
-    ensures whole { IfOk result IsWhole }
-    ensures makes { (text : List ℕ) (start : ℕ) → IsPlain line.now → begun.first ≡ start → IsDue begun.due start number text line.now
-        → IfOk result (Makes start number (text ++ 10 ∷ [])) }
-{
-    let Begun { first, due } = begun;
-    match due {
-        Due::Row(rows) => after_row(alloc, found, first, rows, line, number),
-        Due::Columns(bars) => after_columns(alloc, first, bars, line, number),
+    // Takes it as the next line of vertices, or of branches and paths, of a figure.
+    #[inline(always)]
+    fn after_row(
+        &self,
+        found: &mut Vec<Word>,
+        first: u32,
+        rows: SomeRows,
+    ) -> Result<After, AllocError>
+        ensures whole { IfOk result IsWhole }
+        ensures makes { (text : List ℕ) (start : ℕ) → IsPlain self.now.text.now → first ≡ start → IsDue (Due.Row rows) start self.now.number text self.now.text.now
+            → IfOk result (Makes start self.now.number (text ++ 10 ∷ [])) }
+    {
+        let SomeRows { mut held } = rows;
+        match held.row(found, self.text) {
+            Some(Judged::Good) => {
+                let after = grown(self.alloc, first, held)?;
+                Ok(after)
+            }
+            Some(Judged::Bad) => Ok(After::Bad(Ending::BadLine(self.number))),
+            Some(Judged::Limit) => Ok(After::Bad(Ending::Limit(self.number))),
+            None => Err(AllocError),
+        }
     }
-}
 
-/// Takes a closed line, with what has come before it. It has the number `number`, and is given without the
-/// byte 10 that closes it. The vector is for the words of the line, and keeps its memory for those of the next.
-#[inline(always)]
-pub fn after_line(
-    alloc: Global,
-    found: &mut Vec<Word>,
-    before: Option<Begun>,
-    line: &[u8],
-    number: u32,
-) -> Result<After, AllocError>
-    ensures whole { IfOk result IsWhole }
-    ensures makes { (text : List ℕ) (start : ℕ) → IsPlain line.now → IsOpen before start number text line.now
-        → IfOk result (Makes start number (text ++ 10 ∷ [])) }
-{
-    match before {
-        Some(begun) => after_due(alloc, found, begun, line, number),
-        None => after_front(alloc, line, number),
+    // Takes it as the line of the columns of bars.
+    fn after_columns(&self, bars: AllBars) -> Result<After, AllocError>
+        ensures whole { IfOk result IsWhole }
+        ensures makes { (text : List ℕ) (start : ℕ) → IsPlain self.now.text.now → IsDue (Due.Columns bars) start self.now.number text self.now.text.now
+            → IfOk result (Makes start self.now.number (text ++ 10 ∷ [])) }
+    {
+        match columns_line(self.alloc, self.text) {
+            Columns::Good(column) => {
+                let held = Held::new(self.alloc, with_columns(bars, column))?;
+                Ok(After::Whole(held))
+            }
+            Columns::Bad => Ok(After::Bad(Ending::BadLine(self.number))),
+            Columns::Limit => Ok(After::Bad(Ending::Limit(self.number))),
+            Columns::NoMemory => Err(AllocError),
+        }
+    }
+
+    // Takes it as the line of a figure that is due.
+    #[inline(always)]
+    fn after_due(&self, found: &mut Vec<Word>, begun: Begun) -> Result<After, AllocError>
+        ensures whole { IfOk result IsWhole }
+        ensures makes { (text : List ℕ) (start : ℕ) → IsPlain self.now.text.now → begun.first ≡ start → IsDue begun.due start self.now.number text self.now.text.now
+            → IfOk result (Makes start self.now.number (text ++ 10 ∷ [])) }
+    {
+        let Begun { first, due } = begun;
+        match due {
+            Due::Row(rows) => self.after_row(found, first, rows),
+            Due::Columns(bars) => self.after_columns(bars),
+        }
+    }
+
+    /// Takes it, with what has come before it. The vector is for its words, and keeps its memory for those of the next line.
+    #[inline(always)]
+    pub fn after(&self, found: &mut Vec<Word>, before: Option<Begun>) -> Result<After, AllocError>
+        ensures whole { IfOk result IsWhole }
+        ensures makes { (text : List ℕ) (start : ℕ) → IsPlain self.now.text.now → IsOpen before start self.now.number text self.now.text.now
+            → IfOk result (Makes start self.now.number (text ++ 10 ∷ [])) }
+    {
+        match before {
+            Some(begun) => self.after_due(found, begun),
+            None => self.after_front(),
+        }
     }
 }

@@ -24,6 +24,15 @@ pub enum Judged {
     Bad(Ending),
 }
 
+/// The line that is open.
+#[derive(Clone, Copy)]
+pub struct OpenLine {
+    /// Its number.
+    pub number: u32,
+    /// Whether no line is closed before it.
+    pub first: bool,
+}
+
 /// The outcome of a part of a piece for the open line.
 #[derive(Drop)]
 pub enum Line {
@@ -91,13 +100,12 @@ fn judged_line(alloc: Global, line: &[u8], first: bool, number: u32) -> Result<J
 pub fn take_line(
     alloc: Global,
     pending: &mut Vec<u8>,
-    first: bool,
-    number: u32,
+    at: OpenLine,
     part: &[u8],
 ) -> Result<Line, AllocError>
     ensures part { IfOk result (IsLinePart part.now) }
-    ensures takes { (consumed : List ℕ) (graphs : List EdgeGraph) → Progress consumed graphs number first pending.old.items
-        → length consumed + length part.now ≤ input_limit → IfOk result (TakesLine consumed graphs number first part.now pending.new.items) }
+    ensures takes { (consumed : List ℕ) (graphs : List EdgeGraph) → Progress consumed graphs at.number at.first pending.old.items
+        → length consumed + length part.now ≤ input_limit → IfOk result (TakesLine consumed graphs at.number at.first part.now pending.new.items) }
 {
     let len = line_length(part);
     if len == part.len() {
@@ -106,7 +114,8 @@ pub fn take_line(
     }
     let alone = pending.is_empty();
     join(alone, pending, &part[..len])?;
-    let judged = judged_line(alloc, chosen(alone, &part[..len], pending), first, number)?;
+    let line = chosen(alone, &part[..len], pending);
+    let judged = judged_line(alloc, line, at.first, at.number)?;
     pending.clear();
     Ok(Line::Closed(len + 1, judged))
 }

@@ -4,7 +4,7 @@ ghost use Rattle.line_inputs.specs.GraphLinesProgress.{behind_header as line_beh
 ghost use Rattle.line_inputs.specs.GraphLinesState.{ending_of};
 
 use crate::graph_lines::ending::Ending;
-use crate::graph_lines::line::{Judged, Line, behind_header, take_line};
+use crate::graph_lines::line::{Judged, Line, OpenLine, behind_header, take_line};
 use graph6_text::Graph;
 use record_runs::{Format, Taken};
 use std::alloc::{AllocError, Global};
@@ -87,7 +87,11 @@ impl Format for GraphReader {
     ghost IsGiven = { IsAny };
 
     fn take(&mut self, piece: &[u8]) -> Result<Taken<Ending>, AllocError> {
-        match take_line(self.alloc, &mut self.pending, self.first, self.line, piece)? {
+        let line = OpenLine {
+            number: self.line,
+            first: self.first,
+        };
+        match take_line(self.alloc, &mut self.pending, line, piece)? {
             Line::Open => {
                 self.place += piece.len();
                 Ok(Taken::Goes(piece.len()))

@@ -4,4 +4,4 @@ use Rattle.figure_text.proofs.witness_print.push_first.Goals as goal
 
 pub returns : goal.returns
 unfolding witness_first_line
-returns c = search (rules, append_assoc)
+returns c = let (line, written, is) = c.in_ok-write_line.ensures.ok in (line, is, search (rules, append_assoc))

@@ -5,8 +5,8 @@ use Rattle.conn_parts.specs.Counted.{IsCountOf}
 use Rattle.figure_verdicts.proofs.VerdictLemmas.{IsGridVerdict-drawn}
 use Rattle.figure_verdicts.proofs.judge.grid_verdict.Goals as goal
 
-pub map_verdict-requires-clause-counted : goal.map_verdict-requires-clause-counted
-map_verdict-requires-clause-counted c =
+pub invariant_of-drawing-clause-counted : goal.invariant_of-drawing-clause-counted
+invariant_of-drawing-clause-counted c =
     let counted = c.in-Ok.ensures.counted in
     subst (λ (ls : Lists). IsCountOf ls c.in-Ok.found.count) (sym counted.lists_are) counted.count
 

@@ -1,0 +1,15 @@
+-- A figure that has begun goes on, or a line stands outside one.
+use Rattle.std.proofs.Common.{List, ℕ, ◌++◌, ◌∷◌, [], sym, subst}
+use Rattle.std.specs.Prelude.{IfOk}
+use Rattle.line_inputs.specs.FigureLinesProgress.{Makes}
+use Rattle.line_inputs.proofs.figure_lines.step.ClosedLine.after.Goals as goal
+
+pub returns-in-Some-clause-makes : goal.returns-in-Some-clause-makes
+returns-in-Some-clause-makes c = λ text start plain stands. let due = rw c.in-Some.is at stands in c.after_due.ensures.makes text start plain due.0 due.1
+
+pub returns-in-None-clause-makes : goal.returns-in-None-clause-makes
+returns-in-None-clause-makes c = λ text start plain stands.
+    let alone = rw c.in-None.is at stands in
+    let number = c.args.self.now.number in
+    subst (λ (x : List ℕ). IfOk c.after_front.result (Makes start number (x ++ 10 ∷ []))) (sym alone.1)
+    (subst (λ (k : ℕ). IfOk c.after_front.result (Makes k number (c.args.self.now.text.now ++ 10 ∷ []))) alone.0 (c.after_front.ensures.makes plain))
