@@ -8,7 +8,7 @@ ghost use Rattle.embed_graph.specs.Found.{IsTested};
 
 use crate::contracted_embeddings::contracted_witness;
 use crate::graph_embeddings::Embedding;
-use crate::marks::has_edges;
+use crate::marks::EdgeTest;
 use conn_parts::plane_count;
 use embed_search::Tables;
 use euler_faces::Counter;
@@ -32,7 +32,7 @@ fn checked_map(
     let _n = graph.n();
     match plane_count(&mut Counter::new(alloc), &lists, 3) {
         Ok(_) => {
-            if has_edges(alloc, graph, &lists)? {
+            if EdgeTest::new(alloc).has_edges(graph, &lists)? {
                 Ok(Some(lists))
             } else {
                 Ok(None)

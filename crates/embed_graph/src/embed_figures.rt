@@ -2,4 +2,4 @@
 
 mod draw;
 
-pub use draw::{EmbedFigure, embed_figure_by, embed_figure_in};
+pub use draw::{EmbedFigure, Embedder};

@@ -12,7 +12,6 @@ pub mod graph_embeddings;
 mod marks;
 
 pub use answer::embed;
-pub use embed_search::Tables;
 pub use embed_witnesses::contracted_graphs::contract;
 pub use embed_witnesses::graph_contractions::contractible_edge;
 pub use embed_witnesses::lifted_witnesses::lift;

@@ -9,6 +9,7 @@ use graph6_text::Graph;
 use graph6_text::bits::{body_length, pair_place};
 use map_lists::Rotations;
 use std::alloc::{AllocError, Global};
+use std::mem;
 
 // Sets the bit at a place, which is not set.
 fn set_unset(body: &mut [u8], place: usize)
@@ -60,14 +61,25 @@ fn set_lists(body: &mut [u8], n: u16, lists: &Rotations)
     }
 }
 
-// The edges of a simple map as bits.
-fn bits_of_lists(alloc: Global, lists: &Rotations, n: u16) -> Result<Vec<u8>, AllocError>
+// Bytes for all pairs of `n` vertices with no bit set, in the memory of `spent`.
+fn unset_bits(spent: Vec<u8>, n: u16) -> Result<Vec<u8>, AllocError>
+    requires { n ≤ 255 }
+    ensures { IfOk result (λ bits. bits.items ≡ replicate (bytes_of_pairs n) 63) }
+{
+    let mut bits = spent;
+    bits.clear();
+    bits.resize(body_length(n), 63)?;
+    Ok(bits)
+}
+
+// The edges of a simple map as bits, in the memory of `spent`.
+fn bits_of_lists(spent: Vec<u8>, lists: &Rotations, n: u16) -> Result<Vec<u8>, AllocError>
     requires simple { IsSimpleMap lists.now }
     requires few { n ≤ 255 }
     requires vertices { length lists.now ≡ n }
     ensures { IfOk result (λ body. Marks lists.now n body.items) }
 {
-    let mut body = vec![in alloc; 63u8; body_length(n)]?;
+    let mut body = unset_bits(spent, n)?;
     set_lists(&mut body, n, lists);
     Ok(body)
 }
@@ -79,13 +91,33 @@ fn are_equal(one: &[u8], other: &[u8]) -> bool
     one == other
 }
 
-/// Whether a simple map has just the edges of a graph. It fails only when out of memory.
-pub fn has_edges(alloc: Global, graph: &Graph, lists: &Rotations) -> Result<bool, AllocError>
-    requires simple { IsSimpleMap lists.now }
-    requires vertices { length lists.now ≡ graph.now.n }
-    ensures { IfOk result (λ yes. IsTrue yes → HasJustEdges lists.now graph.now) }
-{
-    let bits = graph.body();
-    let edges = bits_of_lists(alloc, lists, graph.n())?;
-    Ok(are_equal(&edges, bits))
+/// Compares the edges of maps with those of graphs, one after another, and keeps its memory for the next.
+#[derive(Drop)]
+pub struct EdgeTest {
+    alloc: Global,
+    bits: Vec<u8>,
+}
+
+impl EdgeTest {
+    /// A test that has compared nothing yet. It takes no memory.
+    pub fn new(alloc: Global) -> EdgeTest {
+        EdgeTest {
+            alloc,
+            bits: Vec::new(alloc),
+        }
+    }
+
+    /// Whether a simple map has just the edges of a graph. It fails only when out of memory.
+    pub fn has_edges(&mut self, graph: &Graph, lists: &Rotations) -> Result<bool, AllocError>
+        requires simple { IsSimpleMap lists.now }
+        requires vertices { length lists.now ≡ graph.now.n }
+        ensures { IfOk result (λ yes. IsTrue yes → HasJustEdges lists.now graph.now) }
+    {
+        let bits = graph.body();
+        let spent = mem::replace(&mut self.bits, Vec::new(self.alloc));
+        let edges = bits_of_lists(spent, lists, graph.n())?;
+        let same = are_equal(&edges, bits);
+        self.bits = edges;
+        Ok(same)
+    }
 }

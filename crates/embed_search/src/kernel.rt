@@ -125,7 +125,7 @@ impl Kernel {
     fn link_path(&self, links: &mut Links, edges: &Edges, edge: u32) {
         let mut e = edge;
         for _ in 0..edges.count {
-            links.put_edge(edges, e);
+            links.chain_next(e, edges.one.get(e), edges.other.get(e));
             e = self.ring.get(e);
             if e == edge {
                 return;

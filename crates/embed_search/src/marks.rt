@@ -122,9 +122,7 @@ impl ConflictMarks {
     /// Marks edges, together nonplanar, that show the conflict of a test.
     pub fn mark_conflict(&mut self, test: &LeftRightTest) {
         let (links, search, ring) = (&test.links, &test.search, &test.ring);
-        for edge in 0..links.darts / 2 {
-            self.marks.set(edge, 0);
-        }
+        self.marks.fill(links.darts / 2, 0);
         self.cover.fill(links.vertices, NONE);
         self.ends.fill(links.vertices, 0);
         self.mark(links, search, ring.one);

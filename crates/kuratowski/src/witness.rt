@@ -1,33 +1,9 @@
 //! Witnesses.
 ghost use Rattle.std.specs.Prelude.{◌≡◌, ◌<◌, length};
 ghost use Rattle.kuratowski.specs.Witnesses.{branch_count as branches_of, pairs_of, pair_at as pair_of};
+ghost use Rattle.kuratowski.specs.declared.witness.Kind.TheVariants.{K5};
 
 use map_lists::{PathList, VertexList};
-
-const K5_PAIRS: [(usize, usize); 10] = [
-    (0, 1),
-    (0, 2),
-    (0, 3),
-    (0, 4),
-    (1, 2),
-    (1, 3),
-    (1, 4),
-    (2, 3),
-    (2, 4),
-    (3, 4),
-];
-
-const K33_PAIRS: [(usize, usize); 9] = [
-    (0, 3),
-    (0, 4),
-    (0, 5),
-    (1, 3),
-    (1, 4),
-    (1, 5),
-    (2, 3),
-    (2, 4),
-    (2, 5),
-];
 
 /// Which graph is subdivided.
 #[derive(Clone, Copy, PartialEq, Eq)]
@@ -60,6 +36,8 @@ impl Kind {
     }
 
     /// The places of the two branches that path number `p`, counted from 0, joins.
+    // Inlined into a loop over `p` it makes the kit's clang crash.
+    #[inline(never)]
     pub fn pair_at(self, p: usize) -> (usize, usize)
         requires { p < length (pairs_of self) }
         ensures pair { result ≡ pair_of self p }
@@ -67,9 +45,27 @@ impl Kind {
         ensures second { result.1 < branches_of self }
     {
         match self {
-            Kind::K5 => K5_PAIRS[p],
-            Kind::K33 => K33_PAIRS[p],
+            Kind::K5 => pair_of_five(p),
+            Kind::K33 => (p / 3, 3 + p % 3),
         }
+    }
+}
+
+// The places of the two of five branches that path number `p` joins.
+fn pair_of_five(p: usize) -> (usize, usize)
+    requires { p < 10 }
+    ensures pair { result ≡ pair_of K5 p }
+    ensures first { result.0 < 5 }
+    ensures second { result.1 < 5 }
+{
+    if p < 4 {
+        (0, p + 1)
+    } else if p < 7 {
+        (1, p - 2)
+    } else if p < 9 {
+        (2, p - 4)
+    } else {
+        (3, 4)
     }
 }
 

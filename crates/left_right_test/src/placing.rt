@@ -145,23 +145,6 @@ impl Places {
         }
     }
 
-    // The ends of `n` lists of `total` entries, and the last one behind all entries. An end that is out of order is moved to
-    // the one before it.
-    fn ends(&self, spent: Vec<usize>, n: u16, total: usize) -> Result<Vec<usize>, AllocError>
-        ensures cuts { IfOk result (λ ends. AreCuts 0 ends.items total) }
-        ensures count { 0 < n → IfOk result (λ ends. length ends.items ≡ n) }
-    {
-        let mut ends = spent;
-        ends.clear();
-        let mut end = 0usize;
-        for vertex in 1..n {
-            end = within(end, self.place.get(minus(u32::from(vertex), 1)), total);
-            ends.push(end)?;
-        }
-        ends.push(total)?;
-        Ok(ends)
-    }
-
     /// The lists that were made, of `n` vertices, in the memory of `spent`. It fails only when out of memory.
     pub fn lists(&self, spent: Rotations, n: u16) -> Result<Rotations, AllocError>
         requires { n < 4096 }
@@ -174,7 +157,7 @@ impl Places {
         }
         let (mut entries, spent_ends) = lists.into_parts();
         entries.extend_from_slice(self.entries.first(self.count))?;
-        let ends = self.ends(spent_ends, n, entries.len())?;
+        let ends = ends_of(&self.place, spent_ends, n, entries.len())?;
         Ok(Rotations::from_parts(entries, ends))
     }
 }
@@ -186,4 +169,27 @@ fn within(least: usize, place: u32, most: usize) -> usize
     ensures most { result ≤ most }
 {
     (place as usize).max(least).min(most)
+}
+
+// The ends of `n` lists of `total` entries, as a row tells them, in the memory of `spent`. The last one is behind all
+// entries; an end that is out of order is moved to the one before it.
+fn ends_of(
+    told: &ByVertex,
+    spent: Vec<usize>,
+    n: u16,
+    total: usize,
+) -> Result<Vec<usize>, AllocError>
+    ensures cuts { IfOk result (λ ends. AreCuts 0 ends.items total) }
+    ensures count { 0 < n → IfOk result (λ ends. length ends.items ≡ n) }
+{
+    let mut ends = spent;
+    ends.clear();
+    ends.reserve(n as usize + 1)?;
+    let mut end = 0usize;
+    for vertex in 1..n {
+        end = within(end, told.get(minus(u32::from(vertex), 1)), total);
+        ends.push_reserved(end);
+    }
+    ends.push_reserved(total);
+    Ok(ends)
 }

@@ -60,10 +60,8 @@ impl OddRing {
 
     // Lists the ties of each return edge, none of which is reached.
     fn link_ties(&mut self, links: &Links, ties: &Ties) {
-        for edge in 0..links.darts / 2 {
-            self.first.set(twice(edge), NONE);
-            self.side.set(twice(edge), UNSEEN);
-        }
+        self.first.fill(links.darts / 2, NONE);
+        self.side.fill(links.darts / 2, UNSEEN);
         self.reached = 0;
         for tie in 0..ties.count {
             self.put_end(twice(tie), ties.one.get(tie));

@@ -96,6 +96,12 @@ impl ByArc {
         }
     }
 
+    /// Writes one number at the first edges, so many of them, or at all.
+    #[inline(always)]
+    pub fn fill(&mut self, count: u32, number: u32) {
+        self.edges.fill(count, number);
+    }
+
     /// The number at a dart's edge.
     #[inline(always)]
     pub fn get(&self, dart: u32) -> u32 {
