@@ -3,7 +3,7 @@ ghost use Rattle.std.specs.Prelude.{◌<◌, ◌≤◌, IfSome};
 ghost use Rattle.map_theory.specs.Maps.{IsPlane, vertex_count};
 
 use augment_tri::triangulate;
-use conn_parts::plane_map;
+use conn_parts::CountedMaker;
 use half_edges::{HalfMap, Rotations};
 use row_texts::lists::{SomeLists, put_lists};
 use row_texts::refusal::tell_no_memory;
@@ -61,8 +61,9 @@ fn plane_of(alloc: Global, given: &SomeLists) -> Option<HalfMap>
     ensures plane { IfSome result (λ map. IsPlane map.lists) }
     ensures some { IfSome result (λ map. 3 ≤ vertex_count map.lists) }
 {
-    match plane_map(alloc, &given.lists, 3) {
-        Ok(found) => Some(found.map),
+    let mut maker = CountedMaker::new(alloc);
+    match maker.plane_half_map(&given.lists, 3) {
+        Ok(map) => Some(map),
         Err(_) => None,
     }
 }

@@ -6,7 +6,7 @@ ghost use Rattle.plane_laws.specs.Triangulations.{IsTriangulation};
 ghost use Rattle.canon_order.specs.Orders.{IsCanonicalOrder, vertices_of};
 
 use crate::{completions, trees, verdicts, woods};
-use canon_order::{Order, base_order, canon_order};
+use canon_order::{Order, Peeler, canon_order};
 use fpp_shift::shift_draw;
 use grid_figures::drawing_orders::{DrawingOrder, drawing_order};
 use grid_figures::schnyder_figures::schnyder_figure;
@@ -66,15 +66,16 @@ fn base_of(map: &HalfMap, ends: (u16, u16)) -> Option<DartId>
     }
 }
 
-// Returns the order of a triangulation for a dart by its lists alone.
-fn order_by_lists(alloc: Global, tri: &HalfMap, base: DartId) -> Result<Order, AllocError>
+// Returns a peeler with the order of a triangulation for a dart, by its lists alone.
+fn order_by_lists(alloc: Global, tri: &HalfMap, base: DartId) -> Result<Peeler, AllocError>
     requires triangulation { IsTriangulation tri.now.lists }
     requires live { IsLive tri.now base.0 }
 {
     tri.facts();
     let lists = tri.rotations(alloc)?;
-    let order = base_order(alloc, &lists, tri.tail(base).0, tri.head(base).0)?;
-    Ok(order)
+    let mut peeler = Peeler::new(alloc);
+    peeler.order_lists(alloc, &lists, tri.tail(base).0, tri.head(base).0)?;
+    Ok(peeler)
 }
 
 // Writes the order of a triangulation for the dart between two vertices, by the map or by its lists, if there is one.
@@ -89,7 +90,7 @@ fn order_for(row: &Row<'_>, tri: &HalfMap, out: &mut Reply)
             }
         } else {
             match order_by_lists(out.alloc, tri, base) {
-                Ok(order) => put_order(&order, out),
+                Ok(peeler) => put_order(&peeler.order, out),
                 Err(_) => tell_no_memory(out),
             }
         }

@@ -8,8 +8,7 @@ ghost use Rattle.pigale_c.specs.Numbers.{Reports};
 use crate::arrays::put_points;
 use crate::edges::{EdgeEnds, graph_of};
 use crate::outcome::{Failure, Numbers, Outcome, report};
-use embed_graph::Tables;
-use embed_graph::embed_figures::{EmbedFigure, embed_figure_in};
+use embed_graph::embed_figures::{EmbedFigure, Embedder};
 use map_lists::VertexId;
 use refusals::Refusal;
 use std::alloc::{AllocError, Global};
@@ -34,8 +33,8 @@ fn figure_of(
     if n < 3 {
         return Err(Failure::Refused(Refusal::Small(n)));
     }
-    let mut tables = Tables::new();
-    let figure = embed_figure_in(alloc, &mut tables, &graph)?;
+    let mut embedder = Embedder::new(alloc);
+    let figure = embedder.figure(&graph)?;
     Ok(figure)
 }
 

@@ -1,6 +1,6 @@
 //! How a call ends, as the number of a status and up to four numbers beside it.
 ghost use Rattle.std.specs.Prelude.{◌≡◌};
-ghost use Rattle.pigale_c.specs.Numbers.{bars_numbers_of, bars_status_of, convex_numbers_of, convex_status_of, drawing_numbers_of, drawing_status_of, failure_numbers_of, failure_status_of, kind_status_of, numbers_of, rects_numbers_of, rects_status_of, refusal_numbers_of, refusal_status_of, status_of};
+ghost use Rattle.pigale_c.specs.Numbers.{four as four_of, none as none_of, one as one_of, two as two_of, three as three_of, refusal_answer_of, drawing_answer_of, convex_answer_of, bars_answer_of, rects_answer_of, failure_answer_of, answer_of};
 
 use bar_check::BarVerdict;
 use convex_check::ConvexVerdict;
@@ -89,9 +89,23 @@ pub struct Numbers {
     pub fourth: u32,
 }
 
-// Returns a status with up to four numbers.
+/// A status, and the numbers beside it.
+#[derive(Clone, Copy)]
+pub struct Answer {
+    pub status: u8,
+    pub numbers: Numbers,
+}
+
+// Returns a status with its numbers.
+fn told(status: u8, numbers: Numbers) -> Answer
+    ensures { result ≡ record { status = status; numbers = numbers } }
+{
+    Answer { status, numbers }
+}
+
+// Returns four numbers.
 fn four(first: u32, second: u32, third: u32, fourth: u32) -> Numbers
-    ensures { result ≡ record { first = first; second = second; third = third; fourth = fourth } }
+    ensures { result ≡ four_of first second third fourth }
 {
     Numbers {
         first,
@@ -101,72 +115,37 @@ fn four(first: u32, second: u32, third: u32, fourth: u32) -> Numbers
     }
 }
 
-// Returns the number of a condition, from 1.
-fn refusal_status(refusal: Refusal) -> u8
-    ensures { result ≡ refusal_status_of refusal }
+// Returns no number.
+fn none() -> Numbers
+    ensures { result ≡ none_of }
 {
-    match refusal {
-        Refusal::OutOfRange(_, _) => 1,
-        Refusal::Loop(_) => 2,
-        Refusal::Repeated(_, _) => 3,
-        Refusal::OneSided(_, _) => 4,
-        Refusal::Small(_) => 5,
-        Refusal::Genus(_) => 6,
-        Refusal::NotConnected => 7,
-        Refusal::CutVertex(_) => 8,
-        Refusal::SeparatingPair(_, _) => 9,
-        Refusal::OuterNotQuad => 10,
-        Refusal::NotTriangle(_, _) => 11,
-        Refusal::SeparatingTriangle(_, _, _) => 12,
-        Refusal::NoInner => 13,
-    }
-}
-
-// Returns what a condition says of a record.
-fn refusal_numbers(refusal: Refusal) -> Numbers
-    ensures { result ≡ refusal_numbers_of refusal }
-{
-    match refusal {
-        Refusal::OutOfRange(v, u) => four(u32::from(v), u32::from(u), 0, 0),
-        Refusal::Loop(v) => four(u32::from(v), 0, 0, 0),
-        Refusal::Repeated(v, u) => four(u32::from(v), u32::from(u), 0, 0),
-        Refusal::OneSided(v, u) => four(u32::from(v), u32::from(u), 0, 0),
-        Refusal::Small(n) => four(u32::from(n), 0, 0, 0),
-        Refusal::Genus(g) => four(g, 0, 0, 0),
-        Refusal::NotConnected => four(0, 0, 0, 0),
-        Refusal::CutVertex(v) => one(v),
-        Refusal::SeparatingPair(u, v) => two(u, v),
-        Refusal::OuterNotQuad => four(0, 0, 0, 0),
-        Refusal::NotTriangle(v, u) => two(v, u),
-        Refusal::SeparatingTriangle(a, b, c) => three(a, b, c),
-        Refusal::NoInner => four(0, 0, 0, 0),
-    }
+    four(0, 0, 0, 0)
 }
 
 // Returns the number of a vertex.
 fn one(v: VertexId) -> Numbers
-    ensures { result ≡ record { first = v.0; second = 0; third = 0; fourth = 0 } }
+    ensures { result ≡ one_of v.0 }
 {
     four(u32::from(v.0), 0, 0, 0)
 }
 
 // Returns the numbers of two vertices.
 fn two(u: VertexId, v: VertexId) -> Numbers
-    ensures { result ≡ record { first = u.0; second = v.0; third = 0; fourth = 0 } }
+    ensures { result ≡ two_of u.0 v.0 }
 {
     four(u32::from(u.0), u32::from(v.0), 0, 0)
 }
 
 // Returns the numbers of three vertices.
 fn three(a: VertexId, b: VertexId, c: VertexId) -> Numbers
-    ensures { result ≡ record { first = a.0; second = b.0; third = c.0; fourth = 0 } }
+    ensures { result ≡ three_of a.0 b.0 c.0 }
 {
     four(u32::from(a.0), u32::from(b.0), u32::from(c.0), 0)
 }
 
 // Returns the numbers of the ends of two edges.
 fn ends(e: Ends, f: Ends) -> Numbers
-    ensures { result ≡ record { first = e.a.0; second = e.b.0; third = f.a.0; fourth = f.b.0 } }
+    ensures { result ≡ four_of e.a.0 e.b.0 f.a.0 f.b.0 }
 {
     four(
         u32::from(e.a.0),
@@ -176,183 +155,116 @@ fn ends(e: Ends, f: Ends) -> Numbers
     )
 }
 
-// Returns the number of a verdict on a straight-line drawing.
-fn drawing_status(verdict: Verdict) -> u8
-    ensures { result ≡ drawing_status_of verdict }
+// Returns the number of a condition, from 1, and what it says of a record.
+fn refusal_answer(refusal: Refusal) -> Answer
+    ensures { result ≡ refusal_answer_of refusal }
+{
+    match refusal {
+        Refusal::OutOfRange(v, u) => told(1, four(u32::from(v), u32::from(u), 0, 0)),
+        Refusal::Loop(v) => told(2, four(u32::from(v), 0, 0, 0)),
+        Refusal::Repeated(v, u) => told(3, four(u32::from(v), u32::from(u), 0, 0)),
+        Refusal::OneSided(v, u) => told(4, four(u32::from(v), u32::from(u), 0, 0)),
+        Refusal::Small(n) => told(5, four(u32::from(n), 0, 0, 0)),
+        Refusal::Genus(g) => told(6, four(g, 0, 0, 0)),
+        Refusal::NotConnected => told(7, none()),
+        Refusal::CutVertex(v) => told(8, one(v)),
+        Refusal::SeparatingPair(u, v) => told(9, two(u, v)),
+        Refusal::OuterNotQuad => told(10, none()),
+        Refusal::NotTriangle(v, u) => told(11, two(v, u)),
+        Refusal::SeparatingTriangle(a, b, c) => told(12, three(a, b, c)),
+        Refusal::NoInner => told(13, none()),
+    }
+}
+
+// Returns the answer of a verdict on a straight-line drawing.
+fn drawing_answer(verdict: Verdict) -> Answer
+    ensures { result ≡ drawing_answer_of verdict }
 {
     match verdict {
-        Verdict::OutOfGrid(_) => 32,
-        Verdict::SamePlace(_, _) => 33,
-        Verdict::OnEdge(_, _) => 34,
-        Verdict::Cross(_, _) => 35,
-        Verdict::Turned(_) => 36,
-        Verdict::Yes => 0,
+        Verdict::OutOfGrid(v) => told(32, one(v)),
+        Verdict::SamePlace(u, v) => told(33, two(u, v)),
+        Verdict::OnEdge(v, e) => told(34, three(v, e.a, e.b)),
+        Verdict::Cross(e, f) => told(35, ends(e, f)),
+        Verdict::Turned(v) => told(36, one(v)),
+        Verdict::Yes => told(0, none()),
     }
 }
 
-// Returns the vertices of a verdict on a straight-line drawing.
-fn drawing_numbers(verdict: Verdict) -> Numbers
-    ensures { result ≡ drawing_numbers_of verdict }
+// Returns the answer of a verdict on bends.
+fn convex_answer(verdict: ConvexVerdict) -> Answer
+    ensures { result ≡ convex_answer_of verdict }
 {
     match verdict {
-        Verdict::OutOfGrid(v) => one(v),
-        Verdict::SamePlace(u, v) => two(u, v),
-        Verdict::OnEdge(v, e) => three(v, e.a, e.b),
-        Verdict::Cross(e, f) => ends(e, f),
-        Verdict::Turned(v) => one(v),
-        Verdict::Yes => four(0, 0, 0, 0),
+        ConvexVerdict::Bent(a, b, c) => told(40, three(a, b, c)),
+        ConvexVerdict::OuterBent => told(41, none()),
+        ConvexVerdict::Yes => told(0, none()),
     }
 }
 
-// Returns the number of a verdict on bends.
-fn convex_status(verdict: ConvexVerdict) -> u8
-    ensures { result ≡ convex_status_of verdict }
+// Returns the answer of a verdict on bars.
+fn bars_answer(verdict: BarVerdict) -> Answer
+    ensures { result ≡ bars_answer_of verdict }
 {
     match verdict {
-        ConvexVerdict::Bent(_, _, _) => 40,
-        ConvexVerdict::OuterBent => 41,
-        ConvexVerdict::Yes => 0,
+        BarVerdict::BadShape => told(48, none()),
+        BarVerdict::BadHeight(v) => told(49, one(v)),
+        BarVerdict::BadBar(v) => told(50, one(v)),
+        BarVerdict::BadColumn(e) => told(51, two(e.a, e.b)),
+        BarVerdict::Through(e, v) => told(52, three(e.a, e.b, v)),
+        BarVerdict::Overlap(e, f) => told(53, ends(e, f)),
+        BarVerdict::Turned(v) => told(54, one(v)),
+        BarVerdict::Yes => told(0, none()),
     }
 }
 
-// Returns the vertices of a verdict on bends.
-fn convex_numbers(verdict: ConvexVerdict) -> Numbers
-    ensures { result ≡ convex_numbers_of verdict }
+// Returns the answer of a verdict on rectangles.
+fn rects_answer(verdict: RectVerdict) -> Answer
+    ensures { result ≡ rects_answer_of verdict }
 {
     match verdict {
-        ConvexVerdict::Bent(a, b, c) => three(a, b, c),
-        _ => four(0, 0, 0, 0),
+        RectVerdict::BadRect(v) => told(64, one(v)),
+        RectVerdict::Meet(u, v) => told(65, two(u, v)),
+        RectVerdict::Gap => told(66, none()),
+        RectVerdict::Contact(u, v) => told(67, two(u, v)),
+        RectVerdict::NoFrame => told(68, none()),
+        RectVerdict::Frame(v) => told(69, one(v)),
+        RectVerdict::Yes => told(0, none()),
     }
 }
 
-// Returns the number of a verdict on bars.
-fn bars_status(verdict: BarVerdict) -> u8
-    ensures { result ≡ bars_status_of verdict }
-{
-    match verdict {
-        BarVerdict::BadShape => 48,
-        BarVerdict::BadHeight(_) => 49,
-        BarVerdict::BadBar(_) => 50,
-        BarVerdict::BadColumn(_) => 51,
-        BarVerdict::Through(_, _) => 52,
-        BarVerdict::Overlap(_, _) => 53,
-        BarVerdict::Turned(_) => 54,
-        BarVerdict::Yes => 0,
-    }
-}
-
-// Returns the vertices of a verdict on bars.
-fn bars_numbers(verdict: BarVerdict) -> Numbers
-    ensures { result ≡ bars_numbers_of verdict }
-{
-    match verdict {
-        BarVerdict::BadShape => four(0, 0, 0, 0),
-        BarVerdict::BadHeight(v) => one(v),
-        BarVerdict::BadBar(v) => one(v),
-        BarVerdict::BadColumn(e) => two(e.a, e.b),
-        BarVerdict::Through(e, v) => three(e.a, e.b, v),
-        BarVerdict::Overlap(e, f) => ends(e, f),
-        BarVerdict::Turned(v) => one(v),
-        BarVerdict::Yes => four(0, 0, 0, 0),
-    }
-}
-
-// Returns the number of a verdict on rectangles.
-fn rects_status(verdict: RectVerdict) -> u8
-    ensures { result ≡ rects_status_of verdict }
-{
-    match verdict {
-        RectVerdict::BadRect(_) => 64,
-        RectVerdict::Meet(_, _) => 65,
-        RectVerdict::Gap => 66,
-        RectVerdict::Contact(_, _) => 67,
-        RectVerdict::NoFrame => 68,
-        RectVerdict::Frame(_) => 69,
-        RectVerdict::Yes => 0,
-    }
-}
-
-// Returns the vertices of a verdict on rectangles.
-fn rects_numbers(verdict: RectVerdict) -> Numbers
-    ensures { result ≡ rects_numbers_of verdict }
-{
-    match verdict {
-        RectVerdict::BadRect(v) => one(v),
-        RectVerdict::Meet(u, v) => two(u, v),
-        RectVerdict::Gap => four(0, 0, 0, 0),
-        RectVerdict::Contact(u, v) => two(u, v),
-        RectVerdict::NoFrame => four(0, 0, 0, 0),
-        RectVerdict::Frame(v) => one(v),
-        RectVerdict::Yes => four(0, 0, 0, 0),
-    }
-}
-
-// Returns the number of a kind of witness.
-fn kind_status(kind: Kind) -> u8
-    ensures { result ≡ kind_status_of kind }
-{
-    match kind {
-        Kind::K5 => 80,
-        Kind::K33 => 81,
-    }
-}
-
-// Returns the number of a failure.
-fn failure_status(failure: Failure) -> u8
-    ensures { result ≡ failure_status_of failure }
+// Returns the answer of a failure.
+fn failure_answer(failure: Failure) -> Answer
+    ensures { result ≡ failure_answer_of failure }
 {
     match failure {
-        Failure::Refused(refusal) => refusal_status(refusal),
-        Failure::NoMemory => 16,
-        Failure::BadArgument => 17,
+        Failure::Refused(refusal) => refusal_answer(refusal),
+        Failure::NoMemory => told(16, none()),
+        Failure::BadArgument => told(17, none()),
     }
 }
 
-// Returns the numbers of a failure.
-fn failure_numbers(failure: Failure) -> Numbers
-    ensures { result ≡ failure_numbers_of failure }
-{
-    match failure {
-        Failure::Refused(refusal) => refusal_numbers(refusal),
-        _ => four(0, 0, 0, 0),
-    }
-}
-
-// Returns the number of an outcome.
-fn status_number(outcome: Outcome) -> u8
-    ensures { result ≡ status_of outcome }
+// Returns the answer of an outcome.
+fn outcome_answer(outcome: Outcome) -> Answer
+    ensures { result ≡ answer_of outcome }
 {
     match outcome {
-        Outcome::Served => 0,
-        Outcome::Failed(failure) => failure_status(failure),
-        Outcome::Drawing(verdict) => drawing_status(verdict),
-        Outcome::Convex(verdict) => convex_status(verdict),
-        Outcome::Bars(verdict) => bars_status(verdict),
-        Outcome::Rects(verdict) => rects_status(verdict),
-        Outcome::NotPlanar(kind) => kind_status(kind),
-    }
-}
-
-// Returns the numbers of an outcome.
-fn numbers_beside(outcome: Outcome) -> Numbers
-    ensures { result ≡ numbers_of outcome }
-{
-    match outcome {
-        Outcome::Served => four(0, 0, 0, 0),
-        Outcome::Failed(failure) => failure_numbers(failure),
-        Outcome::Drawing(verdict) => drawing_numbers(verdict),
-        Outcome::Convex(verdict) => convex_numbers(verdict),
-        Outcome::Bars(verdict) => bars_numbers(verdict),
-        Outcome::Rects(verdict) => rects_numbers(verdict),
-        Outcome::NotPlanar(_) => four(0, 0, 0, 0),
+        Outcome::Served => told(0, none()),
+        Outcome::Failed(failure) => failure_answer(failure),
+        Outcome::Drawing(verdict) => drawing_answer(verdict),
+        Outcome::Convex(verdict) => convex_answer(verdict),
+        Outcome::Bars(verdict) => bars_answer(verdict),
+        Outcome::Rects(verdict) => rects_answer(verdict),
+        Outcome::NotPlanar(Kind::K5) => told(80, none()),
+        Outcome::NotPlanar(Kind::K33) => told(81, none()),
     }
 }
 
 /// Sets the numbers of an outcome, and returns its status.
 pub(crate) fn report(outcome: Outcome, found: &mut Numbers) -> u8
-    ensures status { result ≡ status_of outcome }
-    ensures numbers { found.new ≡ numbers_of outcome }
+    ensures status { result ≡ (answer_of outcome).status }
+    ensures numbers { found.new ≡ (answer_of outcome).numbers }
 {
-    *found = numbers_beside(outcome);
-    status_number(outcome)
+    let Answer { status, numbers } = outcome_answer(outcome);
+    *found = numbers;
+    status
 }

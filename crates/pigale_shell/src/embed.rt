@@ -10,11 +10,9 @@ use super::answer::refuse;
 use super::form::{FormPrinter, line_in, print_witness_in};
 use super::lines::{end_line, stop_line};
 use super::method::MapRecord;
-use embed_graph::Tables;
-use embed_graph::embed_figures::{EmbedFigure, embed_figure_by};
+use embed_graph::embed_figures::{EmbedFigure, Embedder};
 use figure_text::GridJob;
 use graph6_text::Graph;
-use grid_figures::Drawer;
 use kuratowski::Witness;
 use line_inputs::graph_lines::{Ending, GraphReader};
 use map_lists::Rotations;
@@ -86,17 +84,6 @@ fn push_figure(
     }
 }
 
-// Keeps the memory of a map and its drawing, or of a witness, that are printed.
-fn keep_figure(tables: &mut Tables, drawer: &mut Drawer, figure: EmbedFigure) {
-    match figure {
-        EmbedFigure::Drawn(lists, drawing) => {
-            tables.keep_lists(lists);
-            drawer.keep_schnyder(drawing);
-        }
-        EmbedFigure::NotPlanar(witness) => tables.keep_witness(witness),
-    }
-}
-
 // Appends the figure of a graph with at least three vertices, which is served.
 fn serve_graph(
     alloc: Global,
@@ -111,9 +98,9 @@ fn serve_graph(
     ensures served { IfOk result (λ served. served ≡ true) }
     ensures err { OnErr result (out.new.items ≡ out.old.items) }
 {
-    let figure = embed_figure_by(alloc, &mut tools.tables, &mut tools.drawer, graph)?;
+    let figure = tools.embedder.figure(graph)?;
     push_figure(alloc, &mut tools.printer, form, number, graph, &figure, out)?;
-    keep_figure(&mut tools.tables, &mut tools.drawer, figure);
+    tools.embedder.keep(figure);
     Ok(true)
 }
 
@@ -158,8 +145,7 @@ fn embed_last_line(
 /// Embeds, draws and prints graphs, and keeps its memory from graph to graph.
 #[derive(Drop)]
 struct EmbedTools {
-    tables: Tables,
-    drawer: Drawer,
+    embedder: Embedder,
     printer: FormPrinter,
 }
 
@@ -180,8 +166,7 @@ impl EmbedJob {
             alloc,
             form,
             tools: EmbedTools {
-                tables: Tables::new(),
-                drawer: Drawer::new(alloc),
+                embedder: Embedder::new(alloc),
                 printer: FormPrinter::new(alloc),
             },
         }

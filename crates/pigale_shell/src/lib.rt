@@ -17,5 +17,5 @@ mod verify;
 
 pub use answer::answer_record;
 pub use laws::{one_graph_refusal_line, one_refusal_line, one_text};
-pub use pigale_words::{Form, Job, Status, WordFault, count_words, job_words, words_to_job};
+pub use pigale_words::{Form, Job, Status, WordFault, job_words, words_to_job};
 pub use top::pigale;

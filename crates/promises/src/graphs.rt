@@ -6,8 +6,8 @@ ghost use Rattle.left_right_lists.specs.Decided.{HasMap};
 ghost use Rattle.embed_graph.specs.Embeddings.{IsEmbedding};
 ghost use Rattle.embed_graph.specs.Figures.{IsEmbedFigure};
 
-use embed_graph::embed_figures::EmbedFigure;
-use embed_graph::{Embedding, Tables};
+use embed_graph::Embedding;
+use embed_graph::embed_figures::{EmbedFigure, Embedder};
 use graph6_text::Graph;
 use map_lists::Rotations;
 use std::alloc::{AllocError, Global};
@@ -49,14 +49,11 @@ pub fn embed_by_sides(alloc: Global, graph: &Graph) -> Result<Embedding, AllocEr
     embed_graph::contracted_embeddings::embed_by_sides(alloc, graph)
 }
 
-/// Returns a drawn map of genus zero with the edges of `graph`, or a subdivision of K5 or K3,3, whatever `tables` hold.
-pub fn embed_figure_in(
-    alloc: Global,
-    tables: &mut Tables,
-    graph: &Graph,
-) -> Result<EmbedFigure, AllocError>
+/// Returns a drawn map of genus zero with the edges of `graph`, or a subdivision of K5 or K3,3, by an `embedder` that may have
+/// embedded others before.
+pub fn embed_figure(embedder: &mut Embedder, graph: &Graph) -> Result<EmbedFigure, AllocError>
     requires { 3 ≤ graph.now.n }
     ensures { IfOk result (IsEmbedFigure graph.now) }
 {
-    embed_graph::embed_figures::embed_figure_in(alloc, tables, graph)
+    embedder.figure(graph)
 }

@@ -1,5 +1,5 @@
 //! Triangulations, orders and numberings.
-ghost use Rattle.std.specs.Prelude.{◌≡◌, ◌≤◌, ℕ, Some, IfOk, IfErr, ◌<◌, map, length};
+ghost use Rattle.std.specs.Prelude.{◌≡◌, ◌≤◌, ℕ, Some, OnOk, IfOk, IfErr, ◌<◌, map};
 ghost use Rattle.bipolar.specs.DualNumbers.{AreDualNumbers};
 ghost use Rattle.canon_order.specs.Orders.{IsCanonicalOrder, vertices_of};
 ghost use Rattle.graph_search.specs.Cuts.{IsCutVertex};
@@ -86,57 +86,33 @@ pub fn stacked(alloc: Global, n: u16, number: u32) -> Result<Rotations, AllocErr
     map_gen::stacked(alloc, n, number)
 }
 
-/// Returns a canonical order of the triangulation with these `lists`, for the base from `t` to `s`.
-pub fn base_order(alloc: Global, lists: &Rotations, t: u16, s: u16) -> Result<Order, AllocError>
-    requires triangulation { IsTriangulation lists.now }
-    requires base { HasDart lists.now t s }
-    ensures order { IfOk result (λ order. IsCanonicalOrder lists.now (t, s) (vertices_of order)) }
-{
-    canon_order::base_order(alloc, lists, t, s)
-}
-
-/// Returns a canonical order of `tri` for `base`, by the lists of `tri`.
-pub fn list_order(
+/// Orders `tri` for `base`, by its lists and in the memory of `peeler`, which keeps the order.
+pub fn peeled_map(
+    peeler: &mut Peeler,
     alloc: Global,
     tri: &HalfMap,
     lists: &Rotations,
     base: DartId,
-) -> Result<Order, AllocError>
+) -> Result<(), AllocError>
     requires triangulation { IsTriangulation tri.now.lists }
     requires lists { lists.now ≡ tri.now.lists }
     requires live { IsLive tri.now base.0 }
-    ensures order { IfOk result (λ order. (t s : ℕ) → dart_at tri.now base.0 ≡ Some (t, s) → IsCanonicalOrder tri.now.lists (t, s) (vertices_of order)) }
+    ensures order { OnOk result ((t s : ℕ) → dart_at tri.now base.0 ≡ Some (t, s) → IsCanonicalOrder tri.now.lists (t, s) (vertices_of peeler.new.order)) }
 {
-    canon_order::list_order(alloc, tri, lists, base)
+    peeler.order_map(alloc, tri, lists, base)
 }
 
-/// Returns a canonical order of the triangulation with these `lists`, in the memory of `peeler`.
-pub fn peeled_base_order(
+/// Orders the triangulation with these `lists` for the base from `t` to `s`, in the memory of `peeler`, which keeps the order.
+pub fn peeled_lists(
     peeler: &mut Peeler,
     alloc: Global,
     lists: &Rotations,
     t: u16,
     s: u16,
-) -> Result<Order, AllocError>
+) -> Result<(), AllocError>
     requires triangulation { IsTriangulation lists.now }
     requires base { HasDart lists.now t s }
-    ensures order { IfOk result (λ order. IsCanonicalOrder lists.now (t, s) (vertices_of order)) }
+    ensures order { OnOk result (IsCanonicalOrder lists.now (t, s) (vertices_of peeler.new.order)) }
 {
-    peeler.base_order(alloc, lists, t, s)
-}
-
-/// Returns a canonical order of `tri` for `base`, by its lists and in the memory of `peeler`.
-pub fn peeled_list_order(
-    peeler: &mut Peeler,
-    alloc: Global,
-    tri: &HalfMap,
-    lists: &Rotations,
-    base: DartId,
-) -> Result<Order, AllocError>
-    requires triangulation { IsTriangulation tri.now.lists }
-    requires lists { lists.now ≡ tri.now.lists }
-    requires live { IsLive tri.now base.0 }
-    ensures order { IfOk result (λ order. (t s : ℕ) → dart_at tri.now base.0 ≡ Some (t, s) → IsCanonicalOrder tri.now.lists (t, s) (vertices_of order)) }
-{
-    peeler.list_order(alloc, tri, lists, base)
+    peeler.order_lists(alloc, lists, t, s)
 }

@@ -1,7 +1,8 @@
 //! Records as maps of a class, or the first condition that they break.
 ghost use Rattle.std.specs.Prelude.{◌≡◌, ◌<◌, ◌≤◌, ◌-◌, length, None, OnOk, IfOk, IfErr, Some};
 ghost use Rattle.conn_parts.specs.BiconnectedMaps.{IsBiconnectedMap, BreaksFirst};
-ghost use Rattle.conn_parts.specs.Counted.{IsCountOf, IsCountedMap, IsPlaneMap};
+ghost use Rattle.conn_parts.specs.Counted.{IsCountOf, IsCountedMap};
+ghost use Rattle.conn_parts.specs.Parts.{ArePartsOf};
 ghost use Rattle.grid_figures.specs.Orders.{IsDrawingOrder};
 ghost use Rattle.map_theory.specs.Maps.{IsPlane, IsSimpleMap, vertex_count, edge_count, face_count, component_count};
 ghost use Rattle.refusals.specs.Conditions.{first_refusal, IfRefused};
@@ -37,16 +38,6 @@ pub fn counted_map(alloc: Global, lists: &Rotations) -> Result<CountedMap, MapFa
     ensures fault { IfErr result (Names (first_fault lists.now)) }
 {
     conn_parts::counted_map(alloc, lists)
-}
-
-/// Makes the map of genus zero of `lists` with `least` vertices or more, or names the first condition that they break.
-pub fn plane_map(alloc: Global, lists: &Rotations, least: u16) -> Result<CountedMap, Unserved>
-    requires some_list { 0 < length lists.now }
-    ensures plane { IfOk result (IsPlaneMap least lists.now) }
-    ensures served { OnOk result (first_refusal least lists.now ≡ None) }
-    ensures refused { IfErr result (IfRefused (λ refusal. first_refusal least lists.now ≡ Some refusal)) }
-{
-    conn_parts::plane_map(alloc, lists, least)
 }
 
 /// Makes the biconnected map of genus zero of `lists`, or names the first condition that they break.
@@ -96,16 +87,20 @@ pub fn made_counted_map(maker: &mut CountedMaker, lists: &Rotations) -> Result<C
     maker.counted_map(lists)
 }
 
-/// Makes the map of genus zero of `lists` in the memory of `maker`, or names the first condition that they break.
+/// Makes the map of genus zero of `lists` in the memory of `maker`, which keeps its components, or names the first condition that they break.
 pub fn made_plane_map(
     maker: &mut CountedMaker,
     lists: &Rotations,
     least: u16,
-) -> Result<CountedMap, Unserved>
+) -> Result<HalfMap, Unserved>
     requires some_list { 0 < length lists.now }
-    ensures plane { IfOk result (IsPlaneMap least lists.now) }
+    ensures lists { IfOk result (λ map. map.lists ≡ lists.now) }
+    ensures parts { OnOk result (ArePartsOf lists.now maker.new.parts) }
+    ensures simple { OnOk result (IsSimpleMap lists.now) }
+    ensures some { OnOk result (least ≤ vertex_count lists.now) }
+    ensures plane { OnOk result (IsPlane lists.now) }
     ensures served { OnOk result (first_refusal least lists.now ≡ None) }
     ensures refused { IfErr result (IfRefused (λ refusal. first_refusal least lists.now ≡ Some refusal)) }
 {
-    maker.plane_map(lists, least)
+    maker.plane_half_map(lists, least)
 }

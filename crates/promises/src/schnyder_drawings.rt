@@ -5,7 +5,7 @@ ghost use Rattle.contour_runs.specs.Runs.{Step};
 ghost use Rattle.grid_figures.specs.SchnyderFiguresFigures.{IsSchnyderFigure};
 ghost use Rattle.map_theory.specs.Maps.{Dart, vertex_count, HasDart};
 ghost use Rattle.order_drawings.specs.OrderRuns.{IsOrderRun};
-ghost use Rattle.order_drawings.specs.SchnyderDrawings.{AreWoodPoints, IsSchnyderDrawing};
+ghost use Rattle.order_drawings.specs.SchnyderDrawings.{IsSchnyderDrawing, IsSchnyderOf};
 ghost use Rattle.plane_laws.specs.Triangulations.{IsTriangulation};
 ghost use Rattle.refusals.specs.Conditions.{first_refusal, IfRefused};
 ghost use Rattle.schnyder_wood.specs.Parents.{parent_in, IsWoodOf, count_in, kind, root_in, IsRoot, IsInnerIn, IsPathLength};
@@ -89,12 +89,7 @@ pub fn region_count(
 pub fn wood_draw(alloc: Global, tri: &HalfMap, order: &Order) -> Result<GridFigure, AllocError>
     requires triangulation { IsTriangulation tri.now.lists }
     requires order { (base : Dart) × IsCanonicalOrder tri.now.lists base (vertices_of order.now) }
-    ensures points { IfOk result (λ figure. (base : Dart) (canonical : IsCanonicalOrder tri.now.lists base (vertices_of order.now))
-        → AreWoodPoints tri.now.lists base (vertices_of order.now) canonical.cycle figure.points) }
-    ensures drawing { IfOk result (λ figure. (base : Dart) → HasDart tri.now.lists base.0 base.1 → IsCanonicalOrder tri.now.lists base (vertices_of order.now)
-        → IsSchnyderDrawing tri.now.lists base figure.points) }
-    ensures width { IfOk result (λ figure. figure.width ≡ pos (vertex_count tri.now.lists - 2)) }
-    ensures height { IfOk result (λ figure. figure.height ≡ pos (vertex_count tri.now.lists - 2)) }
+    ensures { IfOk result (IsSchnyderOf tri.now.lists (vertices_of order.now)) }
 {
     grid_figures::schnyder_grid::wood_draw(alloc, tri, order)
 }
@@ -131,20 +126,6 @@ pub fn schnyder_figure(alloc: Global, lists: &Rotations) -> Result<GridFigure, U
     grid_figures::schnyder_figures::schnyder_figure(alloc, lists)
 }
 
-/// Draws the triangulation with these `lists` by Schnyder's coordinates over `order`.
-pub fn list_draw(alloc: Global, lists: &Rotations, order: &Order) -> Result<GridFigure, AllocError>
-    requires triangulation { IsTriangulation lists.now }
-    requires order { (base : Dart) × IsCanonicalOrder lists.now base (vertices_of order.now) }
-    ensures points { IfOk result (λ figure. (base : Dart) (canonical : IsCanonicalOrder lists.now base (vertices_of order.now))
-        → AreWoodPoints lists.now base (vertices_of order.now) canonical.cycle figure.points) }
-    ensures drawing { IfOk result (λ figure. (base : Dart) → HasDart lists.now base.0 base.1 → IsCanonicalOrder lists.now base (vertices_of order.now)
-        → IsSchnyderDrawing lists.now base figure.points) }
-    ensures width { IfOk result (λ figure. figure.width ≡ pos (vertex_count lists.now - 2)) }
-    ensures height { IfOk result (λ figure. figure.height ≡ pos (vertex_count lists.now - 2)) }
-{
-    grid_figures::schnyder_grid::list_draw(alloc, lists, order)
-}
-
 /// Draws the triangulation with these `lists` over `order`, in the memory of `woods`.
 pub fn wood_list_draw(
     woods: &mut WoodDrawer,
@@ -153,12 +134,7 @@ pub fn wood_list_draw(
 ) -> Result<GridFigure, AllocError>
     requires triangulation { IsTriangulation lists.now }
     requires order { (base : Dart) × IsCanonicalOrder lists.now base (vertices_of order.now) }
-    ensures points { IfOk result (λ figure. (base : Dart) (canonical : IsCanonicalOrder lists.now base (vertices_of order.now))
-        → AreWoodPoints lists.now base (vertices_of order.now) canonical.cycle figure.points) }
-    ensures drawing { IfOk result (λ figure. (base : Dart) → HasDart lists.now base.0 base.1 → IsCanonicalOrder lists.now base (vertices_of order.now)
-        → IsSchnyderDrawing lists.now base figure.points) }
-    ensures width { IfOk result (λ figure. figure.width ≡ pos (vertex_count lists.now - 2)) }
-    ensures height { IfOk result (λ figure. figure.height ≡ pos (vertex_count lists.now - 2)) }
+    ensures { IfOk result (IsSchnyderOf lists.now (vertices_of order.now)) }
 {
     woods.list_draw(lists, order)
 }

@@ -1,13 +1,13 @@
 //! The shift method.
-ghost use Rattle.std.specs.Prelude.{◌≡◌, ◌<◌, ◌-◌, ◌*◌, pos, IfOk, ◌≤◌, ◌+◌, length, slice_index, replicate, slice_set, Some, None, IfErr, OnOk};
+ghost use Rattle.std.specs.Prelude.{◌≡◌, ◌<◌, ◌-◌, ◌*◌, IfOk, ◌≤◌, ◌+◌, length, slice_index, replicate, slice_set, Some, None, IfErr, OnOk};
 ghost use Rattle.canon_order.specs.Orders.{IsCanonicalOrder, vertices_of};
 ghost use Rattle.fpp_shift.specs.Nodes.{empty_node, node_at};
-ghost use Rattle.fpp_shift.specs.ShiftDrawings.{AreShiftPoints, IsShiftDrawing};
+ghost use Rattle.fpp_shift.specs.ShiftDrawings.{IsShiftOf};
 ghost use Rattle.fpp_shift.specs.Trees.{IsTreeOf};
 ghost use Rattle.fpp_shift.specs.Ways.{IsTree, ArePointsOf};
 ghost use Rattle.fpp_shift.specs.declared.offset_trees.nodes.Node.{Node};
 ghost use Rattle.grid_figures.specs.ShiftFiguresFigures.{IsShiftFigure};
-ghost use Rattle.map_theory.specs.Maps.{Dart, HasDart, vertex_count};
+ghost use Rattle.map_theory.specs.Maps.{Dart, vertex_count};
 ghost use Rattle.plane_laws.specs.Triangulations.{IsTriangulation};
 ghost use Rattle.refusals.specs.Conditions.{first_refusal, IfRefused};
 
@@ -26,12 +26,7 @@ use std::sync::ledger::Ledger;
 pub fn shift_draw(alloc: Global, tri: &HalfMap, order: &Order) -> Result<GridFigure, ShiftFault>
     requires triangulation { IsTriangulation tri.now.lists }
     requires order { (base : Dart) × IsCanonicalOrder tri.now.lists base (vertices_of order.now) }
-    ensures points { IfOk result (λ figure. (base : Dart) (canonical : IsCanonicalOrder tri.now.lists base (vertices_of order.now))
-        → AreShiftPoints tri.now.lists base (vertices_of order.now) canonical.cycle figure.points) }
-    ensures drawing { IfOk result (λ figure. (base : Dart) → HasDart tri.now.lists base.0 base.1 → IsCanonicalOrder tri.now.lists base (vertices_of order.now)
-        → IsShiftDrawing tri.now.lists base figure.points) }
-    ensures width { IfOk result (λ figure. figure.width ≡ pos (2 * vertex_count tri.now.lists - 4)) }
-    ensures height { IfOk result (λ figure. figure.height ≡ pos (vertex_count tri.now.lists - 2)) }
+    ensures { IfOk result (IsShiftOf tri.now.lists (vertices_of order.now)) }
 {
     fpp_shift::shift_draw(alloc, tri, order)
 }
@@ -113,20 +108,6 @@ pub fn shift_figure(alloc: Global, lists: &Rotations) -> Result<GridFigure, Unse
     grid_figures::shift_figures::shift_figure(alloc, lists)
 }
 
-/// Draws the triangulation with these `lists` by the shift method over `order`.
-pub fn list_draw(alloc: Global, lists: &Rotations, order: &Order) -> Result<GridFigure, AllocError>
-    requires triangulation { IsTriangulation lists.now }
-    requires order { (base : Dart) × IsCanonicalOrder lists.now base (vertices_of order.now) }
-    ensures points { IfOk result (λ figure. (base : Dart) (canonical : IsCanonicalOrder lists.now base (vertices_of order.now))
-        → AreShiftPoints lists.now base (vertices_of order.now) canonical.cycle figure.points) }
-    ensures drawing { IfOk result (λ figure. (base : Dart) → HasDart lists.now base.0 base.1 → IsCanonicalOrder lists.now base (vertices_of order.now)
-        → IsShiftDrawing lists.now base figure.points) }
-    ensures width { IfOk result (λ figure. figure.width ≡ pos (2 * vertex_count lists.now - 4)) }
-    ensures height { IfOk result (λ figure. figure.height ≡ pos (vertex_count lists.now - 2)) }
-{
-    fpp_shift::list_draw(alloc, lists, order)
-}
-
 /// Draws the triangulation with these `lists` over `order`, in the memory of `shifter`.
 pub fn shifted_draw(
     shifter: &mut Shifter,
@@ -135,12 +116,7 @@ pub fn shifted_draw(
 ) -> Result<GridFigure, AllocError>
     requires triangulation { IsTriangulation lists.now }
     requires order { (base : Dart) × IsCanonicalOrder lists.now base (vertices_of order.now) }
-    ensures points { IfOk result (λ figure. (base : Dart) (canonical : IsCanonicalOrder lists.now base (vertices_of order.now))
-        → AreShiftPoints lists.now base (vertices_of order.now) canonical.cycle figure.points) }
-    ensures drawing { IfOk result (λ figure. (base : Dart) → HasDart lists.now base.0 base.1 → IsCanonicalOrder lists.now base (vertices_of order.now)
-        → IsShiftDrawing lists.now base figure.points) }
-    ensures width { IfOk result (λ figure. figure.width ≡ pos (2 * vertex_count lists.now - 4)) }
-    ensures height { IfOk result (λ figure. figure.height ≡ pos (vertex_count lists.now - 2)) }
+    ensures { IfOk result (IsShiftOf lists.now (vertices_of order.now)) }
 {
     shifter.list_draw(lists, order)
 }

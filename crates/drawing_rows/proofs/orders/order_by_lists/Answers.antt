@@ -4,8 +4,8 @@ use Rattle.vertex_rounds.specs.Rounds.{dart_of}
 use Rattle.vertex_rounds.proofs.DartIds.{head_is, tail_is, has_dart}
 use Rattle.drawing_rows.proofs.orders.order_by_lists.Goals as goal
 
-pub base_order-requires-clause-base : goal.base_order-requires-clause-base
-base_order-requires-clause-base c =
+pub order_lists-requires-clause-base : goal.order_lists-requires-clause-base
+order_lists-requires-clause-base c =
     let map = c.args.tri.now in
     let d = c.args.base.0 in
     let tail = tail_is map d c.tail.result.0 c.requires.live c.tail.ensures in
