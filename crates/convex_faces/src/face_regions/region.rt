@@ -4,11 +4,9 @@ ghost use Rattle.map_theory.specs.Maps.{Dart, HasDart, IsPlane};
 ghost use Rattle.convex_peeling.specs.Polyhedral.{IsThreeConnected};
 ghost use Rattle.half_edges.specs.Map.{dart_at, id_bound};
 ghost use Rattle.euler_faces.specs.Numbers.{mark_at};
-ghost use Rattle.convex_counts.specs.declared.face_woods.axis.Axis.TheVariants.{One, Two, Three};
 ghost use Rattle.convex_counts.specs.Axes.{next, previous};
 ghost use Rattle.convex_faces.specs.Directions.{root_in, IsWoodIn};
 ghost use Rattle.convex_laws.specs.Regions.{IsFaceRegion};
-ghost use Rattle.convex_faces.specs.Passing.{MarksRegion};
 
 use crate::face_regions::passing::{pass_axis, pass_outer};
 use crate::walk_sides::inside_count;
@@ -16,7 +14,7 @@ use crate::wood::{Axis, ConvexWood};
 use half_edges::{DartId, HalfMap, VertexId};
 use std::alloc::{AllocError, Global};
 
-// The axis after another.
+// Returns the axis after another.
 fn next_axis(axis: Axis) -> Axis
     ensures { result ≡ next axis }
 {
@@ -27,7 +25,7 @@ fn next_axis(axis: Axis) -> Axis
     }
 }
 
-// The axis before another.
+// Returns the axis before another.
 fn previous_axis(axis: Axis) -> Axis
     ensures { result ≡ previous axis }
 {
@@ -38,7 +36,7 @@ fn previous_axis(axis: Axis) -> Axis
     }
 }
 
-// The dart from the root of one axis to that of another.
+// Returns the dart from the root of one axis to that of another.
 fn dart_between(map: &HalfMap, wood: &ConvexWood, from: Axis, to: Axis) -> DartId
     requires { HasDart map.now.lists (root_in wood.now from) (root_in wood.now to) }
     ensures { dart_at map.now result.0 ≡ Some (root_in wood.now from, root_in wood.now to) }
@@ -50,39 +48,13 @@ fn dart_between(map: &HalfMap, wood: &ConvexWood, from: Axis, to: Axis) -> DartI
     }
 }
 
-// Marks the edges that the closed path of a region passes an odd number of times, given no marks.
-fn mark_region(
-    map: &HalfMap,
-    wood: &ConvexWood,
-    marked: &mut [bool],
-    base: DartId,
-    before: DartId,
-    v: VertexId,
-    axis: Axis,
-)
-    requires plane { IsPlane map.now.lists }
-    requires three { IsThreeConnected map.now.lists }
-    requires wood { (base : Dart) × IsWoodIn map.now base wood.now }
-    requires vertex { v.0 < length map.now.lists }
-    requires base { dart_at map.now base.0 ≡ Some (root_in wood.now Two, root_in wood.now One) }
-    requires before { dart_at map.now before.0 ≡ Some (root_in wood.now Three, root_in wood.now Two) }
-    requires marks { length marked.old ≡ id_bound map.now }
-    requires unset { (i : ℕ) → mark_at marked.old i ≡ false }
-    ensures { (start : Dart) (w : IsWoodIn map.now start wood.now) → MarksRegion map.now start (root_in wood.now) w.head axis v.0 marked.new }
-{
-    map.facts();
-    pass_axis(map, wood, marked, v, next_axis(axis));
-    pass_outer(map, marked, base, before, axis);
-    pass_axis(map, wood, marked, v, previous_axis(axis));
-}
-
-// How many faces a region has, given no marks.
+// Returns how many faces a region has: marks, where none were, the edges that its closed path passes an odd number of
+// times, and counts the faces inside.
 fn count_with(
     alloc: Global,
     map: &HalfMap,
     wood: &ConvexWood,
     marked: &mut [bool],
-    base: DartId,
     v: VertexId,
     axis: Axis,
 ) -> Result<u32, AllocError>
@@ -90,18 +62,20 @@ fn count_with(
     requires three { IsThreeConnected map.now.lists }
     requires wood { (base : Dart) × IsWoodIn map.now base wood.now }
     requires vertex { v.0 < length map.now.lists }
-    requires base { dart_at map.now base.0 ≡ Some (root_in wood.now Two, root_in wood.now One) }
     requires marks { length marked.old ≡ id_bound map.now }
     requires unset { (i : ℕ) → mark_at marked.old i ≡ false }
     ensures { IfOk result (λ k. (start : Dart) (w : IsWoodIn map.now start wood.now) → IsFaceRegion map.now.lists start (root_in wood.now) w.head axis v.0 k) }
 {
     map.facts();
+    let base = dart_between(map, wood, Axis::Two, Axis::One);
     let before = dart_between(map, wood, Axis::Three, Axis::Two);
-    mark_region(map, wood, marked, base, before, v, axis);
+    pass_axis(map, wood, marked, v, next_axis(axis));
+    pass_outer(map, marked, base, before, axis);
+    pass_axis(map, wood, marked, v, previous_axis(axis));
     inside_count(alloc, map, marked, base)
 }
 
-/// The number of faces in the region of a vertex for an axis of a convex wood.
+/// Returns the number of faces in the region of a vertex for an axis of a convex wood.
 ///
 /// The region is bounded by a closed path: from the vertex along the next axis to its root, over the outer face to
 /// the root of the axis before without passing that of the axis itself, and back along the axis before. It has the
@@ -128,6 +102,5 @@ pub fn face_region(
     map.facts();
     let ids = 2 * (map.m() as usize + map.spare() as usize);
     let mut marked = vec![in alloc; false; ids]?;
-    let base = dart_between(map, wood, Axis::Two, Axis::One);
-    count_with(alloc, map, wood, &mut marked, base, v, axis)
+    count_with(alloc, map, wood, &mut marked, v, axis)
 }

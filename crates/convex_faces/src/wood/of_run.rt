@@ -1,60 +1,18 @@
 //! The convex wood of a map.
-ghost use Rattle.std.specs.Prelude.{◌≡◌, ◌<◌, ℕ, Some, length, IfOk};
-ghost use Rattle.map_theory.specs.Maps.{IsPlane, HasDart, follows, component_count};
+ghost use Rattle.std.specs.Prelude.{◌≡◌, ℕ, Some, IfOk};
+ghost use Rattle.map_theory.specs.Maps.{IsPlane};
 ghost use Rattle.convex_peeling.specs.Polyhedral.{IsThreeConnected};
-ghost use Rattle.half_edges.specs.Map.{IsLive, dart_at, id_bound};
-ghost use Rattle.convex_faces.specs.Notes.{AreNoted};
-ghost use Rattle.convex_draw.specs.RunPoints.{AreRunPoints};
+ghost use Rattle.half_edges.specs.Map.{IsLive, dart_at};
 ghost use Rattle.convex_faces.specs.Directions.{IsWoodIn, IsDrawnWood};
 
 use crate::wood::outs::outs_along;
 use crate::wood::woods::ConvexWood;
 use convex_counts::face_woods::Axis;
 use convex_draw::run_figure;
-use half_edges::{DartId, HalfMap, VertexId};
-use pg_plane::Points;
+use half_edges::{DartId, HalfMap};
 use std::alloc::{AllocError, Global};
 
-// The vertex before the base on its face.
-fn vertex_before(map: &HalfMap, base: DartId) -> VertexId
-    requires { IsLive map.now base.0 }
-    ensures { (s d : ℕ) → dart_at map.now base.0 ≡ Some (s, d) → HasDart map.now.lists result.0 s × (follows map.now.lists s result.0 ≡ d) }
-{
-    map.facts();
-    let before = map.prev(base);
-    map.head(before)
-}
-
-// The wood by the signs of differences between points.
-fn wood_by(
-    alloc: Global,
-    map: &HalfMap,
-    base: DartId,
-    points: &Points,
-) -> Result<ConvexWood, AllocError>
-    requires base { IsLive map.now base.0 }
-    requires points { length points.now ≡ length map.now.lists }
-    ensures wood { IfOk result (λ wood. (s d : ℕ) → dart_at map.now base.0 ≡ Some (s, d) → AreRunPoints map.now.lists s d points.now → IsWoodIn map.now (s, d) wood) }
-    ensures drawn { IfOk result (λ wood. (s d : ℕ) → dart_at map.now base.0 ≡ Some (s, d) → IsPlane map.now.lists → component_count map.now.lists ≡ 1 → AreRunPoints map.now.lists s d points.now → IsDrawnWood map.now s d wood) }
-{
-    map.facts();
-    let ones = outs_along(alloc, map, points, Axis::One)?;
-    let twos = outs_along(alloc, map, points, Axis::Two)?;
-    let threes = outs_along(alloc, map, points, Axis::Three)?;
-    let first = map.head(base);
-    let second = map.tail(base);
-    let third = vertex_before(map, base);
-    Ok(ConvexWood {
-        root_one: first.0,
-        root_two: second.0,
-        root_three: third.0,
-        ones,
-        twos,
-        threes,
-    })
-}
-
-/// A convex wood of a three-connected map of genus zero over a base: three axes along which its edges lead. The
+/// Returns a convex wood of a three-connected map of genus zero over a base: three axes along which its edges lead. The
 /// roots of the axes are the head of the base, its tail, and the vertex before the base on its face, the outer one.
 ///
 /// Each edge is directed one way or both ways, and each direction has an axis, the two of one edge different ones.
@@ -78,6 +36,20 @@ pub fn convex_wood(alloc: Global, map: &HalfMap, base: DartId) -> Result<ConvexW
 {
     map.facts();
     let figure = run_figure(alloc, map, base)?;
-    let wood = wood_by(alloc, map, base, &figure.points)?;
-    Ok(wood)
+    let points = &figure.points;
+    let ones = outs_along(alloc, map, points, Axis::One)?;
+    let twos = outs_along(alloc, map, points, Axis::Two)?;
+    let threes = outs_along(alloc, map, points, Axis::Three)?;
+    let first = map.head(base);
+    let second = map.tail(base);
+    let before = map.prev(base);
+    let third = map.head(before);
+    Ok(ConvexWood {
+        root_one: first.0,
+        root_two: second.0,
+        root_three: third.0,
+        ones,
+        twos,
+        threes,
+    })
 }

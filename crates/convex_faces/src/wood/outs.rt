@@ -1,8 +1,8 @@
 //! The darts that lead out of vertices along one axis.
-ghost use Rattle.std.specs.Prelude.{◌≡◌, ◌<◌, ◌↔◌, length, IsTrue, IfOk};
+ghost use Rattle.std.specs.Prelude.{◌≡◌, ◌<◌, length, IfOk};
 ghost use Rattle.plane_drawings.specs.Drawing.{place};
-ghost use Rattle.half_edges.specs.Map.{IsLive, id_bound};
-ghost use Rattle.convex_faces.specs.Notes.{IsRisingDart, Notes, AreNoted};
+ghost use Rattle.half_edges.specs.Map.{id_bound};
+ghost use Rattle.convex_faces.specs.Notes.{Notes, AreNoted};
 
 use crate::wood::signs::rises;
 use convex_counts::face_woods::Axis;
@@ -10,24 +10,12 @@ use half_edges::{DartId, HalfMap, VertexId};
 use pg_plane::{Point, Points};
 use std::alloc::{AllocError, Global};
 
-// The place of a vertex.
+// Returns the place of a vertex.
 fn place_at(points: &Points, v: VertexId) -> Point
     requires { v.0 < length points.now }
     ensures { result ≡ place points.now v.0 }
 {
     points.get(v.0 as usize)
-}
-
-// Whether a dart leads along an axis.
-fn is_rising(map: &HalfMap, points: &Points, axis: Axis, d: DartId) -> bool
-    requires live { IsLive map.now d.0 }
-    requires points { length points.now ≡ length map.now.lists }
-    ensures { IsTrue result ↔ IsRisingDart map.now points.now axis d.0 }
-{
-    map.facts();
-    let v = map.tail(d);
-    let u = map.head(d);
-    rises(axis, place_at(points, v), place_at(points, u))
 }
 
 // Notes a dart at its vertex, where it leads along the axis.
@@ -40,10 +28,11 @@ fn note(map: &HalfMap, points: &Points, axis: Axis, outs: &mut [u32], d: DartId)
     if !map.is_live(d) {
         return;
     }
-    if !is_rising(map, points, axis, d) {
+    let v = map.tail(d);
+    let u = map.head(d);
+    if !rises(axis, place_at(points, v), place_at(points, u)) {
         return;
     }
-    let v = map.tail(d);
     outs[v.0 as usize] = d.0;
 }
 
@@ -60,7 +49,7 @@ fn note_all(map: &HalfMap, points: &Points, axis: Axis, outs: &mut [u32])
     }
 }
 
-// For each vertex the dart that leads out along an axis, and any number where none does.
+// Returns for each vertex the dart that leads out along an axis, and any number where none does.
 pub(crate) fn outs_along(
     alloc: Global,
     map: &HalfMap,

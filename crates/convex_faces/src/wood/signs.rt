@@ -5,74 +5,56 @@ ghost use Rattle.convex_laws.specs.Signs.{IsRisingBy};
 use convex_counts::face_woods::Axis;
 use pg_plane::Point;
 
-// Both coordinates.
+// Returns the sum of both coordinates.
 fn sum_of(p: Point) -> i64
     ensures { result ≡ p.x +ℤ p.y }
 {
     p.x as i64 + p.y as i64
 }
 
-// Whether x rises from p to q, and whether it does not fall.
-fn x_rises(p: Point, q: Point) -> bool
-    ensures { IsTrue result ↔ (p.x <ℤ q.x) }
-{
-    p.x < q.x
-}
-
+// Says whether x does not fall from `p` to `q`.
 fn x_stays(p: Point, q: Point) -> bool
     ensures { IsTrue result ↔ (p.x ≤ℤ q.x) }
 {
     p.x <= q.x
 }
 
-// Says whether y rises from `p` to `q`.
-fn y_rises(p: Point, q: Point) -> bool
-    ensures { IsTrue result ↔ (p.y <ℤ q.y) }
-{
-    p.y < q.y
-}
-
+// Says whether y does not fall from `p` to `q`.
 fn y_stays(p: Point, q: Point) -> bool
     ensures { IsTrue result ↔ (p.y ≤ℤ q.y) }
 {
     p.y <= q.y
 }
 
-// Says whether the sum of x and y rises from `p` to `q`.
-fn sum_rises(p: Point, q: Point) -> bool
-    ensures { IsTrue result ↔ ((p.x +ℤ p.y) <ℤ (q.x +ℤ q.y)) }
-{
-    sum_of(p) < sum_of(q)
-}
-
+// Says whether the sum of x and y does not fall from `p` to `q`.
 fn sum_stays(p: Point, q: Point) -> bool
     ensures { IsTrue result ↔ ((p.x +ℤ p.y) ≤ℤ (q.x +ℤ q.y)) }
 {
     sum_of(p) <= sum_of(q)
 }
 
-// Whether x alone rises.
+// Says whether x alone rises.
 fn rises_one(p: Point, q: Point) -> bool
     ensures { IsTrue result ↔ ((p.x <ℤ q.x) × (q.y ≤ℤ p.y) × ((p.x +ℤ p.y) ≤ℤ (q.x +ℤ q.y))) }
 {
-    x_rises(p, q) && y_stays(q, p) && sum_stays(p, q)
+    p.x < q.x && y_stays(q, p) && sum_stays(p, q)
 }
 
-// Whether y alone rises.
+// Says whether y alone rises.
 fn rises_two(p: Point, q: Point) -> bool
     ensures { IsTrue result ↔ ((p.y <ℤ q.y) × (q.x ≤ℤ p.x) × ((p.x +ℤ p.y) ≤ℤ (q.x +ℤ q.y))) }
 {
-    y_rises(p, q) && x_stays(q, p) && sum_stays(p, q)
+    p.y < q.y && x_stays(q, p) && sum_stays(p, q)
 }
 
-// Whether what both lack of a constant sum alone rises.
+// Says whether what both lack of a constant sum alone rises.
 fn rises_three(p: Point, q: Point) -> bool
     ensures { IsTrue result ↔ (((q.x +ℤ q.y) <ℤ (p.x +ℤ p.y)) × (q.x ≤ℤ p.x) × (q.y ≤ℤ p.y)) }
 {
-    sum_rises(q, p) && x_stays(q, p) && y_stays(q, p)
+    sum_of(q) < sum_of(p) && x_stays(q, p) && y_stays(q, p)
 }
 
-// Whether the coordinate of an axis alone rises from p to q.
+// Says whether the coordinate of an axis alone rises from `p` to `q`.
 pub(crate) fn rises(axis: Axis, p: Point, q: Point) -> bool
     ensures { IsTrue result ↔ IsRisingBy axis p q }
 {
