@@ -1,5 +1,4 @@
 //! St-orders and visibility drawings, and verdicts on them.
-ghost use Rattle.std.specs.Prelude.{◌<◌, IfSome};
 ghost use Rattle.half_edges.specs.Map.{IsLive};
 ghost use Rattle.conn_parts.specs.BiconnectedMaps.{IsBiconnectedMap};
 
@@ -7,48 +6,15 @@ use bar_check::{BarVerdict, check_bars};
 use bipolar::dual_orders::dual_numbers;
 use conn_parts::biconnected_maps::biconnected_map;
 use half_edges::{DartId, HalfMap};
-use pg_plane::BarFigure;
-use row_texts::darts::dart_between;
 use row_texts::lists::{SomeLists, put_counts, put_vertices};
+use row_texts::maps::dart_between;
 use row_texts::points::{bars_of, integer, put_integers};
 use row_texts::refusal::tell_no_memory;
 use row_texts::reply::Reply;
 use row_texts::rows::Row;
 use row_texts::text::behind;
 use st_orders::st_order;
-use std::alloc::Global;
 use visibility::bars;
-
-// The map of lists, if it is plane, connected and without a cut vertex.
-fn block_of(alloc: Global, given: &SomeLists) -> Option<HalfMap>
-    ensures { IfSome result (λ map. IsBiconnectedMap 3 map.lists) }
-{
-    match biconnected_map(alloc, &given.lists, 3) {
-        Ok(map) => Some(map),
-        Err(_) => None,
-    }
-}
-
-// The dart from vertex 0 to vertex 1.
-fn base_of(map: &HalfMap) -> Option<DartId>
-    ensures { IfSome result (λ d. IsLive map.now d.0) }
-{
-    match dart_between(map, 0, 1) {
-        Some(d) if map.is_live(d) => Some(d),
-        _ => None,
-    }
-}
-
-// The heights, left ends, right ends and columns of a figure.
-fn put_bars(figure: &BarFigure, out: &mut Reply) {
-    put_integers(&figure.y, out);
-    out.put_letter(';');
-    put_integers(&figure.x1, out);
-    out.put_letter(';');
-    put_integers(&figure.x2, out);
-    out.put_letter(';');
-    put_integers(&figure.column, out);
-}
 
 // Writes the first vertices of the st-order for a dart, the columns of the edges for it, or the drawing.
 fn of_base(row: &Row<'_>, map: &HalfMap, st: DartId, out: &mut Reply)
@@ -57,7 +23,12 @@ fn of_base(row: &Row<'_>, map: &HalfMap, st: DartId, out: &mut Reply)
 {
     if row.call == "drawing" {
         match bars(out.alloc, map, st) {
-            Ok(figure) => put_bars(&figure, out),
+            Ok(figure) => {
+                put_integers("", &figure.y, out);
+                put_integers(";", &figure.x1, out);
+                put_integers(";", &figure.x2, out);
+                put_integers(";", &figure.column, out);
+            }
             Err(_) => tell_no_memory(out),
         }
         return;
@@ -74,8 +45,13 @@ fn of_base(row: &Row<'_>, map: &HalfMap, st: DartId, out: &mut Reply)
     }
 }
 
-fn put_verdict(verdict: BarVerdict, out: &mut Reply) {
-    match verdict {
+// Writes the verdict on the bars that a row gives to a map, if there is one for each vertex.
+fn check(row: &Row<'_>, map: &HalfMap, out: &mut Reply) {
+    let n = usize::from(map.n());
+    let Some(figure) = bars_of(out.alloc, behind(row.args, 1), n) else {
+        return;
+    };
+    match check_bars(map, &figure, integer(row.arg(5))) {
         BarVerdict::BadShape => out.put("BadShape"),
         BarVerdict::BadHeight(v) => out.put_with("BadHeight", &[v.0]),
         BarVerdict::BadBar(v) => out.put_with("BadBar", &[v.0]),
@@ -87,21 +63,13 @@ fn put_verdict(verdict: BarVerdict, out: &mut Reply) {
     }
 }
 
-// Writes the verdict on the bars that a row gives to a map.
-fn check(map: &HalfMap, row: &Row<'_>, out: &mut Reply) {
-    let n = usize::from(map.n());
-    let figure = bars_of(out.alloc, behind(row.args, 1));
-    if figure.y.len() == n && figure.x1.len() == n && figure.x2.len() == n {
-        put_verdict(check_bars(map, &figure, integer(row.arg(5))), out);
-    }
-}
-
-/// Answers a row on visibility drawings.
+/// Answers a row on visibility drawings: of a map that is plane, connected and without a cut vertex, over the dart from
+/// vertex 0 to vertex 1.
 pub fn answer(row: &Row<'_>, given: &SomeLists, map: &HalfMap, out: &mut Reply) {
     if row.call == "check" {
-        check(map, row, out);
-    } else if let Some(block) = block_of(out.alloc, given) {
-        if let Some(st) = base_of(&block) {
+        check(row, map, out);
+    } else if let Ok(block) = biconnected_map(out.alloc, &given.lists, 3) {
+        if let Some(st) = dart_between(&block, 0, 1) {
             of_base(row, &block, st, out);
         }
     }

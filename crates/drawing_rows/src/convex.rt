@@ -1,5 +1,5 @@
 //! Convex woods and the regions of their vertices.
-ghost use Rattle.std.specs.Prelude.{◌<◌, length, IfOk, IfSome};
+ghost use Rattle.std.specs.Prelude.{◌<◌, length, IfOk};
 ghost use Rattle.map_theory.specs.Maps.{Dart, IsPlane};
 ghost use Rattle.convex_peeling.specs.Polyhedral.{IsThreeConnected};
 ghost use Rattle.half_edges.specs.Map.{IsLive};
@@ -12,37 +12,14 @@ use convex_faces::wood::{Axis, ConvexWood, convex_wood};
 use half_edges::{DartId, HalfMap, VertexId};
 use pg_plane::GridFigure;
 use row_texts::lists::SomeLists;
+use row_texts::maps::first_base;
 use row_texts::points::put_points;
 use row_texts::refusal::tell_no_memory;
 use row_texts::reply::Reply;
 use row_texts::rows::Row;
 use std::alloc::{AllocError, Global};
 
-// The map of lists, if it is three-connected and of genus zero.
-fn block_of(alloc: Global, given: &SomeLists) -> Option<HalfMap>
-    ensures plane { IfSome result (λ map. IsPlane map.lists) }
-    ensures three { IfSome result (λ map. IsThreeConnected map.lists) }
-{
-    match convex_map(alloc, &given.lists) {
-        Ok(map) => Some(map),
-        Err(_) => None,
-    }
-}
-
-// The first dart of vertex 0.
-fn base_of(map: &HalfMap) -> Option<DartId>
-    ensures { IfSome result (λ d. IsLive map.now d.0) }
-{
-    if map.n() == 0 {
-        return None;
-    }
-    match map.first_dart(VertexId(0)) {
-        Some(d) if map.is_live(d) => Some(d),
-        _ => None,
-    }
-}
-
-// The wood of a map over a base.
+// Returns the wood of a map over a base.
 fn wood_over(alloc: Global, map: &HalfMap, base: DartId) -> Result<ConvexWood, AllocError>
     requires plane { IsPlane map.now.lists }
     requires three { IsThreeConnected map.now.lists }
@@ -53,7 +30,7 @@ fn wood_over(alloc: Global, map: &HalfMap, base: DartId) -> Result<ConvexWood, A
     Ok(wood)
 }
 
-// The numbers of faces in the three regions of a vertex.
+// Returns the numbers of faces in the three regions of a vertex.
 fn regions(
     alloc: Global,
     map: &HalfMap,
@@ -71,7 +48,7 @@ fn regions(
     Ok([i64::from(one), i64::from(two), i64::from(three)])
 }
 
-// The coordinates of a vertex, and what both lack of the grid.
+// Returns the coordinates of a vertex, and what both lack of the grid.
 fn coordinates(figure: &GridFigure, v: u16) -> [i64; 3] {
     if usize::from(v) >= figure.points.len() {
         return [-1, -1, -1];
@@ -85,32 +62,20 @@ fn coordinates(figure: &GridFigure, v: u16) -> [i64; 3] {
     ]
 }
 
-// The first vertex whose regions are not its coordinates.
-fn first_other(alloc: Global, map: &HalfMap, wood: &ConvexWood, figure: &GridFigure) -> Option<u16>
-    requires plane { IsPlane map.now.lists }
-    requires three { IsThreeConnected map.now.lists }
-    requires wood { (base : Dart) × IsWoodIn map.now base wood.now }
-{
-    for v in 0..map.n() {
-        match regions(alloc, map, wood, VertexId(v)) {
-            Ok(regions) if regions == coordinates(figure, v) => {}
-            _ => return Some(v),
-        }
-    }
-    None
-}
-
-// Compares regions and coordinates of all vertices.
+// Writes how many vertices there are, and the first whose regions are not its coordinates, or that all are at theirs.
 fn put_compared(map: &HalfMap, wood: &ConvexWood, figure: &GridFigure, out: &mut Reply)
     requires plane { IsPlane map.now.lists }
     requires three { IsThreeConnected map.now.lists }
     requires wood { (base : Dart) × IsWoodIn map.now base wood.now }
 {
     out.put_number(u64::from(map.n()));
-    match first_other(out.alloc, map, wood, figure) {
-        Some(v) => out.put_one(" vertices, not at", u64::from(v)),
-        None => out.put(" vertices, all"),
+    for v in 0..map.n() {
+        match regions(out.alloc, map, wood, VertexId(v)) {
+            Ok(regions) if regions == coordinates(figure, v) => {}
+            _ => return out.put_one(" vertices, not at", u64::from(v)),
+        }
     }
+    out.put(" vertices, all");
 }
 
 // Writes the regions of a vertex, if it is one.
@@ -144,12 +109,20 @@ fn put_heads(map: &HalfMap, wood: &ConvexWood, axis: Axis, out: &mut Reply) {
     out.put("; ");
 }
 
-// Writes what a row asks of the wood over a base: all regions beside the coordinates, those of a vertex, or the edges.
-fn of_wood(row: &Row<'_>, map: &HalfMap, base: DartId, out: &mut Reply)
+// Writes the drawing of a map over a base; or of its wood all regions beside the coordinates, those of a vertex, or the
+// edges.
+fn of_base(row: &Row<'_>, map: &HalfMap, base: DartId, out: &mut Reply)
     requires plane { IsPlane map.now.lists }
     requires three { IsThreeConnected map.now.lists }
     requires base { IsLive map.now base.0 }
 {
+    if row.call == "drawing" {
+        match convex_draw(out.alloc, map, base) {
+            Ok(figure) => put_points(&figure.points, usize::MAX, out),
+            Err(_) => tell_no_memory(out),
+        }
+        return;
+    }
     match wood_over(out.alloc, map, base) {
         Ok(wood) if row.call == "regions" => match convex_draw(out.alloc, map, base) {
             Ok(figure) => put_compared(map, &wood, &figure, out),
@@ -165,24 +138,11 @@ fn of_wood(row: &Row<'_>, map: &HalfMap, base: DartId, out: &mut Reply)
     }
 }
 
-// Answers a row on the drawing of a map, or on its wood.
-fn of_block(row: &Row<'_>, map: &HalfMap, out: &mut Reply)
-    requires plane { IsPlane map.now.lists }
-    requires three { IsThreeConnected map.now.lists }
-{
-    match base_of(map) {
-        Some(base) if row.call == "drawing" => match convex_draw(out.alloc, map, base) {
-            Ok(figure) => put_points(&figure.points, usize::MAX, out),
-            Err(_) => tell_no_memory(out),
-        },
-        Some(base) => of_wood(row, map, base, out),
-        None => {}
-    }
-}
-
-/// Answers a row on convex drawings.
+/// Answers a row on convex drawings, of a map that is three-connected and of genus zero, over the first dart of vertex 0.
 pub fn answer(row: &Row<'_>, given: &SomeLists, out: &mut Reply) {
-    if let Some(map) = block_of(out.alloc, given) {
-        of_block(row, &map, out);
+    if let Ok(map) = convex_map(out.alloc, &given.lists) {
+        if let Some(base) = first_base(&map) {
+            of_base(row, &map, base, out);
+        }
     }
 }

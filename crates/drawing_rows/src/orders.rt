@@ -1,5 +1,5 @@
 //! Orders of triangulations, and the drawings by shifts and by woods that stand on them.
-ghost use Rattle.std.specs.Prelude.{◌<◌, IfOk, IfSome};
+ghost use Rattle.std.specs.Prelude.{◌<◌, IfOk};
 ghost use Rattle.half_edges.specs.Map.{IsLive};
 ghost use Rattle.map_theory.specs.Maps.{Dart, HasDart};
 ghost use Rattle.plane_laws.specs.Triangulations.{IsTriangulation};
@@ -15,8 +15,8 @@ use grid_figures::shift_figures::shift_figure;
 use half_edges::{DartId, HalfMap};
 use pg_plane::GridFigure;
 use refusals::Unserved;
-use row_texts::darts::dart_between;
 use row_texts::lists::{SomeLists, put_counts, put_vertices};
+use row_texts::maps::dart_between;
 use row_texts::points::put_points;
 use row_texts::refusal::{tell_no_memory, tell_unserved};
 use row_texts::reply::Reply;
@@ -24,7 +24,7 @@ use row_texts::rows::Row;
 use row_texts::text::pair;
 use std::alloc::{AllocError, Global};
 
-// The triangulation of lists, and a canonical order of it for a dart from vertex 0.
+// Returns the triangulation of lists, and a canonical order of it for a dart from vertex 0.
 fn order_of(alloc: Global, given: &SomeLists) -> Result<DrawingOrder, Unserved>
     ensures triangulation { IfOk result (λ found. IsTriangulation found.tri.lists) }
     ensures order { IfOk result (λ found. (base : Dart) × IsCanonicalOrder found.tri.lists base (vertices_of found.order)) }
@@ -34,7 +34,7 @@ fn order_of(alloc: Global, given: &SomeLists) -> Result<DrawingOrder, Unserved>
     Ok(found)
 }
 
-// An order, and the place of each vertex in it.
+// Writes an order, and the place of each vertex in it.
 fn put_order(order: &Order, out: &mut Reply) {
     put_vertices(&order.at, usize::MAX, out);
     out.put(", places ");
@@ -55,17 +55,6 @@ fn put_served(figure: Result<GridFigure, Unserved>, most: u16, out: &mut Reply) 
     }
 }
 
-// The dart between two vertices, if it is one of a map.
-fn base_of(map: &HalfMap, ends: (u16, u16)) -> Option<DartId>
-    ensures { IfSome result (λ d. IsLive map.now d.0) }
-{
-    let (u, v) = ends;
-    match dart_between(map, u, v) {
-        Some(base) if map.is_live(base) => Some(base),
-        _ => None,
-    }
-}
-
 // Returns a peeler with the order of a triangulation for a dart, by its lists alone.
 fn order_by_lists(alloc: Global, tri: &HalfMap, base: DartId) -> Result<Peeler, AllocError>
     requires triangulation { IsTriangulation tri.now.lists }
@@ -82,7 +71,8 @@ fn order_by_lists(alloc: Global, tri: &HalfMap, base: DartId) -> Result<Peeler, 
 fn order_for(row: &Row<'_>, tri: &HalfMap, out: &mut Reply)
     requires triangulation { IsTriangulation tri.now.lists }
 {
-    if let Some(base) = base_of(tri, pair(row.arg(1))) {
+    let (u, v) = pair(row.arg(1));
+    if let Some(base) = dart_between(tri, u, v) {
         if row.call == "order for" {
             match canon_order(out.alloc, tri, base) {
                 Ok(order) => put_order(&order, out),
@@ -97,13 +87,14 @@ fn order_for(row: &Row<'_>, tri: &HalfMap, out: &mut Reply)
     }
 }
 
-// Writes an order, the points of a drawing by it, or the tree of offsets.
-fn of_order(call: &str, tri: &HalfMap, order: &Order, out: &mut Reply)
+// Writes an order, the points of a drawing by it, or the tree of offsets; or the order for another dart.
+fn of_order(row: &Row<'_>, tri: &HalfMap, order: &Order, out: &mut Reply)
     requires triangulation { IsTriangulation tri.now.lists }
     requires order { (base : Dart) × IsCanonicalOrder tri.now.lists base (vertices_of order.now) }
 {
-    match call {
+    match row.call {
         "order" => put_order(order, out),
+        "order for" | "order by lists" => order_for(row, tri, out),
         "shift" => match shift_draw(out.alloc, tri, order) {
             Ok(figure) => put_points(&figure.points, usize::MAX, out),
             Err(_) => tell_no_memory(out),
@@ -112,7 +103,7 @@ fn of_order(call: &str, tri: &HalfMap, order: &Order, out: &mut Reply)
             Ok(figure) => put_points(&figure.points, usize::MAX, out),
             Err(_) => tell_no_memory(out),
         },
-        _ => trees::answer(call == "offsets", tri, order, out),
+        _ => trees::answer(row.call == "offsets", tri, order, out),
     }
 }
 
@@ -122,10 +113,7 @@ fn over_order(row: &Row<'_>, given: &SomeLists, out: &mut Reply) {
         Ok(found) => {
             let (tri, order) = (&found.tri, &found.order);
             match row.family {
-                "draw" if row.call == "order for" || row.call == "order by lists" => {
-                    order_for(row, tri, out);
-                }
-                "draw" => of_order(row.call, tri, order, out),
+                "draw" => of_order(row, tri, order, out),
                 "wood" => woods::answer(row, tri, order, out),
                 "complete" => completions::answer(row.call, &given.lists, tri, out),
                 _ => verdicts::faces(row, tri, out),

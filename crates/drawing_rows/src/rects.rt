@@ -1,46 +1,27 @@
 //! Edge labellings and duals of maps that have rectangular duals.
-ghost use Rattle.std.specs.Prelude.{◌<◌, IfSome};
 ghost use Rattle.rect_class.specs.RectMaps.{IsRectMap};
 
-use half_edges::{HalfMap, VertexId};
-use pg_plane::RectFigure;
+use half_edges::HalfMap;
 use rect_class::rect_map;
 use rect_dual::labels::{Label, Labelling, edge_labels};
 use rect_dual::rect_draw;
 use row_texts::lists::SomeLists;
+use row_texts::maps::{dart_between, first_base};
 use row_texts::points::put_integers;
 use row_texts::refusal::tell_no_memory;
 use row_texts::reply::Reply;
 use row_texts::rows::Row;
-use std::alloc::Global;
 
-// The map of lists, if it is of the class.
-fn block_of(alloc: Global, given: &SomeLists) -> Option<HalfMap>
-    ensures { IfSome result (λ map. IsRectMap map.lists) }
-{
-    match rect_map(alloc, &given.lists) {
-        Ok(map) => Some(map),
-        Err(_) => None,
-    }
-}
-
-fn name_of(label: Label) -> &'static str {
-    match label {
-        Label::RiseOut => "RiseOut",
-        Label::RiseIn => "RiseIn",
-        Label::RunOut => "RunOut",
-        Label::RunIn => "RunIn",
-        Label::Frame => "Frame",
-    }
-}
-
-// The label of the dart between two vertices, where there is one.
-fn label_between(map: &HalfMap, labels: &Labelling, u: u16, v: u16) -> Option<Label> {
-    if u >= map.n() || v >= map.n() {
-        return None;
-    }
-    match map.dart_of(VertexId(u), VertexId(v)) {
-        Some(d) if (d.0 as usize) < labels.len() => Some(labels.of(d)),
+// Returns the name of the label of the dart between two vertices, where there is one.
+fn label_between(map: &HalfMap, labels: &Labelling, u: u16, v: u16) -> Option<&'static str> {
+    match dart_between(map, u, v) {
+        Some(d) if (d.0 as usize) < labels.len() => Some(match labels.of(d) {
+            Label::RiseOut => "RiseOut",
+            Label::RiseIn => "RiseIn",
+            Label::RunOut => "RunOut",
+            Label::RunIn => "RunIn",
+            Label::Frame => "Frame",
+        }),
         _ => None,
     }
 }
@@ -51,9 +32,9 @@ fn put_edge(map: &HalfMap, labels: &Labelling, (u, v): (u16, u16), out: &mut Rep
         if let Some(other) = label_between(map, labels, v, u) {
             out.put_numbers(&[u, v]);
             out.put_letter(' ');
-            out.put(name_of(one));
+            out.put(one);
             out.put_letter(' ');
-            out.put(name_of(other));
+            out.put(other);
             out.put("; ");
         }
     }
@@ -70,29 +51,21 @@ fn put_edges(map: &HalfMap, labels: &Labelling, out: &mut Reply) {
     }
 }
 
-// Writes the left, right, lower and upper sides of the rectangles of a figure.
-fn put_sides(figure: &RectFigure, out: &mut Reply) {
-    put_integers(&figure.x1, out);
-    out.put_letter(';');
-    put_integers(&figure.x2, out);
-    out.put_letter(';');
-    put_integers(&figure.y1, out);
-    out.put_letter(';');
-    put_integers(&figure.y2, out);
-}
-
-// Writes the labelling of a map, or its rectangles, for the dart from vertex 0 to the first of its list.
+// Writes the labelling of a map, or the left, right, lower and upper sides of its rectangles, for the dart from vertex 0 to
+// the first of its list.
 fn of_block(call: &str, map: &HalfMap, out: &mut Reply)
     requires { IsRectMap map.now.lists }
 {
     rect_class::biconnected_are_rect_maps();
-    if map.n() == 0 {
-        return;
-    }
-    if let Some(base) = map.first_dart(VertexId(0)) {
+    if let Some(base) = first_base(map) {
         if call == "draw" {
             match rect_draw(out.alloc, map, base) {
-                Ok(figure) => put_sides(&figure, out),
+                Ok(figure) => {
+                    put_integers("", &figure.x1, out);
+                    put_integers(";", &figure.x2, out);
+                    put_integers(";", &figure.y1, out);
+                    put_integers(";", &figure.y2, out);
+                }
                 Err(_) => tell_no_memory(out),
             }
         } else {
@@ -104,9 +77,9 @@ fn of_block(call: &str, map: &HalfMap, out: &mut Reply)
     }
 }
 
-/// Writes the labels of the map of lists, or its rectangles.
+/// Writes the labels of the map of lists, or its rectangles, if it is of the class that has them.
 pub fn answer(row: &Row<'_>, given: &SomeLists, out: &mut Reply) {
-    if let Some(map) = block_of(out.alloc, given) {
+    if let Ok(map) = rect_map(out.alloc, &given.lists) {
         of_block(row.call, &map, out);
     }
 }

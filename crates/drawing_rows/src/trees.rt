@@ -31,15 +31,6 @@ fn put_node(node: Node, out: &mut Reply) {
     put_link(node.right, out);
 }
 
-// Writes the nodes of a tree.
-fn put_nodes<L: Ledger>(tree: &Offsets<L>, steps: &mut Steps<L>, out: &mut Reply) {
-    for v in 0..tree.len() {
-        put_node(tree.get(VertexId(v), steps), out);
-        out.put_letter(';');
-    }
-    out.put(" points ");
-}
-
 // Writes the points of a triangulation by a tree of its own, and before them its nodes where they are asked for.
 fn put_sums<L: Ledger>(nodes: bool, tri: &HalfMap, order: &Order, blank: Blank, out: &mut Reply)
     requires triangulation { IsTriangulation tri.now.lists }
@@ -58,7 +49,11 @@ fn put_sums<L: Ledger>(nodes: bool, tri: &HalfMap, order: &Order, blank: Blank, 
     match sum_offsets(out.alloc, &tree, order.at.get(0), &mut steps) {
         Ok(points) => {
             if nodes {
-                put_nodes(&tree, &mut steps, out);
+                for v in 0..tree.len() {
+                    put_node(tree.get(VertexId(v), &mut steps), out);
+                    out.put_letter(';');
+                }
+                out.put(" points ");
             }
             put_points(&points, usize::MAX, out);
         }

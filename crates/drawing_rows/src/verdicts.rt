@@ -1,16 +1,15 @@
 //! Verdicts on drawings.
 ghost use Rattle.std.specs.Prelude.{IfSome, All};
 ghost use Rattle.draw_check.specs.Faults.{HasPlaces};
-ghost use Rattle.half_edges.specs.Map.{IsLive};
 ghost use Rattle.pg_plane.specs.Range.{IsInRange};
 ghost use Rattle.plane_laws.specs.Triangulations.{IsTriangulation};
 
 use convex_check::{ConvexVerdict, check_convex};
 use draw_check::{FaceVerdict, OuterVerdict, Verdict, check, check_by_faces, check_outer};
-use half_edges::{DartId, HalfMap};
+use half_edges::HalfMap;
 use pg_plane::GridFigure;
 use plane_drawings::sweep_check::is_plane_by_sweep;
-use row_texts::darts::dart_between;
+use row_texts::maps::dart_between;
 use row_texts::points::{are_in_range, integer, points_of};
 use row_texts::refusal::tell_no_memory;
 use row_texts::reply::Reply;
@@ -18,7 +17,7 @@ use row_texts::rows::Row;
 use row_texts::text::{halves, pair};
 use std::alloc::Global;
 
-// The figure that a row gives to a map, with a place for each vertex.
+// Returns the figure that a row gives to a map, if it has a place for each vertex.
 fn figure_of(alloc: Global, map: &HalfMap, row: &Row<'_>) -> Option<GridFigure>
     ensures places { IfSome result (λ figure. HasPlaces map.now.lists figure.points) }
     ensures range { IfSome result (λ figure. All IsInRange figure.points) }
@@ -35,64 +34,34 @@ fn figure_of(alloc: Global, map: &HalfMap, row: &Row<'_>) -> Option<GridFigure>
     })
 }
 
-fn put_verdict(verdict: Verdict, out: &mut Reply) {
-    match verdict {
-        Verdict::OutOfGrid(v) => out.put_with("OutOfGrid", &[v.0]),
-        Verdict::SamePlace(v, u) => out.put_with("SamePlace", &[v.0, u.0]),
-        Verdict::OnEdge(v, e) => out.put_with("OnEdge", &[v.0, e.a.0, e.b.0]),
-        Verdict::Cross(e, f) => out.put_with("Cross", &[e.a.0, e.b.0, f.a.0, f.b.0]),
-        Verdict::Turned(v) => out.put_with("Turned", &[v.0]),
-        Verdict::Yes => out.put("Yes"),
-    }
-}
-
-fn put_face_verdict(verdict: FaceVerdict, out: &mut Reply) {
-    match verdict {
-        FaceVerdict::OutOfGrid(v) => out.put_with("OutOfGrid", &[v.0]),
-        FaceVerdict::Wrong(u, v, w) => out.put_with("Wrong", &[u.0, v.0, w.0]),
-        FaceVerdict::Yes => out.put("Yes"),
-    }
-}
-
-// Writes the verdict on the bends of a drawing.
-fn put_convex_verdict(verdict: ConvexVerdict, out: &mut Reply) {
-    match verdict {
-        ConvexVerdict::Bent(u, v, w) => out.put_with("Bent", &[u.0, v.0, w.0]),
-        ConvexVerdict::OuterBent => out.put("OuterBent"),
-        ConvexVerdict::Yes => out.put("Yes"),
-    }
-}
-
-// The dart between two vertices, if it is one of a map.
-fn base_of(map: &HalfMap, ends: (u16, u16)) -> Option<DartId>
-    ensures { IfSome result (λ d. IsLive map.now d.0) }
-{
-    let (u, v) = ends;
-    match dart_between(map, u, v) {
-        Some(base) if map.is_live(base) => Some(base),
-        _ => None,
-    }
-}
-
 /// Writes the verdict by the faces of a triangulation, with the dart from vertex 0 to vertex 1 as its base.
 pub fn faces(row: &Row<'_>, tri: &HalfMap, out: &mut Reply)
     requires triangulation { IsTriangulation tri.now.lists }
 {
-    if let Some(base) = base_of(tri, (0, 1)) {
+    if let Some(base) = dart_between(tri, 0, 1) {
         if let Some(figure) = figure_of(out.alloc, tri, row) {
-            put_face_verdict(check_by_faces(tri, base, &figure), out);
+            match check_by_faces(tri, base, &figure) {
+                FaceVerdict::OutOfGrid(v) => out.put_with("OutOfGrid", &[v.0]),
+                FaceVerdict::Wrong(u, v, w) => out.put_with("Wrong", &[u.0, v.0, w.0]),
+                FaceVerdict::Yes => out.put("Yes"),
+            }
         }
     }
 }
 
-// Writes the verdict on the face left of a dart, or on the bends of a drawing whose outer face it is.
-fn of_base(call: &str, map: &HalfMap, base: DartId, figure: &GridFigure, out: &mut Reply)
-    requires places { HasPlaces map.now.lists figure.now.points }
-    requires base { IsLive map.now base.0 }
+// Writes the verdict on the face left of the dart that a row names, or on the bends of a drawing whose outer face it is.
+fn put_outer(row: &Row<'_>, map: &HalfMap, figure: &GridFigure, out: &mut Reply)
+    requires { HasPlaces map.now.lists figure.now.points }
 {
-    if call == "convex" {
+    let (u, v) = pair(row.arg(2));
+    let Some(base) = dart_between(map, u, v) else {
+        return;
+    };
+    if row.call == "convex" {
         match check_convex(out.alloc, map, base, figure) {
-            Ok(verdict) => put_convex_verdict(verdict, out),
+            Ok(ConvexVerdict::Bent(u, v, w)) => out.put_with("Bent", &[u.0, v.0, w.0]),
+            Ok(ConvexVerdict::OuterBent) => out.put("OuterBent"),
+            Ok(ConvexVerdict::Yes) => out.put("Yes"),
             Err(_) => tell_no_memory(out),
         }
         return;
@@ -104,25 +73,21 @@ fn of_base(call: &str, map: &HalfMap, base: DartId, figure: &GridFigure, out: &m
     }
 }
 
-// Answers a row on a drawing of a map.
-fn of_figure(row: &Row<'_>, map: &HalfMap, figure: &GridFigure, out: &mut Reply)
-    requires places { HasPlaces map.now.lists figure.now.points }
-    requires range { All IsInRange figure.now.points }
-{
-    match row.call {
-        "grid" => put_verdict(check(map, figure), out),
-        "convex" | "outer" => {
-            if let Some(base) = base_of(map, pair(row.arg(2))) {
-                of_base(row.call, map, base, figure, out);
-            }
-        }
-        _ => out.put_flag(is_plane_by_sweep(map, &figure.points)),
-    }
-}
-
-/// Answers a row on a drawing, with its grid or the dart left of which its outer face is.
+/// Answers a row on a drawing of a map, with its grid or the dart left of which its outer face is.
 pub fn answer(row: &Row<'_>, map: &HalfMap, out: &mut Reply) {
-    if let Some(figure) = figure_of(out.alloc, map, row) {
-        of_figure(row, map, &figure, out);
+    let Some(figure) = figure_of(out.alloc, map, row) else {
+        return;
+    };
+    match row.call {
+        "grid" => match check(map, &figure) {
+            Verdict::OutOfGrid(v) => out.put_with("OutOfGrid", &[v.0]),
+            Verdict::SamePlace(v, u) => out.put_with("SamePlace", &[v.0, u.0]),
+            Verdict::OnEdge(v, e) => out.put_with("OnEdge", &[v.0, e.a.0, e.b.0]),
+            Verdict::Cross(e, f) => out.put_with("Cross", &[e.a.0, e.b.0, f.a.0, f.b.0]),
+            Verdict::Turned(v) => out.put_with("Turned", &[v.0]),
+            Verdict::Yes => out.put("Yes"),
+        },
+        "convex" | "outer" => put_outer(row, map, &figure, out),
+        _ => out.put_flag(is_plane_by_sweep(map, &figure.points)),
     }
 }

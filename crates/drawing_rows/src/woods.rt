@@ -19,7 +19,7 @@ use std::alloc::{AllocError, Global};
 
 const COLOURS: [Colour; 3] = [Colour::One, Colour::Two, Colour::Three];
 
-// The wood of an order.
+// Returns the wood of an order.
 fn wood_of(alloc: Global, tri: &HalfMap, order: &Order) -> Result<Wood, AllocError>
     requires triangulation { IsTriangulation tri.now.lists }
     requires order { (base : Dart) × IsCanonicalOrder tri.now.lists base (vertices_of order.now) }
@@ -50,7 +50,7 @@ fn put_parents(found: &Wood, v: VertexId, out: &mut Reply)
     }
 }
 
-// The counts of the three regions of an inner vertex.
+// Returns the counts of the three regions of an inner vertex.
 fn regions(alloc: Global, tri: &HalfMap, found: &Wood, v: VertexId) -> Result<[u32; 3], AllocError>
     requires inner { IsInnerIn found.now v.0 }
     requires wood { (base : Dart) × HasDart tri.now.lists base.0 base.1 × IsWoodOf tri.now.lists base found.now }
@@ -78,44 +78,21 @@ fn put_regions(tri: &HalfMap, found: &Wood, v: VertexId, out: &mut Reply)
     }
 }
 
-// Whether a vertex stands at two coordinates.
-fn is_at(points: &Points, v: VertexId, x: u32, y: u32) -> bool {
-    if usize::from(v.0) >= points.len() {
-        return false;
-    }
-    let point = points.get(usize::from(v.0));
-    i64::from(point.x) == i64::from(x) && i64::from(point.y) == i64::from(y)
-}
-
-// Whether an inner vertex stands at its coordinates: by how many vertices a region has more than the path of the
+// Says whether an inner vertex stands at its coordinates: by how many vertices a region has more than the path of the
 // colour before.
 fn stands(alloc: Global, tri: &HalfMap, found: &Wood, v: VertexId, points: &Points) -> bool
     requires inner { IsInnerIn found.now v.0 }
     requires wood { (base : Dart) × HasDart tri.now.lists base.0 base.1 × IsWoodOf tri.now.lists base found.now }
 {
     match regions(alloc, tri, found, v) {
-        Ok(counts) => {
+        Ok(counts) if usize::from(v.0) < points.len() => {
+            let point = points.get(usize::from(v.0));
             let x = counts[0].wrapping_sub(path_len(found, v, Colour::Three));
             let y = counts[1].wrapping_sub(path_len(found, v, Colour::One));
-            is_at(points, v, x, y)
+            i64::from(point.x) == i64::from(x) && i64::from(point.y) == i64::from(y)
         }
-        Err(_) => false,
+        _ => false,
     }
-}
-
-// How many inner vertices stand at their coordinates.
-fn standing(alloc: Global, tri: &HalfMap, found: &Wood, points: &Points) -> u64
-    requires { (base : Dart) × HasDart tri.now.lists base.0 base.1 × IsWoodOf tri.now.lists base found.now }
-{
-    let mut count: u64 = 0;
-    for v in 0..found.n() {
-        if found.parent(Colour::One, VertexId(v)).is_some()
-            && stands(alloc, tri, found, VertexId(v), points)
-        {
-            count = count.wrapping_add(1);
-        }
-    }
-    count
 }
 
 // Writes the first points of the drawing by a wood, and how many inner vertices stand where the regions say.
@@ -126,7 +103,14 @@ fn put_drawing(tri: &HalfMap, found: &Wood, most: u16, out: &mut Reply)
     match schnyder_draw(out.alloc, tri, found) {
         Ok(figure) => {
             put_points(&figure.points, usize::from(most), out);
-            let count = standing(out.alloc, tri, found, &figure.points);
+            let mut count: u64 = 0;
+            for v in 0..found.n() {
+                if found.parent(Colour::One, VertexId(v)).is_some()
+                    && stands(out.alloc, tri, found, VertexId(v), &figure.points)
+                {
+                    count = count.wrapping_add(1);
+                }
+            }
             out.put_one(",", count);
             out.put(" by regions");
         }

@@ -15,14 +15,14 @@ use row_texts::rows::Row;
 use row_texts::text::pair;
 use std::alloc::{AllocError, Global};
 
-// The line of a graph.
+// Writes the line of a graph.
 fn put_line(graph: &Graph, out: &mut Reply) {
     let mut bytes = Vec::new(out.alloc);
     let _ = write_line(graph, &mut bytes);
     put_bytes(&bytes, out);
 }
 
-// The line of a graph that a call gives.
+// Writes the line of a graph that a call gives.
 fn put_graph(graph: Result<Graph, AllocError>, out: &mut Reply) {
     match graph {
         Ok(graph) => put_line(&graph, out),
@@ -30,7 +30,7 @@ fn put_graph(graph: Result<Graph, AllocError>, out: &mut Reply) {
     }
 }
 
-/// The edge between two vertices, if it is one of a graph.
+/// Returns the edge between the two vertices that a text names, the lesser first, if it is one of a graph.
 pub fn edge_of(graph: &Graph, text: &str) -> Option<Ends>
     ensures { IfSome result (λ e. has_edge graph.now e.a.0 e.b.0 ≡ true) }
 {
@@ -56,7 +56,7 @@ fn put_contractible(graph: &Graph, out: &mut Reply) -> Result<(), AllocError>
     Ok(())
 }
 
-// The graph of four vertices with the edges of a cycle.
+// Returns the graph of four vertices with the edges of a cycle.
 fn cycle(alloc: Global) -> Result<Graph, AllocError> {
     let (zero, one, two, three) = (VertexId(0), VertexId(1), VertexId(2), VertexId(3));
     let edges = [
@@ -68,7 +68,7 @@ fn cycle(alloc: Global) -> Result<Graph, AllocError> {
     Graph::of_edges(alloc, 4, &edges)
 }
 
-// The graph of four vertices with two edges from vertex 3.
+// Returns the graph of four vertices with two edges from vertex 3.
 fn two_edges(alloc: Global) -> Result<Graph, AllocError> {
     let (zero, one, three) = (VertexId(0), VertexId(1), VertexId(3));
     let edges = [Ends { a: zero, b: three }, Ends { a: one, b: three }];

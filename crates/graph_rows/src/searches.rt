@@ -19,7 +19,7 @@ use std::alloc::{AllocError, Global};
 // The text where there is no answer, or a wrong one.
 const WRONG: &str = "wrong";
 
-// How many pairs of vertices are edges.
+// Returns the number of edges of a graph.
 fn edges_of(graph: &Graph) -> u32 {
     let mut m: u32 = 0;
     for u in 0..graph.n() {
@@ -32,27 +32,22 @@ fn edges_of(graph: &Graph) -> u32 {
     m
 }
 
-// Whether each entry of a vertex's list is an edge.
-fn is_list(graph: &Graph, v: u16, list: &[u16]) -> bool {
-    for u in list {
-        if !graph.has(VertexId(v), VertexId(*u)) {
-            return false;
-        }
-    }
-    true
-}
-
-// Whether each entry of the lists is an edge.
+// Says whether each entry of the lists is an edge.
 fn are_edges(graph: &Graph, lists: &Rotations) -> bool {
     for v in 0..graph.n() {
-        if usize::from(v) >= lists.len() || !is_list(graph, v, lists.list(usize::from(v))) {
+        if usize::from(v) >= lists.len() {
             return false;
+        }
+        for u in lists.list(usize::from(v)) {
+            if !graph.has(VertexId(v), VertexId(*u)) {
+                return false;
+            }
         }
     }
     true
 }
 
-// Whether lists are a map of genus zero with exactly the graph's edges.
+// Says whether lists are a map of genus zero with exactly the graph's edges.
 fn is_drawn(alloc: Global, graph: &Graph, lists: &Rotations) -> bool {
     if lists.len() == 0 || lists.len() > 255 || !are_edges(graph, lists) {
         return false;
@@ -88,37 +83,25 @@ fn word_of(answer: Result<Embedding, AllocError>) -> &'static str {
     }
 }
 
-// Whether the test by sides says that a graph has a map, or that it has none.
-fn is_told(alloc: Global, graph: &Graph, planar: bool) -> bool {
-    match has_map(alloc, graph) {
-        Ok(yes) => yes == planar,
-        Err(_) => false,
-    }
-}
-
-// Whether the lists made by sides are a map of a graph, or there are none.
-fn is_listed(alloc: Global, graph: &Graph, planar: bool) -> bool {
-    match map_of_graph(alloc, graph) {
-        Ok(Some(lists)) => planar && is_drawn(alloc, graph, &lists),
-        Ok(None) => !planar,
-        Err(_) => false,
-    }
-}
-
-// The kind of the answer by sides of edges, if the test and the lists by sides agree.
+// Names the kind of the answer by sides of edges, if the test by sides and the lists made by sides agree with it.
 fn slow_word(alloc: Global, graph: &Graph) -> &'static str
     requires { 0 < graph.now.n }
 {
     let word = word_of(embed_by_sides(alloc, graph));
     let planar = word == "map";
-    if is_told(alloc, graph, planar) && is_listed(alloc, graph, planar) {
-        word
-    } else {
-        WRONG
-    }
+    let told = match has_map(alloc, graph) {
+        Ok(yes) => yes == planar,
+        Err(_) => false,
+    };
+    let listed = match map_of_graph(alloc, graph) {
+        Ok(Some(lists)) => planar && is_drawn(alloc, graph, &lists),
+        Ok(None) => !planar,
+        Err(_) => false,
+    };
+    if told && listed { word } else { WRONG }
 }
 
-// The answers by the searches and by sides of edges.
+// Names the answers by the searches and by sides of edges.
 fn both_ways(alloc: Global, graph: &Graph) -> (&'static str, &'static str)
     requires { 3 ≤ graph.now.n }
 {
@@ -178,7 +161,8 @@ impl Tally {
         requires length { length ≤ 4 }
     {
         for code in 0..1u32 << bits {
-            let line = line_of(first, code << (18 - bits));
+            let code = code << (18 - bits);
+            let line = [first, byte_of(code, 12), byte_of(code, 6), byte_of(code, 0)];
             self.add_line(&line[..length]);
         }
     }
@@ -195,18 +179,16 @@ impl Tally {
     }
 }
 
-// Six bits of a number as a byte of a line.
+// Returns six bits of a number as a byte of a line.
 fn byte_of(bits: u32, shift: u32) -> u8 {
     ((bits >> (shift & 31)) & 63) as u8 + 63
 }
 
-// A line that begins with a byte, and has three times six bits behind it.
-fn line_of(first: u8, bits: u32) -> [u8; 4] {
-    [first, byte_of(bits, 12), byte_of(bits, 6), byte_of(bits, 0)]
-}
-
-// Counts the graphs of a row, and writes the counts.
-fn put_tally(row: &Row<'_>, out: &mut Reply) {
+/// Answers a row on searches: on the graph of one line, or by the counts of many graphs.
+pub fn answer(row: &Row<'_>, out: &mut Reply) {
+    if row.call == "graph" || row.call == "both" {
+        return over_line(row, out);
+    }
     let mut told = Tally {
         alloc: out.alloc,
         both: row.call != "all",
@@ -224,12 +206,4 @@ fn put_tally(row: &Row<'_>, out: &mut Reply) {
     out.put_one("planar", u64::from(told.planar));
     out.put_one(" other", u64::from(told.other));
     out.put_one(" wrong", u64::from(told.wrong));
-}
-
-/// Answers a row on searches.
-pub fn answer(row: &Row<'_>, out: &mut Reply) {
-    match row.call {
-        "graph" | "both" => over_line(row, out),
-        _ => put_tally(row, out),
-    }
 }

@@ -14,7 +14,7 @@ use row_texts::rows::Row;
 use row_texts::witnesses::witness_of;
 use std::alloc::{AllocError, Global};
 
-/// The name of a kind.
+/// Returns the name of a kind.
 pub fn name_of(kind: Kind) -> &'static str {
     match kind {
         Kind::K5 => "K5",
@@ -22,7 +22,7 @@ pub fn name_of(kind: Kind) -> &'static str {
     }
 }
 
-// The verdict on a witness.
+// Writes the verdict on a witness.
 fn put_verdict(graph: &Graph, witness: &Witness, out: &mut Reply) {
     match check_witness(graph, witness) {
         WitnessVerdict::BadShape => out.put("BadShape"),
@@ -40,7 +40,7 @@ fn put_verdict(graph: &Graph, witness: &Witness, out: &mut Reply) {
     }
 }
 
-// The witness for a graph that comes of one for the graph with an edge contracted, if it is one.
+// Returns the witness for a graph that comes of one for the graph with an edge contracted, if it is one.
 fn lifted(
     alloc: Global,
     graph: &Graph,

@@ -2,33 +2,29 @@
 
 use crate::{counts, cuts, edits, maps, orbits};
 use half_edges::HalfMap;
-use row_texts::lists::{SomeLists, lists_of};
+use row_texts::lists::lists_of;
 use row_texts::refusal::tell_fault;
 use row_texts::reply::Reply;
 use row_texts::rows::{Answers, Row};
 
-// Answers a row on lists and their map, where the lists have one.
-fn over_map(row: &Row<'_>, given: &SomeLists, out: &mut Reply) {
-    match HalfMap::from_rotations(out.alloc, &given.lists) {
-        Ok(mut map) => match row.family {
-            "map" => maps::answer(row, &given.lists, &map, out),
-            "edits" => edits::answer(&mut map, row.arg(1), out),
-            "count" => counts::answer(row, given, &map, out),
-            _ => cuts::answer(row.call, &map, out),
-        },
-        Err(fault) => tell_fault(fault, out),
-    }
-}
-
-/// The rows of this program.
+/// The rows of this program: on permutations, or on lists and their map, where the lists have one.
 pub struct Rows;
 
 impl Answers for Rows {
     fn answer(row: &Row<'_>, out: &mut Reply) {
         if row.family == "perm" {
-            orbits::answer(row, out);
-        } else if let Some(lists) = lists_of(out.alloc, row.arg(0)) {
-            over_map(row, &lists, out);
+            return orbits::answer(row, out);
+        }
+        if let Some(given) = lists_of(out.alloc, row.arg(0)) {
+            match HalfMap::from_rotations(out.alloc, &given.lists) {
+                Ok(mut map) => match row.family {
+                    "map" => maps::answer(row, &given.lists, &map, out),
+                    "edits" => edits::answer(&mut map, row.arg(1), out),
+                    "count" => counts::answer(row, &given, &map, out),
+                    _ => cuts::answer(row.call, &map, out),
+                },
+                Err(fault) => tell_fault(fault, out),
+            }
         }
     }
 }

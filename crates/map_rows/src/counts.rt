@@ -1,8 +1,5 @@
 //! Faces, components and Euler's counts.
-ghost use Rattle.std.specs.Prelude.{◌≡◌, ◌<◌, length};
-ghost use Rattle.map_theory.specs.Maps.{vertex_count};
-
-use conn_parts::{Parts, components};
+use conn_parts::components;
 use euler_faces::{Counter, EulerCount, Faces, count_lists, euler, euler_by_components, faces};
 use half_edges::{FaceId, HalfMap, MapFault, VertexId};
 use row_texts::lists::{SomeLists, lists_of};
@@ -11,32 +8,26 @@ use row_texts::reply::Reply;
 use row_texts::rows::Row;
 use std::alloc::{AllocError, Global};
 
-// Writes the vertices that the walk of a face leaves, with a mark where a dart has another face.
-fn put_walk(map: &HalfMap, found: &Faces, f: u32, out: &mut Reply)
-    requires { f < length found.now }
-{
-    let walk = found.walk(FaceId(f));
-    for i in 0..walk.len() {
-        let d = walk[i];
-        out.put_gap(i);
-        if found.of_dart(d) == FaceId(f) && map.is_live(d) {
-            out.put_number(u64::from(map.tail(d).0));
-        } else {
-            out.put_letter('!');
-        }
-    }
-}
-
-// Writes the walks of the faces of a map.
+// Writes the vertices that the walk of each face leaves, with `!` where a dart has another face.
 fn put_walks(map: &HalfMap, found: &Faces, out: &mut Reply) {
     for f in 0..found.count() {
         if 0 < f {
             out.put_letter(';');
         }
-        put_walk(map, found, f, out);
+        let walk = found.walk(FaceId(f));
+        for i in 0..walk.len() {
+            let d = walk[i];
+            out.put_gap(i);
+            if found.of_dart(d) == FaceId(f) && map.is_live(d) {
+                out.put_number(u64::from(map.tail(d).0));
+            } else {
+                out.put_letter('!');
+            }
+        }
     }
 }
 
+// Writes the counts of a map.
 fn put_count(count: EulerCount, out: &mut Reply) {
     out.put_one("n", u64::from(count.n));
     out.put_one(" m", u64::from(count.m));
@@ -45,7 +36,7 @@ fn put_count(count: EulerCount, out: &mut Reply) {
     out.put_one(" genus", u64::from(count.genus()));
 }
 
-// The counts of lists, or why they are no map.
+// Writes the counts of lists, or why they are no map.
 fn put_counted(found: Result<EulerCount, MapFault>, out: &mut Reply) {
     match found {
         Ok(count) => put_count(count, out),
@@ -87,18 +78,7 @@ fn put_both(given: &SomeLists, map: &HalfMap, out: &mut Reply) {
     }
 }
 
-// Writes the number of components, and the number of each vertex's.
-fn put_parts(map: &HalfMap, found: &Parts, out: &mut Reply)
-    requires { length found.now.numbers ≡ vertex_count map.now.lists }
-{
-    out.put_number(u64::from(found.count()));
-    out.put_letter(':');
-    for v in 0..map.n() {
-        out.put_one("", u64::from(found.of(VertexId(v))));
-    }
-}
-
-/// Answers a row on counts.
+/// Answers a row on counts: by the number of components, and the number of each vertex's, where nothing else is asked.
 pub fn answer(row: &Row<'_>, given: &SomeLists, map: &HalfMap, out: &mut Reply) {
     match row.call {
         "faces" => match faces(out.alloc, map) {
@@ -108,7 +88,13 @@ pub fn answer(row: &Row<'_>, given: &SomeLists, map: &HalfMap, out: &mut Reply) 
         "lists" => count_all(row.args, out),
         "both" => put_both(given, map, out),
         _ => match components(out.alloc, map) {
-            Ok(found) => put_parts(map, &found, out),
+            Ok(found) => {
+                out.put_number(u64::from(found.count()));
+                out.put_letter(':');
+                for v in 0..map.n() {
+                    out.put_one("", u64::from(found.of(VertexId(v))));
+                }
+            }
             Err(_) => tell_no_memory(out),
         },
     }

@@ -4,7 +4,7 @@ use half_edges::HalfMap;
 use row_texts::refusal::{put_pair, put_vertex};
 use row_texts::reply::Reply;
 
-/// The least cut vertex of a map, or its least separating pair.
+/// Writes the least cut vertex of a map, or its least separating pair.
 pub fn answer(call: &str, map: &HalfMap, out: &mut Reply) {
     match call {
         "vertex" => put_vertex(cut_vertex(out.alloc, map), out),

@@ -4,13 +4,13 @@ ghost use Rattle.map_theory.specs.Maps.{vertex_count};
 ghost use Rattle.half_edges.specs.Edges.{IsCorner, corner_place};
 
 use half_edges::{Corner, DartId, HalfMap, Rotations, VertexId};
-use row_texts::darts::{dart_between, put_dart};
 use row_texts::lists::put_lists;
+use row_texts::maps::{dart_between, first_base, put_dart};
 use row_texts::refusal::tell_no_memory;
 use row_texts::reply::Reply;
 use row_texts::text::{halves, number, pair};
 
-// The corner at a vertex behind an entry of its list, or at an isolated one.
+// Returns the corner at a vertex behind an entry of its list, or at an isolated one.
 fn corner_at(map: &HalfMap, v: u16, entry: Option<u16>) -> Option<Corner>
     ensures vertex { IfSome result (λ _. v < vertex_count map.now.lists) }
     ensures corner { IfSome result (λ corner. IsCorner map.now corner) }
@@ -31,7 +31,7 @@ fn corner_at(map: &HalfMap, v: u16, entry: Option<u16>) -> Option<Corner>
     }
 }
 
-// Puts an edge in between two vertices behind entries of their lists, if it can be.
+// Puts an edge in between two vertices behind entries of their lists, and returns its first dart, if it can be.
 fn join(
     map: &mut HalfMap,
     (u, behind_u): (u16, Option<u16>),
@@ -48,7 +48,7 @@ fn join(
     }
 }
 
-// The vertex that a text names, and the entry behind `>`.
+// Returns the vertex that a text names, and the entry behind `>`.
 fn place_of(text: &str) -> (u16, Option<u16>) {
     match text.split_once('>') {
         Some((v, u)) => (number(v), Some(number(u))),
@@ -56,13 +56,13 @@ fn place_of(text: &str) -> (u16, Option<u16>) {
     }
 }
 
-// Puts in the edge between two places, if it can be.
+// Puts in the edge between two places, and returns its first dart, if it can be.
 fn join_places(map: &mut HalfMap, places: &str) -> Option<DartId> {
     let (first, second) = halves(places);
     join(map, place_of(first), place_of(second))
 }
 
-// Puts an edge in and takes it out again, if it can be.
+// Puts an edge in and takes it out again, if it can be, and says whether it did.
 fn turn(map: &mut HalfMap, places: &str) -> bool {
     match join_places(map, places) {
         Some(d) if map.is_live(d) => {
@@ -85,22 +85,15 @@ fn turns(map: &mut HalfMap, places: &str, out: &mut Reply) {
     out.put(" turns");
 }
 
-// The entry of vertex 0's list behind which the next one comes.
-fn first_entry(map: &HalfMap) -> Option<u16> {
-    if map.n() == 0 {
-        return None;
-    }
-    match map.first_dart(VertexId(0)) {
-        Some(d) if map.is_live(d) => Some(map.head(d).0),
-        _ => None,
-    }
-}
-
-// Puts an edge in from vertex 0 to each other vertex, which is isolated.
+// Puts an edge in from vertex 0, behind the first entry of its list, to each other vertex, which is isolated; and writes
+// how many it put in.
 fn spokes(map: &mut HalfMap, out: &mut Reply) {
     let mut count: u64 = 0;
     for v in 1..map.n() {
-        let behind = first_entry(map);
+        let behind = match first_base(map) {
+            Some(d) => Some(map.head(d).0),
+            None => None,
+        };
         if join(map, (0, behind), (v, None)).is_some() {
             count = count.wrapping_add(1);
         }
@@ -109,7 +102,7 @@ fn spokes(map: &mut HalfMap, out: &mut Reply) {
     out.put(" spokes");
 }
 
-// Edits a map once.
+// Edits a map once, and writes what came of it.
 fn edit(map: &mut HalfMap, text: &str, out: &mut Reply) {
     let (word, rest) = halves(text);
     match word {
@@ -124,11 +117,11 @@ fn edit(map: &mut HalfMap, text: &str, out: &mut Reply) {
         "remove" => {
             let (u, v) = pair(rest);
             match dart_between(map, u, v) {
-                Some(d) if map.is_live(d) => {
+                Some(d) => {
                     let removed = map.remove_edge(d);
                     out.put_numbers(&[removed.a.0, removed.b.0]);
                 }
-                _ => out.put("refused"),
+                None => out.put("refused"),
             }
         }
         "turn" => turns(map, rest, out),

@@ -1,10 +1,9 @@
 //! Maps of lists, their darts, and their copies and parts.
-ghost use Rattle.std.specs.Prelude.{IsTrue, Contains, true};
 ghost use Rattle.half_edges.specs.Map.{IsLive};
 
 use half_edges::{DartId, HalfMap, Rotations, VertexId};
-use row_texts::darts::{dart_between, put_dart};
 use row_texts::lists::put_lists;
+use row_texts::maps::{dart_between, put_dart, put_size};
 use row_texts::refusal::tell_no_memory;
 use row_texts::reply::Reply;
 use row_texts::rows::Row;
@@ -13,8 +12,7 @@ use std::alloc::{AllocError, Global};
 
 // Writes a map by its numbers of vertices and edges, its spare room, and its lists.
 fn put_map(map: &HalfMap, out: &mut Reply) {
-    out.put_one("n", u64::from(map.n()));
-    out.put_one(" m", u64::from(map.m()));
+    put_size(map, out);
     out.put_one(" spare", u64::from(map.spare()));
     out.put(" lists ");
     match map.rotations(out.alloc) {
@@ -31,7 +29,7 @@ fn put_made(made: Result<HalfMap, AllocError>, out: &mut Reply) {
     }
 }
 
-// Writes the steps from a dart.
+// Writes a dart, and where the steps from it lead.
 fn put_steps(map: &HalfMap, d: DartId, out: &mut Reply)
     requires { IsLive map.now d.0 }
 {
@@ -42,20 +40,13 @@ fn put_steps(map: &HalfMap, d: DartId, out: &mut Reply)
     put_dart(", along the face ", map, map.face_step(d), out);
 }
 
-// The flags that a text names, `yes` each or anything else.
+// Returns the flags that a text names, `yes` each or anything else.
 fn flags_of(alloc: Global, text: &str) -> Vec<bool> {
     let mut flags = Vec::new(alloc);
     for word in text.split_whitespace() {
         let _ = flags.push(word == "yes");
     }
     flags
-}
-
-// Whether some flag is set.
-fn is_some_set(flags: &[bool]) -> bool
-    ensures { IsTrue result → Contains flags.now true }
-{
-    flags.contains(&true)
 }
 
 /// Answers a row on a map.
@@ -69,8 +60,8 @@ pub fn answer(row: &Row<'_>, lists: &Rotations, map: &HalfMap, out: &mut Reply) 
             out.put(" entries");
         }
         "dart" => match dart_between(map, u, v) {
-            Some(d) if map.is_live(d) => put_steps(map, d, out),
-            _ => out.put("none"),
+            Some(d) => put_steps(map, d, out),
+            None => out.put("none"),
         },
         "first" if map.n() <= u => {}
         "first" => match map.first_dart(VertexId(u)) {
@@ -81,7 +72,7 @@ pub fn answer(row: &Row<'_>, lists: &Rotations, map: &HalfMap, out: &mut Reply) 
         "copy" => put_made(map.copy(out.alloc), out),
         _ => {
             let keep = flags_of(out.alloc, row.arg(1));
-            if keep.len() == usize::from(map.n()) && is_some_set(&keep) {
+            if keep.len() == usize::from(map.n()) && keep.contains(&true) {
                 put_made(map.induced(out.alloc, &keep), out);
             }
         }

@@ -6,7 +6,6 @@ use row_texts::refusal::tell_no_memory;
 use row_texts::reply::Reply;
 use row_texts::rows::Row;
 use row_texts::text::{number, pair};
-use std::alloc::Global;
 
 // Writes a permutation by its length, its images and the number of its orbits.
 fn put_perm(perm: &Perm, out: &mut Reply) {
@@ -22,47 +21,16 @@ fn put_perm(perm: &Perm, out: &mut Reply) {
     out.put(" orbits");
 }
 
-// The images that a text names.
-fn images_in(alloc: Global, text: &str) -> Vec<u32> {
-    let mut images: Vec<u32> = Vec::new(alloc);
-    for word in text.split_whitespace() {
-        let _ = images.push(u32::from(number(word)));
-    }
-    images
-}
-
-// Writes the fault of images.
-fn put_fault(fault: PermFault, out: &mut Reply) {
-    match fault {
-        PermFault::OutOfRange(i) => out.put_one("OutOfRange", u64::from(i)),
-        PermFault::Repeated(i, j) => {
-            out.put_one("Repeated", u64::from(i));
-            out.put_one("", u64::from(j));
-        }
-        PermFault::NoMemory => tell_no_memory(out),
-    }
-}
-
-// Whether two numbers lie in one orbit.
-fn put_same(perm: &Perm, (a, b): (u16, u16), out: &mut Reply) {
-    out.put_letter(' ');
-    if u32::from(a) < perm.len() && u32::from(b) < perm.len() {
-        out.put_flag(perm.same_orbit(u32::from(a), u32::from(b)));
-    }
-}
-
-// Writes a permutation, and whether pairs of numbers lie in one orbit.
+// Writes a permutation, and for each pair of numbers whether they lie in one orbit.
 fn put_orbits(perm: &Perm, pairs: &str, out: &mut Reply) {
     put_perm(perm, out);
     for text in pairs.split(';') {
-        put_same(perm, pair(text), out);
-    }
-}
-
-// Exchanges two images.
-fn swap(perm: &mut Perm, (a, b): (u16, u16)) {
-    if u32::from(a) < perm.len() && u32::from(b) < perm.len() {
-        perm.swap_images(u32::from(a), u32::from(b));
+        let (a, b) = pair(text);
+        let (a, b) = (u32::from(a), u32::from(b));
+        out.put_letter(' ');
+        if a < perm.len() && b < perm.len() {
+            out.put_flag(perm.same_orbit(a, b));
+        }
     }
 }
 
@@ -75,12 +43,21 @@ fn put_all(images: &[u32], row: &Row<'_>, out: &mut Reply)
         Ok(mut perm) => {
             put_orbits(&perm, row.arg(1), out);
             if row.args.len() > 2 {
-                swap(&mut perm, pair(row.arg(2)));
+                let (a, b) = pair(row.arg(2));
+                let (a, b) = (u32::from(a), u32::from(b));
+                if a < perm.len() && b < perm.len() {
+                    perm.swap_images(a, b);
+                }
                 out.put("; ");
                 put_orbits(&perm, row.arg(3), out);
             }
         }
-        Err(fault) => put_fault(fault, out),
+        Err(PermFault::OutOfRange(i)) => out.put_one("OutOfRange", u64::from(i)),
+        Err(PermFault::Repeated(i, j)) => {
+            out.put_one("Repeated", u64::from(i));
+            out.put_one("", u64::from(j));
+        }
+        Err(PermFault::NoMemory) => tell_no_memory(out),
     }
 }
 
@@ -93,7 +70,10 @@ pub fn answer(row: &Row<'_>, out: &mut Reply) {
         }
         return;
     }
-    let images = images_in(out.alloc, row.arg(0));
+    let mut images: Vec<u32> = Vec::new(out.alloc);
+    for word in row.arg(0).split_whitespace() {
+        let _ = images.push(u32::from(number(word)));
+    }
     if images.len() < 65536 {
         put_all(&images, row, out);
     }

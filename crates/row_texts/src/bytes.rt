@@ -2,7 +2,7 @@
 use crate::reply::Reply;
 use std::alloc::Global;
 
-/// The bytes of a text, with 10 for each `;`.
+/// Returns the bytes of a text, with 10 for each `;`.
 pub fn lines_of(alloc: Global, text: &str) -> Vec<u8> {
     let mut bytes = Vec::new(alloc);
     for byte in text.as_bytes() {

@@ -8,14 +8,14 @@ use map_gen::stacked;
 use map_lists::ItemLists;
 use std::alloc::Global;
 
-// Vertices with no edges.
+// Appends the lists of vertices with no edges.
 fn alone(n: u16, lists: &mut ItemLists<u16>) {
     for _ in 0..n {
         let _ = lists.open();
     }
 }
 
-// A path along the numbers.
+// Appends the lists of a path along the numbers.
 fn path(n: u16, lists: &mut ItemLists<u16>) {
     for v in 0..n {
         let (before, after) = (v.wrapping_sub(1), v.wrapping_add(1));
@@ -31,7 +31,7 @@ fn path(n: u16, lists: &mut ItemLists<u16>) {
     }
 }
 
-// The numbers before and after one on a rim of those from a first one up to n.
+// Returns the numbers before and after `v` on a rim from `first` up to n.
 fn beside(first: u16, n: u16, v: u16) -> (u16, u16) {
     let before = if v == first { n } else { v };
     let after = v.wrapping_add(1);
@@ -41,7 +41,7 @@ fn beside(first: u16, n: u16, v: u16) -> (u16, u16) {
     )
 }
 
-// A cycle along the numbers.
+// Appends the lists of a cycle along the numbers.
 fn cycle(n: u16, lists: &mut ItemLists<u16>) {
     for v in 0..n {
         let (before, after) = beside(0, n, v);
@@ -49,58 +49,35 @@ fn cycle(n: u16, lists: &mut ItemLists<u16>) {
     }
 }
 
-// The numbers from 1 up to n.
-fn middle(alloc: Global, n: u16) -> Vec<u16> {
-    let mut middle = Vec::new(alloc);
-    for v in 1..n {
-        let _ = middle.push(v);
-    }
-    middle
-}
-
-// The vertices of a star around its middle, of which each has so many of its neighbours: 1, or 3 on the rim of a wheel.
-fn around(n: u16, most: usize, lists: &mut ItemLists<u16>)
+// Appends a star whose middle is vertex 0, or a wheel: each other vertex has `most` of the middle and its two neighbours
+// on the rim, 1 in a star and 3 in a wheel.
+fn star(alloc: Global, n: u16, most: usize, lists: &mut ItemLists<u16>)
     requires { most < 4 }
 {
+    let mut rim = Vec::new(alloc);
+    for v in 1..n {
+        let _ = rim.push(v);
+    }
+    let _ = lists.push(&rim);
     for v in 1..n {
         let (before, after) = beside(1, n, v);
         let _ = lists.push(&[0, before, after][..most]);
     }
 }
 
-// A star whose middle is vertex 0, or a wheel.
-fn star(alloc: Global, n: u16, most: usize, lists: &mut ItemLists<u16>)
-    requires { most < 4 }
-{
-    let _ = lists.push(&middle(alloc, n));
-    around(n, most, lists);
-}
-
-// Appends the lists of a map.
-fn put_all(made: &Rotations, lists: &mut ItemLists<u16>) {
-    for v in 0..made.len() {
-        let _ = lists.push(made.list(v));
-    }
-}
-
-// Vertices that are put into faces of a triangle, one after another, by a number.
+// Appends a triangle of which vertices are put into faces, one after another, by a number.
 fn stack(alloc: Global, n: u16, number: u16, lists: &mut ItemLists<u16>) {
-    if 3 <= n && n <= 4095 {
-        match stacked(alloc, n, u32::from(number)) {
-            Ok(made) => put_all(&made, lists),
-            Err(_) => {}
+    if n < 3 || 4095 < n {
+        return;
+    }
+    if let Ok(made) = stacked(alloc, n, u32::from(number)) {
+        for v in 0..made.len() {
+            let _ = lists.push(made.list(v));
         }
     }
 }
 
-// The lists between the semicolons.
-fn written(alloc: Global, text: &str, lists: &mut ItemLists<u16>) {
-    for list in text.split(';') {
-        let _ = lists.push(&numbers(alloc, list));
-    }
-}
-
-// The lists that a text gives.
+// Appends the lists of a family, or those that a text has between its semicolons.
 fn fill(alloc: Global, text: &str, lists: &mut ItemLists<u16>) {
     let (family, size) = halves(text);
     let (n, number) = pair(size);
@@ -111,7 +88,11 @@ fn fill(alloc: Global, text: &str, lists: &mut ItemLists<u16>) {
         "star" => star(alloc, n, 1, lists),
         "wheel" => star(alloc, n, 3, lists),
         "stacked" => stack(alloc, n, number, lists),
-        _ => written(alloc, text, lists),
+        _ => {
+            for list in text.split(';') {
+                let _ = lists.push(&numbers(alloc, list));
+            }
+        }
     }
 }
 
@@ -122,7 +103,7 @@ pub struct SomeLists {
     pub ghost some: { 0 < length lists },
 }
 
-/// The lists that a text gives, from 1 to 4095.
+/// Returns the lists that a text gives, if there are 1 to 4095.
 pub fn lists_of(alloc: Global, text: &str) -> Option<SomeLists> {
     let mut lists = ItemLists::new(alloc);
     fill(alloc, text, &mut lists);
@@ -135,7 +116,7 @@ pub fn lists_of(alloc: Global, text: &str) -> Option<SomeLists> {
     }
 }
 
-/// Writes lists as a text.
+/// Writes lists with `;` between them.
 pub fn put_lists(lists: &Rotations, out: &mut Reply) {
     for v in 0..lists.len() {
         if 0 < v {

@@ -5,8 +5,17 @@ use half_edges::{MapFault, VertexId};
 use refusals::{Refusal, Unserved};
 use std::alloc::AllocError;
 
-/// Tells a condition by its name and its numbers.
-fn tell_condition(condition: Refusal, out: &mut Reply) {
+/// Tells that there was not enough memory.
+pub fn tell_no_memory(out: &mut Reply) {
+    out.put("NoMemory");
+}
+
+/// Tells why a job does not serve a record: a condition by its name and its numbers, or that there was not enough memory.
+pub fn tell_unserved(unserved: Unserved, out: &mut Reply) {
+    let condition = match unserved {
+        Unserved::Refused(condition) => condition,
+        Unserved::NoMemory => return tell_no_memory(out),
+    };
     match condition {
         Refusal::OutOfRange(v, u) => out.put_with("OutOfRange", &[v, u]),
         Refusal::Loop(v) => out.put_with("Loop", &[v]),
@@ -15,19 +24,6 @@ fn tell_condition(condition: Refusal, out: &mut Reply) {
         Refusal::Small(n) => out.put_with("Small", &[n]),
         Refusal::Genus(genus) => out.put_one("Genus", u64::from(genus)),
         _ => out.put("another"),
-    }
-}
-
-/// Tells that there was not enough memory.
-pub fn tell_no_memory(out: &mut Reply) {
-    out.put("NoMemory");
-}
-
-/// Tells why a job does not serve a record.
-pub fn tell_unserved(unserved: Unserved, out: &mut Reply) {
-    match unserved {
-        Unserved::Refused(condition) => tell_condition(condition, out),
-        Unserved::NoMemory => tell_no_memory(out),
     }
 }
 

@@ -1,9 +1,9 @@
 //! A row and its answer.
 use crate::reply::Reply;
 use crate::text::{behind, halves, number, part};
-use std::alloc::Global;
+use std::io::{self, Write};
 
-/// A row without its heading.
+/// What a row asks for: a row without what it shows.
 #[derive(Clone, Copy)]
 pub struct Row<'a> {
     /// The family of the call.
@@ -26,28 +26,22 @@ impl<'a> Row<'a> {
     }
 }
 
-/// Who answers the rows of a program.
+/// Who answers the rows of a program: a program has one type with this trait, and no values of it.
 pub trait Answers {
     /// Writes the answer to a row.
     fn answer(row: &Row<'_>, out: &mut Reply);
 }
 
-// The texts between the `/` of a row.
-fn parts_of<'a>(alloc: Global, row: &'a str) -> Vec<&'a str> {
-    let mut parts = Vec::new(alloc);
-    for part in row.split('/') {
-        let _ = parts.push(part);
-    }
-    parts
-}
-
-// Writes the line that stands for a row in the answers, up to its end: its heading, and its answer.
+// Writes the answer of `A` to a row behind what the row shows, or the row as it is where it asks for nothing.
 fn put_line<A: Answers>(row: &str, out: &mut Reply) {
     if row.is_empty() || row.starts_with('#') {
         out.put(row);
         return;
     }
-    let parts = parts_of(out.alloc, row);
+    let mut parts = Vec::new(out.alloc);
+    for text in row.split('/') {
+        let _ = parts.push(text);
+    }
     out.put(part(&parts, 0));
     out.put(": ");
     let (family, call) = halves(part(&parts, 1));
@@ -59,10 +53,14 @@ fn put_line<A: Answers>(row: &str, out: &mut Reply) {
     A::answer(&row, out);
 }
 
-/// Returns the line that stands for a row in the answers of `A`.
-pub fn answer<A: Answers>(alloc: Global, row: &str) -> String {
-    let mut out = Reply::new(alloc);
-    put_line::<A>(row, &mut out);
-    out.put_letter('\n');
-    out.into_text()
+/// Reads the rows of standard input, and writes for each the line that stands for it in the answers of `A`.
+pub fn answer_rows<A: Answers>(rt: HostRuntime) -> io::Result<()> {
+    let mut out = rt.stdout();
+    for line in rt.lines(rt.alloc()) {
+        let mut reply = Reply::new(rt.alloc());
+        put_line::<A>(line?.as_str(), &mut reply);
+        reply.put_letter('\n');
+        out.write_all(reply.into_text().as_bytes())?;
+    }
+    out.flush()
 }

@@ -13,42 +13,37 @@ use row_texts::rows::Row;
 use row_texts::text::{number, numbers};
 use std::alloc::{AllocError, Global};
 
-// Appends a piece: `=` and a text, or bytes in hexadecimal, `*` and how often.
-fn put_piece(alloc: Global, bytes: &mut Vec<u8>, piece: &str) {
-    if let Some(text) = piece.strip_prefix('=') {
-        let _ = bytes.extend_from_slice(text.as_bytes());
-        return;
-    }
-    let (digits, times) = piece.split_once('*').unwrap_or((piece, "1"));
-    if let Ok(found) = hex::decode(alloc, digits) {
-        for _ in 0..number(times) {
-            let _ = bytes.extend_from_slice(&found);
+// Appends the bytes of the pieces between the spaces: `=` and a text, or bytes in hexadecimal, `*` and how often.
+fn put_pieces(alloc: Global, bytes: &mut Vec<u8>, text: &str) {
+    for piece in text.split_whitespace() {
+        if let Some(text) = piece.strip_prefix('=') {
+            let _ = bytes.extend_from_slice(text.as_bytes());
+            continue;
+        }
+        let (digits, times) = piece.split_once('*').unwrap_or((piece, "1"));
+        if let Ok(found) = hex::decode(alloc, digits) {
+            for _ in 0..number(times) {
+                let _ = bytes.extend_from_slice(&found);
+            }
         }
     }
 }
 
-// Appends the bytes that the pieces between the spaces are.
-fn put_pieces(alloc: Global, bytes: &mut Vec<u8>, text: &str) {
-    for piece in text.split_whitespace() {
-        put_piece(alloc, bytes, piece);
-    }
-}
-
-// The bytes that the pieces between the spaces are.
+// Returns the bytes of the pieces between the spaces.
 fn bytes_of(alloc: Global, text: &str) -> Vec<u8> {
     let mut bytes = Vec::new(alloc);
     put_pieces(alloc, &mut bytes, text);
     bytes
 }
 
-// The lists of a record in brackets.
+// Writes the lists of a record in brackets.
 fn put_record(lists: &Rotations, out: &mut Reply) {
     out.put_letter('[');
     put_lists(lists, out);
     out.put_letter(']');
 }
 
-// Appends the outcome of each byte: a dot where it joins those before, the lists of a record, or `bad` and where.
+// Writes the outcome of each byte: a dot where it joins those before, the lists of a record, or `bad` and where.
 fn put_fed(bytes: &[u8], out: &mut Reply) -> Result<(), AllocError>
     requires { length bytes.now < 1000 }
 {
@@ -63,7 +58,7 @@ fn put_fed(bytes: &[u8], out: &mut Reply) -> Result<(), AllocError>
     Ok(())
 }
 
-// The next bytes to read, at most so many.
+// Returns the next bytes to read, at most `at_once`.
 fn piece_at(bytes: &[u8], at: usize, at_once: usize) -> &[u8]
     requires within { at < length bytes.now }
     requires some { 0 < at_once }
@@ -78,7 +73,7 @@ fn piece_at(bytes: &[u8], at: usize, at_once: usize) -> &[u8]
     }
 }
 
-// The records of bytes that are read so many at once, up to a bad count.
+// Writes the records of bytes of which `at_once` are read at a time, up to a bad count.
 fn put_taken(bytes: &[u8], at_once: usize, out: &mut Reply) -> Result<(), AllocError>
     requires short { length bytes.now < 1000 }
     requires some { 0 < at_once }
@@ -118,7 +113,7 @@ fn put_few(sizes: &[u16], bytes: &[u8], out: &mut Reply) {
     }
 }
 
-// Appends the item at an offset, or the fault there.
+// Writes the item that was found at an offset, or the fault there.
 fn put_step(found: &Result<Step, CodeFault>, out: &mut Reply) {
     match found {
         Ok(Step::Lists(lists, end)) => {
@@ -132,26 +127,19 @@ fn put_step(found: &Result<Step, CodeFault>, out: &mut Reply) {
     }
 }
 
-// Whether all entries of a list are below a number.
-fn is_below(list: &[u16], limit: u16) -> bool
-    ensures { IsTrue result → All (λ u. u < limit) list.now }
-{
-    list.iter().all(|u| *u < limit)
-}
-
-// Whether all entries are.
+// Says whether all entries of the lists are below a number.
 fn are_below(lists: &Rotations, limit: u16) -> bool
     ensures { IsTrue result → AreBelow limit lists.now }
 {
     for v in 0..lists.len() {
-        if !is_below(lists.list(v), limit) {
+        if !lists.list(v).iter().all(|u| *u < limit) {
             return false;
         }
     }
     true
 }
 
-// Appends the record of lists.
+// Appends the record of lists, if they have one.
 fn put_written(given: &SomeLists, bytes: &mut Vec<u8>) {
     let limit = if 255 < given.lists.len() { 65535 } else { 255 };
     if are_below(&given.lists, limit) {
@@ -159,7 +147,7 @@ fn put_written(given: &SomeLists, bytes: &mut Vec<u8>) {
     }
 }
 
-// Whether what stands at an offset is the record of lists, up to another offset.
+// Says whether what was found at an offset is the record of lists, up to the offset `end`.
 fn is_back(lists: &Rotations, end: usize, found: &Result<Step, CodeFault>) -> bool {
     match found {
         Ok(Step::Lists(read, next)) => {
@@ -169,7 +157,7 @@ fn is_back(lists: &Rotations, end: usize, found: &Result<Step, CodeFault>) -> bo
     }
 }
 
-// Writes the record of `lists` between the bytes of two texts, and reads it back.
+// Puts the record of lists between the bytes of two texts, reads it back, and writes where it stands.
 fn write_and_read(given: &SomeLists, row: &Row<'_>, out: &mut Reply) {
     let mut bytes = bytes_of(out.alloc, row.arg(1));
     let at = bytes.len();
@@ -200,24 +188,6 @@ fn write(given: &SomeLists, text: &str, out: &mut Reply) {
     }
 }
 
-// Writes the record at an offset.
-fn put_next(bytes: &[u8], at: usize, out: &mut Reply) {
-    if at <= bytes.len() {
-        put_step(&next_record(out.alloc, bytes, at), out);
-    }
-}
-
-// Answers a row on the record of lists.
-fn of_lists(row: &Row<'_>, out: &mut Reply) {
-    if let Some(lists) = lists_of(out.alloc, row.arg(0)) {
-        if row.call == "write" {
-            write(&lists, row.arg(1), out);
-        } else {
-            write_and_read(&lists, row, out);
-        }
-    }
-}
-
 /// Answers a row on records.
 pub fn answer(row: &Row<'_>, out: &mut Reply) {
     match row.call {
@@ -226,12 +196,22 @@ pub fn answer(row: &Row<'_>, out: &mut Reply) {
             let sizes = numbers(out.alloc, row.arg(0));
             put_few(&sizes, &bytes_of(out.alloc, row.arg(1)), out);
         }
-        "next" => put_next(
-            &bytes_of(out.alloc, row.arg(1)),
-            usize::from(row.number(0)),
-            out,
-        ),
+        "next" => {
+            let bytes = bytes_of(out.alloc, row.arg(1));
+            let at = usize::from(row.number(0));
+            if at <= bytes.len() {
+                put_step(&next_record(out.alloc, &bytes, at), out);
+            }
+        }
         "header" => out.put_number(after_header(&bytes_of(out.alloc, row.arg(0))) as u64),
-        _ => of_lists(row, out),
+        _ => {
+            if let Some(lists) = lists_of(out.alloc, row.arg(0)) {
+                if row.call == "write" {
+                    write(&lists, row.arg(1), out);
+                } else {
+                    write_and_read(&lists, row, out);
+                }
+            }
+        }
     }
 }

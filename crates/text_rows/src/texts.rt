@@ -1,12 +1,11 @@
 //! Texts of figures, printed and read. A line ends with `;` in a row and in an answer.
-ghost use Rattle.std.specs.Prelude.{IsTrue};
-ghost use Rattle.figure_text.specs.Text.{HasBars, IsWhole};
+ghost use Rattle.figure_text.specs.Text.{IsWhole};
 
 use figure_text::{Figure, GridJob, Item, TextFault, print_figure, print_witness};
 use graph6_text::read_line;
 use half_edges::Rotations;
 use line_inputs::read_figure;
-use pg_plane::{BarFigure, Points};
+use pg_plane::Points;
 use row_texts::bytes::{lines_of, put_bytes};
 use row_texts::lists::lists_of;
 use row_texts::points::{bars_of, points_of};
@@ -15,15 +14,6 @@ use row_texts::reply::Reply;
 use row_texts::rows::Row;
 use row_texts::text::behind;
 use row_texts::witnesses::witness_of;
-
-// The job of a name.
-fn job_of(text: &str) -> GridJob {
-    match text {
-        "shift" => GridJob::Shift,
-        "schnyder" => GridJob::Schnyder,
-        _ => GridJob::Convex,
-    }
-}
 
 // Writes the text of a figure.
 fn put_figure(number: u16, figure: &Figure, out: &mut Reply)
@@ -34,27 +24,23 @@ fn put_figure(number: u16, figure: &Figure, out: &mut Reply)
     put_bytes(&bytes, out);
 }
 
-// Writes the text of a drawing in a grid, if there is a point for each list.
+// Writes the text of a drawing in a grid by the job that a row names, if there is a point for each list.
 fn put_grid(row: &Row<'_>, lists: Rotations, points: Points, out: &mut Reply) {
     if points.len() == lists.len() {
-        let job = job_of(row.arg(1));
+        let job = match row.arg(1) {
+            "shift" => GridJob::Shift,
+            "schnyder" => GridJob::Schnyder,
+            _ => GridJob::Convex,
+        };
         put_figure(row.number(0), &Figure::Grid { job, lists, points }, out);
     }
 }
 
-// Whether each vertex has a bar.
-fn has_bars(lists: &Rotations, bars: &BarFigure) -> bool
-    ensures { IsTrue result → HasBars lists.now bars.now }
-{
-    bars.y.len() == lists.len() && bars.x1.len() == lists.len() && bars.x2.len() == lists.len()
-}
-
-// Writes the text of a visibility drawing of some lists.
+// Writes the text of a visibility drawing of some lists, if there is a bar for each.
 fn put_bars(row: &Row<'_>, out: &mut Reply) {
     if let Some(given) = lists_of(out.alloc, row.arg(1)) {
         let lists = given.lists;
-        let bars = bars_of(out.alloc, behind(row.args, 2));
-        if has_bars(&lists, &bars) {
+        if let Some(bars) = bars_of(out.alloc, behind(row.args, 2), lists.len()) {
             put_figure(row.number(0), &Figure::Bars { lists, bars }, out);
         }
     }
@@ -79,14 +65,14 @@ fn put_witness(row: &Row<'_>, out: &mut Reply) {
     }
 }
 
-// An item by its name, the number of a line, and the offset behind it.
+// Writes an item by its name, the number of a line, and the offset behind it.
 fn put_place(name: &str, next: usize, line: u32, out: &mut Reply) {
     out.put(name);
     out.put_one(", line", u64::from(line));
     out.put_one(" at", next as u64);
 }
 
-// Appends the item at the front of a text, or the fault there.
+// Writes the item that was found at the front of a text, or the fault there.
 fn put_item(found: &Result<Item, TextFault>, out: &mut Reply) {
     match found {
         Ok(Item::Drawn(_, next, line)) => put_place("figure", *next, *line, out),

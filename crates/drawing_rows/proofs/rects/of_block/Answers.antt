@@ -7,11 +7,11 @@ rect_draw-requires-clause-class c =
     let lists = c.args.map.now.lists in
     let q = c.biconnected_are_rect_maps.ensures lists c.requires in
     let class : IsRectMap lists 0 (top_vertex lists) (right_vertex lists) (bottom_vertex lists) = record { connected = q.connected; large = q.more; near = q.near; no_separating = q.triangles } in
-    (0, top_vertex lists, right_vertex lists, bottom_vertex lists, c.in-Some.ensures.dart, class)
+    (0, top_vertex lists, right_vertex lists, bottom_vertex lists, c.in-Some.ensures.first, class)
 
 pub edge_labels-requires-clause-class : goal.edge_labels-requires-clause-class
 edge_labels-requires-clause-class c =
     let lists = c.args.map.now.lists in
     let q = c.biconnected_are_rect_maps.ensures lists c.requires in
     let class : IsRectMap lists 0 (top_vertex lists) (right_vertex lists) (bottom_vertex lists) = record { connected = q.connected; large = q.more; near = q.near; no_separating = q.triangles } in
-    (0, top_vertex lists, right_vertex lists, bottom_vertex lists, c.in-Some.ensures.dart, class)
+    (0, top_vertex lists, right_vertex lists, bottom_vertex lists, c.in-Some.ensures.first, class)
