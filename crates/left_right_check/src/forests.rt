@@ -59,44 +59,51 @@ pub fn is_forest(graph: &Graph, parents: &[u16], depths: &[u16]) -> bool
     true
 }
 
-// Whether a vertex of a depth is a proper ancestor, and the way up from `v` leads to it.
-fn is_higher(parents: &[u16], depths: &[u16], v: u16, ancestor: u16) -> bool
-    ensures { IsTrue result → (slice_index depths.now ancestor < slice_index depths.now v) × IsAbove (slice_index parents.now) (slice_index depths.now) ancestor v }
-{
-    let low = entry(depths, v);
-    let high = entry(depths, ancestor);
-    high < low && after_steps(parents, v, low - high) == ancestor
+/// A rooted forest of a graph, by tables of parents and depths.
+#[derive(Clone, Copy)]
+pub struct RootedForest<'a> {
+    /// The graph.
+    pub graph: &'a Graph,
+    /// For each vertex its parent.
+    pub parents: &'a [u16],
+    /// For each vertex how many steps it is below its root.
+    pub depths: &'a [u16],
+    ghost rooted: { IsForestOf graph.now parents.now depths.now },
 }
 
-// Whether the way from a vertex down to an edge's lower end, and then along the edge, begins with the edge to `end`.
-#[tactic(auto, using(crate::proofs::TieLemmas::branch_at))]
-fn begins_with(parents: &[u16], depths: &[u16], vertex: u16, end: u16, edge: ReturnEdge) -> bool
-    ensures { IsTrue result → IsAbove (slice_index parents.now) (slice_index depths.now) vertex edge.from × IsBranch (slice_index parents.now) (slice_index depths.now) vertex end edge.from edge.to }
-{
-    if edge.from == vertex {
-        return edge.to == end;
+impl<'a> RootedForest<'a> {
+    // Says whether the way up from `v` leads to a vertex above it.
+    fn is_higher(&self, v: u16, ancestor: u16) -> bool
+        ensures { IsTrue result → (slice_index self.now.depths.now ancestor < slice_index self.now.depths.now v) × IsAbove (slice_index self.now.parents.now) (slice_index self.now.depths.now) ancestor v }
+    {
+        let low = entry(self.depths, v);
+        let high = entry(self.depths, ancestor);
+        high < low && after_steps(self.parents, v, low - high) == ancestor
     }
-    let low = entry(depths, edge.from);
-    let high = entry(depths, vertex);
-    if low <= high || entry(parents, end) != vertex {
-        return false;
-    }
-    after_steps(parents, edge.from, low - high - 1) == end
-}
 
-/// Whether an edge returns from a vertex by its edge to `end`.
-pub(crate) fn returns_by(
-    graph: &Graph,
-    parents: &[u16],
-    depths: &[u16],
-    vertex: u16,
-    end: u16,
-    edge: ReturnEdge,
-) -> bool
-    ensures { IsTrue result → ReturnsBy graph.now parents.now depths.now vertex end edge.from edge.to }
-{
-    graph.has(VertexId(edge.from), VertexId(edge.to))
-        && is_higher(parents, depths, vertex, edge.to)
-        && entry(parents, vertex) != end
-        && begins_with(parents, depths, vertex, end, edge)
+    // Says whether the way from `vertex` down to an edge's lower end, and then along the edge, begins with the edge to `end`.
+    #[tactic(auto, using(crate::proofs::TieLemmas::branch_at))]
+    fn begins_with(&self, vertex: u16, end: u16, edge: ReturnEdge) -> bool
+        ensures { IsTrue result → IsAbove (slice_index self.now.parents.now) (slice_index self.now.depths.now) vertex edge.from × IsBranch (slice_index self.now.parents.now) (slice_index self.now.depths.now) vertex end edge.from edge.to }
+    {
+        if edge.from == vertex {
+            return edge.to == end;
+        }
+        let low = entry(self.depths, edge.from);
+        let high = entry(self.depths, vertex);
+        if low <= high || entry(self.parents, end) != vertex {
+            return false;
+        }
+        after_steps(self.parents, edge.from, low - high - 1) == end
+    }
+
+    /// Says whether an edge returns from `vertex` by the vertex's edge to `end`.
+    pub(crate) fn returns_by(&self, vertex: u16, end: u16, edge: ReturnEdge) -> bool
+        ensures { IsTrue result → ReturnsBy self.now.graph.now self.now.parents.now self.now.depths.now vertex end edge.from edge.to }
+    {
+        self.graph.has(VertexId(edge.from), VertexId(edge.to))
+            && self.is_higher(vertex, edge.to)
+            && entry(self.parents, vertex) != end
+            && self.begins_with(vertex, end, edge)
+    }
 }

@@ -7,5 +7,5 @@ mod forests;
 mod ties;
 
 pub use five::is_k5;
-pub use forests::{ReturnEdge, after_steps, entry, is_forest};
-pub use ties::{Fork, Pair, are_alike, are_opposite};
+pub use forests::{ReturnEdge, RootedForest, after_steps, entry, is_forest};
+pub use ties::{Fork, Pair};

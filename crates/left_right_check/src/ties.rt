@@ -2,8 +2,7 @@
 ghost use Rattle.std.specs.Prelude.{◌≡◌, ◌<◌, true, false, slice_index, IsTrue};
 ghost use Rattle.left_right_check.specs.Ties.{AreTied};
 
-use crate::forests::{ReturnEdge, entry, returns_by};
-use graph6_text::Graph;
+use crate::forests::{ReturnEdge, RootedForest, entry};
 
 /// Two edges of a vertex, by their other ends.
 #[derive(Clone, Copy)]
@@ -25,79 +24,60 @@ pub struct Pair {
     pub other: ReturnEdge,
 }
 
-// Whether an edge ends nearer to a root than another.
-fn ends_above(depths: &[u16], edge: ReturnEdge, other: ReturnEdge) -> bool
-    ensures { IsTrue result → slice_index depths.now edge.to < slice_index depths.now other.to }
-{
-    entry(depths, edge.to) < entry(depths, other.to)
-}
+impl<'a> RootedForest<'a> {
+    // Says whether an edge ends nearer to a root than another.
+    fn ends_above(&self, edge: ReturnEdge, other: ReturnEdge) -> bool
+        ensures { IsTrue result → slice_index self.now.depths.now edge.to < slice_index self.now.depths.now other.to }
+    {
+        entry(self.depths, edge.to) < entry(self.depths, other.to)
+    }
 
-/// Whether a fork puts two edges that return by its first edge on one side: both end below the end of one, `lowest`,
-/// that returns by its second edge.
-pub fn are_alike(
-    graph: &Graph,
-    parents: &[u16],
-    depths: &[u16],
-    fork: Fork,
-    pair: Pair,
-    lowest: ReturnEdge,
-) -> bool
-    ensures { IsTrue result → AreTied graph.now parents.now depths.now false pair.one.from pair.one.to pair.other.from pair.other.to }
-{
-    if fork.one == fork.other {
-        return false;
+    /// Says whether a fork puts two edges that return by its first edge on one side: both end below the end of one,
+    /// `lowest`, that returns by its second edge.
+    pub fn are_alike(&self, fork: Fork, pair: Pair, lowest: ReturnEdge) -> bool
+        ensures { IsTrue result → AreTied self.now.graph.now self.now.parents.now self.now.depths.now false pair.one.from pair.one.to pair.other.from pair.other.to }
+    {
+        if fork.one == fork.other {
+            return false;
+        }
+        if !self.returns_by(fork.vertex, fork.one, pair.one) {
+            return false;
+        }
+        if !self.returns_by(fork.vertex, fork.one, pair.other) {
+            return false;
+        }
+        if !self.returns_by(fork.vertex, fork.other, lowest) {
+            return false;
+        }
+        if !self.ends_above(lowest, pair.one) {
+            return false;
+        }
+        self.ends_above(lowest, pair.other)
     }
-    if !returns_by(graph, parents, depths, fork.vertex, fork.one, pair.one) {
-        return false;
-    }
-    if !returns_by(graph, parents, depths, fork.vertex, fork.one, pair.other) {
-        return false;
-    }
-    if !returns_by(graph, parents, depths, fork.vertex, fork.other, lowest) {
-        return false;
-    }
-    if !ends_above(depths, lowest, pair.one) {
-        return false;
-    }
-    ends_above(depths, lowest, pair.other)
-}
 
-/// Whether a fork puts two edges on different sides: the one returns by its first edge, the other by its second one,
-/// and each ends below the end of one that returns by the other edge, of `lowest`.
-pub fn are_opposite(
-    graph: &Graph,
-    parents: &[u16],
-    depths: &[u16],
-    fork: Fork,
-    pair: Pair,
-    lowest: Pair,
-) -> bool
-    ensures { IsTrue result → AreTied graph.now parents.now depths.now true pair.one.from pair.one.to pair.other.from pair.other.to }
-{
-    if fork.one == fork.other {
-        return false;
+    /// Says whether a fork puts two edges on different sides: the one returns by its first edge, the other by its second
+    /// one, and each ends below the end of one that returns by the other edge, of `lowest`.
+    pub fn are_opposite(&self, fork: Fork, pair: Pair, lowest: Pair) -> bool
+        ensures { IsTrue result → AreTied self.now.graph.now self.now.parents.now self.now.depths.now true pair.one.from pair.one.to pair.other.from pair.other.to }
+    {
+        if fork.one == fork.other {
+            return false;
+        }
+        if !self.returns_by(fork.vertex, fork.one, pair.one) {
+            return false;
+        }
+        if !self.returns_by(fork.vertex, fork.other, pair.other) {
+            return false;
+        }
+        if !self.returns_by(fork.vertex, fork.one, lowest.one) {
+            return false;
+        }
+        if !self.returns_by(fork.vertex, fork.other, lowest.other) {
+            return false;
+        }
+        if !self.ends_above(lowest.other, pair.one) {
+            return false;
+        }
+        self.ends_above(lowest.one, pair.other)
     }
-    if !returns_by(graph, parents, depths, fork.vertex, fork.one, pair.one) {
-        return false;
-    }
-    if !returns_by(graph, parents, depths, fork.vertex, fork.other, pair.other) {
-        return false;
-    }
-    if !returns_by(graph, parents, depths, fork.vertex, fork.one, lowest.one) {
-        return false;
-    }
-    if !returns_by(
-        graph,
-        parents,
-        depths,
-        fork.vertex,
-        fork.other,
-        lowest.other,
-    ) {
-        return false;
-    }
-    if !ends_above(depths, lowest.other, pair.one) {
-        return false;
-    }
-    ends_above(depths, lowest.one, pair.other)
 }

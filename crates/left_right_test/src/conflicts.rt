@@ -3,6 +3,7 @@
 use crate::links::Links;
 use crate::row::{NONE, lesser, minus, plus};
 use crate::search::{Search, steps};
+use crate::ties::Tie;
 
 // The return edges from one to another, each relative to the next, or none.
 #[derive(Clone, Copy)]
@@ -113,7 +114,12 @@ impl Search {
     #[inline(always)]
     fn note_alike(&mut self, one: u32, other: u32, dart: u32) {
         if one != NONE {
-            self.ties.push(one, other, dart, 0);
+            self.ties.push(Tie {
+                one,
+                other,
+                dart,
+                turn: 0,
+            });
         }
     }
 
@@ -168,14 +174,14 @@ impl Search {
         Some(right)
     }
 
-    // A pair of those that return along a dart on the right, and those before it that conflict with them on
-    // the left.
-    fn with_conflicts(&mut self, right: Interval, dart: u32) -> Option<ConflictPair> {
+    // Makes one pair of what returns along a dart, on the right, and of all that conflicts with it, on the left. Says
+    // whether that can be.
+    fn meet_conflicts(&mut self, right: Interval, dart: u32) -> bool {
         let low = self.lowpt.get(dart);
         let mut pair = ConflictPair { left: EMPTY, right };
         for _ in 0..self.top {
             if !self.top_conflicts(low) {
-                return Some(pair);
+                break;
             }
             let popped = self.pop_pair();
             let next = if self.conflicts(popped.right, low) {
@@ -185,19 +191,24 @@ impl Search {
             };
             if self.conflicts(next.right, low) {
                 self.note_odd(next.left.high, pair.right.high);
-                return None;
+                return false;
             }
-            self.ties.push(next.left.high, pair.right.high, dart, 1);
+            self.ties.push(Tie {
+                one: next.left.high,
+                other: pair.right.high,
+                dart,
+                turn: 1,
+            });
             pair = ConflictPair {
                 left: self.joined(pair.left, next.left),
                 right: self.joined(pair.right, next.right),
             };
         }
-        Some(pair)
+        self.push_pair(pair);
+        true
     }
 
-    // Brings what returns along a dart together with what returned along earlier ones. It answers whether
-    // that can be.
+    // Brings what returns along a dart together with what returned along earlier ones. Says whether that can be.
     #[inline(always)]
     fn meet(&mut self, right: Interval, dart: u32) -> bool {
         if self.top_conflicts(self.lowpt.get(dart)) {
@@ -207,40 +218,6 @@ impl Search {
             self.push_pair(ConflictPair { left: EMPTY, right });
         }
         true
-    }
-
-    // Brings it together with the pairs that conflict with it, of which there is one.
-    fn meet_conflicts(&mut self, right: Interval, dart: u32) -> bool {
-        match self.with_conflicts(right, dart) {
-            Some(pair) => {
-                self.push_pair(pair);
-                true
-            }
-            None => false,
-        }
-    }
-
-    // Adds the constraints of a dart whose return edges are still in pairs of their own.
-    fn constrain(&mut self, dart: u32, parent: u32) -> bool {
-        match self.return_edges_of(dart, parent) {
-            Some(right) => self.meet(right, dart),
-            None => false,
-        }
-    }
-
-    // Adds the constraints of a dart that is a return edge.
-    fn constrain_edge(&mut self, dart: u32, parent: u32) -> bool {
-        if self.lowpt.get(dart) > self.lowpt.get(parent) {
-            return self.meet(
-                Interval {
-                    low: dart,
-                    high: dart,
-                },
-                dart,
-            );
-        }
-        self.reference.set(dart, self.lowpt_edge.get(parent));
-        self.meet(EMPTY, dart)
     }
 
     // Notes at which dart of a vertex a conflict showed, if one did.
@@ -257,19 +234,22 @@ impl Search {
     #[inline(always)]
     fn take_edge(&mut self, dart: u32, vertex: u32) -> bool {
         let parent = self.parent.get(vertex);
+        let right = Interval {
+            low: dart,
+            high: dart,
+        };
         self.lowpt_edge.set(dart, dart);
         if self.leaving.get(vertex) == dart {
             self.lowpt_edge.set(parent, dart);
-            self.push_pair(ConflictPair {
-                left: EMPTY,
-                right: Interval {
-                    low: dart,
-                    high: dart,
-                },
-            });
+            self.push_pair(ConflictPair { left: EMPTY, right });
             return true;
         }
-        let fits = self.constrain_edge(dart, parent);
+        let fits = if self.lowpt.get(dart) > self.lowpt.get(parent) {
+            self.meet(right, dart)
+        } else {
+            self.reference.set(dart, self.lowpt_edge.get(parent));
+            self.meet(EMPTY, dart)
+        };
         self.settled(fits, dart, vertex)
     }
 
@@ -284,7 +264,10 @@ impl Search {
             self.lowpt_edge.set(parent, self.lowpt_edge.get(dart));
             return true;
         }
-        let fits = self.constrain(dart, parent);
+        let fits = match self.return_edges_of(dart, parent) {
+            Some(right) => self.meet(right, dart),
+            None => false,
+        };
         self.settled(fits, dart, vertex)
     }
 
@@ -312,39 +295,28 @@ impl Search {
         }
     }
 
-    // Drops the pairs all of whose darts lead to a vertex of this height.
+    // Drops all that returns to a vertex: whole pairs, and then what does of the last one left.
     #[inline(always)]
-    fn drop_pairs(&mut self, height: u32) {
+    fn drop_return_edges(&mut self, links: &Links, vertex: u32) {
+        let height = self.height.get(vertex);
         for _ in 0..self.top {
             let pair = self.pair(minus(self.top, 1));
             if self.least_return(pair) != height {
-                return;
+                break;
             }
             self.top = minus(self.top, 1);
             self.side.set(pair.left.low, 1);
         }
-    }
-
-    // Drops all that returns to a vertex.
-    #[inline(always)]
-    fn drop_return_edges(&mut self, links: &Links, vertex: u32) {
-        let height = self.height.get(vertex);
-        self.drop_pairs(height);
         if self.top == 0 {
             return;
         }
         let pair = self.pair(minus(self.top, 1));
         if leads_to(links, pair.left, vertex) || leads_to(links, pair.right, vertex) {
-            self.trim_top(links, vertex);
+            self.top = minus(self.top, 1);
+            let left = self.trimmed(links, pair.left, pair.right.low, vertex);
+            let right = self.trimmed(links, pair.right, left.low, vertex);
+            self.push_pair(ConflictPair { left, right });
         }
-    }
-
-    // Drops what returns to a vertex from the last pair.
-    fn trim_top(&mut self, links: &Links, vertex: u32) {
-        let pair = self.pop_pair();
-        let left = self.trimmed(links, pair.left, pair.right.low, vertex);
-        let right = self.trimmed(links, pair.right, left.low, vertex);
-        self.push_pair(ConflictPair { left, right });
     }
 
     // The side of a dart to a vertex is that of the highest dart that returns along it.

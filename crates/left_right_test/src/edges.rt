@@ -36,14 +36,24 @@ impl Edges {
         self.count = plus(self.count, 1);
     }
 
-    /// Takes the edges of a graph, and chains their darts; of edges that are too many for a plane map the first ones, one too
-    /// many.
+    /// Takes the edges of a graph, by the greater end and then by the lesser, and chains their darts; of edges that are too
+    /// many for a plane map the first ones, one too many.
     pub fn read(&mut self, graph: &Graph, links: &mut Links) {
         self.vertices = u32::from(graph.n());
         self.count = 0;
         links.begin_chains(self.vertices);
         links.degree.fill(self.vertices, 0);
-        self.push_all(graph.body(), links);
+        let most = most_edges(self.vertices);
+        let mut place = Place { v: 1, last: 5 };
+        for byte in graph.body() {
+            if *byte > 63 {
+                place = self.push_byte(u32::from(*byte - 63), place, most, links);
+                if self.count > most {
+                    break;
+                }
+            }
+            place.last = plus(place.last, 6);
+        }
         links.darts = twice(self.count);
     }
 
@@ -52,22 +62,7 @@ impl Edges {
         self.vertices == 5 && self.count == 10
     }
 
-    // Appends and chains all edges, by the greater end and then by the lesser, until there are too many.
-    fn push_all(&mut self, bits: &[u8], links: &mut Links) {
-        let most = most_edges(self.vertices);
-        let mut place = Place { v: 1, last: 5 };
-        for byte in bits {
-            if *byte > 63 {
-                place = self.push_byte(u32::from(*byte - 63), place, most, links);
-                if self.count > most {
-                    return;
-                }
-            }
-            place.last = plus(place.last, 6);
-        }
-    }
-
-    // Appends and chains the edges of one byte, until there are too many. It answers in which row the last one of them is.
+    // Appends and chains the edges of one byte, until there are too many. Returns in which row the last one of them is.
     #[inline(always)]
     fn push_byte(&mut self, bits: u32, place: Place, most: u32, links: &mut Links) -> Place {
         let mut bits = bits;
@@ -100,25 +95,15 @@ impl Place {
     // With the row of the pair of a bit, counted from the last one.
     #[inline(always)]
     fn moved(self, bit: u32) -> Place {
-        if minus(self.last, bit) < self.v {
-            self
-        } else {
-            self.in_later_row(bit)
-        }
-    }
-
-    // With that row, which is a later one.
-    #[inline(always)]
-    fn in_later_row(self, bit: u32) -> Place {
         let mut place = self;
         for _ in 0..256u32 {
+            if minus(place.last, bit) < place.v {
+                break;
+            }
             place = Place {
                 v: plus(place.v, 1),
                 last: minus(place.last, place.v),
             };
-            if minus(place.last, bit) < place.v {
-                break;
-            }
         }
         place
     }

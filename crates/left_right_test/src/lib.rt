@@ -20,6 +20,7 @@ mod ties;
 
 pub use edges::Edges;
 pub use links::Links;
+pub use placing::ends_of;
 pub use ring::{OddRing, branch_of, near_edge};
 pub use row::{ByDart, ByEdge, ByVertex, NONE, minus, plus, twice};
 pub use search::Search;

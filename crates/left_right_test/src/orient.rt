@@ -148,14 +148,6 @@ fn orient_root(links: &Links, search: &mut Search, root: u32) {
     }
 }
 
-// Goes on from a root behind the first one, and notes it.
-fn take_root(links: &Links, search: &mut Search, root: u32) {
-    if links.first.get(root) != NONE {
-        orient_root(links, search, root);
-        search.note_root(root);
-    }
-}
-
 /// Orients all edges, notes the roots in rising order, and puts the darts that leave each vertex into rising order of depth.
 pub fn orient_all(links: &Links, search: &mut Search) {
     search.height.fill(links.vertices, NONE);
@@ -165,8 +157,10 @@ pub fn orient_all(links: &Links, search: &mut Search) {
     let first = search.root;
     orient_root(links, search, first);
     for root in 0..links.vertices {
-        if root == first || !search.is_reached(root) {
-            take_root(links, search, root);
+        let is_root = root == first || !search.is_reached(root);
+        if is_root && links.first.get(root) != NONE {
+            orient_root(links, search, root);
+            search.note_root(root);
         }
     }
 }

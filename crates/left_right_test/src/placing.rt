@@ -128,18 +128,13 @@ impl Places {
         self.place.set(root, place);
     }
 
-    // Gives each list as many places as its vertex has darts.
-    fn set_starts(&mut self, links: &Links) {
+    /// Makes all lists, of edges whose sides are settled. Each list has as many places as its vertex has darts.
+    pub fn list_all(&mut self, links: &Links, search: &Search) {
         self.count = 0;
         for vertex in 0..links.vertices {
             self.place.set(vertex, self.count);
             self.count = plus(self.count, links.degree.get(vertex));
         }
-    }
-
-    /// Makes all lists, of edges whose sides are settled.
-    pub fn list_all(&mut self, links: &Links, search: &Search) {
-        self.set_starts(links);
         for place in 0..search.root_count {
             self.list_from(links, search, search.roots.get(place));
         }
@@ -171,9 +166,9 @@ fn within(least: usize, place: u32, most: usize) -> usize
     (place as usize).max(least).min(most)
 }
 
-// The ends of `n` lists of `total` entries, as a row tells them, in the memory of `spent`. The last one is behind all
-// entries; an end that is out of order is moved to the one before it.
-fn ends_of(
+/// Returns the ends of `n` lists of `total` entries, as a row tells them, in the memory of `spent`. The last one is behind all
+/// entries; an end that is out of order is moved to the one before it.
+pub fn ends_of(
     told: &ByVertex,
     spent: Vec<usize>,
     n: u16,

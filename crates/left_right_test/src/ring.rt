@@ -69,17 +69,6 @@ impl OddRing {
         }
     }
 
-    // Which return edges the conflict binds: those along its dart, or those along earlier ones that it meets.
-    fn set_bounds(&mut self, search: &Search) {
-        let least = if search.meeting == NONE {
-            search.leaving.get(search.failed)
-        } else {
-            search.failed_dart
-        };
-        self.low = search.lowpt.get(least);
-        self.high = search.height.get(search.failed);
-    }
-
     // Whether the conflict binds a return edge.
     #[inline(always)]
     fn is_bound(&self, search: &Search, edge: u32) -> bool {
@@ -113,14 +102,6 @@ impl OddRing {
         }
     }
 
-    // Forgets which return edges were reached.
-    fn forget_reached(&mut self) {
-        for place in 0..self.reached {
-            self.side.set(self.queue.get(place), UNSEEN);
-        }
-        self.reached = 0;
-    }
-
     // The nearest return edge that the conflict binds and that is on the other side; or none.
     fn nearest(&mut self, links: &Links, search: &Search, start: u32) -> u32 {
         self.reach(start, NONE, 0);
@@ -141,9 +122,20 @@ impl OddRing {
     /// which the conflict binds to one side.
     pub fn find(&mut self, links: &Links, search: &Search) {
         self.link_ties(links, &search.ties);
-        self.set_bounds(search);
+        // it binds those along its dart, or those along earlier ones that it meets
+        let least = if search.meeting == NONE {
+            search.leaving.get(search.failed)
+        } else {
+            search.failed_dart
+        };
+        self.low = search.lowpt.get(least);
+        self.high = search.height.get(search.failed);
         self.one = self.nearest(links, search, search.odd);
-        self.forget_reached();
+        // none of those reached so far counts for the second search
+        for place in 0..self.reached {
+            self.side.set(self.queue.get(place), UNSEEN);
+        }
+        self.reached = 0;
         self.other = self.nearest(links, search, self.one);
     }
 }

@@ -1,6 +1,0 @@
-use Rattle.std.proofs.Common.{sym, ◌∙◌, arith, rules}
-use Rattle.left_right_check.proofs.TieLemmas.{branch_is}
-use Rattle.left_right_check.proofs.forests.begins_with.Goals as goal
-
-pub returns : goal.returns
-returns c = λ ends. branch_is c.args.parents.now c.args.depths.now c.args.vertex c.args.end c.args.edge.from c.args.edge.to (omega (arith, c.if-low-high.false, c.entry-low.ensures, c.entry-high.ensures)) (search rules) (sym c.entry.ensures ∙ c.if-entry-vertex.false)
