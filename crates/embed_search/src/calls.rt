@@ -53,8 +53,8 @@ impl Tables {
         self.kernel.link_paths(&mut self.test.links, &self.edges);
     }
 
-    /// Rotation lists for a graph, or none where it has no map of genus zero. Lists are not checked: a graph without a map
-    /// may have some too, though no such graph is known. It fails only when out of memory.
+    /// Returns rotation lists for a graph, or none where it has no map of genus zero. Lists are not checked: a graph
+    /// without a map may have some too, though no such graph is known. It fails only when out of memory.
     pub fn planar_lists(
         &mut self,
         alloc: Global,
@@ -70,16 +70,8 @@ impl Tables {
         Ok(Some(lists))
     }
 
-    // The memory of lists that are done with, or none where none was kept.
-    fn take_spent(&mut self, alloc: Global) -> Rotations {
-        match mem::replace(&mut self.spent, None) {
-            Some(lists) => lists,
-            None => Rotations::new(alloc),
-        }
-    }
-
-    /// Rotation lists for a graph that the test passes, or none. Neither is checked: lists may be those of no map, and a
-    /// graph without any may have a map, though no such graph is known. It fails only when out of memory.
+    /// Returns rotation lists for a graph that the test passes, or none. Neither is checked: lists may be those of no
+    /// map, and a graph without any may have a map, though no such graph is known. It fails only when out of memory.
     pub fn found_lists(
         &mut self,
         alloc: Global,
@@ -95,12 +87,15 @@ impl Tables {
         Ok(Some(lists))
     }
 
-    // The lists of a graph of `n` vertices that the test passed, in kept memory.
+    // Returns the lists of a graph of `n` vertices that the test passed, in kept memory.
     fn lists(&mut self, alloc: Global, n: u16) -> Result<Rotations, AllocError>
         requires { n < 4096 }
         ensures { IfOk result (λ lists. length lists ≡ n) }
     {
-        let spent = self.take_spent(alloc);
+        let spent = match mem::replace(&mut self.spent, None) {
+            Some(lists) => lists,
+            None => Rotations::new(alloc),
+        };
         self.test.lists(spent, n)
     }
 
@@ -114,8 +109,8 @@ impl Tables {
         self.tracer.keep(witness);
     }
 
-    /// A witness that the graph whose lists were asked for last is nonplanar, or none where that is not seen to be. It
-    /// fails only when out of memory.
+    /// Returns a witness that the graph whose lists were asked for last is nonplanar, or none where that is not seen to
+    /// be. It fails only when out of memory.
     pub fn witness(&mut self, alloc: Global) -> Result<Option<Witness>, AllocError> {
         if self.edges.are_of_k5() {
             self.test.links.put_all(&self.edges);
@@ -128,15 +123,15 @@ impl Tables {
     }
 }
 
-/// Rotation lists for a graph, or none where it has no map of genus zero. Lists are not checked: a graph without a map
-/// may have some too, though no such graph is known. It fails only when out of memory.
+/// Returns rotation lists for a graph, or none where it has no map of genus zero. Lists are not checked: a graph
+/// without a map may have some too, though no such graph is known. It fails only when out of memory.
 pub fn planar_lists(alloc: Global, graph: &Graph) -> Result<Option<Rotations>, AllocError>
     ensures { IfOk result (λ found. MatchOption found ((lists : Lists) → ¬ IsMapOf lists graph.now) (λ lists. length lists ≡ graph.now.n)) }
 {
     Tables::new().planar_lists(alloc, graph)
 }
 
-/// A witness that a graph is nonplanar, or none where that is not seen to be. It fails only when out of
+/// Returns a witness that a graph is nonplanar, or none where that is not seen to be. It fails only when out of
 /// memory.
 pub fn find_witness(alloc: Global, graph: &Graph) -> Result<Option<Witness>, AllocError> {
     let mut tables = Tables::new();

@@ -48,18 +48,18 @@ impl Kernel {
         }
     }
 
-    /// Whether the part, of vertices of degree three and more, is K5 or K3,3 if it is nonplanar.
+    /// Says whether the part, of vertices of degree three and more, is K5 or K3,3 if it is nonplanar.
     pub fn is_least(&self) -> bool {
         self.edges.count == 9 || self.edges.are_of_k5()
     }
 
-    // How many edges become one with others, if an edge of this vertex goes.
+    // Returns how many edges become one with others, if an edge of this vertex goes.
     #[inline(always)]
     fn smoothed_at(&self, vertex: u32) -> u32 {
         if self.degree.get(vertex) == 3 { 1 } else { 0 }
     }
 
-    /// Of how many paths the part without an edge is, if no two of them join the same vertices.
+    /// Returns of how many paths the part without an edge is, if no two of them join the same vertices.
     pub fn paths_without(&self, edge: u32) -> u32 {
         let one = self.smoothed_at(self.edges.one.get(edge));
         let other = self.smoothed_at(self.edges.other.get(edge));
@@ -116,19 +116,15 @@ impl Kernel {
     /// Links all edges of a graph that are in the paths.
     pub fn link_paths(&self, links: &mut Links, edges: &Edges) {
         links.begin(edges);
-        for edge in 0..self.edges.count {
-            self.link_path(links, edges, self.path.get(edge));
-        }
-    }
-
-    // Links the edges of a path.
-    fn link_path(&self, links: &mut Links, edges: &Edges, edge: u32) {
-        let mut e = edge;
-        for _ in 0..edges.count {
-            links.chain_next(e, edges.one.get(e), edges.other.get(e));
-            e = self.ring.get(e);
-            if e == edge {
-                return;
+        for path in 0..self.edges.count {
+            let first = self.path.get(path);
+            let mut edge = first;
+            for _ in 0..edges.count {
+                links.chain_next(edge, edges.one.get(edge), edges.other.get(edge));
+                edge = self.ring.get(edge);
+                if edge == first {
+                    break;
+                }
             }
         }
     }
@@ -146,28 +142,23 @@ impl Kernel {
         }
     }
 
-    // Makes one path of those of two edges.
-    fn join_paths(&mut self, edge: u32, other: u32) {
-        let needed = self.needed.get(edge) | self.needed.get(other);
-        let mark = self.marks.get(edge) | self.marks.get(other);
-        self.needed.set(edge, needed);
-        self.marks.set(edge, mark);
-        let one = self.path.get(edge);
-        let two = self.path.get(other);
-        let after = self.ring.get(one);
-        self.ring.set(one, self.ring.get(two));
-        self.ring.set(two, after);
-    }
-
-    // Joins the paths of all edges that have become one.
+    // Joins the paths of all edges that have become one: two rings become one where their successors are exchanged.
     fn join_merged(&mut self, edge: u32) {
-        let mut e = self.merged.get(edge);
+        let mut other = self.merged.get(edge);
         for _ in 0..self.edges.count {
-            if e == edge {
+            if other == edge {
                 return;
             }
-            self.join_paths(edge, e);
-            e = self.merged.get(e);
+            let needed = self.needed.get(edge) | self.needed.get(other);
+            let mark = self.marks.get(edge) | self.marks.get(other);
+            self.needed.set(edge, needed);
+            self.marks.set(edge, mark);
+            let one = self.path.get(edge);
+            let two = self.path.get(other);
+            let after = self.ring.get(one);
+            self.ring.set(one, self.ring.get(two));
+            self.ring.set(two, after);
+            other = self.merged.get(other);
         }
     }
 
@@ -185,37 +176,27 @@ impl Kernel {
         self.edges.vertices = count;
     }
 
-    // Joins the paths of all edges that are left.
-    fn join_all(&mut self) {
-        for edge in 0..self.edges.count {
-            if self.left.get(edge) != 0 {
-                self.join_merged(edge);
-            }
-        }
-    }
-
-    // Appends an edge as it is left.
-    fn push_left(&mut self, links: &Links, edge: u32) {
-        let place = self.edges.count;
-        self.path.set(place, self.path.get(edge));
-        self.needed.set(place, self.needed.get(edge));
-        self.marks.set(place, self.marks.get(edge));
-        let one = self.number.get(links.tail(twice(edge)));
-        let other = self.number.get(links.head.get(twice(edge)));
-        self.edges.push(one, other);
-    }
-
     /// Keeps the marked edges alone, and makes one edge of each path.
     pub fn keep_marked(&mut self, links: &mut Links) {
         let count = self.edges.count;
         self.link_marked(links);
         self.reduce(links);
-        self.join_all();
+        for edge in 0..count {
+            if self.left.get(edge) != 0 {
+                self.join_merged(edge);
+            }
+        }
         self.number_vertices(links);
         self.edges.count = 0;
         for edge in 0..count {
             if self.left.get(edge) != 0 {
-                self.push_left(links, edge);
+                let place = self.edges.count;
+                self.path.set(place, self.path.get(edge));
+                self.needed.set(place, self.needed.get(edge));
+                self.marks.set(place, self.marks.get(edge));
+                let one = self.number.get(links.tail(twice(edge)));
+                let other = self.number.get(links.head.get(twice(edge)));
+                self.edges.push(one, other);
             }
         }
     }
@@ -239,10 +220,17 @@ impl Kernel {
         self.await_few(links, head);
     }
 
-    // Makes one edge of the two edges of a vertex, whose darts these are.
-    fn merge(&mut self, links: &mut Links, vertex: u32, one: u32, other: u32) {
+    // Makes one edge of the two edges of a vertex, or drops both where their ends are joined.
+    fn smooth(&mut self, links: &mut Links, vertex: u32) {
+        let one = links.first.get(vertex);
+        let other = links.next.get(one);
         let a = links.head.get(one);
         let b = links.head.get(other);
+        if links.has(a, b) {
+            self.drop_edge(links, one, vertex);
+            self.drop_edge(links, other, vertex);
+            return;
+        }
         links.head.set(one ^ 1, b);
         links.put_for(one, other ^ 1, b);
         links.first.set(vertex, NONE);
@@ -252,31 +240,6 @@ impl Kernel {
         let after = self.merged.get(one >> 1);
         self.merged.set(one >> 1, self.merged.get(other >> 1));
         self.merged.set(other >> 1, after);
-    }
-
-    // Smooths a vertex of two darts, or drops both where their ends are joined.
-    fn smooth(&mut self, links: &mut Links, vertex: u32) {
-        let one = links.first.get(vertex);
-        let other = links.next.get(one);
-        let a = links.head.get(one);
-        let b = links.head.get(other);
-        if links.has(a, b) {
-            self.drop_edge(links, one, vertex);
-            self.drop_edge(links, other, vertex);
-        } else {
-            self.merge(links, vertex, one, other);
-        }
-    }
-
-    #[inline(always)]
-    fn reduce_at(&mut self, links: &mut Links, vertex: u32) {
-        let degree = links.degree.get(vertex);
-        if degree == 1 {
-            let dart = links.first.get(vertex);
-            self.drop_edge(links, dart, vertex);
-        } else if degree == 2 {
-            self.smooth(links, vertex);
-        }
     }
 
     // Prunes ends, smooths vertices of degree two, and drops parallels.
@@ -291,7 +254,13 @@ impl Kernel {
             }
             self.waiting = minus(self.waiting, 1);
             let vertex = self.work.get(self.waiting);
-            self.reduce_at(links, vertex);
+            let degree = links.degree.get(vertex);
+            if degree == 1 {
+                let dart = links.first.get(vertex);
+                self.drop_edge(links, dart, vertex);
+            } else if degree == 2 {
+                self.smooth(links, vertex);
+            }
         }
     }
 }

@@ -1,7 +1,5 @@
 //! The edges that show a conflict: those of its ring, with what ties them, and the ways along which they return.
-use left_right_test::{
-    ByEdge, ByVertex, LeftRightTest, Links, NONE, OddRing, Search, branch_of, near_edge,
-};
+use left_right_test::{ByEdge, ByVertex, LeftRightTest, NONE, branch_of, near_edge};
 
 /// The mark of an edge of the part.
 pub const IN_PART: u32 = 1;
@@ -38,7 +36,8 @@ impl ConflictMarks {
     }
 
     // Marks a return edge, and the way along which it returns.
-    fn mark(&mut self, links: &Links, search: &Search, edge: u32) {
+    fn mark(&mut self, test: &LeftRightTest, edge: u32) {
+        let (links, search) = (&test.links, &test.search);
         let end = links.head.get(edge);
         let height = search.height.get(end);
         let mut vertex = links.tail(edge);
@@ -56,8 +55,69 @@ impl ConflictMarks {
         }
     }
 
-    // Marks at each edge of the ways what of the marked return edges is at its ends.
-    fn mark_ends(&mut self, links: &Links, search: &Search) {
+    // Marks the return edge to the lowpoint of a dart.
+    fn mark_lowest(&mut self, test: &LeftRightTest, dart: u32) {
+        self.mark(test, test.search.lowpt_edge.get(dart));
+    }
+
+    // Marks that to the lowpoint of the dart of a vertex along which an edge returns.
+    fn mark_branch(&mut self, test: &LeftRightTest, edge: u32, vertex: u32) {
+        self.mark_lowest(test, branch_of(&test.links, &test.search, edge, vertex));
+    }
+
+    // Marks what makes a tie.
+    fn mark_tie(&mut self, test: &LeftRightTest, tie: u32) {
+        let ties = &test.search.ties;
+        let one = ties.one.get(tie);
+        let dart = ties.dart.get(tie);
+        let vertex = test.links.tail(dart);
+        self.mark(test, one);
+        self.mark(test, ties.other.get(tie));
+        if ties.turn.get(tie) == 0 {
+            self.mark_lowest(test, test.search.leaving.get(vertex));
+        } else {
+            self.mark_lowest(test, dart);
+            self.mark_branch(test, one, vertex);
+        }
+    }
+
+    // Marks what makes the ties of the test's ring.
+    fn mark_ties(&mut self, test: &LeftRightTest) {
+        let mut edge = test.ring.other;
+        for _ in 0..test.search.ties.count {
+            let end = test.ring.way.get(edge);
+            if end == NONE {
+                return;
+            }
+            self.mark_tie(test, end >> 1);
+            edge = near_edge(&test.search.ties, end);
+        }
+    }
+
+    // Marks what binds the ends of the ring to one side.
+    fn mark_bound(&mut self, test: &LeftRightTest) {
+        let search = &test.search;
+        let vertex = search.failed;
+        if search.meeting == NONE {
+            self.mark_lowest(test, search.leaving.get(vertex));
+        } else {
+            self.mark(test, search.meeting);
+            self.mark_lowest(test, search.failed_dart);
+            self.mark_branch(test, test.ring.one, vertex);
+            self.mark_branch(test, test.ring.other, vertex);
+        }
+    }
+
+    /// Marks edges, together nonplanar, that show the conflict of a test; at each edge of the ways also what of the marked
+    /// return edges is at its ends.
+    pub fn mark_conflict(&mut self, test: &LeftRightTest) {
+        let (links, search) = (&test.links, &test.search);
+        self.marks.fill(links.darts / 2, 0);
+        self.cover.fill(links.vertices, NONE);
+        self.ends.fill(links.vertices, 0);
+        self.mark(test, test.ring.one);
+        self.mark_ties(test);
+        self.mark_bound(test);
         for vertex in 0..links.vertices {
             if self.cover.get(vertex) != NONE {
                 let parent = search.parent.get(vertex);
@@ -66,68 +126,5 @@ impl ConflictMarks {
                 self.marks.set(parent >> 1, IN_PART | above | below);
             }
         }
-    }
-
-    // Marks the return edge to the lowpoint of a dart.
-    fn mark_lowest(&mut self, links: &Links, search: &Search, dart: u32) {
-        self.mark(links, search, search.lowpt_edge.get(dart));
-    }
-
-    // Marks that to the lowpoint of the dart of a vertex along which an edge returns.
-    fn mark_branch(&mut self, links: &Links, search: &Search, edge: u32, vertex: u32) {
-        self.mark_lowest(links, search, branch_of(links, search, edge, vertex));
-    }
-
-    // Marks what makes a tie.
-    fn mark_tie(&mut self, links: &Links, search: &Search, tie: u32) {
-        let one = search.ties.one.get(tie);
-        let dart = search.ties.dart.get(tie);
-        let vertex = links.tail(dart);
-        self.mark(links, search, one);
-        self.mark(links, search, search.ties.other.get(tie));
-        if search.ties.turn.get(tie) == 0 {
-            self.mark_lowest(links, search, search.leaving.get(vertex));
-        } else {
-            self.mark_lowest(links, search, dart);
-            self.mark_branch(links, search, one, vertex);
-        }
-    }
-
-    // Marks what makes the ties of a ring.
-    fn mark_ties(&mut self, links: &Links, search: &Search, ring: &OddRing) {
-        let mut edge = ring.other;
-        for _ in 0..search.ties.count {
-            let end = ring.way.get(edge);
-            if end == NONE {
-                return;
-            }
-            self.mark_tie(links, search, end >> 1);
-            edge = near_edge(&search.ties, end);
-        }
-    }
-
-    // Marks what binds the ends of a ring to one side.
-    fn mark_bound(&mut self, links: &Links, search: &Search, ring: &OddRing) {
-        let vertex = search.failed;
-        if search.meeting == NONE {
-            self.mark_lowest(links, search, search.leaving.get(vertex));
-        } else {
-            self.mark(links, search, search.meeting);
-            self.mark_lowest(links, search, search.failed_dart);
-            self.mark_branch(links, search, ring.one, vertex);
-            self.mark_branch(links, search, ring.other, vertex);
-        }
-    }
-
-    /// Marks edges, together nonplanar, that show the conflict of a test.
-    pub fn mark_conflict(&mut self, test: &LeftRightTest) {
-        let (links, search, ring) = (&test.links, &test.search, &test.ring);
-        self.marks.fill(links.darts / 2, 0);
-        self.cover.fill(links.vertices, NONE);
-        self.ends.fill(links.vertices, 0);
-        self.mark(links, search, ring.one);
-        self.mark_ties(links, search, ring);
-        self.mark_bound(links, search, ring);
-        self.mark_ends(links, search);
     }
 }

@@ -54,7 +54,7 @@ fn is_left_out(
     fails_without(kernel, test, marks, out)
 }
 
-// The first edge that is not known to be needed; or none.
+// Returns the first edge that is not known to be needed; or none.
 fn first_loose(kernel: &Kernel) -> u32 {
     for edge in 0..kernel.edges.count {
         if kernel.needed.get(edge) == 0 {

@@ -15,12 +15,12 @@ const ALL: u32 = 63;
 // The bits of three vertices, of which vertex 0 is one.
 const SIDES: [u32; 10] = [7, 11, 19, 35, 13, 21, 37, 25, 41, 49];
 
-// The bit of a vertex.
+// Returns the bit of a vertex.
 fn bit(vertex: u32) -> u32 {
     BITS[vertex as usize % 8]
 }
 
-// The bits of the neighbours of each vertex, without an edge.
+// Returns the bits of the neighbours of each vertex, without an edge.
 fn neighbours_without(edges: &Edges, out: u32) -> [u32; 8] {
     let mut near = [0; 8];
     for edge in 0..edges.count {
@@ -33,7 +33,7 @@ fn neighbours_without(edges: &Edges, out: u32) -> [u32; 8] {
     near
 }
 
-// Whether each vertex of a side has all those of the other side as neighbours.
+// Says whether each vertex of a side has all those of the other side as neighbours.
 fn is_joined(near: &[u32; 8], side: u32) -> bool {
     let rest = ALL ^ side;
     for vertex in 0..MOST_VERTICES {
@@ -44,7 +44,7 @@ fn is_joined(near: &[u32; 8], side: u32) -> bool {
     true
 }
 
-// Whether there is a K3,3.
+// Says whether there is a K3,3.
 fn has_k33(near: &[u32; 8]) -> bool {
     for place in 0..SIDES.len() {
         if is_joined(near, SIDES[place]) {
@@ -54,7 +54,7 @@ fn has_k33(near: &[u32; 8]) -> bool {
     false
 }
 
-// The bits of the vertices that are no neighbours of some other one, of these vertices.
+// Returns the bits of the vertices that are no neighbours of some other one, of these vertices.
 fn lacking(near: &[u32; 8], vertices: u32) -> u32 {
     let mut found = 0;
     for vertex in 0..MOST_VERTICES {
@@ -66,34 +66,26 @@ fn lacking(near: &[u32; 8], vertices: u32) -> u32 {
     found
 }
 
-// Whether at most two bits are set.
-fn are_two_at_most(bits: u32) -> bool {
-    let without_one = bits & minus(bits, 1);
-    without_one & minus(without_one, 1) == 0
-}
-
-// Whether the vertices but one are a K5, or lack one edge of it that a path through that one is in place of.
-fn has_k5_beside(near: &[u32; 8], vertex: u32) -> bool {
-    let lack = lacking(near, ALL ^ bit(vertex));
-    are_two_at_most(lack) && lack & near[vertex as usize % 8] == lack
-}
-
-// Whether there is a K5, or one with one edge subdivided.
+// Says whether there is a K5, or one with one edge subdivided: all vertices but one are a K5, or lack one edge of it, and a
+// path through that one is in its place.
 fn has_k5(near: &[u32; 8]) -> bool {
     for vertex in 0..MOST_VERTICES {
-        if has_k5_beside(near, vertex) {
+        let lack = lacking(near, ALL ^ bit(vertex));
+        let but_one = lack & minus(lack, 1);
+        let are_two_at_most = but_one & minus(but_one, 1) == 0;
+        if are_two_at_most && lack & near[vertex as usize % 8] == lack {
             return true;
         }
     }
     false
 }
 
-/// Whether there are at most six vertices.
+/// Says whether there are at most six vertices.
 pub fn has_few_vertices(edges: &Edges) -> bool {
     edges.vertices <= MOST_VERTICES
 }
 
-/// Whether edges without one of them are those of a planar graph, of at most six vertices.
+/// Says whether edges without one of them are those of a planar graph, of at most six vertices.
 pub fn is_planar_without(edges: &Edges, out: u32) -> bool {
     let near = neighbours_without(edges, out);
     !has_k33(&near) && !has_k5(&near)

@@ -1,16 +1,16 @@
 //! Branches and paths of a subdivision.
 use kuratowski::{Kind, Witness};
-use left_right_test::{ByVertex, Links, NONE, plus};
+use left_right_test::{ByVertex, Links, NONE, ends_of, plus};
 use map_lists::{PathList, VertexId, VertexList};
 use std::alloc::{AllocError, Global};
 use std::mem;
 
-// A vertex by its number.
+// Returns a vertex by its number.
 fn vertex_id(vertex: u32) -> VertexId {
     VertexId((vertex & 0xffff) as u16)
 }
 
-// The dart that goes on from another, whose head has two darts.
+// Returns the dart that goes on from another, whose head has two darts.
 #[inline(always)]
 fn dart_on(links: &Links, dart: u32) -> u32 {
     let first = links.first.get(links.head.get(dart));
@@ -21,7 +21,7 @@ fn dart_on(links: &Links, dart: u32) -> u32 {
     }
 }
 
-// The branch at which the path ends that begins with a dart.
+// Returns the branch at which the path ends that begins with a dart.
 fn end_of(links: &Links, dart: u32) -> u32 {
     let mut dart = dart;
     for _ in 0..links.vertices {
@@ -117,32 +117,47 @@ impl Branches {
     }
 }
 
-// The vertices of a path.
+// Paths, one behind another.
 #[derive(Drop)]
-struct Way {
-    cells: [VertexId; 256],
+struct Ways {
+    // the vertices of all of them
+    cells: [VertexId; 512],
     count: usize,
+    // for each path the place behind its last vertex
+    ends: ByVertex,
+    // how many paths there are
+    paths: u32,
 }
 
-impl Way {
+impl Ways {
+    // None.
+    #[inline(always)]
+    fn new() -> Ways {
+        Ways {
+            cells: [VertexId(0); 512],
+            count: 0,
+            ends: ByVertex::new(),
+            paths: 0,
+        }
+    }
+
     #[inline(always)]
     fn push(&mut self, vertex: u32) {
-        self.cells[self.count % 256] = vertex_id(vertex);
-        self.count = self.count % 256 + 1;
+        self.cells[self.count % 512] = vertex_id(vertex);
+        self.count = self.count % 512 + 1;
     }
 
     #[inline(always)]
     fn vertices(&self) -> &[VertexId] {
-        if self.count < 256 {
+        if self.count < 512 {
             &self.cells[..self.count]
         } else {
             &self.cells
         }
     }
 
-    // The path that begins with a dart.
-    fn follow(&mut self, links: &Links, dart: u32) {
-        self.count = 0;
+    // Appends the vertices of the path that begins with a dart.
+    fn push_vertices(&mut self, links: &Links, dart: u32) {
         self.push(links.tail(dart));
         let mut dart = dart;
         for _ in 0..links.vertices {
@@ -154,27 +169,48 @@ impl Way {
             dart = dart_on(links, dart);
         }
     }
-}
 
-// Appends the paths between a branch and those from one place on and before another. It answers whether all
-// are there.
-fn push_paths_from(
-    links: &Links,
-    way: &mut Way,
-    paths: &mut PathList,
-    darts: [u32; 8],
-    from: u32,
-    end: u32,
-) -> Result<bool, AllocError> {
-    for j in from..end {
-        let dart = darts[j as usize % 8];
-        if dart == NONE {
-            return Ok(false);
-        }
-        way.follow(links, dart);
-        paths.push(way.vertices())?;
+    // Appends that path.
+    fn follow(&mut self, links: &Links, dart: u32) {
+        self.push_vertices(links, dart);
+        self.ends.set(self.paths, (self.count & 0xffff) as u32);
+        self.paths = plus(self.paths, 1);
     }
-    Ok(true)
+
+    // Makes them the paths of a kind between branches, in its order of pairs. Says whether all are there.
+    fn take(&mut self, links: &Links, branches: &Branches, kind: Kind) -> bool {
+        self.count = 0;
+        self.paths = 0;
+        let (starts, end) = match kind {
+            Kind::K5 => (4u32, 5u32),
+            Kind::K33 => (3u32, 6u32),
+        };
+        for i in 0..starts {
+            let from = match kind {
+                Kind::K5 => i + 1,
+                Kind::K33 => 3,
+            };
+            let darts = branches.darts_from(links, i, from, end);
+            for place in from..end {
+                let dart = darts[place as usize % 8];
+                if dart == NONE {
+                    return false;
+                }
+                self.follow(links, dart);
+            }
+        }
+        true
+    }
+
+    // As a list, in the memory of `spent`.
+    fn list(&self, spent: PathList) -> Result<PathList, AllocError> {
+        let (mut entries, spent_ends) = spent.into_parts();
+        entries.clear();
+        entries.extend_from_slice(self.vertices())?;
+        let count = (self.paths & 0xff) as u16;
+        let ends = ends_of(&self.ends, spent_ends, count, entries.len())?;
+        Ok(PathList::from_parts(entries, ends))
+    }
 }
 
 /// The tables by which witnesses are traced, and the memory of one that is done with.
@@ -183,7 +219,7 @@ pub struct Tracer {
     branches: Branches,
     // those of K3,3 in two parts
     parted: Branches,
-    way: Way,
+    ways: Ways,
     spent: Option<Witness>,
 }
 
@@ -194,10 +230,7 @@ impl Tracer {
         Tracer {
             branches: Branches::new(),
             parted: Branches::new(),
-            way: Way {
-                cells: [VertexId(0); 256],
-                count: 0,
-            },
+            ways: Ways::new(),
             spent: None,
         }
     }
@@ -207,7 +240,7 @@ impl Tracer {
         self.spent = Some(witness);
     }
 
-    // A witness of a kind, to be filled, in that memory, if some was kept; else with room for the paths.
+    // Returns a witness of a kind, to be filled, in that memory, if some was kept; else with room for the paths.
     fn take_spent(
         &mut self,
         alloc: Global,
@@ -235,66 +268,41 @@ impl Tracer {
         }
     }
 
-    /// The witness that the linked edges are, or none where they are no subdivision of K5 or K3,3.
+    /// Returns the witness that the linked edges are, or none where they are no subdivision of K5 or K3,3.
     pub fn traced(&mut self, alloc: Global, links: &Links) -> Result<Option<Witness>, AllocError> {
         self.branches.take(links);
         match self.branches.count {
             5 => {
                 let spent = self.take_spent(alloc, links, Kind::K5)?;
-                filled(links, &mut self.way, &self.branches, spent)
+                filled(links, &mut self.ways, &self.branches, spent)
             }
             6 => {
                 self.parted.take_in_parts(links, &self.branches);
                 let spent = self.take_spent(alloc, links, Kind::K33)?;
-                filled(links, &mut self.way, &self.parted, spent)
+                filled(links, &mut self.ways, &self.parted, spent)
             }
             _ => Ok(None),
         }
     }
 }
 
-// Appends the paths of a kind, in its order of pairs. It answers whether all are there.
-fn push_paths(
-    links: &Links,
-    way: &mut Way,
-    branches: &Branches,
-    kind: Kind,
-    paths: &mut PathList,
-) -> Result<bool, AllocError> {
-    let (starts, end) = match kind {
-        Kind::K5 => (4u32, 5u32),
-        Kind::K33 => (3u32, 6u32),
-    };
-    for i in 0..starts {
-        let from = match kind {
-            Kind::K5 => i + 1,
-            Kind::K33 => 3,
-        };
-        let darts = branches.darts_from(links, i, from, end);
-        if !push_paths_from(links, way, paths, darts, from, end)? {
-            return Ok(false);
-        }
-    }
-    Ok(true)
-}
-
-// The witness of these branches, if the paths are there, of the kind and in the memory of `spent`.
+// Returns the witness of these branches, if the paths are there, of the kind and in the memory of `spent`.
 fn filled(
     links: &Links,
-    way: &mut Way,
+    ways: &mut Ways,
     branches: &Branches,
     spent: Witness,
 ) -> Result<Option<Witness>, AllocError> {
     let Witness {
         kind,
         branch,
-        mut paths,
+        paths,
     } = spent;
-    paths.clear();
-    if !push_paths(links, way, branches, kind, &mut paths)? {
+    if !ways.take(links, branches, kind) {
         return Ok(None);
     }
     let branch = branches.list(branch)?;
+    let paths = ways.list(paths)?;
     Ok(Some(Witness {
         kind,
         branch,
