@@ -17,77 +17,82 @@ pub fn contract(alloc: Global, graph: &Graph, e: Ends) -> Result<Graph, AllocErr
     ensures meaning { IfOk result (λ small. IsContraction graph.now small e.a.0 e.b.0) }
 {
     let n = graph.n() - 1;
-    let edges = contracted_edges(alloc, graph, e, n)?;
+    let contracting = Contracting { graph, e };
+    let edges = contracting.edges(alloc, n)?;
     Graph::of_edges(alloc, n, &edges)
 }
 
-// The edges of that graph between its first `n` vertices.
-fn contracted_edges(alloc: Global, graph: &Graph, e: Ends, n: u16) -> Result<Vec<Ends>, AllocError>
-    requires { n ≤ 255 }
-    ensures { IfOk result (λ edges. map edge_of edges.items ≡ contracted_among graph.now e.a.0 e.b.0 (pairs n)) }
-{
-    let mut edges = Vec::new(alloc);
-    for u in 0..n {
-        push_row(&mut edges, graph, e, n, u)?;
-    }
-    Ok(edges)
-}
-
-// Appends those with the lesser end u.
-fn push_row(edges: &mut Vec<Ends>, graph: &Graph, e: Ends, n: u16, u: u16) -> Result<(), AllocError>
-    requires vertex { u < n }
-    requires few { n ≤ 255 }
-    ensures { OnOk result (map edge_of edges.new.items ≡ map edge_of edges.old.items ++ contracted_among graph.now e.a.0 e.b.0 (pairs_of n u)) }
-{
-    for v in u + 1..n {
-        push_joined(edges, graph, e, u, v)?;
-    }
-    Ok(())
-}
-
-// Appends the edge of u and v, if it is one of that graph.
-fn push_joined(
-    edges: &mut Vec<Ends>,
-    graph: &Graph,
+/// A graph, and the edge of it that is contracted.
+#[derive(Clone, Copy)]
+struct Contracting<'a> {
+    graph: &'a Graph,
     e: Ends,
-    u: u16,
-    v: u16,
-) -> Result<(), AllocError>
-    requires order { u < v }
-    requires few { v < 256 }
-    ensures { OnOk result (map edge_of edges.new.items ≡ map edge_of edges.old.items ++ contracted_among graph.now e.a.0 e.b.0 ((u, v) ∷ [])) }
-{
-    if is_contracted_edge(graph, e.a.0, e.b.0, u, v) {
-        edges.push(Ends {
-            a: VertexId(u),
-            b: VertexId(v),
-        })?;
+}
+
+impl<'a> Contracting<'a> {
+    // Lists the edges of the contracted graph between its first `n` vertices.
+    fn edges(&self, alloc: Global, n: u16) -> Result<Vec<Ends>, AllocError>
+        requires { n ≤ 255 }
+        ensures { IfOk result (λ edges. map edge_of edges.items ≡ contracted_among self.now.graph.now self.now.e.a.0 self.now.e.b.0 (pairs n)) }
+    {
+        let mut edges = Vec::new(alloc);
+        for u in 0..n {
+            self.push_row(&mut edges, n, u)?;
+        }
+        Ok(edges)
     }
-    Ok(())
+
+    // Appends those with the lesser end `u`.
+    fn push_row(&self, edges: &mut Vec<Ends>, n: u16, u: u16) -> Result<(), AllocError>
+        requires vertex { u < n }
+        requires few { n ≤ 255 }
+        ensures { OnOk result (map edge_of edges.new.items ≡ map edge_of edges.old.items ++ contracted_among self.now.graph.now self.now.e.a.0 self.now.e.b.0 (pairs_of n u)) }
+    {
+        for v in u + 1..n {
+            self.push_joined(edges, u, v)?;
+        }
+        Ok(())
+    }
+
+    // Appends the edge of `u` and `v`, if it is one of that graph.
+    fn push_joined(&self, edges: &mut Vec<Ends>, u: u16, v: u16) -> Result<(), AllocError>
+        requires order { u < v }
+        requires few { v < 256 }
+        ensures { OnOk result (map edge_of edges.new.items ≡ map edge_of edges.old.items ++ contracted_among self.now.graph.now self.now.e.a.0 self.now.e.b.0 ((u, v) ∷ [])) }
+    {
+        if self.is_edge(u, v) {
+            edges.push(Ends {
+                a: VertexId(u),
+                b: VertexId(v),
+            })?;
+        }
+        Ok(())
+    }
+
+    // Says whether an edge joins `u` and `v` in that graph.
+    fn is_edge(&self, u: u16, v: u16) -> bool
+        requires first { u < 256 }
+        requires second { v < 256 }
+        ensures { result ≡ contracted_edge self.now.graph.now self.now.e.a.0 self.now.e.b.0 u v }
+    {
+        u != v && self.is_moved_edge(u, v)
+    }
+
+    // Says whether an edge joins what they stand for, or the greater end in place of the lesser.
+    fn is_moved_edge(&self, u: u16, v: u16) -> bool
+        requires first { u < 256 }
+        requires second { v < 256 }
+        ensures { result ≡ (has_edge self.now.graph.now (number_before self.now.e.b.0 u) (number_before self.now.e.b.0 v) || ((u == self.now.e.a.0) && has_edge self.now.graph.now self.now.e.b.0 (number_before self.now.e.b.0 v)) || ((v == self.now.e.a.0) && has_edge self.now.graph.now (number_before self.now.e.b.0 u) self.now.e.b.0)) }
+    {
+        let a = self.e.a.0;
+        let b = self.e.b;
+        let s = VertexId(before_left(b.0, u));
+        let t = VertexId(before_left(b.0, v));
+        self.graph.has(s, t) || u == a && self.graph.has(b, t) || v == a && self.graph.has(s, b)
+    }
 }
 
-// Whether an edge joins u and v in that graph.
-fn is_contracted_edge(graph: &Graph, a: u16, b: u16, u: u16, v: u16) -> bool
-    requires first { u < 256 }
-    requires second { v < 256 }
-    ensures { result ≡ contracted_edge graph.now a b u v }
-{
-    u != v && is_moved_edge(graph, a, b, u, v)
-}
-
-// Whether an edge joins what they stand for, or the greater end in place of the lesser.
-fn is_moved_edge(graph: &Graph, a: u16, b: u16, u: u16, v: u16) -> bool
-    requires first { u < 256 }
-    requires second { v < 256 }
-    ensures { result ≡ (has_edge graph.now (number_before b u) (number_before b v) || ((u == a) && has_edge graph.now b (number_before b v)) || ((v == a) && has_edge graph.now (number_before b u) b)) }
-{
-    let s = VertexId(before_left(b, u));
-    let t = VertexId(before_left(b, v));
-    let greater = VertexId(b);
-    graph.has(s, t) || u == a && graph.has(greater, t) || v == a && graph.has(s, greater)
-}
-
-// The number that a vertex had.
+// Returns the number that a vertex had.
 fn before_left(b: u16, v: u16) -> u16
     requires { v < 256 }
     ensures { result ≡ number_before b v }

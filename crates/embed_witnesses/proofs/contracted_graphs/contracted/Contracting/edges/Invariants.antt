@@ -3,8 +3,8 @@ use Rattle.std.specs.List.{range_with_len, flat_map}
 use Rattle.graph6_text.specs.Graphs.{edge_of}
 use Rattle.graph6_text.specs.Lines.{pairs_of}
 use Rattle.embed_witnesses.specs.ContractedEdges.{contracted_among}
-use Rattle.embed_witnesses.proofs.contracted_graphs.contracted.contracted_edges.Given as goal
+use Rattle.embed_witnesses.proofs.contracted_graphs.contracted.Contracting.edges.Given as goal
 
 abbrev pub invariant-loop-u : goal.invariant-loop-u
 invariant-loop-u l =
-    map edge_of l.edges.items ≡ contracted_among l.graph l.e.a.0 l.e.b.0 (flat_map (pairs_of l.n) (range_with_len 0 l.u))
+    map edge_of l.edges.items ≡ contracted_among l.self.graph.now l.self.e.a.0 l.self.e.b.0 (flat_map (pairs_of l.n) (range_with_len 0 l.u))
