@@ -42,25 +42,6 @@ fn is_round(four: OuterFour, s: VertexId, e: VertexId) -> bool
     s.0 == 0 && e.0 == four.top.0 && four.right.0 != 0 && four.bottom.0 != four.top.0
 }
 
-// Returns the outer face, if the face of the dart from vertex 0 to `top` is walked by four darts over four vertices.
-fn frame_at(lists: &Rotations, top: VertexId) -> Option<OuterFour>
-    requires simple { IsSimpleMap lists.now }
-    requires dart { HasDart lists.now 0 top.0 }
-    requires first { top.0 ≡ slice_index (list_of lists.now 0) 0 }
-    ensures { MatchOption result ⊤ (λ f. IsFrame lists.now f.top.0 f.right.0 f.bottom.0) }
-{
-    let right = next_on_face(lists, VertexId(0), top);
-    let bottom = next_on_face(lists, top, right);
-    let s = next_on_face(lists, right, bottom);
-    let e = next_on_face(lists, bottom, s);
-    let four = OuterFour { top, right, bottom };
-    if is_round(four, s, e) {
-        Some(four)
-    } else {
-        None
-    }
-}
-
 // Returns the outer face, if it is walked by four darts over four vertices.
 fn outer_face(lists: &Rotations) -> Option<OuterFour>
     requires simple { IsSimpleMap lists.now }
@@ -71,7 +52,17 @@ fn outer_face(lists: &Rotations) -> Option<OuterFour>
     if first.len() == 0 {
         return None;
     }
-    frame_at(lists, VertexId(first[0]))
+    let top = VertexId(first[0]);
+    let right = next_on_face(lists, VertexId(0), top);
+    let bottom = next_on_face(lists, top, right);
+    let s = next_on_face(lists, right, bottom);
+    let e = next_on_face(lists, bottom, s);
+    let four = OuterFour { top, right, bottom };
+    if is_round(four, s, e) {
+        Some(four)
+    } else {
+        None
+    }
 }
 
 // Returns the outer face of a map with the counts of one of the class, where no edge joins two of it across, and the
@@ -93,17 +84,6 @@ fn confirmed(
         return Ok(Some(four));
     }
     Ok(None)
-}
-
-// Returns the outer face of a map with the counts of one of the class, where it is shown to be one.
-fn counted(alloc: Global, lists: &Rotations) -> Result<Option<OuterFour>, AllocError>
-    requires counts { HasCounts lists.now }
-    ensures { IfOk result (λ found. MatchOption found ⊤ (λ f. IsRectMap lists.now × IsFrame lists.now f.top.0 f.right.0 f.bottom.0)) }
-{
-    match outer_face(lists) {
-        Some(four) => confirmed(alloc, lists, four),
-        None => Ok(None),
-    }
 }
 
 /// Finds the outer faces of maps of the class, one map after another, and keeps its tables for the next.
@@ -142,7 +122,10 @@ impl FrameFinder {
                 if count.c != 1 {
                     return Ok(None);
                 }
-                counted(self.alloc, lists)
+                match outer_face(lists) {
+                    Some(four) => confirmed(self.alloc, lists, four),
+                    None => Ok(None),
+                }
             }
             Err(_) => Ok(None),
         }
