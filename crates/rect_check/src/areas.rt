@@ -47,13 +47,6 @@ pub(crate) fn greatest(list: &Ints) -> i32
     best
 }
 
-// Returns the product of two numbers.
-fn wide_product(u: i32, v: i32) -> i64
-    ensures { result ≡ u *ℤ v }
-{
-    i64::from(u) * i64::from(v)
-}
-
 impl Rects<'_> {
     // Returns the area of the rectangle of a vertex.
     fn area(&self, v: VertexId) -> i64
@@ -85,7 +78,7 @@ impl Rects<'_> {
     pub(crate) fn do_fill(&self) -> bool
         ensures { IsTrue result ↔ DoFill self.now.map.now.lists self.now.fig.now }
     {
-        let span = wide_product(greatest(&self.fig.x2), greatest(&self.fig.y2));
+        let span = i64::from(greatest(&self.fig.x2)) * i64::from(greatest(&self.fig.y2));
         self.total_area() == span
     }
 }

@@ -67,22 +67,6 @@ impl Rects<'_> {
             self.first_of_pairs_of::<4095>(n)
         }
     }
-
-    // Returns the first fault of pairs, areas and frame.
-    fn first_fault(&self) -> RectVerdict
-        ensures { IsRectVerdict self.now.map.now.lists self.now.fig.now result }
-    {
-        if let Some(verdict) = self.first_of_pairs() {
-            return verdict;
-        }
-        let Some(found) = outer_four(self.map) else {
-            return RectVerdict::NoFrame;
-        };
-        match first_unframed(self.fig, found) {
-            Some(v) => RectVerdict::Frame(v),
-            None => RectVerdict::Yes,
-        }
-    }
 }
 
 /// Returns the first fault of a rectangular dual in the order of the variants of `RectVerdict`, with the least ids,
@@ -99,8 +83,17 @@ pub fn check_rects(map: &HalfMap, fig: &RectFigure) -> RectVerdict
     ensures { IsRectVerdict map.now.lists fig.now result }
 {
     map.facts();
-    match first_bad_rect(map, fig) {
-        Some(v) => RectVerdict::BadRect(v),
-        None => Rects { map, fig }.first_fault(),
+    if let Some(v) = first_bad_rect(map, fig) {
+        return RectVerdict::BadRect(v);
+    }
+    if let Some(verdict) = (Rects { map, fig }).first_of_pairs() {
+        return verdict;
+    }
+    let Some(found) = outer_four(map) else {
+        return RectVerdict::NoFrame;
+    };
+    match first_unframed(fig, found) {
+        Some(v) => RectVerdict::Frame(v),
+        None => RectVerdict::Yes,
     }
 }

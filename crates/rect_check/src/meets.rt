@@ -114,32 +114,6 @@ impl Pass<'_> {
 }
 
 impl Rects<'_> {
-    // Marks the rectangles that meet others, with room for the vertices in their order, and for the rows.
-    fn mark_meets(&self, order: &mut [u16], table: &mut [u16], marks: &mut [bool])
-        requires order { length order.old ≡ length self.now.map.now.lists }
-        requires table { length table.old ≡ length self.now.map.now.lists }
-        requires marks { length marks.old ≡ length self.now.map.now.lists }
-        ensures marks { length marks.new ≡ length self.now.map.now.lists }
-        ensures marked { MeetsAreMarked self.now.map.now.lists self.now.fig.now marks.new }
-    {
-        self.map.facts();
-        fill_vertices(order);
-        sort_vertices(&self.fig.x1, order);
-        fill_rows(table, 0, table.len(), 0);
-        Pass {
-            rects: *self,
-            back: false,
-        }
-        .mark_later(order, table, marks);
-        order.reverse();
-        fill_rows(table, 0, table.len(), 0);
-        Pass {
-            rects: *self,
-            back: true,
-        }
-        .mark_later(order, table, marks);
-    }
-
     // Returns the least two rectangles that meet, with room for the vertices in their order, for the rows and for
     // marks.
     fn first_meet_in(
@@ -154,7 +128,17 @@ impl Rects<'_> {
         ensures { MatchOption result (NoneMeet self.now.map.now.lists self.now.fig.now)
             (λ p. IsLeastPair (RectsMeet self.now.map.now.lists self.now.fig.now) p.0.0 p.1.0) }
     {
-        self.mark_meets(order, table, marks);
+        self.map.facts();
+        fill_vertices(order);
+        sort_vertices(&self.fig.x1, order);
+        let rects = *self;
+        fill_rows(table, 0, table.len(), 0);
+        let forth = Pass { rects, back: false };
+        forth.mark_later(order, table, marks);
+        order.reverse();
+        fill_rows(table, 0, table.len(), 0);
+        let back = Pass { rects, back: true };
+        back.mark_later(order, table, marks);
         self.first_marked_meet(marks)
     }
 

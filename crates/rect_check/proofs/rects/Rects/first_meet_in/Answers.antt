@@ -4,7 +4,7 @@ use Rattle.std.proofs.lemmas.List.Sorted.{All-permutation}
 use Rattle.rect_check.specs.Meets.{LaterAreMarked}
 use Rattle.rect_check.proofs.SweepLemmas.{All-below}
 use Rattle.rect_check.proofs.MeetLemmas.{MeetsAreMarked-from_passes}
-use Rattle.rect_check.proofs.rects.Rects.mark_meets.Goals as goal
+use Rattle.rect_check.proofs.rects.Rects.first_meet_in.Goals as goal
 
 pub mark_later-requires-clause-vertices : goal.mark_later-requires-clause-vertices
 mark_later-requires-clause-vertices c =
@@ -15,8 +15,8 @@ mark_later-requires-2-clause-vertices c =
     All-permutation (λ (v : ℕ). v < length c.args.self.now.map.now.lists) c.sort_vertices.new.order c.reverse.new.self c.reverse.ensures.permutation
     (All-below (length c.args.self.now.map.now.lists) c.fill_vertices.new.order c.sort_vertices.new.order (c.fill_vertices.ensures.length ∙ c.requires.order) c.fill_vertices.ensures.vertices c.sort_vertices.ensures.same)
 
-pub returns-clause-marked : goal.returns-clause-marked
-returns-clause-marked c =
+pub first_marked_meet-requires-clause-marked : goal.first_marked_meet-requires-clause-marked
+first_marked_meet-requires-clause-marked c =
     let lists = c.args.self.now.map.now.lists in
     let fig = c.args.self.now.fig.now in
     let order = c.sort_vertices.new.order in
