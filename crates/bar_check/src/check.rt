@@ -11,23 +11,6 @@ use crate::heights::{first_bad_bar, first_bad_height};
 use half_edges::HalfMap;
 use pg_plane::BarFigure;
 
-// Returns the first fault of the numbers of columns, heights and bars.
-fn first_of_bars(map: &HalfMap, fig: &BarFigure, width: i32) -> Option<BarVerdict>
-    ensures { MatchOption result (HasShape map.now.lists fig.now × HasHeights map.now.lists fig.now × AreBars map.now.lists fig.now width)
-        (IsBarVerdict map.now.lists fig.now width) }
-{
-    if fig.column.len() != map.m() as usize {
-        return Some(BarVerdict::BadShape);
-    }
-    if let Some(v) = first_bad_height(map, fig) {
-        return Some(BarVerdict::BadHeight(v));
-    }
-    match first_bad_bar(map, fig, width) {
-        Some(v) => Some(BarVerdict::BadBar(v)),
-        None => None,
-    }
-}
-
 impl Drawing<'_> {
     // Returns the first fault of a list.
     fn first_of_turns(&self) -> BarVerdict
@@ -83,21 +66,6 @@ impl Ordered<'_> {
         }
     }
 
-    // Returns the first fault of an edge with a bar in its way or of a list.
-    fn first_struck(&self) -> BarVerdict
-        ensures { IsBarVerdict self.now.drawing.map.now.lists self.now.drawing.fig.now self.now.drawing.width result }
-    {
-        let n = self.drawing.map.n();
-        // room for 2n - 4 faces and 3n - 6 edges, the most of a plane map
-        if n <= 63 {
-            self.first_struck_of::<122, 366>()
-        } else if n <= 255 {
-            self.first_struck_of::<506, 1518>()
-        } else {
-            self.first_struck_of::<8186, 24558>()
-        }
-    }
-
     // Returns the first fault of an edge with a bar in its way or of a list, with room for a number at each column, each
     // block and each superblock. The exact search comes only where the quick sweep does not pass.
     fn first_fault(
@@ -111,7 +79,15 @@ impl Ordered<'_> {
         if self.passes_all(peaks, blocks, superblocks) {
             return self.drawing.first_of_turns();
         }
-        self.first_struck()
+        let n = self.drawing.map.n();
+        // room for 2n - 4 faces and 3n - 6 edges, the most of a plane map
+        if n <= 63 {
+            self.first_struck_of::<122, 366>()
+        } else if n <= 255 {
+            self.first_struck_of::<506, 1518>()
+        } else {
+            self.first_struck_of::<8186, 24558>()
+        }
     }
 }
 
@@ -173,8 +149,14 @@ pub fn check_bars(map: &HalfMap, fig: &BarFigure, width: i32) -> BarVerdict
     ensures { IsBarVerdict map.now.lists fig.now width result }
 {
     map.facts();
-    match first_of_bars(map, fig, width) {
-        Some(verdict) => verdict,
+    if fig.column.len() != map.m() as usize {
+        return BarVerdict::BadShape;
+    }
+    if let Some(v) = first_bad_height(map, fig) {
+        return BarVerdict::BadHeight(v);
+    }
+    match first_bad_bar(map, fig, width) {
+        Some(v) => BarVerdict::BadBar(v),
         None => Bars { map, fig, width }.first_fault(),
     }
 }

@@ -171,15 +171,6 @@ impl Bar<'_> {
         }
     }
 
-    // Says whether no edge of a column that the bar holds reaches above it.
-    fn passes(&self, peaks: &Peaks<'_>) -> bool
-        ensures { OnTrue result ((k : ℕ) → Holds self.now.drawing.fig.now self.now.v.0 (pos k) → IsPassed self.now.h k peaks.now.columns.now peaks.now.blocks.now peaks.now.superblocks.now) }
-    {
-        let left = natural(number(&self.drawing.fig.x1, self.v.0 as usize));
-        let right = natural(number(&self.drawing.fig.x2, self.v.0 as usize));
-        peaks.passes_between(self.h, left, right)
-    }
-
     // Meets the bar, and says whether it is in the way of no edge.
     fn meets(&self, peaks: &mut [i32], blocks: &mut [i32], superblocks: &mut [i32]) -> bool
         requires swept { IsSwept self.now.drawing.map.now.lists self.now.drawing.fig.now self.now.h peaks.old blocks.old superblocks.old }
@@ -190,7 +181,9 @@ impl Bar<'_> {
             blocks,
             superblocks,
         };
-        if !self.passes(&known) {
+        let left = natural(number(&self.drawing.fig.x1, self.v.0 as usize));
+        let right = natural(number(&self.drawing.fig.x2, self.v.0 as usize));
+        if !known.passes_between(self.h, left, right) {
             return false;
         }
         self.begin_edges(peaks, blocks, superblocks)
