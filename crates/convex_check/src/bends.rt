@@ -57,20 +57,6 @@ impl Drawing<'_> {
         face.0 != outer.0 && self.turns_right(a, b, c)
     }
 
-    // The vertex to which the face of the dart from `a` to `b` goes on.
-    fn third_vertex(&self, a: VertexId, b: VertexId) -> Option<VertexId>
-        requires a { a.0 < length self.now.map.now.lists }
-        requires b { b.0 < length self.now.map.now.lists }
-        ensures { MatchOption result (¬ HasDart self.now.map.now.lists a.0 b.0) (λ c. follows self.now.map.now.lists b.0 a.0 ≡ c.0) }
-    {
-        self.map.facts();
-        let map = self.map;
-        match map.dart_of(a, b) {
-            Some(d) => Some(map.head(map.face_step(d))),
-            None => None,
-        }
-    }
-
     // The least three consecutive vertices at which a face bends.
     pub(crate) fn first_bent(&self, faces: &Faces) -> Option<(VertexId, VertexId, VertexId)>
         requires faces { AreFaces self.now.map.now faces.now }
@@ -80,8 +66,8 @@ impl Drawing<'_> {
         self.map.facts();
         let drawing = *self;
         match first_dart(drawing.map, |d| drawing.is_bent(faces, d)) {
-            Some((a, b)) => match drawing.third_vertex(a, b) {
-                Some(c) => Some((a, b, c)),
+            Some((a, b)) => match drawing.map.dart_of(a, b) {
+                Some(d) => Some((a, b, drawing.map.head(drawing.map.face_step(d)))),
                 None => None,
             },
             None => None,
