@@ -12,7 +12,7 @@ use map_lists::Rotations;
 use pg_plane::{BarFigure, Ints};
 use std::alloc::{AllocError, Global};
 
-// Number `v` of a list of whole numbers.
+// Returns number `v` of a list of whole numbers.
 pub(crate) fn integer(list: &Ints, v: usize) -> i32
     requires { v < length list.now }
     ensures { result ≡ integer_at list.now v }
@@ -20,7 +20,7 @@ pub(crate) fn integer(list: &Ints, v: usize) -> i32
     list.get(v)
 }
 
-// The greatest of `least` and all numbers of a list.
+// Returns the greatest of `least` and all numbers of a list.
 pub(crate) fn greatest_from(least: i32, list: &Ints) -> i32
     ensures { result ≡ fold int_max least list.now }
 {
@@ -31,7 +31,7 @@ pub(crate) fn greatest_from(least: i32, list: &Ints) -> i32
     most
 }
 
-// Where the bar of vertex `v` begins in the picture of a drawing of this height: a little before it.
+// Returns where the bar of vertex `v` begins in the picture of a drawing of this height: a little left of the bar.
 fn bar_start(bars: &BarFigure, height: i32, v: usize) -> Spot
     requires y { v < length bars.now.y }
     requires x { v < length bars.now.x1 }
@@ -44,7 +44,7 @@ fn bar_start(bars: &BarFigure, height: i32, v: usize) -> Spot
     }
 }
 
-// Where it ends there: a little behind it.
+// Returns where the bar of vertex `v` ends in such a picture: a little right of the bar.
 fn bar_end(bars: &BarFigure, height: i32, v: usize) -> Spot
     requires y { v < length bars.now.y }
     requires x { v < length bars.now.x2 }
@@ -57,7 +57,7 @@ fn bar_end(bars: &BarFigure, height: i32, v: usize) -> Spot
     }
 }
 
-// Where edge `i` ends in such a picture, at the bar of vertex `v`.
+// Returns where edge `i` ends in such a picture, at the bar of vertex `v`.
 fn edge_end(bars: &BarFigure, height: i32, i: usize, v: usize) -> Spot
     requires column { i < length bars.now.column }
     requires y { v < length bars.now.y }
@@ -70,7 +70,7 @@ fn edge_end(bars: &BarFigure, height: i32, i: usize, v: usize) -> Spot
     }
 }
 
-// How thick a bar is.
+// Returns the attribute that says how thick a bar is.
 fn thick() -> &'static [u8]
     ensures { result.now ≡ the_width }
 {
@@ -116,29 +116,6 @@ fn push_columns(
     Ok(())
 }
 
-// The greatest of 0 and all x.
-fn width_of(bars: &BarFigure) -> i32
-    ensures { result ≡ greatest (bars.now.x2 ++ bars.now.column) }
-{
-    greatest_from(greatest_from(0, &bars.x2), &bars.column)
-}
-
-// A visibility drawing as SVG.
-fn bars_text(alloc: Global, lists: &Rotations, bars: &BarFigure) -> Result<Vec<u8>, AllocError>
-    requires simple { IsSimpleMap lists.now }
-    requires columns { HasColumns lists.now bars.now }
-    ensures { IfOk result (λ text. text.items ≡ bars_svg lists.now bars.now) }
-{
-    let edges = edges(alloc, lists)?;
-    let height = greatest_from(0, &bars.y);
-    let mut text = Vec::new(alloc);
-    push_opening(&mut text, width_of(bars), height)?;
-    push_bars(&mut text, lists, bars, height)?;
-    push_columns(&mut text, &edges, bars, height)?;
-    push_closing(&mut text)?;
-    Ok(text)
-}
-
 /// Appends a visibility drawing of a simple map as SVG, with a bar for each vertex and a column for each edge. When
 /// memory runs out the bytes are as they were.
 pub fn svg_bars(
@@ -152,6 +129,13 @@ pub fn svg_bars(
     ensures ok { OnOk result (out.new.items ≡ out.old.items ++ bars_svg lists.now bars.now) }
     ensures err { OnErr result (out.new.items ≡ out.old.items) }
 {
-    let text = bars_text(alloc, lists, bars)?;
+    let edges = edges(alloc, lists)?;
+    let width = greatest_from(greatest_from(0, &bars.x2), &bars.column);
+    let height = greatest_from(0, &bars.y);
+    let mut text = Vec::new(alloc);
+    push_opening(&mut text, width, height)?;
+    push_bars(&mut text, lists, bars, height)?;
+    push_columns(&mut text, &edges, bars, height)?;
+    push_closing(&mut text)?;
     out.extend_from_slice(&text)
 }

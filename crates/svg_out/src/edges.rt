@@ -6,7 +6,7 @@ ghost use Rattle.svg_out.specs.Edges.{later_neighbours, edges as the_edges};
 use map_lists::Rotations;
 use std::alloc::{AllocError, Global};
 
-// The numbers of a list that are greater than `v`, in their order, in place of what `row` held.
+// Fills `row` with the numbers of a list that are greater than `v`, in their order.
 fn fill_later(v: usize, list: &[u16], row: &mut Vec<u16>) -> Result<(), AllocError>
     ensures { OnOk result (row.new.items ≡ filter (λ u. nat_lt v u) list.now) }
 {
@@ -27,7 +27,7 @@ fn push_later(v: usize, u: u16, row: &mut Vec<u16>) -> Result<(), AllocError>
     Ok(())
 }
 
-// The neighbours of `v` that are greater than `v`, in rising order, in place of what `row` held.
+// Fills `row` with the neighbours of `v` that are greater than `v`, in rising order.
 fn fill_sorted(lists: &Rotations, v: usize, row: &mut Vec<u16>) -> Result<(), AllocError>
     requires simple { IsSimpleMap lists.now }
     requires vertex { v < length lists.now }
@@ -48,7 +48,7 @@ fn push_edges(v: usize, row: &[u16], edges: &mut Vec<(usize, usize)>) -> Result<
     Ok(())
 }
 
-/// The edges of a simple map in their order, each by its lesser end and then its greater one.
+/// Returns the edges of a simple map in their order, each by its lesser end and then its greater one.
 pub(crate) fn edges(alloc: Global, lists: &Rotations) -> Result<Vec<(usize, usize)>, AllocError>
     requires { IsSimpleMap lists.now }
     ensures order { IfOk result (λ edges. edges.items ≡ the_edges lists.now) }

@@ -11,7 +11,7 @@ use map_lists::Rotations;
 use pg_plane::{Point, Points};
 use std::alloc::{AllocError, Global};
 
-// Number `v` of a list of points.
+// Returns number `v` of a list of points.
 fn point(list: &Points, v: usize) -> Point
     requires { v < length list.now }
     ensures { result ≡ point_at list.now v }
@@ -19,7 +19,7 @@ fn point(list: &Points, v: usize) -> Point
     list.get(v)
 }
 
-// The greatest of 0 and all x.
+// Returns the greatest of 0 and all x.
 fn width_of(points: &Points) -> i32
     ensures { result ≡ greatest (map (λ p. p.x) points.now) }
 {
@@ -30,7 +30,7 @@ fn width_of(points: &Points) -> i32
     width
 }
 
-// The greatest of 0 and all y.
+// Returns the greatest of 0 and all y.
 fn height_of(points: &Points) -> i32
     ensures { result ≡ greatest (map (λ p. p.y) points.now) }
 {
@@ -41,7 +41,7 @@ fn height_of(points: &Points) -> i32
     height
 }
 
-// Where a point lies in the picture of a drawing of this height.
+// Returns where a point lies in the picture of a drawing of this height.
 fn spot(height: i32, point: Point) -> Spot
     ensures x { result.x ≡ far_right point.x }
     ensures y { result.y ≡ far_down height point.y }
@@ -81,22 +81,6 @@ fn push_dots(out: &mut Vec<u8>, points: &Points, height: i32) -> Result<(), Allo
     Ok(())
 }
 
-// A straight-line drawing as SVG.
-fn grid_text(alloc: Global, lists: &Rotations, points: &Points) -> Result<Vec<u8>, AllocError>
-    requires simple { IsSimpleMap lists.now }
-    requires points { length points.now ≡ length lists.now }
-    ensures { IfOk result (λ text. text.items ≡ grid_svg lists.now points.now) }
-{
-    let edges = edges(alloc, lists)?;
-    let height = height_of(points);
-    let mut text = Vec::new(alloc);
-    push_opening(&mut text, width_of(points), height)?;
-    push_straight_edges(&mut text, &edges, points, height)?;
-    push_dots(&mut text, points, height)?;
-    push_closing(&mut text)?;
-    Ok(text)
-}
-
 /// Appends a straight-line drawing of a simple map as SVG, with a point for each vertex. When memory runs out the
 /// bytes are as they were.
 pub fn svg_grid(
@@ -110,6 +94,12 @@ pub fn svg_grid(
     ensures ok { OnOk result (out.new.items ≡ out.old.items ++ grid_svg lists.now points.now) }
     ensures err { OnErr result (out.new.items ≡ out.old.items) }
 {
-    let text = grid_text(alloc, lists, points)?;
+    let edges = edges(alloc, lists)?;
+    let height = height_of(points);
+    let mut text = Vec::new(alloc);
+    push_opening(&mut text, width_of(points), height)?;
+    push_straight_edges(&mut text, &edges, points, height)?;
+    push_dots(&mut text, points, height)?;
+    push_closing(&mut text)?;
     out.extend_from_slice(&text)
 }

@@ -9,7 +9,7 @@ use map_lists::Rotations;
 use pg_plane::RectFigure;
 use std::alloc::{AllocError, Global};
 
-// How a rectangle is drawn.
+// Returns the end of the tag of a rectangle: its sides alone are drawn.
 fn unfilled() -> &'static [u8]
     ensures { result.now ≡ the_style }
 {
@@ -52,19 +52,6 @@ fn push_tiles(
     Ok(())
 }
 
-// A rectangular dual as SVG.
-fn rects_text(alloc: Global, lists: &Rotations, rects: &RectFigure) -> Result<Vec<u8>, AllocError>
-    requires { HasRects lists.now rects.now }
-    ensures { IfOk result (λ text. text.items ≡ rects_svg lists.now rects.now) }
-{
-    let height = greatest_from(0, &rects.y2);
-    let mut text = Vec::new(alloc);
-    push_opening(&mut text, greatest_from(0, &rects.x2), height)?;
-    push_tiles(&mut text, lists, rects, height)?;
-    push_closing(&mut text)?;
-    Ok(text)
-}
-
 /// Appends a rectangular dual as SVG, with a rectangle for each list. When memory runs out the bytes are as they
 /// were.
 pub fn svg_rects(
@@ -77,6 +64,10 @@ pub fn svg_rects(
     ensures ok { OnOk result (out.new.items ≡ out.old.items ++ rects_svg lists.now rects.now) }
     ensures err { OnErr result (out.new.items ≡ out.old.items) }
 {
-    let text = rects_text(alloc, lists, rects)?;
+    let height = greatest_from(0, &rects.y2);
+    let mut text = Vec::new(alloc);
+    push_opening(&mut text, greatest_from(0, &rects.x2), height)?;
+    push_tiles(&mut text, lists, rects, height)?;
+    push_closing(&mut text)?;
     out.extend_from_slice(&text)
 }

@@ -1,7 +1,7 @@
 //! The lines of a picture.
 ghost use Rattle.std.specs.Prelude.{◌≡◌, ◌++◌, ◌∷◌, ℤ, pos, ◌+ℤ◌, ◌-ℤ◌, ◌*ℤ◌, OnOk};
 ghost use Rattle.std.specs.Fmt.{signed_decimal};
-ghost use Rattle.svg_out.specs.Svg.{across as far_right, down as far_down, attribute, ends, extent as the_extent, sides, segment, front as the_front, opening, closing, dot};
+ghost use Rattle.svg_out.specs.Svg.{across as far_right, down as far_down, attribute, extent as the_extent, sides, segment, front as the_front, opening, closing, dot};
 
 use itoa::Buffer;
 use pg_plane::Point;
@@ -27,21 +27,21 @@ fn push_attribute(out: &mut Vec<u8>, name: &[u8], number: i64) -> Result<(), All
     Ok(())
 }
 
-/// How far right x lies in the picture.
+/// Returns how far right x lies in the picture.
 pub(crate) fn across(x: i32) -> i64
     ensures { result ≡ far_right x }
 {
     10 * i64::from(x)
 }
 
-/// How far down y lies in the picture of a figure of this height.
+/// Returns how far down y lies in the picture of a figure of this height.
 pub(crate) fn down(height: i32, y: i32) -> i64
     ensures { result ≡ far_down height y }
 {
     10 * (i64::from(height) - i64::from(y))
 }
 
-/// How long from p to q is in the picture.
+/// Returns how long the way from p to q is in the picture.
 pub(crate) fn extent(p: i32, q: i32) -> i64
     ensures { result ≡ the_extent p q }
 {
@@ -55,16 +55,6 @@ pub(crate) struct Spot {
     pub(crate) x: i64,
     /// How far down it lies.
     pub(crate) y: i64,
-}
-
-// Appends the two ends of a segment.
-fn push_ends(out: &mut Vec<u8>, from: Spot, to: Spot) -> Result<(), AllocError>
-    ensures { OnOk result (out.new.items ≡ out.old.items ++ ends from.x from.y to.x to.y) }
-{
-    push_attribute(out, b"x1", from.x)?;
-    push_attribute(out, b"y1", from.y)?;
-    push_attribute(out, b"x2", to.x)?;
-    push_attribute(out, b"y2", to.y)
 }
 
 /// Appends where a rectangle stands, by its upper left corner, and how wide and how high it is.
@@ -82,7 +72,7 @@ pub(crate) fn push_sides(
     push_attribute(out, b"height", height)
 }
 
-/// Appends the tag of a segment, with more attributes behind the others.
+/// Appends the tag of a segment, with the attributes `more` after the others.
 pub(crate) fn push_segment(
     out: &mut Vec<u8>,
     from: Spot,
@@ -92,7 +82,10 @@ pub(crate) fn push_segment(
     ensures { OnOk result (out.new.items ≡ out.old.items ++ segment from.x from.y to.x to.y more.now) }
 {
     out.extend_from_slice(b"<line")?;
-    push_ends(out, from, to)?;
+    push_attribute(out, b"x1", from.x)?;
+    push_attribute(out, b"y1", from.y)?;
+    push_attribute(out, b"x2", to.x)?;
+    push_attribute(out, b"y2", to.y)?;
     out.extend_from_slice(b" stroke=\"black\"")?;
     out.extend_from_slice(more)?;
     out.extend_from_slice(b"/>\n")?;
@@ -110,14 +103,14 @@ pub(crate) fn push_dot(out: &mut Vec<u8>, height: i32, point: Point) -> Result<(
     Ok(())
 }
 
-// How wide or high the picture of a figure so wide or high is.
+// Returns the width of the picture of a figure of width `size`, or its height in the same way.
 fn with_margin(size: i32) -> i64
     ensures { result ≡ pos 10 *ℤ size +ℤ pos 20 }
 {
     10 * i64::from(size) + 20
 }
 
-// How each picture begins.
+// Returns how each picture begins.
 fn front() -> &'static [u8]
     ensures { result.now ≡ the_front }
 {
