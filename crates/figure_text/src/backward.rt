@@ -51,7 +51,7 @@ pub(crate) fn write_signed(texts: &Texts<'_>, number: i32, bytes: &mut [u8], end
     write_byte(b' ', bytes, sign)
 }
 
-// Writes what stands before the coordinates of a vertex: its number and a word.
+// Writes the number of a vertex before `end`, and returns where it starts.
 pub(crate) fn write_number(texts: &Texts<'_>, number: u64, bytes: &mut [u8], end: usize) -> usize
     requires { (20 ≤ end) × (end ≤ length bytes.old) }
     ensures within { (result ≤ end) × (end ≤ result + 20) }

@@ -2,14 +2,14 @@
 ghost use Rattle.std.specs.Prelude.{◌≡◌, ◌≤◌, min, option_map, IfSome};
 ghost use Rattle.figure_text.specs.Words.{is_digit, one_more, canonical, decimal_from};
 
-/// Whether a byte is from 0 to 9.
+/// Says whether a byte is a digit.
 pub fn is_digit_byte(byte: u8) -> bool
     ensures { result ≡ is_digit byte }
 {
     b'0' <= byte && byte <= b'9'
 }
 
-/// The least of `most` and a number with one digit more, or nothing where the byte is no digit.
+/// Returns `value` with the digit `byte` after its own, or `most` where that is less; `None` where the byte is no digit.
 pub fn with_digit(most: u64, value: u64, byte: u8) -> Option<u64>
     requires few { most ≤ 4294967296 }
     requires near { value ≤ most }
@@ -22,7 +22,7 @@ pub fn with_digit(most: u64, value: u64, byte: u8) -> Option<u64>
     }
 }
 
-/// The least of `most` and the number that decimal digits give, or nothing where a byte is no digit. No digits give 0.
+/// Returns the number that decimal digits give, or `most` where that is less; `None` where a byte is no digit. No digits give 0.
 pub fn decimal_number(most: u64, text: &[u8]) -> Option<u64>
     requires few { most ≤ 4294967296 }
     ensures near { IfSome result (λ n. n ≤ most) }
@@ -38,7 +38,7 @@ pub fn decimal_number(most: u64, text: &[u8]) -> Option<u64>
     Some(value)
 }
 
-/// Whether there is a first byte, and it is a 0 only where no other follows.
+/// Says whether a text has a first byte, which is a 0 only where no other follows.
 pub fn is_canonical(text: &[u8]) -> bool
     ensures { result ≡ canonical text.now }
 {

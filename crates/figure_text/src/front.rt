@@ -29,7 +29,7 @@ pub enum Front {
     Bad,
 }
 
-// Part number `i` of a line, between its spaces.
+// Returns part number `i` of a line, which is cut at its spaces; no bytes where there are not so many.
 fn part(line: &[u8], i: usize) -> &[u8]
     ensures { result.now ≡ part_at line.now i }
 {
@@ -39,26 +39,20 @@ fn part(line: &[u8], i: usize) -> &[u8]
     }
 }
 
-// Judges the line of a graph.
-fn graph_worth(alloc: Global, line: &[u8]) -> Result<Judged, AllocError>
-    ensures { IfOk result (Judges (IsTrue (is_graph_shaped (line_fault line.now))) (line_fault line.now ≡ None)) }
-{
-    lines_are_graphs();
-    match read_line(alloc, line) {
-        Ok(_) => Ok(Judged::Good),
-        Err(G6Fault::TooMany(_)) => Ok(Judged::Limit),
-        Err(G6Fault::NoMemory) => Err(AllocError),
-        Err(_) => Ok(Judged::Bad),
-    }
-}
-
-// Judges what stands behind the word of the job in the first line of a figure.
+// Judges what stands after the word of the job in the first line of a figure: how many vertices it has, or for a witness the
+// line of its graph.
 fn tail_worth(alloc: Global, kind: Kind, line: &[u8], words: &[Word]) -> Result<Judged, AllocError>
     requires { words.now ≡ words_of line.now }
     ensures { IfOk result (Judges (IsTail (Some kind) line.now) (TailInRange (Some kind) line.now)) }
 {
+    lines_are_graphs();
     match kind {
-        Kind::Witness(_) if words.len() == 5 => graph_worth(alloc, part(line, 4)),
+        Kind::Witness(_) if words.len() == 5 => match read_line(alloc, part(line, 4)) {
+            Ok(_) => Ok(Judged::Good),
+            Err(G6Fault::TooMany(_)) => Ok(Judged::Limit),
+            Err(G6Fault::NoMemory) => Err(AllocError),
+            Err(_) => Ok(Judged::Bad),
+        },
         Kind::Witness(_) => Ok(Judged::Bad),
         _ => Ok(worth(is_counted(words), is_count_in_range(words))),
     }
@@ -88,7 +82,7 @@ fn front_of(kind: Kind, words: &[Word], tail: Judged) -> Front
 // The most words that the first line of a figure has.
 const MOST_WORDS: usize = 5;
 
-// The words of a line, where they are no more than a first line has.
+// Returns the words of a line, where they are no more than a first line has.
 fn few_words(alloc: Global, line: &[u8]) -> Result<Option<Vec<Word>>, AllocError>
     ensures { IfOk result (λ found. MatchOption found (5 < length (words_of line.now)) (λ v. v.items ≡ words_of line.now)) }
 {
@@ -121,7 +115,7 @@ pub fn front_line(alloc: Global, line: &[u8]) -> Result<Front, AllocError>
     }
 }
 
-/// The graph of a witness, by its first line, which is given without the byte 10 that closes it.
+/// Returns the graph of a witness by its first line, which is given without the byte 10 that closes it.
 pub fn front_graph(alloc: Global, line: &[u8]) -> Result<Graph, AllocError>
     requires { line_fault (part_at line.now 4) ≡ None }
     ensures { IfOk result (IsGraphOf line.now) }

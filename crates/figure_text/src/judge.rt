@@ -1,11 +1,11 @@
 //! Which shape a line has, and whether its numbers are within their ranges.
-ghost use Rattle.std.specs.Prelude.{ℕ, false, ◌≡◌, ◌↔◌, ◌<◌, ◌≤◌, ◌-◌, length, drop, map, slice_index_or, IsTrue, IfOk, All, option_map};
+ghost use Rattle.std.specs.Prelude.{ℕ, false, ◌≡◌, ◌↔◌, ◌<◌, ◌≤◌, ◌-◌, length, drop, map, slice_index_or, IsTrue, IfOk, All};
 ghost use Rattle.std.specs.Prelude.{if◌then◌else◌};
 ghost use Rattle.figure_text.specs.Reading.{Judges, IsRow, RowInRange};
 ghost use Rattle.kuratowski.specs.Witnesses.{branch_count, pairs_of};
 ghost use Rattle.figure_text.specs.Words.{word_at};
 ghost use Rattle.figure_text.specs.Pieces.{is_long as is_long_enough};
-ghost use Rattle.figure_text.specs.Lines.{size, is_natural, is_number, is_closing, kind_of, subdivided_of, rows_due, row_name, IsInside, IsVertex, IsColumnsLine, ColumnsInRange};
+ghost use Rattle.figure_text.specs.Lines.{size, is_natural, is_number, is_closing, kind_of, rows_due, row_name, IsInside, IsVertex, IsColumnsLine, ColumnsInRange};
 
 use crate::GridJob;
 use crate::piece::{are_fitting, are_within, pieces};
@@ -39,7 +39,7 @@ pub enum Judged {
 // The greatest size of a coordinate.
 pub const MOST: u32 = 1_048_576;
 
-// Word number `i`, or `Other` behind the last.
+// Returns word number `i`, or `Other` after the last.
 #[inline(always)]
 pub fn word(words: &[Word], i: usize) -> Word
     ensures { result ≡ word_at words.now i }
@@ -51,7 +51,7 @@ pub fn word(words: &[Word], i: usize) -> Word
     }
 }
 
-// The size of the number that a word is, and 0 for any other word.
+// Returns the size of the number that a word is, and 0 for any other word.
 #[inline(always)]
 pub fn size_of(word: Word) -> u32
     ensures { result ≡ size word }
@@ -63,7 +63,7 @@ pub fn size_of(word: Word) -> u32
     }
 }
 
-// Whether a word is a number without a minus.
+// Says whether a word is a number without a minus.
 pub fn is_natural_word(word: Word) -> bool
     ensures { result ≡ is_natural word }
 {
@@ -73,7 +73,7 @@ pub fn is_natural_word(word: Word) -> bool
     }
 }
 
-// Whether a word is a number.
+// Says whether a word is a number.
 pub fn is_number_word(word: Word) -> bool
     ensures { result ≡ is_number word }
 {
@@ -83,7 +83,7 @@ pub fn is_number_word(word: Word) -> bool
     }
 }
 
-// Whether a word is a number before a colon.
+// Says whether a word is a number before a colon.
 pub fn is_closing_word(word: Word) -> bool
     ensures { result ≡ is_closing word }
 {
@@ -93,7 +93,7 @@ pub fn is_closing_word(word: Word) -> bool
     }
 }
 
-/// Whether a word is this one.
+/// Says whether a word is this one.
 pub fn is_name(word: Word, name: Name) -> bool
     ensures { IsTrue result ↔ (word ≡ Word.Named name) }
 {
@@ -103,7 +103,7 @@ pub fn is_name(word: Word, name: Name) -> bool
     }
 }
 
-// The words from number `from` on.
+// Returns the words from number `from` on.
 pub fn behind(words: &[Word], from: usize) -> &[Word]
     ensures { result.now ≡ drop from words.now }
 {
@@ -114,21 +114,21 @@ pub fn behind(words: &[Word], from: usize) -> &[Word]
     }
 }
 
-// Whether a number is a coordinate.
+// Says whether a number is a coordinate.
 pub fn is_inside(word: Word) -> bool
     ensures { IsTrue result ↔ IsInside word }
 {
     size_of(word) <= MOST
 }
 
-// Whether a number numbers a vertex.
+// Says whether a number numbers a vertex.
 fn is_vertex(word: Word) -> bool
     ensures { IsTrue result ↔ IsVertex word }
 {
     1 <= size_of(word) && size_of(word) <= 65535
 }
 
-// Whether a line has the shape of that of the columns.
+// Says whether a line has the shape of that of the columns.
 fn is_columns_line(words: &[Word]) -> bool
     ensures { IsTrue result ↔ IsColumnsLine words.now }
 {
@@ -136,18 +136,7 @@ fn is_columns_line(words: &[Word]) -> bool
         && behind(words, 1).iter().all(|word| is_number_word(*word))
 }
 
-// The kind of a witness, by the word of the graph that it subdivides.
-fn witness_kind(word: Word) -> Option<Kind>
-    ensures { result ≡ option_map (λ k. Kind.Witness k) (subdivided_of word) }
-{
-    match word {
-        Word::Named(Name::K5) => Some(Kind::Witness(Subdivided::K5)),
-        Word::Named(Name::K33) => Some(Kind::Witness(Subdivided::K33)),
-        _ => None,
-    }
-}
-
-// The kind of a figure by the word of its job, and that of a witness by one word more.
+// Returns the kind of a figure by the word of its job, and that of a witness by the next word too.
 pub fn job_kind(words: &[Word]) -> Option<Kind>
     ensures { result ≡ kind_of words.now }
 {
@@ -157,12 +146,16 @@ pub fn job_kind(words: &[Word]) -> Option<Kind>
         Word::Named(Name::Convex) => Some(Kind::Grid(GridJob::Convex)),
         Word::Named(Name::Bars) => Some(Kind::Bars),
         Word::Named(Name::Rect) => Some(Kind::Rects),
-        Word::Named(Name::Witness) => witness_kind(word(words, 3)),
+        Word::Named(Name::Witness) => match word(words, 3) {
+            Word::Named(Name::K5) => Some(Kind::Witness(Subdivided::K5)),
+            Word::Named(Name::K33) => Some(Kind::Witness(Subdivided::K33)),
+            _ => None,
+        },
         _ => None,
     }
 }
 
-// How many lines of vertices, or of branches and paths, a first line announces.
+// Returns how many lines of vertices, or of branches and paths, a first line announces.
 pub fn row_count(kind: Kind, words: &[Word]) -> usize
     ensures { result ≡ rows_due kind words.now }
 {
@@ -172,7 +165,7 @@ pub fn row_count(kind: Kind, words: &[Word]) -> usize
     }
 }
 
-// The word that the line at this place of a witness begins with.
+// Returns the word with which line `place` of a witness begins.
 pub fn row_word(place: usize) -> Name
     ensures { result ≡ row_name place }
 {
@@ -189,7 +182,7 @@ pub fn is_witness(kind: Kind) -> bool
     }
 }
 
-// Whether the line at this place may have so many words.
+// Says whether line `place` of a figure may have `len` words.
 fn is_long(kind: Kind, place: usize, len: usize) -> bool
     ensures { result ≡ is_long_enough kind place len }
 {
@@ -205,7 +198,7 @@ fn is_long(kind: Kind, place: usize, len: usize) -> bool
     }
 }
 
-// Whether a line has the shape that is due at this place.
+// Says whether a line has the shape that is due at this place.
 fn is_row(kind: Kind, place: usize, words: &[Word]) -> bool
     ensures { IsTrue result ↔ IsRow kind place words.now }
 {
@@ -217,7 +210,7 @@ fn is_row(kind: Kind, place: usize, words: &[Word]) -> bool
             .all(|word| is_natural_word(*word))
 }
 
-// Whether the numbers of such a line are within their ranges.
+// Says whether the numbers of such a line are within their ranges.
 fn is_row_in_range(kind: Kind, words: &[Word]) -> bool
     ensures { IsTrue result ↔ RowInRange kind words.now }
 {
@@ -228,28 +221,28 @@ fn is_row_in_range(kind: Kind, words: &[Word]) -> bool
             .all(|word| is_vertex(*word))
 }
 
-// Whether a figure's first line begins as one.
+// Says whether a figure's first line begins as one.
 pub fn is_first_head(words: &[Word]) -> bool
     ensures { IsTrue result ↔ ((word_at words.now 0 ≡ Word.Named Name.Figure) × IsTrue (is_natural (word_at words.now 1))) }
 {
     is_name(word(words, 0), Name::Figure) && is_natural_word(word(words, 1))
 }
 
-// Whether the number of a figure is within its range.
+// Says whether the number of a figure is within its range.
 pub fn is_numbered(words: &[Word]) -> bool
     ensures { IsTrue result ↔ ((1 ≤ size (word_at words.now 1)) × (size (word_at words.now 1) ≤ 16777216)) }
 {
     1 <= size_of(word(words, 1)) && size_of(word(words, 1)) <= 16_777_216
 }
 
-// Whether a first line ends with a number, behind the word of its job.
+// Says whether a first line ends with a number, after the word of its job.
 pub fn is_counted(words: &[Word]) -> bool
     ensures { IsTrue result ↔ ((length words.now ≡ 4) × IsTrue (is_natural (word_at words.now 3))) }
 {
     words.len() == 4 && is_natural_word(word(words, 3))
 }
 
-// Whether that number is within its range.
+// Says whether that number is within its range.
 pub fn is_count_in_range(words: &[Word]) -> bool
     ensures { IsTrue result ↔ ((1 ≤ size (word_at words.now 3)) × (size (word_at words.now 3) ≤ 4095)) }
 {

@@ -4,7 +4,7 @@ ghost use Rattle.figure_text.specs.Reading.{IsPlain, IsLine, begins, is_note as 
 
 use memchr::memchr;
 
-/// How many bytes stand before the first byte 10, or before the end.
+/// Returns how many bytes stand before the first byte 10, or before the end.
 pub fn line_length(bytes: &[u8]) -> usize
     ensures within { result ≤ length bytes.now }
     ensures before { (k : ℕ) → k < result → slice_index bytes.now k ≢ 10 }
@@ -16,7 +16,7 @@ pub fn line_length(bytes: &[u8]) -> usize
     }
 }
 
-/// The line that is closed next, and the offset behind it.
+/// Returns the line that is closed next, and the offset after it.
 pub fn next_line(bytes: &[u8], at: usize) -> Option<(&[u8], usize)>
     requires { at ≤ length bytes.now }
     ensures { MatchOption result (IsPlain (drop at bytes.now)) (λ found.
@@ -31,14 +31,14 @@ pub fn next_line(bytes: &[u8], at: usize) -> Option<(&[u8], usize)>
     }
 }
 
-// Whether a line begins with this.
+// Says whether a line begins with `word`.
 fn begins_with(line: &[u8], word: &[u8]) -> bool
     ensures { result ≡ begins line.now word.now }
 {
     line.len() >= word.len() && &line[..word.len()] == word
 }
 
-/// Whether a line is a note.
+/// Says whether a line is a note.
 pub fn is_note(line: &[u8]) -> bool
     ensures { result ≡ is_note_line line.now }
 {

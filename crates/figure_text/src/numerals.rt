@@ -19,7 +19,7 @@ pub struct Numeral {
     start: u8,
 }
 
-// The text of a number.
+// Returns the text of a number.
 fn text_of(number: usize) -> Numeral
     requires { number < 10000 }
     ensures { IsNumeral number result }
@@ -57,7 +57,7 @@ pub struct Numerals {
 }
 
 impl Numerals {
-    /// No texts yet. They take no memory.
+    /// Makes a table of no texts yet. It takes no memory.
     pub fn new(alloc: Global) -> Numerals {
         Numerals {
             texts: Vec::new(alloc),

@@ -36,7 +36,7 @@ const RECTS: [Piece; 7] = [Place, Literal(X), Value, Value, Literal(Y), Value, L
 
 const WITNESS: [Piece; 1] = [Row];
 
-/// The words before the vertices of a line.
+/// Returns the pieces before the vertices of a line.
 pub fn pieces(kind: Kind) -> &'static [Piece]
     ensures pieces { result.now ≡ the_pieces kind }
     ensures few { length result.now ≤ 7 }

@@ -10,8 +10,8 @@ use map_lists::ItemLists;
 use pg_plane::Ints;
 use std::alloc::AllocError;
 
-// The number of a vertex that begins at `at`, where it is written plainly. That it does not begin with 0 is tested first,
-// so that it needs no other test for that.
+// Returns the number of a vertex that begins at `at`, where it is written plainly. That it does not begin with 0 is tested
+// first, so that it needs no other test for that.
 #[inline(always)]
 fn vertex_at(line: &[u8], at: usize) -> Option<Digits>
     ensures { IfSome result (IsVertexAt line.now at) }
@@ -20,14 +20,8 @@ fn vertex_at(line: &[u8], at: usize) -> Option<Digits>
         return None;
     }
     match plain_at(line, at) {
-        Some(digits) => {
-            if 1 <= digits.value && digits.value <= 65535 {
-                Some(digits)
-            } else {
-                None
-            }
-        }
-        None => None,
+        Some(digits) if 1 <= digits.value && digits.value <= 65535 => Some(digits),
+        _ => None,
     }
 }
 
@@ -41,18 +35,12 @@ fn short_vertex_at(line: &[u8], at: usize) -> Option<Digits>
         return None;
     }
     match short_at(line, at) {
-        Some(digits) => {
-            if 1 <= digits.value && digits.value <= 65535 {
-                Some(digits)
-            } else {
-                None
-            }
-        }
-        None => None,
+        Some(digits) if 1 <= digits.value && digits.value <= 65535 => Some(digits),
+        _ => None,
     }
 }
 
-// The vertex with a number, from 0.
+// Returns the vertex with a number from 1, as one from 0.
 fn vertex(number: u32) -> u16
     requires least { 1 ≤ number }
     requires most { number ≤ 65535 }
@@ -86,41 +74,29 @@ pub fn push_plain(line: &[u8], start: usize, lists: &mut ItemLists<u16>) -> Resu
     Ok(false)
 }
 
-// The coordinate that begins at `at`, where it is written plainly.
+// Returns the coordinate that begins at `at`, where it is written plainly.
 #[inline(always)]
 fn coordinate_at(line: &[u8], at: usize) -> Option<Digits>
     ensures { IfSome result (IsCoordinateAt line.now at) }
 {
     match plain_at(line, at) {
-        Some(digits) => {
-            if digits.value <= 1_048_576 {
-                Some(digits)
-            } else {
-                None
-            }
-        }
-        None => None,
+        Some(digits) if digits.value <= 1_048_576 => Some(digits),
+        _ => None,
     }
 }
 
-/// The coordinate that begins at `at`, where `short_at` finds it.
+/// Returns the coordinate that begins at `at`, where `short_at` finds it.
 #[inline(always)]
 pub fn short_coordinate_at(line: &[u8], at: usize) -> Option<Digits>
     ensures { IfSome result (IsCoordinateAt line.now at) }
 {
     match short_at(line, at) {
-        Some(digits) => {
-            if digits.value <= 1_048_576 {
-                Some(digits)
-            } else {
-                None
-            }
-        }
-        None => None,
+        Some(digits) if digits.value <= 1_048_576 => Some(digits),
+        _ => None,
     }
 }
 
-// A number as a coordinate.
+// Converts a number to a coordinate.
 fn coordinate(number: u32) -> i32
     requires { number ≤ 1048576 }
     ensures { result ≡ pos number }

@@ -21,15 +21,6 @@ fn push_digit(out: &mut Vec<u8>, digit: u64) -> Result<(), AllocError>
     Ok(())
 }
 
-// Appends two digits.
-fn push_digits(out: &mut Vec<u8>, tens: u64, ones: u64) -> Result<(), AllocError>
-    requires { (tens < 10) × (ones < 10) }
-    ensures { OnOk result (out.new.items ≡ out.old.items ++ (48 + tens) ∷ (48 + ones) ∷ []) }
-{
-    push_digit(out, tens)?;
-    push_digit(out, ones)
-}
-
 // Appends a number. Most numbers of a witness have one digit or two.
 #[tactic(auto, using(std::proofs::lemmas::Fmt::decimal_digit, itoa::proofs::Decimal::decimal_two))]
 pub(crate) fn push_number(out: &mut Vec<u8>, number: u64) -> Result<(), AllocError>
@@ -39,7 +30,8 @@ pub(crate) fn push_number(out: &mut Vec<u8>, number: u64) -> Result<(), AllocErr
         return push_digit(out, number);
     }
     if number < 100 {
-        return push_digits(out, number / 10, number % 10);
+        push_digit(out, number / 10)?;
+        return push_digit(out, number % 10);
     }
     let mut buffer = Buffer::new();
     out.extend_from_slice(buffer.format(number).as_bytes())
@@ -54,7 +46,7 @@ pub(crate) fn push_next(out: &mut Vec<u8>, number: u64) -> Result<(), AllocError
     push_number(out, number)
 }
 
-// The word of a method.
+// Returns the word of a method.
 fn word_of(job: GridJob) -> &'static [u8]
     ensures word { result.now ≡ job_word job }
     ensures short { length result.now ≤ 8 }
@@ -78,7 +70,7 @@ pub(crate) struct Heading<'a> {
     pub ghost short: { length word.now ≤ 8 },
 }
 
-// How many bytes the first line and the lines of the vertices take at most.
+// Returns how many bytes the first line and the lines of the vertices take at most.
 fn room_of<R: Numbered>(lists: &Rotations) -> Result<usize, AllocError>
     ensures { IfOk result (λ room. room ≡ 60 + 6 * sum_by length lists.now + fronts_room R.longest (length lists.now)) }
 {
@@ -130,7 +122,7 @@ pub fn print_figure(
     }
 }
 
-// How many bytes the text of a visibility drawing takes at most.
+// Returns how many bytes the text of a visibility drawing takes at most.
 fn bars_room(lists: &Rotations, columns: &Ints) -> Result<usize, AllocError>
     ensures { IfOk result (λ room. room ≡ 60 + 6 * sum_by length lists.now + fronts_room 61 (length lists.now) + (12 * length columns.now + 8)) }
 {
@@ -174,7 +166,7 @@ pub struct Printer {
 }
 
 impl Printer {
-    /// A printer that has printed nothing yet. It takes no memory.
+    /// Makes a printer that has printed nothing yet. It takes no memory.
     pub fn new(alloc: Global) -> Printer {
         Printer {
             numerals: Numerals::new(alloc),

@@ -38,7 +38,7 @@ pub enum Columns {
     NoMemory,
 }
 
-// The numbers of the line of the columns.
+// Returns the numbers of the line of the columns.
 fn integers(alloc: Global, words: &[Word]) -> Result<Ints, AllocError>
     ensures { IfOk result (λ list. list ≡ map integer_of words.now) }
 {
@@ -49,7 +49,7 @@ fn integers(alloc: Global, words: &[Word]) -> Result<Ints, AllocError>
     Ok(list)
 }
 
-// The numbers of the line of the columns, where they are plainly written: they are not kept as words.
+// Returns the numbers of the line of the columns, where they are plainly written: they are not kept as words.
 fn plain_columns(alloc: Global, line: &[u8]) -> Result<Option<Ints>, AllocError>
     ensures { IfOk result (λ found. IfSome found (λ list. IsColumnsLine (words_of line.now) × ColumnsInRange (words_of line.now) × (list ≡ columns_of (words_of line.now)))) }
 {
@@ -93,7 +93,7 @@ fn exact_columns(alloc: Global, line: &[u8]) -> Columns
     }
 }
 
-/// The rectangular dual of a draft.
+/// Returns the rectangular dual of a draft.
 pub fn draft_rects(made: Draft) -> Figure
     requires { length made.lists < 4096 }
     ensures { result ≡ Figure.Rects made.lists (record { x1 = made.x1; x2 = made.x2; y1 = made.y; y2 = made.y2 }) }
@@ -112,14 +112,14 @@ pub fn draft_rects(made: Draft) -> Figure
     }
 }
 
-// The vertices of a list.
+// Returns the vertices of a list.
 fn ids_of(alloc: Global, list: &[u16]) -> Result<Vec<VertexId>, AllocError>
     ensures { IfOk result (λ v. v.items ≡ ids list.now) }
 {
     list.iter().map(|u| VertexId(*u)).collect(alloc)
 }
 
-/// The witness of a draft, whose lists are the branches and then the paths.
+/// Returns the witness of a draft, whose lists are the branches and then the paths.
 pub fn draft_witness(alloc: Global, kind: Subdivided, draft: &Draft) -> Result<Witness, AllocError>
     requires { 0 < length draft.now.lists }
     ensures { IfOk result (λ witness. witness ≡ witness_of kind draft.now.lists) }

@@ -40,7 +40,7 @@ pub struct VertexLine<'a> {
     pub line: &'a [u8],
 }
 
-// The vertex that a number from 1 to 65535 names, from 0.
+// Returns the vertex, from 0, that a number from 1 to 65535 names.
 fn vertex(word: Word) -> u16
     requires { IsVertex word }
     ensures { result ≡ vertex_of word }
@@ -60,7 +60,7 @@ fn push_vertices(words: &[Word], lists: &mut ItemLists<u16>) -> Result<(), Alloc
     Ok(())
 }
 
-/// The number of this sign and size.
+/// Returns the number of this sign and size.
 #[inline(always)]
 pub fn signed_number(z: Signed) -> i32
     ensures { result ≡ signed_value z }
@@ -73,7 +73,7 @@ pub fn signed_number(z: Signed) -> i32
     }
 }
 
-/// A number, and 0 for any other word.
+/// Returns the number that a word is, and 0 for any other word.
 #[inline(always)]
 pub fn integer(word: Word) -> i32
     ensures { result ≡ integer_of word }
@@ -149,7 +149,7 @@ fn push_values<V: Values>(kind: Kind, values: &V, draft: &mut Draft) -> Result<(
     Ok(())
 }
 
-// The point that the line of a vertex gives.
+// Returns the point that the line of a vertex gives.
 #[inline(always)]
 fn point<V: Values>(values: &V) -> Point
     requires { V.Has values.now 2 × V.Has values.now 3 }

@@ -37,7 +37,7 @@ pub trait Numbered {
         ensures written { drop result bytes.new ≡ joined (front_words (pieces) v (numbers self.now v)) ++ drop end bytes.old };
 }
 
-// Number `v` of a list of points.
+// Returns number `v` of a list of points.
 fn point(list: &Points, v: usize) -> Point
     requires { v < length list.now }
     ensures { result ≡ point_at list.now v }
@@ -45,7 +45,7 @@ fn point(list: &Points, v: usize) -> Point
     list.get(v)
 }
 
-// Number `v` of a list of whole numbers.
+// Returns number `v` of a list of whole numbers.
 fn integer(list: &Ints, v: usize) -> i32
     requires { v < length list.now }
     ensures { result ≡ integer_at list.now v }

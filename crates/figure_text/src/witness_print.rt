@@ -11,7 +11,7 @@ use kuratowski::{Kind, Witness};
 use map_lists::VertexId;
 use std::alloc::{AllocError, Global};
 
-// The word of a kind.
+// Returns the word of a kind.
 fn word_of(kind: Kind) -> &'static [u8]
     ensures { result.now ≡ kind_word kind }
 {
@@ -35,17 +35,6 @@ fn push_first(out: &mut Vec<u8>, number: u32, graph: &Graph, kind: Kind) -> Resu
     Ok(())
 }
 
-// Appends the word of a path.
-fn push_path_word(out: &mut Vec<u8>) -> Result<(), AllocError>
-    ensures { OnOk result (out.new.items ≡ out.old.items ++ codes "path") }
-{
-    out.push(b'p')?;
-    out.push(b'a')?;
-    out.push(b't')?;
-    out.push(b'h')?;
-    Ok(())
-}
-
 // Appends the word with which line `v` behind the first begins, from 0.
 fn push_word(out: &mut Vec<u8>, v: usize) -> Result<(), AllocError>
     ensures { OnOk result (out.new.items ≡ out.old.items ++ name_text (row_name (v + 1))) }
@@ -53,7 +42,11 @@ fn push_word(out: &mut Vec<u8>, v: usize) -> Result<(), AllocError>
     if v == 0 {
         return out.extend_from_slice(b"branch");
     }
-    push_path_word(out)
+    out.push(b'p')?;
+    out.push(b'a')?;
+    out.push(b't')?;
+    out.push(b'h')?;
+    Ok(())
 }
 
 // Appends vertices.
@@ -90,7 +83,7 @@ fn push_rows(out: &mut Vec<u8>, witness: &Witness) -> Result<(), AllocError>
 // How many bytes the text of a witness of few vertices has at most.
 const ROOM: usize = 256;
 
-// The text of a witness.
+// Returns the text of a witness.
 fn witness_text_of(
     alloc: Global,
     number: u32,

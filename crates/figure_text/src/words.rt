@@ -53,7 +53,7 @@ pub enum Word {
 /// Stands for all numbers beyond the ranges.
 pub const FAR: u64 = 100_000_000;
 
-// The number that a word is, if it is one.
+// Returns the number that a word is, if it is one.
 fn number(word: &[u8]) -> Option<u32>
     ensures { result ≡ number_of word.now }
 {
@@ -66,7 +66,7 @@ fn number(word: &[u8]) -> Option<u32>
     }
 }
 
-// The signed number that a word is, if it is one.
+// Returns the signed number that a word is, if it is one.
 fn signed_number(word: &[u8]) -> Option<Signed>
     ensures { result ≡ signed_of word.now }
 {
@@ -89,7 +89,7 @@ fn signed_number(word: &[u8]) -> Option<Signed>
     }
 }
 
-// A signed number, or one before a colon.
+// Reads a signed number, or one before a colon.
 fn numeral(word: &[u8]) -> Word
     ensures { result ≡ numeral_word (signed_of word.now) (closing_of word.now) }
 {
@@ -105,7 +105,7 @@ fn numeral(word: &[u8]) -> Word
     }
 }
 
-// Whether a word is this one.
+// Says whether a word is this one.
 fn is_text(word: &[u8], text: &[u8]) -> bool
     ensures { result ≡ bytes_eq word.now text.now }
 {
@@ -151,7 +151,7 @@ fn named(bytes: &[u8]) -> Word
     }
 }
 
-// Whether a word begins with a byte below all letters of names, as numbers do.
+// Says whether a word begins with a byte below all letters of names, as numbers do.
 fn is_low(word: &[u8]) -> bool
     ensures { result ≡ (nat_lt 0 (length word.now) && nat_lt (slice_index word.now 0) 75) }
 {
@@ -174,7 +174,7 @@ fn word_of(word: &[u8]) -> Word
     }
 }
 
-// The place of the first space from `at` on, or the end.
+// Returns the offset of the first space from `at` on, or the end.
 fn word_end(line: &[u8], at: usize) -> usize
     requires { at ≤ length line.now }
     ensures order { at ≤ result }
@@ -202,7 +202,7 @@ pub struct Digits {
     pub end: usize,
 }
 
-// How far a byte stands from the digit 0, or a number beyond 9 where it is no digit.
+// Returns the value of a digit, or a number beyond 9 where the byte is no digit.
 #[inline(always)]
 fn digit_of(byte: u8) -> u32
     ensures is { nat_lt result 10 ≡ is_digit byte }
@@ -211,7 +211,7 @@ fn digit_of(byte: u8) -> u32
     u32::from(byte).wrapping_sub(48)
 }
 
-// The digits that stand from `at` on, or the first `count` of them.
+// Reads the digits that stand from `at` on, or the first `count` of them.
 #[inline(always)]
 fn first_digits(line: &[u8], at: usize, count: usize) -> Digits
     requires few { count ≤ 6 }
@@ -236,8 +236,8 @@ fn first_digits(line: &[u8], at: usize, count: usize) -> Digits
     }
 }
 
-// The digits that stand from `at` on, or the first six of them. Where six bytes are left, the loop is one of six rounds; where
-// four are, as mostly at the end of a line, one of four.
+// Reads the digits that stand from `at` on, or the first six of them. Where six bytes are left, the loop has six rounds; where
+// four are, as mostly at the end of a line, it has four.
 #[inline(always)]
 fn digits_from(line: &[u8], at: usize) -> Digits
     requires { at ≤ length line.now }
@@ -256,14 +256,14 @@ fn digits_from(line: &[u8], at: usize) -> Digits
     }
 }
 
-// Whether a word may end here.
+// Says whether a word may end at `end`.
 fn ends_at(line: &[u8], end: usize) -> bool
     ensures { IsTrue result → end < length line.now → slice_index line.now end ≡ 32 }
 {
     line.len() <= end || line[end] == b' '
 }
 
-// Whether a word may end behind a colon that stands here.
+// Says whether a colon stands at `end`, after which a word may end.
 fn closes_at(line: &[u8], end: usize) -> bool
     ensures { IsTrue result → (end < length line.now) × (slice_index line.now end ≡ 58)
         × (end + 1 < length line.now → slice_index line.now (end + 1) ≡ 32) }
@@ -280,7 +280,7 @@ pub struct Next {
     pub end: usize,
 }
 
-/// The word that begins at `at`.
+/// Reads the word that begins at `at`.
 #[inline(always)]
 pub fn next_word(line: &[u8], at: usize) -> Next
     requires { at ≤ length line.now }
@@ -318,7 +318,7 @@ pub fn next_word(line: &[u8], at: usize) -> Next
     }
 }
 
-/// The number that begins at `at`, where it has no minus and at most six digits.
+/// Returns the number that begins at `at`, where it has no minus and at most six digits.
 #[inline(always)]
 pub fn plain_at(line: &[u8], at: usize) -> Option<Digits>
     ensures { IfSome result (IsPlainAt line.now at) }
@@ -412,7 +412,7 @@ pub fn fill_front(line: &[u8], most: usize, found: &mut Vec<Word>) -> Result<usi
     Ok(at)
 }
 
-// Whether a word is neither a number nor a word of figures.
+// Says whether a word is neither a number nor a word of figures.
 fn is_other(word: Word) -> bool
     ensures { IsTrue result ↔ (word ≡ Word.Other) }
 {
@@ -441,7 +441,7 @@ pub fn fill_known(line: &[u8], found: &mut Vec<Word>) -> Result<bool, AllocError
     Ok(true)
 }
 
-/// The words of a line, where each is a number or a word of figures.
+/// Returns the words of a line, where each is a number or a word of figures.
 pub fn known_words(alloc: Global, line: &[u8]) -> Result<Option<Vec<Word>>, AllocError>
     ensures { IfOk result (λ found. MatchOption found (HasOther (words_of line.now)) (λ v. v.items ≡ words_of line.now)) }
 {
