@@ -2,6 +2,8 @@
 
 mod down;
 mod points;
+mod run;
 mod spots;
 
 pub use points::{SpotTable, count_points, count_points_again};
+pub use run::FaceRun;

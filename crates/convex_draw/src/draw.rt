@@ -7,7 +7,7 @@ ghost use Rattle.half_edges.specs.Map.{IsLive, dart_at};
 ghost use Rattle.convex_draw.specs.Grids.{IsConvexGrid};
 ghost use Rattle.convex_draw.specs.RunPoints.{AreRunPoints};
 
-use crate::convex_points::count_points;
+use crate::convex_points::{FaceRun, count_points};
 use convex_orders::rows_by_faces;
 use euler_faces::{Faces, faces};
 use half_edges::{DartId, HalfMap, Rotations};
@@ -66,7 +66,14 @@ pub fn figure_by_faces(
 {
     let rows = rows_by_faces(alloc, map, lists, faces, base)?;
     let side = side_of(map);
-    let points = count_points(alloc, &rows, map.head(base), map.tail(base), map.n(), side)?;
+    let run = FaceRun {
+        rows: &rows,
+        d: map.head(base),
+        s: map.tail(base),
+        count: map.n(),
+        faces: side,
+    };
+    let points = count_points(alloc, &run)?;
     Ok(in_square(points, side))
 }
 

@@ -9,7 +9,7 @@ ghost use Rattle.convex_class.specs.Convexity.{BreaksConvex};
 ghost use Rattle.convex_draw.specs.Figures.{IsConvexFigure};
 
 use crate::figure_by_faces;
-use convex_class::convex_maps::{ConvexMap, convex_map_with_faces};
+use convex_class::convex_maps::convex_map_with_faces;
 use half_edges::{DartId, HalfMap, Rotations, VertexId};
 use pg_plane::GridFigure;
 use refusals::Unserved;
@@ -25,19 +25,6 @@ fn first_dart(map: &HalfMap) -> DartId
         Some(d) => d,
         None => unreachable!(),
     }
-}
-
-// The figure of a three-connected map with these lists.
-fn map_figure(alloc: Global, found: &ConvexMap, lists: &Rotations) -> Result<GridFigure, AllocError>
-    requires plane { IsPlane found.now.map.lists }
-    requires three { IsThreeConnected found.now.map.lists }
-    requires lists { found.now.map.lists ≡ lists.now }
-    requires faces { AreFaces found.now.map found.now.faces }
-    ensures { IfOk result (IsConvexFigure found.now.map.lists) }
-{
-    let base = first_dart(&found.map);
-    let figure = figure_by_faces(alloc, &found.map, lists, &found.faces, base)?;
-    Ok(figure)
 }
 
 /// The figure of a record with these lists, which are from 1 to 4095: a point for each vertex, so that each edge is a
@@ -58,6 +45,7 @@ pub fn convex_figure(alloc: Global, lists: &Rotations) -> Result<GridFigure, Uns
     ensures refused { IfErr result (IfRefused (BreaksConvex lists.now)) }
 {
     let found = convex_map_with_faces(alloc, lists)?;
-    let figure = map_figure(alloc, &found, lists)?;
+    let base = first_dart(&found.map);
+    let figure = figure_by_faces(alloc, &found.map, lists, &found.faces, base)?;
     Ok(figure)
 }

@@ -11,7 +11,7 @@ ghost use Rattle.convex_draw.specs.Figures.{IsConvexFigure};
 
 use crate::convex_figures::draw::convex_figure;
 use crate::convex_figures::numbers::{NumberTables, numbers_again};
-use crate::convex_points::{SpotTable, count_points_again};
+use crate::convex_points::{FaceRun, SpotTable, count_points_again};
 use crate::draw::in_square;
 use convex_orders::face_numbers::FaceNumbers;
 use convex_orders::{RowTables, Tables, rows_again, tables_of};
@@ -113,15 +113,14 @@ fn run_again(
     let tables = tables_of(spent.lists, lists, faces, 0, t)?;
     let rows = rows_again(spent.rows, &tables)?;
     let side = less_one(tables.faces.count);
-    let (points, spots) = count_points_again(
-        alloc,
-        spent.spots,
-        &rows.rows,
-        VertexId(t),
-        VertexId(0),
-        count_of(lists),
-        side,
-    )?;
+    let made = FaceRun {
+        rows: &rows.rows,
+        d: VertexId(t),
+        s: VertexId(0),
+        count: count_of(lists),
+        faces: side,
+    };
+    let (points, spots) = count_points_again(alloc, spent.spots, &made)?;
     let figure = in_square(points, side);
     let Tables {
         lists: kept,
@@ -153,42 +152,6 @@ fn has_all(connected: bool, faces: u32, lists: &Rotations) -> bool
     connected && faces as usize + 4 == 2 * lists.len()
 }
 
-// The figure of lists with as many entries as a triangulation, where they are one; `t` is the first of vertex 0's. The
-// tables come back.
-fn drawn_full(
-    alloc: Global,
-    lists: &Rotations,
-    twins: &[u32],
-    t: u16,
-    tables: DrawTables,
-) -> Result<(Option<GridFigure>, DrawTables), AllocError>
-    requires simple { IsSimpleMap lists.now }
-    requires twins { AreTwins (darts lists.now) twins.now (length (darts lists.now)) }
-    requires some { 4 ≤ length lists.now }
-    requires full { sum_by length lists.now + 12 ≡ 6 * length lists.now }
-    requires first { slice_index (list_of lists.now 0) 0 ≡ t }
-    ensures { IfOk result (λ made. (figure : Figure) → made.0 ≡ Some figure → IsPlane lists.now × IsThreeConnected lists.now × IsConvexFigure lists.now figure) }
-{
-    let (connected, parts) = is_connected(lists, tables.parts)?;
-    let faces = numbers_again(tables.faces, lists, twins)?;
-    if !has_all(connected, faces.numbers.count, lists) {
-        let run = tables.run;
-        return Ok((None, DrawTables { parts, faces, run }));
-    }
-    let NumberTables {
-        numbers,
-        rank,
-        arcs,
-    } = faces;
-    let (figure, run, numbers) = run_again(alloc, tables.run, lists, numbers, t)?;
-    let faces = NumberTables {
-        numbers,
-        rank,
-        arcs,
-    };
-    Ok((Some(figure), DrawTables { parts, faces, run }))
-}
-
 // The figure of a record with as many entries as a triangulation, by the twins of its darts, where it is one. The tables
 // come back.
 fn drawn(
@@ -207,8 +170,24 @@ fn drawn(
         return Ok((None, tables));
     }
     let t = lists.list(0)[0];
-    let made = drawn_full(alloc, lists, twins, t, tables)?;
-    Ok(made)
+    let (connected, parts) = is_connected(lists, tables.parts)?;
+    let faces = numbers_again(tables.faces, lists, twins)?;
+    if !has_all(connected, faces.numbers.count, lists) {
+        let run = tables.run;
+        return Ok((None, DrawTables { parts, faces, run }));
+    }
+    let NumberTables {
+        numbers,
+        rank,
+        arcs,
+    } = faces;
+    let (figure, run, numbers) = run_again(alloc, tables.run, lists, numbers, t)?;
+    let faces = NumberTables {
+        numbers,
+        rank,
+        arcs,
+    };
+    Ok((Some(figure), DrawTables { parts, faces, run }))
 }
 
 /// Draws records, one after another, and keeps its tables for the next.

@@ -8,6 +8,7 @@ ghost use Rattle.convex_draw.specs.Spots.{spot_of};
 ghost use Rattle.convex_draw.specs.Sums.{IsLast, AreWalked, IsFree, AreAdded, AreDone};
 ghost use Rattle.convex_draw.specs.Runs.{IsCountRun};
 
+use crate::convex_points::run::FaceRun;
 use crate::convex_points::spots::{Spot, put_all};
 use convex_laws::convex_rows::ConvexRows;
 
@@ -64,13 +65,13 @@ fn add_all(spots: &mut [Spot], rows: &ConvexRows)
     }
 }
 
-// The counts of each vertex.
-pub(crate) fn find_counts(spots: &mut [Spot], rows: &ConvexRows, d: u16, s: u16, faces: u32)
-    requires run { (steps : ℕ → Step) × (name : ℕ → ℕ) × IsCountRun steps name rows.now (length spots.old) × (name 0 ≡ d) × (name 1 ≡ s) × (faces_made steps (length rows.now.rows) ≡ faces) }
-    ensures { (steps : ℕ → Step) (name : ℕ → ℕ) → IsCountRun steps name rows.now (length spots.old) → name 0 ≡ d → name 1 ≡ s → faces_made steps (length rows.now.rows) ≡ faces
-        → (r : ℕ) → r < length spots.old → ((spot_of spots.new (name r)).one ≡ (face_counts steps (length rows.now.rows)).one r) × ((spot_of spots.new (name r)).two ≡ (face_counts steps (length rows.now.rows)).two r) }
+/// Finds the counts of each vertex.
+pub(crate) fn find_counts(spots: &mut [Spot], run: &FaceRun<'_>)
+    requires run { (steps : ℕ → Step) × (name : ℕ → ℕ) × IsCountRun steps name run.now.rows.now (length spots.old) × (name 0 ≡ run.now.d.0) × (name 1 ≡ run.now.s.0) × (faces_made steps (length run.now.rows.now.rows) ≡ run.now.faces) }
+    ensures { (steps : ℕ → Step) (name : ℕ → ℕ) → IsCountRun steps name run.now.rows.now (length spots.old) → name 0 ≡ run.now.d.0 → name 1 ≡ run.now.s.0 → faces_made steps (length run.now.rows.now.rows) ≡ run.now.faces
+        → (r : ℕ) → r < length spots.old → ((spot_of spots.new (name r)).one ≡ (face_counts steps (length run.now.rows.now.rows)).one r) × ((spot_of spots.new (name r)).two ≡ (face_counts steps (length run.now.rows.now.rows)).two r) }
 {
-    let width = put_all(spots, rows, d, s);
-    walk(spots, s, faces, width);
-    add_all(spots, rows);
+    let width = put_all(spots, run.rows, run.d.0, run.s.0);
+    walk(spots, run.s.0, run.faces, width);
+    add_all(spots, run.rows);
 }

@@ -7,9 +7,8 @@ ghost use Rattle.convex_draw.specs.Spots.{spot_of};
 ghost use Rattle.convex_draw.specs.Points.{IsListedRun, ArePointsOf, ArePlaced};
 
 use crate::convex_points::down::find_counts;
+use crate::convex_points::run::FaceRun;
 use crate::convex_points::spots::Spot;
-use convex_laws::convex_rows::ConvexRows;
-use map_lists::VertexId;
 use pg_plane::{Point, Points};
 use std::alloc::{AllocError, Global};
 
@@ -36,22 +35,14 @@ fn points_of(alloc: Global, spots: &[Spot]) -> Result<Points, AllocError>
     Ok(points)
 }
 
-// The points of a run, with room for what is kept of its vertices.
-fn run_points(
-    alloc: Global,
-    spots: &mut [Spot],
-    rows: &ConvexRows,
-    d: u16,
-    s: u16,
-    faces: u32,
-) -> Result<Points, AllocError>
-    requires few { faces < 1048576 }
+// Returns the points of a run, with room for what is kept of its vertices.
+fn run_points(alloc: Global, spots: &mut [Spot], run: &FaceRun<'_>) -> Result<Points, AllocError>
     requires small { length spots.old < 65536 }
-    requires run { (steps : ℕ → Step) × (at : ℕ → ℕ) × IsListedRun steps at rows.now d s (length spots.old) faces }
-    ensures { IfOk result (λ points. (steps : ℕ → Step) (at : ℕ → ℕ) → IsListedRun steps at rows.now d s (length spots.old) faces
-        → ArePointsOf (face_counts (well_turned steps) (length rows.now.rows)) at (length spots.old) points) }
+    requires run { (steps : ℕ → Step) × (at : ℕ → ℕ) × IsListedRun steps at run.now.rows.now run.now.d.0 run.now.s.0 (length spots.old) run.now.faces }
+    ensures { IfOk result (λ points. (steps : ℕ → Step) (at : ℕ → ℕ) → IsListedRun steps at run.now.rows.now run.now.d.0 run.now.s.0 (length spots.old) run.now.faces
+        → ArePointsOf (face_counts (well_turned steps) (length run.now.rows.now.rows)) at (length spots.old) points) }
 {
-    find_counts(spots, rows, d, s, faces);
+    find_counts(spots, run);
     points_of(alloc, spots)
 }
 
@@ -70,70 +61,39 @@ impl SpotTable {
     }
 }
 
-// Room for so many vertices, in the memory of others.
-fn room_for(spent: Vec<Spot>, count: usize) -> Result<Vec<Spot>, AllocError>
-    ensures { IfOk result (λ made. length made.items ≡ count) }
-{
-    let mut made = spent;
-    made.resize(
-        count,
-        Spot {
-            one: 0,
-            two: 0,
-            over: 0,
-        },
-    )?;
-    Ok(made)
-}
-
-/// The points that [`count_points`] gives, with a table that may have served other runs, and comes back.
+/// Returns the points that [`count_points`] gives, with a table that may have served other runs, and comes back.
 pub fn count_points_again(
     alloc: Global,
     spent: SpotTable,
-    rows: &ConvexRows,
-    d: VertexId,
-    s: VertexId,
-    count: u16,
-    faces: u32,
+    run: &FaceRun<'_>,
 ) -> Result<(Points, SpotTable), AllocError>
-    requires few { faces < 1048576 }
-    requires run { (steps : ℕ → Step) × (at : ℕ → ℕ) × IsListedRun steps at rows.now d.0 s.0 count faces }
-    ensures { IfOk result (λ made. (steps : ℕ → Step) (at : ℕ → ℕ) → IsListedRun steps at rows.now d.0 s.0 count faces
-        → ArePointsOf (face_counts (well_turned steps) (length rows.now.rows)) at count made.0) }
+    requires run { (steps : ℕ → Step) × (at : ℕ → ℕ) × IsListedRun steps at run.now.rows.now run.now.d.0 run.now.s.0 run.now.count run.now.faces }
+    ensures { IfOk result (λ made. (steps : ℕ → Step) (at : ℕ → ℕ) → IsListedRun steps at run.now.rows.now run.now.d.0 run.now.s.0 run.now.count run.now.faces
+        → ArePointsOf (face_counts (well_turned steps) (length run.now.rows.now.rows)) at run.now.count made.0) }
 {
-    let mut spots = room_for(spent.spots, count as usize)?;
-    let points = run_points(alloc, &mut spots, rows, d.0, s.0, faces)?;
+    let mut spots = spent.spots;
+    let none = Spot {
+        one: 0,
+        two: 0,
+        over: 0,
+    };
+    spots.resize(run.count as usize, none)?;
+    let points = run_points(alloc, &mut spots, run)?;
     Ok((points, SpotTable { spots }))
 }
 
-/// The points of `count` vertices by counts of faces over a run from the base d, s, which makes so many faces. The
-/// turns of its faces are read off the counts.
+/// Returns the points of the vertices of a run, by counts of faces over it. The turns of its faces are read off the
+/// counts.
 ///
 /// It fails only when out of memory. The time is linear in the entries of the rows: a step gives how far what it
 /// covers stands from what takes its place, and these differences are added up in the end.
 ///
 /// Source: Felsner, Convex drawings of planar graphs and the order dimension of 3-polytopes, 2001.
-pub fn count_points(
-    alloc: Global,
-    rows: &ConvexRows,
-    d: VertexId,
-    s: VertexId,
-    count: u16,
-    faces: u32,
-) -> Result<Points, AllocError>
-    requires few { faces < 1048576 }
-    requires run { (steps : ℕ → Step) × (at : ℕ → ℕ) × IsListedRun steps at rows.now d.0 s.0 count faces }
-    ensures { IfOk result (λ points. (steps : ℕ → Step) (at : ℕ → ℕ) → IsListedRun steps at rows.now d.0 s.0 count faces
-        → ArePointsOf (face_counts (well_turned steps) (length rows.now.rows)) at count points) }
+pub fn count_points(alloc: Global, run: &FaceRun<'_>) -> Result<Points, AllocError>
+    requires run { (steps : ℕ → Step) × (at : ℕ → ℕ) × IsListedRun steps at run.now.rows.now run.now.d.0 run.now.s.0 run.now.count run.now.faces }
+    ensures { IfOk result (λ points. (steps : ℕ → Step) (at : ℕ → ℕ) → IsListedRun steps at run.now.rows.now run.now.d.0 run.now.s.0 run.now.count run.now.faces
+        → ArePointsOf (face_counts (well_turned steps) (length run.now.rows.now.rows)) at run.now.count points) }
 {
-    let (points, _spots) = count_points_again(
-        alloc,
-        SpotTable::new(alloc),
-        rows,
-        d,
-        s,
-        count,
-        faces,
-    )?;
+    let (points, _spots) = count_points_again(alloc, SpotTable::new(alloc), run)?;
     Ok(points)
 }

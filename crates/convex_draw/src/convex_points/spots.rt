@@ -32,29 +32,41 @@ fn total_fall(spots: &[Spot], row: &[u16]) -> u32
     fall
 }
 
-// Returns the spot of a covered vertex, for which `gain` of the `faces` new faces count as two.
-fn settle_as(faces: u16, gain: u16, fall: u32, rise: u32, p: u16, z: u16, q: u16) -> Spot
-    requires gain { gain ≤ faces }
-    requires small { (fall < 1048576) × (rise < 1048576) }
-    ensures { result ≡ settled faces gain fall rise p z q }
-{
-    if gain == 0 {
-        Spot {
-            one: 0,
-            two: rise,
-            over: p,
-        }
-    } else if gain == faces {
-        Spot {
-            one: fall,
-            two: 0,
-            over: q,
-        }
-    } else {
-        Spot {
-            one: fall + (faces - gain) as u32,
-            two: rise + gain as u32,
-            over: z,
+// What a covered vertex may go under: the first vertex of the row, the last one, or the first new vertex. So many new
+// faces stand over the row.
+#[derive(Clone, Copy)]
+struct Cover {
+    p: u16,
+    q: u16,
+    z: u16,
+    faces: u16,
+}
+
+impl Cover {
+    // Returns the spot of a covered vertex, for which `gain` of the new faces count as two.
+    fn spot(&self, gain: u16, fall: u32, rise: u32) -> Spot
+        requires gain { gain ≤ self.now.faces }
+        requires small { (fall < 1048576) × (rise < 1048576) }
+        ensures { result ≡ settled self.now.faces gain fall rise self.now.p self.now.z self.now.q }
+    {
+        if gain == 0 {
+            Spot {
+                one: 0,
+                two: rise,
+                over: self.p,
+            }
+        } else if gain == self.faces {
+            Spot {
+                one: fall,
+                two: 0,
+                over: self.q,
+            }
+        } else {
+            Spot {
+                one: fall + (self.faces - gain) as u32,
+                two: rise + gain as u32,
+                over: self.z,
+            }
         }
     }
 }
@@ -97,6 +109,7 @@ fn settle(spots: &mut [Spot], row: &[u16], cuts: &[u16], z: u16, fall: u32) -> u
 {
     let (p, q) = (row[0], row[row.len() - 1]);
     let faces = (cuts.len() - 1) as u16;
+    let cover = Cover { p, q, z, faces };
     let mut far = fall;
     let mut rise = 0;
     let mut face = 0;
@@ -109,7 +122,7 @@ fn settle(spots: &mut [Spot], row: &[u16], cuts: &[u16], z: u16, fall: u32) -> u
         rise += old.two;
         gain = gain_at(at_cut, is_left(old), face, gain);
         face = more_if(at_cut, face);
-        spots[u] = settle_as(faces, gain, far, rise, p, z, q);
+        spots[u] = cover.spot(gain, far, rise);
     }
     rise
 }

@@ -21,11 +21,11 @@ side_of-side-requires-clause-faces c =
     let live = dart_of-live c.args.map.now c.args.base.0 c.requires.base in
     faces_two c.args.map.now.lists b.0 b.1 c.in_ok-rows.rows (IsRunByRows-of c.args.map.now.lists b.0 b.1 c.in_ok-rows.rows (c.in_ok-rows.ensures b.0 b.1 live))
 
-pub count_points-requires-clause-few : goal.count_points-requires-clause-few
-count_points-requires-clause-few c =
+pub invariant_of-run : goal.invariant_of-run
+invariant_of-run c =
     let b = dart_of c.args.map.now c.args.base.0 in
     let live = dart_of-live c.args.map.now c.args.base.0 c.requires.base in
-    side_small c.args.map.now.lists b.0 b.1 c.in_ok-rows.rows (IsRunByRows-of c.args.map.now.lists b.0 b.1 c.in_ok-rows.rows (c.in_ok-rows.ensures b.0 b.1 live)) c.side_of-side.result c.side_of-side.ensures c.n.ensures.known.few_vertices
+    record { few = side_small c.args.map.now.lists b.0 b.1 c.in_ok-rows.rows (IsRunByRows-of c.args.map.now.lists b.0 b.1 c.in_ok-rows.rows (c.in_ok-rows.ensures b.0 b.1 live)) c.side_of-side.result c.side_of-side.ensures c.n.ensures.known.few_vertices }
 
 pub in_square-requires : goal.in_square-requires
 in_square-requires c =
@@ -49,13 +49,13 @@ listed :
 listed lists s d rows h side d' s' count e f k n =
     subst (λ d. IsListedRun h.steps h.at rows d s' count side) f (subst (λ s. IsListedRun h.steps h.at rows d s count side) k (subst (λ m. IsListedRun h.steps h.at rows d s m side) n (IsListedRun-rows lists s d rows h side e)))
 
-pub count_points-requires-clause-run : goal.count_points-requires-clause-run
-count_points-requires-clause-run c =
+pub count_points-requires : goal.count_points-requires
+count_points-requires c =
     let map = c.args.map.now in
     let b = dart_of map c.args.base.0 in
     let live = dart_of-live map c.args.base.0 c.requires.base in
     let h = IsRunByRows-of map.lists b.0 b.1 c.in_ok-rows.rows (c.in_ok-rows.ensures b.0 b.1 live) in
-    (h.steps, h.at, listed map.lists b.0 b.1 c.in_ok-rows.rows h c.side_of-side.result c.head.result.0 c.tail.result.0 c.n.result c.side_of-side.ensures (head_is map c.args.base.0 b.0 b.1 c.head.result.0 live c.head.ensures) (tail_is map c.args.base.0 b.0 b.1 c.tail.result.0 live c.tail.ensures) (sym c.n.ensures.count))
+    record { run = (h.steps, h.at, listed map.lists b.0 b.1 c.in_ok-rows.rows h c.side_of-side.result c.head.result.0 c.tail.result.0 c.n.result c.side_of-side.ensures (head_is map c.args.base.0 b.0 b.1 c.head.result.0 live c.head.ensures) (tail_is map c.args.base.0 b.0 b.1 c.tail.result.0 live c.tail.ensures) (sym c.n.ensures.count)) }
 
 pub returns-clause-grid : goal.returns-clause-grid
 returns-clause-grid c = λ s d e.

@@ -21,8 +21,8 @@ less_one-side-requires c =
     let all : tables.faces.count ≡ face_count lists = ap (λ (f : FaceNumbers). f.count) e.faces ∙ r.count in
     omega (arith, two_faces lists c.facts.ensures 0 c.args.t rows are, all)
 
-pub count_points_again-requires-clause-few : goal.count_points_again-requires-clause-few
-count_points_again-requires-clause-few c =
+pub invariant_of-made : goal.invariant_of-made
+invariant_of-made c =
     let r = c.requires in
     let lists = c.args.lists.now in
     let e = c.in_ok-tables.ensures in
@@ -30,10 +30,10 @@ count_points_again-requires-clause-few c =
     let rows = c.in_ok-rows.rows.rows in
     let are : AreRowsOfRun lists 0 c.args.t rows = rows_by lists c.args.t tables rows e.lists e.tail e.head c.in_ok-rows.ensures in
     let all : tables.faces.count ≡ face_count lists = ap (λ (f : FaceNumbers). f.count) e.faces ∙ r.count in
-    small_side lists c.facts.ensures 0 c.args.t rows are c.less_one-side.result (c.less_one-side.ensures ∙ all)
+    record { few = small_side lists c.facts.ensures 0 c.args.t rows are c.less_one-side.result (c.less_one-side.ensures ∙ all) }
 
-pub count_points_again-requires-clause-run : goal.count_points_again-requires-clause-run
-count_points_again-requires-clause-run c =
+pub count_points_again-requires : goal.count_points_again-requires
+count_points_again-requires c =
     let r = c.requires in
     let lists = c.args.lists.now in
     let e = c.in_ok-tables.ensures in
@@ -42,7 +42,7 @@ count_points_again-requires-clause-run c =
     let are : AreRowsOfRun lists 0 c.args.t rows = rows_by lists c.args.t tables rows e.lists e.tail e.head c.in_ok-rows.ensures in
     let all : tables.faces.count ≡ face_count lists = ap (λ (f : FaceNumbers). f.count) e.faces ∙ r.count in
     let h = run lists c.facts.ensures 0 c.args.t rows are in
-    (h.steps, h.at, listed_run lists c.facts.ensures 0 c.args.t rows are c.less_one-side.result c.count_of.result (c.less_one-side.ensures ∙ all) c.count_of.ensures)
+    record { run = (h.steps, h.at, listed_run lists c.facts.ensures 0 c.args.t rows are c.less_one-side.result c.count_of.result (c.less_one-side.ensures ∙ all) c.count_of.ensures) }
 
 pub in_square-figure-requires : goal.in_square-figure-requires
 in_square-figure-requires c =

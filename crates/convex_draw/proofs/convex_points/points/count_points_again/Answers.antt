@@ -8,13 +8,13 @@ use Rattle.convex_draw.proofs.convex_points.points.count_points_again.Goals as g
 pub run_points-requires-clause-run : goal.run_points-requires-clause-run
 run_points-requires-clause-run c =
     let w = c.requires.run in
-    let n = c.in_ok-spots.ensures in
+    let n = c.in_ok-resize.ensures.len in
     let n' = c.deref_mut.ensures.len in
-    (w.0, w.1, subst (λ m. IsListedRun w.0 w.1 c.args.rows.now c.args.d.0 c.args.s.0 m c.args.faces) (omega arith) w.2)
+    (w.0, w.1, subst (λ m. IsListedRun w.0 w.1 c.args.run.now.rows.now c.args.run.now.d.0 c.args.run.now.s.0 m c.args.run.now.faces) (omega arith) w.2)
 
 pub returns : goal.returns
 returns c =
-    let n = c.in_ok-spots.ensures in
+    let n = c.in_ok-resize.ensures.len in
     let n' = c.deref_mut.ensures.len in
-    let e : length c.deref_mut.result.now ≡ c.args.count = omega arith in
-    subst (λ m. (steps : ℕ → Step) (at : ℕ → ℕ) → IsListedRun steps at c.args.rows.now c.args.d.0 c.args.s.0 m c.args.faces → ArePointsOf (face_counts (well_turned steps) (length c.args.rows.now.rows)) at m c.in_ok-points.points) e c.in_ok-points.ensures
+    let e : length c.deref_mut.result.now ≡ c.args.run.now.count = omega arith in
+    subst (λ m. (steps : ℕ → Step) (at : ℕ → ℕ) → IsListedRun steps at c.args.run.now.rows.now c.args.run.now.d.0 c.args.run.now.s.0 m c.args.run.now.faces → ArePointsOf (face_counts (well_turned steps) (length c.args.run.now.rows.now.rows)) at m c.in_ok-points.points) e c.in_ok-points.ensures

@@ -74,8 +74,8 @@ more_if-face-requires c =
     let i : ℕ = w.0.step.first + c.loop-j.j - 1 in
     face_small w.0 c.args.spots.now c.args.row.now c.args.cuts.now w.1 w.2 i c.loop-j.face c.loop-j.gain c.loop-j.far c.loop-j.rise c.loop-j.j c.loop-j.spots (c.loop-j.invariant w.0 w.1 w.2 w.3 w.4 i (omega arith)) (omega arith) (omega arith) (omega arith) same
 
-pub settle_as-requires-clause-gain : goal.settle_as-requires-clause-gain
-settle_as-requires-clause-gain c =
+pub spot-requires-clause-gain : goal.spot-requires-clause-gain
+spot-requires-clause-gain c =
     let w = c.requires.put in
     let same = c.loop-j.auto.spots in
     let test = c.loop-j-test.true in
@@ -83,8 +83,8 @@ settle_as-requires-clause-gain c =
     let i : ℕ = w.0.step.first + c.loop-j.j - 1 in
     let small = gain_small w.0 c.args.spots.now c.args.row.now c.args.cuts.now w.1 w.2 i c.loop-j.face c.loop-j.gain c.loop-j.far c.loop-j.rise c.loop-j.j c.loop-j.spots (c.loop-j.invariant w.0 w.1 w.2 w.3 w.4 i (omega arith)) (omega arith) (omega arith) (omega arith) same in omega (arith, small, c.gain_at-gain.ensures ∙ ap (λ (b : Bool). if eqb c.loop-j.j (get_or c.args.cuts.now (c.loop-j.face + 1) 0) then c.loop-j.face + 1 else (if b then c.loop-j.gain else c.loop-j.face + 1)) c.is_left.ensures)
 
-pub settle_as-requires-clause-small : goal.settle_as-requires-clause-small
-settle_as-requires-clause-small c =
+pub spot-requires-clause-small : goal.spot-requires-clause-small
+spot-requires-clause-small c =
     let w = c.requires.put in
     let same = c.loop-j.auto.spots in
     let test = c.loop-j-test.true in
@@ -111,8 +111,8 @@ loop-j-preserved c = λ w news put z fall k e.
     let last = row_last w c.args.spots.now c.args.row.now put.over in
     let gain = c.gain_at-gain.ensures ∙ ap (λ (b : Bool). if eqb c.loop-j.j (get_or c.args.cuts.now (c.loop-j.face + 1) 0) then c.loop-j.face + 1 else (if b then c.loop-j.gain else c.loop-j.face + 1)) c.is_left.ensures in
     let spot : Spot = spot_of c.loop-j.spots (get_or c.args.row.now c.loop-j.j 0) in
-    here-next w c.args.spots.now c.args.row.now c.args.cuts.now news put i c.loop-j.face c.loop-j.gain c.loop-j.far c.loop-j.rise c.loop-j.j c.loop-j.spots (c.loop-j.invariant w news put z fall i (omega arith)) (omega arith) (omega arith) (omega arith) same k c.more_if-face.result c.gain_at-gain.result c.settle_as.result (omega arith) c.more_if-face.ensures gain
-    (c.settle_as.ensures ∙ ap (λ m. settled (length c.args.cuts.now - 1) m (c.loop-j.far - spot.one) (c.loop-j.rise + spot.two) (get_or c.args.row.now 0 0) c.args.z (get_or c.args.row.now (length c.args.row.now - 1) 0)) gain
+    here-next w c.args.spots.now c.args.row.now c.args.cuts.now news put i c.loop-j.face c.loop-j.gain c.loop-j.far c.loop-j.rise c.loop-j.j c.loop-j.spots (c.loop-j.invariant w news put z fall i (omega arith)) (omega arith) (omega arith) (omega arith) same k c.more_if-face.result c.gain_at-gain.result c.spot.result (omega arith) c.more_if-face.ensures gain
+    (c.spot.ensures ∙ ap (λ m. settled (length c.args.cuts.now - 1) m (c.loop-j.far - spot.one) (c.loop-j.rise + spot.two) (get_or c.args.row.now 0 0) c.args.z (get_or c.args.row.now (length c.args.row.now - 1) 0)) gain
     ∙ settled-next w c.args.spots.now c.args.row.now c.args.cuts.now news put i c.loop-j.face c.loop-j.gain c.loop-j.far c.loop-j.rise c.loop-j.j c.loop-j.spots (c.loop-j.invariant w news put z fall i (omega arith)) (omega arith) (omega arith) (omega arith) same (get_or c.args.row.now 0 0) c.args.z (get_or c.args.row.now (length c.args.row.now - 1) 0) first (sym z) last)
 
 pub returns : goal.returns

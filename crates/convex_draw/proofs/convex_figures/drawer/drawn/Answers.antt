@@ -3,7 +3,7 @@ use Rattle.std.specs.Prelude.{Some, Option, unwrap_or}
 use Rattle.pg_plane.specs.declared.figure.GridFigure.{GridFigure}
 use Rattle.convex_draw.specs.Figures.{IsConvexFigure}
 use Rattle.convex_draw.proofs.FlatNumbers.{full_count, full_plane, full_three}
-use Rattle.convex_draw.proofs.convex_figures.drawer.drawn_full.Goals as goal
+use Rattle.convex_draw.proofs.convex_figures.drawer.drawn.Goals as goal
 
 pub run_again-requires-clause-plane : goal.run_again-requires-clause-plane
 run_again-requires-clause-plane c =
