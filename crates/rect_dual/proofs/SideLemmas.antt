@@ -17,15 +17,9 @@ use Rattle.rect_dual.proofs.Begin.{IsLeftState-begin, IsLowState-begin}
 use Rattle.rect_dual.proofs.Left as left
 use Rattle.rect_dual.proofs.Low as low
 
--- lists that were lent whole are those that came back
-pub IsPutOver-lent : (at : ℕ) (own : Bool) (near far z : ℕ) (lines next links : List ℕ) (leads : List Bool) (lines' next' links' : List ℕ) (leads' : List Bool) (a b c d : ℕ) (ra rb rc : List ℕ) (rd : List Bool) → a ≡ length lines' → b ≡ length next' → c ≡ length links' → d ≡ length leads' → IsPutOver at own near far z lines next links leads lines' next' links' leads' → IsPutOver at own near far z lines next links leads (take a (lines' ++ ra)) (take b (next' ++ rb)) (take c (links' ++ rc)) (take d (leads' ++ rd))
-IsPutOver-lent at own near far z lines next links leads lines' next' links' leads' a b c d ra rb rc rd ea eb ec ed h =
-    let back : (m : ℕ) (new rest : List ℕ) → m ≡ length new → new ≡ take m (new ++ rest) = λ m new rest e. sym (ap (λ n. take n (new ++ rest)) e ∙ take-append_seam new rest) in
-    let last : leads' ≡ take d (leads' ++ rd) = sym (ap (λ n. take n (leads' ++ rd)) ed ∙ take-append_seam leads' rd) in
-    subst (λ x. IsPutOver at own near far z lines next links leads x (take b (next' ++ rb)) (take c (links' ++ rc)) (take d (leads' ++ rd))) (back a lines' ra ea)
-    (subst (λ x. IsPutOver at own near far z lines next links leads lines' x (take c (links' ++ rc)) (take d (leads' ++ rd))) (back b next' rb eb)
-    (subst (λ x. IsPutOver at own near far z lines next links leads lines' next' x (take d (leads' ++ rd))) (back c links' rc ec)
-    (subst (λ x. IsPutOver at own near far z lines next links leads lines' next' links' x) last h)))
+-- a list that was lent whole is the one that came back
+pub lent : {A : Type 0} (m : ℕ) (new rest : List A) → m ≡ length new → new ≡ take m (new ++ rest)
+lent m new rest e = sym (ap (λ n. take n (new ++ rest)) e ∙ take-append_seam new rest)
 
 module _ (steps : ℕ → Step) (n k : ℕ) (h : IsLabelledRun steps n) (l : k < n) (row : List ℕ) (is_row : IsRow (stage_after steps k) (steps k) row) (c : ℕ) (few : c + 2 ≤ length row) (turn : (steps k).first + c ≡ turn_of steps k)
     (run : Bool) (at_run : run ≡ turns_at_run steps k) (z : ℕ) (new : z ≡ k + 2) (lines next links : List ℕ) (leads : List Bool) (lines' next' links' : List ℕ) (leads' : List Bool) (inside : z < length lines) (size : length links ≡ length lines) where

@@ -36,38 +36,6 @@ fn leading(links: &[u16], leads: &[bool], start: u16) -> u16
     v
 }
 
-// Puts the vertex z on the line of another, or on one of its own, behind that of the first vertex from there on
-// that leads.
-fn put_line(
-    lines: &mut [u16],
-    next: &mut [u16],
-    links: &[u16],
-    leads: &[bool],
-    at: u16,
-    own: bool,
-    z: u16,
-)
-    requires at { at < length lines.old }
-    requires z { z < length lines.old }
-    requires size { length next.old ≡ length lines.old }
-    requires links_size { length links.now ≡ length lines.old }
-    requires leads_size { length leads.now ≡ length lines.old }
-    requires within { All (λ l. l < length lines.old) lines.old }
-    requires next_within { All (λ l. l < length lines.old) next.old }
-    requires links_within { All (λ l. l < length lines.old) links.now }
-    ensures level { IsLevel at own z lines.old next.old lines.new next.new }
-    ensures own { IsBehindLead at own z lines.old next.old links.now leads.now lines.new next.new }
-    ensures within { All (λ l. l < length lines.old) lines.new }
-    ensures next_within { All (λ l. l < length lines.old) next.new }
-{
-    if own {
-        let u = leading(links, leads, at);
-        put_own(lines, next, u, z)
-    } else {
-        put_level(lines, at, z)
-    }
-}
-
 // The vertex z leads from now on, and u no more where it stands at the turn.
 fn mark(leads: &mut [bool], at: u16, u: u16, z: u16)
     requires u { u < length leads.old }
@@ -82,19 +50,6 @@ fn mark(leads: &mut [bool], at: u16, u: u16, z: u16)
     } else {
         leads[z as usize] = true;
     }
-}
-
-// Links the vertex z in, behind u and before v.
-fn link(links: &mut [u16], u: u16, z: u16, v: u16)
-    requires u { u < length links.old }
-    requires z { z < length links.old }
-    requires v { v < length links.old }
-    requires within { All (λ l. l < length links.old) links.old }
-    ensures links { links.new ≡ slice_set (slice_set links.old z v) u z }
-    ensures within { All (λ l. l < length links.old) links.new }
-{
-    links[z as usize] = v;
-    links[u as usize] = z;
 }
 
 // Returns one line more, where there is a new one.
@@ -151,6 +106,25 @@ impl SideLines {
         })
     }
 
+    // Puts `z` on the line of `at`, or on one of its own, behind that of the first vertex from there on that leads.
+    fn put_line(&mut self, at: u16, own: bool, z: u16)
+        requires at { at < vec_len self.old.lines }
+        requires z { z < vec_len self.old.lines }
+        ensures side { self.new.side ≡ self.old.side }
+        ensures size { vec_len self.new.lines ≡ vec_len self.old.lines }
+        ensures links { self.new.links ≡ self.old.links }
+        ensures leads { self.new.leads ≡ self.old.leads }
+        ensures level { IsLevel at own z self.old.lines.items self.old.next.items self.new.lines.items self.new.next.items }
+        ensures own { IsBehindLead at own z self.old.lines.items self.old.next.items self.old.links.items self.old.leads.items self.new.lines.items self.new.next.items }
+    {
+        if own {
+            let u = leading(&self.links, &self.leads, at);
+            put_own(&mut self.lines, &mut self.next, u, z)
+        } else {
+            put_level(&mut self.lines, at, z)
+        }
+    }
+
     // Puts `z` on over a row from `near` to `far`, or from `far` to `near`: it gets the line of `at`, or one of its own.
     fn put_over(&mut self, at: u16, own: bool, near: u16, far: u16, z: u16)
         requires at { at < vec_len self.old.lines }
@@ -161,17 +135,10 @@ impl SideLines {
         ensures size { vec_len self.new.lines ≡ vec_len self.old.lines }
         ensures over { IsPutOver at own near far z self.old.lines.items self.old.next.items self.old.links.items self.old.leads.items self.new.lines.items self.new.next.items self.new.links.items self.new.leads.items }
     {
-        put_line(
-            &mut self.lines,
-            &mut self.next,
-            &self.links,
-            &self.leads,
-            at,
-            own,
-            z,
-        );
+        self.put_line(at, own, z);
         mark(&mut self.leads, at, near, z);
-        link(&mut self.links, near, z, far);
+        self.links[z as usize] = far;
+        self.links[near as usize] = z;
     }
 
     // Puts `z` on over a row with its turn at place `c`.

@@ -81,35 +81,6 @@ fn lower_sides(
     Ok(Sides { right, high })
 }
 
-// With the last box, which lies over all others.
-fn with_last(
-    numbers: RowNumbers,
-    sides: Sides,
-    width: u32,
-    ceiling: u32,
-) -> Result<BoxTables, AllocError>
-    requires { ceiling < 2 ^ 20 }
-    ensures left { IfOk result (λ tables. tables.left.items ≡ numbers.x.items ++ 0 ∷ []) }
-    ensures right { IfOk result (λ tables. tables.right.items ≡ sides.right.items ++ width ∷ []) }
-    ensures low { IfOk result (λ tables. tables.low.items ≡ numbers.y.items ++ ceiling ∷ []) }
-    ensures high { IfOk result (λ tables. tables.high.items ≡ sides.high.items ++ (ceiling + 1) ∷ []) }
-{
-    let mut left = numbers.x;
-    let mut right = sides.right;
-    let mut low = numbers.y;
-    let mut high = sides.high;
-    left.push(0)?;
-    right.push(width)?;
-    low.push(ceiling)?;
-    high.push(ceiling + 1)?;
-    Ok(BoxTables {
-        left,
-        right,
-        low,
-        high,
-    })
-}
-
 // The boxes of a run with these rows, and the one over all of them.
 pub(crate) fn box_tables(alloc: Global, rows: &Rotations) -> Result<BoxTables, AllocError>
     requires run { (steps : ℕ → Step) × AreRows steps rows.now }
@@ -125,7 +96,21 @@ pub(crate) fn box_tables(alloc: Global, rows: &Rotations) -> Result<BoxTables, A
     let numbers = row_numbers(alloc, rows, &turns)?;
     let runs = run_count(&turns.run);
     let width = count as u32 + 1 - runs;
-    let sides = lower_sides(alloc, rows, &turns, &numbers, width, runs + 2)?;
-    let tables = with_last(numbers, sides, width, runs + 2)?;
-    Ok(tables)
+    let ceiling = runs + 2;
+    let sides = lower_sides(alloc, rows, &turns, &numbers, width, ceiling)?;
+    let mut left = numbers.x;
+    let mut right = sides.right;
+    let mut low = numbers.y;
+    let mut high = sides.high;
+    // The last box lies over all others.
+    left.push(0)?;
+    right.push(width)?;
+    low.push(ceiling)?;
+    high.push(ceiling + 1)?;
+    Ok(BoxTables {
+        left,
+        right,
+        low,
+        high,
+    })
 }
