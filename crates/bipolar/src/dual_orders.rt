@@ -10,4 +10,3 @@ pub use arcs::face_arcs;
 pub use columns::edge_columns;
 pub use faces::{FaceTables, number_faces};
 pub use numbers::{dual_numbers, dual_rows, rank_rows};
-pub use rows::number_rows;

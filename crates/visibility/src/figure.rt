@@ -2,42 +2,17 @@
 ghost use Rattle.std.specs.Prelude.{◌≡◌, ◌<◌, ◌-◌, ℕ, pos, length, Some, IfOk};
 ghost use Rattle.map_theory.specs.Maps.{IsPlane, component_count};
 ghost use Rattle.graph_search.specs.Cuts.{IsCutVertex};
-ghost use Rattle.half_edges.specs.Map.{IsHalfMap, IsLive, dart_at};
+ghost use Rattle.half_edges.specs.Map.{IsLive, dart_at};
 ghost use Rattle.st_orders.specs.StOrders.{IsStOrderOf};
-ghost use Rattle.bipolar.specs.Numbered.{IsStOf, GiveDualNumbers};
+ghost use Rattle.bipolar.specs.Numbered.{IsStOf};
 ghost use Rattle.visibility.specs.Bars.{AreBarsOf, AreBarsFor};
 
 use crate::ends::{coordinates, left_ends, right_ends};
 use bipolar::dual_orders::{edge_columns, rank_rows};
 use half_edges::{Counts, DartId, HalfMap, Rotations};
-use map_lists::ItemLists;
 use pg_plane::BarFigure;
 use st_orders::{StOrder, st_order};
 use std::alloc::{AllocError, Global};
-
-// The drawing of ranks and of rows of dual numbers.
-fn bars_of_rows(
-    alloc: Global,
-    lists: &Rotations,
-    map: &HalfMap,
-    rank: &Counts,
-    rows: &ItemLists<u32>,
-    st: DartId,
-) -> Result<BarFigure, AllocError>
-    requires known { IsHalfMap map.now }
-    requires live { IsLive map.now st.0 }
-    requires order { IsStOf map.now rank.now st.0 }
-    requires rows { GiveDualNumbers map.now rank.now st.0 rows.now }
-    requires lists { lists.now ≡ map.now.lists }
-    ensures { IfOk result (AreBarsOf map.now rank.now st.0) }
-{
-    let columns = edge_columns(alloc, lists, rows, map.m())?;
-    let y = coordinates(alloc, rank)?;
-    let x1 = left_ends(alloc, rows)?;
-    let x2 = right_ends(alloc, rows)?;
-    let column = coordinates(alloc, &columns)?;
-    Ok(BarFigure { y, x1, x2, column })
-}
 
 /// The visibility drawing of the ranks of an st-order of a connected map of genus zero with these lists: heights are
 /// ranks, columns are dual numbers, and each bar reaches from its least to its greatest column. It fails only when out
@@ -56,8 +31,12 @@ pub fn bars_of_ranks(
 {
     map.facts();
     let rows = rank_rows(alloc, map, rank, st)?;
-    let figure = bars_of_rows(alloc, lists, map, rank, &rows, st)?;
-    Ok(figure)
+    let columns = edge_columns(alloc, lists, &rows, map.m())?;
+    let y = coordinates(alloc, rank)?;
+    let x1 = left_ends(alloc, &rows)?;
+    let x2 = right_ends(alloc, &rows)?;
+    let column = coordinates(alloc, &columns)?;
+    Ok(BarFigure { y, x1, x2, column })
 }
 
 /// The visibility drawing of an st-order of a connected map of genus zero: heights are ranks, columns are

@@ -11,33 +11,13 @@ ghost use Rattle.bipolar.specs.Numbered.{IsStOf, GiveDualNumbers};
 
 use crate::dual_orders::arcs::face_arcs;
 use crate::dual_orders::columns::edge_columns;
-use crate::dual_orders::rows::number_rows;
-use euler_faces::{Faces, faces};
+use crate::dual_orders::rows::NumberedMap;
+use euler_faces::faces;
 use graph_search::longest_paths::longest_paths;
 use half_edges::{Counts, DartId, HalfMap};
 use map_lists::ItemLists;
 use st_orders::StOrder;
 use std::alloc::{AllocError, Global};
-
-// For each face its number, and so for each vertex those of the left faces of its edges.
-fn rows_of_order(
-    alloc: Global,
-    map: &HalfMap,
-    rank: &Counts,
-    faces: &Faces,
-    st: DartId,
-) -> Result<ItemLists<u32>, AllocError>
-    requires known { IsHalfMap map.now }
-    requires live { IsLive map.now st.0 }
-    requires order { IsStOf map.now rank.now st.0 }
-    requires faces { AreFaces map.now faces.now }
-    ensures { IfOk result (GiveDualNumbers map.now rank.now st.0) }
-{
-    let arcs = face_arcs(alloc, map, rank, faces)?;
-    let numbers = longest_paths(alloc, &arcs, faces.of_dart(st).0)?;
-    let rows = number_rows(alloc, map, rank, faces, &numbers)?;
-    Ok(rows)
-}
 
 /// For each vertex the dual numbers of its edges, in the order of its list, by the ranks of an st-order; by their
 /// clause the columns that `edge_columns` makes of them are the dual numbers. It fails only when out of memory.
@@ -53,7 +33,15 @@ pub fn rank_rows(
 {
     map.facts();
     let faces = faces(alloc, map)?;
-    let rows = rows_of_order(alloc, map, rank, &faces, st)?;
+    let arcs = face_arcs(alloc, map, rank, &faces)?;
+    let numbers = longest_paths(alloc, &arcs, faces.of_dart(st).0)?;
+    let numbered = NumberedMap {
+        map,
+        rank,
+        faces: &faces,
+        numbers: &numbers,
+    };
+    let rows = numbered.number_rows(alloc)?;
     Ok(rows)
 }
 

@@ -2,7 +2,7 @@ use Rattle.std.proofs.Common.{◌≡◌, ◌<◌, length, slice_index, Some}
 use Rattle.map_theory.specs.Maps.{list_of}
 use Rattle.half_edges.specs.Map.{IsLive, dart_at}
 use Rattle.bipolar.specs.FaceArcs.{ArePutNumbers}
-use Rattle.bipolar.proofs.dual_orders.rows.NumberedMap.put_round.Given as goal
+use Rattle.bipolar.proofs.dual_orders.rows.NumberedMap.put_vertex.Given as goal
 
 abbrev pub invariant-loop : goal.invariant-loop
 invariant-loop l = record {
