@@ -1,9 +1,9 @@
 -- A list from its end: one entry more, and the text of it before the texts of those behind.
-use Rattle.std.proofs.Common.{◌≡◌, ℕ, ◌+◌, ◌*◌, ◌-◌, ◌<◌, List, [], ◌∷◌, ◌++◌, length, take, drop, flat_map, get_or, refl, subst, arith, rules, ap, ◌∙◌, add-one, append_assoc, ℤ}
+use Rattle.std.proofs.Common.{◌≡◌, ℕ, ◌+◌, ◌*◌, ◌-◌, ◌<◌, List, [], ◌∷◌, ◌++◌, length, take, drop, flat_map, get_or, refl, subst, arith, rules, ap, sym, ◌∙◌, add-one, append_assoc, ℤ}
 use Rattle.std.proofs.Math.Nat.{mul-suc}
 use Rattle.std.specs.Prelude.{codes, decimal}
 use Rattle.std.specs.List.{sum_by}
-use Rattle.std.proofs.lemmas.List.{drop_more}
+use Rattle.std.proofs.lemmas.List.{drop-drop, drop_more}
 use Rattle.std.proofs.lemmas.List.Sums.{sum_by_more}
 use Rattle.map_lists.specs.Lists.{Lists}
 use Rattle.figure_text.specs.declared.piece.Piece.{Piece}
@@ -68,3 +68,7 @@ pub first_line-written : (k m n l : ℕ) (word rest a b c d e f : List ℕ)
     → a ≡ first_line k word n ++ rest
 unfolding first_line
 first_line-written k m n l word rest a b c d e f ab bc mk cd de ef ln fr = rw (ab, bc, mk, cd, de, ef, ln, fr) (search (rules, append_assoc))
+
+-- what stands behind the space at `start`
+pub behind_space : (row rest : List ℕ) (start : ℕ) → drop start row ≡ 32 ∷ rest → drop (start + 1) row ≡ rest
+behind_space row rest start is = sym (drop-drop 1 start row) ∙ ap (λ (xs : List ℕ). drop 1 xs) is

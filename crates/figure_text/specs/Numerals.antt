@@ -1,15 +1,12 @@
--- The texts of numbers with four digits at most, by the place at which each starts.
-use Rattle.std.specs.Prelude.{ℕ, ◌≡◌, ◌<◌, ◌≤◌, List, [], ◌∷◌, length, drop, decimal, slice_index_or}
+-- The texts of small numbers behind a space, at the end of seven bytes.
+use Rattle.std.specs.Prelude.{ℕ, ◌≡◌, ◌-◌, ◌<◌, ◌≤◌, List, ◌∷◌, length, drop, decimal, slice_index_or}
 use Rattle.figure_text.specs.declared.numerals.Numeral.{Numeral}
 
--- the four digits
-abbrev pub digits_of : Numeral → List ℕ
-digits_of text = text.thousands ∷ text.hundreds ∷ text.tens ∷ text.ones ∷ []
-
--- the text of a number
+-- the text of a number behind a space
 pub record IsNumeral (number : ℕ) (text : Numeral) : Type 0 where
-  pub start : text.start ≤ 4
-  pub digits : drop text.start (digits_of text) ≡ decimal number
+  pub seven : length text.bytes ≡ 7
+  pub within : text.length ≤ 7
+  pub spaced : drop (7 - text.length) text.bytes ≡ 32 ∷ decimal number
 
 -- each is the text of its place
 abbrev pub AreNumerals : List Numeral → Type 0

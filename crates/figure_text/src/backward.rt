@@ -26,16 +26,6 @@ pub(crate) fn write_letter(letter: u8, bytes: &mut [u8], end: usize) -> usize
     write_byte(b' ', bytes, start)
 }
 
-// Writes a space and a number before `end`, and returns where they start.
-fn write_next(texts: &Texts<'_>, number: u64, bytes: &mut [u8], end: usize) -> usize
-    requires { (length (decimal number) < end) × (4 ≤ end) × (end ≤ length bytes.old) }
-    ensures start { result + 1 + length (decimal number) ≡ end }
-    ensures written { drop result bytes.new ≡ 32 ∷ decimal number ++ drop end bytes.old }
-{
-    let start = texts.write(number, bytes, end);
-    write_byte(b' ', bytes, start)
-}
-
 // Writes a space and a signed number before `end`, and returns where they start.
 #[inline(always)]
 pub(crate) fn write_signed(texts: &Texts<'_>, number: i32, bytes: &mut [u8], end: usize) -> usize
@@ -44,25 +34,25 @@ pub(crate) fn write_signed(texts: &Texts<'_>, number: i32, bytes: &mut [u8], end
     ensures written { drop result bytes.new ≡ 32 ∷ signed_decimal number ++ drop end bytes.old }
 {
     if number >= 0 {
-        return write_next(texts, u64::from(number.unsigned_abs()), bytes, end);
+        return texts.write(u64::from(number.unsigned_abs()), bytes, end);
     }
     let start = texts.write(u64::from(number.unsigned_abs()), bytes, end);
-    let sign = write_byte(b'-', bytes, start);
+    let sign = write_byte(b'-', bytes, start + 1);
     write_byte(b' ', bytes, sign)
 }
 
 // Writes the number of a vertex before `end`, and returns where it starts.
 pub(crate) fn write_number(texts: &Texts<'_>, number: u64, bytes: &mut [u8], end: usize) -> usize
-    requires { (20 ≤ end) × (end ≤ length bytes.old) }
+    requires { (21 ≤ end) × (end ≤ length bytes.old) }
     ensures within { (result ≤ end) × (end ≤ result + 20) }
     ensures written { drop result bytes.new ≡ decimal number ++ drop end bytes.old }
 {
-    texts.write(number, bytes, end)
+    texts.write(number, bytes, end) + 1
 }
 
 // Writes vertices, numbered from 1 and each after a space, before `end`, and returns where they start.
 pub(crate) fn write_vertices(texts: &Texts<'_>, list: &[u16], bytes: &mut [u8], end: usize) -> usize
-    requires room { 6 * length list.now ≤ end }
+    requires room { 6 * length list.now + 2 ≤ end }
     requires end { end ≤ length bytes.old }
     ensures within { (result ≤ end) × (end ≤ result + 6 * length list.now) }
     ensures written { drop result bytes.new ≡ flat_map (λ u. 32 ∷ decimal (u + 1)) list.now ++ drop end bytes.old }
@@ -71,7 +61,7 @@ pub(crate) fn write_vertices(texts: &Texts<'_>, list: &[u16], bytes: &mut [u8], 
     let mut start = end;
     for k in 0..list.len() {
         let u = list[list.len() - 1 - k];
-        start = write_next(&texts, u64::from(u) + 1, bytes, start);
+        start = texts.write(u64::from(u) + 1, bytes, start);
     }
     start
 }
@@ -102,10 +92,10 @@ pub(crate) fn write_first(
 {
     let n = heading.lists.len();
     let newline = write_byte(b'\n', bytes, end);
-    let count = write_next(texts, n as u64, bytes, newline);
+    let count = texts.write(n as u64, bytes, newline);
     let name = write_text(heading.word, bytes, count);
     let space = write_byte(b' ', bytes, name);
-    let number = write_next(texts, u64::from(heading.number), bytes, space);
+    let number = texts.write(u64::from(heading.number), bytes, space);
     write_text(b"figure", bytes, number)
 }
 

@@ -1,5 +1,5 @@
 //! The decimal texts of small numbers, kept in a table.
-ghost use Rattle.std.specs.Prelude.{◌≡◌, ◌+◌, ◌<◌, ◌≤◌, ◌∷◌, ◌++◌, [], length, drop, decimal};
+ghost use Rattle.std.specs.Prelude.{◌≡◌, ◌+◌, ◌<◌, ◌≤◌, ◌∷◌, ◌++◌, ℕ, length, drop, decimal};
 ghost use Rattle.figure_text.specs.Numerals.{IsNumeral, AreNumerals};
 
 use crate::backward::write_byte;
@@ -9,44 +9,44 @@ use std::alloc::{AllocError, Global};
 // How many numbers have four digits at most.
 const MOST: usize = 10_000;
 
-/// The text of a number below 10,000: its digits from place `start` on, which is from 0.
+/// The text of a number below 10,000 behind a space: the last `length` of seven bytes. Those before it are spaces.
 #[derive(Clone, Copy)]
 pub struct Numeral {
-    thousands: u8,
-    hundreds: u8,
-    tens: u8,
-    ones: u8,
-    start: u8,
+    length: u8,
+    bytes: [u8; 7],
 }
 
-// Returns the text of a number.
+// Returns the text of a number behind a space.
 fn text_of(number: usize) -> Numeral
     requires { number < 10000 }
     ensures { IsNumeral number result }
 {
-    let mut digits = [0; 4];
-    let start = write_digits(number as u64, &mut digits, 4);
+    let mut bytes = [b' '; 7];
+    let digits = write_digits(number as u64, &mut bytes, 7);
+    let start = write_byte(b' ', &mut bytes, digits);
     Numeral {
-        thousands: digits[0],
-        hundreds: digits[1],
-        tens: digits[2],
-        ones: digits[3],
-        start: start as u8,
+        length: (7 - start) as u8,
+        bytes,
     }
 }
 
-// Writes the text of a number before `end`, and returns where it starts.
+// Writes the text of a number behind a space before `end`, and returns where it starts. All of the eight bytes before
+// `end` are written, by one store.
 fn write_numeral(numeral: Numeral, bytes: &mut [u8], end: usize) -> usize
-    requires room { (4 ≤ end) × (end ≤ length bytes.old) }
-    requires start { numeral.start ≤ 4 }
-    ensures start { result + 4 ≡ end + numeral.start }
-    ensures written { drop result bytes.new ≡ drop numeral.start (numeral.thousands ∷ numeral.hundreds ∷ numeral.tens ∷ numeral.ones ∷ []) ++ drop end bytes.old }
+    requires room { (8 ≤ end) × (end ≤ length bytes.old) }
+    requires text { (number : ℕ) × IsNumeral number numeral }
+    ensures start { (number : ℕ) → IsNumeral number numeral → result + 1 + length (decimal number) ≡ end }
+    ensures written { (number : ℕ) → IsNumeral number numeral → drop result bytes.new ≡ 32 ∷ decimal number ++ drop end bytes.old }
 {
-    let ones = write_byte(numeral.ones, bytes, end);
-    let tens = write_byte(numeral.tens, bytes, ones);
-    let hundreds = write_byte(numeral.hundreds, bytes, tens);
-    let thousands = write_byte(numeral.thousands, bytes, hundreds);
-    thousands + usize::from(numeral.start)
+    let seventh = write_byte(numeral.bytes[6], bytes, end);
+    let sixth = write_byte(numeral.bytes[5], bytes, seventh);
+    let fifth = write_byte(numeral.bytes[4], bytes, sixth);
+    let fourth = write_byte(numeral.bytes[3], bytes, fifth);
+    let third = write_byte(numeral.bytes[2], bytes, fourth);
+    let second = write_byte(numeral.bytes[1], bytes, third);
+    let first = write_byte(numeral.bytes[0], bytes, second);
+    write_byte(numeral.length, bytes, first);
+    end - usize::from(numeral.length)
 }
 
 /// The texts of the numbers from 0 on, of as many as were asked for so far, and of 10,000 at most.
@@ -96,15 +96,18 @@ pub struct Texts<'a> {
 }
 
 impl Texts<'_> {
-    /// Writes a number before `end`, and returns where it starts.
+    /// Writes a space and a number before `end`, and returns where the space stands. Up to seven bytes before it are lost.
     pub fn write(&self, number: u64, bytes: &mut [u8], end: usize) -> usize
-        requires { (length (decimal number) ≤ end) × (4 ≤ end) × (end ≤ length bytes.old) }
-        ensures start { result + length (decimal number) ≡ end }
-        ensures written { drop result bytes.new ≡ decimal number ++ drop end bytes.old }
+        requires { (length (decimal number) < end) × (8 ≤ end) × (end ≤ length bytes.old) }
+        ensures start { result + 1 + length (decimal number) ≡ end }
+        ensures written { drop result bytes.new ≡ 32 ∷ decimal number ++ drop end bytes.old }
     {
         match self.texts.get(number as usize) {
             Some(text) => write_numeral(*text, bytes, end),
-            None => write_digits(number, bytes, end),
+            None => {
+                let start = write_digits(number, bytes, end);
+                write_byte(b' ', bytes, start)
+            }
         }
     }
 }

@@ -124,7 +124,7 @@ pub fn print_figure(
 
 // Returns how many bytes the text of a visibility drawing takes at most.
 fn bars_room(lists: &Rotations, columns: &Ints) -> Result<usize, AllocError>
-    ensures { IfOk result (λ room. room ≡ 60 + 6 * sum_by length lists.now + fronts_room 61 (length lists.now) + (12 * length columns.now + 8)) }
+    ensures { IfOk result (λ room. room ≡ 60 + 6 * sum_by length lists.now + fronts_room 62 (length lists.now) + (12 * length columns.now + 8)) }
 {
     let lines = room_of::<BarFigure>(lists)?;
     let line = columns.len().saturating_mul(12).saturating_add(8);
@@ -144,7 +144,7 @@ fn write_bars(
     bytes: &mut [u8],
 ) -> usize
     requires bars { HasBars lists.now bars.now }
-    requires room { 60 + 6 * sum_by length lists.now + fronts_room 61 (length lists.now) + (12 * length bars.now.column + 8) ≤ length bytes.old }
+    requires room { 60 + 6 * sum_by length lists.now + fronts_room 62 (length lists.now) + (12 * length bars.now.column + 8) ≤ length bytes.old }
     ensures within { result ≤ length bytes.new }
     ensures written { drop result bytes.new ≡ bars_text number lists.now bars.now }
 {

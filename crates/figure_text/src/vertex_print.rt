@@ -63,10 +63,10 @@ impl Numbered for Points {
 
     ghost Has = { λ points v. v < length points };
 
-    ghost longest = { 48 };
+    ghost longest = { 49 };
 
     fn longest() -> usize {
-        48
+        49
     }
 
     fn write_front(&self, texts: &Texts<'_>, v: usize, bytes: &mut [u8], end: usize) -> usize {
@@ -90,10 +90,10 @@ impl Numbered for BarFigure {
 
     ghost Has = { λ bars v. (v < length bars.y) × (v < length bars.x1) × (v < length bars.x2) };
 
-    ghost longest = { 61 };
+    ghost longest = { 62 };
 
     fn longest() -> usize {
-        61
+        62
     }
 
     fn write_front(&self, texts: &Texts<'_>, v: usize, bytes: &mut [u8], end: usize) -> usize {
@@ -120,10 +120,10 @@ impl Numbered for RectFigure {
 
     ghost Has = { λ rects v. (v < length rects.x1) × (v < length rects.x2) × (v < length rects.y1) × (v < length rects.y2) };
 
-    ghost longest = { 73 };
+    ghost longest = { 74 };
 
     fn longest() -> usize {
-        73
+        74
     }
 
     fn write_front(&self, texts: &Texts<'_>, v: usize, bytes: &mut [u8], end: usize) -> usize {
@@ -153,7 +153,7 @@ fn write_line<R: Numbered>(
 ) -> usize
     requires max { v < usize.MAX }
     requires has { R.Has figure.now v }
-    requires room { 6 * length list.now + 1 + R.longest ≤ end }
+    requires room { 6 * length list.now + 8 + R.longest ≤ end }
     requires end { end ≤ length bytes.old }
     ensures within { (result ≤ end) × (end ≤ result + (6 * length list.now + 1 + R.longest)) }
     ensures written { drop result bytes.new ≡ vertex_line R.pieces v (R.numbers figure.now v) list.now ++ drop end bytes.old }

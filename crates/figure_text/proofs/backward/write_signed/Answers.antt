@@ -1,10 +1,11 @@
 use Rattle.std.proofs.Common.{refl, arith, to_z-of_z}
 use Rattle.std.proofs.lemmas.Fmt.{length-decimal-le}
+use Rattle.figure_text.proofs.BackwardLemmas.{behind_space}
 use Rattle.itoa.proofs.Decimal.{minus_first}
 use Rattle.figure_text.proofs.backward.write_signed.Goals as goal
 
-pub write_next-requires : goal.write_next-requires
-write_next-requires c = (omega (arith, length-decimal-le 10 c.from.result (omega arith) (omega arith) (omega arith)), omega arith, omega arith)
+pub write-requires : goal.write-requires
+write-requires c = (omega (arith, length-decimal-le 10 c.from.result (omega arith) (omega arith) (omega arith)), omega arith, omega arith)
 
 pub write-start-requires : goal.write-start-requires
 write-start-requires c = (omega (arith, length-decimal-le 10 c.from-2.result (omega arith) (omega arith) (omega arith)), omega arith, omega arith)
@@ -28,4 +29,4 @@ returns-clause-within c =
 pub returns-clause-written : goal.returns-clause-written
 returns-clause-written c =
     let back = to_z-of_z c.ranges.number in
-    rw (c.write_byte.ensures.written, c.write_byte-sign.ensures.written, c.write-start.ensures.written, c.from-2.ensures, c.unsigned_abs-2.ensures.value, back, ← minus_first c.args.number (rw back at c.if-number-ge0.false)) refl
+    rw (c.write_byte.ensures.written, c.write_byte-sign.ensures.written, behind_space c.write-start.new.bytes _ c.write-start.result c.write-start.ensures.written, c.from-2.ensures, c.unsigned_abs-2.ensures.value, back, ← minus_first c.args.number (rw back at c.if-number-ge0.false)) refl

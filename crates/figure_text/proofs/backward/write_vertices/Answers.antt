@@ -7,13 +7,13 @@ use Rattle.figure_text.proofs.backward.write_vertices.Goals as goal
 pub loop-k-init : goal.loop-k-init
 loop-k-init c = (omega arith, omega arith, omega arith, rw (drop_all (length c.args.list.now - 0) c.args.list.now (omega arith)) refl)
 
-pub write_next-start-requires : goal.write_next-start-requires
-write_next-start-requires c =
+pub write-start-requires : goal.write-start-requires
+write-start-requires c =
     let long = length-decimal-le 5 (c.from.result + 1) (omega arith) (omega arith) (omega arith) in
     (omega (arith, long), omega arith, omega arith)
 
 pub loop-k-preserved : goal.loop-k-preserved
 loop-k-preserved c =
-    let w = c.write_next-start in
+    let w = c.write-start in
     let long = length-decimal-le 5 (c.from.result + 1) (omega arith) (omega arith) (omega arith) in
     (omega arith, omega arith, omega (arith, long), texts_back c.args.list.now c.loop-k.k 0 (omega arith) (λ u. 32 ∷ decimal (u + 1)) (drop w.result w.new.bytes) (drop c.args.end c.args.bytes.now) (rw (w.ensures.written, c.from.ensures, c.loop-k.invariant.3) refl))

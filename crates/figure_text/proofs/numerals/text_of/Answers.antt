@@ -1,17 +1,23 @@
--- The four digits are the whole row into which the number was written.
-use Rattle.std.proofs.Common.{◌≡◌, ℕ, List, length, drop, decimal, ◌∙◌, subst, arith, append-nil}
+-- The number and the space before it are the end of the seven bytes.
+use Rattle.std.proofs.Common.{◌≡◌, ◌-◌, ◌∷◌, drop, decimal, ◌∙◌, ap, arith, append-nil}
 use Rattle.std.proofs.lemmas.Fmt.{length-decimal-le}
-use Rattle.figure_text.proofs.NumeralTexts.{four_entries}
 use Rattle.figure_text.proofs.numerals.text_of.Goals as goal
 
-pub write_digits-start-requires : goal.write_digits-start-requires
-write_digits-start-requires c = (length-decimal-le 4 c.args.number (omega arith) (omega arith) (omega arith), omega arith)
+pub write_digits-digits-requires : goal.write_digits-digits-requires
+write_digits-digits-requires c = (length-decimal-le 7 c.args.number (omega arith) (omega arith) (omega arith), omega arith)
+
+pub write_byte-start-requires : goal.write_byte-start-requires
+write_byte-start-requires c =
+    let few = length-decimal-le 4 c.args.number (omega arith) (omega arith) (omega arith) in
+    (omega (arith, few), omega arith)
 
 pub returns : goal.returns
 returns c =
-    let row = c.write_digits-start.new.buf in
-    let four : length row ≡ 4 = omega arith in
+    let bytes = c.write_byte-start.new.bytes in
+    let start = c.write_byte-start.result in
+    let place : 7 - (7 - start) ≡ start = omega arith in
     record {
-      start = omega arith;
-      digits = subst (λ (ds : List ℕ). drop c.write_digits-start.result ds ≡ decimal c.args.number) (four_entries row four) (c.write_digits-start.ensures.written ∙ append-nil (decimal c.args.number));
+      seven = omega arith;
+      within = omega arith;
+      spaced = ap (λ k. drop k bytes) place ∙ c.write_byte-start.ensures.written ∙ ap (λ ds. 32 ∷ ds) (c.write_digits-digits.ensures.written ∙ append-nil (decimal c.args.number));
     }

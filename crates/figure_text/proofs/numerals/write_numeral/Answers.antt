@@ -1,11 +1,21 @@
--- The four digits from the place at which the text starts.
-use Rattle.std.proofs.Common.{drop}
-use Rattle.std.proofs.lemmas.List.{drop-drop}
-use Rattle.figure_text.proofs.NumeralTexts.{drop_of_four}
+-- The last bytes of the seven stand before the end.
+use Rattle.std.proofs.Common.{◌≡◌, ◌+◌, ◌-◌, ◌++◌, length, drop, ap, refl, ◌∙◌, arith}
+use Rattle.std.proofs.lemmas.List.{length-drop}
+use Rattle.figure_text.proofs.NumeralTexts.{end_of_seven}
 use Rattle.figure_text.proofs.numerals.write_numeral.Goals as goal
 
+pub returns-clause-start : goal.returns-clause-start
+returns-clause-start c number is =
+    let count = length-drop (7 - c.args.numeral.length) c.args.numeral.bytes in
+    let spaced = ap length is.spaced in
+    omega (arith, c.from.ensures, count, spaced, is.seven, is.within, c.requires.room)
+
 pub returns-clause-written : goal.returns-clause-written
-returns-clause-written c =
-    let n = c.args.numeral in
-    rw (← drop-drop c.from.result c.write_byte-thousands.result c.write_byte-thousands.new.bytes, c.write_byte-thousands.ensures.written, c.write_byte-hundreds.ensures.written, c.write_byte-tens.ensures.written, c.write_byte-ones.ensures.written, c.from.ensures)
-    (drop_of_four n.thousands n.hundreds n.tens n.ones n.start (drop c.args.end c.args.bytes.now) c.requires.start)
+returns-clause-written c number is =
+    let row = c.write_byte.new.bytes in
+    let count = c.args.numeral.length in
+    let before = drop c.args.end c.args.bytes.now in
+    let place : c.args.end - c.from.result ≡ c.write_byte.result + 8 - count = omega (arith, c.from.ensures, c.write_byte.ensures.start, c.write_byte-first.ensures.start, c.write_byte-second.ensures.start, c.write_byte-third.ensures.start, c.write_byte-fourth.ensures.start, c.write_byte-fifth.ensures.start, c.write_byte-sixth.ensures.start, c.write_byte-seventh.ensures.start) in
+    ap (λ k. drop k row) place
+    ∙ end_of_seven row c.args.numeral.bytes before c.write_byte.result count count is.seven is.within (rw (c.write_byte.ensures.written, c.write_byte-first.ensures.written, c.write_byte-second.ensures.written, c.write_byte-third.ensures.written, c.write_byte-fourth.ensures.written, c.write_byte-fifth.ensures.written, c.write_byte-sixth.ensures.written, c.write_byte-seventh.ensures.written) refl)
+    ∙ ap (λ ds. ds ++ before) is.spaced
