@@ -39,9 +39,13 @@ pub(crate) fn push_number(out: &mut Vec<u8>, number: u64) -> Result<(), AllocErr
 
 // Appends a space and a number.
 #[inline(always)]
+#[tactic(auto, using(std::proofs::lemmas::Fmt::decimal_digit))]
 pub(crate) fn push_next(out: &mut Vec<u8>, number: u64) -> Result<(), AllocError>
     ensures { OnOk result (out.new.items ≡ out.old.items ++ 32 ∷ decimal number) }
 {
+    if number < 10 {
+        return out.extend_from_slice(&[b' ', b'0' + number as u8]);
+    }
     out.push(b' ')?;
     push_number(out, number)
 }

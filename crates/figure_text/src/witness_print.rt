@@ -42,11 +42,7 @@ fn push_word(out: &mut Vec<u8>, v: usize) -> Result<(), AllocError>
     if v == 0 {
         return out.extend_from_slice(b"branch");
     }
-    out.push(b'p')?;
-    out.push(b'a')?;
-    out.push(b't')?;
-    out.push(b'h')?;
-    Ok(())
+    out.extend_from_slice(b"path")
 }
 
 // Appends vertices.
