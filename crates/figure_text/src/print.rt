@@ -1,13 +1,16 @@
 //! A figure as text.
 ghost use Rattle.std.specs.Prelude.{◌≡◌, ◌+◌, ◌++◌, ◌∷◌, [], ℕ, List, ◌*◌, length, drop, sum_by, decimal, ◌<◌, ◌≤◌, OnOk, OnErr, IfOk};
-ghost use Rattle.figure_text.specs.Text.{first_line, vertex_lines, fronts_room, job_word, grid_text, bars_text, rects_text, IsText, IsWhole, HasBars, HasRects};
+ghost use Rattle.graph6_text.specs.Lines.{IsLine};
+ghost use Rattle.figure_text.specs.Text.{first_line, vertex_lines, fronts_room, job_word, grid_text, bars_text, rects_text, witness_text, IsText, IsWhole, HasBars, HasRects};
 
 use crate::backward::{write_columns, write_first};
 use crate::numerals::{Numerals, Texts};
 use crate::vertex_print::{Numbered, write_lines};
-use crate::witness_print::print_witness;
+use crate::witness_print::push_witness;
 use crate::{Figure, GridJob};
+use graph6_text::Graph;
 use itoa::Buffer;
+use kuratowski::Witness;
 use map_lists::Rotations;
 use pg_plane::{BarFigure, Ints, Points, RectFigure};
 use std::alloc::{AllocError, Global};
@@ -122,7 +125,7 @@ pub fn print_figure(
         Figure::Grid { job, lists, points } => printer.print_grid(number, *job, lists, points, out),
         Figure::Bars { lists, bars } => printer.print_bars(number, lists, bars, out),
         Figure::Rects { lists, rects } => printer.print_rects(number, lists, rects, out),
-        Figure::Witness { graph, witness } => print_witness(alloc, number, graph, witness, out),
+        Figure::Witness { graph, witness } => printer.print_witness(number, graph, witness, out),
     }
 }
 
@@ -167,6 +170,8 @@ fn write_bars(
 pub struct Printer {
     numerals: Numerals,
     bytes: Vec<u8>,
+    // the text of the last witness
+    witness: Vec<u8>,
 }
 
 impl Printer {
@@ -175,6 +180,7 @@ impl Printer {
         Printer {
             numerals: Numerals::new(alloc),
             bytes: Vec::new(alloc),
+            witness: Vec::new(alloc),
         }
     }
 
@@ -268,5 +274,23 @@ impl Printer {
             lists,
         };
         self.print_lines(&heading, rects, out)
+    }
+
+    /// Appends the text of a witness with this number, and with the line of its graph. When memory runs out the bytes
+    /// are as they were.
+    pub fn print_witness(
+        &mut self,
+        number: u32,
+        graph: &Graph,
+        witness: &Witness,
+        out: &mut Vec<u8>,
+    ) -> Result<(), AllocError>
+        ensures ok { OnOk result ((line : List ℕ) × IsLine line graph.now
+            × (out.new.items ≡ out.old.items ++ witness_text number line witness.now)) }
+        ensures err { OnErr result (out.new.items ≡ out.old.items) }
+    {
+        self.witness.clear();
+        push_witness(&mut self.witness, number, graph, witness)?;
+        out.extend_from_slice(&self.witness)
     }
 }

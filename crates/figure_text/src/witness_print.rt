@@ -5,7 +5,7 @@ ghost use Rattle.figure_text.specs.Lines.{row_name};
 ghost use Rattle.figure_text.specs.Pieces.{row_front};
 ghost use Rattle.figure_text.specs.Text.{name_text, kind_word, witness_first_line, vertex_line, vertex_numbers, witness_lines, witness_text};
 
-use crate::print::push_next;
+use crate::print::{Printer, push_next};
 use graph6_text::{Graph, write_line};
 use kuratowski::{Kind, Witness};
 use map_lists::VertexId;
@@ -76,23 +76,19 @@ fn push_rows(out: &mut Vec<u8>, witness: &Witness) -> Result<(), AllocError>
     Ok(())
 }
 
-// How many bytes the text of a witness of few vertices has at most.
-const ROOM: usize = 256;
-
-// Returns the text of a witness.
-fn witness_text_of(
-    alloc: Global,
+// Appends the text of a witness.
+pub(crate) fn push_witness(
+    text: &mut Vec<u8>,
     number: u32,
     graph: &Graph,
     witness: &Witness,
-) -> Result<Vec<u8>, AllocError>
-    ensures { IfOk result (λ text. (line : List ℕ) × IsGraphLine line graph.now
-        × (text.items ≡ witness_text number line witness.now)) }
+) -> Result<(), AllocError>
+    ensures { OnOk result ((line : List ℕ) × IsGraphLine line graph.now
+        × (text.new.items ≡ text.old.items ++ witness_text number line witness.now)) }
 {
-    let mut text = Vec::with_capacity(alloc, ROOM)?;
-    push_first(&mut text, number, graph, witness.kind)?;
-    push_rows(&mut text, witness)?;
-    Ok(text)
+    push_first(text, number, graph, witness.kind)?;
+    push_rows(text, witness)?;
+    Ok(())
 }
 
 /// Appends the text of a witness with this number, and with the line of its graph. When memory runs out the bytes are
@@ -108,6 +104,5 @@ pub fn print_witness(
         × (out.new.items ≡ out.old.items ++ witness_text number line witness.now)) }
     ensures err { OnErr result (out.new.items ≡ out.old.items) }
 {
-    let text = witness_text_of(alloc, number, graph, witness)?;
-    out.extend_from_slice(&text)
+    Printer::new(alloc).print_witness(number, graph, witness, out)
 }
