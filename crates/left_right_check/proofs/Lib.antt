@@ -1,4 +1,4 @@
 -- What the check rests on.
 pub mod TieLemmas
 mod CompleteGraph
-mod Refused
+pub mod Refused

@@ -8,4 +8,4 @@ mod ties;
 
 pub use five::is_k5;
 pub use forests::{ReturnEdge, RootedForest, after_steps, entry, is_forest};
-pub use ties::{Fork, Pair};
+pub use ties::{Fork, Pair, turned};

@@ -1,6 +1,6 @@
 //! Edges that forks put on one side, or on different ones.
 ghost use Rattle.std.specs.Prelude.{◌≡◌, ◌<◌, true, false, slice_index, IsTrue};
-ghost use Rattle.left_right_check.specs.Ties.{AreTied};
+ghost use Rattle.left_right_check.specs.Ties.{AreTied, turned as turn_of};
 
 use crate::forests::{ReturnEdge, RootedForest, entry};
 
@@ -22,6 +22,13 @@ pub struct Pair {
     pub one: ReturnEdge,
     /// The other.
     pub other: ReturnEdge,
+}
+
+/// Returns a side, or the other one if `turn` says so.
+pub fn turned(turn: bool, side: bool) -> bool
+    ensures { result ≡ turn_of turn side }
+{
+    if turn { !side } else { side }
 }
 
 impl<'a> RootedForest<'a> {

@@ -1,6 +1,6 @@
 -- Lists of edges collected one by one.
-use Rattle.std.proofs.Common.{◌≡◌, ◌⊎◌, ◌↔◌, ℕ, zero, suc, ◌+◌, ◌<◌, ◌≤◌, Bool, true, false, List, [], ◌∷◌, ◌++◌, length, get_or, take, Contains, sym, ap, ap₂, ◌∙◌, subst, inl, inr, arith, slice_index}
-use Rattle.std.proofs.lemmas.Bool.{cases_eq}
+use Rattle.std.proofs.Common.{◌≡◌, ◌⊎◌, ◌↔◌, ℕ, zero, suc, ◌+◌, ◌<◌, ◌≤◌, Bool, true, false, cond, List, [], ◌∷◌, ◌++◌, length, get_or, take, Contains, refl, sym, ap, ap₂, ◌∙◌, subst, inl, inr, arith, slice_index}
+use Rattle.std.proofs.lemmas.Bool.{cases_eq, true≢false}
 use Rattle.std.proofs.lemmas.List.Elements.{Contains-append_cases, Contains-append_left, Contains-append_right}
 use Rattle.std.proofs.Math.Seq.{take-suc}
 use Rattle.map_theory.specs.Maps.{Dart}
@@ -11,6 +11,23 @@ use Rattle.left_right_lists.specs.Groups.{Demand, IsRising, AreRising, HasLower,
 -- new has the entries of old, and x where P holds
 abbrev pub IsMore : {X : Type 0} → List X → List X → X → Type 0 → Type 0
 IsMore old new d P = (x : _) → Contains new x ↔ (Contains old x ⊎ ((x ≡ d) × P))
+
+-- a list to which an entry was appended, if it is wanted
+pub more_if : {X : Type 0} (old new : List X) (d : X) (wanted : Bool) (P : Type 0) → new ≡ cond wanted (old ++ d ∷ []) old → (wanted ≡ true) ↔ P → IsMore old new d P
+more_if old new d true P is by x = (
+  (λ c. elim (Contains-append_cases old (d ∷ []) x (subst (λ z. Contains z x) is c)) [
+    | inl k ↦ inl k
+    | inr k ↦ elim (here_or_there d x [] k) [ inl e ↦ inr (sym e, by.0 refl) | inr bad ↦ absurd (none_in_none x bad) ]
+  ]),
+  (λ h. subst (λ z. Contains z x) (sym is) (elim h [
+    | inl k ↦ Contains-append_left old (d ∷ []) x k
+    | inr k ↦ Contains-append_right old (d ∷ []) x (subst (Contains (d ∷ [])) (sym k.0) (here d []))
+  ])),
+)
+more_if old new d false P is by x = (
+  (λ c. inl (subst (λ z. Contains z x) is c)),
+  (λ h. elim h [ inl k ↦ subst (λ z. Contains z x) (sym is) k | inr k ↦ absurd (true≢false (sym (by.1 k.1))) ]),
+)
 
 -- the first i + 1 entries
 pub in_take : {X : Type 0} (xs : List X) (i : ℕ) (d z x : X) → i < length xs → d ≡ get_or xs i z → Contains (take (i + 1) xs) x ↔ (Contains (take i xs) x ⊎ (x ≡ d))

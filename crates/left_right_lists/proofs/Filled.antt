@@ -1,86 +1,49 @@
 -- Tables filled vertex by vertex are those of a tree whose last vertices stand.
-use Rattle.std.proofs.Common.{◌≡◌, ◌≢◌, ◌↔◌, ℕ, ◌+◌, ◌-◌, ◌<◌, ◌≤◌, Bool, true, false, cond, eqb, List, [], ◌∷◌, ◌++◌, length, filter, Contains, slice_index, slice_index_or, refl, sym, ap, ◌∙◌, subst, inl, inr, arith, eq-eqb, ne_eqb, length-append}
+use Rattle.std.proofs.Common.{◌≡◌, ◌≢◌, ◌↔◌, ℕ, ◌+◌, ◌-◌, ◌<◌, ◌≤◌, Bool, true, cond, eqb, List, [], ◌∷◌, ◌++◌, length, filter, Contains, slice_index, slice_index_or, refl, sym, ap, ◌∙◌, subst, inl, inr, arith, eq-eqb, ne_eqb, length-append}
 use Rattle.std.proofs.Math.ListN.{get_or-append}
-use Rattle.std.proofs.lemmas.Bool.{cases_Bool, cases_eq, cases_lt, cond-true, cond-false, true≢false}
-use Rattle.std.proofs.lemmas.List.{append-nil, get_or_past, get_or-append-add}
+use Rattle.std.proofs.lemmas.Bool.{cases_Bool, cases_eq, cond-true, cond-false}
+use Rattle.std.proofs.lemmas.List.{append-nil, get_or-append-add}
 use Rattle.map_lists.specs.Lists.{Lists}
 use Rattle.map_theory.specs.Maps.{Dart, list_of}
 use Rattle.graph6_text.specs.Graphs.{EdgeGraph, has_edge}
 use Rattle.plane_laws.proofs.KeptEdges.{same_kept}
 use Rattle.embed_theorem.specs.Expanded.{IsMapOf}
 use Rattle.left_right_maps.specs.RootedMaps.{is_child, joined as joined_lists}
-use Rattle.left_right_maps.proofs.Inserts.{none_in_none, here, there, here_or_there}
 use Rattle.left_right_maps.proofs.Opens.{joined_same}
 use Rattle.left_right_maps.proofs.Lines.{child_is}
 use Rattle.left_right_maps.proofs.Parts.{child_edge, Part, Sorted, items, returns}
 use Rattle.left_right_maps.proofs.Whole.{Stands, row, row_root, row_other, lists, long, list_is, is_map}
 use Rattle.left_right_lists.specs.Trees.{joined, AreSides, IsTreeOf}
-use Rattle.left_right_lists.specs.Groups.{Group, side_in, IsPlaced}
+use Rattle.left_right_lists.specs.Groups.{Group, side_in}
 use Rattle.left_right_lists.specs.Orders.{returns_in, IsFree, IsOrderOf}
-use Rattle.left_right_lists.specs.Blocks.{lead, trail, uppers, lefts, middle, rights, returned, block, opens_in, AreValues}
+use Rattle.left_right_lists.specs.Blocks.{uppers, lefts, middle, rights, returned, block, opens_in, AreValues}
 use Rattle.left_right_lists.specs.Placing.{returned_at, block_at, AreTablesAt, HasChildren, IsReady, IsOrderAt, IsPlacedBy, entries_in, row_at, AreRows}
 use Rattle.left_right_lists.specs.declared.tree.Tree.{Tree}
 use Rattle.left_right_lists.proofs.PlacedLemmas.{ArePlaced, parts, order}
 use Rattle.left_right_lists.proofs.Forked.{items_are, returned_same, sorted_of, order_of_sorted}
 use Rattle.left_right_lists.proofs.Stepped.{stepped}
+use Rattle.left_right_lists.proofs.Ordered.{in_free}
 
--- ---- tables
-pub rows_joined : {X : Type 0} (f : ℕ → List X) (rows : List (List X)) (n : ℕ) (us : List ℕ) (list : List X) → AreValues f [] rows n → ((u : ℕ) → Contains us u → u < n) → list ≡ joined_lists (λ u. slice_index_or rows u []) us → list ≡ joined_lists f us
-rows_joined f rows n us list h within is =
-    is ∙ joined_same (λ u. slice_index_or rows u []) f us (λ u c. h.at u (within u c))
+-- ---- rows for some vertices, as the code hands them over
+pub rows_within : {X : Type 0} (f : ℕ → List X) (rows : List (List X)) (n : ℕ) {us' us : List ℕ} → us' ≡ us → AreValues f [] rows n → ((u : ℕ) → Contains us u → u < n) → (u : ℕ) → Contains us' u → u < length rows
+rows_within f rows n e h within u m =
+    let l = within u (subst (λ z. Contains z u) e m) in
+    let all = h.long in
+    omega (arith, l, all)
 
--- ---- tables by slices are those by what they are
-pub values_by : {X : Type 0} (by : ℕ → List ℕ → List ℕ → List ℕ → ℕ → X) (none : X) (table : List X) {n' n : ℕ} {ps' ps ds' ds ms' ms : List ℕ} → n' ≡ n → ps' ≡ ps → ds' ≡ ds → ms' ≡ ms → AreValues (by n' ps' ds' ms') none table n' → AreValues (by n ps ds ms) none table n
-values_by by none table {n'} {n} {ps'} {ps} {ds'} {ds} {ms'} {ms} e p d m h =
-    let first : AreValues (by n ps' ds' ms') none table n = subst (λ z. AreValues (by z ps' ds' ms') none table z) e h in
-    let second : AreValues (by n ps ds' ms') none table n = subst (λ z. AreValues (by n z ds' ms') none table n) p first in
-    let third : AreValues (by n ps ds ms') none table n = subst (λ z. AreValues (by n ps z ms') none table n) d second in
-    subst (λ z. AreValues (by n ps ds z) none table n) m third
+pub rows_joined : {X : Type 0} (f : ℕ → List X) (rows : List (List X)) (n : ℕ) (list : List X) {us' us : List ℕ} → us' ≡ us → AreValues f [] rows n → ((u : ℕ) → Contains us u → u < n) → list ≡ joined_lists (λ u. slice_index_or rows u []) us' → list ≡ joined_lists f us
+rows_joined f rows n list {us'} {us} e h within is =
+    is ∙ (ap (joined_lists (λ u. slice_index_or rows u [])) e ∙ joined_same (λ u. slice_index_or rows u []) f us (λ u c. h.at u (within u c)))
 
 pub order_by : (sides : List Group) (rows : List (List Dart)) (us : List ℕ) {ds' ds : List ℕ} {free' free : List Bool} → ds' ≡ ds → free' ≡ free → IsOrderOf ds' sides rows free' us → IsOrderOf ds sides rows free us
 order_by sides rows us {ds'} {ds} {free'} {free} d e h =
     let first : IsOrderOf ds sides rows free' us = subst (λ z. IsOrderOf z sides rows free' us) d h in
     subst (λ z. IsOrderOf ds sides rows z us) e first
 
-pub list_by : {X : Type 0} (f : ℕ → ℕ → List X) (list : List X) {n' n : ℕ} {us' us : List ℕ} → n' ≡ n → us' ≡ us → list ≡ joined_lists (f n') us' → list ≡ joined_lists (f n) us
-list_by f list {n'} {n} {us'} {us} e u h =
-    let first : list ≡ joined_lists (f n) us' = subst (λ z. list ≡ joined_lists (f z) us') e h in
-    subst (λ z. list ≡ joined_lists (f n) z) u first
-
-pub rows_placed : (f : ℕ → List Dart) (rows : List (List Dart)) (n : ℕ) → AreValues f [] rows n → ((u : ℕ) (d : Dart) → u < n → Contains (f u) d → IsPlaced d) → (u : ℕ) (d : Dart) → Contains (returns_in rows u) d → IsPlaced d
-rows_placed f rows n h placed u d c =
-    let long = h.long in
-    elim (cases_lt u n) [
-      | inl l ↦ placed u d l (subst (λ z. Contains z d) (h.at u l) c)
-      | inr l ↦ absurd (none_in_none d (subst (λ z. Contains z d) (get_or_past rows u [] (omega (arith, l, long))) c))
-    ]
-
-lead_in : (p : Dart → Bool) (ds : List Dart) (d : Dart) → Contains (lead p ds) d → Contains ds d
-lead_in p [] d c = c
-lead_in p (x ∷ ds) d c =
-    elim (cases_Bool (p x)) [
-      | inl t ↦ elim (here_or_there x d (lead p ds) (subst (λ z. Contains z d) (cond-true {A = List Dart} (p x) (x ∷ lead p ds) [] t) c)) [
-        | inl e ↦ subst (Contains (x ∷ ds)) e (here x ds)
-        | inr k ↦ there x d ds (lead_in p ds d k)
-      ]
-      | inr f ↦ absurd (none_in_none d (subst (λ z. Contains z d) (cond-false {A = List Dart} (p x) (x ∷ lead p ds) [] f) c))
-    ]
-
-trail_in : (p : Dart → Bool) (ds : List Dart) (d : Dart) → Contains (trail p ds) d → Contains ds d
-trail_in p [] d c = c
-trail_in p (x ∷ ds) d c =
-    elim (cases_Bool (p x)) [
-      | inl t ↦ there x d ds (trail_in p ds d (subst (λ z. Contains z d) (cond-true {A = List Dart} (p x) (trail p ds) (x ∷ ds) t) c))
-      | inr f ↦ subst (λ z. Contains z d) (cond-false {A = List Dart} (p x) (trail p ds) (x ∷ ds) f) c
-    ]
-
-free_in : (free : List Bool) (u : ℕ) → IsFree free u → u < length free
-free_in free u t = elim (cases_lt u (length free)) [ inl l ↦ l | inr l ↦ absurd (true≢false (sym t ∙ get_or_past free u false l)) ]
-
 -- all vertices in an order are some of the graph
 pub order_within : (graph : EdgeGraph) (tree : Tree) (sides : List Group) (opens : List (List Dart)) (v : ℕ) (us : List ℕ) → IsOrderAt graph tree sides opens v us → (u : ℕ) → Contains us u → u < graph.n
 order_within graph tree sides opens v us h u c =
-    let l = free_in h.marks u ((h.order.all u).0 c) in
+    let l = in_free h.marks u ((h.order.all u).0 c) in
     let e = h.tables.marked.long in
     omega (arith, l, e)
 
@@ -93,6 +56,18 @@ at_end table new x p is e =
 before_end : {X : Type 0} (table new : List (List X)) (x : List X) (p : ℕ) → new ≡ table ++ x ∷ [] → p < length table → slice_index_or new p [] ≡ slice_index_or table p []
 before_end table new x p is l =
     ap (λ z. slice_index_or z p []) is ∙ get_or-append table (x ∷ []) [] p l
+
+-- a function with another value at one place
+put : {X : Type 0} → ℕ → X → (ℕ → X) → ℕ → X
+put v x f u = cond (eqb u v) x (f u)
+
+put_here : {X : Type 0} (v : ℕ) (x : X) (f : ℕ → X) → put v x f v ≡ x
+unfolding put
+put_here {X} v x f = cond-true {A = X} (eqb v v) x (f v) (eq-eqb v v refl)
+
+put_other : {X : Type 0} (v : ℕ) (x : X) (f : ℕ → X) (u : ℕ) → u ≢ v → put v x f u ≡ f u
+unfolding put
+put_other {X} v x f u ne = cond-false {A = X} (eqb u v) x (f u) (ne_eqb u v ne)
 
 module _ (graph : EdgeGraph) (tree : Tree) (h : IsTreeOf graph tree) (sides : List Group) (parted : AreSides graph tree.parents.items tree.depths.items (side_in sides)) where
   abbrev n : ℕ
@@ -187,28 +162,12 @@ module _ (graph : EdgeGraph) (tree : Tree) (h : IsTreeOf graph tree) (sides : Li
           | inr off ↦ cond-false {A = List ℕ} (is_child parent depth v u) (uppers (lefts v (opens_in n tree.number.items opens u)) ++ u ∷ uppers (rights v (opens_in n tree.number.items opens u))) (u ∷ []) off ∙ sym (cond-false {A = List ℕ} (is_child parent depth v u) (uppers (lefts v (O u)) ++ u ∷ uppers (rights v (O u))) (u ∷ []) off)
         ]
 
-    children : HasChildren n tree opens v
+    pub children : HasChildren n tree opens v
     children u t =
         let a = h.numbered u (child_in u t) in
         let b = child_late u t in
         let c = f.opens_long in
         omega (arith, a, b, c)
-
-    in_placed : (u : ℕ) (d : Dart) → u < n → Contains (returned_at n tree opens v u) d → IsPlaced d
-    in_placed u d l c =
-        let few = h.few in
-        elim (cases_Bool (is_child parent depth v u)) [
-          | inl t ↦
-              let c' : Contains (middle v (O u)) d = subst (λ z. Contains z d) (same_returned u ∙ cond-true {A = List Dart} (is_child parent depth v u) (middle v (O u)) ((v, u) ∷ []) t) c in
-              let r = (Parts u t).sound d (trail_in _ (O u) d (lead_in _ _ d c')) in
-              let a = h.tree.in_range d.0 d.1 r.has in
-              let b = h.tree.in_range d.1 d.0 (h.tree.both_ways d.0 d.1 r.has) in
-              (omega (arith, a, few), omega (arith, b, few))
-          | inr off ↦ elim (here_or_there (v, u) d [] (subst (λ z. Contains z d) (same_returned u ∙ cond-false {A = List Dart} (is_child parent depth v u) (middle v (O u)) ((v, u) ∷ []) off) c)) [
-            | inl e ↦ subst IsPlaced e (omega (arith, in_n, few), omega (arith, l, few))
-            | inr bad ↦ absurd (none_in_none d bad)
-          ]
-        ]
 
     module _ (marks : List Bool) (rows : List (List Dart)) (tables : AreTablesAt graph tree opens v marks rows) where
       abbrev Items : List ℕ
@@ -222,7 +181,7 @@ module _ (graph : EdgeGraph) (tree : Tree) (h : IsTreeOf graph tree) (sides : Li
           let is = items_are n edge parent depth tree.root left h.tree parted v f.placed.words O Parts u in (
             (λ c. let p = is.0 c in tables.marked.at u p.0 ∙ p.1),
             (λ t.
-                let l = free_in marks u t in
+                let l = in_free marks u t in
                 let e = tables.marked.long in
                 let l' : u < n = omega (arith, l, e) in
                 is.1 (l', sym (tables.marked.at u l') ∙ t)),
@@ -247,39 +206,23 @@ module _ (graph : EdgeGraph) (tree : Tree) (h : IsTreeOf graph tree) (sides : Li
       sorted us o =
           (sorted_of n edge parent depth tree.root left h.tree parted v f.placed.words O Parts marks rows marked rows_are us (o.all, o.pairs), refl)
 
-    pub ready : length sides ≡ 65536 → IsReady graph tree sides opens v
-    ready l = record { long = l; children = children; placed = in_placed; ordered = some_order }
+    pub ready : IsReady graph tree sides opens v
+    ready = some_order
 
     module _ (entries' : List (List ℕ)) (opens' : List (List Dart)) (list : List ℕ) (waiting : List Dart) (by : IsPlacedBy graph tree sides opens v list waiting) (is : entries' ≡ entries ++ list ∷ []) (is' : opens' ≡ opens ++ waiting ∷ []) where
-      E' : ℕ → List ℕ
-      E' u = cond (eqb u v) list (f.E u)
+      abbrev E' : ℕ → List ℕ
+      E' = put v list f.E
 
-      O' : ℕ → List Dart
-      O' u = cond (eqb u v) waiting (O u)
-
-      e_here : E' v ≡ list
-      unfolding E'
-      e_here = cond-true {A = List ℕ} (eqb v v) list (f.E v) (eq-eqb v v refl)
-
-      e_other : (u : ℕ) → u ≢ v → E' u ≡ f.E u
-      unfolding E'
-      e_other u ne = cond-false {A = List ℕ} (eqb u v) list (f.E u) (ne_eqb u v ne)
-
-      o_here : O' v ≡ waiting
-      unfolding O'
-      o_here = cond-true {A = List Dart} (eqb v v) waiting (O v) (eq-eqb v v refl)
-
-      o_other : (u : ℕ) → u ≢ v → O' u ≡ O u
-      unfolding O'
-      o_other u ne = cond-false {A = List Dart} (eqb u v) waiting (O u) (ne_eqb u v ne)
+      abbrev O' : ℕ → List Dart
+      O' = put v waiting O
 
       stands : AreStanding E' O' (k + 1)
       stands =
           let o = by.order in
           let s = sorted o.marks o.rows o.tables by.us o.order in
-          stepped n edge parent depth tree.root left h.tree parted number h.rising only f.E O k v f.placed in_n next s.0 E' O' e_other o_other
-          (e_here ∙ (by.list_is ∙ (joined_same (block_at n tree opens v) (block parent depth O v) by.us (λ u c. same_block u) ∙ ap (joined_lists (block parent depth O v)) (sym s.1))))
-          (o_here ∙ (by.waiting_is ∙ (joined_same (returned_at n tree opens v) (returned parent depth O v) by.us (λ u c. same_returned u) ∙ ap (joined_lists (returned parent depth O v)) (sym s.1))))
+          stepped n edge parent depth tree.root left h.tree parted number h.rising only f.E O k v f.placed in_n next s.0 E' O' (put_other v list f.E) (put_other v waiting O)
+          (put_here v list f.E ∙ (by.list_is ∙ (joined_same (block_at n tree opens v) (block parent depth O v) by.us (λ u c. same_block u) ∙ ap (joined_lists (block parent depth O v)) (sym s.1))))
+          (put_here v waiting O ∙ (by.waiting_is ∙ (joined_same (returned_at n tree opens v) (returned parent depth O v) by.us (λ u c. same_returned u) ∙ ap (joined_lists (returned parent depth O v)) (sym s.1))))
 
       earlier : (w : ℕ) → w < n → n ≤ number w + (k + 1) → w ≢ v → n ≤ number w + k
       earlier w l far ne =
@@ -296,12 +239,12 @@ module _ (graph : EdgeGraph) (tree : Tree) (h : IsTreeOf graph tree) (sides : Li
             O = O';
             placed = stands;
             entries_are = λ w l far. elim (cases_eq w v) [
-              | inl e ↦ (let q = ap number e in at_end entries entries' list (n - 1 - number w) is (omega (arith, q, next, a))) ∙ (sym e_here ∙ ap E' (sym e))
-              | inr ne ↦ (let late = earlier w l far ne in let m = h.numbered w l in before_end entries entries' list (n - 1 - number w) is (omega (arith, late, m, a)) ∙ (f.entries_are w l late ∙ sym (e_other w ne)))
+              | inl e ↦ (let q = ap number e in at_end entries entries' list (n - 1 - number w) is (omega (arith, q, next, a))) ∙ (sym (put_here v list f.E) ∙ ap E' (sym e))
+              | inr ne ↦ (let late = earlier w l far ne in let m = h.numbered w l in before_end entries entries' list (n - 1 - number w) is (omega (arith, late, m, a)) ∙ (f.entries_are w l late ∙ sym (put_other v list f.E w ne)))
             ];
             opens_are = λ w l far. elim (cases_eq w v) [
-              | inl e ↦ (let q = ap number e in at_end opens opens' waiting (n - 1 - number w) is' (omega (arith, q, next, b))) ∙ (sym o_here ∙ ap O' (sym e))
-              | inr ne ↦ (let late = earlier w l far ne in let m = h.numbered w l in before_end opens opens' waiting (n - 1 - number w) is' (omega (arith, late, m, b)) ∙ (f.opens_are w l late ∙ sym (o_other w ne)))
+              | inl e ↦ (let q = ap number e in at_end opens opens' waiting (n - 1 - number w) is' (omega (arith, q, next, b))) ∙ (sym (put_here v waiting O) ∙ ap O' (sym e))
+              | inr ne ↦ (let late = earlier w l far ne in let m = h.numbered w l in before_end opens opens' waiting (n - 1 - number w) is' (omega (arith, late, m, b)) ∙ (f.opens_are w l late ∙ sym (put_other v waiting O w ne)))
             ];
           }
 

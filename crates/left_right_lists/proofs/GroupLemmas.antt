@@ -1,13 +1,14 @@
 -- Groups put into one another.
-use Rattle.std.proofs.Common.{◌≡◌, ◌≢◌, ℕ, zero, suc, ◌+◌, ◌/◌, ◌%◌, ◌<◌, ◌≤◌, Bool, true, false, eqb, List, [], ◌∷◌, ◌++◌, length, get_or, take, Contains, refl, sym, ap, ap₂, ◌∙◌, subst, inl, inr, arith, eq-eqb, ne_eqb, length-append}
+use Rattle.std.proofs.Common.{◌≡◌, ◌≢◌, ℕ, ◌+◌, ◌/◌, ◌%◌, ◌<◌, ◌≤◌, Bool, true, false, eqb, List, [], ◌∷◌, ◌++◌, length, get_or, take, Contains, refl, sym, ap, ap₂, ◌∙◌, subst, inl, inr, arith, eq-eqb, ne_eqb, length-append}
 use Rattle.std.proofs.lemmas.Bool.{cases_eq, cases_lt, cond-true, cond-false}
 use Rattle.std.proofs.lemmas.Nat.{div-mul-add, mod-mul-add}
-use Rattle.std.proofs.lemmas.List.{get_or-append-add}
+use Rattle.std.proofs.lemmas.List.{get_or-append-add, get_or_default}
 use Rattle.std.proofs.lemmas.List.Elements.{Contains-get_or}
 use Rattle.std.proofs.Math.ListN.{get_or-append}
 use Rattle.std.proofs.Math.Seq.{take-append_seam}
 use Rattle.map_theory.specs.Maps.{Dart}
-use Rattle.left_right_lists.specs.Groups.{turned, Group, Demand, dart_place, group_at, group_of, IsPlaced, Fits, moved_group, AreMoved, AreMerged, AreMet, Meets, none_demanded}
+use Rattle.left_right_check.specs.Ties.{turned}
+use Rattle.left_right_lists.specs.Groups.{Group, Demand, dart_place, group_at, group_of, IsPlaced, Fits, moved_group, AreMerged, AreMet, Meets, none_demanded}
 
 -- ---- sides turned
 pub turned_twice : (a b c : Bool) → turned (turned a b) c ≡ turned a (turned b c)
@@ -16,57 +17,32 @@ turned_twice true true false = refl
 turned_twice true false c = refl
 turned_twice false b c = refl
 
+turned_back : (a b : Bool) → turned a (turned a b) ≡ b
+turned_back true true = refl
+turned_back true false = refl
+turned_back false b = refl
+
+turned_eq : (a b : Bool) → turned a b ≡ turned b a
+turned_eq true true = refl
+turned_eq true false = refl
+turned_eq false true = refl
+turned_eq false false = refl
+
 pub turned_swap : (a b c : Bool) → turned a (turned b c) ≡ turned b (turned a c)
-turned_swap true true c = refl
-turned_swap true false c = refl
-turned_swap false true c = refl
-turned_swap false false c = refl
+turned_swap a b c = sym (turned_twice a b c) ∙ (ap (λ z. turned z c) (turned_eq a b) ∙ turned_twice b a c)
 
 -- how the sides of two groups are to each other, by two edges of them
 pub flip_is : (k a b f g : Bool) → turned f a ≡ turned k (turned g b) → g ≡ turned (turned k (turned a b)) f
-flip_is true true true true true e = cc
-flip_is true true true true false e = cc
-flip_is true true true false true e = cc
-flip_is true true true false false e = cc
-flip_is true true false true true e = cc
-flip_is true true false true false e = cc
-flip_is true true false false true e = cc
-flip_is true true false false false e = cc
-flip_is true false true true true e = cc
-flip_is true false true true false e = cc
-flip_is true false true false true e = cc
-flip_is true false true false false e = cc
-flip_is true false false true true e = cc
-flip_is true false false true false e = cc
-flip_is true false false false true e = cc
-flip_is true false false false false e = cc
-flip_is false true true true true e = cc
-flip_is false true true true false e = cc
-flip_is false true true false true e = cc
-flip_is false true true false false e = cc
-flip_is false true false true true e = cc
-flip_is false true false true false e = cc
-flip_is false true false false true e = cc
-flip_is false true false false false e = cc
-flip_is false false true true true e = cc
-flip_is false false true true false e = cc
-flip_is false false true false true e = cc
-flip_is false false true false false e = cc
-flip_is false false false true true e = cc
-flip_is false false false true false e = cc
-flip_is false false false false true e = cc
-flip_is false false false false false e = cc
+flip_is k a b f g e =
+    let other : turned g b ≡ turned k (turned f a) = sym (turned_back k (turned g b)) ∙ ap (turned k) (sym e) in
+    let alone : g ≡ turned b (turned k (turned f a)) = sym (turned_back b g) ∙ ap (turned b) (turned_eq b g ∙ other) in
+    alone ∙ (turned_swap b k (turned f a) ∙ (ap (λ z. turned k (turned b z)) (turned_eq f a) ∙ (ap (turned k) (turned_swap b a f ∙ sym (turned_twice a b f)) ∙ sym (turned_twice k (turned a b) f))))
 
 -- the flip puts a's group and b's on the sides that they have
 pub flip_meets : (k a b : Bool) → a ≡ turned k (turned (turned k (turned a b)) b)
-flip_meets true true true = refl
-flip_meets true true false = refl
-flip_meets true false true = refl
-flip_meets true false false = refl
-flip_meets false true true = refl
-flip_meets false true false = refl
-flip_meets false false true = refl
-flip_meets false false false = refl
+flip_meets k a b =
+    let back : turned (turned a b) b ≡ a = turned_eq (turned a b) b ∙ (ap (turned b) (turned_eq a b) ∙ turned_back b a) in
+    sym (ap (turned k) (turned_twice k (turned a b) b) ∙ (turned_back k (turned (turned a b) b) ∙ back))
 
 -- ---- entries
 moved_from : (into from : ℕ) (flip : Bool) (g : Group) → g.0 ≡ from → moved_group into from flip g ≡ (into, turned flip g.1)
@@ -75,7 +51,11 @@ moved_from into from flip g e = cond-true {A = Group} (eqb g.0 from) (into, turn
 moved_other : (into from : ℕ) (flip : Bool) (g : Group) → g.0 ≢ from → moved_group into from flip g ≡ g
 moved_other into from flip g ne = cond-false {A = Group} (eqb g.0 from) (into, turned flip g.1) g (ne_eqb g.0 from ne)
 
--- a table with the entries below i moved
+-- a table with all entries moved, and one with those below i
+pub record AreMoved (into from : ℕ) (flip : Bool) (old new : List Group) : Type 0 where
+  pub long : length new ≡ length old
+  pub at : (p : ℕ) → p < length old → group_at new p ≡ moved_group into from flip (group_at old p)
+
 pub record AreMovedTo (into from : ℕ) (flip : Bool) (old new : List Group) (i : ℕ) : Type 0 where
   pub long : length new ≡ length old
   pub before : (p : ℕ) → p < i → group_at new p ≡ moved_group into from flip (group_at old p)
@@ -151,12 +131,6 @@ module _ (old new : List Group) (a b : Dart) (turn : Bool) (long : length old �
     ),
     refl,
   )
-    where
-      turned_eq : (f g : Bool) → turned f g ≡ turned g f
-      turned_eq true true = refl
-      turned_eq true false = refl
-      turned_eq false true = refl
-      turned_eq false false = refl
 
   pub other_met : one.0 ≢ two.0 → AreMoved one.0 two.0 flip old new → group_of new a ≡ ((group_of new b).0, turned turn (group_of new b).1)
   other_met ne h =
@@ -165,9 +139,10 @@ module _ (old new : List Group) (a b : Dart) (turn : Bool) (long : length old �
       at_a ∙ (ap (λ s. (one.0, s)) (flip_meets turn one.1 two.1) ∙ ap (λ (z : Group). (z.0, turned turn z.1)) (sym at_b))
 
   -- with what the code reads
-  pub exact : (one' two' : Group) (flip' : Bool) → one' ≡ one → two' ≡ two → flip' ≡ turned turn (turned one'.1 two'.1) → AreMoved one'.0 two'.0 flip' old new → AreMoved one.0 two.0 flip old new
-  exact one' two' flip' e e' ef m =
-      let first = subst (λ f. AreMoved one'.0 two'.0 f old new) ef m in
+  pub exact : (one' two' : Group) (flip' : Bool) (i : ℕ) → one' ≡ one → two' ≡ two → flip' ≡ turned turn (turned one'.1 two'.1) → length old ≤ i → AreMovedTo one'.0 two'.0 flip' old new i → AreMoved one.0 two.0 flip old new
+  exact one' two' flip' i e e' ef all m =
+      let whole : AreMoved one'.0 two'.0 flip' old new = record { long = m.long; at = λ p l. m.before p (omega (arith, l, all)) } in
+      let first = subst (λ f. AreMoved one'.0 two'.0 f old new) ef whole in
       let second = subst (λ (o : Group). AreMoved o.0 two'.0 (turned turn (turned o.1 two'.1)) old new) e first in
       subst (λ (o : Group). AreMoved one.0 o.0 (turned turn (turned one.1 o.1)) old new) e' second
 
@@ -201,28 +176,15 @@ met_all groups demands first k l met = (
     turned first.1 (group_of groups first.0).1,
     λ d has.
         let at = met has.0 (let m = has.1 in omega arith) in
-        let is : get_or demands has.0 none_demanded ≡ d = get_same demands has.0 none_demanded d has.1 ∙ has.2 in
+        let is : get_or demands has.0 none_demanded ≡ d = get_or_default demands has.0 none_demanded d has.1 ∙ has.2 in
         subst (λ (z : Demand). group_of groups z.0 ≡ ((group_of groups first.0).0, turned z.1 (turned first.1 (group_of groups first.0).1))) is (at ∙ ap (λ z. ((group_of groups first.0).0, z)) (turned_twice (get_or demands has.0 none_demanded).1 first.1 (group_of groups first.0).1)),
   ),
 )
-  where
-    get_same : (xs : List Demand) (i : ℕ) (d e : Demand) → i < length xs → get_or xs i d ≡ get_or xs i e
-    get_same [] i d e l = absurd (omega (arith, l))
-    get_same (x ∷ xs) zero d e l = refl
-    get_same (x ∷ xs) (suc i) d e l = get_same xs i d e (omega (arith, l))
 
 -- a partition that meets them all has these two on the sides demanded
 pub tied_by : (left : ℕ → ℕ → Bool) (demands : List Demand) (side : Bool) (x first : Demand) → Meets left demands side → Contains demands x → Contains demands first → left x.0.0 x.0.1 ≡ turned (turned x.1 first.1) (left first.0.0 first.0.1)
 tied_by left demands side x first meets in_x in_first =
-    meets x in_x ∙ (by_first x.1 first.1 side ∙ ap (turned (turned x.1 first.1)) (sym (meets first in_first)))
-  where
-    by_first : (a b s : Bool) → turned a s ≡ turned (turned a b) (turned b s)
-    by_first true true true = refl
-    by_first true true false = refl
-    by_first true false s = refl
-    by_first false true true = refl
-    by_first false true false = refl
-    by_first false false s = refl
+    meets x in_x ∙ (ap (turned x.1) (sym (turned_back first.1 side)) ∙ (sym (turned_twice x.1 first.1 (turned first.1 side)) ∙ ap (turned (turned x.1 first.1)) (sym (meets first in_first))))
 
 pub placed_at : (demands : List Demand) → ((d : Demand) → Contains demands d → IsPlaced d.0) → (i : ℕ) (x : Demand) → i < length demands → x ≡ get_or demands i none_demanded → IsPlaced x.0
 placed_at demands placed i x l is = placed x (subst (Contains demands) (sym is) (Contains-get_or demands i none_demanded l))

@@ -18,7 +18,8 @@ Follows depths sides returns e f = (e ≢ f) × Before depths sides returns e f
 abbrev pub flag : List Bool → ℕ → Bool
 flag free u = slice_index_or free u false
 
-in_free : (free : List Bool) (u : ℕ) → IsFree free u → u < length free
+-- a vertex that is left is one of the table
+pub in_free : (free : List Bool) (u : ℕ) → IsFree free u → u < length free
 in_free free u t = elim (cases_lt u (length free)) [ inl l ↦ l | inr l ↦ absurd (true≢false (sym t ∙ get_or_past free u false l)) ]
 
 pub ordered_more : (depths : List ℕ) (sides : List Group) (returns : List (List Dart)) (initial free : List Bool) (us us' : List ℕ) (u p : ℕ) → p ≡ u → us' ≡ us ++ u ∷ [] → IsFirst depths sides returns free u → IsSorting (Follows depths sides returns) (flag initial) (flag free) us → IsSorting (Follows depths sides returns) (flag initial) (flag (slice_set free p false)) us'

@@ -6,8 +6,9 @@ use Rattle.map_theory.specs.Maps.{Dart}
 use Rattle.graph6_text.specs.Graphs.{EdgeGraph}
 use Rattle.left_right_laws.specs.Forests.{up}
 use Rattle.left_right_maps.proofs.Lines.{above_same, IsBelow, branch_below}
+use Rattle.left_right_check.specs.Ties.{turned}
 use Rattle.left_right_lists.specs.Trees.{joined, AreSides, AreOfTree}
-use Rattle.left_right_lists.specs.Groups.{turned, Group, Demand, dart_place, group_of, side_in, IsPlaced, Fits, AreMerged, AreMet, Meets, IsDemanded, Returns, IsForkMet, AreForksMet, IsStep, IsRising, AreRising}
+use Rattle.left_right_lists.specs.Groups.{Group, Demand, dart_place, group_of, side_in, IsPlaced, Fits, AreMerged, AreMet, Meets, IsDemanded, Returns, IsForkMet, AreForksMet, IsStep, IsRising, AreRising}
 use Rattle.left_right_lists.proofs.GroupLemmas.{merged_none, merged_over}
 
 module _ (graph : EdgeGraph) (root : ℕ) (order number parents depths : List ℕ) (h : AreOfTree graph root order number parents depths) where
@@ -29,11 +30,8 @@ module _ (graph : EdgeGraph) (root : ℕ) (order number parents depths : List �
   ends_in u v t = (h.tree.in_range u v t, h.tree.in_range v u (h.tree.both_ways u v t))
 
   -- edges that lead upwards have their ends in the graph
-  pub upward_is : (darts : List Dart) (parents' depths' : List ℕ) → parents' ≡ parents → depths' ≡ depths → AreRising graph parents' depths' graph.n darts → (d : Dart) → Contains darts d ↔ IsRising graph parents depths d
-  upward_is darts parents' depths' e e' are d =
-      let first : AreRising graph parents depths' graph.n darts = subst (λ ps. AreRising graph ps depths' graph.n darts) e are in
-      let second : AreRising graph parents depths graph.n darts = subst (λ ds. AreRising graph parents ds graph.n darts) e' first in
-      ((λ c. ((second d).0 c).1.1), (λ r. let l = ends_in d.0 d.1 r.1 in (second d).1 (l.0, (l.1, r))))
+  pub upward_is : (darts : List Dart) → AreRising graph parents depths graph.n darts → (d : Dart) → Contains darts d ↔ IsRising graph parents depths d
+  upward_is darts are d = ((λ c. ((are d).0 c).1.1), (λ r. let l = ends_in d.0 d.1 r.1 in (are d).1 (l.0, (l.1, r))))
 
   pub placed : (v e : ℕ) (d : Dart) → R v e d → IsPlaced d
   placed v e d r =

@@ -1,14 +1,11 @@
 -- Groups of edges whose sides are known of each other, as a table by edge.
-use Rattle.std.specs.Prelude.{ℕ, ◌+◌, ◌*◌, ◌<◌, ◌≡◌, ◌≢◌, Bool, true, false, not, cond, if◌then◌else◌, eqb, List, length, slice_index, slice_index_or, Contains, ◌⊎◌, ◌↔◌}
+use Rattle.std.specs.Prelude.{ℕ, ◌+◌, ◌*◌, ◌<◌, ◌≡◌, ◌≢◌, Bool, true, false, not, cond, eqb, List, length, slice_index, slice_index_or, Contains, ◌⊎◌, ◌↔◌}
 use Rattle.map_theory.specs.Maps.{Dart}
 use Rattle.graph6_text.specs.Graphs.{EdgeGraph}
 use Rattle.left_right_laws.specs.Forests.{IsReturn}
 use Rattle.left_right_maps.specs.Orders.{IsEdge}
+use Rattle.left_right_check.specs.Ties.{turned}
 use Rattle.left_right_lists.specs.Trees.{joined, AreSides}
-
--- a side, or the other one
-abbrev pub turned : Bool → Bool → Bool
-turned turn side = if turn then not side else side
 
 -- an edge's group, and whether it is on the other side than the group
 abbrev pub Group : Type 0
@@ -46,10 +43,6 @@ Fits left groups =
 -- an entry where one group is put into another
 abbrev pub moved_group : ℕ → ℕ → Bool → Group → Group
 moved_group into from flip group = cond (eqb group.0 from) (into, turned flip group.1) group
-
-pub record AreMoved (into from : ℕ) (flip : Bool) (old new : List Group) : Type 0 where
-  pub long : length new ≡ length old
-  pub at : (p : ℕ) → p < length old → group_at new p ≡ moved_group into from flip (group_at old p)
 
 -- each old group is part of a new one
 pub record AreMerged (old new : List Group) : Type 0 where

@@ -1,11 +1,11 @@
 -- A vertex placed where all vertices of a later number are, and lists of a graph from the entries of all.
-use Rattle.std.specs.Prelude.{ℕ, ◌-◌, ◌<◌, ◌≡◌, Bool, true, false, cond, eqb, List, [], ◌∷◌, ◌++◌, length, slice_index, slice_index_or, filter, Contains}
+use Rattle.std.specs.Prelude.{ℕ, ◌-◌, ◌<◌, ◌≡◌, Bool, true, false, cond, eqb, List, [], ◌∷◌, ◌++◌, length, slice_index, slice_index_or, filter}
 use Rattle.map_lists.specs.Lists.{Lists}
 use Rattle.map_theory.specs.Maps.{Dart}
 use Rattle.graph6_text.specs.Graphs.{EdgeGraph, has_edge}
 use Rattle.left_right_maps.specs.RootedMaps.{is_child, joined as joined_lists}
 use Rattle.left_right_lists.specs.Trees.{joined}
-use Rattle.left_right_lists.specs.Groups.{Group, IsPlaced}
+use Rattle.left_right_lists.specs.Groups.{Group}
 use Rattle.left_right_lists.specs.Orders.{IsOrderOf}
 use Rattle.left_right_lists.specs.Blocks.{is_item, returned, block, opens_in, AreValues}
 use Rattle.left_right_lists.specs.declared.tree.Tree.{Tree}
@@ -32,12 +32,10 @@ abbrev pub HasChildren : ℕ → Tree → List (List Dart) → ℕ → Type 0
 HasChildren n tree opens v =
     (u : ℕ) → is_child (slice_index tree.parents.items) (slice_index tree.depths.items) v u ≡ true → n - 1 - slice_index tree.number.items u < length opens
 
--- v can be placed: there is an order of its edges
-pub record IsReady (graph : EdgeGraph) (tree : Tree) (sides : List Group) (opens : List (List Dart)) (v : ℕ) : Type 0 where
-  pub long : length sides ≡ 65536
-  pub children : HasChildren graph.n tree opens v
-  pub placed : (u : ℕ) (d : Dart) → u < graph.n → Contains (returned_at graph.n tree opens v u) d → IsPlaced d
-  pub ordered : (marks : List Bool) (rows : List (List Dart)) → AreTablesAt graph tree opens v marks rows → (us : List ℕ) × IsOrderOf tree.depths.items sides rows marks us
+-- v's edges can be put in order
+abbrev pub IsReady : EdgeGraph → Tree → List Group → List (List Dart) → ℕ → Type 0
+IsReady graph tree sides opens v =
+    (marks : List Bool) (rows : List (List Dart)) → AreTablesAt graph tree opens v marks rows → (us : List ℕ) × IsOrderOf tree.depths.items sides rows marks us
 
 -- these are v's edges in order
 pub record IsOrderAt (graph : EdgeGraph) (tree : Tree) (sides : List Group) (opens : List (List Dart)) (v : ℕ) (us : List ℕ) : Type 0 where

@@ -4,9 +4,7 @@ ghost use Rattle.map_lists.specs.Lists.{Lists};
 ghost use Rattle.embed_theorem.specs.Expanded.{IsMapOf};
 ghost use Rattle.left_right_lists.specs.Decided.{HasMap};
 
-use crate::placing::all_entries;
-use crate::returns::upward_of;
-use crate::rows::rows_of;
+use crate::returns::{RootedGraph, upward_of};
 use crate::sides::sides_of;
 use graph6_text::Graph;
 use map_lists::Rotations;
@@ -26,8 +24,12 @@ pub fn map_of_graph(alloc: Global, graph: &Graph) -> Result<Option<Rotations>, A
     let Some(sides) = sides_of(alloc, graph, &up)? else {
         return Ok(None);
     };
-    let entries = all_entries(alloc, graph, &up.tree, &sides)?;
-    Ok(Some(rows_of(alloc, graph, &up.tree, &entries)?))
+    let rooted = RootedGraph {
+        graph,
+        tree: &up.tree,
+    };
+    let entries = rooted.all_entries(alloc, &sides)?;
+    Ok(Some(rooted.rows_of(alloc, &entries)?))
 }
 
 /// Tells whether a graph has a map of genus zero, as [`map_of_graph`] finds it. It fails only when out of memory.

@@ -8,7 +8,7 @@ use left_right_check::entry;
 use map_lists::Rotations;
 use std::alloc::{AllocError, Global};
 
-// The depth of a vertex by that of its parent, or 0 where it has none.
+// Returns the depth of a vertex by that of its parent, or 0 where it has none.
 fn depth_from(parents: &[u16], depths: &[u16], v: u16) -> u16
     requires { (p : ℕ) → slice_index depths.now p < 4096 }
     ensures { IsDepthBy parents.now depths.now v result }
@@ -22,27 +22,19 @@ fn depth_from(parents: &[u16], depths: &[u16], v: u16) -> u16
 }
 
 // Fills the depths of a search's vertices, in its order.
-fn fill_depths(
-    lists: &Rotations,
-    order: &[u16],
-    number: &[u16],
-    last: &[u16],
-    parents: &[u16],
-    depths: &mut [u16],
-)
-    requires forest { IsForestOf lists.now order.now number.now last.now parents.now }
+fn fill_depths(lists: &Rotations, forest: &Forest, depths: &mut [u16])
+    requires forest { IsForestOf lists.now forest.now.order.items forest.now.number.items forest.now.last.items forest.now.parent.items }
     requires long { length depths.old ≡ length lists.now }
     requires flat { (v : ℕ) → slice_index depths.old v ≡ 0 }
-    ensures { AreDepths order.now parents.now depths.new (length lists.now) }
+    ensures { AreDepths forest.now.order.items forest.now.parent.items depths.new (length lists.now) }
 {
-    let n = lists.len();
-    for k in 0..n {
-        let v = order[k];
-        depths[usize::from(v)] = depth_from(parents, depths, v);
+    for k in 0..lists.len() {
+        let v = forest.order[k];
+        depths[usize::from(v)] = depth_from(&forest.parent, depths, v);
     }
 }
 
-// The depths of a search's vertices.
+/// Returns the depths of a search's vertices. It fails only when out of memory.
 pub(crate) fn depths_of(
     alloc: Global,
     lists: &Rotations,
@@ -52,13 +44,6 @@ pub(crate) fn depths_of(
     ensures { IfOk result (λ depths. AreDepths forest.now.order.items forest.now.parent.items depths.items (length lists.now)) }
 {
     let mut depths = vec![in alloc; 0u16; lists.len()]?;
-    fill_depths(
-        lists,
-        &forest.order,
-        &forest.number,
-        &forest.last,
-        &forest.parent,
-        &mut depths,
-    );
+    fill_depths(lists, forest, &mut depths);
     Ok(depths)
 }

@@ -1,24 +1,24 @@
 //! Groups of edges, each of which is on the side of its group or on the other one.
 ghost use Rattle.std.specs.Prelude.{◌≡◌, ◌+◌, ◌*◌, ◌<◌, ℕ, Bool, List, length, slice_index_or, IsTrue, IfOk, Contains};
-ghost use Rattle.left_right_lists.specs.Groups.{turned as turn_of, Demand, IsPlaced, Fits, moved_group, AreMoved, AreMerged, AreMet, Meets, none_demanded, group_of, group_at, dart_place};
+ghost use Rattle.left_right_check.specs.Ties.{turned as turn_of};
+ghost use Rattle.left_right_lists.specs.Groups.{Demand, IsPlaced, Fits, moved_group, AreMerged, AreMet, Meets, none_demanded, group_of};
 
+use left_right_check::turned;
 use std::alloc::{AllocError, Global};
 
-// A side, or the other one.
-fn turned(turn: bool, side: bool) -> bool
-    ensures { result ≡ turn_of turn side }
+/// Returns the group of an edge, and whether the edge is on the other side than the group's.
+pub(crate) fn group(groups: &[(u32, bool)], d: (u16, u16)) -> (u32, bool)
+    ensures { result ≡ group_of groups.now d }
 {
-    if turn { !side } else { side }
+    let place = usize::from(d.0) * 256 + usize::from(d.1);
+    if place < groups.len() {
+        groups[place]
+    } else {
+        (0, false)
+    }
 }
 
-// The place of an edge in a table of groups.
-fn place(d: (u16, u16)) -> usize
-    ensures { result ≡ dart_place d }
-{
-    usize::from(d.0) * 256 + usize::from(d.1)
-}
-
-// An edge's group, if one group is put into another.
+// Returns the group of an edge, `group` so far, once group `from` is put into group `into`, turned round if `flip` says so.
 fn moved(group: (u32, bool), into: u32, from: u32, flip: bool) -> (u32, bool)
     ensures { result ≡ moved_group into from flip group }
 {
@@ -29,26 +29,8 @@ fn moved(group: (u32, bool), into: u32, from: u32, flip: bool) -> (u32, bool)
     }
 }
 
-// Puts one group into another.
-fn merge(groups: &mut [(u32, bool)], into: u32, from: u32, flip: bool)
-    ensures { AreMoved into from flip groups.old groups.new }
-{
-    for p in 0..groups.len() {
-        groups[p] = moved(groups[p], into, from, flip);
-    }
-}
-
-// The group of an edge.
-pub(crate) fn group(groups: &[(u32, bool)], d: (u16, u16)) -> (u32, bool)
-    requires long { length groups.now ≡ 65536 }
-    requires placed { IsPlaced d }
-    ensures { result ≡ group_of groups.now d }
-{
-    groups[place(d)]
-}
-
-// Puts two edges into one group, on one side or on different ones. It answers false where the groups are one
-// in which they are not so.
+// Puts edges `a` and `b` into one group, on one side, or on different ones if `turn` says so. Returns false where the
+// groups are one in which they are not so.
 fn tie(groups: &mut [(u32, bool)], a: (u16, u16), b: (u16, u16), turn: bool) -> bool
     requires long { length groups.old ≡ 65536 }
     requires one { IsPlaced a }
@@ -63,11 +45,13 @@ fn tie(groups: &mut [(u32, bool)], a: (u16, u16), b: (u16, u16), turn: bool) -> 
     if one.0 == other.0 {
         return !flip;
     }
-    merge(groups, one.0, other.0, flip);
+    for p in 0..groups.len() {
+        groups[p] = moved(groups[p], one.0, other.0, flip);
+    }
     true
 }
 
-// The demand at a place.
+// Returns the demand at a place.
 fn demand_at(demands: &[((u16, u16), bool)], i: usize) -> ((u16, u16), bool)
     requires { i < length demands.now }
     ensures { result ≡ slice_index_or demands.now i none_demanded }
@@ -75,7 +59,7 @@ fn demand_at(demands: &[((u16, u16), bool)], i: usize) -> ((u16, u16), bool)
     demands[i]
 }
 
-// Puts the edges of demands into one group. It answers false where that cannot be.
+/// Puts the edges of demands into one group. Returns false where that cannot be.
 pub(crate) fn tie_all(groups: &mut [(u32, bool)], demands: &[((u16, u16), bool)]) -> bool
     requires long { length groups.old ≡ 65536 }
     requires placed { (d : Demand) → Contains demands.now d → IsPlaced d.0 }
@@ -93,7 +77,7 @@ pub(crate) fn tie_all(groups: &mut [(u32, bool)], demands: &[((u16, u16), bool)]
     true
 }
 
-/// A group for each edge.
+/// Returns a group for each edge.
 pub(crate) fn single_groups(alloc: Global) -> Result<Vec<(u32, bool)>, AllocError>
     ensures long { IfOk result (λ groups. length groups.items ≡ 65536) }
     ensures fits { IfOk result (λ groups. (left : ℕ → ℕ → Bool) → Fits left groups.items) }

@@ -10,6 +10,7 @@ mod decide;
 mod edges;
 mod forest;
 mod groups;
+mod one_tree;
 mod order;
 mod placing;
 mod returns;

@@ -2,4 +2,4 @@ use Rattle.left_right_lists.specs.Depths.{AreDepths}
 use Rattle.left_right_lists.proofs.forest.fill_depths.Given as goal
 
 abbrev pub invariant-loop-k : goal.invariant-loop-k
-invariant-loop-k l = AreDepths l.order l.parents l.depths l.k
+invariant-loop-k l = AreDepths l.forest.order.items l.forest.parent.items l.depths l.k

@@ -2,4 +2,4 @@ use Rattle.left_right_lists.proofs.SideLemmas.{upward_is}
 use Rattle.left_right_lists.proofs.returns.upward_of.Goals as goal
 
 pub returns : goal.returns
-returns c = record { tree = c.in_ok-tree.ensures; darts = upward_is _ _ _ _ _ _ c.in_ok-tree.ensures _ _ _ c.deref.ensures.value c.deref-2.ensures.value c.in_ok-darts.ensures }
+returns c = record { tree = c.in_ok-tree.ensures; darts = upward_is _ _ _ _ _ _ c.in_ok-tree.ensures _ c.in_ok-darts.ensures }

@@ -8,10 +8,9 @@ use Rattle.left_right_lists.proofs.sides.sides_of.Goals as goal
 
 pub returns-then-branch : goal.returns-then-branch
 returns-then-branch c =
-    let met = all_met _ _ _ _ _ _ c.requires.tree c.meet_all.new.groups (c.in_ok-meet_all.ensures.met c.if-branch.true) in
     let long : c.in_ok-groups.groups.len ≡ length c.meet_all.new.groups = omega (arith, c.in_ok-groups.groups.ok.0, ap length c.deref_mut.ensures.value, c.in_ok-meet_all.ensures.step.merged.long) in
-    let whole : length c.meet_all.new.groups ≡ 65536 = c.in_ok-meet_all.ensures.step.merged.long ∙ (ap length c.deref_mut.ensures.value ∙ c.in_ok-groups.ensures.long) in
-    subst (λ (gs : List Group). (length gs ≡ 65536) × AreSides c.args.graph.now c.args.up.now.tree.parents.items c.args.up.now.tree.depths.items (side_in gs)) (sym (lent_whole c.meet_all.new.groups _ c.in_ok-groups.groups.len long)) (whole, met)
+    subst (λ (gs : List Group). AreSides c.args.graph.now c.args.up.now.tree.parents.items c.args.up.now.tree.depths.items (side_in gs)) (sym (lent_whole c.meet_all.new.groups _ c.in_ok-groups.groups.len long))
+    (all_met _ _ _ _ _ _ c.requires.tree c.meet_all.new.groups (c.in_ok-meet_all.ensures.met c.if-branch.true))
 
 pub returns-else-branch : goal.returns-else-branch
 returns-else-branch c = λ left sides.

@@ -1,8 +1,0 @@
-use Rattle.std.proofs.Common.{ℕ, ◌<◌, Contains, get_or, slice_index}
-use Rattle.map_theory.specs.Maps.{Dart}
-use Rattle.left_right_maps.specs.Orders.{MayPrecede}
-use Rattle.left_right_lists.specs.Groups.{side_in}
-use Rattle.left_right_lists.proofs.order.may_all_precede.Given as goal
-
-abbrev pub invariant-loop-d : goal.invariant-loop-d
-invariant-loop-d l = (j : ℕ) → j < l.d-index → (e : Dart) → Contains l.es e → MayPrecede (slice_index l.depths) (side_in l.sides) (get_or l.ds j (0, 0)) e

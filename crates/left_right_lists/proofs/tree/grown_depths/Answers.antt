@@ -1,6 +1,0 @@
-use Rattle.left_right_lists.specs.Trees.{grown_depth}
-use Rattle.left_right_lists.proofs.Tabled.{tabled_more}
-use Rattle.left_right_lists.proofs.tree.grown_depths.Goals as goal
-
-pub loop-v-preserved : goal.loop-v-preserved
-loop-v-preserved c = tabled_more (grown_depth c.args.parents.now c.args.depths.now c.args.root) c.loop-v.table.items _ c.loop-v.v _ c.in_ok-push.ensures.items c.grown_depth.ensures c.loop-v.invariant
