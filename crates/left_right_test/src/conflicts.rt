@@ -32,8 +32,12 @@ impl Interval {
 }
 
 impl ConflictPair {
+    // Returns the pair, with its sides exchanged if `swap` says so.
     #[inline(always)]
-    fn swapped(self) -> ConflictPair {
+    fn swapped_if(self, swap: bool) -> ConflictPair {
+        if !swap {
+            return self;
+        }
         ConflictPair {
             left: self.right,
             right: self.left,
@@ -151,11 +155,7 @@ impl Search {
         let bottom = self.stack_bottom.get(dart);
         for _ in 0..self.top {
             let popped = self.pop_pair();
-            let pair = if popped.left.is_empty() {
-                popped
-            } else {
-                popped.swapped()
-            };
+            let pair = popped.swapped_if(!popped.left.is_empty());
             if !pair.left.is_empty() {
                 self.note_odd(pair.left.high, NONE);
                 return None;
@@ -184,11 +184,7 @@ impl Search {
                 break;
             }
             let popped = self.pop_pair();
-            let next = if self.conflicts(popped.right, low) {
-                popped.swapped()
-            } else {
-                popped
-            };
+            let next = popped.swapped_if(self.conflicts(popped.right, low));
             if self.conflicts(next.right, low) {
                 self.note_odd(next.left.high, pair.right.high);
                 return false;
@@ -253,11 +249,20 @@ impl Search {
         self.settled(fits, dart, vertex)
     }
 
-    // Integrates the return edges of a dart along which the search came back.
+    // Integrates the return edges of a dart of a vertex along which the search came back: the side of the dart is that of
+    // the highest of them. Says whether they can be put on sides with earlier ones.
     #[inline(always)]
     fn integrate(&mut self, dart: u32, vertex: u32) -> bool {
         if self.lowpt.get(dart) >= self.height.get(vertex) {
             return true;
+        }
+        if self.top != 0 {
+            let pair = self.pair(minus(self.top, 1));
+            let left = pair.left.high;
+            let right = pair.right.high;
+            let by_left = left != NONE
+                && (right == NONE || self.lowpt.get(left) > self.lowpt.get(right));
+            self.reference.set(dart, if by_left { left } else { right });
         }
         let parent = self.parent.get(vertex);
         if self.leaving.get(vertex) == dart {
@@ -318,34 +323,12 @@ impl Search {
             self.push_pair(ConflictPair { left, right });
         }
     }
-
-    // The side of a dart to a vertex is that of the highest dart that returns along it.
-    #[inline(always)]
-    fn follow_highest(&mut self, dart: u32, vertex: u32) {
-        if self.lowpt.get(dart) >= self.height.get(vertex) || self.top == 0 {
-            return;
-        }
-        let pair = self.pair(minus(self.top, 1));
-        let left = pair.left.high;
-        let right = pair.right.high;
-        let by_left = left != NONE
-            && (right == NONE || self.lowpt.get(left) > self.lowpt.get(right));
-        self.reference.set(dart, if by_left { left } else { right });
-    }
 }
 
 // Whether the highest dart of an interval leads to a vertex.
 #[inline(always)]
 fn leads_to(links: &Links, interval: Interval, vertex: u32) -> bool {
     !interval.is_empty() && links.head.get(interval.high) == vertex
-}
-
-// Leaves a vertex by the dart from another that leads to it. It answers whether the return edges agree.
-#[inline(always)]
-fn go_back(links: &Links, search: &mut Search, parent: u32, vertex: u32) -> bool {
-    search.drop_return_edges(links, vertex);
-    search.follow_highest(parent, vertex);
-    search.integrate(parent, vertex)
 }
 
 // Goes on from a root until all that it reaches is done, or a conflict shows.
@@ -360,7 +343,8 @@ fn agrees_from(links: &Links, search: &mut Search, root: u32) -> bool {
                 return true;
             }
             vertex = links.tail(parent);
-            if !go_back(links, search, parent, vertex) {
+            search.drop_return_edges(links, vertex);
+            if !search.integrate(parent, vertex) {
                 return false;
             }
             dart = search.chain.get(parent);

@@ -43,11 +43,16 @@ impl Edges {
         self.count = 0;
         links.begin_chains(self.vertices);
         links.degree.fill(self.vertices, 0);
-        let most = most_edges(self.vertices);
-        let mut place = Place { v: 1, last: 5 };
+        // of a plane map on as many vertices, or on three
+        let most = minus(self.vertices.max(3).wrapping_mul(3), 6);
+        let mut place = Place {
+            v: 1,
+            last: 5,
+            most,
+        };
         for byte in graph.body() {
             if *byte > 63 {
-                place = self.push_byte(u32::from(*byte - 63), place, most, links);
+                place = self.push_byte(u32::from(*byte - 63), place, links);
                 if self.count > most {
                     break;
                 }
@@ -64,15 +69,21 @@ impl Edges {
 
     // Appends and chains the edges of one byte, until there are too many. Returns in which row the last one of them is.
     #[inline(always)]
-    fn push_byte(&mut self, bits: u32, place: Place, most: u32, links: &mut Links) -> Place {
+    fn push_byte(&mut self, bits: u32, place: Place, links: &mut Links) -> Place {
         let mut bits = bits;
         let mut place = place;
-        for _ in self.count..plus(most, 1) {
+        for _ in self.count..plus(place.most, 1) {
             if bits == 0 {
                 break;
             }
             let bit = 31 ^ bits.leading_zeros();
-            place = place.moved(bit);
+            for _ in 0..256u32 {
+                if minus(place.last, bit) < place.v {
+                    break;
+                }
+                place.last = minus(place.last, place.v);
+                place.v = plus(place.v, 1);
+            }
             let u = minus(place.last, bit);
             links.chain_next(self.count, u, place.v);
             self.push(u, place.v);
@@ -89,31 +100,6 @@ struct Place {
     v: u32,
     // the lesser vertex of the pair of the byte's last bit, if the row went on so far
     last: u32,
-}
-
-impl Place {
-    // With the row of the pair of a bit, counted from the last one.
-    #[inline(always)]
-    fn moved(self, bit: u32) -> Place {
-        let mut place = self;
-        for _ in 0..256u32 {
-            if minus(place.last, bit) < place.v {
-                break;
-            }
-            place = Place {
-                v: plus(place.v, 1),
-                last: minus(place.last, place.v),
-            };
-        }
-        place
-    }
-}
-
-// How many edges a plane map has at most.
-fn most_edges(vertices: u32) -> u32 {
-    if vertices < 3 {
-        1
-    } else {
-        minus(vertices.wrapping_mul(3), 6)
-    }
+    // how many edges may be taken before there are too many
+    most: u32,
 }

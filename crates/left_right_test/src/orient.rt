@@ -18,19 +18,17 @@ struct Stand {
     second: u32,
 }
 
-impl Stand {
-    // At a root. Nothing reads the lowpoints of its dart, which is none.
-    fn at_root(root: u32) -> Stand {
-        Stand {
-            vertex: root,
-            height: 0,
-            parent: NONE,
-            low: 0,
-            second: 0,
-        }
-    }
+// Where the search stands before it goes down to a root. Nothing reads the lowpoints of a root's dart, which is none.
+const ABOVE: Stand = Stand {
+    vertex: NONE,
+    height: u32::MAX,
+    parent: NONE,
+    low: NONE,
+    second: NONE,
+};
 
-    // With these lowpoints.
+impl Stand {
+    // Returns the stand with these lowpoints.
     #[inline(always)]
     fn with(self, low: u32, second: u32) -> Stand {
         Stand {
@@ -42,7 +40,7 @@ impl Stand {
         }
     }
 
-    // With what returns along a dart of the vertex, by its lowpoints.
+    // Returns the stand with what returns along a dart of the vertex, by its lowpoints.
     #[inline(always)]
     fn with_returns(self, low: u32, second: u32) -> Stand {
         if low < self.low {
@@ -51,18 +49,6 @@ impl Stand {
             self.with(self.low, lesser(self.second, low))
         } else {
             self.with(self.low, lesser(self.second, second))
-        }
-    }
-
-    // With a return edge of the vertex, which ends at this height.
-    #[inline(always)]
-    fn with_return(self, low: u32) -> Stand {
-        if low < self.low {
-            self.with(low, self.low)
-        } else if low > self.low {
-            self.with(self.low, lesser(self.second, low))
-        } else {
-            self
         }
     }
 }
@@ -103,22 +89,13 @@ fn go_up(links: &Links, search: &mut Search, at: Stand) -> Stand {
     above.with_returns(at.low, at.second)
 }
 
-// Looks at a dart to a vertex of this height, which was reached: it may be a return edge.
-#[inline(always)]
-fn look_back(search: &mut Search, at: Stand, dart: u32, low: u32) -> Stand {
-    if low < at.height && at.parent != dart ^ 1 {
-        search.end_dart(dart, low);
-        search.put_in_order(dart, at.vertex, twice(low));
-        return at.with_return(low);
-    }
-    at
-}
-
-// Goes on from a root until all that it reaches is done.
+// Goes on from a root until all that it reaches is done, if it was not reached and has darts.
 fn orient_from(links: &Links, search: &mut Search, root: u32) {
-    search.set_root(root);
-    let mut at = Stand::at_root(root);
     let mut dart = links.first.get(root);
+    if search.is_reached(root) || dart == NONE {
+        return;
+    }
+    let mut at = go_down(search, ABOVE, NONE, root);
     for _ in 0..steps(links.vertices, links.darts) {
         if dart == NONE {
             if at.parent == NONE {
@@ -133,18 +110,15 @@ fn orient_from(links: &Links, search: &mut Search, root: u32) {
         if low == NONE {
             at = go_down(search, at, dart, head);
             dart = links.first.get(head);
-        } else {
-            at = look_back(search, at, dart, low);
-            dart = links.next.get(dart);
+            continue;
         }
-    }
-}
-
-// Goes on from a root, if it was not reached.
-#[inline(always)]
-fn orient_root(links: &Links, search: &mut Search, root: u32) {
-    if !search.is_reached(root) && links.first.get(root) != NONE {
-        orient_from(links, search, root);
+        if low < at.height && at.parent != dart ^ 1 {
+            // a return edge, which has no second lowpoint
+            search.end_dart(dart, low);
+            search.put_in_order(dart, at.vertex, twice(low));
+            at = at.with_returns(low, u32::MAX);
+        }
+        dart = links.next.get(dart);
     }
 }
 
@@ -155,11 +129,11 @@ pub fn orient_all(links: &Links, search: &mut Search) {
     search.leaving.fill(links.vertices, NONE);
     search.root_count = 0;
     let first = search.root;
-    orient_root(links, search, first);
+    orient_from(links, search, first);
     for root in 0..links.vertices {
         let is_root = root == first || !search.is_reached(root);
         if is_root && links.first.get(root) != NONE {
-            orient_root(links, search, root);
+            orient_from(links, search, root);
             search.note_root(root);
         }
     }

@@ -1,5 +1,5 @@
 //! The third search: it places the twins of oriented darts, which gives rotation lists.
-ghost use Rattle.std.specs.Prelude.{◌≡◌, ◌<◌, ◌≤◌, length, IfOk};
+ghost use Rattle.std.specs.Prelude.{◌≡◌, ◌<◌, length, IfOk};
 ghost use Rattle.map_lists.specs.Cuts.{AreCuts};
 
 use crate::links::Links;
@@ -52,7 +52,7 @@ impl Places {
         }
     }
 
-    // Writes an entry. It answers the place behind it.
+    // Writes an entry. Returns the place behind it.
     #[inline(always)]
     fn put(&mut self, place: u32, vertex: u32) -> u32 {
         self.entries.set(place, vertex);
@@ -74,21 +74,19 @@ impl Places {
         place
     }
 
-    // Goes along a dart from a vertex to another. It answers the place of the next entry there.
+    // Goes along a dart from a vertex to another. Returns the place of the next entry there.
     #[inline(always)]
-    fn go_down(&mut self, vertex: u32, place: u32, head: u32) -> u32 {
-        self.place.set(vertex, place);
+    fn go_down(&mut self, vertex: u32, head: u32) -> u32 {
         self.left.set(vertex, NONE);
         self.right.set(vertex, NONE);
         let start = self.place.get(head);
         self.put(start, vertex)
     }
 
-    // Goes back from a vertex whose list is done, and writes it with what stands next to it. It answers the place of the
-    // next entry there.
+    // Goes back from a vertex to the one above it, and writes it there with what stands next to it. Returns the place of
+    // the next entry there.
     #[inline(always)]
-    fn go_up(&mut self, links: &Links, vertex: u32, place: u32, above: u32) -> u32 {
-        self.place.set(vertex, place);
+    fn go_up(&mut self, links: &Links, vertex: u32, above: u32) -> u32 {
         let left = self.left.get(above);
         let right = self.right.get(above);
         let start = self.place.get(above);
@@ -109,14 +107,16 @@ impl Places {
                     break;
                 }
                 let above = links.tail(parent);
-                place = self.go_up(links, vertex, place, above);
+                self.place.set(vertex, place);
+                place = self.go_up(links, vertex, above);
                 vertex = above;
                 dart = search.chain.get(parent);
                 continue;
             }
             let head = links.head.get(dart);
             if search.parent.get(head) == dart {
-                place = self.go_down(vertex, place, head);
+                self.place.set(vertex, place);
+                place = self.go_down(vertex, head);
                 vertex = head;
                 dart = search.leaving.get(head);
             } else {
@@ -157,15 +157,6 @@ impl Places {
     }
 }
 
-// The number from `least` to `most` that is nearest to `place`.
-#[inline(always)]
-fn within(least: usize, place: u32, most: usize) -> usize
-    ensures least { least ≤ most → least ≤ result }
-    ensures most { result ≤ most }
-{
-    (place as usize).max(least).min(most)
-}
-
 /// Returns the ends of `n` lists of `total` entries, as a row tells them, in the memory of `spent`. The last one is behind all
 /// entries; an end that is out of order is moved to the one before it.
 pub fn ends_of(
@@ -182,7 +173,8 @@ pub fn ends_of(
     ends.reserve(n as usize + 1)?;
     let mut end = 0usize;
     for vertex in 1..n {
-        end = within(end, told.get(minus(u32::from(vertex), 1)), total);
+        let place = told.get(minus(u32::from(vertex), 1)) as usize;
+        end = place.max(end).min(total);
         ends.push_reserved(end);
     }
     ends.push_reserved(total);

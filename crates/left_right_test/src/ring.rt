@@ -58,24 +58,6 @@ impl OddRing {
         self.first.set(edge, end);
     }
 
-    // Lists the ties of each return edge, none of which is reached.
-    fn link_ties(&mut self, links: &Links, ties: &Ties) {
-        self.first.fill(links.darts / 2, NONE);
-        self.side.fill(links.darts / 2, UNSEEN);
-        self.reached = 0;
-        for tie in 0..ties.count {
-            self.put_end(twice(tie), ties.one.get(tie));
-            self.put_end(twice(tie) ^ 1, ties.other.get(tie));
-        }
-    }
-
-    // Whether the conflict binds a return edge.
-    #[inline(always)]
-    fn is_bound(&self, search: &Search, edge: u32) -> bool {
-        let height = search.lowpt.get(edge);
-        self.low < height && height < self.high
-    }
-
     // Reaches a return edge along a tie, if it was not.
     #[inline(always)]
     fn reach(&mut self, edge: u32, end: u32, side: u32) {
@@ -87,33 +69,30 @@ impl OddRing {
         }
     }
 
-    // Reaches all that is tied to a return edge.
-    fn reach_from(&mut self, ties: &Ties, edge: u32) {
-        let side = self.side.get(edge);
-        let mut end = self.first.get(edge);
-        for _ in 0..ties.count {
-            if end == NONE {
-                return;
-            }
-            let tie = end >> 1;
-            let next = far_edge(ties, end);
-            self.reach(next, end, side ^ ties.turn.get(tie));
-            end = self.next.get(end);
-        }
-    }
-
-    // The nearest return edge that the conflict binds and that is on the other side; or none.
+    // Returns the nearest return edge that the conflict binds and that is on the other side than `start`; or none. None is
+    // reached yet.
     fn nearest(&mut self, links: &Links, search: &Search, start: u32) -> u32 {
+        self.reached = 0;
         self.reach(start, NONE, 0);
         for place in 0..links.darts / 2 {
             if place >= self.reached {
                 return NONE;
             }
             let edge = self.queue.get(place);
-            if self.side.get(edge) == 1 && self.is_bound(search, edge) {
+            let side = self.side.get(edge);
+            let height = search.lowpt.get(edge);
+            if side == 1 && self.low < height && height < self.high {
                 return edge;
             }
-            self.reach_from(&search.ties, edge);
+            let mut end = self.first.get(edge);
+            for _ in 0..search.ties.count {
+                if end == NONE {
+                    break;
+                }
+                let turn = search.ties.turn.get(end >> 1);
+                self.reach(far_edge(&search.ties, end), end, side ^ turn);
+                end = self.next.get(end);
+            }
         }
         NONE
     }
@@ -121,7 +100,12 @@ impl OddRing {
     /// Finds the return edges that show the conflict of a search: a ring of ties from one to another on its other side,
     /// which the conflict binds to one side.
     pub fn find(&mut self, links: &Links, search: &Search) {
-        self.link_ties(links, &search.ties);
+        self.first.fill(links.darts / 2, NONE);
+        self.side.fill(links.darts / 2, UNSEEN);
+        for tie in 0..search.ties.count {
+            self.put_end(twice(tie), search.ties.one.get(tie));
+            self.put_end(twice(tie) ^ 1, search.ties.other.get(tie));
+        }
         // it binds those along its dart, or those along earlier ones that it meets
         let least = if search.meeting == NONE {
             search.leaving.get(search.failed)
@@ -135,7 +119,6 @@ impl OddRing {
         for place in 0..self.reached {
             self.side.set(self.queue.get(place), UNSEEN);
         }
-        self.reached = 0;
         self.other = self.nearest(links, search, self.one);
     }
 }

@@ -50,12 +50,7 @@ impl<const N: usize> Row<N> {
     /// The first of its numbers, so many of them, or all.
     #[inline(always)]
     pub fn first(&self, count: u32) -> &[u16] {
-        let count = count as usize;
-        if count < N {
-            &self.cells[..count]
-        } else {
-            &self.cells
-        }
+        &self.cells[..(count as usize).min(N)]
     }
 
     /// Writes one number at the first places, so many of them, or all, and at that of NONE.
@@ -63,21 +58,10 @@ impl<const N: usize> Row<N> {
     pub fn fill(&mut self, count: u32, number: u32)
         requires { 0 < N }
     {
-        for cell in self.first_mut(count).iter_mut() {
+        for cell in self.cells[..(count as usize).min(N)].iter_mut() {
             *cell = (number & 0xffff) as u16;
         }
         self.set(NONE, number);
-    }
-
-    // The first of its numbers, to be written.
-    #[inline(always)]
-    fn first_mut(&mut self, count: u32) -> &mut [u16] {
-        let count = count as usize;
-        if count < N {
-            &mut self.cells[..count]
-        } else {
-            &mut self.cells
-        }
     }
 }
 

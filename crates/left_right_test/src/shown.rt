@@ -1,7 +1,7 @@
 //! A forest and return edges show that the conflict of a search is one of the graph: each edge is tied to the next, and the
 //! last would have to be both on the side of the first and on the other one. All of it is checked.
 ghost use Rattle.std.specs.Prelude.{◌≡◌, true, false, IfSome, IsTrue};
-ghost use Rattle.left_right_check.specs.Ties.{AreTied, HasNoMap, turned};
+ghost use Rattle.left_right_check.specs.Ties.{AreTied, HasNoMap};
 
 use crate::links::Links;
 use crate::ring::{OddRing, branch_of, near_edge};
@@ -9,7 +9,7 @@ use crate::row::{ByVertex, NONE};
 use crate::search::Search;
 use crate::test::LeftRightTest;
 use graph6_text::Graph;
-use left_right_check::{Fork, Pair, ReturnEdge, RootedForest, is_forest};
+use left_right_check::{Fork, Pair, ReturnEdge, RootedForest, is_forest, turned};
 
 /// The forest of a search.
 #[derive(Drop)]
@@ -48,13 +48,6 @@ impl Forest {
 #[inline(always)]
 fn vertex(number: u32) -> u16 {
     (number & 0xffff) as u16
-}
-
-// Returns a side, or the other one if it is turned.
-fn flipped(turn: bool, side: bool) -> bool
-    ensures { result ≡ turned turn side }
-{
-    if turn { !side } else { side }
 }
 
 /// The conflict of a search, as a ring of ties shows it in a rooted forest of the graph.
@@ -166,7 +159,7 @@ impl<'a> Conflict<'a> {
             if !self.is_step((at, next), way, turn) {
                 return None;
             }
-            side = flipped(turn, side);
+            side = turned(turn, side);
             at = next;
         }
         if side { Some(at) } else { None }
@@ -206,24 +199,11 @@ impl<'a> Conflict<'a> {
             (other, dart),
         )
     }
-
-    // Says whether the return edges of the ring would have to be on one side and on different ones.
-    fn is_odd(&self) -> bool
-        ensures { IsTrue result → HasNoMap self.now.forest.graph.now }
-    {
-        let end = self.return_edge(self.ring.other);
-        match self.start_of_ring(end) {
-            Some(start) => self.are_bound(Pair {
-                one: end,
-                other: start,
-            }),
-            None => false,
-        }
-    }
 }
 
 impl LeftRightTest {
-    // Says whether the conflict shows that a graph has no map of genus zero, in the forest that was read.
+    // Says whether the conflict shows that a graph has no map of genus zero, in the forest that was read: the return edges
+    // of the ring would have to be on one side and on different ones.
     fn is_refuted(&self, graph: &Graph) -> bool
         ensures { IsTrue result → HasNoMap graph.now }
     {
@@ -244,7 +224,14 @@ impl LeftRightTest {
             search: &self.search,
             ring: &self.ring,
         };
-        conflict.is_odd()
+        let end = conflict.return_edge(self.ring.other);
+        match conflict.start_of_ring(end) {
+            Some(start) => conflict.are_bound(Pair {
+                one: end,
+                other: start,
+            }),
+            None => false,
+        }
     }
 
     /// Says whether the conflict that the search met shows that a graph has no map of genus zero.

@@ -5,11 +5,11 @@ use Rattle.left_right_test.proofs.placing.ends_of.Goals as goal
 
 pub loop-vertex-preserved : goal.loop-vertex-preserved
 loop-vertex-preserved c =
-    let end = c.within-end.result in
+    let end = c.min-end.result in
     let i = c.loop-vertex.invariant in
     record {
-      cuts = subst (λ (ends : List ℕ). AreCuts 0 ends end) (sym c.push_reserved.ensures.items) (AreCuts-more 0 c.loop-vertex.ends.items c.loop-vertex.end end i.cuts (c.within-end.ensures.least i.low));
-      low = c.within-end.ensures.most;
+      cuts = subst (λ (ends : List ℕ). AreCuts 0 ends end) (sym c.push_reserved.ensures.items) (AreCuts-more 0 c.loop-vertex.ends.items c.loop-vertex.end end i.cuts (omega (arith, i.low, c.max.ensures, c.min-end.ensures)));
+      low = omega (arith, c.min-end.ensures);
       count = search rules;
       most = search rules;
       room = omega (arith, i.room, c.push_reserved.ensures.capacity);
