@@ -1,5 +1,4 @@
 -- Lemmas on runs.
-mod AnswerLemmas
 mod PlanarLemmas
 mod OutcomeLemmas
 mod MadeLemmas

@@ -17,6 +17,11 @@ use Rattle.pigale_shell.specs.Text.{bad_words_line}
 use Rattle.pigale_shell.specs.Lines.{ending_of}
 use Rattle.pigale_shell.specs.declared.lines.Ending.{Ending}
 use Rattle.pigale_shell.specs.declared.lines.Ending.TheVariants.{Well, EndInRecord, BadCount, TooLong}
+use Rattle.pigale_shell.specs.Answer.{planar_answers}
+use Rattle.pigale_shell.specs.Kinds.{says_of}
+use Rattle.pigale_shell.specs.PlanarCode.{planar_code}
+use Rattle.pigale_shell.specs.declared.map_jobs.MapJob.{MapJob}
+use Rattle.pigale_words.specs.declared.form.Form.{Form}
 use Rattle.pigale_shell.specs.JobInput.{RecordOf, EndingOf, reads_of, answers_of, left_of}
 use Rattle.pigale_shell.specs.Outcome.{Outcome, GrowsByText, MayEnd, status_of}
 use Rattle.pigale_shell.specs.declared.kinds.JobKind.{JobKind}
@@ -84,6 +89,11 @@ Outcome-of job before after ended.NoMemory outcome = outcome
 -- the same of a run whose job is told by an equation
 pub Outcome-run : (job kind : JobKind) (left left' : Option (List ℕ)) (reads reads' writes writes' : ℕ) (written written' : Option (List ℕ)) (end : RunEnd) → job ≡ kind → RunOutcome (reads_of kind) (answers_of kind) (ports (left_of kind left) reads written writes) (ports (left_of kind left') reads' written' writes') end → Outcome job (ports (left_of job left) reads written writes) (ports (left_of job left') reads' written' writes') (status_of end)
 Outcome-run job kind left left' reads reads' writes writes' written written' end is outcome = rw is (Outcome-of kind _ _ end outcome)
+
+-- the same of a job over maps that is told so
+pub Outcome-maps : (job : JobKind) (maps named : MapJob) (form : Form) (left left' : Option (List ℕ)) (reads reads' writes writes' : ℕ) (written written' : Option (List ℕ)) (end : RunEnd) → job ≡ Maps maps form → maps ≡ named → RunOutcome planar_code (planar_answers (says_of named) form) (ports left reads written writes) (ports left' reads' written' writes') end → Outcome job (ports (left_of job left) reads written writes) (ports (left_of job left') reads' written' writes') (status_of end)
+Outcome-maps job maps named form left left' reads reads' writes writes' written written' end is same outcome =
+    Outcome-run job (Maps named form) left left' reads reads' writes writes' written written' end (is ∙ ap (λ m. Maps m form) same) outcome
 
 -- where nothing failed the ending of the input decides the status
 pub Outcome-complete : (job : JobKind) (before after : Ports) (status : Status) (input : List ℕ) (records : List (RecordOf job)) (ending : EndingOf job) → Outcome job before after status → before.left ≡ Some input → (reads_of job).IsReading input records ending → ¬ HasRisen before.read_faults after.read_faults → ¬ HasRisen before.write_faults after.write_faults → MayEnd job ending status

@@ -1,6 +1,5 @@
 //! The answer to one record.
-ghost use Rattle.std.specs.Prelude.{◌≡◌, ◌<◌, ◌≤◌, ◌++◌, ◌↔◌, length, false, IsTrue, IfOk, IfErr, OnOk, OnErr};
-ghost use Rattle.refusals.specs.Conditions.{IfRefused};
+ghost use Rattle.std.specs.Prelude.{◌≡◌, ◌<◌, ◌≤◌, ◌↔◌, length, IsTrue, IfOk, OnOk, OnErr};
 ghost use Rattle.pigale_shell.specs.Text.{refusal_line as refusal_line_of};
 ghost use Rattle.pigale_shell.specs.Forms.{line_in as line_by};
 ghost use Rattle.pigale_shell.specs.Blocks.{Appends};
@@ -60,44 +59,30 @@ pub(crate) fn answer_with<M: Method>(
     ensures err { OnErr result (out.new.items ≡ out.old.items) }
 {
     M::lawful();
-    match serve(alloc, method, given, out) {
-        Ok(()) => Ok(true),
-        Err(Unserved::Refused(refusal)) => refuse(alloc, given.form, given.number, refusal, out),
+    match method.figure(given.lists) {
+        Ok(figure) => {
+            method.print(given, &figure, out)?;
+            method.keep(figure);
+            Ok(true)
+        }
+        Err(Unserved::Refused(refusal)) => {
+            let line = refused_line(alloc, given.form, given.number, refusal)?;
+            out.extend_from_slice(&line)?;
+            Ok(false)
+        }
         Err(Unserved::NoMemory) => Err(AllocError),
     }
 }
 
-// Appends what a job writes for a record that it serves.
-fn serve<M: Method>(
-    alloc: Global,
-    method: &mut M,
-    given: &MapRecord<'_>,
-    out: &mut Vec<u8>,
-) -> Result<(), Unserved>
-    ensures served { OnOk result (M.says.Serves given.now.lists.now) }
-    ensures text { OnOk result (Appends (M.says.IsText given.now.form given.now.number given.now.lists.now) out.old.items out.new.items) }
-    ensures refused { IfErr result (IfRefused (M.says.Breaks given.now.lists.now)) }
-    ensures err { OnErr result (out.new.items ≡ out.old.items) }
-{
-    let figure = method.figure(alloc, given.lists)?;
-    method.print(given, &figure, out)?;
-    method.keep(figure);
-    Ok(())
-}
-
-/// Appends the line of a record that is refused, in a form.
-pub(crate) fn refuse(
+/// Returns the line that refuses record `number` for a condition, in a form.
+pub(crate) fn refused_line(
     alloc: Global,
     form: Form,
     number: u32,
     refusal: Refusal,
-    out: &mut Vec<u8>,
-) -> Result<bool, AllocError>
-    ensures block { OnOk result (out.new.items ≡ out.old.items ++ line_by form (refusal_line_of number refusal)) }
-    ensures refused { IfOk result (λ served. served ≡ false) }
-    ensures err { OnErr result (out.new.items ≡ out.old.items) }
+) -> Result<Vec<u8>, AllocError>
+    ensures { IfOk result (λ line. line.items ≡ line_by form (refusal_line_of number refusal)) }
 {
-    let line = line_in(alloc, form, refusal_line(alloc, number, refusal)?)?;
-    out.extend_from_slice(&line)?;
-    Ok(false)
+    let line = refusal_line(alloc, number, refusal)?;
+    line_in(alloc, form, line)
 }

@@ -4,11 +4,13 @@ ghost use Rattle.map_theory.specs.Maps.{IsSimpleMap};
 ghost use Rattle.svg_out.specs.Svg.{HasColumns};
 ghost use Rattle.pigale_shell.specs.Forms.{commented as comment_of, line_in as line_by, grid_in, bars_in, rects_in};
 ghost use Rattle.figure_text.specs.Text.{HasRects};
-ghost use Rattle.pigale_shell.specs.EmbedText.{WritesWitness};
+ghost use Rattle.embed_graph.specs.Figures.{IsEmbedFigure};
+ghost use Rattle.pigale_shell.specs.Blocks.{Appends};
+ghost use Rattle.pigale_shell.specs.EmbedText.{WritesWitness, IsGraphText};
 
-use super::method::MapRecord;
+use super::method::{GraphRecord, MapRecord};
+use embed_graph::embed_figures::EmbedFigure;
 use figure_text::{GridJob, Printer, print_witness};
-use graph6_text::Graph;
 use half_edges::Rotations;
 use kuratowski::Witness;
 use pg_plane::{BarFigure, Points, RectFigure};
@@ -16,7 +18,7 @@ use pigale_words::Form;
 use std::alloc::{AllocError, Global};
 use svg_out::{svg_bars, svg_grid, svg_rects, svg_witness};
 
-// A line as a comment.
+// Returns a line as a comment of SVG.
 fn commented(alloc: Global, line: &[u8]) -> Result<Vec<u8>, AllocError>
     ensures { IfOk result (λ text. text.items ≡ comment_of line.now) }
 {
@@ -26,32 +28,13 @@ fn commented(alloc: Global, line: &[u8]) -> Result<Vec<u8>, AllocError>
     Ok(text)
 }
 
-/// A line that belongs to no figure, in this form.
+/// Returns a line that belongs to no figure in this form.
 pub(crate) fn line_in(alloc: Global, form: Form, line: Vec<u8>) -> Result<Vec<u8>, AllocError>
     ensures { IfOk result (λ text. text.items ≡ line_by form line.items) }
 {
     match form {
         Form::Text => Ok(line),
         Form::Svg => commented(alloc, &line),
-    }
-}
-
-/// Appends a witness of a graph in this form. When memory runs out the bytes are as they were.
-pub(crate) fn print_witness_in(
-    alloc: Global,
-    form: Form,
-    number: u32,
-    graph: &Graph,
-    witness: &Witness,
-    out: &mut Vec<u8>,
-) -> Result<(), AllocError>
-    ensures ok { OnOk result ((text : List ℕ) × WritesWitness form number graph.now witness.now text
-        × (out.new.items ≡ out.old.items ++ text)) }
-    ensures err { OnErr result (out.new.items ≡ out.old.items) }
-{
-    match form {
-        Form::Text => print_witness(alloc, number, graph, witness, out),
-        Form::Svg => svg_witness(alloc, number, graph, witness, out),
     }
 }
 
@@ -63,7 +46,7 @@ pub struct FormPrinter {
 }
 
 impl FormPrinter {
-    /// A printer that has printed nothing yet. It takes no memory.
+    /// Makes a printer that has printed nothing yet. It takes no memory.
     pub(crate) fn new(alloc: Global) -> FormPrinter {
         FormPrinter {
             alloc,
@@ -84,14 +67,11 @@ impl FormPrinter {
         ensures ok { OnOk result (out.new.items ≡ out.old.items ++ grid_in given.now.form given.now.number job given.now.lists.now points.now) }
         ensures err { OnErr result (out.new.items ≡ out.old.items) }
     {
-        let MapRecord {
-            form,
-            number,
-            lists,
-        } = *given;
-        match form {
-            Form::Text => self.printer.print_grid(number, job, lists, points, out),
-            Form::Svg => svg_grid(self.alloc, lists, points, out),
+        match given.form {
+            Form::Text => self
+                .printer
+                .print_grid(given.number, job, given.lists, points, out),
+            Form::Svg => svg_grid(self.alloc, given.lists, points, out),
         }
     }
 
@@ -107,14 +87,11 @@ impl FormPrinter {
         ensures ok { OnOk result (out.new.items ≡ out.old.items ++ bars_in given.now.form given.now.number given.now.lists.now bars.now) }
         ensures err { OnErr result (out.new.items ≡ out.old.items) }
     {
-        let MapRecord {
-            form,
-            number,
-            lists,
-        } = *given;
-        match form {
-            Form::Text => self.printer.print_bars(number, lists, bars, out),
-            Form::Svg => svg_bars(self.alloc, lists, bars, out),
+        match given.form {
+            Form::Text => self
+                .printer
+                .print_bars(given.number, given.lists, bars, out),
+            Form::Svg => svg_bars(self.alloc, given.lists, bars, out),
         }
     }
 
@@ -129,14 +106,53 @@ impl FormPrinter {
         ensures ok { OnOk result (out.new.items ≡ out.old.items ++ rects_in given.now.form given.now.number given.now.lists.now rects.now) }
         ensures err { OnErr result (out.new.items ≡ out.old.items) }
     {
-        let MapRecord {
-            form,
-            number,
-            lists,
-        } = *given;
-        match form {
-            Form::Text => self.printer.print_rects(number, lists, rects, out),
-            Form::Svg => svg_rects(self.alloc, lists, rects, out),
+        match given.form {
+            Form::Text => self
+                .printer
+                .print_rects(given.number, given.lists, rects, out),
+            Form::Svg => svg_rects(self.alloc, given.lists, rects, out),
+        }
+    }
+
+    /// Appends what was found of a graph in the form of its record: a map of it, as it is drawn, or a witness that it has
+    /// none in the plane. When memory runs out the bytes are as they were.
+    pub(crate) fn print_embedded(
+        &mut self,
+        given: &GraphRecord<'_>,
+        figure: &EmbedFigure,
+        out: &mut Vec<u8>,
+    ) -> Result<(), AllocError>
+        requires { IsEmbedFigure given.now.graph.now figure.now }
+        ensures block { OnOk result (Appends (IsGraphText given.now.form given.now.number given.now.graph.now) out.old.items out.new.items) }
+        ensures err { OnErr result (out.new.items ≡ out.old.items) }
+    {
+        match figure {
+            EmbedFigure::Drawn(lists, figure) => {
+                let map = MapRecord {
+                    form: given.form,
+                    number: given.number,
+                    lists,
+                };
+                self.print_grid(&map, GridJob::Schnyder, &figure.points, out)
+            }
+            EmbedFigure::NotPlanar(witness) => self.print_witness(given, witness, out),
+        }
+    }
+
+    // Appends a witness of a graph in the form of its record. When memory runs out the bytes are as they were.
+    fn print_witness(
+        &self,
+        given: &GraphRecord<'_>,
+        witness: &Witness,
+        out: &mut Vec<u8>,
+    ) -> Result<(), AllocError>
+        ensures ok { OnOk result ((text : List ℕ) × WritesWitness given.now.form given.now.number given.now.graph.now witness.now text
+            × (out.new.items ≡ out.old.items ++ text)) }
+        ensures err { OnErr result (out.new.items ≡ out.old.items) }
+    {
+        match given.form {
+            Form::Text => print_witness(self.alloc, given.number, given.graph, witness, out),
+            Form::Svg => svg_witness(self.alloc, given.number, given.graph, witness, out),
         }
     }
 }

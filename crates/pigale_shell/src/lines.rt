@@ -34,7 +34,7 @@ pub(crate) fn push_number(out: &mut Vec<u8>, number: u64) -> Result<(), AllocErr
     out.extend_from_slice(buffer.format(number).as_bytes())
 }
 
-/// The count line of record `number`.
+/// Returns the count line of record `number`.
 pub fn count_line(alloc: Global, number: u32, count: &EulerCount) -> Result<Vec<u8>, AllocError>
     ensures { IfOk result (λ line. line.items ≡ counts_line number count.now.n count.now.m count.now.f count.now.c
         (genus_of count.now.n count.now.m count.now.f count.now.c)) }
@@ -80,15 +80,6 @@ fn push_vertices(out: &mut Vec<u8>, name: &[u8], v: u16, u: u16) -> Result<(), A
     push_number(out, u64::from(u) + 1)
 }
 
-// Appends a name and the numbers of three vertices.
-fn push_three(out: &mut Vec<u8>, name: &[u8], a: u16, b: u16, c: u16) -> Result<(), AllocError>
-    ensures { OnOk result (out.new.items
-        ≡ out.old.items ++ (((name.now ++ 32 ∷ decimal (a + 1)) ++ 32 ∷ decimal (b + 1)) ++ 32 ∷ decimal (c + 1))) }
-{
-    push_vertices(out, name, a, b)?;
-    push_number(out, u64::from(c) + 1)
-}
-
 // Appends the number and name of a condition, and what it says of the record.
 fn push_refusal(out: &mut Vec<u8>, refusal: Refusal) -> Result<(), AllocError>
     ensures { OnOk result (out.new.items ≡ out.old.items ++ refusal_bytes refusal) }
@@ -106,13 +97,14 @@ fn push_refusal(out: &mut Vec<u8>, refusal: Refusal) -> Result<(), AllocError>
         Refusal::OuterNotQuad => out.extend_from_slice(b"10 OuterNotQuad"),
         Refusal::NotTriangle(v, u) => push_vertices(out, b"11 NotTriangle", v.0, u.0),
         Refusal::SeparatingTriangle(a, b, c) => {
-            push_three(out, b"12 SeparatingTriangle", a.0, b.0, c.0)
+            push_vertices(out, b"12 SeparatingTriangle", a.0, b.0)?;
+            push_number(out, u64::from(c.0) + 1)
         }
         Refusal::NoInner => out.extend_from_slice(b"13 NoInner"),
     }
 }
 
-/// The line that refuses record `number` for a condition.
+/// Returns the line that refuses record `number` for a condition.
 pub fn refusal_line(alloc: Global, number: u32, refusal: Refusal) -> Result<Vec<u8>, AllocError>
     ensures { IfOk result (λ line. line.items ≡ refusal_line_of number refusal) }
 {
@@ -125,7 +117,7 @@ pub fn refusal_line(alloc: Global, number: u32, refusal: Refusal) -> Result<Vec<
     Ok(line)
 }
 
-// The line `stop NAME P`.
+// Returns the line `stop NAME P`, of which `words` are the first two words.
 pub(crate) fn stop_line(alloc: Global, words: &[u8], place: usize) -> Result<Vec<u8>, AllocError>
     ensures { IfOk result (λ line. line.items ≡ (words.now ++ 32 ∷ decimal place) ++ 10 ∷ []) }
 {
@@ -135,7 +127,7 @@ pub(crate) fn stop_line(alloc: Global, words: &[u8], place: usize) -> Result<Vec
     Ok(line)
 }
 
-// The last line of an input that ended well.
+// Returns the last line of an input that ended well.
 pub(crate) fn end_line(alloc: Global, records: u32, refused: u32) -> Result<Vec<u8>, AllocError>
     ensures { IfOk result (λ line. line.items ≡ last_line_of records refused (ending_of Ending.Well)) }
 {
@@ -147,7 +139,7 @@ pub(crate) fn end_line(alloc: Global, records: u32, refused: u32) -> Result<Vec<
     Ok(line)
 }
 
-/// The last line of a run with this many records, of which so many were refused.
+/// Returns the last line of a run over `records` records, of which `refused` were refused.
 pub fn last_line(
     alloc: Global,
     records: u32,

@@ -23,7 +23,7 @@ use record_runs::RunEnd;
 use refusals::Unserved;
 use std::alloc::{AllocError, Global};
 
-// A sum with one number more.
+// Returns a sum with one number more.
 fn added(sum: i64, number: i32) -> i64
     requires least { neg_ℤ (pos 17592186044416) ≤ℤ sum }
     requires most { sum ≤ℤ pos 17592186044416 }
@@ -32,7 +32,7 @@ fn added(sum: i64, number: i32) -> i64
     sum + i64::from(number)
 }
 
-// The sums of x and of y over points.
+// Returns the sums of x and of y over points.
 fn sums(points: &Points) -> (i64, i64)
     requires { length points.now < 4096 }
     ensures x { result.0 ≡ total_x points.now }
@@ -57,7 +57,7 @@ fn push_signed(out: &mut Vec<u8>, number: i64) -> Result<(), AllocError>
     out.extend_from_slice(buffer.format(number).as_bytes())
 }
 
-// The line that tells two sums over the figure of record `number`.
+// Returns the line that says the two sums over the figure of record `number`.
 fn sums_line(alloc: Global, number: u32, x: i64, y: i64) -> Result<Vec<u8>, AllocError>
     ensures { IfOk result (λ line. line.items ≡ sums_line_of number x y) }
 {
@@ -70,7 +70,7 @@ fn sums_line(alloc: Global, number: u32, x: i64, y: i64) -> Result<Vec<u8>, Allo
     Ok(line)
 }
 
-// The counts of a simple map.
+// Returns the counts of a simple map.
 fn count(alloc: Global, lists: &Rotations) -> Result<EulerCount, AllocError>
     requires some_list { 0 < length lists.now }
     requires simple { first_fault lists.now ≡ None }
@@ -86,7 +86,7 @@ fn count(alloc: Global, lists: &Rotations) -> Result<EulerCount, AllocError>
     }
 }
 
-// The figure of lists that break no condition.
+// Returns the figure of lists that break no condition.
 fn figure(alloc: Global, lists: &Rotations) -> Result<GridFigure, AllocError>
     requires some_list { 0 < length lists.now }
     requires served { first_refusal 3 lists.now ≡ None }
@@ -99,7 +99,7 @@ fn figure(alloc: Global, lists: &Rotations) -> Result<GridFigure, AllocError>
     }
 }
 
-// The block of lists that break no condition: their count line, and the sums over their figure.
+// Returns the block of lists that break no condition: their count line, and the sums over their figure.
 fn block(alloc: Global, number: u32, lists: &Rotations) -> Result<Vec<u8>, AllocError>
     requires some_list { 0 < length lists.now }
     requires served { first_refusal 3 lists.now ≡ None }
@@ -113,7 +113,7 @@ fn block(alloc: Global, number: u32, lists: &Rotations) -> Result<Vec<u8>, Alloc
     Ok(block)
 }
 
-// The whole text: the block of the made map, which is the first and last record, and the last line.
+// Returns the whole text: the block of the made map, which is the first and last record, and the last line.
 fn text(alloc: Global, size: u16, number: u32) -> Result<Vec<u8>, AllocError>
     requires some { 3 ≤ size }
     requires few { size < 4096 }

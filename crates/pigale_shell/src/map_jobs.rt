@@ -1,13 +1,9 @@
 //! The jobs over maps: a module and a row each.
-ghost use Rattle.std.specs.Prelude.{◌≡◌, ◌+◌, ◌↔◌, IsTrue, IfOk, OnOk, OnErr};
-ghost use Rattle.pg_io.specs.Io.{TakesAtMost};
-ghost use Rattle.record_runs.specs.Texts.{input_limit};
-ghost use Rattle.record_runs.specs.Outcome.{ports, Outcome as RunOutcome};
+ghost use Rattle.std.specs.Prelude.{◌≡◌, ◌↔◌, IsTrue, IfOk, OnOk, OnErr};
 ghost use Rattle.pigale_words.specs.Jobs.{HasSize};
-ghost use Rattle.pigale_shell.specs.Answer.{planar_answers, IsMapBlock};
+ghost use Rattle.pigale_shell.specs.Answer.{IsMapBlock};
 ghost use Rattle.pigale_shell.specs.Blocks.{Appends, IsLawful};
 ghost use Rattle.pigale_shell.specs.Kinds.{kind_of, says_of, IsSized};
-ghost use Rattle.pigale_shell.specs.PlanarCode.{planar_code};
 
 mod bars;
 mod convex;
@@ -19,16 +15,13 @@ mod shift;
 use super::answer::answer_with;
 use super::kinds::JobKind;
 use super::method::{MapRecord, Method};
-use super::planar::run_planar;
-use bars::Bars;
-use convex::Convex;
-use count::Count;
-use pg_io::{Sink, Source};
+pub(crate) use bars::Bars;
+pub(crate) use convex::Convex;
+pub(crate) use count::Count;
 use pigale_words::{Form, Job};
-use record_runs::RunEnd;
-use rect::Rect;
-use schnyder::Schnyder;
-use shift::Shift;
+pub(crate) use rect::Rect;
+pub(crate) use schnyder::Schnyder;
+pub(crate) use shift::Shift;
 use std::alloc::{AllocError, Global};
 
 /// A job over planar_code.
@@ -49,7 +42,7 @@ pub enum MapJob {
 }
 
 impl JobKind {
-    /// The kind of a job.
+    /// Returns the kind of a job.
     pub fn of(job: Job) -> JobKind
         ensures kind { result ≡ kind_of job }
         ensures sized { HasSize job → IsSized result }
@@ -65,29 +58,6 @@ impl JobKind {
             Job::Verify => JobKind::Figures,
             Job::Embed(form) => JobKind::Graphs(form),
         }
-    }
-}
-
-/// Runs a job over planar_code, in a form.
-pub(crate) fn run_maps<S: Source, K: Sink>(
-    alloc: Global,
-    job: MapJob,
-    form: Form,
-    src: &mut S,
-    out: &mut K,
-) -> RunEnd
-    ensures outcome { RunOutcome planar_code (planar_answers (says_of job) form)
-        (ports (S.left src.old) (S.faults src.old) (K.written out.old) (K.faults out.old))
-        (ports (S.left src.new) (S.faults src.new) (K.written out.new) (K.faults out.new)) result }
-    ensures limit { TakesAtMost (input_limit + 1) (S.left src.old) (S.left src.new) }
-{
-    match job {
-        MapJob::Count => run_planar::<Count, S, K>(alloc, form, src, out),
-        MapJob::Shift => run_planar::<Shift, S, K>(alloc, form, src, out),
-        MapJob::Schnyder => run_planar::<Schnyder, S, K>(alloc, form, src, out),
-        MapJob::Bars => run_planar::<Bars, S, K>(alloc, form, src, out),
-        MapJob::Convex => run_planar::<Convex, S, K>(alloc, form, src, out),
-        MapJob::Rect => run_planar::<Rect, S, K>(alloc, form, src, out),
     }
 }
 

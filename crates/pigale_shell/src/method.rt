@@ -1,9 +1,10 @@
-//! How a job answers a map, whatever the job is.
-ghost use Rattle.std.specs.Prelude.{◌≡◌, ◌<◌, length, IfOk, IfErr, OnOk, OnErr};
+//! A record of the input, and how a job answers a map, whatever the job is.
+ghost use Rattle.std.specs.Prelude.{◌≡◌, ◌<◌, ◌≤◌, length, IfOk, IfErr, OnOk, OnErr};
 ghost use Rattle.map_lists.specs.Lists.{Lists};
 ghost use Rattle.refusals.specs.Conditions.{IfRefused};
 ghost use Rattle.pigale_shell.specs.Blocks.{Appends, Says, IsLawful};
 
+use graph6_text::Graph;
 use half_edges::Rotations;
 use pigale_words::Form;
 use refusals::Unserved;
@@ -21,6 +22,18 @@ pub struct MapRecord<'a> {
     pub ghost some: { 0 < length lists.now },
 }
 
+/// A graph of the input that is served: it has three vertices at least.
+#[derive(Clone, Copy)]
+pub struct GraphRecord<'a> {
+    /// The form in which it is answered.
+    pub form: Form,
+    /// Its number, from 1 on.
+    pub number: u32,
+    /// The graph.
+    pub graph: &'a Graph,
+    pub ghost some: { 3 ≤ graph.now.n },
+}
+
 /// A job over maps: what it finds of a map, and how it writes that. It may keep memory of its own from map to map.
 pub trait Method: Drop {
     /// The answer to a map: a figure, or counts.
@@ -32,11 +45,11 @@ pub trait Method: Drop {
     /// Holds of lists and the answer to them.
     ghost IsFigure: { Lists → Self.Figure → Type 0 };
 
-    /// The job before the first map. It takes no memory.
+    /// Makes the job, before the first map. It takes no memory.
     fn new(alloc: Global) -> Self;
 
     /// Answers lists, or names the first condition that they break.
-    fn figure(&mut self, alloc: Global, lists: &Rotations) -> Result<Self::Figure, Unserved>
+    fn figure(&mut self, lists: &Rotations) -> Result<Self::Figure, Unserved>
         requires some_list { 0 < length lists.now }
         ensures figure { IfOk result (IsFigure lists.now) }
         ensures served { OnOk result (says.Serves lists.now) }

@@ -27,7 +27,7 @@ pub struct PlanarReader {
 impl PlanarReader {
     ghost use Rattle.planar_code.specs.State.{at_front};
 
-    /// A reader before the first byte of a file. It takes no memory.
+    /// Makes a reader, before the first byte of a file. It takes no memory.
     pub fn new(alloc: Global) -> PlanarReader
         ensures { result.reader ≡ at_front }
     {
@@ -97,7 +97,7 @@ pub struct PlanarJob<M> {
 }
 
 impl<M: Method> PlanarJob<M> {
-    /// A job before the first record. It takes no memory.
+    /// Makes a job, before the first record. It takes no memory.
     pub fn new(alloc: Global, form: Form) -> PlanarJob<M>
         ensures { result.form ≡ form }
     {

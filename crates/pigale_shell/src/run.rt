@@ -2,11 +2,7 @@
 ghost use Rattle.std.specs.Prelude.{◌≡◌, ◌⊎◌, ◌+◌, IsFalse};
 ghost use Rattle.pg_io.specs.Io.{TakesAtMost};
 ghost use Rattle.record_runs.specs.Texts.{input_limit};
-ghost use Rattle.record_runs.specs.Outcome.{ports, Outcome as RunOutcome};
-ghost use Rattle.line_inputs.specs.FigureLinesFormat.{figures};
-ghost use Rattle.pigale_shell.specs.Verify.{verify_answers};
-ghost use Rattle.line_inputs.specs.GraphLinesFormat.{graph_lines};
-ghost use Rattle.pigale_shell.specs.EmbedText.{embed_answers};
+ghost use Rattle.record_runs.specs.Outcome.{ports};
 ghost use Rattle.pigale_shell.specs.JobInput.{reads_input, left_of};
 ghost use Rattle.pigale_shell.specs.Kinds.{IsSized};
 ghost use Rattle.pigale_shell.specs.Outcome.{Outcome, status_of};
@@ -14,16 +10,17 @@ ghost use Rattle.pigale_shell.specs.Outcome.{Outcome, status_of};
 use super::embed::EmbedJob;
 use super::kinds::JobKind;
 use super::made::run_made;
-use super::map_jobs::run_maps;
+use super::map_jobs::{Bars, Convex, Count, MapJob, Rect, Schnyder, Shift};
+use super::planar::run_planar;
 use super::verify::VerifyJob;
 use line_inputs::figure_lines::FigureReader;
 use line_inputs::graph_lines::GraphReader;
 use pg_io::{Sink, Source};
-use pigale_words::{Form, Status};
+use pigale_words::Status;
 use record_runs::{RunEnd, run_records};
 use std::alloc::Global;
 
-// The status of a run that ended thus.
+// Returns the status of a run by its end.
 fn status(end: RunEnd) -> Status
     ensures { result ≡ status_of end }
 {
@@ -35,28 +32,6 @@ fn status(end: RunEnd) -> Status
         RunEnd::WriteFault => Status::WriteFault,
         RunEnd::NoMemory => Status::NoMemory,
     }
-}
-
-// Runs the job `verify`.
-fn run_verify<S: Source, K: Sink>(alloc: Global, src: &mut S, out: &mut K) -> RunEnd
-    ensures outcome { RunOutcome figures verify_answers
-        (ports (S.left src.old) (S.faults src.old) (K.written out.old) (K.faults out.old))
-        (ports (S.left src.new) (S.faults src.new) (K.written out.new) (K.faults out.new)) result }
-    ensures limit { TakesAtMost (input_limit + 1) (S.left src.old) (S.left src.new) }
-{
-    let mut job = VerifyJob::new(alloc);
-    run_records(alloc, FigureReader::new(alloc), &mut job, src, out)
-}
-
-// Runs the job `embed`.
-fn run_embed<S: Source, K: Sink>(alloc: Global, form: Form, src: &mut S, out: &mut K) -> RunEnd
-    ensures outcome { RunOutcome graph_lines (embed_answers form)
-        (ports (S.left src.old) (S.faults src.old) (K.written out.old) (K.faults out.old))
-        (ports (S.left src.new) (S.faults src.new) (K.written out.new) (K.faults out.new)) result }
-    ensures limit { TakesAtMost (input_limit + 1) (S.left src.old) (S.left src.new) }
-{
-    let mut job = EmbedJob::new(alloc, form);
-    run_records(alloc, GraphReader::new(alloc), &mut job, src, out)
 }
 
 /// Runs a job over the records of a source, to the end of its input or to what stops it. A job that reads no
@@ -71,9 +46,32 @@ pub fn run_job<S: Source, K: Sink>(alloc: Global, job: JobKind, src: &mut S, out
     ensures limit { TakesAtMost (input_limit + 1) (S.left src.old) (S.left src.new) }
 {
     match job {
-        JobKind::Maps(job, form) => status(run_maps(alloc, job, form, src, out)),
-        JobKind::Graphs(form) => status(run_embed(alloc, form, src, out)),
-        JobKind::Figures => status(run_verify(alloc, src, out)),
+        JobKind::Maps(MapJob::Count, form) => {
+            status(run_planar::<Count, S, K>(alloc, form, src, out))
+        }
+        JobKind::Maps(MapJob::Shift, form) => {
+            status(run_planar::<Shift, S, K>(alloc, form, src, out))
+        }
+        JobKind::Maps(MapJob::Schnyder, form) => {
+            status(run_planar::<Schnyder, S, K>(alloc, form, src, out))
+        }
+        JobKind::Maps(MapJob::Bars, form) => {
+            status(run_planar::<Bars, S, K>(alloc, form, src, out))
+        }
+        JobKind::Maps(MapJob::Convex, form) => {
+            status(run_planar::<Convex, S, K>(alloc, form, src, out))
+        }
+        JobKind::Maps(MapJob::Rect, form) => {
+            status(run_planar::<Rect, S, K>(alloc, form, src, out))
+        }
+        JobKind::Graphs(form) => {
+            let mut job = EmbedJob::new(alloc, form);
+            status(run_records(alloc, GraphReader::new(alloc), &mut job, src, out))
+        }
+        JobKind::Figures => {
+            let mut job = VerifyJob::new(alloc);
+            status(run_records(alloc, FigureReader::new(alloc), &mut job, src, out))
+        }
         JobKind::Made(size, number) => status(run_made(alloc, size, number, out)),
     }
 }

@@ -1,7 +1,7 @@
 //! The top call.
 ghost use Rattle.std.specs.Prelude.{◌≡◌, ◌≢◌, ◌⊎◌, ◌+◌, ◌<◌, ℕ, List, [], map, string_bytes, Some, None, IsFalse, IfOk, MatchResult};
 ghost use Rattle.pigale_shell.specs.Text.{bad_words_line};
-ghost use Rattle.pg_io.specs.Io.{WhereTold, Grows, GrowsByPrefix, HasRisen, TakesAtMost};
+ghost use Rattle.pg_io.specs.Io.{WhereTold, Grows, HasRisen, TakesAtMost};
 ghost use Rattle.record_runs.specs.Texts.{input_limit};
 ghost use Rattle.pigale_words.specs.Status.{RefusesWords};
 ghost use Rattle.pigale_shell.specs.Kinds.{kind_named, IsSized};
@@ -14,21 +14,7 @@ use pg_io::{Sink, Source, put_all};
 use pigale_words::{Status, WordFault, words_to_job};
 use std::alloc::Global;
 
-// Writes the line for words that name no job.
-fn refuse_words<K: Sink>(out: &mut K) -> Status
-    ensures bad_words { result ≡ Status.BadWords → Grows (K.written out.old) (K.written out.new) bad_words_line }
-    ensures write_fault { result ≡ Status.WriteFault → HasRisen (K.faults out.old) (K.faults out.new)
-        × GrowsByPrefix (K.written out.old) (K.written out.new) bad_words_line }
-    ensures only { (result ≡ Status.BadWords) ⊎ (result ≡ Status.WriteFault) }
-    ensures kept { result ≢ Status.WriteFault → K.faults out.new ≡ K.faults out.old }
-{
-    match put_all(out, b"stop BadWords\n") {
-        Ok(()) => Status::BadWords,
-        Err(_) => Status::WriteFault,
-    }
-}
-
-// The kind of the job of the words after the program's name.
+// Returns the kind of the job that the words after the program's name name.
 fn named_kind(alloc: Global, words: &[String]) -> Result<JobKind, WordFault>
     ensures job { MatchResult result
         (λ job. kind_named (map string_bytes words.now) ≡ Some job)
@@ -108,7 +94,10 @@ pub fn pigale<S: Source, K: Sink>(
 {
     match named_kind(alloc, words) {
         Ok(job) => run_job(alloc, job, src, out),
-        Err(WordFault::BadWords) => refuse_words(out),
+        Err(WordFault::BadWords) => match put_all(out, b"stop BadWords\n") {
+            Ok(()) => Status::BadWords,
+            Err(_) => Status::WriteFault,
+        },
         Err(WordFault::NoMemory) => Status::NoMemory,
     }
 }

@@ -1,9 +1,6 @@
 //! Figures as text, and the job over them, for the loop of runs.
-ghost use Rattle.std.specs.Prelude.{◌≡◌, ◌↔◌, ◌++◌, ◌∷◌, ◌<◌, ◌≤◌, List, ℕ, [], IsTrue, OnOk, OnErr, IfOk, codes};
-ghost use Rattle.line_inputs.specs.Given.{IsGiven as IsGivenFigure};
-ghost use Rattle.figure_verdicts.specs.Validity.{IsValidFigure};
-ghost use Rattle.figure_verdicts.specs.declared.verdict.FigureVerdict.TheVariants.{Yes as IsYes};
-ghost use Rattle.pigale_shell.specs.Verify.{numbers, verdict_line as verdict_line_of, verdict_words, bars_words, convex_words, rects_words, spaced, numbers_line as numbers_line_of, witness_words, WritesFault, WritesVerdict, IsVerifyBlock, verify_last_line as last_line_of};
+ghost use Rattle.std.specs.Prelude.{◌≡◌, ◌++◌, OnOk, IfOk};
+ghost use Rattle.pigale_shell.specs.Verify.{numbers, verdict_line as verdict_line_of, verdict_words, bars_words, rects_words, spaced, numbers_line as numbers_line_of, witness_words, WritesVerdict};
 
 use super::lines::{end_line, push_number, refusal_line, stop_line};
 use bar_check::BarVerdict;
@@ -11,7 +8,6 @@ use convex_check::ConvexVerdict;
 use draw_check::Verdict;
 use figure_text::Figure;
 use figure_verdicts::{FigureVerdict, figure_verdict};
-use half_edges::MapFault;
 use kuratowski::WitnessVerdict;
 use line_inputs::figure_lines::{Ending, FigureReader};
 use record_runs::Job as RecordJob;
@@ -39,7 +35,7 @@ fn push_places(out: &mut Vec<u8>, found: &[usize]) -> Result<(), AllocError>
     Ok(())
 }
 
-// The line of a verdict by its name and vertices.
+// Returns the line of a verdict by its name and vertices.
 fn verdict_line(
     alloc: Global,
     number: u32,
@@ -57,7 +53,7 @@ fn verdict_line(
     Ok(line)
 }
 
-// The line of a fault of a straight-line drawing.
+// Returns the line of a verdict on a straight-line drawing.
 fn fault_line(alloc: Global, number: u32, verdict: Verdict) -> Result<Vec<u8>, AllocError>
     ensures { IfOk result (λ line. line.items ≡ verdict_line_of number (verdict_words verdict)) }
 {
@@ -76,7 +72,7 @@ fn fault_line(alloc: Global, number: u32, verdict: Verdict) -> Result<Vec<u8>, A
     }
 }
 
-// The line of a fault of bars.
+// Returns the line of a verdict on bars.
 fn bars_line(alloc: Global, number: u32, verdict: BarVerdict) -> Result<Vec<u8>, AllocError>
     ensures { IfOk result (λ line. line.items ≡ verdict_line_of number (bars_words verdict)) }
 {
@@ -97,18 +93,7 @@ fn bars_line(alloc: Global, number: u32, verdict: BarVerdict) -> Result<Vec<u8>,
     }
 }
 
-// The line of how a drawing that is to be convex bends.
-fn convex_line(alloc: Global, number: u32, verdict: ConvexVerdict) -> Result<Vec<u8>, AllocError>
-    ensures { IfOk result (λ line. line.items ≡ verdict_line_of number (convex_words verdict)) }
-{
-    match verdict {
-        ConvexVerdict::Bent(a, b, c) => verdict_line(alloc, number, b"Bent", &[a.0, b.0, c.0]),
-        ConvexVerdict::OuterBent => verdict_line(alloc, number, b"OuterBent", &[]),
-        ConvexVerdict::Yes => verdict_line(alloc, number, b"yes", &[]),
-    }
-}
-
-// The line of a fault of rectangles.
+// Returns the line of a verdict on rectangles.
 fn rects_line(alloc: Global, number: u32, verdict: RectVerdict) -> Result<Vec<u8>, AllocError>
     ensures { IfOk result (λ line. line.items ≡ verdict_line_of number (rects_words verdict)) }
 {
@@ -123,7 +108,7 @@ fn rects_line(alloc: Global, number: u32, verdict: RectVerdict) -> Result<Vec<u8
     }
 }
 
-// The line of a verdict by its name and numbers.
+// Returns the line of a verdict by its name and numbers.
 fn numbers_line(
     alloc: Global,
     number: u32,
@@ -141,7 +126,7 @@ fn numbers_line(
     Ok(line)
 }
 
-// The line of a fault of a witness.
+// Returns the line of a verdict on a witness.
 fn witness_line(alloc: Global, number: u32, verdict: WitnessVerdict) -> Result<Vec<u8>, AllocError>
     ensures { IfOk result (λ line. line.items ≡ numbers_line_of number (witness_words verdict)) }
 {
@@ -159,80 +144,31 @@ fn witness_line(alloc: Global, number: u32, verdict: WitnessVerdict) -> Result<V
     }
 }
 
-// The line of a fault of a figure's map.
-fn map_line(alloc: Global, number: u32, fault: MapFault) -> Result<Vec<u8>, AllocError>
-    ensures { IfOk result (λ line. WritesFault number fault line.items) }
-{
-    match Unserved::from(fault) {
-        Unserved::Refused(refusal) => refusal_line(alloc, number, refusal),
-        Unserved::NoMemory => Err(AllocError),
-    }
-}
-
-// The line of a verdict.
+// Returns the line of a verdict.
 fn figure_line(alloc: Global, number: u32, verdict: FigureVerdict) -> Result<Vec<u8>, AllocError>
     ensures { IfOk result (λ line. WritesVerdict number verdict line.items) }
 {
     match verdict {
-        FigureVerdict::Refused(fault) => map_line(alloc, number, fault),
+        FigureVerdict::Refused(fault) => match Unserved::from(fault) {
+            Unserved::Refused(refusal) => refusal_line(alloc, number, refusal),
+            Unserved::NoMemory => Err(AllocError),
+        },
         FigureVerdict::Drawing(verdict) => fault_line(alloc, number, verdict),
         FigureVerdict::Inside(v, u) => verdict_line(alloc, number, b"Inside", &[v.0, u.0]),
-        FigureVerdict::Convex(verdict) => convex_line(alloc, number, verdict),
+        FigureVerdict::Convex(ConvexVerdict::Bent(a, b, c)) => {
+            verdict_line(alloc, number, b"Bent", &[a.0, b.0, c.0])
+        }
+        FigureVerdict::Convex(ConvexVerdict::OuterBent) => verdict_line(
+            alloc,
+            number,
+            b"OuterBent",
+            &[],
+        ),
+        FigureVerdict::Convex(ConvexVerdict::Yes) => verdict_line(alloc, number, b"yes", &[]),
         FigureVerdict::Bars(verdict) => bars_line(alloc, number, verdict),
         FigureVerdict::Rects(verdict) => rects_line(alloc, number, verdict),
         FigureVerdict::Witness(verdict) => witness_line(alloc, number, verdict),
         FigureVerdict::Yes => verdict_line(alloc, number, b"yes", &[]),
-    }
-}
-
-// Whether a verdict is that of a valid figure.
-fn is_yes(verdict: FigureVerdict) -> bool
-    ensures { IsTrue result ↔ (verdict ≡ IsYes) }
-{
-    match verdict {
-        FigureVerdict::Yes => true,
-        _ => false,
-    }
-}
-
-// Appends the line of the verdict on a figure, and answers whether the figure is valid. The checks of bars and rectangles keep
-// large arrays on the stack: inside the step that takes a line they would make each line touch that stack.
-#[inline(never)]
-fn verify_figure(
-    alloc: Global,
-    number: u32,
-    figure: &Figure,
-    out: &mut Vec<u8>,
-) -> Result<bool, AllocError>
-    requires { IsGivenFigure figure.now }
-    ensures block { OnOk result
-        ((block : List ℕ) × IsVerifyBlock number figure.now block × (out.new.items ≡ out.old.items ++ block)) }
-    ensures served { IfOk result (λ served. IsTrue served ↔ IsValidFigure figure.now) }
-    ensures err { OnErr result (out.new.items ≡ out.old.items) }
-{
-    figure_verdicts::yes_is_valid_figure();
-    figure_verdicts::valid_is_yes();
-    let verdict = figure_verdict(alloc, figure)?;
-    let line = figure_line(alloc, number, verdict)?;
-    out.extend_from_slice(&line)?;
-    Ok(is_yes(verdict))
-}
-
-// The last line of a run over figures.
-fn verify_last_line(
-    alloc: Global,
-    records: u32,
-    refused: u32,
-    ending: Ending,
-) -> Result<Vec<u8>, AllocError>
-    ensures { IfOk result (λ line. line.items ≡ last_line_of records refused ending) }
-{
-    match ending {
-        Ending::Well => end_line(alloc, records, refused),
-        Ending::BadLine(k) => stop_line(alloc, b"stop BadLine", k as usize),
-        Ending::Limit(k) => stop_line(alloc, b"stop Limit", k as usize),
-        Ending::EndInFigure(k) => stop_line(alloc, b"stop EndInFigure", k as usize),
-        Ending::TooLong => Vec::from_slice(alloc, b"stop TooLong\n"),
     }
 }
 
@@ -243,7 +179,7 @@ pub struct VerifyJob {
 }
 
 impl VerifyJob {
-    /// The job before the first figure. It takes no memory.
+    /// Makes the job, before the first figure. It takes no memory.
     pub fn new(alloc: Global) -> VerifyJob {
         VerifyJob { alloc }
     }
@@ -258,13 +194,24 @@ impl RecordJob<FigureReader> for VerifyJob {
 
     ghost answers = { λ kind. verify_answers };
 
+    // The checks of bars and rectangles keep large arrays on the stack: inside the step that takes a line they would make each
+    // line touch that stack.
+    #[inline(never)]
     fn answer(
         &mut self,
         number: u32,
         given: &Figure,
         out: &mut Vec<u8>,
     ) -> Result<bool, AllocError> {
-        verify_figure(self.alloc, number, given, out)
+        figure_verdicts::yes_is_valid_figure();
+        figure_verdicts::valid_is_yes();
+        let verdict = figure_verdict(self.alloc, given)?;
+        let line = figure_line(self.alloc, number, verdict)?;
+        out.extend_from_slice(&line)?;
+        match verdict {
+            FigureVerdict::Yes => Ok(true),
+            _ => Ok(false),
+        }
     }
 
     fn last_line(
@@ -274,6 +221,12 @@ impl RecordJob<FigureReader> for VerifyJob {
         refused: u32,
         end: &Ending,
     ) -> Result<Vec<u8>, AllocError> {
-        verify_last_line(alloc, records, refused, *end)
+        match *end {
+            Ending::Well => end_line(alloc, records, refused),
+            Ending::BadLine(k) => stop_line(alloc, b"stop BadLine", k as usize),
+            Ending::Limit(k) => stop_line(alloc, b"stop Limit", k as usize),
+            Ending::EndInFigure(k) => stop_line(alloc, b"stop EndInFigure", k as usize),
+            Ending::TooLong => Vec::from_slice(alloc, b"stop TooLong\n"),
+        }
     }
 }

@@ -32,7 +32,7 @@ impl Method for Bars {
         }
     }
 
-    fn figure(&mut self, _alloc: Global, lists: &Rotations) -> Result<BarFigure, Unserved> {
+    fn figure(&mut self, lists: &Rotations) -> Result<BarFigure, Unserved> {
         self.drawer.figure(lists)
     }
 

@@ -33,7 +33,7 @@ impl Method for Convex {
         }
     }
 
-    fn figure(&mut self, _alloc: Global, lists: &Rotations) -> Result<GridFigure, Unserved> {
+    fn figure(&mut self, lists: &Rotations) -> Result<GridFigure, Unserved> {
         let figure = self.drawer.figure(lists)?;
         Ok(figure)
     }

@@ -33,7 +33,7 @@ impl Method for Count {
         }
     }
 
-    fn figure(&mut self, _alloc: Global, lists: &Rotations) -> Result<EulerCount, Unserved> {
+    fn figure(&mut self, lists: &Rotations) -> Result<EulerCount, Unserved> {
         let count = self.counter.count(lists)?;
         Ok(count)
     }

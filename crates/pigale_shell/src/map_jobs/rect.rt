@@ -32,7 +32,7 @@ impl Method for Rect {
         }
     }
 
-    fn figure(&mut self, _alloc: Global, lists: &Rotations) -> Result<RectFigure, Unserved> {
+    fn figure(&mut self, lists: &Rotations) -> Result<RectFigure, Unserved> {
         self.drawer.figure(lists)
     }
 

@@ -33,7 +33,7 @@ impl Method for Schnyder {
         }
     }
 
-    fn figure(&mut self, _alloc: Global, lists: &Rotations) -> Result<GridFigure, Unserved> {
+    fn figure(&mut self, lists: &Rotations) -> Result<GridFigure, Unserved> {
         self.drawer.schnyder_figure(lists)
     }
 

@@ -33,7 +33,7 @@ impl Method for Shift {
         }
     }
 
-    fn figure(&mut self, _alloc: Global, lists: &Rotations) -> Result<GridFigure, Unserved> {
+    fn figure(&mut self, lists: &Rotations) -> Result<GridFigure, Unserved> {
         self.drawer.shift_figure(lists)
     }
 

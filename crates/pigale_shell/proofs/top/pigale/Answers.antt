@@ -1,4 +1,5 @@
-use Rattle.std.proofs.Common.{◌≡◌}
+use Rattle.std.proofs.Common.{◌≡◌, rules}
+use Rattle.pigale_shell.specs.Text.{bad_words_line}
 use Rattle.pigale_shell.proofs.OutcomeLemmas.{GrowsByText-none, Outcome-complete}
 use Rattle.pigale_shell.proofs.top.pigale.Goals as goal
 
@@ -13,3 +14,11 @@ returns-in-Ok-clause-complete g c = λ job input records ending named told readi
 
 pub returns-in-Ok-clause-limit : goal.returns-in-Ok-clause-limit
 returns-in-Ok-clause-limit g c = c.run_job.ensures.limit
+
+pub returns-in-Ok-put_all-clause-bad_words : goal.returns-in-Ok-put_all-clause-bad_words
+unfolding bad_words_line
+returns-in-Ok-put_all-clause-bad_words g c = search rules
+
+pub returns-in-Err-clause-write_fault : goal.returns-in-Err-clause-write_fault
+unfolding bad_words_line
+returns-in-Err-clause-write_fault g c = search rules

@@ -2,7 +2,7 @@
 use Rattle.std.proofs.Common.{rules}
 use Rattle.pigale_shell.specs.Text.{last_line}
 use Rattle.pigale_shell.specs.Verify.{verify_last_line}
-use Rattle.pigale_shell.proofs.verify.verify_last_line.Goals as goal
+use Rattle.pigale_shell.proofs.verify.VerifyJobRecordJobFigureReader.last_line.Goals as goal
 
 pub returns-in-Well : goal.returns-in-Well
 unfolding verify_last_line last_line
