@@ -1,20 +1,11 @@
 -- From the theorem on graphs and the drawings of maps.
-use Rattle.std.proofs.Common.{◌≡◌, ◌≢◌, ℕ, ◌<◌, ◌≤◌, true, length, ◌∙◌, inl, inr, arith}
-use Rattle.std.specs.Prelude.{None}
+use Rattle.std.proofs.Common.{◌≡◌, ◌≢◌, ℕ, ◌<◌, true, ◌∙◌, inl, inr, arith}
 use Rattle.std.proofs.lemmas.Bool.{cases_lt}
-use Rattle.map_lists.specs.Lists.{Lists}
-use Rattle.map_theory.specs.Maps.{IsSimpleMap}
-use Rattle.pg_plane.specs.declared.figure.GridFigure.{GridFigure}
 use Rattle.graph6_text.specs.Graphs.{EdgeGraph, IsGraph, has_edge}
 use Rattle.graph6_text.proofs.EdgeLemmas.{joined_is, has_edge-turned}
-use Rattle.refusals.specs.Conditions.{first_refusal}
-use Rattle.refusals.specs.Laws.{NoRefusalIsPlane}
 use Rattle.embed_theorem.specs.Embedding.{IsProper, MapOrWitness, PlanarExactly}
-use Rattle.embed_theorem.specs.Expanded.{HasJustEdges}
-use Rattle.grid_figures.specs.SchnyderFiguresFigures.{IsSchnyderFigure}
 use Rattle.grid_figures.specs.SchnyderFiguresLaws.{SomeSchnyderFigure}
 use Rattle.embed_graph.specs.declared.embed_figures.draw.EmbedFigure.TheVariants.{Drawn, NotPlanar}
-use Rattle.embed_graph.specs.Figures.{IsDrawnMap}
 use Rattle.embed_graph.specs.Laws.{SomeEmbedFigure, DrawnExactly}
 
 -- the ends of an edge are two vertices
@@ -48,20 +39,3 @@ exactly planar draws graph is some = (
       let f = draws m.0 m.1.simple m.1.plane (omega (arith, some, m.1.edges.vertices)) in
       (m.0, f.0, record { map = m.1; valid = f.1 }),
 )
-
--- ---- lists that were drawn, of as many vertices as a graph
-module _ (exactly_plane : NoRefusalIsPlane) (graph : EdgeGraph) (lists : Lists) (some : 3 ≤ graph.n) (vertices : length lists ≡ graph.n) (served : first_refusal 3 lists ≡ None) where
-  pub drawn_is_simple : IsSimpleMap lists
-  drawn_is_simple = ((exactly_plane 3 lists (omega (arith, some, vertices))).0 served).0
-
-  -- with the graph's edges they are a map of it
-  pub drawn_is_map : (figure : GridFigure) → HasJustEdges lists graph → IsSchnyderFigure lists figure → IsDrawnMap graph lists figure
-  drawn_is_map figure edges valid =
-      record {
-        map = record {
-          simple = drawn_is_simple;
-          plane = ((exactly_plane 3 lists (omega (arith, some, vertices))).0 served).1;
-          edges = edges;
-        };
-        valid = valid;
-      }

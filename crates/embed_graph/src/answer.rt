@@ -19,7 +19,7 @@ use map_lists::Rotations;
 use refusals::Unserved;
 use std::alloc::{AllocError, Global};
 
-// The lists, if they are those of a map of genus zero of a graph.
+// Returns `lists`, if they are those of a map of genus zero of `graph`.
 fn checked_map(
     alloc: Global,
     graph: &Graph,
@@ -52,17 +52,6 @@ pub enum Tested {
     NoMap,
 }
 
-// The answer to a graph by the sides of its edges.
-fn test_by_sides(alloc: Global, graph: &Graph) -> Result<Tested, AllocError>
-    requires { 3 ≤ graph.now.n }
-    ensures { IfOk result (IsTested graph.now) }
-{
-    match map_of_graph(alloc, graph)? {
-        Some(map) => Ok(Tested::Map(map)),
-        None => Ok(Tested::NoMap),
-    }
-}
-
 // Asks the test about a graph, and checks the lists that it answers. Where they are refused, the sides of edges answer.
 pub(crate) fn test_graph(
     alloc: Global,
@@ -76,13 +65,16 @@ pub(crate) fn test_graph(
         Some(lists) => match checked_map(alloc, graph, lists)? {
             Some(map) => Ok(Tested::Map(map)),
             // no graph is known for which this comes
-            None => test_by_sides(alloc, graph),
+            None => match map_of_graph(alloc, graph)? {
+                Some(map) => Ok(Tested::Map(map)),
+                None => Ok(Tested::NoMap),
+            },
         },
         None => Ok(Tested::NoMap),
     }
 }
 
-// The witness that the search finds where it found no map of a graph, if it is one.
+// Returns the witness that the search of `tables` finds where it found no map of `graph`, if it is one.
 pub(crate) fn found_witness(
     alloc: Global,
     tables: &mut Tables,
@@ -102,7 +94,7 @@ pub(crate) fn found_witness(
     }
 }
 
-// A witness of a graph that the test refused: the one that its search finds, or one by contracted edges.
+// Returns a witness of `graph`, which the test refused: the one that its search finds, or one by contracted edges.
 pub(crate) fn refuted(
     alloc: Global,
     tables: &mut Tables,
@@ -120,8 +112,8 @@ pub(crate) fn refuted(
     }
 }
 
-/// A simple map of genus zero with exactly the edges of a graph with at least three vertices, or a witness that there is
-/// none. It fails only when out of memory.
+/// Returns a simple map of genus zero with exactly the edges of `graph`, which has at least three vertices, or a witness
+/// that there is none. It fails only when out of memory.
 ///
 /// The map is that of the left-right test, whose lists are checked, and whose no is right. A witness is one of the first
 /// 3n - 5 edges of the graph's line, where it has more; where the search for it finds none that is accepted, edges are

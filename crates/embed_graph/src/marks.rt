@@ -11,18 +11,7 @@ use map_lists::Rotations;
 use std::alloc::{AllocError, Global};
 use std::mem;
 
-// Sets the bit at a place, which is not set.
-fn set_unset(body: &mut [u8], place: usize)
-    requires within { place / 6 < length body.old }
-    requires bytes { All IsLineByte body.old }
-    requires unset { is_place_set body.old place ≡ false }
-    ensures bytes { All IsLineByte body.new }
-    ensures bits { (p : ℕ) → is_place_set body.new p ≡ (is_place_set body.old p || (p == place)) }
-{
-    body[place / 6] += 32u8 >> (place % 6);
-}
-
-// Sets the bit of two vertices, if `u` is the lesser. It is not set.
+// Sets the bit of `u` and `v`, which is not set, where `u` is the lesser. The bytes are those of `n` vertices.
 fn set_pair(body: &mut [u8], n: u16, u: u16, v: u16)
     requires vertex { v < n }
     requires bytes { AreBytes n body.old }
@@ -31,11 +20,12 @@ fn set_pair(body: &mut [u8], n: u16, u: u16, v: u16)
     ensures adds { Adds v (u ∷ []) body.old body.new }
 {
     if u < v {
-        set_unset(body, pair_place(u, v));
+        let place = pair_place(u, v);
+        body[place / 6] += 32u8 >> (place % 6);
     }
 }
 
-// Sets the bits of a vertex and its lesser neighbours, each of which stands once in its list. None of them is set.
+// Sets the bits of `v` and the lesser ones of the neighbours in `list`, where each stands once. None of them is set.
 fn set_list(body: &mut [u8], n: u16, v: u16, list: &[u16])
     requires vertex { v < n }
     requires bytes { AreBytes n body.old }
@@ -49,7 +39,7 @@ fn set_list(body: &mut [u8], n: u16, v: u16, list: &[u16])
     }
 }
 
-// Sets the bits of all edges of a simple map.
+// Sets the bits of all edges of a simple map of `n` vertices.
 fn set_lists(body: &mut [u8], n: u16, lists: &Rotations)
     requires simple { IsSimpleMap lists.now }
     requires vertices { length lists.now ≡ n }
@@ -61,34 +51,18 @@ fn set_lists(body: &mut [u8], n: u16, lists: &Rotations)
     }
 }
 
-// Bytes for all pairs of `n` vertices with no bit set, in the memory of `spent`.
-fn unset_bits(spent: Vec<u8>, n: u16) -> Result<Vec<u8>, AllocError>
-    requires { n ≤ 255 }
-    ensures { IfOk result (λ bits. bits.items ≡ replicate (bytes_of_pairs n) 63) }
-{
-    let mut bits = spent;
-    bits.clear();
-    bits.resize(body_length(n), 63)?;
-    Ok(bits)
-}
-
-// The edges of a simple map as bits, in the memory of `spent`.
+// Returns the edges of a simple map of `n` vertices as bits, in the memory of `spent`.
 fn bits_of_lists(spent: Vec<u8>, lists: &Rotations, n: u16) -> Result<Vec<u8>, AllocError>
     requires simple { IsSimpleMap lists.now }
     requires few { n ≤ 255 }
     requires vertices { length lists.now ≡ n }
     ensures { IfOk result (λ body. Marks lists.now n body.items) }
 {
-    let mut body = unset_bits(spent, n)?;
+    let mut body = spent;
+    body.clear();
+    body.resize(body_length(n), 63)?;
     set_lists(&mut body, n, lists);
     Ok(body)
-}
-
-// Whether two rows of bytes are equal.
-fn are_equal(one: &[u8], other: &[u8]) -> bool
-    ensures { IsTrue result → one.now ≡ other.now }
-{
-    one == other
 }
 
 /// Compares the edges of maps with those of graphs, one after another, and keeps its memory for the next.
@@ -99,7 +73,7 @@ pub struct EdgeTest {
 }
 
 impl EdgeTest {
-    /// A test that has compared nothing yet. It takes no memory.
+    /// Returns a test that has compared nothing yet. It takes no memory.
     pub fn new(alloc: Global) -> EdgeTest {
         EdgeTest {
             alloc,
@@ -107,7 +81,7 @@ impl EdgeTest {
         }
     }
 
-    /// Whether a simple map has just the edges of a graph. It fails only when out of memory.
+    /// Says whether a simple map, given as `lists`, has just the edges of `graph`. It fails only when out of memory.
     pub fn has_edges(&mut self, graph: &Graph, lists: &Rotations) -> Result<bool, AllocError>
         requires simple { IsSimpleMap lists.now }
         requires vertices { length lists.now ≡ graph.now.n }
@@ -116,7 +90,7 @@ impl EdgeTest {
         let bits = graph.body();
         let spent = mem::replace(&mut self.bits, Vec::new(self.alloc));
         let edges = bits_of_lists(spent, lists, graph.n())?;
-        let same = are_equal(&edges, bits);
+        let same = edges.as_slice() == bits;
         self.bits = edges;
         Ok(same)
     }

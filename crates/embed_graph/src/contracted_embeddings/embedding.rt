@@ -1,26 +1,12 @@
 //! The answer.
 ghost use Rattle.std.specs.Prelude.{◌<◌, IfOk};
-ghost use Rattle.map_lists.specs.Lists.{Lists};
-ghost use Rattle.kuratowski.specs.Witnesses.{IsWitness};
-ghost use Rattle.embed_theorem.specs.Expanded.{IsMapOf};
 ghost use Rattle.embed_graph.specs.Embeddings.{IsEmbedding};
 
 use crate::contracted_embeddings::lifted::contracted_witness;
 use crate::graph_embeddings::Embedding;
 use graph6_text::Graph;
-use kuratowski::Witness;
 use left_right_lists::map_of_graph;
 use std::alloc::{AllocError, Global};
-
-// Returns a Kuratowski witness of a graph that has no map.
-fn witness_where_none(alloc: Global, graph: &Graph) -> Result<Witness, AllocError>
-    requires some { 0 < graph.now.n }
-    requires none { (lists : Lists) → ¬ IsMapOf lists graph.now }
-    ensures { IfOk result (λ w. IsWitness graph.now w.kind w.branch w.paths) }
-{
-    let _n = graph.n();
-    contracted_witness(alloc, graph)
-}
 
 /// Returns a simple map of genus zero with exactly the edges of `graph`, or a Kuratowski witness that there is none. It
 /// fails only when out of memory.
@@ -31,10 +17,11 @@ pub fn embed_by_sides(alloc: Global, graph: &Graph) -> Result<Embedding, AllocEr
     requires { 0 < graph.now.n }
     ensures { IfOk result (IsEmbedding graph.now) }
 {
+    let _n = graph.n();
     match map_of_graph(alloc, graph)? {
         Some(map) => Ok(Embedding::Map(map)),
         None => {
-            let witness = witness_where_none(alloc, graph)?;
+            let witness = contracted_witness(alloc, graph)?;
             Ok(Embedding::NotPlanar(witness))
         }
     }

@@ -11,7 +11,7 @@ use graph6_text::Graph;
 use kuratowski::Witness;
 use std::alloc::{AllocError, Global};
 
-/// A Kuratowski witness of a graph that has one. It fails only when out of memory.
+/// Returns a Kuratowski witness of `graph`, which has one. It fails only when out of memory.
 ///
 /// An edge is contracted while a witness stays, and the witness of the smaller graph is lifted. Where no edge can be, the
 /// graph has K5 or K3,3 as a part.

@@ -1,6 +1,5 @@
 //! Figures of graphs, one after another, by an embedder that keeps memory from one to the next.
 ghost use Rattle.std.specs.Prelude.{◌≡◌, ◌≤◌, length, IfOk, IfSome};
-ghost use Rattle.map_lists.specs.Lists.{Lists};
 ghost use Rattle.embed_theorem.specs.Expanded.{IsMapOf};
 ghost use Rattle.embed_graph.specs.Figures.{IsEmbedFigure};
 
@@ -35,7 +34,7 @@ pub struct Embedder {
 }
 
 impl Embedder {
-    /// An embedder that has embedded nothing yet. It takes no memory.
+    /// Returns an embedder that has embedded nothing yet. It takes no memory.
     pub fn new(alloc: Global) -> Embedder {
         Embedder {
             alloc,
@@ -45,32 +44,7 @@ impl Embedder {
         }
     }
 
-    // The drawing of lists, if they are those of a map of genus zero of a graph.
-    fn drawn_lists(
-        &mut self,
-        graph: &Graph,
-        lists: Rotations,
-    ) -> Result<Option<EmbedFigure>, AllocError>
-        requires some { 3 ≤ graph.now.n }
-        requires vertices { length lists ≡ graph.now.n }
-        ensures { IfOk result (λ found. IfSome found (IsEmbedFigure graph.now)) }
-    {
-        refusals::no_refusal_is_plane();
-        let _n = graph.n();
-        match self.drawer.schnyder_figure(&lists) {
-            Ok(figure) => {
-                if self.edges.has_edges(graph, &lists)? {
-                    Ok(Some(EmbedFigure::Drawn(lists, figure)))
-                } else {
-                    Ok(None)
-                }
-            }
-            Err(Unserved::NoMemory) => Err(AllocError),
-            Err(Unserved::Refused(_)) => Ok(None),
-        }
-    }
-
-    // The drawing of a map of a graph.
+    // Draws `map`, which is a map of `graph`.
     fn drawn_map(&mut self, graph: &Graph, map: Rotations) -> Result<EmbedFigure, AllocError>
         requires some { 3 ≤ graph.now.n }
         requires map { IsMapOf map graph.now }
@@ -86,28 +60,30 @@ impl Embedder {
         }
     }
 
-    // The figure of a graph by the left-right test, whose no is right.
-    fn figure_by_test(&mut self, graph: &Graph) -> Result<EmbedFigure, AllocError>
-        requires { 3 ≤ graph.now.n }
-        ensures { IfOk result (IsEmbedFigure graph.now) }
-    {
-        match test_graph(self.alloc, &mut self.tables, graph)? {
-            Tested::Map(map) => self.drawn_map(graph, map),
-            Tested::NoMap => refuted_figure(self.alloc, &mut self.tables, graph),
-        }
-    }
-
-    // A figure of a graph by what a search finds, if it is right: lists that the drawer takes, or a witness.
+    // Returns a figure of `graph` by what a search finds, if it is right: lists with the graph's edges that are drawn as a
+    // map of genus zero, or a witness.
     fn found_figure(&mut self, graph: &Graph) -> Result<Option<EmbedFigure>, AllocError>
         requires { 3 ≤ graph.now.n }
         ensures { IfOk result (λ found. IfSome found (IsEmbedFigure graph.now)) }
     {
-        match self.tables.found_lists(self.alloc, graph)? {
-            Some(lists) => self.drawn_lists(graph, lists),
-            None => match found_witness(self.alloc, &mut self.tables, graph)? {
+        refusals::no_refusal_is_plane();
+        let _n = graph.n();
+        let Some(lists) = self.tables.found_lists(self.alloc, graph)? else {
+            return match found_witness(self.alloc, &mut self.tables, graph)? {
                 Some(witness) => Ok(Some(EmbedFigure::NotPlanar(witness))),
                 None => Ok(None),
-            },
+            };
+        };
+        match self.drawer.schnyder_figure(&lists) {
+            Ok(figure) => {
+                if self.edges.has_edges(graph, &lists)? {
+                    Ok(Some(EmbedFigure::Drawn(lists, figure)))
+                } else {
+                    Ok(None)
+                }
+            }
+            Err(Unserved::NoMemory) => Err(AllocError),
+            Err(Unserved::Refused(_)) => Ok(None),
         }
     }
 
@@ -119,8 +95,14 @@ impl Embedder {
     {
         match self.found_figure(graph)? {
             Some(figure) => Ok(figure),
-            // no graph is known for which this comes
-            None => self.figure_by_test(graph),
+            // no graph is known for which this comes; the test's no is right
+            None => match test_graph(self.alloc, &mut self.tables, graph)? {
+                Tested::Map(map) => self.drawn_map(graph, map),
+                Tested::NoMap => {
+                    let witness = refuted(self.alloc, &mut self.tables, graph)?;
+                    Ok(EmbedFigure::NotPlanar(witness))
+                }
+            },
         }
     }
 
@@ -134,18 +116,4 @@ impl Embedder {
             EmbedFigure::NotPlanar(witness) => self.tables.keep_witness(witness),
         }
     }
-}
-
-// The witness against a graph that has no map.
-fn refuted_figure(
-    alloc: Global,
-    tables: &mut Tables,
-    graph: &Graph,
-) -> Result<EmbedFigure, AllocError>
-    requires some { 3 ≤ graph.now.n }
-    requires none { (lists : Lists) → ¬ IsMapOf lists graph.now }
-    ensures { IfOk result (IsEmbedFigure graph.now) }
-{
-    let witness = refuted(alloc, tables, graph)?;
-    Ok(EmbedFigure::NotPlanar(witness))
 }

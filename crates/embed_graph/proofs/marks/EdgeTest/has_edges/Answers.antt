@@ -1,4 +1,4 @@
-use Rattle.std.proofs.Common.{ℕ, sym, subst, ap, ◌∙◌}
+use Rattle.std.proofs.Common.{◌≡◌, ℕ, sym, subst, ap, ◌∙◌, rules}
 use Rattle.graph6_text.specs.Lines.{edges_of}
 use Rattle.embed_graph.specs.Marks.{Marks}
 use Rattle.embed_graph.proofs.MarkLemmas.{has_just_edges}
@@ -6,7 +6,7 @@ use Rattle.embed_graph.proofs.marks.EdgeTest.has_edges.Goals as goal
 
 pub returns : goal.returns
 returns c = λ yes.
-    let same = sym c.deref.ensures.value ∙ c.are_equal-same.ensures yes in
+    let same : c.in_ok-edges.edges.items ≡ c.body-bits.result.now = search rules in
     let n = c.args.graph.now.n in
     has_just_edges c.args.graph.now c.args.lists.now c.in_ok-edges.edges.items c.requires.simple c.requires.vertices
     (c.body-bits.ensures.edges ∙ ap (edges_of n) (sym same))

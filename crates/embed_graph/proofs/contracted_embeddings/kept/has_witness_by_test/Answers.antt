@@ -1,8 +1,0 @@
-use Rattle.embed_graph.proofs.Stays.{told_by_test, told_by_refusal}
-use Rattle.embed_graph.proofs.contracted_embeddings.kept.has_witness_by_test.Goals as goal
-
-pub returns-in-Map : goal.returns-in-Map
-returns-in-Map c = told_by_test c.args.graph.now c.in_ok-test_graph.field-0 c.in-Map.field-0 c.in_ok-test_graph.ensures c.in-Map.is
-
-pub returns : goal.returns
-returns c = told_by_refusal c.args.graph.now c.in_ok-test_graph.field-0 c.n-n.ensures.known c.requires c.in_ok-test_graph.ensures c.in-NoMap.is
