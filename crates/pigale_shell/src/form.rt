@@ -10,7 +10,7 @@ ghost use Rattle.pigale_shell.specs.EmbedText.{WritesWitness, IsGraphText};
 
 use super::method::{GraphRecord, MapRecord};
 use embed_graph::embed_figures::EmbedFigure;
-use figure_text::{GridJob, Printer, print_witness};
+use figure_text::{GridJob, Printer};
 use half_edges::Rotations;
 use kuratowski::Witness;
 use pg_plane::{BarFigure, Points, RectFigure};
@@ -141,7 +141,7 @@ impl FormPrinter {
 
     // Appends a witness of a graph in the form of its record. When memory runs out the bytes are as they were.
     fn print_witness(
-        &self,
+        &mut self,
         given: &GraphRecord<'_>,
         witness: &Witness,
         out: &mut Vec<u8>,
@@ -151,7 +151,10 @@ impl FormPrinter {
         ensures err { OnErr result (out.new.items ≡ out.old.items) }
     {
         match given.form {
-            Form::Text => print_witness(self.alloc, given.number, given.graph, witness, out),
+            Form::Text => {
+                self.printer
+                    .print_witness(given.number, given.graph, witness, out)
+            }
             Form::Svg => svg_witness(self.alloc, given.number, given.graph, witness, out),
         }
     }
