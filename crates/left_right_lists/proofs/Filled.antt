@@ -1,8 +1,8 @@
 -- Tables filled vertex by vertex are those of a tree whose last vertices stand.
-use Rattle.std.proofs.Common.{◌≡◌, ◌≢◌, ◌↔◌, ℕ, ◌+◌, ◌-◌, ◌<◌, ◌≤◌, Bool, true, cond, eqb, List, [], ◌∷◌, ◌++◌, length, filter, Contains, slice_index, slice_index_or, refl, sym, ap, ◌∙◌, subst, inl, inr, arith, eq-eqb, ne_eqb, length-append}
+use Rattle.std.proofs.Common.{◌≡◌, ◌≢◌, ◌↔◌, ℕ, ◌+◌, ◌-◌, ◌<◌, ◌≤◌, Bool, true, not, cond, eqb, List, [], ◌∷◌, ◌++◌, length, filter, Contains, slice_index, slice_index_or, refl, sym, ap, ◌∙◌, subst, inl, inr, arith, eq-eqb, ne_eqb, length-append}
 use Rattle.std.proofs.Math.ListN.{get_or-append}
 use Rattle.std.proofs.lemmas.Bool.{cases_Bool, cases_eq, cond-true, cond-false}
-use Rattle.std.proofs.lemmas.List.{append-nil, get_or-append-add}
+use Rattle.std.proofs.lemmas.List.{get_or-append-add}
 use Rattle.map_lists.specs.Lists.{Lists}
 use Rattle.map_theory.specs.Maps.{Dart, list_of}
 use Rattle.graph6_text.specs.Graphs.{EdgeGraph, has_edge}
@@ -261,20 +261,18 @@ module _ (graph : EdgeGraph) (tree : Tree) (h : IsTreeOf graph tree) (sides : Li
 
     row_is : (v : ℕ) → v < n → list_of Whole v ≡ row_at n tree entries v
     row_is v l =
+        let whole = entries_in n tree entries v ++ parent v ∷ [] in
+        let own = f.entries_are v l (omega arith) in
         list_is n edge parent depth tree.root left h.tree parted f.E W f.O facts v l
         ∙ elim (cases_eq v tree.root) [
           | inl e ↦ (
               ap (row n edge parent depth tree.root left h.tree parted f.E W f.O facts) e
               ∙ (row_root n edge parent depth tree.root left h.tree parted f.E W f.O facts
-              ∙ (ap f.E (sym e)
-              ∙ (sym (append-nil (f.E v))
-              ∙ (ap (λ z. f.E v ++ z) (sym (cond-true {A = List ℕ} (eqb v tree.root) [] (parent v ∷ []) (eq-eqb v tree.root e)))
-              ∙ ap (λ z. z ++ cond (eqb v tree.root) [] (parent v ∷ [])) (sym (f.entries_are v l (omega arith)))))))
+              ∙ (ap f.E (sym e) ∙ (sym own ∙ sym (cond-false {A = List ℕ} (not (eqb v tree.root)) whole (entries_in n tree entries v) (ap not (eq-eqb v tree.root e))))))
               )
           | inr ne ↦ (
               row_other n edge parent depth tree.root left h.tree parted f.E W f.O facts v ne
-              ∙ (ap (λ z. f.E v ++ z) (sym (cond-false {A = List ℕ} (eqb v tree.root) [] (parent v ∷ []) (ne_eqb v tree.root ne)))
-              ∙ ap (λ z. z ++ cond (eqb v tree.root) [] (parent v ∷ [])) (sym (f.entries_are v l (omega arith))))
+              ∙ (ap (λ z. z ++ parent v ∷ []) (sym own) ∙ sym (cond-true {A = List ℕ} (not (eqb v tree.root)) whole (entries_in n tree entries v) (ap not (ne_eqb v tree.root ne))))
               )
         ]
 

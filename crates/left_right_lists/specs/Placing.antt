@@ -1,5 +1,5 @@
 -- A vertex placed where all vertices of a later number are, and lists of a graph from the entries of all.
-use Rattle.std.specs.Prelude.{ℕ, ◌-◌, ◌<◌, ◌≡◌, Bool, true, false, cond, eqb, List, [], ◌∷◌, ◌++◌, length, slice_index, slice_index_or, filter}
+use Rattle.std.specs.Prelude.{ℕ, ◌-◌, ◌<◌, ◌≡◌, Bool, true, false, cond, not, eqb, List, [], ◌∷◌, ◌++◌, length, slice_index, slice_index_or, filter}
 use Rattle.map_lists.specs.Lists.{Lists}
 use Rattle.map_theory.specs.Maps.{Dart}
 use Rattle.graph6_text.specs.Graphs.{EdgeGraph, has_edge}
@@ -57,7 +57,7 @@ entries_in n tree entries v = slice_index_or entries (n - 1 - slice_index tree.n
 
 abbrev pub row_at : ℕ → Tree → List (List ℕ) → ℕ → List ℕ
 row_at n tree entries v =
-    entries_in n tree entries v ++ cond (eqb v tree.root) [] (slice_index tree.parents.items v ∷ [])
+    cond (not (eqb v tree.root)) (entries_in n tree entries v ++ slice_index tree.parents.items v ∷ []) (entries_in n tree entries v)
 
 -- lists of the entries that are edges of the graph
 abbrev pub AreRows : EdgeGraph → Tree → List (List ℕ) → Lists → Type 0

@@ -21,19 +21,6 @@ fn depth_from(parents: &[u16], depths: &[u16], v: u16) -> u16
     }
 }
 
-// Fills the depths of a search's vertices, in its order.
-fn fill_depths(lists: &Rotations, forest: &Forest, depths: &mut [u16])
-    requires forest { IsForestOf lists.now forest.now.order.items forest.now.number.items forest.now.last.items forest.now.parent.items }
-    requires long { length depths.old ≡ length lists.now }
-    requires flat { (v : ℕ) → slice_index depths.old v ≡ 0 }
-    ensures { AreDepths forest.now.order.items forest.now.parent.items depths.new (length lists.now) }
-{
-    for k in 0..lists.len() {
-        let v = forest.order[k];
-        depths[usize::from(v)] = depth_from(&forest.parent, depths, v);
-    }
-}
-
 /// Returns the depths of a search's vertices. It fails only when out of memory.
 pub(crate) fn depths_of(
     alloc: Global,
@@ -44,6 +31,10 @@ pub(crate) fn depths_of(
     ensures { IfOk result (λ depths. AreDepths forest.now.order.items forest.now.parent.items depths.items (length lists.now)) }
 {
     let mut depths = vec![in alloc; 0u16; lists.len()]?;
-    fill_depths(lists, forest, &mut depths);
+    for k in 0..lists.len() {
+        let v = forest.order[k];
+        let depth = depth_from(&forest.parent, &depths, v);
+        depths[usize::from(v)] = depth;
+    }
     Ok(depths)
 }

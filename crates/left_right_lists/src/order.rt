@@ -53,21 +53,6 @@ impl<'a> Choice<'a> {
         true
     }
 
-    // Says whether vertex `u` is `f` or may stand before it, or `f` is not left.
-    fn may_follow(&self, free: &[bool], u: u16, f: u16) -> bool
-        requires one { u < self.now.n }
-        requires other { f < self.now.n }
-        ensures { IsTrue result ↔ (IsFree free.now f → u ≢ f → Before self.now.depths.now self.now.sides.now self.now.returns.now u f) }
-    {
-        if u == f || !is_free(free, f) {
-            return true;
-        }
-        self.may_all_precede(
-            self.returns.list(usize::from(u)),
-            self.returns.list(usize::from(f)),
-        )
-    }
-
     // Says whether a vertex is left, and may stand before all others that are.
     fn is_first(&self, free: &[bool], u: u16) -> bool
         requires free { length free.now ≡ self.now.n }
@@ -77,8 +62,12 @@ impl<'a> Choice<'a> {
         if !is_free(free, u) {
             return false;
         }
+        let ds = self.returns.list(usize::from(u));
         for f in 0..self.n {
-            if !self.may_follow(free, u, f) {
+            if f == u || !is_free(free, f) {
+                continue;
+            }
+            if !self.may_all_precede(ds, self.returns.list(usize::from(f))) {
                 return false;
             }
         }

@@ -1,9 +1,9 @@
 //! Edges of a graph and of its tree, and which of them return at a vertex.
 ghost use Rattle.std.specs.Prelude.{◌≡◌, ◌<◌, ◌-◌, ◌↔◌, ◌++◌, ◌∷◌, [], cond, slice_index, true, IsTrue, IfOk};
-ghost use Rattle.left_right_laws.specs.Forests.{IsAbove, IsBranch};
+ghost use Rattle.left_right_laws.specs.Forests.{IsAbove};
 ghost use Rattle.left_right_maps.specs.RootedMaps.{is_child as is_child_in};
 ghost use Rattle.left_right_lists.specs.Trees.{joined as joined_in};
-ghost use Rattle.left_right_lists.specs.Groups.{IsRising, AreRising, Returns};
+ghost use Rattle.left_right_lists.specs.Groups.{IsRising, Returns};
 ghost use Rattle.left_right_lists.specs.Upward.{IsUpward};
 
 use crate::tree::{Tree, tree_of};
@@ -68,21 +68,8 @@ impl<'a> RootedGraph<'a> {
         after_steps(&self.tree.parents, v, low - high) == u
     }
 
-    // Says whether the way from vertex `v` down to an edge's lower end, and then along the edge, begins with the edge to
-    // `next`.
-    fn begins_with(&self, v: u16, next: u16, d: (u16, u16)) -> bool
-        ensures { IsTrue result ↔ IsBranch (slice_index self.now.tree.now.parents.items) (slice_index self.now.tree.now.depths.items) v next d.0 d.1 }
-    {
-        if d.0 == v {
-            return next == d.1;
-        }
-        let steps = entry(&self.tree.depths, d.0)
-            .saturating_sub(entry(&self.tree.depths, v))
-            .saturating_sub(1);
-        next == after_steps(&self.tree.parents, d.0, steps)
-    }
-
-    /// Says whether an edge of the graph or of its tree returns from vertex `v` by the vertex's edge to `next`.
+    /// Says whether an edge of the graph or of its tree returns from vertex `v` by the vertex's edge to `next`: it ends above
+    /// `v`, and the way from `v` down to its lower end, and then along it, begins with that edge.
     pub(crate) fn is_return(&self, v: u16, next: u16, d: (u16, u16)) -> bool
         requires { joined_in self.now.graph.now self.now.tree.now.parents.items self.now.tree.now.depths.items d.0 d.1 ≡ true }
         ensures { IsTrue result ↔ Returns self.now.graph.now self.now.tree.now.parents.items self.now.tree.now.depths.items v next d }
@@ -96,7 +83,13 @@ impl<'a> RootedGraph<'a> {
         if !self.is_above(d.1, v) || !self.is_above(v, d.0) {
             return false;
         }
-        self.begins_with(v, next, d)
+        if d.0 == v {
+            return next == d.1;
+        }
+        let steps = entry(&self.tree.depths, d.0)
+            .saturating_sub(entry(&self.tree.depths, v))
+            .saturating_sub(1);
+        next == after_steps(&self.tree.parents, d.0, steps)
     }
 
     // Says whether a pair of vertices is an edge that leads upwards.
@@ -104,20 +97,6 @@ impl<'a> RootedGraph<'a> {
         ensures { IsTrue result ↔ IsRising self.now.graph.now self.now.tree.now.parents.items self.now.tree.now.depths.items d }
     {
         entry(&self.tree.depths, d.1) < entry(&self.tree.depths, d.0) && self.are_joined(d.0, d.1)
-    }
-
-    // Returns the edges of the graph and its tree that lead upwards.
-    fn rising_darts(&self, alloc: Global) -> Result<Vec<(u16, u16)>, AllocError>
-        ensures { IfOk result (λ darts. AreRising self.now.graph.now self.now.tree.now.parents.items self.now.tree.now.depths.items self.now.graph.now.n darts.items) }
-    {
-        let mut darts = Vec::new(alloc);
-        for v in 0..self.graph.n() {
-            for u in 0..self.graph.n() {
-                let rises = self.is_rising((v, u));
-                push_if(&mut darts, rises, (v, u))?;
-            }
-        }
-        Ok(darts)
     }
 }
 
@@ -137,6 +116,12 @@ pub(crate) fn upward_of(alloc: Global, graph: &Graph) -> Result<Upward, AllocErr
 {
     let tree = tree_of(alloc, graph)?;
     let rooted = RootedGraph { graph, tree: &tree };
-    let darts = rooted.rising_darts(alloc)?;
+    let mut darts = Vec::new(alloc);
+    for v in 0..graph.n() {
+        for u in 0..graph.n() {
+            let rises = rooted.is_rising((v, u));
+            push_if(&mut darts, rises, (v, u))?;
+        }
+    }
     Ok(Upward { tree, darts })
 }
