@@ -56,6 +56,11 @@ part_vertices ws first last n l m all i k =
     let at = get_or-slice_range ws (first + 1) last i (omega arith) in
     omega (arith, at, all (first + 1 + i) (omega arith))
 
+pub part_starts : (ws : List ℕ) (first last n : ℕ) → first < last → last < length ws → ((i : ℕ) → i < length ws → slice_index ws i < n) → (i : ℕ) → suc i < length (slice_range ws first (last + 1)) → slice_index (slice_range ws first (last + 1)) i < n
+part_starts ws first last n l m all i k =
+    let long = length-slice_range ws first (last + 1) (omega arith) (omega arith) in
+    omega (arith, get_or-slice_range ws first (last + 1) i (omega arith), all (first + i) (omega arith))
+
 -- the part has numbers below the count too
 pub part_below : (ws inner : List ℕ) (first last count : ℕ) → first < last → last < length ws → ((i : ℕ) → suc i < length ws → number_at inner ws i < count) → (i : ℕ) → suc i < length (slice_range ws first (last + 1)) → number_at inner (slice_range ws first (last + 1)) i < count
 part_below ws inner first last count l m all i k =

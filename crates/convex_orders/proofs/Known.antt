@@ -1,10 +1,11 @@
--- What holds of the tables, out of the fact that is kept with them: its parts are decided.
-use Rattle.std.proofs.Common.{ℕ}
+-- What holds of the tables and of a contour, out of the facts that are kept with them: their parts are decided.
+use Rattle.std.proofs.Common.{ℕ, List}
 use Rattle.std.proofs.Math.Logic.{∥∥₁_elim, ∥∥₁_map}
 use Rattle.std.proofs.Props.{props}
 use Rattle.map_lists.specs.Lists.{Lists}
 use Rattle.map_theory.specs.Maps.{list_of, HasDart, IsSimpleMap}
 use Rattle.map_theory.proofs.DartLemmas.{place_of-lt-length, Contains-from_place_of}
+use Rattle.convex_orders.specs.Contours.{AreInner}
 use Rattle.convex_orders.specs.Shown.{IsBased}
 use Rattle.convex_orders.specs.declared.tables.Tables.{Tables}
 
@@ -13,6 +14,14 @@ HasDart-known lists v u h = (
   ∥∥₁_elim h (search props) (λ d. d.0),
   Contains-from_place_of u (list_of lists v) (∥∥₁_elim h (search props) (λ d. place_of-lt-length u (list_of lists v) d.1)),
 )
+
+pub AreInner-known : (lists own : Lists) (ws table : List ℕ) → ∥ AreInner lists own ws table ∥₁ → AreInner lists own ws table
+AreInner-known lists own ws table h = record {
+  long = ∥∥₁_elim h (search props) (λ a. a.long);
+  vertices = λ i l. ∥∥₁_elim h (search props) (λ a. a.vertices i l);
+  edges = λ i l. HasDart-known lists _ _ (∥∥₁_map h (λ a. a.edges i l));
+  numbers = λ i l. ∥∥₁_elim h (search props) (λ a. a.numbers i l);
+}
 
 module _ (t : Tables) where
   simple : IsSimpleMap t.lists

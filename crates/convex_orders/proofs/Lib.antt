@@ -8,7 +8,6 @@ pub mod Sums
 pub mod Moves
 pub mod CountLemmas
 -- What the orders rest on.
-mod Filled
 pub mod Flags
 pub mod Rows
 pub mod Once
@@ -19,7 +18,6 @@ pub mod GoneRuns
 pub mod Stretches
 pub mod Taken
 pub mod TakenAt
-pub mod SeekLemmas
 pub mod CutLemmas
 pub mod RowLemmas
 pub mod Outs

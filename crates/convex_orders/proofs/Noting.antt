@@ -1,14 +1,11 @@
 -- One vertex of the contour more that is noted.
-use Rattle.std.proofs.Common.{◌≡◌, ◌≢◌, ℕ, suc, ◌<◌, ◌≤◌, List, length, slice_index, set, length-set, refl, sym, ap, ◌∙◌, inl, inr, arith}
+use Rattle.std.proofs.Common.{◌≡◌, ◌≢◌, ℕ, suc, ◌<◌, ◌≤◌, List, length, slice_index, set, length-set, sym, ap, ◌∙◌, inl, inr, arith}
 use Rattle.std.proofs.lemmas.Bool.{cases_eq}
 use Rattle.std.proofs.lemmas.List.{get_or-set_same, get_or-set_other}
 use Rattle.map_lists.specs.Lists.{Lists}
 use Rattle.convex_orders.specs.declared.rims.Rims.{Rims}
 use Rattle.convex_orders.specs.FaceNumbers.{entry}
 use Rattle.convex_orders.specs.Noted.{AreRims, IsSeen, IsNoted, AreNoted}
-
-IsNoted-none : (number w : ℕ → ℕ) (a : ℕ) (old : List ℕ) → IsNoted number w a a old old
-IsNoted-none number w a old = record { long = refl; here = λ i l m. absurd (omega arith); elsewhere = λ v apart. refl }
 
 IsNoted-more : (number w : ℕ → ℕ) (a p x y : ℕ) (old mid new : List ℕ) → a ≤ p → ((i : ℕ) → a ≤ i → i < p → w i ≢ x) → w p ≡ x → y ≡ number p → x < length mid → new ≡ set mid x y → IsNoted number w a p old mid → IsNoted number w a (suc p) old new
 IsNoted-more number w a p x y old mid new order apart at is within e h = record {
@@ -22,9 +19,6 @@ IsNoted-more number w a p x y old mid new order apart at is within e h = record 
 }
 
 module _ (lists own : Lists) (w : ℕ → ℕ) (a : ℕ) where
-  pub AreNoted-none : (old : Rims) → AreNoted lists own w a a old old
-  AreNoted-none old = record { inner = IsNoted-none (λ i. entry lists own (w (suc i)) (w i)) w a old.inner.items; outer = IsNoted-none (λ i. entry lists own (w i) (w (suc i))) w a old.outer.items }
-
   pub AreNoted-more : (p x y n : ℕ) (old mid new : Rims) → a ≤ p → ((i : ℕ) → a ≤ i → i < p → w i ≢ x) → w p ≡ x → w (suc p) ≡ y → x < n → AreRims mid n → IsSeen lists own x y mid new → AreNoted lists own w a p old mid → AreNoted lists own w a (suc p) old new
   AreNoted-more p x y n old mid new order apart at to within size seen h = record {
     inner = IsNoted-more (λ i. entry lists own (w (suc i)) (w i)) w a p x (entry lists own y x) old.inner.items mid.inner.items new.inner.items order apart at (ap (λ v. entry lists own v x) (sym to) ∙ ap (entry lists own (w (suc p))) (sym at)) (omega (arith, within, size.inner)) seen.inner h.inner;

@@ -27,16 +27,6 @@ inner_number lists own ws i = entry lists own (slice_index ws (suc i)) (slice_in
 abbrev pub number_at : List ℕ → List ℕ → ℕ → ℕ
 number_at table ws i = slice_index table (slice_index ws i)
 
--- the table has a number below `count` for each edge along the list, at its first vertex
-pub record HaveNumbers (ws table : List ℕ) (count : ℕ) : Type 0 where
-  pub within : AreWithin ws (length table)
-  pub below : (i : ℕ) → suc i < length ws → number_at table ws i < count
-
--- so it has along a contour with a vertex before its place
-pub record HaveNumbersAt (contour : Contour) (table : List ℕ) (count : ℕ) : Type 0 where
-  pub some : 0 < length contour.left.items
-  pub numbers : HaveNumbers (vertices_of contour) table count
-
 -- the number of an edge is that of the dart back: the face inside
 pub record AreInner (lists own : Lists) (ws table : List ℕ) : Type 0 where
   pub long : length table ≡ length lists

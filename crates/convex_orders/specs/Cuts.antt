@@ -17,13 +17,6 @@ pub record AreCutPlaces (number : ℕ → ℕ) (first last : ℕ) (faces : ℕ) 
   pub same : (i p : ℕ) → i < faces → cut i ≤ p → suc p < cut (suc i) → number p ≡ number (suc p)
   pub changes : (i p : ℕ) → suc i < faces → suc p ≡ cut (suc i) → number p ≢ number (suc p)
 
--- `first` and `last` are places of a list, and the table has a number for each edge before the last; places fit into two bytes
-pub record HasNumbersTo (table ws : List ℕ) (first last : ℕ) : Type 0 where
-  pub order : first < last
-  pub within : last < length ws
-  pub few : length ws < 65536
-  pub vertices : (p : ℕ) → p < last → slice_index ws p < length table
-
 -- a row of the cuts, as places behind the first
 pub record IsCutRow (row : List ℕ) (first faces : ℕ) (cut : ℕ → ℕ) : Type 0 where
   pub long : length row ≡ suc faces

@@ -1,5 +1,5 @@
 -- Counts as parts of a contour come and go.
-use Rattle.std.specs.Prelude.{ℕ, ◌<◌, ◌≡◌, Bool, List, length, slice_index}
+use Rattle.std.specs.Prelude.{ℕ, ◌<◌, ◌≡◌, List, length, slice_index}
 use Rattle.map_lists.specs.Lists.{Lists}
 use Rattle.convex_orders.specs.declared.counts.Counts.{Counts}
 use Rattle.convex_orders.specs.declared.way.Way.{Way}
@@ -10,11 +10,6 @@ use Rattle.convex_orders.specs.Ways.{CanMove, IsMoved}
 pub record HaveSize (counts : Counts) (count : ℕ) : Type 0 where
   pub places : length counts.places.items ≡ count
   pub edges : length counts.edges.items ≡ count
-
--- a mark and two counts for each
-pub record AreLong (count : ℕ) (marks : List Bool) (counts : Counts) : Type 0 where
-  pub marked : length marks ≡ count
-  pub counted : HaveSize counts count
 
 -- nothing is counted
 pub record AreNone (counts : Counts) : Type 0 where

@@ -1,14 +1,11 @@
 -- What the removals read of a map, and how far they have come by it.
-use Rattle.std.specs.Prelude.{ℕ, suc, ◌<◌, ◌≡◌, Bool, true, List, [], length}
+use Rattle.std.specs.Prelude.{ℕ, ◌<◌, ◌≡◌, Bool, true, List, [], length}
 use Rattle.convex_laws.specs.Removed.{HasRows}
 use Rattle.convex_orders.specs.declared.tables.Tables.{Tables}
 use Rattle.convex_orders.specs.declared.rounds.RowTables.{RowTables}
-use Rattle.convex_orders.specs.declared.contour.Contour.{Contour}
-use Rattle.convex_orders.specs.declared.counts.Counts.{Counts}
-use Rattle.convex_orders.specs.declared.rims.Rims.{Rims}
-use Rattle.convex_orders.specs.Contours.{vertices_of, AreWithin, AreInner}
+use Rattle.convex_orders.specs.Contours.{vertices_of, AreInner}
 use Rattle.convex_orders.specs.Counts.{AreCounts}
-use Rattle.convex_orders.specs.Moved.{HaveSize, AreLong, AreNone}
+use Rattle.convex_orders.specs.Moved.{HaveSize, AreNone}
 use Rattle.convex_orders.specs.Noted.{AreRims}
 use Rattle.convex_orders.specs.Shown.{is_set}
 use Rattle.convex_orders.specs.Splits.{IsRemovablePlace}
@@ -21,28 +18,6 @@ pub record CanGo (tables : Tables) (marks : List Bool) (ws : List ℕ) (j : ℕ)
   pub counts : AreCounts tables.lists tables.faces.own tables.faces.count ws places edges
   pub marks_long : length marks ≡ tables.faces.count
   pub place : IsRemovablePlace tables.faces.own tables.faces.other marks places edges ws j
-
--- each number of a face has a mark, and each vertex room for what is noted there
-pub record CanNote (tables : Tables) (marks : List Bool) (rims : Rims) : Type 0 where
-  pub marks_long : length marks ≡ tables.faces.count
-  pub size : AreRims rims (length tables.lists)
-
--- there are two counts for each number of a face, and the table has the numbers inside of the edges along the list
-pub record CanCount (tables : Tables) (counts : Counts) (ws table : List ℕ) : Type 0 where
-  pub size : HaveSize counts tables.faces.count
-  pub inner : AreInner tables.lists tables.faces.own ws table
-
--- some vertex of the list may go, by marks and counts
-pub record CanFind (tables : Tables) (marks : List Bool) (counts : Counts) (ws : List ℕ) : Type 0 where
-  pub long : AreLong tables.faces.count marks counts
-  pub vertices : AreWithin ws (length tables.lists)
-  pub removable : (j : ℕ) × IsRemovablePlace tables.faces.own tables.faces.other marks counts.places.items counts.edges.items ws j
-
--- the vertex before the place of a contour may go, and the table has the numbers inside of its edges
-pub record CanTake (tables : Tables) (marks : List Bool) (contour : Contour) (table : List ℕ) : Type 0 where
-  pub some : 0 < length contour.left.items
-  pub inner : AreInner tables.lists tables.faces.own (vertices_of contour) table
-  pub place : (j : ℕ) → suc j ≡ length contour.left.items → CanGo tables marks (vertices_of contour) j
 
 -- Before the first removal: no vertex, no row, nothing counted, and each face with a mark.
 pub record IsBlank (tables : Tables) (state : RowTables) : Type 0 where

@@ -1,17 +1,17 @@
 //! How often a contour meets each number of a face, as parts of it come and go.
-ghost use Rattle.std.specs.Prelude.{◌≡◌, ◌-◌, ◌<◌, ◌==◌, ℕ, suc, length, slice_index, count_by, All};
+ghost use Rattle.std.specs.Prelude.{◌-◌, ◌<◌, ◌==◌, ℕ, suc, length, slice_index, count_by, All, IfOk};
 ghost use Rattle.map_theory.specs.Maps.{list_of};
-ghost use Rattle.convex_orders.specs.Contours.{number_at};
+ghost use Rattle.convex_orders.specs.Contours.{number_at, AreInner};
 ghost use Rattle.convex_orders.specs.Counts.{met_below, numbered_below, AreCounts};
-ghost use Rattle.convex_orders.specs.Moved.{AreNone, CanMoveAll, AreMoved};
-ghost use Rattle.convex_orders.specs.Tables.{CanCount};
+ghost use Rattle.convex_orders.specs.Moved.{HaveSize, AreNone, CanMoveAll, AreMoved};
 ghost use Rattle.convex_orders.specs.Ways.{CanMove, IsMoved};
 
-use crate::contour::part;
+use crate::stretch::Stretch;
 use crate::tables::Tables;
+use crate::vectors::{part, refill};
 use crate::way::Way;
 use map_lists::ItemLists;
-use std::alloc::Global;
+use std::alloc::{AllocError, Global};
 
 /// For each number of a face how often the rows of the vertices of a contour have it, and how many of its edges.
 #[derive(Drop)]
@@ -67,30 +67,42 @@ impl Counts {
         }
     }
 
-    /// Counts from `first` to `last` of a list: the rows of the vertices strictly between, and all edges.
-    pub(crate) fn move_part(
-        &mut self,
-        way: Way,
-        tables: &Tables,
-        inner: &[u32],
-        ws: &[u16],
-        first: usize,
-        last: usize,
-    )
-        requires along { CanCount tables.now self.old ws.now inner.now }
-        requires order { first < last }
-        requires within { last < length ws.now }
-        requires can { CanMoveAll tables.now.lists tables.now.faces.own tables.now.faces.count way ws.now first last self.old }
-        ensures { AreMoved tables.now.lists tables.now.faces.own tables.now.faces.count way ws.now first last self.old self.new }
+    /// Makes room for `count` numbers, with nothing counted yet.
+    pub(crate) fn clear(&mut self, count: usize) -> Result<(), AllocError>
+        ensures size { IfOk result (λ _. HaveSize self.new count) }
+        ensures none { IfOk result (λ _. AreNone self.new) }
     {
-        let own = &tables.faces.own;
-        move_rows(&mut self.places, way, own, part(ws, first + 1, last));
+        refill(&mut self.places, 0, count)?;
+        refill(&mut self.edges, 0, count)?;
+        Ok(())
+    }
+
+    /// Counts a stretch of a contour: the rows of the vertices strictly between its ends, and all its edges.
+    pub(crate) fn move_part(&mut self, way: Way, stretch: &Stretch<'_>)
+        requires size { HaveSize self.old stretch.now.tables.now.faces.count }
+        requires can { CanMoveAll stretch.now.tables.now.lists stretch.now.tables.now.faces.own stretch.now.tables.now.faces.count way stretch.now.ws.now stretch.now.first stretch.now.last self.old }
+        ensures { AreMoved stretch.now.tables.now.lists stretch.now.tables.now.faces.own stretch.now.tables.now.faces.count way stretch.now.ws.now stretch.now.first stretch.now.last self.old self.new }
+    {
+        let Stretch {
+            tables,
+            inner,
+            ws,
+            first,
+            last,
+        } = *stretch;
+        move_rows(
+            &mut self.places,
+            way,
+            &tables.faces.own,
+            part(ws, first + 1, last),
+        );
         move_edges(&mut self.edges, way, inner, part(ws, first, last + 1));
     }
 
     /// Counts a whole contour, where there are no counts yet.
     pub(crate) fn count_all(&mut self, tables: &Tables, inner: &[u32], ws: &[u16])
-        requires along { CanCount tables.now self.old ws.now inner.now }
+        requires size { HaveSize self.old tables.now.faces.count }
+        requires inner { AreInner tables.now.lists tables.now.faces.own ws.now inner.now }
         requires some { 0 < length ws.now }
         requires few { length ws.now < 65536 }
         requires none { AreNone self.old }

@@ -1,12 +1,11 @@
 //! The numbers of faces, for each entry of the lists of a map: that of the face of its dart, and that of the
 //! face of the dart back. With them code goes round a vertex by slices alone.
 
-ghost use Rattle.std.specs.Prelude.{◌≡◌, ◌<◌, ◌^◌, ℕ, [], length, slice_index, slice_index_or, Some, IfOk};
+ghost use Rattle.std.specs.Prelude.{◌≡◌, ◌<◌, ℕ, length, Some, IfOk};
 ghost use Rattle.map_theory.specs.Maps.{list_of};
-ghost use Rattle.half_edges.specs.Map.{IsHalfMap, IsLive, dart_at, first_dart};
+ghost use Rattle.half_edges.specs.Map.{IsLive, dart_at, first_dart};
 ghost use Rattle.euler_faces.specs.FaceWalks.{AreFaces};
 ghost use Rattle.convex_orders.specs.FaceNumbers.{HasFacesAt, InWalk, AreOwn, AreOther, AreFaceNumbers, IsRowPut};
-ghost use Rattle.map_lists.specs.Cuts.{cut, AreCuts};
 
 use euler_faces::Faces;
 use half_edges::{DartId, HalfMap, VertexId};
@@ -24,88 +23,52 @@ pub struct FaceNumbers {
     pub count: u32,
 }
 
-// Returns the number of the face of dart `d`.
-fn number_of(map: &HalfMap, faces: &Faces, d: DartId) -> u32
-    requires faces { AreFaces map.now faces.now }
-    requires live { IsLive map.now d.0 }
-    ensures { (u v : ℕ) → dart_at map.now d.0 ≡ Some (u, v) → InWalk map.now faces.now result u v }
-{
-    map.facts();
-    faces.of_dart(d).0
+// A map with the walks round its faces.
+#[derive(Clone, Copy)]
+struct WalkedMap<'a> {
+    map: &'a HalfMap,
+    faces: &'a Faces,
 }
 
-// Appends the numbers of the edges of `v` to two rows; `first` is the dart to the first entry of its list.
-fn put_round(
-    map: &HalfMap,
-    faces: &Faces,
-    v: VertexId,
-    first: DartId,
-    own: &mut Vec<u32>,
-    other: &mut Vec<u32>,
-) -> Result<(), AllocError>
-    requires stands { HasFacesAt map.now faces.now v.0 }
-    requires first { dart_at map.now first.0 ≡ Some (first_dart map.now.lists v.0) }
-    ensures own { IfOk result (λ _. IsRowPut (AreOwn map.now faces.now v.0) (length (list_of map.now.lists v.0)) own.old.items own.new.items) }
-    ensures other { IfOk result (λ _. IsRowPut (AreOther map.now faces.now v.0) (length (list_of map.now.lists v.0)) other.old.items other.new.items) }
-{
-    map.facts();
-    let degree = usize::from(map.degree(v));
-    own.reserve(degree)?;
-    other.reserve(degree)?;
-    let mut d = first;
-    for _ in 0..degree {
-        let twin = map.twin(d);
-        own.push_reserved(number_of(map, faces, d));
-        other.push_reserved(number_of(map, faces, twin));
-        d = map.next(d);
+impl WalkedMap<'_> {
+    // Returns the number of the face of dart `d`.
+    fn number_of(&self, d: DartId) -> u32
+        requires faces { AreFaces self.now.map.now self.now.faces.now }
+        requires live { IsLive self.now.map.now d.0 }
+        ensures { (u v : ℕ) → dart_at self.now.map.now d.0 ≡ Some (u, v) → InWalk self.now.map.now self.now.faces.now result u v }
+    {
+        self.map.facts();
+        self.faces.of_dart(d).0
     }
-    Ok(())
-}
 
-// Appends the numbers of the edges of `v` to two rows.
-fn put_vertex(
-    map: &HalfMap,
-    faces: &Faces,
-    v: VertexId,
-    own: &mut Vec<u32>,
-    other: &mut Vec<u32>,
-) -> Result<(), AllocError>
-    requires { HasFacesAt map.now faces.now v.0 }
-    ensures own { IfOk result (λ _. IsRowPut (AreOwn map.now faces.now v.0) (length (list_of map.now.lists v.0)) own.old.items own.new.items) }
-    ensures other { IfOk result (λ _. IsRowPut (AreOther map.now faces.now v.0) (length (list_of map.now.lists v.0)) other.old.items other.new.items) }
-{
-    map.facts();
-    match map.first_dart(v) {
-        Some(first) => put_round(map, faces, v, first, own, other),
-        None => Ok(()),
+    // Appends the numbers of the edges of `v` to two rows.
+    fn put_vertex(
+        &self,
+        v: VertexId,
+        own: &mut Vec<u32>,
+        other: &mut Vec<u32>,
+    ) -> Result<(), AllocError>
+        requires { HasFacesAt self.now.map.now self.now.faces.now v.0 }
+        ensures own { IfOk result (λ _. IsRowPut (AreOwn self.now.map.now self.now.faces.now v.0) (length (list_of self.now.map.now.lists v.0)) own.old.items own.new.items) }
+        ensures other { IfOk result (λ _. IsRowPut (AreOther self.now.map.now self.now.faces.now v.0) (length (list_of self.now.map.now.lists v.0)) other.old.items other.new.items) }
+    {
+        let walked = *self;
+        walked.map.facts();
+        let Some(first) = walked.map.first_dart(v) else {
+            return Ok(());
+        };
+        let degree = usize::from(walked.map.degree(v));
+        own.reserve(degree)?;
+        other.reserve(degree)?;
+        let mut d = first;
+        for _ in 0..degree {
+            let twin = walked.map.twin(d);
+            own.push_reserved(walked.number_of(d));
+            other.push_reserved(walked.number_of(twin));
+            d = walked.map.next(d);
+        }
+        Ok(())
     }
-}
-
-// Appends the numbers of all vertices to two rows, and where each vertex ends in them.
-fn put_rows(
-    map: &HalfMap,
-    faces: &Faces,
-    own: &mut Vec<u32>,
-    own_ends: &mut Vec<usize>,
-    other: &mut Vec<u32>,
-    other_ends: &mut Vec<usize>,
-) -> Result<(), AllocError>
-    requires faces { AreFaces map.now faces.now }
-    requires own_empty { own.old.items ≡ [] }
-    requires own_none { own_ends.old.items ≡ [] }
-    requires other_empty { other.old.items ≡ [] }
-    requires other_none { other_ends.old.items ≡ [] }
-    ensures own { IfOk result (λ _. AreCuts 0 own_ends.new.items (length own.new.items)) }
-    ensures other { IfOk result (λ _. AreCuts 0 other_ends.new.items (length other.new.items)) }
-    ensures numbers { IfOk result (λ _. AreFaceNumbers map.now.lists (cut 0 own_ends.new.items own.new.items) (cut 0 other_ends.new.items other.new.items) (length faces.now)) }
-{
-    map.facts();
-    for v in 0..map.n() {
-        put_vertex(map, faces, VertexId(v), own, other)?;
-        own_ends.push(own.len())?;
-        other_ends.push(other.len())?;
-    }
-    Ok(())
 }
 
 /// Returns the numbers of the faces of a map, by its `faces`. It fails only when out of memory. The time is linear in the
@@ -124,14 +87,12 @@ pub fn numbers_of_faces(
     let mut own_ends = Vec::with_capacity(alloc, map.n() as usize)?;
     let mut other = Vec::with_capacity(alloc, items)?;
     let mut other_ends = Vec::with_capacity(alloc, map.n() as usize)?;
-    put_rows(
-        map,
-        faces,
-        &mut own,
-        &mut own_ends,
-        &mut other,
-        &mut other_ends,
-    )?;
+    let walked = WalkedMap { map, faces };
+    for v in 0..map.n() {
+        walked.put_vertex(VertexId(v), &mut own, &mut other)?;
+        own_ends.push(own.len())?;
+        other_ends.push(other.len())?;
+    }
     let count = faces.count();
     Ok(FaceNumbers {
         own: ItemLists::from_parts(own, own_ends),

@@ -8,12 +8,16 @@
 mod choice;
 mod contour;
 mod counts;
+mod cuts;
+mod edges;
 pub mod face_numbers;
+mod marked;
 mod orders;
-mod placed;
 mod rims;
 mod rounds;
+mod stretch;
 mod tables;
+mod vectors;
 mod way;
 
 pub use orders::{rows_again, rows_by_faces, tables_of};

@@ -1,12 +1,11 @@
 //! The rows of a run of a map.
-ghost use Rattle.std.specs.Prelude.{◌≡◌, ◌<◌, ℕ, true, [], length, replicate, Some, IfOk};
+ghost use Rattle.std.specs.Prelude.{◌≡◌, ◌<◌, ℕ, Some, IfOk};
 ghost use Rattle.map_theory.specs.Maps.{IsPlane, HasDart};
 ghost use Rattle.convex_peeling.specs.Polyhedral.{IsThreeConnected};
 ghost use Rattle.euler_faces.specs.FaceWalks.{AreFaces};
 ghost use Rattle.half_edges.specs.Map.{IsLive, dart_at};
 ghost use Rattle.convex_laws.specs.Removed.{AreRowsOfRun};
 ghost use Rattle.convex_orders.specs.FaceNumbers.{AreFaceNumbers};
-ghost use Rattle.convex_orders.specs.Tables.{IsBlank};
 
 use crate::counts::Counts;
 use crate::face_numbers::{FaceNumbers, numbers_of_faces};
@@ -59,90 +58,6 @@ pub fn tables_of(
     })
 }
 
-// Returns no rows, in the memory of others.
-fn no_rows(spent: ConvexRows) -> ConvexRows
-    ensures rows { result.rows ≡ [] }
-    ensures cuts { result.cuts ≡ [] }
-    ensures news { result.news ≡ [] }
-{
-    let mut rows = spent.rows;
-    let mut cuts = spent.cuts;
-    let mut news = spent.news;
-    rows.clear();
-    cuts.clear();
-    news.clear();
-    ConvexRows { rows, cuts, news }
-}
-
-// Returns `count` zeros, in the memory of other numbers.
-fn zeros(spent: Vec<u16>, count: usize) -> Result<Vec<u16>, AllocError>
-    ensures { IfOk result (λ made. made.items ≡ replicate count 0) }
-{
-    let mut made = spent;
-    made.clear();
-    made.resize(count, 0)?;
-    Ok(made)
-}
-
-// Returns `count` zeros for numbers of faces, in the memory of others.
-fn wide_zeros(spent: Vec<u32>, count: usize) -> Result<Vec<u32>, AllocError>
-    ensures { IfOk result (λ made. made.items ≡ replicate count 0) }
-{
-    let mut made = spent;
-    made.clear();
-    made.resize(count, 0)?;
-    Ok(made)
-}
-
-// Returns `count` marks that are set, in the memory of others.
-fn all_set(spent: Vec<bool>, count: usize) -> Result<Vec<bool>, AllocError>
-    ensures { IfOk result (λ made. made.items ≡ replicate count true) }
-{
-    let mut made = spent;
-    made.clear();
-    made.resize(count, true)?;
-    Ok(made)
-}
-
-// Returns tables before the first removal of a run, in the memory of others.
-fn blank(spent: RowTables, tables: &Tables) -> Result<RowTables, AllocError>
-    ensures { IfOk result (λ made. IsBlank tables.now made) }
-{
-    let n = tables.lists.len();
-    let count = tables.faces.count as usize;
-    let RowTables {
-        rows,
-        marks,
-        contour,
-        rims,
-        counts,
-        cuts,
-    } = spent;
-    let Rims {
-        hints,
-        inner,
-        outer,
-    } = rims;
-    let Counts { places, edges } = counts;
-    let mut contour = contour;
-    contour.clear();
-    Ok(RowTables {
-        rows: no_rows(rows),
-        marks: all_set(marks, count)?,
-        contour,
-        rims: Rims {
-            hints: zeros(hints, n)?,
-            inner: wide_zeros(inner, n)?,
-            outer: wide_zeros(outer, n)?,
-        },
-        counts: Counts {
-            places: zeros(places, count)?,
-            edges: zeros(edges, count)?,
-        },
-        cuts,
-    })
-}
-
 /// Returns the rows of a run of a three-connected map of genus zero by its tables, in the memory of other rows. It fails
 /// only when out of memory.
 ///
@@ -151,7 +66,8 @@ fn blank(spent: RowTables, tables: &Tables) -> Result<RowTables, AllocError>
 pub fn rows_again(spent: RowTables, tables: &Tables) -> Result<RowTables, AllocError>
     ensures { IfOk result (λ made. AreRowsOfRun tables.now.lists tables.now.tail tables.now.head made.rows) }
 {
-    let mut made = blank(spent, tables)?;
+    let mut made = spent;
+    made.clear(tables)?;
     made.put_all(tables)?;
     Ok(made)
 }

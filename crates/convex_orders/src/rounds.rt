@@ -1,26 +1,29 @@
 //! One removal after another.
-ghost use Rattle.std.specs.Prelude.{◌≡◌, ◌≢◌, ◌+◌, ◌-◌, ◌<◌, ◌≤◌, ◌⊎◌, ◌↔◌, ℕ, suc, Bool, true, false, List, [], ◌∷◌, ◌++◌, length, replicate, slice_index, Contains, IsTrue, IfOk};
-ghost use Rattle.map_theory.specs.Maps.{list_of, dart_count};
+ghost use Rattle.std.specs.Prelude.{◌≡◌, ◌+◌, ◌-◌, ◌<◌, ℕ, suc, Bool, true, false, [], ◌∷◌, ◌++◌, length, IsTrue, IfOk};
+ghost use Rattle.map_theory.specs.Maps.{dart_count};
 ghost use Rattle.convex_peeling.specs.Contours.{IsFirst};
 ghost use Rattle.convex_peeling.specs.Removals.{Removal};
-ghost use Rattle.convex_laws.specs.Removed.{IsRowMore, HasRows, AreRowsOfRun};
+ghost use Rattle.convex_laws.specs.Removed.{IsRowMore, AreRowsOfRun};
 ghost use Rattle.convex_orders.specs.FaceNumbers.{entry};
 ghost use Rattle.convex_orders.specs.Contours.{vertices_of, number_at, AreInner};
-ghost use Rattle.convex_orders.specs.Counts.{AreCounts};
-ghost use Rattle.convex_orders.specs.Cuts.{edge_number, AreCutPlaces, IsPutIn, IsTakenOut};
+ghost use Rattle.convex_orders.specs.Cuts.{AreCutPlaces, IsPutIn, IsTakenOut};
 ghost use Rattle.convex_orders.specs.Moved.{HaveSize, CanMoveAll, AreMoved};
 ghost use Rattle.convex_orders.specs.Noted.{AreRims};
-ghost use Rattle.convex_orders.specs.Shown.{is_set, IsListOf, IsShown, IsOffAt, SomeOff};
-ghost use Rattle.convex_orders.specs.Standing.{HasOther, AllInner, IsLastRow};
+ghost use Rattle.convex_orders.specs.Shown.{IsListOf, IsShown, IsOffAt, SomeOff};
+ghost use Rattle.convex_orders.specs.Standing.{HasOther, AllInner};
 ghost use Rattle.convex_orders.specs.Tables.{IsBlank, IsKept, StandsBy};
 ghost use Rattle.convex_orders.specs.declared.way.Way.TheVariants.{Comes, Goes};
 
-use crate::choice::{clear_row, find, take_run};
-use crate::contour::{Contour, part};
+use crate::choice::Choice;
+use crate::contour::Contour;
 use crate::counts::Counts;
-use crate::placed::{push_lists, push_news, put_row};
+use crate::cuts::put_cuts;
+use crate::edges::{Edges, clear_row};
+use crate::marked::Marked;
 use crate::rims::Rims;
+use crate::stretch::Stretch;
 use crate::tables::Tables;
+use crate::vectors::{part, refill};
 use crate::way::Way;
 use convex_laws::convex_rows::ConvexRows;
 use map_lists::ItemLists;
@@ -41,15 +44,13 @@ pub struct RowTables {
     pub(crate) cuts: Vec<u16>,
 }
 
-// Takes the marks away of the faces at the last vertex of the list but one.
-fn clear_before_base(marks: &mut [bool], own: &ItemLists<u32>, ws: &[u16])
-    requires long { 2 ≤ length ws.now }
-    requires vertices { (i : ℕ) → i < length ws.now → slice_index ws.now i < length own.now }
-    requires below { (v : ℕ) → v < length own.now → (k : ℕ) → k < length (list_of own.now v) → slice_index (list_of own.now v) k < length marks.old }
-    ensures long { length marks.new ≡ length marks.old }
-    ensures set { (f : ℕ) → (is_set marks.new f ≡ true) ↔ ((is_set marks.old f ≡ true) × (¬ Contains (list_of own.now (slice_index ws.now (length ws.now - 2))) f)) }
+// Appends a row with its cuts.
+fn push_row(rows: &mut ConvexRows, row: &[u16], cuts: &[u16]) -> Result<(), AllocError>
+    ensures { IfOk result (λ _. (rows.new.rows ≡ rows.old.rows ++ row.now ∷ []) × (rows.new.cuts ≡ rows.old.cuts ++ cuts.now ∷ []) × (rows.new.news ≡ rows.old.news)) }
 {
-    clear_row(marks, own.list(ws[ws.len() - 2] as usize));
+    rows.rows.push(row)?;
+    rows.cuts.push(cuts)?;
+    Ok(())
 }
 
 impl RowTables {
@@ -69,6 +70,21 @@ impl RowTables {
         }
     }
 
+    /// Leaves no row, and each face of the map with a mark, with nothing noted and nothing counted.
+    pub(crate) fn clear(&mut self, tables: &Tables) -> Result<(), AllocError>
+        ensures { IfOk result (λ _. IsBlank tables.now self.new) }
+    {
+        let count = tables.faces.count as usize;
+        self.rows.rows.clear();
+        self.rows.cuts.clear();
+        self.rows.news.clear();
+        refill(&mut self.marks, true, count)?;
+        self.contour.clear();
+        self.rims.clear(tables.lists.len())?;
+        self.counts.clear(count)?;
+        Ok(())
+    }
+
     // Takes out what stands strictly between two places of the contour, and appends it to the rows of what goes. Returns
     // the vertex at the second place.
     fn take_out(&mut self, tables: &Tables, first: usize, end: usize) -> Result<u16, AllocError>
@@ -81,16 +97,18 @@ impl RowTables {
         ensures rims { IfOk result (λ _. self.new.rims ≡ self.old.rims) }
     {
         self.contour.move_to(end + 1)?;
-        self.counts.move_part(
-            Way::Goes,
+        let stretch = Stretch {
             tables,
-            &self.rims.inner,
-            &self.contour.left,
+            inner: &self.rims.inner,
+            ws: &self.contour.left,
             first,
-            end,
-        );
+            last: end,
+        };
+        self.counts.move_part(Way::Goes, &stretch);
         let x = self.contour.left[end];
-        push_news(&mut self.rows, part(&self.contour.left, first + 1, end))?;
+        self.rows
+            .news
+            .push(part(&self.contour.left, first + 1, end))?;
         self.contour.left.truncate(first + 1);
         Ok(x)
     }
@@ -110,22 +128,17 @@ impl RowTables {
         ensures contour { IfOk result (λ _. self.new.contour ≡ self.old.contour) }
     {
         let last = self.contour.left.len() - 1;
-        self.counts.move_part(
-            Way::Comes,
+        let stretch = Stretch {
             tables,
-            &self.rims.inner,
-            &self.contour.left,
+            inner: &self.rims.inner,
+            ws: &self.contour.left,
             first,
             last,
-        );
-        put_row(
-            &mut self.cuts,
-            &mut self.rows,
-            &self.rims.outer,
-            &self.contour.left,
-            first,
-            last,
-        )?;
+        };
+        self.counts.move_part(Way::Comes, &stretch);
+        put_cuts(&mut self.cuts, &self.rims.outer, &stretch)?;
+        let row = part(&self.contour.left, first, last + 1);
+        push_row(&mut self.rows, row, &self.cuts)?;
         Ok(())
     }
 
@@ -139,8 +152,11 @@ impl RowTables {
         ensures marks { IfOk result (λ _. self.new.marks ≡ self.old.marks) }
     {
         let x = self.take_out(tables, first, end)?;
-        self.rims
-            .trace(&mut self.contour.left, tables, &self.marks, x)?;
+        let map = Marked {
+            tables,
+            marks: &self.marks,
+        };
+        self.rims.trace(&mut self.contour.left, &map, x)?;
         self.put_in(tables, first)?;
         Ok(())
     }
@@ -153,8 +169,20 @@ impl RowTables {
         ensures kept { IfOk result (λ _. IsKept tables.now self.new) }
         ensures stands { IfOk result (λ _. (bound : ℕ) → StandsBy tables.now self.old (suc bound) → StandsBy tables.now self.new bound) }
     {
-        find(&mut self.contour, tables, &self.marks, &self.counts)?;
-        let (first, end) = take_run(&mut self.marks, tables, &self.contour, &self.rims.inner);
+        let choice = Choice {
+            map: Marked {
+                tables,
+                marks: &self.marks,
+            },
+            counts: &self.counts,
+        };
+        choice.find(&mut self.contour)?;
+        let edges = Edges {
+            tables,
+            contour: &self.contour,
+            inner: &self.rims.inner,
+        };
+        let (first, end) = edges.take_run(&mut self.marks);
         self.advance(tables, first, end)?;
         Ok(())
     }
@@ -171,19 +199,7 @@ impl RowTables {
         usize::from(self.counts.edges[base as usize]) + 1 == self.contour.len()
     }
 
-    // Appends the row of the last removal.
-    fn put_last(&mut self, tail: u16, head: u16) -> Result<(), AllocError>
-        requires long { 2 ≤ length (vertices_of self.old.contour) }
-        ensures { IfOk result (λ _. IsLastRow (vertices_of self.old.contour) tail head self.old.rows self.new.rows) }
-    {
-        let all = self.contour.len();
-        self.contour.move_to(all)?;
-        let news = part(&self.contour.left, 1, all - 1);
-        push_lists(&mut self.rows, &[head, tail], &[0, 1], news)?;
-        Ok(())
-    }
-
-    // Takes one removal after another, to the last one.
+    // Takes one removal after another, to the last one: over the base go all other vertices of the contour.
     fn peel(&mut self, tables: &Tables) -> Result<(), AllocError>
         requires kept { IsKept tables.now self.old }
         requires stands { StandsBy tables.now self.old (suc (dart_count tables.now.lists)) }
@@ -192,7 +208,10 @@ impl RowTables {
         let base = tables.number_of(tables.head, tables.tail);
         for _ in 0..tables.lists.total() {
             if self.is_last(tables, base) {
-                self.put_last(tables.tail, tables.head)?;
+                let all = self.contour.len();
+                self.contour.move_to(all)?;
+                push_row(&mut self.rows, &[tables.head, tables.tail], &[0, 1])?;
+                self.rows.news.push(part(&self.contour.left, 1, all - 1))?;
                 return Ok(());
             }
             self.round(tables)?;
@@ -212,8 +231,11 @@ impl RowTables {
         let f = tables.number_of(tables.tail, tables.head);
         self.marks[f as usize] = false;
         self.contour.left.push(tables.head)?;
-        self.rims
-            .trace(&mut self.contour.left, tables, &self.marks, tables.tail)?;
+        let map = Marked {
+            tables,
+            marks: &self.marks,
+        };
+        self.rims.trace(&mut self.contour.left, &map, tables.tail)?;
         self.counts
             .count_all(tables, &self.rims.inner, &self.contour.left);
         Ok(())
@@ -226,8 +248,9 @@ impl RowTables {
         ensures { IfOk result (λ _. AreRowsOfRun tables.now.lists tables.now.tail tables.now.head self.new.rows) }
     {
         self.first_contour(tables)?;
-        clear_before_base(&mut self.marks, &tables.faces.own, &self.contour.left);
         let r = self.contour.left.len() - 1;
+        let v = self.contour.left[r - 1];
+        clear_row(&mut self.marks, tables.faces.own.list(v as usize));
         self.advance(tables, r - 2, r)?;
         self.peel(tables)?;
         Ok(())

@@ -1,5 +1,5 @@
 //! Tables of a map that the removals of a run read.
-ghost use Rattle.std.specs.Prelude.{◌≡◌, ◌<◌, ℕ, length, slice_index};
+ghost use Rattle.std.specs.Prelude.{◌≡◌, ◌<◌, ℕ, length};
 ghost use Rattle.map_theory.specs.Maps.{HasDart, IsSimpleMap};
 ghost use Rattle.convex_orders.specs.FaceNumbers.{entry, IsTable, AreFaceNumbers};
 ghost use Rattle.convex_orders.specs.Shown.{IsBased};
@@ -24,20 +24,6 @@ pub struct Tables {
     pub ghost numbers: { AreFaceNumbers lists faces.own faces.other faces.count },
 }
 
-// Returns the place of `y` in a list.
-fn place_in(us: &[u16], y: u16) -> usize
-    requires within { (k : ℕ) × (k < length us.now) × (slice_index us.now k ≡ y) }
-    ensures within { result < length us.now }
-    ensures here { slice_index us.now result ≡ y }
-{
-    for k in 0..us.len() {
-        if us[k] == y {
-            return k;
-        }
-    }
-    0
-}
-
 // Returns the entry of `table` for the dart from `x` to `y`.
 fn number_in(lists: &Rotations, table: &ItemLists<u32>, x: u16, y: u16) -> u32
     requires simple { IsSimpleMap lists.now }
@@ -45,8 +31,13 @@ fn number_in(lists: &Rotations, table: &ItemLists<u32>, x: u16, y: u16) -> u32
     requires dart { HasDart lists.now x y }
     ensures { result ≡ entry lists.now table.now x y }
 {
-    let k = place_in(lists.list(x as usize), y);
-    table.list(x as usize)[k]
+    let us = lists.list(x as usize);
+    for k in 0..us.len() {
+        if us[k] == y {
+            return table.list(x as usize)[k];
+        }
+    }
+    0
 }
 
 impl Tables {

@@ -9,8 +9,8 @@ use Rattle.convex_orders.proofs.rims.Rims.see.Goals as goal
 
 pub returns-clause-rim : goal.returns-clause-rim
 returns-clause-rim c =
-    let t = c.args.tables.now in
-    let marks = c.args.marks.now in
+    let t = c.args.map.now.tables.now in
+    let marks = c.args.map.now.marks.now in
     let x = c.args.x in
     let k = c.rim_near-k.result in
     let at : IsRimAt (list_of t.faces.own x) (list_of t.faces.other x) marks k = subst (λ (z : List ℕ). IsRimAt z (list_of t.faces.other x) marks k) c.list-own.ensures (subst (λ (z : List ℕ). IsRimAt c.list-own.result.now z marks k) c.list-other.ensures c.rim_near-k.ensures) in
@@ -19,7 +19,7 @@ returns-clause-rim c =
 
 pub returns-clause-seen : goal.returns-clause-seen
 returns-clause-seen c =
-    let t = c.args.tables.now in
+    let t = c.args.map.now.tables.now in
     let s = c.args.self.now in
     let x = c.args.x in
     let k = c.rim_near-k.result in

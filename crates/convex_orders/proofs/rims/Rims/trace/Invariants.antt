@@ -5,8 +5,8 @@ use Rattle.convex_orders.proofs.rims.Rims.trace.Given as goal
 
 abbrev pub invariant-loop : goal.invariant-loop
 invariant-loop l = record {
-  size : AreRims l.self (length l.tables.lists);
-  all : (alive : ℕ → Bool) (w : ℕ → ℕ) (r a b : ℕ) → IsTrace l.tables.lists l.tables.faces.own l.marks l.initial.left.items l.stop alive w r a b → IsTrace l.tables.lists l.tables.faces.own l.marks l.left.items l.stop alive w r (a + l.counter) b;
-  noted : (alive : ℕ → Bool) (w : ℕ → ℕ) (r a b : ℕ) → IsTrace l.tables.lists l.tables.faces.own l.marks l.initial.left.items l.stop alive w r a b → AreNoted l.tables.lists l.tables.faces.own w a (a + l.counter) l.initial.self l.self;
+  size : AreRims l.self (length l.map.tables.now.lists);
+  all : (alive : ℕ → Bool) (w : ℕ → ℕ) (r a b : ℕ) → IsTrace l.map.tables.now.lists l.map.tables.now.faces.own l.map.marks.now l.initial.left.items l.stop alive w r a b → IsTrace l.map.tables.now.lists l.map.tables.now.faces.own l.map.marks.now l.left.items l.stop alive w r (a + l.counter) b;
+  noted : (alive : ℕ → Bool) (w : ℕ → ℕ) (r a b : ℕ) → IsTrace l.map.tables.now.lists l.map.tables.now.faces.own l.map.marks.now l.initial.left.items l.stop alive w r a b → AreNoted l.map.tables.now.lists l.map.tables.now.faces.own w a (a + l.counter) l.initial.self l.self;
   last : (k : ℕ) → suc k ≡ length l.left.items → slice_index l.left.items k ≡ l.x;
 }

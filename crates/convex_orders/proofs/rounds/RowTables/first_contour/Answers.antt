@@ -1,4 +1,4 @@
-use Rattle.std.proofs.Common.{rules, ◌≡◌, ◌<◌, List, ℕ, false, length, set, refl, sym, ap, ◌∙◌, subst, arith}
+use Rattle.std.proofs.Common.{◌≡◌, ◌<◌, List, ℕ, false, length, set, refl, sym, ap, ◌∙◌, subst, arith}
 use Rattle.convex_orders.specs.Contours.{contour_of, AreInner}
 use Rattle.convex_orders.specs.Counts.{met_below, AreCounts}
 use Rattle.convex_orders.proofs.Beginnings.{base_in, marks_first, shown, some_first, list_first, some_vertex, short_first, room_first, inner_first}
@@ -15,13 +15,10 @@ index_mut-requires c = omega (arith, base_in c.args.tables.now c.args.self.now c
 pub trace-requires-clause-some : goal.trace-requires-clause-some
 trace-requires-clause-some c = some_first c.args.tables.now c.args.self.now c.requires.blank c.number_of-f.result c.number_of-f.ensures c.deref.result.now c.deref.ensures.value c.push.new.self.items c.in_ok-push.ensures.items
 
-pub count_all-requires-clause-along : goal.count_all-requires-clause-along
-count_all-requires-clause-along c =
+pub count_all-requires-clause-inner : goal.count_all-requires-clause-inner
+count_all-requires-clause-inner c =
     let t = c.args.tables.now in
-    record {
-      size = search rules;
-      inner = subst (λ z. AreInner t.lists t.faces.own z c.deref-2.result.now) (sym c.deref-3.ensures.value) (subst (AreInner t.lists t.faces.own c.trace.new.left.items) (sym c.deref-2.ensures.value) (inner_first c.args.tables.now c.args.self.now c.requires.blank c.number_of-f.result c.number_of-f.ensures c.deref.result.now c.deref.ensures.value c.push.new.self.items c.in_ok-push.ensures.items c.trace.new.left.items c.trace.new.self c.in_ok-trace.ensures.list c.in_ok-trace.ensures.noted));
-    }
+    subst (λ z. AreInner t.lists t.faces.own z c.deref-2.result.now) (sym c.deref-3.ensures.value) (subst (AreInner t.lists t.faces.own c.trace.new.left.items) (sym c.deref-2.ensures.value) (inner_first c.args.tables.now c.args.self.now c.requires.blank c.number_of-f.result c.number_of-f.ensures c.deref.result.now c.deref.ensures.value c.push.new.self.items c.in_ok-push.ensures.items c.trace.new.left.items c.trace.new.self c.in_ok-trace.ensures.list c.in_ok-trace.ensures.noted))
 
 pub count_all-requires-clause-some : goal.count_all-requires-clause-some
 count_all-requires-clause-some c = omega (arith, some_vertex c.args.tables.now c.args.self.now c.requires.blank c.number_of-f.result c.number_of-f.ensures c.deref.result.now c.deref.ensures.value c.push.new.self.items c.in_ok-push.ensures.items c.trace.new.left.items c.trace.new.self c.in_ok-trace.ensures.list c.in_ok-trace.ensures.noted, ap length c.deref-3.ensures.value)

@@ -1,7 +1,11 @@
-use Rattle.std.proofs.Common.{◌-◌, ℕ, suc, arith}
+use Rattle.std.proofs.Common.{◌≡◌, ◌-◌, ◌++◌, ◌∷◌, [], ℕ, suc, List, length, sym, ap, ◌∙◌, arith}
+use Rattle.std.specs.Prelude.{slice_range}
 use Rattle.map_theory.specs.Maps.{dart_count}
+use Rattle.convex_orders.specs.Contours.{vertices_of}
 use Rattle.convex_orders.proofs.ContourCountsRows.{entry-lt}
 use Rattle.convex_orders.proofs.Known.{based}
+use Rattle.convex_orders.proofs.LastRounds.{contour_all}
+use Rattle.convex_orders.proofs.Moves.{length-contour}
 use Rattle.convex_orders.proofs.StandLemmas.{base_back, stands_left, two_places, last_rows}
 use Rattle.convex_orders.proofs.rounds.RowTables.peel.Goals as goal
 
@@ -14,17 +18,35 @@ is_last-requires-clause-base_in c =
     let l = entry-lt t.lists t.faces.own t.faces.count t.numbers.own_table t.head t.tail (base_back _ _ _ (based t)) in
     omega (arith, l, c.number_of-base.ensures)
 
-pub put_last-requires : goal.put_last-requires
-put_last-requires c =
+pub overflow_sub-all : goal.overflow_sub-all
+overflow_sub-all c =
     let t = c.args.tables.now in
     let st = c.loop.invariant.stands (suc (dart_count t.lists) - c.loop.counter) (omega (arith, c.loop-test.true, c.total-end.ensures)) in
-    record { long = two_places _ _ _ (based t) _ _ _ _ _ st _ _ t.numbers (c.is_last.ensures.yes c.if-is_last.true) }
+    omega (arith, two_places _ _ _ (based t) _ _ _ _ _ st _ _ t.numbers (c.is_last.ensures.yes c.if-is_last.true), c.len-all.ensures)
+
+pub part-requires : goal.part-requires
+part-requires c =
+    let t = c.args.tables.now in
+    let st = c.loop.invariant.stands (suc (dart_count t.lists) - c.loop.counter) (omega (arith, c.loop-test.true, c.total-end.ensures)) in
+    let two = two_places _ _ _ (based t) _ _ _ _ _ st _ _ t.numbers (c.is_last.ensures.yes c.if-is_last.true) in
+    record { order = omega (arith, two, c.len-all.ensures); within = omega (arith, two, c.len-all.ensures, c.in_ok-move_to.ensures.long, ap length c.deref.ensures.value) }
 
 pub returns-then-is_last : goal.returns-then-is_last
 returns-then-is_last c =
     let t = c.args.tables.now in
+    let ws = vertices_of c.loop.self.contour in
+    let contour = c.move_to.new.self in
+    let old = c.loop.self.rows in
     let st = c.loop.invariant.stands (suc (dart_count t.lists) - c.loop.counter) (omega (arith, c.loop-test.true, c.total-end.ensures)) in
-    last_rows _ _ _ (based t) _ _ _ _ _ st _ _ t.numbers (c.is_last.ensures.yes c.if-is_last.true) _ c.in_ok-put_last.ensures
+    let none : length contour.right.items ≡ 0 = omega (arith, length-contour contour.left.items contour.right.items, ap length c.in_ok-move_to.ensures.same, c.in_ok-move_to.ensures.long, c.len-all.ensures) in
+    let left : contour.left.items ≡ ws = sym (contour_all contour.left.items contour.right.items none) ∙ c.in_ok-move_to.ensures.same in
+    last_rows _ _ _ (based t) _ _ _ _ _ st _ _ t.numbers (c.is_last.ensures.yes c.if-is_last.true) _ (record {
+      rows_are = c.in_ok-push_row.ensures.0;
+      cuts_are = c.in_ok-push_row.ensures.1;
+      news_are = λ end e.
+          let z : c.len-all.result - 1 ≡ end = omega (arith, e, c.len-all.ensures) in
+          c.in_ok-push.ensures.ok ∙ (ap (λ (ns : List (List ℕ)). ns ++ c.part.result.now ∷ []) c.in_ok-push_row.ensures.2 ∙ ap (λ (us : List ℕ). old.news ++ us ∷ []) (c.part.ensures ∙ (ap (λ (us : List ℕ). slice_range us 1 (c.len-all.result - 1)) (c.deref.ensures.value ∙ left) ∙ ap (slice_range ws 1) z)));
+    })
 
 pub round-requires-clause-stands : goal.round-requires-clause-stands
 round-requires-clause-stands c =

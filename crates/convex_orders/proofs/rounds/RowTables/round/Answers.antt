@@ -5,17 +5,14 @@ use Rattle.convex_orders.proofs.CountLemmas.{lent}
 use Rattle.convex_orders.proofs.Choosing.{inner_moved, counts_moved, can_go_on, removable, some_off, stands_on}
 use Rattle.convex_orders.proofs.rounds.RowTables.round.Goals as goal
 
-pub find-requires-clause-can : goal.find-requires-clause-can
-find-requires-clause-can c = record {
-  long = search rules;
-  vertices = search rules;
-  removable = removable c.args.tables.now c.args.self.now c.requires.kept c.requires.stands.0 c.requires.stands.1 c.requires.other c.deref.result.now c.deref.ensures.value;
-}
+pub find-requires-clause-removable : goal.find-requires-clause-removable
+find-requires-clause-removable c = removable c.args.tables.now c.args.self.now c.requires.kept c.requires.stands.0 c.requires.stands.1 c.requires.other c.deref.result.now c.deref.ensures.value
+
+pub invariant_of-edges : goal.invariant_of-edges
+invariant_of-edges c = record { some = search rules; numbered = ∣ search rules ∣₁ }
 
 pub take_run-first-requires : goal.take_run-first-requires
 take_run-first-requires c = record {
-  some = search rules;
-  inner = search rules;
   place = can_go_on c.args.tables.now c.args.self.now c.requires.kept c.find.new.contour c.in_ok-find.ensures.same c.deref_mut.result.now c.deref.result.now c.deref_mut.ensures.value c.deref.ensures.value c.in_ok-find.ensures.found;
 }
 

@@ -1,8 +1,0 @@
--- A table that was emptied and filled with one value.
-use Rattle.std.proofs.Common.{◌≡◌, ◌-◌, ◌++◌, ℕ, List, [], take, replicate, ap, arith}
-use Rattle.std.proofs.Math.Seq.{take-nil}
-
-pub filled : {A : Type 0} (x : A) (old : List A) (n k : ℕ) → old ≡ [] → k ≡ 0 → take n old ++ replicate (n - k) x ≡ replicate n x
-filled x old n k empty none =
-    let all : n - 0 ≡ n = omega arith in
-    rw (empty, none, take-nil) (ap (λ m. replicate m x) all)
