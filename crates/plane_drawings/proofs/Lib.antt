@@ -11,8 +11,8 @@ pub mod Stacks
 pub mod Kept
 pub mod Done
 -- Lemmas of the sweep.
-mod ListLemmas
-mod FreshLemmas
+pub mod ListLemmas
+pub mod FreshLemmas
 mod LineLemmas
 mod StepLemmas
 mod SweepLemmas

@@ -1,14 +1,10 @@
--- Lists: what a splice leaves, and the entry after one.
-use Rattle.std.proofs.Common.{◌≡◌, ◌≢◌, ℕ, ◌+◌, ◌-◌, ◌<◌, ◌≤◌, List, ◌++◌, length, take, drop, get_or, sym, ap, ap₂, ◌∙◌, ltb, arith, length-append, append_assoc, take-add}
+-- Lists: what a splice leaves, and what is put into another order.
+use Rattle.std.proofs.Common.{◌≡◌, ℕ, ◌+◌, ◌-◌, ◌≤◌, List, ◌++◌, length, take, drop, sym, ap, ap₂, ◌∙◌, arith, length-append, append_assoc, take-add}
 use Rattle.std.specs.List.Sorted.{IsPermutation}
-use Rattle.std.proofs.lemmas.Bool.{cond-true}
 use Rattle.std.proofs.lemmas.List.Sorted.{length_permutation}
-use Rattle.std.specs.List.{copy_within, AllPairs}
+use Rattle.std.specs.List.{copy_within}
 use Rattle.std.proofs.lemmas.List.{take-append-drop, take-append-le, take-take, take_at, drop_at, drop-drop, length-take-le, length-drop}
 use borrow.Rule.Slice.PartMut.{put_mid}
-use borrow.Author.Tests.{lt-ltb}
-use Rattle.map_theory.specs.Maps.{entry_after, place_of}
-use Rattle.map_theory.proofs.DartLemmas.{entry_after-place, place_of-get_or, place_after}
 
 -- a gap in a list moved down, with what was below it moved behind it
 pub gap_down : {X : Type 0} (xs : List X) (begin end place : ℕ) → begin ≤ end → end ≤ length xs → place ≤ begin → (ys : List X) → ys ≡ copy_within xs place begin (end - (begin - place)) → take place ys ++ drop (end - (begin - place)) ys ≡ take begin xs ++ drop end xs
@@ -52,12 +48,6 @@ filled_back {X = X} xs ys begin end room within =
     let top = begin + length ys in
     let long : length (take begin xs ++ ys) ≡ top = length-append (take begin xs) ys ∙ omega (arith, length-take-le begin xs (omega arith)) in
     ap (drop end) (sym (append_assoc (take begin xs) ys rest)) ∙ ap (λ (n : ℕ). drop n ((take begin xs ++ ys) ++ rest)) (omega arith) ∙ sym (drop-drop (end - top) top ((take begin xs ++ ys) ++ rest)) ∙ ap (drop (end - top)) (drop_at (take begin xs ++ ys) rest top long ∙ drop-drop (top - begin) begin xs) ∙ drop-drop (end - top) (begin + (top - begin)) xs ∙ ap (λ (n : ℕ). drop n xs) (omega arith)
-
--- in a list without repeats, what comes after an entry before the last
-pub entry_after-next : (us : List ℕ) (k : ℕ) → AllPairs ◌≢◌ us → k + 1 < length us → entry_after (get_or us k 0) us ≡ get_or us (k + 1) 0
-entry_after-next us k distinct l =
-    let at : place_of (get_or us k 0) us ≡ k = place_of-get_or us k 0 distinct (omega arith) in
-    entry_after-place (get_or us k 0) us 0 (omega arith) ∙ ap (λ (p : ℕ). get_or us (place_after (length us) p) 0) at ∙ ap (λ (p : ℕ). get_or us p 0) (cond-true (ltb (k + 1) (length us)) (k + 1) 0 (lt-ltb (k + 1) (length us) l))
 
 -- the front of a list that was put into another order
 pub reordered : {X : Type 0} (xs ys : List X) (n : ℕ) → n ≤ length xs → IsPermutation (take n xs) ys → take n (ys ++ drop n xs) ≡ ys

@@ -8,7 +8,7 @@ ghost use Rattle.plane_drawings.specs.PlaneSweepLines.{IsLine, rise, Ends};
 use crate::plane_sweep::Line;
 use pg_plane::{Point, area2};
 
-// The point of the vertex at place `i` in the order of the sweep.
+// Returns the point of the vertex at place `i` in the order of the sweep.
 fn point_at(places: &[Point], i: u16) -> Point
     requires in_range { All IsInRange places.now }
     requires within { i < length places.now }
@@ -18,7 +18,7 @@ fn point_at(places: &[Point], i: u16) -> Point
     places[i as usize]
 }
 
-// How far the vertex at place `w` is above the line: positive where it is strictly above, zero where it is
+// Returns how far the vertex at place `w` is above the line: positive where it is strictly above, zero where it is
 // on the straight line through both ends.
 pub(crate) fn rise(places: &[Point], line: Line, w: u16) -> i64
     requires in_range { All IsInRange places.now }
@@ -33,7 +33,7 @@ pub(crate) fn rise(places: &[Point], line: Line, w: u16) -> i64
     )
 }
 
-// Whether of two lines, `e` below `f`, the one that ends first ends on its side of the other.
+// Says whether of two lines, `e` below `f`, the one that ends first ends on its side of the other.
 pub(crate) fn end_apart(places: &[Point], e: Line, f: Line) -> bool
     requires in_range { All IsInRange places.now }
     requires e { IsLine (length places.now) e }

@@ -29,7 +29,7 @@ pub(crate) struct AtVertex<'a> {
     pub(crate) ghost lines: { All (IsLine (length places.now)) fresh.now },
 }
 
-// The end of the run of lines that end at the vertex, of those from `begin` on.
+// Returns the end of the run of lines that end at the vertex, of those from `begin` on.
 fn run_end(status: &[Line], begin: usize, v: u16) -> usize
     requires { begin ≤ length status.now }
     ensures order { begin ≤ result }
@@ -44,7 +44,7 @@ fn run_end(status: &[Line], begin: usize, v: u16) -> usize
     status.len()
 }
 
-// Moves the gap behind the first `place` lines; where it ends then.
+// Moves the gap behind the first `place` lines, and returns where it ends then.
 fn move_gap(status: &mut [Line], gap: Gap, place: usize) -> usize
     requires order { gap.begin ≤ gap.end }
     requires within { gap.end ≤ length status.old }
@@ -64,38 +64,8 @@ fn move_gap(status: &mut [Line], gap: Gap, place: usize) -> usize
     }
 }
 
-// Writes the ends of two lines that failed a test, as far as there is room.
-fn suspect(suspects: &mut [u16], e: Line, f: Line) {
-    let ends = [e.low, e.high, f.low, f.high];
-    for k in 0..4 {
-        if k < suspects.len() {
-            suspects[k] = ends[k];
-        }
-    }
-}
-
-// Writes a vertex and the ends of the first of some lines, if there is one.
-fn suspect_first(suspects: &mut [u16], lines: &[Line], v: u16) {
-    if 0 < lines.len() {
-        suspect(suspects, Line { low: v, high: v }, lines[0]);
-    }
-}
-
 impl AtVertex<'_> {
-    // Whether the vertex is above line number `k`, of some lines and those behind them.
-    fn is_above_at(&self, lower: &[Line], upper: &[Line], k: usize) -> bool
-        requires lower { All (IsLine (length self.now.places.now)) lower.now }
-        requires upper { All (IsLine (length self.now.places.now)) upper.now }
-        requires within { k < length lower.now + length upper.now }
-    {
-        if k < lower.len() {
-            0 < rise(self.places, lower[k], self.v)
-        } else {
-            0 < rise(self.places, upper[k - lower.len()], self.v)
-        }
-    }
-
-    // How many lines round a gap the vertex is above, if it is above the lower ones and no others.
+    // Counts how many lines round a gap the vertex is above, if it is above the lower ones and no others.
     fn count_around(&self, lower: &[Line], upper: &[Line]) -> usize
         requires lower { All (IsLine (length self.now.places.now)) lower.now }
         requires upper { All (IsLine (length self.now.places.now)) upper.now }
@@ -105,7 +75,12 @@ impl AtVertex<'_> {
         let mut end = lower.len() + upper.len();
         while begin < end {
             let middle = begin + (end - begin) / 2;
-            if self.is_above_at(lower, upper, middle) {
+            let height = if middle < lower.len() {
+                rise(self.places, lower[middle], self.v)
+            } else {
+                rise(self.places, upper[middle - lower.len()], self.v)
+            };
+            if 0 < height {
                 begin = middle + 1;
             } else {
                 end = middle;
@@ -114,7 +89,7 @@ impl AtVertex<'_> {
         begin
     }
 
-    // Whether the vertex is strictly above the last line before `begin`, if there is one.
+    // Says whether the vertex is strictly above the last line before `begin`, if there is one.
     fn is_above(&self, status: &[Line], begin: usize) -> bool
         requires lines { All (IsLine (length self.now.places.now)) status.now }
         requires within { begin ≤ length status.now }
@@ -123,7 +98,7 @@ impl AtVertex<'_> {
         begin == 0 || 0 < rise(self.places, status[begin - 1], self.v)
     }
 
-    // Whether the vertex is strictly below the line at `end`, if there is one.
+    // Says whether the vertex is strictly below the line at `end`, if there is one.
     fn is_below(&self, status: &[Line], end: usize) -> bool
         requires lines { All (IsLine (length self.now.places.now)) status.now }
         requires within { end ≤ length status.now }
@@ -132,25 +107,26 @@ impl AtVertex<'_> {
         end == status.len() || rise(self.places, status[end], self.v) < 0
     }
 
-    // Whether each line from `begin` on, with the next one, ends in its order; if not, the ends of two that do not are
+    // Says whether each line from `begin` on, with the next one, ends in its order; if not, the ends of two that do not are
     // suspects.
-    fn all_end_apart(&self, status: &[Line], begin: usize, suspects: &mut [u16]) -> bool
+    fn all_end_apart(&self, status: &[Line], begin: usize, suspects: &mut [u16; 4]) -> bool
         requires lines { All (IsLine (length self.now.places.now)) status.now }
         ensures { OnTrue result ((k : ℕ) (d : Line) → begin ≤ k → k + 1 < length status.now
             → Ends (place self.now.places.now) (slice_index_or status.now k d) (slice_index_or status.now (k + 1) d)) }
     {
         for k in begin..status.len() {
             if k + 1 < status.len() && !end_apart(self.places, status[k], status[k + 1]) {
-                suspect(suspects, status[k], status[k + 1]);
+                let (e, f) = (status[k], status[k + 1]);
+                *suspects = [e.low, e.high, f.low, f.high];
                 return false;
             }
         }
         true
     }
 
-    // Whether the last of some lines and the first of those behind them end in their order; if not, their ends
+    // Says whether the last of some lines and the first of those behind them end in their order; if not, their ends
     // are suspects.
-    fn is_seam_apart(&self, lower: &[Line], upper: &[Line], suspects: &mut [u16]) -> bool
+    fn is_seam_apart(&self, lower: &[Line], upper: &[Line], suspects: &mut [u16; 4]) -> bool
         requires lower { All (IsLine (length self.now.places.now)) lower.now }
         requires upper { All (IsLine (length self.now.places.now)) upper.now }
         ensures { OnTrue result ((d : Line) → 0 < length lower.now → 0 < length upper.now
@@ -164,14 +140,14 @@ impl AtVertex<'_> {
         if end_apart(self.places, e, f) {
             return true;
         }
-        suspect(suspects, e, f);
+        *suspects = [e.low, e.high, f.low, f.high];
         false
     }
 
     // Takes the lines round a gap over the vertex, where the gap is behind the lines that the vertex is above: the gap
     // afterwards, or None where a test fails or there is no room. Where one fails, the ends of the lines at fault are
     // suspects.
-    fn pass(&self, status: &mut [Line], gap: Gap, suspects: &mut [u16]) -> Option<Gap>
+    fn pass(&self, status: &mut [Line], gap: Gap, suspects: &mut [u16; 4]) -> Option<Gap>
         requires order { gap.begin ≤ gap.end }
         requires within { gap.end ≤ length status.old }
         requires lines { All (IsLine (length self.now.places.now)) (around gap.begin gap.end status.old) }
@@ -188,7 +164,10 @@ impl AtVertex<'_> {
             return None;
         }
         if !self.is_below(&lines[end..], 0) {
-            suspect_first(suspects, &lines[end..], self.v);
+            if end < lines.len() {
+                let f = lines[end];
+                *suspects = [self.v, self.v, f.low, f.high];
+            }
             return None;
         }
         status[gap.begin..begin].copy_from_slice(self.fresh);
@@ -204,7 +183,7 @@ impl AtVertex<'_> {
     }
 
     // Takes the lines round a gap over the vertex as `pass` does, wherever the gap is.
-    pub(crate) fn step(&self, status: &mut [Line], gap: Gap, suspects: &mut [u16]) -> Option<Gap>
+    pub(crate) fn step(&self, status: &mut [Line], gap: Gap, suspects: &mut [u16; 4]) -> Option<Gap>
         requires order { gap.begin ≤ gap.end }
         requires within { gap.end ≤ length status.old }
         requires lines { All (IsLine (length self.now.places.now)) (around gap.begin gap.end status.old) }
