@@ -1,20 +1,23 @@
 -- What the searches for met edges say of crossings, and of a vertex's edges.
-use Rattle.std.proofs.Common.{◌≡◌, ℕ, ◌+◌, ◌<◌, List, length, Option, Some, None, sym, inl, ⊎_elim, arith}
+use Rattle.std.proofs.Common.{◌≡◌, ℕ, ◌+◌, ◌<◌, Bool, List, length, Option, Some, None, sym, inl, ⊎_elim, arith}
 use Rattle.std.specs.Option.{MatchOption, option_map}
 use Rattle.map_lists.specs.Lists.{Lists}
 use Rattle.map_lists.specs.declared.ids.VertexId.{VertexId}
+use Rattle.map_lists.specs.declared.ids.DartId.{DartId}
 use Rattle.map_lists.specs.declared.items.Ends.{Ends}
 use Rattle.pg_plane.specs.declared.point.Point.{Point}
-use Rattle.map_theory.specs.Maps.{Dart, HasDart}
+use Rattle.map_theory.specs.Maps.{Dart}
 use Rattle.half_edges.specs.Map.{Map, IsHalfMap, IsLive, dart_at}
-use Rattle.vertex_rounds.specs.Least.{IsLeast, IsLeastPair}
+use Rattle.vertex_rounds.specs.First.{FindsFirst}
+use Rattle.vertex_rounds.specs.Least.{IsLeastPair}
 use Rattle.vertex_rounds.specs.Rounds.{HasEdge, dart_of}
 use Rattle.vertex_rounds.proofs.DartIds.{has_dart, head_is}
-use Rattle.draw_check.specs.Faults.{EdgesCross}
+use Rattle.draw_check.specs.Faults.{EdgesCross, LiesOnEdge}
 use Rattle.draw_check.specs.Loops.{IsMet, IsMetFrom}
+use Rattle.vertex_rounds.proofs.FirstLemmas.{Decides, least_pair}
 use Rattle.vertex_rounds.proofs.LeastLemmas.{IsLeastPair-alike}
 use Rattle.draw_check.specs.declared.edges.Probe.{Probe}
-use Rattle.draw_check.specs.declared.edges.Probe.TheVariants.{Edge}
+use Rattle.draw_check.specs.declared.edges.Probe.TheVariants.{Edge, Vertex}
 
 -- the head of a dart is one of as many vertices as there are lists
 pub head_below : (map : Map) → IsHalfMap map → (d u n : ℕ) → IsLive map d → option_map (λ (x : Dart). x.1) (dart_at map d) ≡ Some u → n ≡ length map.lists → u < n
@@ -43,7 +46,18 @@ module _ (lists : Lists) (points : List Point) (a b : VertexId) (edge : HasEdge 
   first_cross None h = λ c d x. h c d (met_by_edge c d x)
   first_cross (Some e) h = IsLeastPair-alike (IsMetFrom lists points (Edge a b) (a.0 + 1)) (EdgesCross lists points a.0 b.0) edges_cross met_by_edge e.a.0 e.b.0 h
 
--- the least neighbour whose edge is met, of a search among all neighbours
-pub least_met : (lists : Lists) (points : List Point) (probe : Probe) (v : ℕ) (found : Option VertexId) → MatchOption found ((u : ℕ) → HasDart lists v u → ¬ IsMet lists points probe v u) (λ (u : VertexId). IsLeast (λ x. HasDart lists v x × IsMet lists points probe v x) u.0) → MatchOption found ((u : ℕ) → ¬ IsMet lists points probe v u) (λ (u : VertexId). IsLeast (IsMet lists points probe v) u.0)
-least_met lists points probe v None h = λ u m. h u m.edge.1 m
-least_met lists points probe v (Some u) h = record { here = h.here.1; before = λ t less m. h.before t less (m.edge.1, m) }
+-- an edge that a vertex meets is one on which it lies
+module _ (lists : Lists) (points : List Point) (v : VertexId) where
+  pub met_by_vertex : (a b : ℕ) → LiesOnEdge lists points v.0 a b → IsMetFrom lists points (Vertex v) 0 a b
+  met_by_vertex a b h = record { late = omega arith; met = record { edge = h.edge; meets = (h.not_first, h.not_second, h.on) } }
+
+  pub lies_on_edge : v.0 < length lists → (a b : ℕ) → IsMetFrom lists points (Vertex v) 0 a b → LiesOnEdge lists points v.0 a b
+  lies_on_edge within a b h = let m = h.met.meets in record { vertex = within; edge = h.met.edge; not_first = m.0; not_second = m.1; on = m.2 }
+
+-- what a search for darts answers for the first edge that is met
+pub first_late : (map : Map) (known : IsHalfMap map) (points : List Point) (probe : Probe) (from : ℕ) (says : DartId → Bool → Type 0) (found : Option (VertexId × VertexId)) → FindsFirst map says from found → Decides map says from (IsMet map.lists points probe)
+    → MatchOption found ((a b : ℕ) → ¬ IsMetFrom map.lists points probe from a b) (λ p. IsLeastPair (IsMetFrom map.lists points probe from) p.0.0 p.1.0)
+first_late map known points probe from says found f decides =
+    least_pair map known says (IsMetFrom map.lists points probe from) from found f (λ d live late r s.
+    let is = decides d live late r s in
+    (λ t. record { late = late; met = is.0 t }, λ x. is.1 x.met)) (λ v u x. (x.late, x.met.edge.1))

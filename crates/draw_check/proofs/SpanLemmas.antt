@@ -142,11 +142,11 @@ between_bounds l h a b p la ah lb bh (inl (x, y)) = (omega (arith, ints), omega 
 between_bounds l h a b p la ah lb bh (inr (x, y)) = (omega (arith, ints), omega (arith, ints))
 
 -- Seen from r the point is to the right of the box.
-pub right_off : (span : Span) (r p : Point) → ((u : Point) → IsIn span u → pos 0 <ℤ area r p u) → MissesFan span r p
+right_off : (span : Span) (r p : Point) → ((u : Point) → IsIn span u → pos 0 <ℤ area r p u) → MissesFan span r p
 right_off span r p box u inside on = let up = box u inside in let line = on.on_line in let back = area_back p r u in let turn = area_turned p r u in omega (arith, ints, back, turn)
 
 -- Seen from r the point is to the left of the box.
-pub left_off : (span : Span) (r p : Point) → ((u : Point) → IsIn span u → pos 0 <ℤ area p r u) → MissesFan span r p
+left_off : (span : Span) (r p : Point) → ((u : Point) → IsIn span u → pos 0 <ℤ area p r u) → MissesFan span r p
 left_off span r p box u inside on = let up = box u inside in let line = on.on_line in let turn = area_turned p r u in omega (arith, ints, turn)
 
 -- a point in a box that reaches from one corner of another to the opposite one
@@ -189,19 +189,19 @@ corners_left span a b c d r u at la lb lc ld p inside =
     ]
 
 -- so of ways from r to points of a box
-pub ways_left : (span other : Span) (a b c d : Point) (r : Point) → AreCorners other a b c d → IsStrictlyLeftOf span r a → IsStrictlyLeftOf span r b → IsStrictlyLeftOf span r c → IsStrictlyLeftOf span r d → (p : Point) → IsIn other p → IsStrictlyLeftOf span r p
+ways_left : (span other : Span) (a b c d : Point) (r : Point) → AreCorners other a b c d → IsStrictlyLeftOf span r a → IsStrictlyLeftOf span r b → IsStrictlyLeftOf span r c → IsStrictlyLeftOf span r d → (p : Point) → IsIn other p → IsStrictlyLeftOf span r p
 ways_left span other a b c d r at la lb lc ld p inside u held =
     let turn : (k : Point) → pos 0 <ℤ area r k u → pos 0 <ℤ area u r k = λ k h. subst (λ z. pos 0 <ℤ z) (area_turned u r k) h in
     subst (λ z. pos 0 <ℤ z) (sym (area_turned u r p)) (corners_left other a b c d u r at (turn a (la u held)) (turn b (lb u held)) (turn c (lc u held)) (turn d (ld u held)) p inside)
 
 -- and of ways to r
-pub ways_left_back : (span other : Span) (a b c d : Point) (r : Point) → AreCorners other a b c d → IsStrictlyLeftOf span a r → IsStrictlyLeftOf span b r → IsStrictlyLeftOf span c r → IsStrictlyLeftOf span d r → (p : Point) → IsIn other p → IsStrictlyLeftOf span p r
+ways_left_back : (span other : Span) (a b c d : Point) (r : Point) → AreCorners other a b c d → IsStrictlyLeftOf span a r → IsStrictlyLeftOf span b r → IsStrictlyLeftOf span c r → IsStrictlyLeftOf span d r → (p : Point) → IsIn other p → IsStrictlyLeftOf span p r
 ways_left_back span other a b c d r at la lb lc ld p inside u held =
     let turn : (k : Point) → pos 0 <ℤ area k r u → pos 0 <ℤ area r u k = λ k h. subst (λ z. pos 0 <ℤ z) (sym (area_turned k r u)) h in
     subst (λ z. pos 0 <ℤ z) (area_turned p r u) (corners_left other a b c d r u at (turn a (la u held)) (turn b (lb u held)) (turn c (lc u held)) (turn d (ld u held)) p inside)
 
 -- what is to the left of a way is not to its right
-pub not_right : (span : Span) (p q : Point) → IsStrictlyLeftOf span p q → IsLeftOf span p q
+not_right : (span : Span) (p q : Point) → IsStrictlyLeftOf span p q → IsLeftOf span p q
 not_right span p q left u inside = let h = left u inside in omega (arith, ints)
 
 -- a point on one side of a box that holds both ends is on no segment between them
@@ -253,3 +253,14 @@ left_segment span p q u left inside on = let up = left u inside in let line = on
 
 pub right_segment : (span : Span) (p q u : Point) → IsStrictlyLeftOf span q p → IsIn span u → ¬ IsOnSegment u p q
 right_segment span p q u left inside on = left_segment span q p u left inside (IsOnSegment-back u p q on)
+
+-- Seen from r all corners of a box are on one side of another: no segment in the box crosses one from r into the other, and no point of it is on one.
+pub ways_missed : (span other : Span) (a b c d : Point) (r : Point) → AreCorners other a b c d → IsStrictlyLeftOf span r a → IsStrictlyLeftOf span r b → IsStrictlyLeftOf span r c → IsStrictlyLeftOf span r d → ((p q : Point) → IsIn other p → IsIn other q → MissesStar span r p q) × ((p : Point) → IsIn other p → MissesFan span r p)
+ways_missed span other a b c d r at la lb lc ld =
+    let left = ways_left span other a b c d r at la lb lc ld in
+    ((λ p q first second. right_missed span r p q (not_right span r p (left p first)) (not_right span r q (left q second))), λ p first. right_off span r p (left p first))
+
+pub ways_missed_back : (span other : Span) (a b c d : Point) (r : Point) → AreCorners other a b c d → IsStrictlyLeftOf span a r → IsStrictlyLeftOf span b r → IsStrictlyLeftOf span c r → IsStrictlyLeftOf span d r → ((p q : Point) → IsIn other p → IsIn other q → MissesStar span r p q) × ((p : Point) → IsIn other p → MissesFan span r p)
+ways_missed_back span other a b c d r at la lb lc ld =
+    let left = ways_left_back span other a b c d r at la lb lc ld in
+    ((λ p q first second. left_missed span r p q (not_right span p r (left p first)) (not_right span q r (left q second))), λ p first. left_off span r p (left p first))

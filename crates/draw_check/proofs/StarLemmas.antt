@@ -1,21 +1,19 @@
 -- The heads of a star and their boxes, what a run of heads says of the edges before it, and the first edge that stars cross.
-use Rattle.std.proofs.Common.{◌≡◌, ℕ, ◌+◌, ◌<◌, ◌≤◌, Bool, true, false, cond, nat_le, List, [], ◌∷◌, ◌++◌, length, take, drop, get_or, All, Contains, Option, Some, None, refl, sym, ap, ◌∙◌, subst, inl, inr, arith, set, pos, get_or-set_same, get_or-set_other}
+use Rattle.std.proofs.Common.{◌≡◌, ℕ, ◌+◌, ◌<◌, ◌≤◌, Bool, true, false, cond, nat_le, List, [], ◌∷◌, ◌++◌, length, take, get_or, All, Contains, Option, Some, None, refl, sym, ap, ◌∙◌, subst, inl, inr, arith, set, pos, get_or-set_same, get_or-set_other}
 use Rattle.std.specs.Bool.{OnTrue, OnFalse}
 use Rattle.std.specs.List.{filter}
 use Rattle.std.specs.List.Sorted.{IsPermutation}
-use Rattle.std.specs.Option.{MatchOption, option_map}
+use Rattle.std.specs.Option.{MatchOption, option_or}
 use Rattle.std.proofs.lemmas.Bool.{cases_lt, cases_eq, true≢false, leb-true, le-leb}
-use Rattle.std.proofs.lemmas.List.{take_at, take_more, length-take-le}
-use Rattle.std.proofs.lemmas.List.Sorted.{Contains-permutation, IsPermutation-sym, length_permutation}
+use Rattle.std.proofs.lemmas.List.{take_more}
+use Rattle.std.proofs.lemmas.List.Sorted.{Contains-permutation, IsPermutation-sym}
 use Rattle.std.proofs.lemmas.List.Elements.{filter-append, Contains-get_or}
 use Rattle.map_lists.specs.Lists.{Lists}
 use Rattle.map_lists.specs.declared.ids.VertexId.{VertexId}
 use Rattle.map_lists.specs.declared.items.Ends.{Ends}
-use Rattle.map_theory.specs.Maps.{Dart, HasDart, IsSimpleMap, list_of}
+use Rattle.map_theory.specs.Maps.{HasDart, IsSimpleMap, list_of}
 use Rattle.map_theory.proofs.DartCounts.{length-le-below}
 use Rattle.map_theory.proofs.EntryLemmas.{Contains-filter, Contains-from_filter}
-use Rattle.half_edges.specs.Map.{Map, IsHalfMap, dart_at, next_dart}
-use Rattle.half_edges.proofs.ArenaLemmas.{entry_after-next}
 use Rattle.pg_plane.specs.declared.point.Point.{Point}
 use Rattle.plane_drawings.specs.Drawing.{place}
 use Rattle.vertex_rounds.specs.Least.{IsLeast, IsLeastPair}
@@ -28,17 +26,6 @@ use Rattle.draw_check.specs.Stars.{HoldsHeads, AreHeads, Reaches, IsAhead, IsCro
 use Rattle.draw_check.proofs.RunLemmas.{run, by_run}
 use Rattle.draw_check.specs.declared.edges.Probe.TheVariants.{Edge}
 use Rattle.draw_check.specs.declared.spans.Span.{Span}
-
--- what a call of `head` answers for the dart to u
-pub head-is : (map : Map) (d v u r : ℕ) → dart_at map d ≡ Some (v, u) → option_map (λ (e : Dart). e.1) (dart_at map d) ≡ Some r → u ≡ r
-head-is map d v u r is e =
-    let t : Some u ≡ Some r = sym (ap (option_map (λ (e : Dart). e.1)) is) ∙ e in
-    cc
-
--- the dart after that to an entry before the last
-pub next-is : (map : Map) (d e v k : ℕ) → IsHalfMap map → v < length map.lists → k + 1 < length (list_of map.lists v) → dart_at map d ≡ Some (v, get_or (list_of map.lists v) k 0) → dart_at map e ≡ option_map (next_dart map.lists) (dart_at map d) → dart_at map e ≡ Some (v, get_or (list_of map.lists v) (k + 1) 0)
-next-is map d e v k known vertex l is step =
-    step ∙ ap (option_map (next_dart map.lists)) is ∙ ap (λ (u : ℕ). Some (v, u)) (entry_after-next (list_of map.lists v) k (known.simple.no_repeat v vertex) l)
 
 -- one neighbour more, which is x
 pub heads-more : (from : ℕ) (us : List ℕ) (k x : ℕ) (old new : List ℕ) → k < length us → get_or us k 0 ≡ x → old ≡ filter (nat_le from) (take k us) → new ≡ old ++ cond (nat_le from x) (x ∷ []) [] → new ≡ filter (nat_le from) (take (k + 1) us)
@@ -61,10 +48,6 @@ heads_sorted lists v from old new p h u = (
   (λ among. (h u).0 (Contains-permutation new old u (IsPermutation-sym old new p) among)),
   λ edge. Contains-permutation old new u p ((h u).1 edge),
 )
-
--- the front of a list that was put into another order
-pub front_sorted : (xs ys : List ℕ) (n : ℕ) → n ≤ length xs → IsPermutation (take n xs) ys → take n (ys ++ drop n xs) ≡ ys
-front_sorted xs ys n l p = take_at ys (drop n xs) n (length_permutation (take n xs) ys p ∙ length-take-le n xs l)
 
 -- the boxes of runs, one written more
 pub runs-more : (runs : List Span) (k : ℕ) (x : Span) (P : ℕ → Span → Type 0) → k < length runs → P k x → ((j : ℕ) → j < k → P j (run_at runs j)) → (j : ℕ) → j < k + 1 → P j (run_at (set runs k x) j)
@@ -143,6 +126,12 @@ module _ (lists : Lists) (points : List Point) where
                 | inr same ↦ least.1.rest.before b same.1 (subst (λ z. IsCrossedBy lists points v heads best z b) same.0 by)
               ];
         }
+
+    -- the edge found, if there is one, and else the best one
+    pub found_or_kept : (first : Option Ends) → All (HasEdge lists v) heads
+        → MatchOption first ((a b : ℕ) → a < v → ¬ IsCrossedBy lists points v heads best a b) (λ (e : Ends). (e.a.0 < v) × IsLeastPair (IsCrossedBy lists points v heads best) e.a.0 e.b.0) → IsLowered lists points v heads best (option_or first best)
+    found_or_kept None edges none = kept none
+    found_or_kept (Some e) edges least = found e edges least
 
   module _ (v : ℕ) (heads : List ℕ) where
     -- a run of a star more

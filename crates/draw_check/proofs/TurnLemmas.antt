@@ -1,5 +1,6 @@
 -- Breaks of the directions round a vertex, as the calls of a map answer them.
-use Rattle.std.proofs.Common.{◌≡◌, ℕ, ◌<◌, ◌≤◌, Bool, true, false, MatchBool, List, length, sym, subst}
+use Rattle.std.proofs.Common.{◌≡◌, ℕ, ◌<◌, ◌≤◌, Bool, true, false, not, MatchBool, List, length, refl, sym, subst}
+use Rattle.std.proofs.lemmas.Bool.{false≢true}
 use Rattle.map_lists.specs.Lists.{Lists}
 use Rattle.map_theory.specs.Maps.{list_of, follows}
 use Rattle.pg_plane.specs.declared.point.Point.{Point}
@@ -12,6 +13,11 @@ use Rattle.draw_check.specs.Faults.{IsTurned}
 -- the direction to u is not before that to w
 abbrev pub IsBreakOf : List Point → ℕ → ℕ → ℕ → Type 0
 IsBreakOf points v u w = ¬ IsClockBefore (vector (place points v) (place points u)) (vector (place points v) (place points w))
+
+-- what a test says of a negation
+pub denied : (P : Type 0) (r : Bool) → ((r ≡ true → P) × (P → r ≡ true)) → (not r ≡ true → ¬ P) × ((¬ P) → not r ≡ true)
+denied P true is = (λ e. absurd (false≢true e), λ lacks. absurd (lacks (is.0 refl)))
+denied P false is = (λ e p. false≢true (is.1 p), λ lacks. refl)
 
 -- what the calls answer for a dart and the next one
 pub break_is : (lists : Lists) (points : List Point) (v u s t w : ℕ) → v ≡ s → u ≡ t → follows lists v u ≡ w → (r : Bool) → ((r ≡ true → IsBreakOf points s t w) × (IsBreakOf points s t w → r ≡ true)) → (r ≡ true → Breaks lists points v u) × (Breaks lists points v u → r ≡ true)

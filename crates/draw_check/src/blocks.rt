@@ -10,29 +10,20 @@ use crate::spans::{NO_SPAN, Span, joined, widened};
 use half_edges::VertexId;
 
 impl Drawing<'_> {
-    // Returns a box of a vertex and its greater neighbours; `heads` is room.
-    fn reach_of(&self, heads: &mut [u16], v: VertexId) -> Span
-        requires vertex { v.0 < length self.now.map.now.lists }
-        requires room { length heads.old ≡ 4095 }
-        ensures range { IsBoxInRange result }
-        ensures reach { Reaches self.now.map.now.lists self.now.points.now result v.0 }
-    {
-        self.map.facts();
-        let count = self.star_heads(v, v.0 + 1, heads);
-        let span = self.run_of(&heads[..count], 0, count);
-        widened(span, self.spot(v))
-    }
-
-    // Returns a box of what the edges of a block reach.
+    // Returns a box of the vertices from number `begin` on and before `end`, and of their greater neighbours; `heads` is
+    // room.
     fn block_of(&self, heads: &mut [u16], begin: u16, end: u16) -> Span
         requires end { end ≤ length self.now.map.now.lists }
         requires room { length heads.old ≡ 4095 }
         ensures range { IsBoxInRange result }
         ensures reach { (v : ℕ) → begin ≤ v → v < end → Reaches self.now.map.now.lists self.now.points.now result v }
     {
+        self.map.facts();
         let mut span = NO_SPAN;
         for v in begin..end {
-            span = joined(span, self.reach_of(heads, VertexId(v)));
+            let count = self.star_heads(VertexId(v), v + 1, heads);
+            let star = self.run_of(&heads[..count], 0, count);
+            span = joined(span, widened(star, self.spot(VertexId(v))));
         }
         span
     }

@@ -2,7 +2,6 @@
 ghost use Rattle.std.specs.Prelude.{◌<◌, length};
 ghost use Rattle.std.specs.Bool.{OnTrue};
 ghost use Rattle.half_edges.specs.Map.{first_dart};
-ghost use Rattle.plane_drawings.specs.Drawing.{place, IsInGrid};
 ghost use Rattle.draw_check.specs.Corners.{IsCornerWell, IsRoundWell};
 ghost use Rattle.draw_check.specs.Faults.{HasPlaces};
 ghost use Rattle.draw_check.specs.Outer.{HasOuterFace};
@@ -28,21 +27,15 @@ struct Corners<'a> {
 
 impl Corners<'_> {
     // Says whether the corner at `a` from `c` to `b` opens to the left, or to the right where the face is the outer one.
-    // Of a triangle, one corner alone is looked at: that at the least vertex.
+    // Of a triangle, one corner alone is looked at: that at the least vertex, where `b` and `c` are vertices at all.
     #[inline(always)]
     fn is_well(&self, is_outer: bool, a: u16, b: u16, c: u16) -> bool
         requires { a < length self.now.points.now }
         ensures { OnTrue result (IsCornerWell self.now.points.now is_outer a b c) }
     {
-        b <= a || c <= a || self.turns_well(is_outer, a, b, c)
-    }
-
-    // Says whether three numbers are vertices, and the way from `a` over `b` to `c` turns so.
-    #[inline(always)]
-    fn turns_well(&self, is_outer: bool, a: u16, b: u16, c: u16) -> bool
-        requires { a < length self.now.points.now }
-        ensures { OnTrue result (IsCornerWell self.now.points.now is_outer a b c) }
-    {
+        if b <= a || c <= a {
+            return true;
+        }
         let n = self.points.len();
         let placed = Placed {
             points: self.points,
@@ -68,15 +61,6 @@ impl Corners<'_> {
         }
         true
     }
-
-    // Says whether `v` stands in the grid, and all its corners are drawn well.
-    #[inline(always)]
-    fn is_vertex_well(&self, v: u16, corner: Point) -> bool
-        requires { v < length self.now.lists.now }
-        ensures { OnTrue result (IsInGrid corner.x corner.y (place self.now.points.now v) × IsRoundWell self.now.lists.now self.now.points.now v) }
-    {
-        is_in_grid(place_at(self.points, VertexId(v)), corner) && self.is_round_well(v)
-    }
 }
 
 /// Says whether a drawing of lists is seen to have no fault, where they are a triangulation: `check_points` answers `Yes`, and
@@ -90,7 +74,8 @@ pub fn is_drawn_well(lists: &Rotations, points: &Points, corner: Point) -> bool
     faces_yes_for_fewer();
     let corners = Corners { lists, points };
     for v in 0..lists.len() {
-        if !corners.is_vertex_well(v as u16, corner) {
+        let v = v as u16;
+        if !is_in_grid(place_at(points, VertexId(v)), corner) || !corners.is_round_well(v) {
             return false;
         }
     }

@@ -37,23 +37,8 @@ impl Drawing<'_> {
         self.first_met(Probe::Edge(a, b), a.0 + 1)
     }
 
-    // Says whether a later edge crosses the edge from `a` to `b`. Without the edges of the loose vertices the drawing
-    // is plane.
-    fn is_crossed(&self, loose: &[u16], a: VertexId, b: VertexId) -> bool
-        requires plane { IsPlaneDrawing (firm_lists loose.now self.now.map.now.lists) self.now.points.now }
-        requires edge { HasEdge self.now.map.now.lists a.0 b.0 }
-        ensures { IsTrue result ↔ IsCrossed self.now.map.now.lists self.now.points.now a.0 b.0 }
-    {
-        if !self.may_be_crossed(loose, a, b) {
-            return false;
-        }
-        match self.crossing_of(a, b) {
-            Some(_) => true,
-            None => false,
-        }
-    }
-
-    // Says whether a later edge crosses that of a dart, of which the tail is the lesser end.
+    // Says whether a later edge crosses that of a dart, of which the tail is the lesser end. Without the edges of the
+    // loose vertices the drawing is plane.
     fn is_dart_crossed(&self, loose: &[u16], d: DartId) -> bool
         requires plane { IsPlaneDrawing (firm_lists loose.now self.now.map.now.lists) self.now.points.now }
         requires live { IsLive self.now.map.now d.0 }
@@ -62,20 +47,15 @@ impl Drawing<'_> {
         self.map.facts();
         let a = self.map.tail(d);
         let b = self.map.head(d);
-        a.0 < b.0 && self.is_crossed(loose, a, b)
-    }
-
-    // Returns the first edge that a later one crosses, where without the edges of the loose vertices the drawing is
-    // plane.
-    fn first_crossed_by_loose(&self, loose: &[u16]) -> Option<Ends>
-        requires plane { IsPlaneDrawing (firm_lists loose.now self.now.map.now.lists) self.now.points.now }
-        ensures { MatchOption result ((a b : ℕ) → ¬ IsCrossed self.now.map.now.lists self.now.points.now a b)
-            (λ e. IsLeastPair (IsCrossed self.now.map.now.lists self.now.points.now) e.a.0 e.b.0) }
-    {
-        self.map.facts();
-        match first_dart(self.map, |d| self.is_dart_crossed(loose, d)) {
-            Some((a, b)) => Some(Ends { a, b }),
-            None => None,
+        if b.0 <= a.0 {
+            return false;
+        }
+        if !self.may_be_crossed(loose, a, b) {
+            return false;
+        }
+        match self.crossing_of(a, b) {
+            Some(_) => true,
+            None => false,
         }
     }
 
@@ -86,8 +66,14 @@ impl Drawing<'_> {
         ensures { MatchOption result ((a b : ℕ) → ¬ IsCrossed self.now.map.now.lists self.now.points.now a b)
             (λ e. IsLeastPair (IsCrossed self.now.map.now.lists self.now.points.now) e.a.0 e.b.0) }
     {
+        self.map.facts();
         match loose {
-            Some(loose) if have_few_edges(self.map, loose) => self.first_crossed_by_loose(loose),
+            Some(loose) if have_few_edges(self.map, loose) => {
+                match first_dart(self.map, |d| self.is_dart_crossed(loose, d)) {
+                    Some((a, b)) => Some(Ends { a, b }),
+                    None => None,
+                }
+            }
             _ => self.first_crossed(),
         }
     }

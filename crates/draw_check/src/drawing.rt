@@ -24,14 +24,6 @@ pub(crate) struct Placed<'a> {
     ghost in_range: { (v : ℕ) → v < length points.now → IsInRange (place points.now v) },
 }
 
-// Says whether a number is negative, or positive where that is asked.
-#[inline(always)]
-fn has_sign(number: i64, is_negative: bool) -> bool
-    ensures { IsTrue result ↔ MatchBool is_negative (number <ℤ pos 0) (pos 0 <ℤ number) }
-{
-    if is_negative { number < 0 } else { 0 < number }
-}
-
 impl Placed<'_> {
     // Says whether the way from `a` over `b` to `c` turns to the left, or to the right where the face is the outer
     // one.
@@ -48,6 +40,6 @@ impl Placed<'_> {
             place_at(self.points, b),
             place_at(self.points, c),
         );
-        has_sign(double, is_outer)
+        if is_outer { double < 0 } else { 0 < double }
     }
 }

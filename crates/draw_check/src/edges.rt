@@ -1,7 +1,7 @@
 //! Vertices on edges, and edges that cross.
 ghost use Rattle.std.specs.Prelude.{◌≡◌, ◌+◌, ◌<◌, ◌≤◌, ◌↔◌, ℕ, length, IsTrue, Some, MatchOption};
 ghost use Rattle.half_edges.specs.Map.{IsLive};
-ghost use Rattle.vertex_rounds.specs.Least.{IsLeast, IsLeastPair, IsLeastTriple};
+ghost use Rattle.vertex_rounds.specs.Least.{IsLeastPair, IsLeastTriple};
 ghost use Rattle.vertex_rounds.specs.Rounds.{HoldsAt};
 ghost use Rattle.draw_check.specs.Faults.{LiesOnEdge};
 ghost use Rattle.draw_check.specs.Verdicts.{NoneOnEdge};
@@ -12,7 +12,7 @@ use crate::drawing::Drawing;
 use crate::places::place_at;
 use half_edges::{DartId, Ends, VertexId};
 use pg_plane::{crosses, on_segment};
-use vertex_rounds::least_head;
+use vertex_rounds::first_dart_from;
 
 // Names something that may meet an edge.
 #[derive(Clone, Copy)]
@@ -58,39 +58,17 @@ impl Drawing<'_> {
         a.0 < b.0 && self.meets(probe, a, b)
     }
 
-    // Returns the least greater neighbour of `v` to which the edge is met.
-    fn met_from(&self, probe: Probe, v: VertexId) -> Option<VertexId>
-        requires probe { IsProbeBelow (length self.now.map.now.lists) probe }
-        requires vertex { v.0 < length self.now.map.now.lists }
-        ensures { MatchOption result ((u : ℕ) → ¬ IsMet self.now.map.now.lists self.now.points.now probe v.0 u)
-            (λ u. IsLeast (IsMet self.now.map.now.lists self.now.points.now probe v.0) u.0) }
-    {
-        self.map.facts();
-        least_head(self.map, v, |d| self.is_met(probe, d))
-    }
-
     // Returns the first edge that is met, of those whose lesser end is at least `from`.
     pub(crate) fn first_met(&self, probe: Probe, from: u16) -> Option<Ends>
         requires probe { IsProbeBelow (length self.now.map.now.lists) probe }
         ensures { MatchOption result ((a b : ℕ) → ¬ IsMetFrom self.now.map.now.lists self.now.points.now probe from a b)
             (λ e. IsLeastPair (IsMetFrom self.now.map.now.lists self.now.points.now probe from) e.a.0 e.b.0) }
     {
-        for v in from..self.map.n() {
-            let a = VertexId(v);
-            if let Some(b) = self.met_from(probe, a) {
-                return Some(Ends { a, b });
-            }
+        self.map.facts();
+        match first_dart_from(self.map, from, |d| self.is_met(probe, d)) {
+            Some((a, b)) => Some(Ends { a, b }),
+            None => None,
         }
-        None
-    }
-
-    // Returns the first edge on which a vertex lies, of which it is no end.
-    fn edge_under(&self, v: VertexId) -> Option<Ends>
-        requires vertex { v.0 < length self.now.map.now.lists }
-        ensures { MatchOption result ((a b : ℕ) → ¬ LiesOnEdge self.now.map.now.lists self.now.points.now v.0 a b)
-            (λ e. IsLeastPair (LiesOnEdge self.now.map.now.lists self.now.points.now v.0) e.a.0 e.b.0) }
-    {
-        self.first_met(Probe::Vertex(v), 0)
     }
 
     // Returns the least vertex that lies on an edge of which it is no end, with the first such edge. None below `from`
@@ -101,7 +79,7 @@ impl Drawing<'_> {
             (λ p. IsLeastTriple (LiesOnEdge self.now.map.now.lists self.now.points.now) p.0.0 p.1.a.0 p.1.b.0) }
     {
         for v in from..self.map.n() {
-            if let Some(edge) = self.edge_under(VertexId(v)) {
+            if let Some(edge) = self.first_met(Probe::Vertex(VertexId(v)), 0) {
                 return Some((VertexId(v), edge));
             }
         }

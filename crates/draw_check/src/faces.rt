@@ -1,19 +1,18 @@
 //! The check of a drawing of a triangulation by its faces.
-ghost use Rattle.std.specs.Prelude.{◌≡◌, ◌⊎◌, ◌+◌, ◌*◌, ◌<◌, ◌≤◌, ◌↔◌, ℕ, length, IsTrue, MatchOption};
-ghost use Rattle.map_theory.specs.Maps.{HasDart, IsPlane, vertex_count, edge_count, follows};
+ghost use Rattle.std.specs.Prelude.{◌⊎◌, ◌≡◌, ◌+◌, ◌*◌, ◌<◌, ◌≤◌, ◌↔◌, IsTrue};
+ghost use Rattle.map_theory.specs.Maps.{IsPlane, vertex_count, edge_count};
 ghost use Rattle.map_theory.specs.Paths.{SameFace};
 ghost use Rattle.half_edges.specs.Map.{IsLive, first_dart};
 ghost use Rattle.plane_laws.specs.Triangulations.{IsTriangulation};
-ghost use Rattle.vertex_rounds.specs.Least.{IsLeastTriple};
 ghost use Rattle.draw_check.specs.Faults.{HasPlaces};
 ghost use Rattle.vertex_rounds.specs.Rounds.{HoldsAt};
-ghost use Rattle.draw_check.specs.FaceVerdicts.{IsDrawnWrong, IsWrongFrom, IsFaceVerdict};
+ghost use Rattle.draw_check.specs.FaceVerdicts.{IsWrongFrom, IsFaceVerdict};
 ghost use Rattle.vertex_rounds.specs.Rounds.{dart_of};
 
 use crate::FaceVerdict;
 use crate::drawing::{Drawing, Placed};
 use crate::places::corner_of;
-use half_edges::{DartId, HalfMap, VertexId};
+use half_edges::{DartId, HalfMap};
 use pg_plane::{GridFigure, Point, Points};
 use vertex_rounds::first_dart;
 
@@ -22,26 +21,6 @@ fn is_one_of(d: DartId, one: DartId, two: DartId, three: DartId) -> bool
     ensures { IsTrue result ↔ ((d.0 ≡ one.0) ⊎ ((d.0 ≡ two.0) ⊎ (d.0 ≡ three.0))) }
 {
     d.0 == one.0 || d.0 == two.0 || d.0 == three.0
-}
-
-// Says whether the first of three vertices is the least.
-fn is_least(a: VertexId, b: VertexId, c: VertexId) -> bool
-    ensures { IsTrue result ↔ ((a.0 < b.0) × (a.0 < c.0)) }
-{
-    a.0 < b.0 && a.0 < c.0
-}
-
-// The vertex to which the face of the dart from `a` to `b` goes on.
-fn third_vertex(map: &HalfMap, a: VertexId, b: VertexId) -> Option<VertexId>
-    requires a { a.0 < length map.now.lists }
-    requires b { b.0 < length map.now.lists }
-    ensures { MatchOption result (¬ HasDart map.now.lists a.0 b.0) (λ c. follows map.now.lists b.0 a.0 ≡ c.0) }
-{
-    map.facts();
-    match map.dart_of(a, b) {
-        Some(d) => Some(map.head(map.face_step(d))),
-        None => None,
-    }
 }
 
 /// Returns the least vertex outside the grid; or else the least face, written from its least vertex, that is not
@@ -67,8 +46,11 @@ pub fn check_points_by_faces(
         return FaceVerdict::OutOfGrid(v);
     }
     let framed = Framed { drawing, base };
-    match framed.first_wrong() {
-        Some((a, b, c)) => FaceVerdict::Wrong(a, b, c),
+    match first_dart(tri, |d| framed.is_wrong(d)) {
+        Some((a, b)) => match tri.dart_of(a, b) {
+            Some(d) => FaceVerdict::Wrong(a, b, tri.head(tri.face_step(d))),
+            None => FaceVerdict::Yes,
+        },
         None => FaceVerdict::Yes,
     }
 }
@@ -120,22 +102,9 @@ impl Framed<'_> {
         let a = map.tail(d);
         let b = map.head(d);
         let c = map.head(map.face_step(d));
-        is_least(a, b, c) && !placed.turns_well(self.is_on_base(d), a, b, c)
-    }
-
-    // Returns the least face that is drawn wrong, written from its least vertex.
-    fn first_wrong(&self) -> Option<(VertexId, VertexId, VertexId)>
-        ensures { MatchOption result ((a b c : ℕ) → ¬ IsDrawnWrong self.now.drawing.map.now.lists self.now.drawing.points.now (dart_of self.now.drawing.map.now self.now.base.0) a b c)
-            (λ p. IsLeastTriple (IsDrawnWrong self.now.drawing.map.now.lists self.now.drawing.points.now (dart_of self.now.drawing.map.now self.now.base.0)) p.0.0 p.1.0 p.2.0) }
-    {
-        let map = self.drawing.map;
-        map.facts();
-        match first_dart(map, |d| self.is_wrong(d)) {
-            Some((a, b)) => match third_vertex(map, a, b) {
-                Some(c) => Some((a, b, c)),
-                None => None,
-            },
-            None => None,
+        if a.0 < b.0 && a.0 < c.0 {
+            return !placed.turns_well(self.is_on_base(d), a, b, c);
         }
+        false
     }
 }

@@ -1,9 +1,8 @@
 //! The check that the face of a base is the outer one.
-ghost use Rattle.std.specs.Prelude.{◌≡◌, ◌+◌, ◌<◌, ◌↔◌, ℕ, length, IsTrue, Some, IfOk, MatchOption};
+ghost use Rattle.std.specs.Prelude.{◌≡◌, ◌↔◌, length, IsTrue, Some, IfOk};
 ghost use Rattle.map_theory.specs.Maps.{component_count};
 ghost use Rattle.half_edges.specs.Map.{IsLive, first_dart};
 ghost use Rattle.euler_faces.specs.FaceWalks.{AreFaces};
-ghost use Rattle.vertex_rounds.specs.Least.{IsLeastPair};
 ghost use Rattle.draw_check.specs.Faults.{HasPlaces};
 ghost use Rattle.vertex_rounds.specs.Rounds.{HoldsAt};
 ghost use Rattle.vertex_rounds.specs.Rounds.{dart_of};
@@ -13,40 +12,34 @@ ghost use Rattle.draw_check.specs.Outer.{IsOuterVerdict};
 use crate::OuterVerdict;
 use crate::drawing::Drawing;
 use euler_faces::{Faces, euler, faces};
-use half_edges::{DartId, HalfMap, VertexId};
+use half_edges::{DartId, HalfMap};
 use pg_plane::{GridFigure, Points};
 use std::alloc::{AllocError, Global};
 use vertex_rounds::first_dart;
 
-// Says whether a dart lies on another face than the base's, whose sum is not positive.
-fn has_low_sum(map: &HalfMap, faces: &Faces, sums: &[i128], base: DartId, d: DartId) -> bool
-    requires faces { AreFaces map.now faces.now }
-    requires count { length sums.now ≡ length faces.now }
-    requires base { IsLive map.now base.0 }
-    requires live { IsLive map.now d.0 }
-    ensures { IsTrue result ↔ HoldsAt map.now (HasLowSum map.now faces.now sums.now base.0) d.0 }
-{
-    map.facts();
-    let outer = faces.of_dart(base);
-    let face = faces.of_dart(d);
-    face.0 != outer.0 && sums[face.0 as usize] <= 0
+/// A map with its faces, a number for each of them, and a base dart.
+#[derive(Clone, Copy)]
+struct Summed<'a> {
+    map: &'a HalfMap,
+    faces: &'a Faces,
+    sums: &'a [i128],
+    base: DartId,
+    ghost count: { length sums.now ≡ length faces.now },
+    ghost live: { IsLive map.now base.0 },
 }
 
-// Returns the least dart on such a face.
-fn first_low(
-    map: &HalfMap,
-    faces: &Faces,
-    sums: &[i128],
-    base: DartId,
-) -> Option<(VertexId, VertexId)>
-    requires faces { AreFaces map.now faces.now }
-    requires count { length sums.now ≡ length faces.now }
-    requires base { IsLive map.now base.0 }
-    ensures { MatchOption result ((v u : ℕ) → ¬ HasLowSum map.now faces.now sums.now base.0 v u)
-        (λ p. IsLeastPair (HasLowSum map.now faces.now sums.now base.0) p.0.0 p.1.0) }
-{
-    map.facts();
-    first_dart(map, |d| has_low_sum(map, faces, sums, base, d))
+impl Summed<'_> {
+    // Says whether a dart lies on another face than the base's, whose sum is not positive.
+    fn has_low_sum(&self, d: DartId) -> bool
+        requires faces { AreFaces self.now.map.now self.now.faces.now }
+        requires live { IsLive self.now.map.now d.0 }
+        ensures { IsTrue result ↔ HoldsAt self.now.map.now (HasLowSum self.now.map.now self.now.faces.now self.now.sums.now self.now.base.0) d.0 }
+    {
+        self.map.facts();
+        let outer = self.faces.of_dart(self.base);
+        let face = self.faces.of_dart(d);
+        face.0 != outer.0 && self.sums[face.0 as usize] <= 0
+    }
 }
 
 /// Returns the verdict of `check_outer` where the map is connected, of which it needs no count.
@@ -64,7 +57,13 @@ pub fn check_outer_connected(
     map.facts();
     let faces = faces(alloc, map)?;
     let sums = Drawing { map, points }.face_sums(alloc, &faces)?;
-    match first_low(map, &faces, &sums, base) {
+    let summed = Summed {
+        map,
+        faces: &faces,
+        sums: &sums,
+        base,
+    };
+    match first_dart(map, |d| summed.has_low_sum(d)) {
         Some((v, u)) => Ok(OuterVerdict::Inside(v, u)),
         None => Ok(OuterVerdict::Yes),
     }

@@ -2,7 +2,6 @@
 ghost use Rattle.std.specs.Prelude.{IfSome, MatchOption, ℤ};
 ghost use Rattle.plane_drawings.specs.Drawing.{IsPlaneDrawing};
 ghost use Rattle.plane_drawings.specs.SweepCheckLines.{firm_lists};
-ghost use Rattle.draw_check.specs.declared.verdict.Verdict.TheVariants.{Yes};
 ghost use Rattle.draw_check.specs.Faults.{HasPlaces};
 ghost use Rattle.draw_check.specs.Verdicts.{AllInGrid, NoneShareAPlace, NoneOnEdge, NoneCross, IsVerdict};
 
@@ -29,8 +28,14 @@ pub fn check_points(map: &HalfMap, points: &Points, corner: Point) -> Verdict
 {
     map.facts();
     let drawing = Drawing { map, points };
-    match drawing.first_fault(corner) {
-        Some(verdict) => verdict,
+    if let Some(v) = drawing.first_outside(corner) {
+        return Verdict::OutOfGrid(v);
+    }
+    if let Some(verdict) = drawing.first_pair() {
+        return verdict;
+    }
+    match drawing.first_turned() {
+        Some(v) => Verdict::Turned(v),
         None => Verdict::Yes,
     }
 }
@@ -63,20 +68,9 @@ impl Drawing<'_> {
     }
 
     // Returns the first two vertices at one place, the first vertex on an edge or the first two edges that cross, in
-    // this order.
+    // this order. A sweep that finds the drawing plane, or plane without the edges of a few vertices, spares the search
+    // over all pairs.
     fn first_pair(&self) -> Option<Verdict>
-        ensures { MatchOption result (NoneShareAPlace self.now.map.now.lists self.now.points.now × NoneOnEdge self.now.map.now.lists self.now.points.now × NoneCross self.now.map.now.lists self.now.points.now)
-            (λ verdict. (width height : ℤ) → AllInGrid self.now.map.now.lists self.now.points.now width height → IsVerdict self.now.map.now.lists self.now.points.now width height verdict) }
-    {
-        if let Some((u, v)) = self.first_shared() {
-            return Some(Verdict::SamePlace(u, v));
-        }
-        self.first_meeting(None)
-    }
-
-    // Finds the first such pair. A sweep that finds the drawing plane, or plane without the edges of a few vertices,
-    // spares the search over all pairs.
-    fn first_pair_by_sweep(&self) -> Option<Verdict>
         ensures { MatchOption result (NoneShareAPlace self.now.map.now.lists self.now.points.now × NoneOnEdge self.now.map.now.lists self.now.points.now × NoneCross self.now.map.now.lists self.now.points.now)
             (λ verdict. (width height : ℤ) → AllInGrid self.now.map.now.lists self.now.points.now width height → IsVerdict self.now.map.now.lists self.now.points.now width height verdict) }
     {
@@ -85,24 +79,10 @@ impl Drawing<'_> {
         match loose_vertices(self.map, self.points, &mut loose) {
             Some(0) => None,
             Some(count) => self.first_meeting(Some(&loose[..count])),
-            None => self.first_pair(),
-        }
-    }
-
-    // Returns the first fault of a drawing, if it has one.
-    fn first_fault(&self, corner: Point) -> Option<Verdict>
-        ensures { MatchOption result (IsVerdict self.now.map.now.lists self.now.points.now corner.x corner.y Yes)
-            (IsVerdict self.now.map.now.lists self.now.points.now corner.x corner.y) }
-    {
-        if let Some(v) = self.first_outside(corner) {
-            return Some(Verdict::OutOfGrid(v));
-        }
-        if let Some(verdict) = self.first_pair_by_sweep() {
-            return Some(verdict);
-        }
-        match self.first_turned() {
-            Some(v) => Some(Verdict::Turned(v)),
-            None => None,
+            None => match self.first_shared() {
+                Some((u, v)) => Some(Verdict::SamePlace(u, v)),
+                None => self.first_meeting(None),
+            },
         }
     }
 }

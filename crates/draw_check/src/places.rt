@@ -1,5 +1,5 @@
 //! Where the vertices stand.
-ghost use Rattle.std.specs.Prelude.{◌≡◌, ℕ, ◌<◌, ◌↔◌, length, IsTrue, MatchOption};
+ghost use Rattle.std.specs.Prelude.{◌≡◌, ◌<◌, ◌↔◌, length, IsTrue, MatchOption};
 ghost use Rattle.pg_plane.specs.Range.{IsInRange};
 ghost use Rattle.plane_drawings.specs.Drawing.{place, IsInGrid};
 ghost use Rattle.vertex_rounds.specs.Least.{IsLeast, IsLeastPair};
@@ -17,7 +17,7 @@ pub(crate) struct Spot {
     ghost range: { IsInRange point },
 }
 
-// The place of a vertex.
+// Returns the place of a vertex.
 pub(crate) fn place_at(points: &Points, v: VertexId) -> Point
     requires { v.0 < length points.now }
     ensures { result ≡ place points.now v.0 }
@@ -25,7 +25,7 @@ pub(crate) fn place_at(points: &Points, v: VertexId) -> Point
     points.get(v.0 as usize)
 }
 
-// Where the grid of a figure ends.
+// Returns where the grid of a figure ends.
 pub(crate) fn corner_of(fig: &GridFigure) -> Point
     ensures x { result.x ≡ fig.now.width }
     ensures y { result.y ≡ fig.now.height }
@@ -43,15 +43,8 @@ pub(crate) fn is_in_grid(p: Point, corner: Point) -> bool
     0 <= p.x && p.x <= corner.x && 0 <= p.y && p.y <= corner.y
 }
 
-// Says whether two points are one.
-fn is_same_place(p: Point, q: Point) -> bool
-    ensures { IsTrue result ↔ (p ≡ q) }
-{
-    p.x == q.x && p.y == q.y
-}
-
 impl Drawing<'_> {
-    // The place of a vertex, which is within the range of coordinates.
+    // Returns the place of a vertex, which is within the range of coordinates.
     pub(crate) fn spot(&self, v: VertexId) -> Spot
         requires { v.0 < length self.now.points.now }
         ensures { result.point ≡ place self.now.points.now v.0 }
@@ -74,30 +67,19 @@ impl Drawing<'_> {
         None
     }
 
-    // Returns the least vertex after `u` that stands where `u` does.
-    fn first_shared_with(&self, u: VertexId) -> Option<VertexId>
-        requires vertex { u.0 < length self.now.map.now.lists }
-        ensures { MatchOption result ((v : ℕ) → ¬ ShareAPlace self.now.map.now.lists self.now.points.now u.0 v)
-            (λ v. IsLeast (ShareAPlace self.now.map.now.lists self.now.points.now u.0) v.0) }
-    {
-        self.map.facts();
-        let p = place_at(self.points, u);
-        for v in u.0 + 1..self.map.n() {
-            if is_same_place(p, place_at(self.points, VertexId(v))) {
-                return Some(VertexId(v));
-            }
-        }
-        None
-    }
-
     // Returns the least two vertices that stand at one place.
     pub(crate) fn first_shared(&self) -> Option<(VertexId, VertexId)>
         ensures { MatchOption result (NoneShareAPlace self.now.map.now.lists self.now.points.now)
             (λ p. IsLeastPair (ShareAPlace self.now.map.now.lists self.now.points.now) p.0.0 p.1.0) }
     {
+        self.map.facts();
         for u in 0..self.map.n() {
-            if let Some(v) = self.first_shared_with(VertexId(u)) {
-                return Some((VertexId(u), v));
+            let p = place_at(self.points, VertexId(u));
+            for v in u + 1..self.map.n() {
+                let q = place_at(self.points, VertexId(v));
+                if p.x == q.x && p.y == q.y {
+                    return Some((VertexId(u), VertexId(v)));
+                }
             }
         }
         None

@@ -1,5 +1,5 @@
 //! Boxes, and lines that part a segment from those between a point and a box.
-ghost use Rattle.std.specs.Prelude.{◌≡◌, if◌then◌else◌, ◌⊎◌, ◌↔◌, ◌<ℤ◌, ◌≤ℤ◌, pos, IsTrue};
+ghost use Rattle.std.specs.Prelude.{◌≡◌, ◌⊎◌, if◌then◌else◌, ◌↔◌, ◌<ℤ◌, ◌≤ℤ◌, pos, IsTrue};
 ghost use Rattle.std.specs.Bool.{OnTrue};
 ghost use Rattle.pg_plane.specs.Geometry.{area, IsOnSegment};
 ghost use Rattle.pg_plane.specs.Range.{IsInRange, IsWithin};
@@ -35,7 +35,7 @@ pub(crate) const NO_SPAN: Span = Span {
     top: -GREATEST,
 };
 
-// The box with one point more.
+// Returns the box with one point more.
 pub(crate) fn widened(span: Span, p: Spot) -> Span
     requires { IsBoxInRange span }
     ensures range { IsBoxInRange result }
@@ -83,18 +83,6 @@ fn is_apart(span: Span, p: Spot, q: Spot) -> bool
     false
 }
 
-// The side of a box that is farther to the right of the way from `p` to `q`, of the left one and the right one.
-fn far_side(extent: Extent, p: Point, q: Point) -> i32
-    ensures range { IsWithin (pos 1048576) result }
-    ensures far { (u : Point) → IsIn extent.span u → ((p.y ≤ℤ q.y) × (u.x ≤ℤ result)) ⊎ ((q.y ≤ℤ p.y) × (result ≤ℤ u.x)) }
-{
-    if p.y <= q.y {
-        extent.span.right
-    } else {
-        extent.span.left
-    }
-}
-
 // Returns the bottom or the top of a box, whichever is farther to the right of the way from `p` to `q`.
 fn far_level(extent: Extent, p: Point, q: Point) -> i32
     ensures range { IsWithin (pos 1048576) result }
@@ -107,14 +95,22 @@ fn far_level(extent: Extent, p: Point, q: Point) -> i32
     }
 }
 
-// The corner of a box that is farthest to the right of the way from `p` to `q`.
+// Returns the corner of a box that is farthest to the right of the way from `p` to `q`.
 fn far_corner(extent: Extent, p: Point, q: Point) -> Point
     ensures range { IsInRange result }
     ensures least { (u : Point) → IsIn extent.span u → area p q result ≤ℤ area p q u }
 {
-    Point {
-        x: far_side(extent, p, q),
-        y: far_level(extent, p, q),
+    let level = far_level(extent, p, q);
+    if p.y <= q.y {
+        Point {
+            x: extent.span.right,
+            y: level,
+        }
+    } else {
+        Point {
+            x: extent.span.left,
+            y: level,
+        }
     }
 }
 
@@ -139,31 +135,18 @@ fn is_past(extent: Extent, r: Spot, p: Spot, q: Spot) -> bool
     is_not_negative(area2(p.point, q.point, r.point)) && is_left_of(extent, p, q)
 }
 
-// Says whether seen from `r` both points are to the right of the box.
-fn are_to_right(extent: Extent, r: Spot, p: Spot, q: Spot) -> bool
-    ensures { OnTrue result (MissesStar extent.span r.point p.point q.point) }
-{
-    is_left_of(extent, r, p) && is_left_of(extent, r, q)
-}
-
-// Says whether seen from `r` both points are to the left of the box.
-fn are_to_left(extent: Extent, r: Spot, p: Spot, q: Spot) -> bool
-    ensures { OnTrue result (MissesStar extent.span r.point p.point q.point) }
-{
-    is_left_of(extent, p, r) && is_left_of(extent, q, r)
-}
-
-// Says whether a line surely parts the segment from `p` to `q` from the segments from `r` into a box.
+// Says whether a line surely parts the segment from `p` to `q` from the segments from `r` into a box: so it is where
+// both points are on one side of the box, seen from `r`, or the box and `r` are on one side of the segment.
 pub(crate) fn misses_star(extent: Extent, r: Spot, p: Spot, q: Spot) -> bool
     ensures { OnTrue result (MissesStar extent.span r.point p.point q.point) }
 {
     if is_apart(widened(extent.span, r), p, q) {
         return true;
     }
-    if are_to_right(extent, r, p, q) {
+    if is_left_of(extent, r, p) && is_left_of(extent, r, q) {
         return true;
     }
-    if are_to_left(extent, r, p, q) {
+    if is_left_of(extent, p, r) && is_left_of(extent, q, r) {
         return true;
     }
     if is_past(extent, r, p, q) {
@@ -172,18 +155,11 @@ pub(crate) fn misses_star(extent: Extent, r: Spot, p: Spot, q: Spot) -> bool
     is_past(extent, r, q, p)
 }
 
-// Says whether a number is positive.
-fn is_positive(z: i64) -> bool
-    ensures { IsTrue result ↔ (pos 0 <ℤ z) }
-{
-    0 < z
-}
-
 // Says whether all points of a box are to the left of the way from `p` to `q`.
 fn is_strictly_left_of(extent: Extent, p: Spot, q: Spot) -> bool
     ensures { OnTrue result (IsStrictlyLeftOf extent.span p.point q.point) }
 {
-    is_positive(area2(p.point, q.point, far_corner(extent, p.point, q.point)))
+    0 < area2(p.point, q.point, far_corner(extent, p.point, q.point))
 }
 
 // Says whether surely no point of a box lies on the segment from `p` to `q`.
@@ -252,39 +228,8 @@ fn are_boxes_apart(span: Span, other: Span) -> bool
     false
 }
 
-// Says whether all points of a box are to the left of the ways from `r` to the points of another.
-fn is_left_of_ways(extent: Extent, r: Spot, other: Extent) -> bool
-    ensures { OnTrue result ((p : Point) → IsIn other.span p → IsStrictlyLeftOf extent.span r.point p) }
-{
-    if !is_strictly_left_of(extent, r, corner(other, false, false)) {
-        return false;
-    }
-    if !is_strictly_left_of(extent, r, corner(other, true, false)) {
-        return false;
-    }
-    if !is_strictly_left_of(extent, r, corner(other, false, true)) {
-        return false;
-    }
-    is_strictly_left_of(extent, r, corner(other, true, true))
-}
-
-// Says whether all points of a box are to the left of the ways from the points of another to `r`.
-fn is_left_of_ways_back(extent: Extent, r: Spot, other: Extent) -> bool
-    ensures { OnTrue result ((p : Point) → IsIn other.span p → IsStrictlyLeftOf extent.span p r.point) }
-{
-    if !is_strictly_left_of(extent, corner(other, false, false), r) {
-        return false;
-    }
-    if !is_strictly_left_of(extent, corner(other, true, false), r) {
-        return false;
-    }
-    if !is_strictly_left_of(extent, corner(other, false, true), r) {
-        return false;
-    }
-    is_strictly_left_of(extent, corner(other, true, true), r)
-}
-
-// Says whether surely no segment in a box crosses one from `r` into another, and no point of it lies on such a one.
+// Says whether surely no segment in a block crosses one from `r` into a box, and no point of it lies on such a one: so
+// it is where seen from `r` all corners of the block are on one side of the box.
 pub(crate) fn misses_block(extent: Extent, r: Spot, block: Extent) -> bool
     ensures star { OnTrue result ((p q : Point) → IsIn block.span p → IsIn block.span q → MissesStar extent.span r.point p q) }
     ensures fan { OnTrue result ((p : Point) → IsIn block.span p → MissesFan extent.span r.point p) }
@@ -292,8 +237,23 @@ pub(crate) fn misses_block(extent: Extent, r: Spot, block: Extent) -> bool
     if are_boxes_apart(widened(extent.span, r), block.span) {
         return true;
     }
-    if is_left_of_ways(extent, r, block) {
+    let low_left = corner(block, false, false);
+    let low_right = corner(block, true, false);
+    let high_left = corner(block, false, true);
+    let high_right = corner(block, true, true);
+    if is_strictly_left_of(extent, r, low_left)
+        && is_strictly_left_of(extent, r, low_right)
+        && is_strictly_left_of(extent, r, high_left)
+        && is_strictly_left_of(extent, r, high_right)
+    {
         return true;
     }
-    is_left_of_ways_back(extent, r, block)
+    if is_strictly_left_of(extent, low_left, r)
+        && is_strictly_left_of(extent, low_right, r)
+        && is_strictly_left_of(extent, high_left, r)
+        && is_strictly_left_of(extent, high_right, r)
+    {
+        return true;
+    }
+    false
 }

@@ -1,34 +1,19 @@
 //! Twice the areas of all faces, each as a sum over the darts of the face.
-ghost use Rattle.std.specs.Prelude.{◌≡◌, ◌<◌, ◌+◌, length, Some, IfOk};
+ghost use Rattle.std.specs.Prelude.{◌<◌, ◌+◌, length, Some, IfOk};
 ghost use Rattle.map_theory.specs.Maps.{darts_before, dart_count};
 ghost use Rattle.half_edges.specs.Map.{IsLive, dart_at, first_dart};
 ghost use Rattle.euler_faces.specs.Numbers.{number_at};
 ghost use Rattle.euler_faces.specs.FaceWalks.{AreFaces};
-ghost use Rattle.draw_check.specs.Outer.{swept};
 ghost use Rattle.draw_check.specs.FaceSums.{AreSumsBelow};
 
 use crate::drawing::Drawing;
-use crate::places::place_at;
 use euler_faces::Faces;
 use half_edges::{DartId, VertexId};
 use pg_plane::{Point, area2};
 use std::alloc::{AllocError, Global};
 
 impl Drawing<'_> {
-    // Twice the signed area of the triangle from (0, 0) along the dart from `a` to `b`.
-    fn swept_area(&self, a: VertexId, b: VertexId) -> i64
-        requires a { a.0 < length self.now.points.now }
-        requires b { b.0 < length self.now.points.now }
-        ensures { result ≡ swept self.now.points.now (a.0, b.0) }
-    {
-        area2(
-            Point { x: 0, y: 0 },
-            place_at(self.points, a),
-            place_at(self.points, b),
-        )
-    }
-
-    // Adds what a dart sweeps to the sum of its face.
+    // Adds what a dart sweeps to the sum of its face: twice the signed area of the triangle that it makes with (0, 0).
     fn add_dart(&self, faces: &Faces, sums: &mut [i128], d: DartId)
         requires faces { AreFaces self.now.map.now faces.now }
         requires live { IsLive self.now.map.now d.0 }
@@ -36,7 +21,9 @@ impl Drawing<'_> {
         ensures { AreSumsBelow self.now.map.now self.now.points.now faces.now (number_at self.now.map.now d.0 + 1) sums.new }
     {
         self.map.facts();
-        let area = self.swept_area(self.map.tail(d), self.map.head(d));
+        let a = self.spot(self.map.tail(d));
+        let b = self.spot(self.map.head(d));
+        let area = area2(Point { x: 0, y: 0 }, a.point, b.point);
         let face = faces.of_dart(d);
         sums[face.0 as usize] += i128::from(area);
     }
@@ -73,7 +60,7 @@ impl Drawing<'_> {
         }
     }
 
-    // Twice the area of each face, by the number of the face.
+    // Returns twice the area of each face, by the number of the face.
     pub(crate) fn face_sums(&self, alloc: Global, faces: &Faces) -> Result<Vec<i128>, AllocError>
         requires faces { AreFaces self.now.map.now faces.now }
         ensures { IfOk result (λ sums. AreSumsBelow self.now.map.now self.now.points.now faces.now (dart_count self.now.map.now.lists) sums.items) }

@@ -1,7 +1,6 @@
-use Rattle.std.proofs.lemmas.Bool.{OnTrue_at, OnTrue_from}
-use Rattle.pg_plane.specs.declared.point.Point.{Point}
-use Rattle.draw_check.specs.Spans.{IsIn, MissesStar, MissesFan}
-use Rattle.draw_check.proofs.SpanLemmas.{apart_uncrossed, apart_missed, right_missed, left_missed, right_off, left_off, not_right}
+use Rattle.std.proofs.Common.{rules}
+use Rattle.std.proofs.lemmas.Bool.{OnTrue_at}
+use Rattle.draw_check.proofs.SpanLemmas.{AreCorners, apart_uncrossed, apart_missed, ways_missed, ways_missed_back}
 use Rattle.draw_check.proofs.spans.misses_block.Goals as goal
 
 pub returns-then-are_boxes_apart-clause-star : goal.returns-then-are_boxes_apart-clause-star
@@ -12,24 +11,22 @@ pub returns-then-are_boxes_apart-clause-fan : goal.returns-then-are_boxes_apart-
 returns-then-are_boxes_apart-clause-fan c = λ p first u inside.
     apart_missed c.widened.result c.args.r.point u p c.widened.ensures.point (c.widened.ensures.more u inside) (OnTrue_at c.if-are_boxes_apart.true c.are_boxes_apart.ensures p p first first)
 
-pub returns-then-is_left_of_ways-clause-star : goal.returns-then-is_left_of_ways-clause-star
-returns-then-is_left_of_ways-clause-star c = λ p q first second.
-    let left = OnTrue_at c.if-is_left_of_ways.true c.is_left_of_ways.ensures in
-    let span = c.args.extent.span in
-    let r = c.args.r.point in
-    right_missed span r p q (not_right span r p (left p first)) (not_right span r q (left q second))
+pub returns-then-is_strictly_left_of-4-clause-star : goal.returns-then-is_strictly_left_of-4-clause-star
+returns-then-is_strictly_left_of-4-clause-star c =
+    let corners : AreCorners c.args.block.span c.corner-low_left.result.point c.corner-low_right.result.point c.corner-high_left.result.point c.corner-high_right.result.point = search rules in
+    (ways_missed c.args.extent.span c.args.block.span c.corner-low_left.result.point c.corner-low_right.result.point c.corner-high_left.result.point c.corner-high_right.result.point c.args.r.point corners c.if-is_strictly_left_of.ensures c.if-is_strictly_left_of-2.ensures c.if-is_strictly_left_of-3.ensures c.if-is_strictly_left_of-4.ensures).0
 
-pub returns-then-is_left_of_ways-clause-fan : goal.returns-then-is_left_of_ways-clause-fan
-returns-then-is_left_of_ways-clause-fan c = λ p first. right_off c.args.extent.span c.args.r.point p (OnTrue_at c.if-is_left_of_ways.true c.is_left_of_ways.ensures p first)
+pub returns-then-is_strictly_left_of-4-clause-fan : goal.returns-then-is_strictly_left_of-4-clause-fan
+returns-then-is_strictly_left_of-4-clause-fan c =
+    let corners : AreCorners c.args.block.span c.corner-low_left.result.point c.corner-low_right.result.point c.corner-high_left.result.point c.corner-high_right.result.point = search rules in
+    (ways_missed c.args.extent.span c.args.block.span c.corner-low_left.result.point c.corner-low_right.result.point c.corner-high_left.result.point c.corner-high_right.result.point c.args.r.point corners c.if-is_strictly_left_of.ensures c.if-is_strictly_left_of-2.ensures c.if-is_strictly_left_of-3.ensures c.if-is_strictly_left_of-4.ensures).1
 
-pub returns-clause-star : goal.returns-clause-star
-returns-clause-star c =
-    let span = c.args.extent.span in
-    let r = c.args.r.point in
-    OnTrue_from c.is_left_of_ways_back.result ((p q : Point) → IsIn c.args.block.span p → IsIn c.args.block.span q → MissesStar span r p q) (λ t p q first second.
-    let left = OnTrue_at t c.is_left_of_ways_back.ensures in
-    left_missed span r p q (not_right span p r (left p first)) (not_right span q r (left q second)))
+pub returns-then-is_strictly_left_of-8-clause-star : goal.returns-then-is_strictly_left_of-8-clause-star
+returns-then-is_strictly_left_of-8-clause-star c =
+    let corners : AreCorners c.args.block.span c.corner-low_left.result.point c.corner-low_right.result.point c.corner-high_left.result.point c.corner-high_right.result.point = search rules in
+    (ways_missed_back c.args.extent.span c.args.block.span c.corner-low_left.result.point c.corner-low_right.result.point c.corner-high_left.result.point c.corner-high_right.result.point c.args.r.point corners c.if-is_strictly_left_of-5.ensures c.if-is_strictly_left_of-6.ensures c.if-is_strictly_left_of-7.ensures c.if-is_strictly_left_of-8.ensures).0
 
-pub returns-clause-fan : goal.returns-clause-fan
-returns-clause-fan c =
-    OnTrue_from c.is_left_of_ways_back.result ((p : Point) → IsIn c.args.block.span p → MissesFan c.args.extent.span c.args.r.point p) (λ t p first. left_off c.args.extent.span c.args.r.point p (OnTrue_at t c.is_left_of_ways_back.ensures p first))
+pub returns-then-is_strictly_left_of-8-clause-fan : goal.returns-then-is_strictly_left_of-8-clause-fan
+returns-then-is_strictly_left_of-8-clause-fan c =
+    let corners : AreCorners c.args.block.span c.corner-low_left.result.point c.corner-low_right.result.point c.corner-high_left.result.point c.corner-high_right.result.point = search rules in
+    (ways_missed_back c.args.extent.span c.args.block.span c.corner-low_left.result.point c.corner-low_right.result.point c.corner-high_left.result.point c.corner-high_right.result.point c.args.r.point corners c.if-is_strictly_left_of-5.ensures c.if-is_strictly_left_of-6.ensures c.if-is_strictly_left_of-7.ensures c.if-is_strictly_left_of-8.ensures).1

@@ -1,27 +1,14 @@
-use Rattle.std.proofs.Common.{◌≡◌, ℕ, subst, inl, inr, arith}
-use Rattle.std.proofs.lemmas.Bool.{cases_lt}
-use Rattle.draw_check.specs.Loops.{IsMet}
+use Rattle.std.proofs.Common.{Some, None, rules}
+use Rattle.draw_check.proofs.MetLemmas.{first_late}
 use Rattle.draw_check.proofs.drawing.Drawing.first_met.Goals as goal
 
 pub invariant_of-result : goal.invariant_of-result
-invariant_of-result c = let least = c.in-Some.ensures in record { rising = least.here.edge.0 }
+invariant_of-result c =
+    let least = first_late c.args.self.now.map.now c.facts.ensures c.args.self.now.points.now c.args.probe c.args.from _ (Some (c.in-Some.a, c.in-Some.b)) c.in-Some.ensures (λ d live late r s. search rules) in
+    record { rising = least.rest.here.met.edge.0 }
 
 pub returns-in-Some : goal.returns-in-Some
-returns-in-Some c =
-    let least = c.in-Some.ensures in
-    record {
-      before = λ s u less x. c.loop-v.invariant s u x.late less x.met;
-      rest = record {
-        here = record { late = c.loop-v.auto.v; met = least.here };
-        before = λ u less x. least.before u less x.met;
-      };
-    }
+returns-in-Some c = first_late c.args.self.now.map.now c.facts.ensures c.args.self.now.points.now c.args.probe c.args.from _ (Some (c.in-Some.a, c.in-Some.b)) c.in-Some.ensures (λ d live late r s. search rules)
 
-pub loop-v-preserved : goal.loop-v-preserved
-loop-v-preserved c = λ s u late l met.
-    elim (cases_lt s c.loop-v.v) [
-      | inl less ↦ c.loop-v.invariant s u late less met
-      | inr more ↦
-          (let same : s ≡ c.loop-v.v = omega arith in
-          c.in_default.ensures u (subst (λ (x : ℕ). IsMet c.args.self.now.map.now.lists c.args.self.now.points.now c.args.probe x u) same met))
-    ]
+pub returns-in-None : goal.returns-in-None
+returns-in-None c = first_late c.args.self.now.map.now c.facts.ensures c.args.self.now.points.now c.args.probe c.args.from _ None c.in-None.ensures (λ d live late r s. search rules)

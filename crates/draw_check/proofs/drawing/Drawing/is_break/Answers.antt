@@ -1,11 +1,11 @@
-use Rattle.std.proofs.Common.{arith}
+use Rattle.std.proofs.Common.{not, arith}
 use Rattle.vertex_rounds.specs.Rounds.{dart_of}
 use Rattle.vertex_rounds.proofs.DartIds.{tail_is, head_is, has_dart, next_head}
-use Rattle.draw_check.proofs.TurnLemmas.{break_is}
+use Rattle.draw_check.proofs.TurnLemmas.{denied, break_is}
 use Rattle.draw_check.proofs.drawing.Drawing.is_break.Goals as goal
 
-pub is_turned-requires-clause-v : goal.is_turned-requires-clause-v
-is_turned-requires-clause-v c =
+pub spot-v-requires : goal.spot-v-requires
+spot-v-requires c =
     let map = c.args.self.now.map.now in
     let d = c.args.d.0 in
     let l = (has_dart map c.facts.ensures d c.requires.live).0 in
@@ -13,8 +13,8 @@ is_turned-requires-clause-v c =
     let n = c.args.self.now.places.count in
     omega arith
 
-pub is_turned-requires-clause-u : goal.is_turned-requires-clause-u
-is_turned-requires-clause-u c =
+pub spot-u-requires : goal.spot-u-requires
+spot-u-requires c =
     let map = c.args.self.now.map.now in
     let d = c.args.d.0 in
     let l = c.facts.ensures.simple.in_range (dart_of map d).0 (dart_of map d).1 (has_dart map c.facts.ensures d c.requires.live) in
@@ -22,8 +22,8 @@ is_turned-requires-clause-u c =
     let n = c.args.self.now.places.count in
     omega arith
 
-pub is_turned-requires-clause-w : goal.is_turned-requires-clause-w
-is_turned-requires-clause-w c =
+pub spot-w-requires : goal.spot-w-requires
+spot-w-requires c =
     let map = c.args.self.now.map.now in
     let d = c.args.d.0 in
     let next = next_head map c.facts.ensures d c.next.result.0 c.head-2.result.0 c.requires.live c.next.ensures c.head-2.ensures in
@@ -36,5 +36,6 @@ returns c =
     let map = c.args.self.now.map.now in
     let d = c.args.d.0 in
     let next = next_head map c.facts.ensures d c.next.result.0 c.head-2.result.0 c.requires.live c.next.ensures c.head-2.ensures in
+    let before = rw (c.direction.ensures.vector, c.direction-2.ensures.vector, c.spot-v.ensures, c.spot-u.ensures, c.spot-w.ensures) at c.clock_before.ensures in
     break_is map.lists c.args.self.now.points.now (dart_of map d).0 (dart_of map d).1 c.tail.result.0 c.head.result.0 c.head-2.result.0
-    (tail_is map d c.tail.result.0 c.requires.live c.tail.ensures) (head_is map d c.head.result.0 c.requires.live c.head.ensures) next.0 c.is_turned.result c.is_turned.ensures
+    (tail_is map d c.tail.result.0 c.requires.live c.tail.ensures) (head_is map d c.head.result.0 c.requires.live c.head.ensures) next.0 (not c.clock_before.result) (denied _ c.clock_before.result before)

@@ -3,7 +3,7 @@ use Rattle.plane_drawings.specs.Drawing.{IsPlaneDrawing}
 use Rattle.plane_drawings.specs.SweepCheckLines.{firm_lists}
 use Rattle.draw_check.specs.declared.edges.Probe.{Probe}
 use Rattle.draw_check.proofs.LooseLemmas.{IsClear, apart_but_loose, off_but_loose, uncrossed_but_loose}
-use Rattle.draw_check.proofs.drawing.Drawing.first_pair_by_sweep.Goals as goal
+use Rattle.draw_check.proofs.drawing.Drawing.first_pair.Goals as goal
 
 pub first_meeting-requires-clause-apart : goal.first_meeting-requires-clause-apart
 first_meeting-requires-clause-apart c = apart_but_loose c.args.self.now.map.now.lists c.args.self.now.points.now (take c.in-Some.count c.loose_vertices.new.loose) c.facts.ensures.simple c.in-Some.ensures.plane

@@ -1,7 +1,0 @@
-use Rattle.std.proofs.Common.{ℕ, ◌<◌, get_or}
-use Rattle.map_theory.specs.Maps.{HasDart}
-use Rattle.draw_check.specs.Loops.{Touches}
-use Rattle.draw_check.proofs.drawing.Drawing.is_met_by_loose.Given as goal
-
-abbrev pub invariant-loop-i : goal.invariant-loop-i
-invariant-loop-i l = (k : ℕ) → k < l.i → (u : ℕ) → HasDart l.self.map.now.lists (get_or l.loose k 0) u → ¬ Touches l.self.points.now l.probe (get_or l.loose k 0) u
