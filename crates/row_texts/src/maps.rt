@@ -1,5 +1,6 @@
 //! Maps and their darts as texts.
-ghost use Rattle.std.specs.Prelude.{◌≡◌, IfSome, Some};
+ghost use Rattle.std.specs.Prelude.{◌≡◌, [], IfSome, MatchOption, Some};
+ghost use Rattle.map_theory.specs.Maps.{HasDart, list_of};
 ghost use Rattle.half_edges.specs.Map.{IsLive, dart_at, first_dart};
 
 use crate::reply::Reply;
@@ -8,29 +9,24 @@ use half_edges::{DartId, HalfMap, VertexId};
 /// Returns the dart of a map from one vertex to another, if they are neighbours.
 pub fn dart_between(map: &HalfMap, u: u16, v: u16) -> Option<DartId>
     ensures live { IfSome result (λ d. IsLive map.now d.0) }
-    ensures ends { IfSome result (λ d. dart_at map.now d.0 ≡ Some (u, v)) }
+    ensures ends { MatchOption result (¬ HasDart map.now.lists u v) (λ d. dart_at map.now d.0 ≡ Some (u, v)) }
 {
+    map.facts();
     if u >= map.n() || v >= map.n() {
         return None;
     }
-    match map.dart_of(VertexId(u), VertexId(v)) {
-        Some(d) if map.is_live(d) => Some(d),
-        _ => None,
-    }
+    map.dart_of(VertexId(u), VertexId(v))
 }
 
 /// Returns the first dart of vertex 0, if it has a neighbour.
 pub fn first_base(map: &HalfMap) -> Option<DartId>
     ensures live { IfSome result (λ d. IsLive map.now d.0) }
-    ensures first { IfSome result (λ d. dart_at map.now d.0 ≡ Some (first_dart map.now.lists 0)) }
+    ensures first { MatchOption result (list_of map.now.lists 0 ≡ []) (λ d. dart_at map.now d.0 ≡ Some (first_dart map.now.lists 0)) }
 {
     if map.n() == 0 {
         return None;
     }
-    match map.first_dart(VertexId(0)) {
-        Some(d) if map.is_live(d) => Some(d),
-        _ => None,
-    }
+    map.first_dart(VertexId(0))
 }
 
 /// Writes a dart by its ends, behind a text.
