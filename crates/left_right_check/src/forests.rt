@@ -1,7 +1,7 @@
 //! Rooted forests of a graph, as tables of parents and depths by vertex, and edges that return.
-ghost use Rattle.std.specs.Prelude.{◌≡◌, ◌<◌, slice_index, IsTrue};
+ghost use Rattle.std.specs.Prelude.{◌≡◌, slice_index, IsTrue};
 ghost use Rattle.left_right_laws.specs.Forests.{up, IsAbove, IsBranch};
-ghost use Rattle.left_right_check.specs.Ties.{IsPlaced, IsForestOf, ReturnsBy};
+ghost use Rattle.left_right_check.specs.Ties.{IsForestOf, ReturnsBy};
 
 use graph6_text::Graph;
 use map_lists::VertexId;
@@ -34,16 +34,8 @@ pub fn after_steps(parents: &[u16], vertex: u16, steps: u16) -> u16
     v
 }
 
-// Whether a vertex is a root, or is below its parent, to which an edge joins it.
-fn is_placed(graph: &Graph, parents: &[u16], depths: &[u16], v: u16) -> bool
-    ensures { IsTrue result → IsPlaced graph.now parents.now depths.now v }
-{
-    let depth = entry(depths, v);
-    let parent = entry(parents, v);
-    depth == 0 || (graph.has(VertexId(v), VertexId(parent)) && depth - 1 == entry(depths, parent))
-}
-
-/// Whether tables of parents and depths, by vertex, are those of a rooted forest of a graph.
+/// Says whether tables of parents and depths, by vertex, are those of a rooted forest of a graph: each vertex is a root, or
+/// is below its parent, to which an edge joins it.
 #[tactic(auto, using(crate::proofs::TieLemmas::forest_by_places, crate::proofs::TieLemmas::placed_past))]
 pub fn is_forest(graph: &Graph, parents: &[u16], depths: &[u16]) -> bool
     ensures { IsTrue result → IsForestOf graph.now parents.now depths.now }
@@ -52,7 +44,12 @@ pub fn is_forest(graph: &Graph, parents: &[u16], depths: &[u16]) -> bool
         return false;
     }
     for v in 0..graph.n() {
-        if !is_placed(graph, parents, depths, v) {
+        let depth = entry(depths, v);
+        if depth == 0 {
+            continue;
+        }
+        let parent = entry(parents, v);
+        if !graph.has(VertexId(v), VertexId(parent)) || depth - 1 != entry(depths, parent) {
             return false;
         }
     }
@@ -72,15 +69,6 @@ pub struct RootedForest<'a> {
 }
 
 impl<'a> RootedForest<'a> {
-    // Says whether the way up from `v` leads to a vertex above it.
-    fn is_higher(&self, v: u16, ancestor: u16) -> bool
-        ensures { IsTrue result → (slice_index self.now.depths.now ancestor < slice_index self.now.depths.now v) × IsAbove (slice_index self.now.parents.now) (slice_index self.now.depths.now) ancestor v }
-    {
-        let low = entry(self.depths, v);
-        let high = entry(self.depths, ancestor);
-        high < low && after_steps(self.parents, v, low - high) == ancestor
-    }
-
     // Says whether the way from `vertex` down to an edge's lower end, and then along the edge, begins with the edge to `end`.
     #[tactic(auto, using(crate::proofs::TieLemmas::branch_at))]
     fn begins_with(&self, vertex: u16, end: u16, edge: ReturnEdge) -> bool
@@ -97,12 +85,16 @@ impl<'a> RootedForest<'a> {
         after_steps(self.parents, edge.from, low - high - 1) == end
     }
 
-    /// Says whether an edge returns from `vertex` by the vertex's edge to `end`.
+    /// Says whether an edge returns from `vertex` by the vertex's edge to `end`: the way up from `vertex` leads to its upper
+    /// end, and the way down to its lower end begins with that edge.
     pub(crate) fn returns_by(&self, vertex: u16, end: u16, edge: ReturnEdge) -> bool
         ensures { IsTrue result → ReturnsBy self.now.graph.now self.now.parents.now self.now.depths.now vertex end edge.from edge.to }
     {
+        let low = entry(self.depths, vertex);
+        let high = entry(self.depths, edge.to);
         self.graph.has(VertexId(edge.from), VertexId(edge.to))
-            && self.is_higher(vertex, edge.to)
+            && high < low
+            && after_steps(self.parents, vertex, low - high) == edge.to
             && entry(self.parents, vertex) != end
             && self.begins_with(vertex, end, edge)
     }

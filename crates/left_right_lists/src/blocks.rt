@@ -1,5 +1,5 @@
 //! The entries at a vertex for each of its edges, and the edges that return by it.
-ghost use Rattle.std.specs.Prelude.{◌≡◌, ◌≤◌, ◌<◌, ◌++◌, ◌∷◌, [], ℕ, length, not, eqb, true, false, IfOk, OnOk};
+ghost use Rattle.std.specs.Prelude.{◌≡◌, ◌≤◌, ◌++◌, ◌∷◌, [], length, not, eqb, true, false, IfOk, OnOk};
 ghost use Rattle.left_right_lists.specs.Blocks.{IsRun, uppers as uppers_of, lefts, middle, rights};
 
 use map_lists::ItemLists;

@@ -1,5 +1,5 @@
 //! Depths of the vertices of a depth-first forest.
-ghost use Rattle.std.specs.Prelude.{◌≡◌, ◌+◌, ◌<◌, ◌≤◌, ℕ, length, slice_index, IfOk};
+ghost use Rattle.std.specs.Prelude.{◌<◌, ℕ, length, slice_index, IfOk};
 ghost use Rattle.graph_search.specs.Forests.{IsForestOf};
 ghost use Rattle.left_right_lists.specs.Depths.{IsDepthBy, AreDepths};
 

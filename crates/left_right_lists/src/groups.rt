@@ -1,7 +1,7 @@
 //! Groups of edges, each of which is on the side of its group or on the other one.
-ghost use Rattle.std.specs.Prelude.{◌≡◌, ◌+◌, ◌*◌, ◌<◌, ℕ, Bool, List, length, slice_index_or, IsTrue, IfOk, Contains};
+ghost use Rattle.std.specs.Prelude.{◌≡◌, ◌<◌, ℕ, Bool, length, slice_index_or, IsTrue, IfOk, Contains};
 ghost use Rattle.left_right_check.specs.Ties.{turned as turn_of};
-ghost use Rattle.left_right_lists.specs.Groups.{Demand, IsPlaced, Fits, moved_group, AreMerged, AreMet, Meets, none_demanded, group_of};
+ghost use Rattle.left_right_lists.specs.Groups.{Demand, IsPlaced, Fits, AreMerged, AreMet, Meets, none_demanded, group_of};
 
 use left_right_check::turned;
 use std::alloc::{AllocError, Global};
@@ -15,17 +15,6 @@ pub(crate) fn group(groups: &[(u32, bool)], d: (u16, u16)) -> (u32, bool)
         groups[place]
     } else {
         (0, false)
-    }
-}
-
-// Returns the group of an edge, `group` so far, once group `from` is put into group `into`, turned round if `flip` says so.
-fn moved(group: (u32, bool), into: u32, from: u32, flip: bool) -> (u32, bool)
-    ensures { result ≡ moved_group into from flip group }
-{
-    if group.0 == from {
-        (into, turned(flip, group.1))
-    } else {
-        group
     }
 }
 
@@ -46,7 +35,10 @@ fn tie(groups: &mut [(u32, bool)], a: (u16, u16), b: (u16, u16), turn: bool) -> 
         return !flip;
     }
     for p in 0..groups.len() {
-        groups[p] = moved(groups[p], one.0, other.0, flip);
+        let group = groups[p];
+        if group.0 == other.0 {
+            groups[p] = (one.0, turned(flip, group.1));
+        }
     }
     true
 }

@@ -1,5 +1,5 @@
 //! A forest grown into one tree: the roots of its other trees become children of one root.
-ghost use Rattle.std.specs.Prelude.{◌≡◌, ◌+◌, ◌<◌, ◌==◌, ◌&&◌, ℕ, slice_index, IfOk};
+ghost use Rattle.std.specs.Prelude.{◌≡◌, ◌<◌, ℕ, slice_index, IfOk};
 ghost use Rattle.left_right_lists.specs.Trees.{IsTabled, is_other as is_in_other, grown_depth, grown_parent};
 
 use left_right_check::{after_steps, entry};

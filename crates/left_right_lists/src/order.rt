@@ -1,9 +1,8 @@
 //! Orders in which the edges of a fork may stand: one that may stand before all others goes first.
-ghost use Rattle.std.specs.Prelude.{◌≡◌, ◌≢◌, ◌<◌, ◌≤◌, ◌↔◌, ◌++◌, ℕ, List, length, slice_index, slice_index_or, true, false, IsTrue, IfOk, Contains, MatchOption};
-ghost use Rattle.map_theory.specs.Maps.{Dart};
-ghost use Rattle.left_right_maps.specs.Orders.{MayPrecede, MayAllPrecede};
+ghost use Rattle.std.specs.Prelude.{◌≡◌, ◌<◌, ◌↔◌, ℕ, List, length, slice_index, IsTrue, IfOk, MatchOption};
+ghost use Rattle.left_right_maps.specs.Orders.{MayAllPrecede};
 ghost use Rattle.left_right_lists.specs.Groups.{side_in};
-ghost use Rattle.left_right_lists.specs.Orders.{Before, IsFree, IsFirst, IsOrderOf};
+ghost use Rattle.left_right_lists.specs.Orders.{IsFree, IsFirst, IsOrderOf};
 
 use crate::groups::group;
 use left_right_check::entry;
@@ -29,23 +28,19 @@ pub(crate) struct Choice<'a> {
 }
 
 impl<'a> Choice<'a> {
-    // Says whether an edge that returns may stand before another.
-    fn may_precede(&self, d: (u16, u16), e: (u16, u16)) -> bool
-        ensures { IsTrue result ↔ MayPrecede (slice_index self.now.depths.now) (side_in self.now.sides.now) d e }
-    {
-        if group(self.sides, e).1 && entry(self.depths, d.1) < entry(self.depths, e.1) {
-            return false;
-        }
-        group(self.sides, d).1 || entry(self.depths, d.1) <= entry(self.depths, e.1)
-    }
-
-    // Says whether each of some edges that return may stand before each of others.
+    // Says whether each of some edges that return may stand before each of others: a later one on the left, or an earlier
+    // one on the right, ends no deeper.
     fn may_all_precede(&self, ds: &[(u16, u16)], es: &[(u16, u16)]) -> bool
         ensures { IsTrue result ↔ MayAllPrecede (slice_index self.now.depths.now) (side_in self.now.sides.now) ds.now es.now }
     {
         for d in ds {
             for e in es {
-                if !self.may_precede(*d, *e) {
+                let early = entry(self.depths, d.1);
+                let late = entry(self.depths, e.1);
+                if group(self.sides, *e).1 && early < late {
+                    return false;
+                }
+                if !group(self.sides, *d).1 && late < early {
                     return false;
                 }
             }
