@@ -1,6 +1,6 @@
 //! A forest and return edges show that the conflict of a search is one of the graph: each edge is tied to the next, and the
 //! last would have to be both on the side of the first and on the other one. All of it is checked.
-ghost use Rattle.std.specs.Prelude.{◌≡◌, true, false, IfSome, IsTrue};
+ghost use Rattle.std.specs.Prelude.{true, false, IfSome, IsTrue};
 ghost use Rattle.left_right_check.specs.Ties.{AreTied, HasNoMap};
 
 use crate::links::Links;
