@@ -1,5 +1,5 @@
 -- Labels of darts by their ids.
-use Rattle.std.proofs.Common.{◌≡◌, ℕ, ◌+◌, List, [], ◌∷◌, ◌++◌, length, get_or, Option, Some, sym, ap, ◌∙◌, subst, inl, inr, arith}
+use Rattle.std.proofs.Common.{◌≡◌, ℕ, ◌+◌, List, [], ◌∷◌, ◌++◌, length, get_or, Option, Some, refl, sym, ap, ◌∙◌, subst, inl, inr, arith}
 use Rattle.std.proofs.lemmas.Bool.{cases_lt}
 use Rattle.std.proofs.lemmas.List.{get_or_append_left}
 use Rattle.std.proofs.Math.Seq.{get_or-append_seam}
@@ -8,16 +8,27 @@ use Rattle.map_theory.specs.Maps.{Dart}
 use Rattle.half_edges.specs.Map.{Map, IsHalfMap, dart_at, id_bound}
 use Rattle.euler_faces.proofs.NumberLemmas.{live_from, live-lt}
 use Rattle.rect_runs.specs.Corners.{End}
-use Rattle.rect_orders.specs.Labellings.{IsEdgeLabelling}
+use Rattle.rect_orders.specs.Labellings.{IsFrameEdge, IsEdgeLabelling}
 use Rattle.rect_dual.specs.declared.labels.labels.Label.{Label}
 use Rattle.rect_dual.specs.declared.labels.labels.Label.TheVariants.{Frame}
-use Rattle.rect_dual.specs.Labellings.{IsLabelOf, AreLabelsOf, IsLabellingIn}
+use Rattle.rect_dual.specs.Labellings.{label_of, IsLabelOf, AreLabelsOf, IsLabellingIn}
 
 -- the head of a dart
 pub head_is : (o : Option Dart) (u v x : ℕ) → o ≡ Some (u, v) → option_map (λ (d : Dart). d.1) o ≡ Some x → x ≡ v
 head_is o u v x e h = let t : Some v ≡ Some x = sym (ap (option_map (λ (d : Dart). d.1)) e) ∙ h in cc
 
+-- and its tail
+pub tail_is : (o : Option Dart) (u v x : ℕ) → o ≡ Some (u, v) → option_map (λ (d : Dart). d.0) o ≡ Some x → x ≡ u
+tail_is o u v x e h = let t : Some u ≡ Some x = sym (ap (option_map (λ (d : Dart). d.0)) e) ∙ h in cc
+
 module _ (map : Map) (s d p t : ℕ) (end : ℕ → ℕ → End) where
+  -- the label of a dart of the outer face, and of any other one
+  pub IsLabelOf-frame : (u v : ℕ) → IsFrameEdge s d p t u v → IsLabelOf s d p t end u v Frame
+  IsLabelOf-frame u v f = record { frame = λ g. refl; inner = λ off. absurd (off f) }
+
+  pub IsLabelOf-inner : (u v : ℕ) (label : Label) → ¬ IsFrameEdge s d p t u v → label ≡ label_of (end u v) → IsLabelOf s d p t end u v label
+  IsLabelOf-inner u v label off e = record { frame = λ f. absurd (off f); inner = λ g. e }
+
   -- a label more
   pub AreLabelsOf-more : (k : ℕ) (labels labels' : List Label) (x : Label) → length labels ≡ k → AreLabelsOf map s d p t end k labels → labels' ≡ labels ++ x ∷ [] → ((u v : ℕ) → dart_at map k ≡ Some (u, v) → IsLabelOf s d p t end u v x) → AreLabelsOf map s d p t end (k + 1) labels'
   AreLabelsOf-more k labels labels' x n h e new id u v l at = elim (cases_lt id k) [

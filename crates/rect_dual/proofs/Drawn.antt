@@ -9,8 +9,10 @@ use Rattle.rect_runs.specs.Labels.{IsLabelledRun}
 use Rattle.rect_runs.proofs.Steps.{IsLabelledRun-less}
 use Rattle.rect_runs.specs.Boxes.{boxes}
 use Rattle.rect_runs.specs.RectBoxesLaws.{BoxesAreDual}
-use Rattle.rect_check.specs.Duals.{HasRects}
-use Rattle.rect_orders.specs.Maps.{closed}
+use Rattle.rect_check.specs.Duals.{HasRects, top_vertex, right_vertex, bottom_vertex}
+use Rattle.rect_class.specs.Laws.{BiconnectedAreRectMaps}
+use Rattle.rect_class.specs.RectMaps.{IsRectMap as IsOfClass}
+use Rattle.rect_orders.specs.Maps.{IsRectMap, closed}
 use Rattle.rect_orders.specs.Orders.{IsRectOrder}
 use Rattle.rect_orders.specs.Runs.{shortened, IsRunOfMap, RectOrderIsRun}
 use Rattle.rect_orders.proofs.Closed.{length-closed}
@@ -21,6 +23,10 @@ use Rattle.rect_dual.specs.RectDrawTables.{AreBoxTables, AreSmall, AreAtRanks, H
 -- a fact about four vertices, by other names of them
 pub by_names : (P : ℕ → ℕ → ℕ → ℕ → Type 0) (s s' d d' p p' t t' : ℕ) → s ≡ s' → d ≡ d' → p ≡ p' → t ≡ t' → P s d p t → P s' d' p' t'
 by_names P s s' d d' p p' t t' a b c e h = subst (λ z. P s' d' p' z) e (subst (λ z. P s' d' z t) c (subst (λ z. P s' z p t) b (subst (λ z. P z d p t) a h)))
+
+-- a map of the class of the job has its outer face along four vertices
+pub class_of : (lists : Lists) → IsOfClass lists → BiconnectedAreRectMaps → IsRectMap lists 0 (top_vertex lists) (right_vertex lists) (bottom_vertex lists)
+class_of lists h all = let q = all lists h in record { connected = q.connected; large = q.more; near = q.near; no_separating = q.triangles }
 
 module _ (lists : Lists) (s d p t : ℕ) (at ranks : List ℕ) (rows : Lists) (h : HasLowerRows lists s d p t at ranks rows) (runs : OrderIsRun) where
   abbrev order : IsRectOrder lists s d p t at

@@ -2,6 +2,7 @@
 pub mod Turns
 mod RectTurnsRefused
 -- Lemmas on sides.
+mod Pieces
 mod RectSidesSides
 mod RectSidesRefused
 -- Lemmas on lines.
@@ -23,7 +24,6 @@ pub mod RectDrawSides
 pub mod RectDrawRows
 pub mod Drawn
 mod RectDrawRefused
--- Lemmas on the figures of records.
 -- Lemmas on edge labellings.
 pub mod TableLemmas
 pub mod OfRun

@@ -6,7 +6,7 @@ pub mod figures;
 pub mod labels;
 pub mod line_lists;
 mod orders;
-pub mod rect_sides;
+mod rect_sides;
 pub mod rect_turns;
 pub mod side;
 mod side_lines;

@@ -1,7 +1,7 @@
 //! Things on lines that stand in an order, where a line may be put in behind any other: the lines are a linked
 //! list, and the numbers are read off it in the end. A line more moves all numbers behind it in constant time.
 
-ghost use Rattle.std.specs.Prelude.{◌≡◌, ◌<◌, ◌≤◌, ◌^◌, ℕ, suc, List, length, slice_index, slice_set, All, IfOk};
+ghost use Rattle.std.specs.Prelude.{◌≡◌, ◌<◌, ◌^◌, ℕ, suc, List, length, slice_index, All, IfOk};
 ghost use Rattle.rect_runs.specs.Numbers.{shifted, with_new};
 ghost use Rattle.rect_dual.specs.Lines.{AreLines, AreWalked};
 
@@ -51,37 +51,34 @@ fn walk(numbers: &mut [u32], next: &[u16], first: u16, count: usize)
     }
 }
 
-// The number at the line of each thing.
-fn numbers_at(alloc: Global, numbers: &[u32], lines: &[u16]) -> Result<Vec<u32>, AllocError>
-    requires { All (λ l. l < length numbers.now) lines.now }
-    ensures count { IfOk result (λ made. length made.items ≡ length lines.now) }
-    ensures at { IfOk result (λ made. (v : ℕ) → v < length lines.now → slice_index made.items v ≡ slice_index numbers.now (slice_index lines.now v)) }
-{
-    let mut made = vec![in alloc; 0; lines.len()]?;
-    for v in 0..lines.len() {
-        made[v] = numbers[lines[v] as usize];
-    }
-    Ok(made)
+/// The line of each of some things, and the line behind each one.
+#[derive(Clone, Copy)]
+pub struct Linked<'a> {
+    /// The thing by which the line of each thing goes.
+    pub lines: &'a [u16],
+    /// The line behind each one.
+    pub next: &'a [u16],
+    pub ghost size: { length next.now ≡ length lines.now },
+    pub ghost within: { All (λ l. l < length lines.now) lines.now },
+    pub ghost next_within: { All (λ l. l < length lines.now) next.now },
 }
 
-/// The number of the line of each thing, in time linear in the things and the lines. It fails only when out of
-/// memory.
-pub fn line_numbers(
-    alloc: Global,
-    lines: &[u16],
-    next: &[u16],
-    first: u16,
-    count: usize,
-) -> Result<Vec<u32>, AllocError>
-    requires first { first < length lines.now }
-    requires size { length next.now ≡ length lines.now }
-    requires few { count < 2 ^ 20 }
-    requires within { All (λ l. l < length lines.now) lines.now }
-    requires next_within { All (λ l. l < length lines.now) next.now }
-    ensures count { IfOk result (λ numbers. length numbers.items ≡ length lines.now) }
-    ensures numbers { IfOk result (λ numbers. (f : ℕ → ℕ) → AreLines f (length lines.now) count first lines.now next.now → (v : ℕ) → v < length lines.now → slice_index numbers.items v ≡ f v) }
-{
-    let mut numbers = vec![in alloc; 0; lines.len()]?;
-    walk(&mut numbers, next, first, count);
-    numbers_at(alloc, &numbers, lines)
+impl Linked<'_> {
+    /// Returns the number of the line of each thing, where there are `count` lines of which `first` is the first, in time
+    /// linear in the things and the lines. It fails only when out of memory.
+    pub fn numbers(&self, alloc: Global, first: u16, count: usize) -> Result<Vec<u32>, AllocError>
+        requires first { first < length self.now.lines.now }
+        requires few { count < 2 ^ 20 }
+        ensures count { IfOk result (λ numbers. length numbers.items ≡ length self.now.lines.now) }
+        ensures numbers { IfOk result (λ numbers. (f : ℕ → ℕ) → AreLines f (length self.now.lines.now) count first self.now.lines.now self.now.next.now → (v : ℕ) → v < length self.now.lines.now → slice_index numbers.items v ≡ f v) }
+    {
+        let Linked { lines, next } = *self;
+        let mut numbers = vec![in alloc; 0; lines.len()]?;
+        walk(&mut numbers, next, first, count);
+        let mut made = vec![in alloc; 0; lines.len()]?;
+        for v in 0..lines.len() {
+            made[v] = numbers[lines[v] as usize];
+        }
+        Ok(made)
+    }
 }

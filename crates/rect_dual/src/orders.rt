@@ -1,10 +1,9 @@
 //! A rectangular order of a map, with the rows of its run.
-ghost use Rattle.std.specs.Prelude.{◌≡◌, ◌<◌, ◌≤◌, ℕ, length, All, IfOk};
-ghost use Rattle.map_theory.specs.Maps.{Dart, follows};
-ghost use Rattle.plane_laws.specs.Triangulations.{IsTriangulation};
-ghost use Rattle.canon_order.specs.Orders.{IsCanonicalOrder, vertices_of};
-ghost use Rattle.rect_orders.specs.Maps.{IsRectMap, closed};
-ghost use Rattle.rect_dual.specs.RectDrawTables.{AreLowerRowsOf, HasLowerRows};
+ghost use Rattle.std.specs.Prelude.{◌≡◌, ◌<◌, length, All, IfOk};
+ghost use Rattle.map_theory.specs.Maps.{follows};
+ghost use Rattle.canon_order.specs.Orders.{vertices_of};
+ghost use Rattle.rect_orders.specs.Maps.{IsRectMap};
+ghost use Rattle.rect_dual.specs.RectDrawTables.{HasLowerRows};
 
 use canon_order::Order;
 use half_edges::{HalfMap, Rotations};
@@ -17,19 +16,6 @@ use std::alloc::{AllocError, Global};
 pub(crate) struct FramedOrder {
     pub order: Order,
     pub rows: Rotations,
-}
-
-// The rows of an order but the last one.
-fn lower_rows(alloc: Global, more: &Rotations, order: &Order) -> Result<Rotations, AllocError>
-    requires triangulation { IsTriangulation more.now }
-    requires order { (base : Dart) × IsCanonicalOrder more.now base (vertices_of order.now) }
-    requires many { 5 ≤ length (vertices_of order.now) }
-    ensures { IfOk result (AreLowerRowsOf more.now (vertices_of order.now)) }
-{
-    let mut rows = list_rows(alloc, more, order)?;
-    let lower = rows.len() - 1;
-    rows.truncate(lower);
-    Ok(rows)
 }
 
 // A rectangular order of a map with this frame, and its rows: those of the map with an edge more, between the top and
@@ -48,7 +34,9 @@ pub(crate) fn framed_order(
     order_drawings::order_tables::ranks_are_places();
     let more = with_closing_edge(alloc, lists, frame)?;
     let order = rect_order(alloc, &more, frame)?;
-    let rows = lower_rows(alloc, &more, &order)?;
+    let mut rows = list_rows(alloc, &more, &order)?;
+    let lower = rows.len() - 1;
+    rows.truncate(lower);
     Ok(FramedOrder { order, rows })
 }
 

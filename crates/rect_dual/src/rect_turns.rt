@@ -1,10 +1,10 @@
 //! The turns of a rectangular run, from its rows: where the runs of the contour begin under each new vertex.
 
-ghost use Rattle.std.specs.Prelude.{◌≡◌, ◌<◌, ◌≤◌, ◌+◌, ℕ, false, [], length, slice_index, slice_set, true, All, IfOk};
+ghost use Rattle.std.specs.Prelude.{◌≡◌, ◌<◌, ◌≤◌, ◌+◌, ℕ, length, slice_index, All, IfOk};
+ghost use Rattle.map_theory.specs.Maps.{list_of};
 ghost use Rattle.contour_runs.specs.Runs.{Step};
-ghost use Rattle.canon_order.specs.Marks.{is_set};
 ghost use Rattle.order_drawings.specs.Rows.{AreRows};
-ghost use Rattle.rect_dual.specs.Turns.{IsTurnIn, AreTurns, IsTurned};
+ghost use Rattle.rect_dual.specs.Turns.{IsTurnIn, AreTurns};
 
 use map_lists::Rotations;
 use std::alloc::{AllocError, Global};
@@ -16,6 +16,20 @@ pub struct RowTurns {
     pub place: Vec<usize>,
     /// Whether it is a run.
     pub run: Vec<bool>,
+}
+
+/// The rows of a run, and the turn of each.
+#[derive(Clone, Copy)]
+pub(crate) struct TurnedRows<'a> {
+    pub(crate) rows: &'a Rotations,
+    /// The place of each turn in its row, from 0.
+    pub(crate) places: &'a [usize],
+    /// Whether it is a run.
+    pub(crate) runs: &'a [bool],
+    ghost places_count: { length places.now ≡ length rows.now },
+    ghost runs_count: { length runs.now ≡ length rows.now },
+    ghost turns: { (k : ℕ) → k < length rows.now → slice_index places.now k + 2 ≤ length (list_of rows.now k) },
+    ghost within: { (k : ℕ) → k < length rows.now → All (λ u. u < length rows.now + 2) (list_of rows.now k) },
 }
 
 // The place in a row at which the first run stands, or the last rise.
@@ -32,56 +46,21 @@ fn turn_place(row: &[u16], runs: &[bool]) -> usize
     row.len() - 2
 }
 
-// The edge behind the first vertex of a row is a run from now on.
-fn set_run(runs: &mut [bool], row: &[u16])
-    requires some { 2 ≤ length row.now }
-    requires within { All (λ u. u < length runs.old) row.now }
-    ensures { runs.new ≡ slice_set runs.old (slice_index row.now 0) true }
-{
-    runs[row[0] as usize] = true;
-}
-
-// Whether the edge behind a vertex of a row is a run.
-fn is_run(runs: &[bool], row: &[u16], c: usize) -> bool
-    requires place { c < length row.now }
-    requires within { All (λ u. u < length runs.now) row.now }
-    ensures { result ≡ is_set runs.now (slice_index row.now c) }
-{
-    runs[row[c] as usize]
-}
-
-// The turns of all rows. At first no edge is a run.
-fn fill_turns(
-    places: &mut Vec<usize>,
-    at_runs: &mut Vec<bool>,
-    runs: &mut [bool],
-    rows: &Rotations,
-) -> Result<(), AllocError>
-    requires run { (steps : ℕ → Step) × AreRows steps rows.now }
-    requires size { length runs.old ≡ length rows.now + 2 }
-    requires none { (v : ℕ) → is_set runs.old v ≡ false }
-    requires no_places { places.old.items ≡ [] }
-    requires no_runs { at_runs.old.items ≡ [] }
-    ensures { IfOk result (λ _. (steps : ℕ → Step) → AreRows steps rows.now → AreTurns steps (length rows.now) places.new.items at_runs.new.items) }
-{
-    for k in 0..rows.len() {
-        let row = rows.list(k);
-        let c = turn_place(row, runs);
-        places.push(c)?;
-        at_runs.push(is_run(runs, row, c))?;
-        set_run(runs, row);
-    }
-    Ok(())
-}
-
 /// The turns of the steps of a run with these rows, in time linear in the rows. It fails only when out of memory.
 pub fn row_turns(alloc: Global, rows: &Rotations) -> Result<RowTurns, AllocError>
     requires run { (steps : ℕ → Step) × AreRows steps rows.now }
     ensures { IfOk result (λ turns. (steps : ℕ → Step) → AreRows steps rows.now → AreTurns steps (length rows.now) turns.place.items turns.run.items) }
 {
+    // For each vertex of the contour whether the edge behind it is a run: at first none is.
     let mut runs = vec![in alloc; false; rows.len() + 2]?;
     let mut place = Vec::new(alloc);
     let mut run = Vec::new(alloc);
-    fill_turns(&mut place, &mut run, &mut runs, rows)?;
+    for k in 0..rows.len() {
+        let row = rows.list(k);
+        let c = turn_place(row, &runs);
+        place.push(c)?;
+        run.push(runs[row[c] as usize])?;
+        runs[row[0] as usize] = true;
+    }
     Ok(RowTurns { place, run })
 }

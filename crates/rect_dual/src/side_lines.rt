@@ -1,21 +1,19 @@
 //! Lines for one side of the boxes of a rectangular run, one vertex more after another: a line of its own comes
 //! directly behind that of the nearest vertex of the contour that leads, so no number is looked up or moved.
 
-ghost use Rattle.std.specs.Prelude.{◌≡◌, ◌≢◌, ◌⊎◌, ◌<◌, ◌≤◌, ◌+◌, ◌^◌, if◌then◌else◌, ℕ, suc, true, false, length, slice_index, slice_set, vec_len, All, IfOk};
-ghost use Rattle.contour_runs.specs.Runs.{Step, stage_after};
+ghost use Rattle.std.specs.Prelude.{◌≡◌, ◌≢◌, ◌⊎◌, ◌<◌, ◌≤◌, ◌+◌, ℕ, suc, true, false, length, slice_index, vec_len, All, IfOk};
+ghost use Rattle.contour_runs.specs.Runs.{Step};
 ghost use Rattle.rect_runs.specs.Labels.{IsLabelledRun};
-ghost use Rattle.rect_runs.specs.Numbers.{shifted, with_new, numbers, turn_of, turns_at_run};
-ghost use Rattle.order_drawings.specs.Rows.{IsRow, AreRows};
-ghost use Rattle.rect_dual.specs.Lines.{AreLines};
+ghost use Rattle.rect_runs.specs.Numbers.{numbers};
+ghost use Rattle.order_drawings.specs.Rows.{AreRows};
 ghost use Rattle.rect_dual.specs.Turns.{AreTurns};
 ghost use Rattle.rect_dual.specs.Ways.{is_marked, IsWay, IsFirstAlong};
 ghost use Rattle.rect_dual.specs.States.{IsLevel, IsBehindLead, IsPutOver};
-ghost use Rattle.rect_dual.specs.SidesOfBoxes.{gets_line, place_in, second_line, line_count, number_of, IsSideState, AreNumbers};
+ghost use Rattle.rect_dual.specs.SidesOfBoxes.{gets_line, place_in, second_line, number_of, IsSideState, AreNumbers};
 
-use crate::line_lists::{line_numbers, put_level, put_own};
-use crate::rect_turns::RowTurns;
+use crate::line_lists::{Linked, put_level, put_own};
+use crate::rect_turns::TurnedRows;
 use crate::side::Side;
-use map_lists::Rotations;
 use std::alloc::{AllocError, Global};
 
 // The first vertex that is marked, from one on along the links.
@@ -52,13 +50,13 @@ fn mark(leads: &mut [bool], at: u16, u: u16, z: u16)
     }
 }
 
-// Returns one line more, where there is a new one.
-fn more_if(new: bool, count: usize) -> usize
-    requires { count < 2 ^ 20 }
-    ensures value { result ≡ if new then suc count else count }
-    ensures bound { result ≤ suc count }
-{
-    if new { count + 1 } else { count }
+// Where a vertex is put on over a row: the vertex at which it looks for its line, and the ends of the row.
+#[derive(Clone, Copy)]
+struct Seat {
+    at: u16,
+    // The end that leads no more, where it is the one at which the vertex looks.
+    near: u16,
+    far: u16,
 }
 
 // The lines of one side of each box of a run, while its vertices are put on one after another.
@@ -125,61 +123,58 @@ impl SideLines {
         }
     }
 
-    // Puts `z` on over a row from `near` to `far`, or from `far` to `near`: it gets the line of `at`, or one of its own.
-    fn put_over(&mut self, at: u16, own: bool, near: u16, far: u16, z: u16)
-        requires at { at < vec_len self.old.lines }
-        requires near { near < vec_len self.old.lines }
-        requires far { far < vec_len self.old.lines }
+    // Puts `z` on over a row: it gets the line of the vertex at which it looks, or one of its own.
+    fn put_over(&mut self, seat: Seat, own: bool, z: u16)
+        requires at { seat.at < vec_len self.old.lines }
+        requires near { seat.near < vec_len self.old.lines }
+        requires far { seat.far < vec_len self.old.lines }
         requires z { z < vec_len self.old.lines }
         ensures side { self.new.side ≡ self.old.side }
         ensures size { vec_len self.new.lines ≡ vec_len self.old.lines }
-        ensures over { IsPutOver at own near far z self.old.lines.items self.old.next.items self.old.links.items self.old.leads.items self.new.lines.items self.new.next.items self.new.links.items self.new.leads.items }
+        ensures over { IsPutOver seat.at own seat.near seat.far z self.old.lines.items self.old.next.items self.old.links.items self.old.leads.items self.new.lines.items self.new.next.items self.new.links.items self.new.leads.items }
     {
+        let Seat { at, near, far } = seat;
         self.put_line(at, own, z);
         mark(&mut self.leads, at, near, z);
         self.links[z as usize] = far;
         self.links[near as usize] = z;
     }
 
-    // Puts `z` on over a row with its turn at place `c`.
-    fn put(&mut self, row: &[u16], c: usize, run: bool, z: u16)
-        requires turn { c + 2 ≤ length row.now }
-        requires row { All (λ u. u < vec_len self.old.lines) row.now }
-        requires z { z < vec_len self.old.lines }
+    // Puts a vertex on over row `k` of a run.
+    fn put(&mut self, turned: &TurnedRows<'_>, k: usize)
+        requires row { k < length turned.now.rows.now }
+        requires size { vec_len self.old.lines ≡ length turned.now.rows.now + 2 }
         ensures side { self.new.side ≡ self.old.side }
         ensures size { vec_len self.new.lines ≡ vec_len self.old.lines }
-        ensures state { (steps : ℕ → Step) (n k : ℕ) → IsLabelledRun steps n → k < n → IsRow (stage_after steps k) (steps k) row.now → (steps k).first + c ≡ turn_of steps k → run ≡ turns_at_run steps k → z ≡ k + 2
-            → IsSideState self.old.side steps n k self.old.lines.items self.old.next.items self.old.links.items self.old.leads.items
-            → IsSideState self.old.side steps n (suc k) self.new.lines.items self.new.next.items self.new.links.items self.new.leads.items }
+        ensures state { (steps : ℕ → Step) → AreRows steps turned.now.rows.now → AreTurns steps (length turned.now.rows.now) turned.now.places.now turned.now.runs.now → IsLabelledRun steps (length turned.now.rows.now)
+            → IsSideState self.old.side steps (length turned.now.rows.now) k self.old.lines.items self.old.next.items self.old.links.items self.old.leads.items
+            → IsSideState self.old.side steps (length turned.now.rows.now) (suc k) self.new.lines.items self.new.next.items self.new.links.items self.new.leads.items }
     {
-        let own = self.side.gets_line(run);
-        let at = row[self.side.place_in(c)];
+        turned.rows.facts();
+        let row = turned.rows.list(k);
+        let own = self.side.gets_line(turned.runs[k]);
+        let at = row[self.side.place_in(turned.places[k])];
         let first = row[0];
         let last = row[row.len() - 1];
+        let z = (k + 2) as u16;
         match self.side {
-            Side::Left => self.put_over(at, own, last, first, z),
-            Side::Low => self.put_over(at, own, first, last, z),
+            Side::Left => {
+                let seat = Seat {
+                    at,
+                    near: last,
+                    far: first,
+                };
+                self.put_over(seat, own, z)
+            }
+            Side::Low => {
+                let seat = Seat {
+                    at,
+                    near: first,
+                    far: last,
+                };
+                self.put_over(seat, own, z)
+            }
         }
-    }
-
-    // Puts a vertex on over each row of a run, and returns how many lines there are then.
-    fn put_all(&mut self, rows: &Rotations, places: &[usize], at_runs: &[bool]) -> usize
-        requires run { (steps : ℕ → Step) × AreRows steps rows.now × AreTurns steps (length rows.now) places.now at_runs.now }
-        requires size { vec_len self.old.lines ≡ length rows.now + 2 }
-        ensures side { self.new.side ≡ self.old.side }
-        ensures size { vec_len self.new.lines ≡ vec_len self.old.lines }
-        ensures few { result ≤ length rows.now + 2 }
-        ensures state { (steps : ℕ → Step) → AreRows steps rows.now → AreTurns steps (length rows.now) places.now at_runs.now → IsLabelledRun steps (length rows.now)
-            → IsSideState self.old.side steps (length rows.now) 0 self.old.lines.items self.old.next.items self.old.links.items self.old.leads.items
-            → IsSideState self.old.side steps (length rows.now) (length rows.now) self.new.lines.items self.new.next.items self.new.links.items self.new.leads.items × (result ≡ line_count self.old.side steps (length rows.now)) }
-    {
-        let mut count = usize::from(self.side.second_line()) + 1;
-        for k in 0..rows.len() {
-            let run = at_runs[k];
-            self.put(rows.list(k), places[k], run, (k + 2) as u16);
-            count = more_if(self.side.gets_line(run), count);
-        }
-        count
     }
 }
 
@@ -188,17 +183,25 @@ impl SideLines {
 pub(crate) fn side_numbers(
     alloc: Global,
     side: Side,
-    rows: &Rotations,
-    turns: &RowTurns,
+    turned: &TurnedRows<'_>,
 ) -> Result<Vec<u32>, AllocError>
-    requires run { (steps : ℕ → Step) × AreRows steps rows.now × AreTurns steps (length rows.now) turns.now.place.items turns.now.run.items }
-    ensures count { IfOk result (λ made. length made.items ≡ length rows.now + 2) }
-    ensures numbers { IfOk result (λ made. (steps : ℕ → Step) → AreRows steps rows.now → AreTurns steps (length rows.now) turns.now.place.items turns.now.run.items → IsLabelledRun steps (length rows.now)
-        → (v : ℕ) → v < length rows.now + 2 → slice_index made.items v ≡ number_of side (numbers steps (length rows.now)) v) }
+    ensures count { IfOk result (λ made. length made.items ≡ length turned.now.rows.now + 2) }
+    ensures numbers { IfOk result (λ made. (steps : ℕ → Step) → AreRows steps turned.now.rows.now → AreTurns steps (length turned.now.rows.now) turned.now.places.now turned.now.runs.now → IsLabelledRun steps (length turned.now.rows.now)
+        → (v : ℕ) → v < length turned.now.rows.now + 2 → slice_index made.items v ≡ number_of side (numbers steps (length turned.now.rows.now)) v) }
 {
-    let mut made = SideLines::new(alloc, side, rows.len() + 2)?;
-    let count = made.put_all(rows, &turns.place, &turns.run);
-    line_numbers(alloc, &made.lines, &made.next, side.second_line(), count)
+    let n = turned.rows.len();
+    let mut made = SideLines::new(alloc, side, n + 2)?;
+    let mut count = usize::from(side.second_line()) + 1;
+    for k in 0..n {
+        made.put(turned, k);
+        count += usize::from(side.gets_line(turned.runs[k]));
+    }
+    let linked = Linked {
+        lines: &made.lines,
+        next: &made.next,
+    };
+    let numbers = linked.numbers(alloc, side.second_line(), count)?;
+    Ok(numbers)
 }
 
 /// The left and the lower side of each vertex of a run.
@@ -209,18 +212,13 @@ pub(crate) struct RowNumbers {
 }
 
 /// Returns the left and the lower sides of a run with these rows and turns. It fails only where memory runs out.
-pub(crate) fn row_numbers(
-    alloc: Global,
-    rows: &Rotations,
-    turns: &RowTurns,
-) -> Result<RowNumbers, AllocError>
-    requires run { (steps : ℕ → Step) × AreRows steps rows.now × AreTurns steps (length rows.now) turns.now.place.items turns.now.run.items }
-    ensures count { IfOk result (λ numbers. length numbers.x.items ≡ length rows.now + 2) }
-    ensures count_y { IfOk result (λ numbers. length numbers.y.items ≡ length rows.now + 2) }
-    ensures numbers { IfOk result (λ numbers. (steps : ℕ → Step) → AreRows steps rows.now → AreTurns steps (length rows.now) turns.now.place.items turns.now.run.items → IsLabelledRun steps (length rows.now)
-        → AreNumbers steps (length rows.now) numbers.x.items numbers.y.items) }
+pub(crate) fn row_numbers(alloc: Global, turned: &TurnedRows<'_>) -> Result<RowNumbers, AllocError>
+    ensures count { IfOk result (λ numbers. length numbers.x.items ≡ length turned.now.rows.now + 2) }
+    ensures count_y { IfOk result (λ numbers. length numbers.y.items ≡ length turned.now.rows.now + 2) }
+    ensures numbers { IfOk result (λ numbers. (steps : ℕ → Step) → AreRows steps turned.now.rows.now → AreTurns steps (length turned.now.rows.now) turned.now.places.now turned.now.runs.now → IsLabelledRun steps (length turned.now.rows.now)
+        → AreNumbers steps (length turned.now.rows.now) numbers.x.items numbers.y.items) }
 {
-    let x = side_numbers(alloc, Side::Left, rows, turns)?;
-    let y = side_numbers(alloc, Side::Low, rows, turns)?;
+    let x = side_numbers(alloc, Side::Left, turned)?;
+    let y = side_numbers(alloc, Side::Low, turned)?;
     Ok(RowNumbers { x, y })
 }

@@ -1,5 +1,5 @@
 //! Rectangular duals of maps.
-ghost use Rattle.std.specs.Prelude.{◌≡◌, ◌<◌, ◌≤◌, ◌^◌, ℕ, length, slice_index, Some, All, IfOk, pos};
+ghost use Rattle.std.specs.Prelude.{◌≡◌, ◌<◌, ◌^◌, ℕ, length, slice_index, Some, All, IfOk, pos};
 ghost use Rattle.map_theory.specs.Maps.{follows};
 ghost use Rattle.half_edges.specs.Map.{IsLive, dart_at};
 ghost use Rattle.rect_check.specs.Duals.{HasRects};

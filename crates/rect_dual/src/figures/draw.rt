@@ -26,18 +26,6 @@ fn first_dart(map: &HalfMap) -> DartId
     }
 }
 
-// The rectangles of a map of the class, with these lists.
-fn map_rects(alloc: Global, map: &HalfMap, lists: &Rotations) -> Result<RectFigure, AllocError>
-    requires lists { lists.now ≡ map.now.lists }
-    requires class { IsRectMap map.now.lists }
-    ensures { IfOk result (IsRectFigure map.now.lists) }
-{
-    rect_class::biconnected_are_rect_maps();
-    rect_orders::rect_duals::dual_for_first();
-    let figure = rect_draw_by_lists(alloc, map, lists, first_dart(map))?;
-    Ok(figure)
-}
-
 /// The figure of a record with these lists, which are from 1 to 4095: a rectangle for each vertex, which together fill
 /// one of at most n - 2 by n - 2, and two of which share a side just where their vertices are adjacent. The outer face,
 /// that of the dart from vertex 0 to the first of its list, is walked by the left, the upper, the right and the lower
@@ -56,7 +44,9 @@ pub fn rect_figure(alloc: Global, lists: &Rotations) -> Result<RectFigure, Unser
     ensures served { OnOk result (IsRectMap lists.now) }
     ensures refused { IfErr result (IfRefused (BreaksRect lists.now)) }
 {
+    rect_class::biconnected_are_rect_maps();
+    rect_orders::rect_duals::dual_for_first();
     let map = rect_map(alloc, lists)?;
-    let figure = map_rects(alloc, &map, lists)?;
+    let figure = rect_draw_by_lists(alloc, &map, lists, first_dart(&map))?;
     Ok(figure)
 }

@@ -1,5 +1,5 @@
 //! Figures of records, one after another, by a drawer that keeps its tables from one to the next.
-ghost use Rattle.std.specs.Prelude.{◌≡◌, ◌<◌, length, IfOk, IfErr, OnOk};
+ghost use Rattle.std.specs.Prelude.{◌<◌, length, IfOk, IfErr, OnOk};
 ghost use Rattle.refusals.specs.Conditions.{IfRefused};
 ghost use Rattle.rect_check.specs.Loops.{IsFrame};
 ghost use Rattle.rect_class.specs.RectMaps.{IsRectMap};

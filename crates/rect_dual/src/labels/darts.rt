@@ -1,5 +1,5 @@
 //! The labels of darts.
-ghost use Rattle.std.specs.Prelude.{◌≡◌, ◌<◌, ◌↔◌, ℕ, Some, length, slice_index, All, IsTrue, IfOk};
+ghost use Rattle.std.specs.Prelude.{◌≡◌, ◌<◌, ◌↔◌, ℕ, Some, length, All, IsTrue, IfOk};
 ghost use Rattle.half_edges.specs.Map.{dart_at, id_bound};
 ghost use Rattle.rect_orders.specs.Labellings.{IsSide, IsFrameEdge};
 ghost use Rattle.rect_dual.specs.EdgeLabelsTables.{is_run, end_at, end_by};
@@ -78,20 +78,6 @@ pub(crate) struct Ranked<'a> {
 }
 
 impl Ranked<'_> {
-    // Returns the label of the dart from `u` to `v`.
-    fn label_between(&self, u: VertexId, v: VertexId) -> Label
-        requires u_in { u.0 < length self.now.ranks.now }
-        requires v_in { v.0 < length self.now.ranks.now }
-        ensures { IsLabelOf self.now.frame.now.left.0 self.now.frame.now.top.0 self.now.frame.now.right.0 self.now.frame.now.bottom.0
-            (end_by self.now.tables.now.first.items self.now.tables.now.left.items self.now.ranks.now) u.0 v.0 result }
-    {
-        if is_frame_edge(self.frame, u, v) {
-            return Label::Frame;
-        }
-        self.tables
-            .inner_label(self.ranks.get(u.0 as usize), self.ranks.get(v.0 as usize))
-    }
-
     // Returns the label of the dart with an id, or any label where there is none.
     fn dart_label(&self, d: DartId) -> Label
         ensures { (u v : ℕ) → dart_at self.now.map.now d.0 ≡ Some (u, v) → IsLabelOf self.now.frame.now.left.0 self.now.frame.now.top.0 self.now.frame.now.right.0 self.now.frame.now.bottom.0
@@ -103,7 +89,11 @@ impl Ranked<'_> {
         }
         let u = self.map.tail(d);
         let v = self.map.head(d);
-        self.label_between(u, v)
+        if is_frame_edge(self.frame, u, v) {
+            return Label::Frame;
+        }
+        self.tables
+            .inner_label(self.ranks.get(u.0 as usize), self.ranks.get(v.0 as usize))
     }
 
     // Makes the labels of all ids.

@@ -1,5 +1,5 @@
 //! The edge labelling of a map.
-ghost use Rattle.std.specs.Prelude.{◌≡◌, ◌<◌, ◌≤◌, ◌-◌, ℕ, length, Some, IfOk};
+ghost use Rattle.std.specs.Prelude.{◌≡◌, ◌<◌, ◌-◌, ℕ, length, Some, IfOk};
 ghost use Rattle.map_theory.specs.Maps.{follows};
 ghost use Rattle.half_edges.specs.Map.{IsLive, dart_at};
 ghost use Rattle.rect_orders.specs.Maps.{IsRectMap};
@@ -9,7 +9,7 @@ use crate::labels::darts::Ranked;
 use crate::labels::labels::Labelling;
 use crate::labels::tables::run_tables;
 use crate::orders::map_order;
-use crate::rect_turns::row_turns;
+use crate::rect_turns::{TurnedRows, row_turns};
 use half_edges::{DartId, HalfMap};
 use rect_orders::rect_order::{Frame, frame_of};
 use std::alloc::{AllocError, Global};
@@ -27,7 +27,12 @@ fn framed(alloc: Global, map: &HalfMap, frame: Frame) -> Result<Labelling, Alloc
     rect_orders::rect_labellings::labels_of_order();
     let made = map_order(alloc, map, frame)?;
     let turns = row_turns(alloc, &made.rows)?;
-    let tables = run_tables(alloc, &made.rows, &turns)?;
+    let turned = TurnedRows {
+        rows: &made.rows,
+        places: &turns.place,
+        runs: &turns.run,
+    };
+    let tables = run_tables(alloc, &turned)?;
     let ranked = Ranked {
         map,
         frame: &frame,

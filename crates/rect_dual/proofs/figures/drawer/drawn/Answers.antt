@@ -1,18 +1,12 @@
 use Rattle.std.proofs.Common.{refl, sym, subst}
-use Rattle.map_lists.specs.Lists.{Lists}
 use Rattle.map_theory.specs.Maps.{HasDart}
 use Rattle.rect_check.specs.Duals.{top_vertex, right_vertex, bottom_vertex}
-use Rattle.rect_class.specs.Laws.{BiconnectedAreRectMaps}
-use Rattle.rect_class.specs.RectMaps.{IsRectMap as IsOfClass}
 use Rattle.rect_orders.specs.Maps.{IsRectMap}
 use Rattle.rect_orders.specs.Figures.{IsDualFor}
 use Rattle.rect_orders.specs.Labellings.{IsByLabelling}
 use Rattle.rect_orders.proofs.Closed.{dart_ts}
-use Rattle.rect_dual.proofs.Drawn.{by_names}
+use Rattle.rect_dual.proofs.Drawn.{by_names, class_of}
 use Rattle.rect_dual.proofs.figures.drawer.drawn.Goals as goal
-
-class_of : (lists : Lists) → IsOfClass lists → BiconnectedAreRectMaps → IsRectMap lists 0 (top_vertex lists) (right_vertex lists) (bottom_vertex lists)
-class_of lists h all = let q = all lists h in record { connected = q.connected; large = q.more; near = q.near; no_separating = q.triangles }
 
 pub next_on_face-inner-requires-clause-dart : goal.next_on_face-inner-requires-clause-dart
 next_on_face-inner-requires-clause-dart c =
