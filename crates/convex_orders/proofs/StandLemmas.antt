@@ -351,12 +351,9 @@ module _ (lists : Lists) (s d : ℕ) (based : IsBased lists s d) where
       pub begun_places : (m : ℕ) → m ≡ length ws → 3 ≤ m
       begun_places m e = omega (arith, x.8, list.long, e)
 
-      module _ (new : List Bool) (all row : List ℕ) (alone : all ≡ ws) (cleared : row ≡ list_of own (slice_index ws (length ws - 2))) (set_is : (f : ℕ) → (is_set new f ≡ true) ↔ ((is_set marks f ≡ true) × (¬ Contains row f))) (m : ℕ) (long : m ≡ length ws) where
+      module _ (new : List Bool) (all : List ℕ) (alone : all ≡ ws) (set_at : (f : ℕ) → (is_set new f ≡ true) ↔ ((is_set marks f ≡ true) × (¬ Contains (list_of own (slice_index ws (length ws - 2))) f))) (m : ℕ) (long : m ≡ length ws) where
         ends : length ws - 2 + 2 ≡ length ws
         ends = let two = begun_two in omega arith
-
-        set_at : (f : ℕ) → (is_set new f ≡ true) ↔ ((is_set marks f ≡ true) × (¬ Contains (list_of own (slice_index ws (length ws - 2))) f))
-        set_at = subst (λ (z : List ℕ). (f : ℕ) → (is_set new f ≡ true) ↔ ((is_set marks f ≡ true) × (¬ Contains z f))) cleared set_is
 
         begun_off : IsOffAt lists own new s d all (m - 1 - 2) (m - 1) x.0 x.1 x.2 x.3
         begun_off =
