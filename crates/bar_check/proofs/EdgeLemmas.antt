@@ -1,6 +1,9 @@
 -- The numbers of edges, one vertex after the other.
-use Rattle.std.proofs.Common.{◌≡◌, ℕ, ◌+◌, ◌&&◌, nat_lt, [], length, take, count_by, refl, sym, ap, ◌∙◌, arith, add-one}
+use Rattle.std.proofs.Common.{◌≡◌, ◌⊎◌, ℕ, ◌+◌, ◌<◌, ◌≤◌, ◌&&◌, nat_lt, List, [], length, take, get_or, count_by, refl, sym, ap, ap₂, ◌∙◌, inl, inr, arith, add-one}
+use Rattle.std.proofs.lemmas.Bool.{lt-ltb, le-ltb}
 use Rattle.std.proofs.lemmas.List.{take_all}
+use Rattle.std.proofs.lemmas.List.Sums.{count_by_more_yes, count_by_more_no}
+use Rattle.std.proofs.Math.Bool.{and-false}
 use Rattle.map_lists.specs.Lists.{Lists}
 use Rattle.map_theory.specs.Maps.{list_of}
 use Rattle.bar_check.specs.Bars.{edges_until, edges_before}
@@ -18,6 +21,15 @@ edges_until-none lists v end e =
 pub edges_until-all : (lists : Lists) (v end k count : ℕ) → k ≡ length (list_of lists v) → count ≡ count_by (λ u. nat_lt v u && nat_lt u end) (take k (list_of lists v)) → count ≡ edges_until lists v end
 edges_until-all lists v end k count n h =
     h ∙ (ap (λ us. count_by (λ u. nat_lt v u && nat_lt u end) us) (ap (λ i. take i (list_of lists v)) n ∙ take_all (length (list_of lists v)) (list_of lists v) (omega arith)) ∙ sym (edges_until-is lists v end))
+
+-- one entry more, which is counted where it is above v and below the end
+pub count_more : (v end : ℕ) (us : List ℕ) (k u old new : ℕ) → k < length us → get_or us k 0 ≡ u → old ≡ count_by (λ w. nat_lt v w && nat_lt w end) (take k us) → ((v < u) × (u < end) × (new ≡ old + 1)) ⊎ (((u ≤ v) ⊎ (end ≤ u)) × (new ≡ old)) → new ≡ count_by (λ w. nat_lt v w && nat_lt w end) (take (k + 1) us)
+count_more v end us k u old new l same was (inl (above, below, more)) =
+    more ∙ (ap (λ n. n + 1) was ∙ sym (count_by_more_yes (λ w. nat_lt v w && nat_lt w end) us k 0 l (ap (λ w. nat_lt v w && nat_lt w end) same ∙ ap₂ ◌&&◌ (lt-ltb v u above) (lt-ltb u end below))))
+count_more v end us k u old new l same was (inr (inl low, more)) =
+    more ∙ (was ∙ sym (count_by_more_no (λ w. nat_lt v w && nat_lt w end) us k 0 l (ap (λ w. nat_lt v w && nat_lt w end) same ∙ ap (λ b. b && nat_lt u end) (le-ltb v u low))))
+count_more v end us k u old new l same was (inr (inr high, more)) =
+    more ∙ (was ∙ sym (count_by_more_no (λ w. nat_lt v w && nat_lt w end) us k 0 l (ap (λ w. nat_lt v w && nat_lt w end) same ∙ (ap (λ b. nat_lt v u && b) (le-ltb u end high) ∙ and-false (nat_lt v u)))))
 
 pub edges_before-none : (lists : Lists) → 0 ≡ edges_before lists 0
 unfolding edges_before

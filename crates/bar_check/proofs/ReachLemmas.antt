@@ -63,21 +63,20 @@ module _ (lists : Lists) (fig : BarFigure) where
     }
 
     -- one that leads up is noted
-    pub HasReach-more : (u : ℕ) (x : ℤ) (peaks peaks' blocks blocks' superblocks superblocks' : List ℤ) → HasDart lists v u → x ≡ column_between lists fig v u → pos 0 ≤ℤ x → ((k : ℕ) → x ≡ pos k → IsRaised k (number_at fig.y u) peaks peaks') → ((k : ℕ) → x ≡ pos k → IsRaised (k / 16) (number_at fig.y u) blocks blocks') → ((k : ℕ) → x ≡ pos k → IsRaised (k / 256) (number_at fig.y u) superblocks superblocks')
+    pub HasReach-more : (u k : ℕ) (peaks peaks' blocks blocks' superblocks superblocks' : List ℤ) → HasDart lists v u → pos k ≡ column_between lists fig v u → IsRaised k (number_at fig.y u) peaks peaks' → IsRaised (k / 16) (number_at fig.y u) blocks blocks' → IsRaised (k / 256) (number_at fig.y u) superblocks superblocks'
         → HasReach lists fig (IsBegun lists fig h v (place_of u (list_of lists v))) peaks blocks superblocks → HasReach lists fig (IsBegun lists fig h v (place_of u (list_of lists v) + 1)) peaks' blocks' superblocks'
-    HasReach-more u x peaks peaks' blocks blocks' superblocks superblocks' dart is low column block superblock reach = record {
-      each = λ a b k p c. ⊎_elim
+    HasReach-more u k peaks peaks' blocks blocks' superblocks superblocks' dart is column block superblock reach = record {
+      each = λ a b j p c. ⊎_elim
           (λ q.
-          let was = reach.each a b k q c in
-          record { column = more (was.column) ((column j.0 j.1).each k); block = more (was.block) ((block j.0 j.1).each (k / 16)); superblock = more (was.superblock) ((superblock j.0 j.1).each (k / 256)) })
+          let was = reach.each a b j q c in
+          record { column = more was.column (column.each j); block = more was.block (block.each (j / 16)); superblock = more was.superblock (superblock.each (j / 256)) })
           (λ n.
-          let e : x ≡ pos k = is ∙ (sym (ap (λ s. column_between lists fig s b) n.0 ∙ ap (λ t. column_between lists fig v t) n.1) ∙ c) in
-          subst (λ (z : ℕ). IsReached (number_at fig.y z) k peaks' blocks' superblocks') (sym n.1) (record { column = (column k e).here; block = (block k e).here; superblock = (superblock k e).here })) (earlier u a b dart p);
+          let e : pos k ≡ pos j = is ∙ (sym (ap (λ s. column_between lists fig s b) n.0 ∙ ap (λ t. column_between lists fig v t) n.1) ∙ c) in
+          let same : k ≡ j = omega (arith, ints, e) in
+          let here : IsReached (number_at fig.y u) k peaks' blocks' superblocks' = record { column = column.here; block = block.here; superblock = superblock.here } in
+          subst (λ (z : ℕ). IsReached (number_at fig.y z) j peaks' blocks' superblocks') (sym n.1) (subst (λ (i : ℕ). IsReached (number_at fig.y u) i peaks' blocks' superblocks') same here)) (earlier u a b dart p);
     }
       where
-        j : (k : ℕ) × (x ≡ pos k)
-        j = natural_is x low
-
         more : {p q r : ℤ} → p ≤ℤ q → q ≤ℤ r → p ≤ℤ r
         more {p} {q} {r} l m = omega (arith, ints, l, m)
 

@@ -1,12 +1,12 @@
 //! A sweep over the bars from below, that marks edges with no bar in their way. It keeps for each column the
 //! highest bar so far that holds it: an edge whose column shows its lower end is clear.
-ghost use Rattle.std.specs.Prelude.{◌≡◌, ◌⊎◌, ◌+◌, ◌<◌, ◌≤◌, ◌≤ℤ◌, ◌<ℤ◌, ℕ, true, false, length, slice_index, slice_index_or, pos, Some, IsTrue};
+ghost use Rattle.std.specs.Prelude.{◌≡◌, ◌⊎◌, ◌+◌, ◌<◌, ◌≤◌, ◌≤ℤ◌, ℕ, true, false, length, slice_index, slice_index_or, pos, Some, IsTrue};
 ghost use Rattle.std.specs.Bool.{OnTrue};
 ghost use Rattle.half_edges.specs.Map.{IsLive, dart_at, first_dart};
 ghost use Rattle.pg_plane.specs.declared.figure.BarFigure.{BarFigure as Bars};
 ghost use Rattle.vertex_rounds.specs.Rounds.{HasEdge, dart_of};
 ghost use Rattle.bar_check.specs.Bars.{number_at, column_of, IsStruck};
-ghost use Rattle.bar_check.specs.Tables.{AreClear, HasTops, IsAtTop, IsSeen, StandsAt};
+ghost use Rattle.bar_check.specs.Tables.{AreClear, HasTops, IsSeen, StandsAt};
 
 use crate::drawing::{Bar, Ordered};
 use crate::heights::number;
@@ -34,14 +34,6 @@ fn mark(clear: &mut [bool], d: DartId)
     if (d.0 as usize) < clear.len() {
         clear[d.0 as usize] = true;
     }
-}
-
-// Says whether column `x` has a mark, which is not above that of a bar of this height.
-fn is_at_top(tops: &[u16], x: i32, height: i32) -> bool
-    requires { height <ℤ pos 65536 }
-    ensures { OnTrue result (IsAtTop tops.now x height) }
-{
-    0 <= x && (x as usize) < tops.len() && i32::from(tops[x as usize]) <= height + 1
 }
 
 // Writes `top` at the columns from `left` to `right`, where the table reaches so far.
@@ -99,7 +91,10 @@ impl Bar<'_> {
         ensures { OnTrue result (IsSeen self.now.drawing.fig.now self.now.h tops.now x u.0) }
     {
         let height = number(&self.drawing.fig.y, u.0 as usize);
-        height < i32::from(self.h) && is_at_top(tops, x, height)
+        height < i32::from(self.h)
+            && 0 <= x
+            && (x as usize) < tops.len()
+            && i32::from(tops[x as usize]) <= height + 1
     }
 
     // Marks a dart of the vertex, where its edge leads down and no bar is in the way. A dart beyond the tables gets no

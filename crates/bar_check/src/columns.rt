@@ -1,12 +1,12 @@
 //! Bars in the way of edges.
-ghost use Rattle.std.specs.Prelude.{◌≡◌, ◌*◌, ◌<◌, ◌≤◌, ◌↔◌, ℕ, length, IsTrue, Some, MatchOption};
-ghost use Rattle.half_edges.specs.Map.{IsLive, dart_at};
+ghost use Rattle.std.specs.Prelude.{◌*◌, ◌<◌, ◌≤◌, ◌↔◌, ℕ, length, IsTrue, Some, MatchOption};
+ghost use Rattle.half_edges.specs.Map.{IsLive};
 ghost use Rattle.vertex_rounds.specs.Least.{IsLeast, IsLeastPair, IsLeastTriple};
-ghost use Rattle.vertex_rounds.specs.Rounds.{HasEdge, HoldsAt};
+ghost use Rattle.vertex_rounds.specs.Rounds.{HoldsAt};
 ghost use Rattle.bar_check.specs.Bars.{number_at, IsBetween, IsStruck};
 ghost use Rattle.bar_check.specs.Faults.{GoesThrough};
 ghost use Rattle.bar_check.specs.Verdicts.{NoneThrough};
-ghost use Rattle.bar_check.specs.Loops.{IsStruckBelow, IsBlocked, IsBlockedFrom, IsBlockedEdge};
+ghost use Rattle.bar_check.specs.Loops.{IsStruckBelow, IsBlockedFrom, IsBlockedEdge};
 ghost use Rattle.bar_check.specs.Tables.{AreClear};
 
 use crate::clear::is_clear;
@@ -47,52 +47,26 @@ fn first_struck(fig: &BarFigure, n: u16, e: Ends, x: i32) -> Option<VertexId>
     None
 }
 
-// Says whether the bar of some vertex below `n` is in the way of an edge, in column `x`.
-fn is_blocked(fig: &BarFigure, n: u16, e: Ends, x: i32) -> bool
-    ensures { IsTrue result ↔ ((v : ℕ) × IsStruckBelow n fig.now e.a.0 e.b.0 x v) }
-{
-    match first_struck(fig, n, e, x) {
-        Some(_) => true,
-        None => false,
-    }
-}
-
 impl LesserEnd<'_> {
-    // Says whether a bar is in the way of the edge of a dart to `b`, its greater end.
-    fn is_blocked_at(&self, b: VertexId, d: DartId) -> bool
-        requires dart { dart_at self.now.drawing.map.now d.0 ≡ Some (self.now.a.0, b.0) }
-        requires order { self.now.a.0 < b.0 }
-        ensures { IsTrue result ↔ IsBlocked self.now.drawing.map.now.lists self.now.drawing.fig.now self.now.a.0 b.0 }
-    {
-        let map = self.drawing.map;
-        map.facts();
-        if is_clear(map, self.clear, d) {
-            return false;
-        }
-        let x = self.column_to(b, d);
-        is_blocked(self.drawing.fig, map.n(), Ends { a: self.a, b }, x)
-    }
-
     // Says whether a dart leads from the lesser end to a greater vertex, and a bar is in the way of the edge.
     fn leads_to_blocked(&self, d: DartId) -> bool
         requires live { IsLive self.now.drawing.map.now d.0 }
         ensures { IsTrue result ↔ HoldsAt self.now.drawing.map.now (IsBlockedFrom self.now.drawing.map.now.lists self.now.drawing.fig.now self.now.a.0) d.0 }
     {
         let map = self.drawing.map;
+        map.facts();
         let b = map.head(d);
         if map.tail(d).0 != self.a.0 || b.0 <= self.a.0 {
             return false;
         }
-        self.is_blocked_at(b, d)
-    }
-
-    // Returns the least neighbour to which an edge from the lesser end is blocked.
-    fn least_blocked(&self) -> Option<VertexId>
-        ensures { MatchOption result ((b : ℕ) → ¬ IsBlockedEdge self.now.drawing.map.now.lists self.now.drawing.fig.now self.now.a.0 b)
-            (λ b. IsLeast (IsBlockedEdge self.now.drawing.map.now.lists self.now.drawing.fig.now self.now.a.0) b.0) }
-    {
-        self.drawing.map.facts();
-        least_head(self.drawing.map, self.a, |d| self.leads_to_blocked(d))
+        if is_clear(map, self.clear, d) {
+            return false;
+        }
+        let x = self.column_to(b, d);
+        match first_struck(self.drawing.fig, map.n(), Ends { a: self.a, b }, x) {
+            Some(_) => true,
+            None => false,
+        }
     }
 }
 
@@ -104,6 +78,7 @@ impl Drawing<'_> {
             (λ e. IsLeastPair (IsBlockedEdge self.now.map.now.lists self.now.fig.now) e.a.0 e.b.0) }
     {
         let drawing = *self;
+        drawing.map.facts();
         let mut before = 0;
         for a in 0..drawing.map.n() {
             let a = VertexId(a);
@@ -113,21 +88,12 @@ impl Drawing<'_> {
                 a,
                 before,
             };
-            if let Some(b) = end.least_blocked() {
+            if let Some(b) = least_head(drawing.map, a, |d| end.leads_to_blocked(d)) {
                 return Some(Ends { a, b });
             }
             before = edges_with(drawing.map, a, before);
         }
         None
-    }
-
-    // Returns the least vertex whose bar is in the way of an edge.
-    fn struck_by(&self, e: Ends) -> Option<VertexId>
-        requires edge { HasEdge self.now.map.now.lists e.a.0 e.b.0 }
-        ensures { MatchOption result ((v : ℕ) → ¬ GoesThrough self.now.map.now.lists self.now.fig.now e.a.0 e.b.0 v)
-            (λ v. IsLeast (GoesThrough self.now.map.now.lists self.now.fig.now e.a.0 e.b.0) v.0) }
-    {
-        first_struck(self.fig, self.map.n(), e, self.column_of(e.a, e.b))
     }
 
     // Returns the first edge that goes through a bar, with the least such bar.
@@ -137,19 +103,10 @@ impl Drawing<'_> {
             (λ p. IsLeastTriple (GoesThrough self.now.map.now.lists self.now.fig.now) p.0.a.0 p.0.b.0 p.1.0) }
     {
         match self.first_blocked(clear) {
-            Some(e) => self.with_struck(e),
-            None => None,
-        }
-    }
-
-    // Returns the first edge that is blocked, with the least vertex whose bar is in its way.
-    fn with_struck(&self, e: Ends) -> Option<(Ends, VertexId)>
-        requires first { IsLeastPair (IsBlockedEdge self.now.map.now.lists self.now.fig.now) e.a.0 e.b.0 }
-        ensures { MatchOption result (NoneThrough self.now.map.now.lists self.now.fig.now)
-            (λ p. IsLeastTriple (GoesThrough self.now.map.now.lists self.now.fig.now) p.0.a.0 p.0.b.0 p.1.0) }
-    {
-        match self.struck_by(e) {
-            Some(v) => Some((e, v)),
+            Some(e) => match first_struck(self.fig, self.map.n(), e, self.column_of(e.a, e.b)) {
+                Some(v) => Some((e, v)),
+                None => None,
+            },
             None => None,
         }
     }

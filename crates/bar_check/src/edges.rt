@@ -9,21 +9,6 @@ use crate::heights::number;
 use half_edges::{HalfMap, VertexId};
 use vertex_rounds::later_dart;
 
-// The count with one more where `u` is above `v` and below `end`.
-fn counted(count: u32, v: VertexId, u: VertexId, end: u16) -> u32
-    requires { count < 65535 }
-    ensures more { (us : List ℕ) (k : ℕ) → k < length us → slice_index us k ≡ u.0
-        → count ≡ count_by (λ w. nat_lt v.0 w && nat_lt w end) (take k us)
-        → result ≡ count_by (λ w. nat_lt v.0 w && nat_lt w end) (take (k + 1) us) }
-    ensures few { result ≤ count + 1 }
-{
-    if v.0 < u.0 && u.0 < end {
-        count + 1
-    } else {
-        count
-    }
-}
-
 // Returns how many edges lead from `v` to vertices above `v` and below `end`.
 fn edges_until(map: &HalfMap, v: VertexId, end: u16) -> u32
     requires vertex { v.0 < length map.now.lists }
@@ -38,7 +23,10 @@ fn edges_until(map: &HalfMap, v: VertexId, end: u16) -> u32
     let mut count = 0;
     let mut d = first;
     'round: loop {
-        count = counted(count, v, map.head(d), end);
+        let u = map.head(d);
+        if v.0 < u.0 && u.0 < end {
+            count += 1;
+        }
         match later_dart(map, d) {
             Some(next) => d = next,
             None => return count,

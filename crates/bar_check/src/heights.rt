@@ -10,7 +10,7 @@ use crate::drawing::Bars;
 use half_edges::{HalfMap, VertexId};
 use pg_plane::{BarFigure, Ints};
 
-// Number `i` of a list, or 0 behind its end.
+// Returns number `i` of a list, or 0 behind its end.
 pub(crate) fn number(list: &Ints, i: usize) -> i32
     ensures { result ≡ number_at list.now i }
 {

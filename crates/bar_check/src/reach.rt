@@ -37,26 +37,6 @@ fn raise(table: &mut [i32], i: usize, y: i32) -> bool
     }
 }
 
-// Notes that an edge of column `x` reaches height `y`, and says whether the tables reach so far.
-fn raise_column(
-    peaks: &mut [i32],
-    blocks: &mut [i32],
-    superblocks: &mut [i32],
-    x: i32,
-    y: i32,
-) -> bool
-    ensures low { OnTrue result (pos 0 ≤ℤ x) }
-    ensures peaks { (k : ℕ) → x ≡ pos k → OnTrue result (IsRaised k y peaks.old peaks.new) }
-    ensures blocks { (k : ℕ) → x ≡ pos k → OnTrue result (IsRaised (k / 16) y blocks.old blocks.new) }
-    ensures superblocks { (k : ℕ) → x ≡ pos k → OnTrue result (IsRaised (k / 256) y superblocks.old superblocks.new) }
-{
-    if x < 0 {
-        return false;
-    }
-    let k = natural(x);
-    raise(peaks, k, y) && raise(blocks, k / 16, y) && raise(superblocks, k / 256, y)
-}
-
 // Says whether number `i` of a table is there and not above `h`.
 fn is_low(table: &[i32], i: usize, h: u16) -> bool
     ensures { OnTrue result (number_at table.now i ≤ℤ pos h) }
@@ -105,23 +85,6 @@ impl Peaks<'_> {
             low_until(self.columns, h, k, ((k / 16 + 1) * 16).min(right + 1))
         }
     }
-
-    // Says whether no edge of a column from `left` to `right` reaches above `h`.
-    fn passes_between(&self, h: u16, left: usize, right: usize) -> bool
-        requires { right < 4294967296 }
-        ensures { OnTrue result ((x : ℕ) → left ≤ x → x ≤ right → IsPassed h x self.now.columns.now self.now.blocks.now self.now.superblocks.now) }
-    {
-        let peaks = *self;
-        let mut k = left;
-        while k <= right {
-            let next = peaks.passed_to(h, k, right);
-            if next <= k {
-                return false;
-            }
-            k = next;
-        }
-        true
-    }
 }
 
 impl Bar<'_> {
@@ -146,7 +109,12 @@ impl Bar<'_> {
         if self.drawing.columns.len() <= d.0 as usize {
             return false;
         }
-        raise_column(peaks, blocks, superblocks, self.drawing.column_at(d), y)
+        let x = self.drawing.column_at(d);
+        if x < 0 {
+            return false;
+        }
+        let k = natural(x);
+        raise(peaks, k, y) && raise(blocks, k / 16, y) && raise(superblocks, k / 256, y)
     }
 
     // Notes the edges that lead up from the vertex, and says whether the tables reach so far.
@@ -171,7 +139,7 @@ impl Bar<'_> {
         }
     }
 
-    // Meets the bar, and says whether it is in the way of no edge.
+    // Meets the bar, and says whether it is in the way of no edge: none of a column that it holds reaches above it.
     fn meets(&self, peaks: &mut [i32], blocks: &mut [i32], superblocks: &mut [i32]) -> bool
         requires swept { IsSwept self.now.drawing.map.now.lists self.now.drawing.fig.now self.now.h peaks.old blocks.old superblocks.old }
         ensures { OnTrue result (IsSwept self.now.drawing.map.now.lists self.now.drawing.fig.now (self.now.h + 1) peaks.new blocks.new superblocks.new) }
@@ -183,8 +151,13 @@ impl Bar<'_> {
         };
         let left = natural(number(&self.drawing.fig.x1, self.v.0 as usize));
         let right = natural(number(&self.drawing.fig.x2, self.v.0 as usize));
-        if !known.passes_between(self.h, left, right) {
-            return false;
+        let mut k = left;
+        while k <= right {
+            let next = known.passed_to(self.h, k, right);
+            if next <= k {
+                return false;
+            }
+            k = next;
         }
         self.begin_edges(peaks, blocks, superblocks)
     }

@@ -1,13 +1,13 @@
 //! The column of each edge, at the ids of its darts, and the first that stands wrong.
-ghost use Rattle.std.specs.Prelude.{◌≡◌, ◌≢◌, ◌⊎◌, ◌+◌, ◌*◌, ◌<◌, ◌≤◌, ◌↔◌, ℕ, length, slice_index, slice_set, Some, IsTrue, MatchOption};
+ghost use Rattle.std.specs.Prelude.{◌≡◌, ◌≢◌, ◌⊎◌, ◌+◌, ◌*◌, ◌<◌, ◌≤◌, ℕ, length, slice_set, Some, MatchOption};
 ghost use Rattle.map_theory.specs.Maps.{list_of, place_of};
 ghost use Rattle.half_edges.specs.Map.{IsLive, dart_at, first_dart};
 ghost use Rattle.vertex_rounds.specs.Least.{IsLeastPair};
 ghost use Rattle.vertex_rounds.specs.Rounds.{dart_of};
-ghost use Rattle.bar_check.specs.Bars.{number_at, edges_before, IsColumn, column_of as the_column, column_between as the_column_between};
+ghost use Rattle.bar_check.specs.Bars.{number_at, IsColumn, column_of as the_column, column_between as the_column_between};
 ghost use Rattle.bar_check.specs.Faults.{HasBadColumn};
 ghost use Rattle.bar_check.specs.Verdicts.{NoBadColumn};
-ghost use Rattle.bar_check.specs.Tables.{AreColumns, AreFilled, AreNext, IsFirstMetBad, IsUpTo, IsWritten};
+ghost use Rattle.bar_check.specs.Tables.{AreColumns, AreFilled, AreNext, IsFirstMetBad};
 
 use crate::drawing::{Bars, Drawing, GreaterEnd, LesserEnd};
 use crate::edges::edges_with;
@@ -26,24 +26,6 @@ fn put(columns: &mut [i32], d: DartId, x: i32)
     }
 }
 
-// Writes a column at both darts of an edge, where the table reaches so far.
-fn put_both(columns: &mut [i32], d: DartId, twin: DartId, x: i32)
-    ensures { IsWritten d.0 twin.0 x columns.old columns.new }
-{
-    put(columns, d, x);
-    put(columns, twin, x);
-}
-
-// Says whether an edge was found, whose lesser end is not above `a`.
-fn is_up_to(found: Option<Ends>, a: VertexId) -> bool
-    ensures { IsTrue result ↔ IsUpTo found a.0 }
-{
-    match found {
-        Some(e) => e.a.0 <= a.0,
-        None => false,
-    }
-}
-
 impl GreaterEnd<'_> {
     // Writes the column of the edge of dart `d` at its darts, where it leads down.
     fn put_edge(&self, next: &mut [u32], columns: &mut [i32], d: DartId)
@@ -58,12 +40,9 @@ impl GreaterEnd<'_> {
         if a.0 < self.b.0 {
             let edge = next[a.0 as usize];
             next[a.0 as usize] = edge + 1;
-            put_both(
-                columns,
-                d,
-                map.twin(d),
-                number(&self.bars.fig.column, edge as usize),
-            );
+            let x = number(&self.bars.fig.column, edge as usize);
+            put(columns, d, x);
+            put(columns, map.twin(d), x);
         }
     }
 
@@ -83,14 +62,14 @@ impl GreaterEnd<'_> {
         if self.b.0 <= a.0 {
             return found;
         }
-        if is_up_to(found, a) {
-            return found;
-        }
         let x = number(&bars.fig.column, next[a.0 as usize] as usize);
         if bars.is_column(a, self.b, x) {
             return found;
         }
-        Some(Ends { a, b: self.b })
+        match found {
+            Some(e) if e.a.0 <= a.0 => found,
+            _ => Some(Ends { a, b: self.b }),
+        }
     }
 
     // Writes the columns of the edges to lesser vertices, and returns the first edge with a bad column; `found` is the
@@ -120,21 +99,8 @@ impl GreaterEnd<'_> {
 }
 
 impl Bars<'_> {
-    // Writes for each vertex the number of edges with a lesser first end.
-    fn fill_next(&self, next: &mut [u32])
-        requires vertices { length next.old ≡ length self.now.map.now.lists }
-        ensures size { length next.new ≡ length self.now.map.now.lists }
-        ensures next { (a : ℕ) → a < length self.now.map.now.lists → slice_index next.new a ≡ edges_before self.now.map.now.lists a }
-    {
-        let mut before = 0;
-        for v in 0..self.map.n() {
-            next[v as usize] = before;
-            before = edges_with(self.map, VertexId(v), before);
-        }
-    }
-
-    // Writes the columns of all edges, with room for a number at each vertex, and returns the first edge whose
-    // column leaves the width or the bar of an end.
+    // Writes the columns of all edges, with room for a number at each vertex, at first that of edges with a lesser first
+    // end; and returns the first edge whose column leaves the width or the bar of an end.
     pub(crate) fn fill_columns(&self, next: &mut [u32], columns: &mut [i32]) -> Option<Ends>
         requires vertices { length next.old ≡ length self.now.map.now.lists }
         ensures size { length columns.new ≡ length columns.old }
@@ -142,10 +108,14 @@ impl Bars<'_> {
         ensures bad { MatchOption result (NoBadColumn self.now.map.now.lists self.now.fig.now self.now.width)
             (λ e. IsLeastPair (HasBadColumn self.now.map.now.lists self.now.fig.now self.now.width) e.a.0 e.b.0) }
     {
-        self.map.facts();
-        self.fill_next(next);
-        let mut bad = None;
         let bars = *self;
+        bars.map.facts();
+        let mut before = 0;
+        for v in 0..bars.map.n() {
+            next[v as usize] = before;
+            before = edges_with(bars.map, VertexId(v), before);
+        }
+        let mut bad = None;
         for b in 0..bars.map.n() {
             bad = GreaterEnd {
                 bars,

@@ -1,12 +1,11 @@
 //! The edges of a vertex, in the order of its list.
-ghost use Rattle.std.specs.Prelude.{◌≡◌, ◌<◌, ◌≤◌, ◌↔◌, ◌||◌, ℕ, length, IsTrue, Some, MatchBool, MatchOption};
+ghost use Rattle.std.specs.Prelude.{◌≡◌, ◌<◌, ◌↔◌, ◌||◌, ℕ, IsTrue, Some, MatchOption};
 ghost use Rattle.map_lists.specs.Lists.{Lists};
-ghost use Rattle.map_theory.specs.Maps.{list_of};
 ghost use Rattle.half_edges.specs.Map.{IsLive};
 ghost use Rattle.vertex_rounds.specs.Least.{IsLeast};
 ghost use Rattle.vertex_rounds.specs.Rounds.{HoldsAt};
 ghost use Rattle.bar_check.specs.Loops.{Breaks};
-ghost use Rattle.bar_check.specs.Bars.{column_between as the_column, IsAbove, IsEarlier, GoesOnceRound};
+ghost use Rattle.bar_check.specs.Bars.{column_between as the_column, IsAbove, IsEarlier};
 ghost use Rattle.bar_check.specs.Faults.{IsTurned};
 ghost use Rattle.bar_check.specs.Verdicts.{KeepsTurns};
 
@@ -63,24 +62,16 @@ impl Drawing<'_> {
         !is_earlier(self.fig, corner, x, z)
     }
 
-    // Says whether the list of `v` goes once round, where it has at least two entries.
-    fn keeps_rotation(&self, v: VertexId) -> bool
-        requires vertex { v.0 < length self.now.map.now.lists }
-        ensures { MatchBool result (2 ≤ length (list_of self.now.map.now.lists v.0) → GoesOnceRound self.now.map.now.lists self.now.fig.now v.0)
-            (IsTurned self.now.map.now.lists self.now.fig.now v.0) }
-    {
-        self.map.facts();
-        turns_once(self.map, v, |d| self.is_break(d))
-    }
-
-    // Returns the least vertex whose list is not in the order of its edges.
+    // Returns the least vertex whose list is not in the order of its edges: it has at least two entries, and does not go
+    // once round.
     pub(crate) fn first_turned(&self) -> Option<VertexId>
         ensures { MatchOption result (KeepsTurns self.now.map.now.lists self.now.fig.now)
             (λ v. IsLeast (IsTurned self.now.map.now.lists self.now.fig.now) v.0) }
     {
         let drawing = *self;
+        drawing.map.facts();
         for v in 0..drawing.map.n() {
-            if !drawing.keeps_rotation(VertexId(v)) {
+            if !turns_once(drawing.map, VertexId(v), |d| drawing.is_break(d)) {
                 return Some(VertexId(v));
             }
         }

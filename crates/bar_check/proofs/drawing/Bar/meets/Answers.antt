@@ -1,4 +1,4 @@
-use Rattle.std.proofs.Common.{◌+◌, ◌≡◌, pos, rules, arith}
+use Rattle.std.proofs.Common.{◌+◌, ◌≤◌, ◌≡◌, pos, rules, arith}
 use Rattle.std.proofs.lemmas.Bool.{OnTrue_at, OnTrue_from}
 use Rattle.std.proofs.lemmas.Int.{ints}
 use Rattle.bar_check.specs.Bars.{number_at}
@@ -22,4 +22,4 @@ returns c =
     let to = held.to in
     let left : pos c.natural-left.result ≡ number_at fig.x1 c.args.self.now.v.0 = search rules in
     let right : pos c.natural-right.result ≡ number_at fig.x2 c.args.self.now.v.0 = search rules in
-    OnTrue_at c.if-not-passes_between.false c.passes_between.ensures k (omega (arith, ints, left, from)) (omega (arith, ints, right, to))) (OnTrue_at t c.begin_edges.ensures))
+    c.loop-k.invariant k (omega (arith, ints, left, from)) (let less : k ≤ c.natural-right.result = omega (arith, ints, right, to) in omega (arith, less, c.loop-k-test.false))) (OnTrue_at t c.begin_edges.ensures))

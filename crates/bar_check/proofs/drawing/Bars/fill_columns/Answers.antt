@@ -1,12 +1,17 @@
 use Rattle.std.proofs.Common.{arith}
+use Rattle.bar_check.proofs.EdgeLemmas.{edges_before-none}
 use Rattle.bar_check.proofs.TableLemmas.{AreFilled-none, AreColumns-from, first-none, first-from}
 use Rattle.bar_check.proofs.drawing.Bars.fill_columns.Goals as goal
 
+pub loop-v-init : goal.loop-v-init
+loop-v-init c = record { size = c.requires.vertices; before = edges_before-none c.args.self.now.map.now.lists; few = omega arith; filled = λ a l. absurd (omega arith) }
+
 pub loop-b-init : goal.loop-b-init
 loop-b-init c =
+    let map = c.args.self.now.map.now in
     record {
-      filled = AreFilled-none c.args.self.now.map.now c.args.self.now.fig.now c.facts.ensures c.fill_next.new.next c.args.columns.now c.fill_next.ensures.size c.fill_next.ensures.next;
-      found = first-none c.args.self.now.map.now c.args.self.now.fig.now c.facts.ensures c.args.self.now.width;
+      filled = AreFilled-none map c.args.self.now.fig.now c.facts.ensures c.loop-v.next c.args.columns.now c.loop-v.invariant.size (λ a l. c.loop-v.invariant.filled a (omega (arith, l, c.loop-v-test.false, c.n-v-end.ensures.count)));
+      found = first-none map c.args.self.now.fig.now c.facts.ensures c.args.self.now.width;
     }
 
 pub returns-clause-columns : goal.returns-clause-columns

@@ -9,6 +9,7 @@ use Rattle.bar_check.specs.Bars.{number_at, IsColumn}
 use Rattle.bar_check.specs.Tables.{IsMetBad, IsUpTo}
 use Rattle.bar_check.proofs.TableLemmas.{column_next, edge_next, first-past, first-good, first-stays, first-new}
 use Rattle.bar_check.proofs.drawing.GreaterEnd.with_next.Goals as goal
+use Rattle.bar_check.proofs.drawing.GreaterEnd.with_next.Goals.{in_default-via-in-Some+else-e-a, in_default-via-in_default}
 
 pub returns-then-self-a : goal.returns-then-self-a
 returns-then-self-a c =
@@ -20,15 +21,16 @@ returns-then-self-a c =
     let has = subst (λ (z : ℕ). HasDart bars.map.now.lists z a) c.requires.tail (has_dart bars.map.now c.facts.ensures d c.requires.live) in
     first-past bars.map.now bars.fig.now c.facts.ensures b a has bars.width (subst (λ (z : ℕ). b ≤ z) (sym same) c.if-self-a.true) c.args.found c.requires.found
 
-pub returns-then-is_up_to : goal.returns-then-is_up_to
-returns-then-is_up_to c =
+pub returns-in-Some : goal.returns-in-Some
+returns-in-Some c =
     let bars = c.args.self.now.bars in
     let d = c.args.d.0 in
     let b = c.args.self.now.b.0 in
     let a = (dart_of bars.map.now d).1 in
     let same = head_is bars.map.now d c.head-a.result.0 c.requires.live c.head-a.ensures in
     let has = subst (λ (z : ℕ). HasDart bars.map.now.lists z a) c.requires.tail (has_dart bars.map.now c.facts.ensures d c.requires.live) in
-    first-stays bars.map.now bars.fig.now c.facts.ensures b a has bars.width c.args.found (subst (λ (z : ℕ). IsUpTo c.args.found z) (sym same) (c.is_up_to.ensures.0 c.if-is_up_to.true)) c.requires.found
+    let up : IsUpTo c.args.found a = rw c.in-Some.is (subst (λ (z : ℕ). c.in-Some.e.a.0 ≤ z) (sym same) c.if-e-a.true) in
+    rw c.in-Some.is at (first-stays bars.map.now bars.fig.now c.facts.ensures b a has bars.width c.args.found up c.requires.found)
 
 pub returns-then-is_column : goal.returns-then-is_column
 returns-then-is_column c =
@@ -49,8 +51,8 @@ returns-then-is_column c =
     first-good map fig c.facts.ensures b a has width
     (subst (λ (z : ℤ). IsColumn fig width a b z) (column_next map fig c.facts.ensures b a has next c.requires.numbers (omega (arith, same, c.if-self-a.false))) (subst (λ (z : ℕ). IsColumn fig width z b (number_at fig.column (get_or next z 0))) (sym same) read)) c.args.found c.requires.found
 
-pub returns : goal.returns
-returns c =
+pub returns-in_default : goal.returns-in_default
+returns-in_default c =
     let bars = c.args.self.now.bars in
     let map = bars.map.now in
     let fig = bars.fig.now in
@@ -67,7 +69,10 @@ returns c =
     let bad : IsColumn fig width c.head-a.result.0 b x → ⊥ = λ p. false≢true (sym c.if-is_column.false ∙ (simp to_z-of_z at c.is_column.ensures).1 p) in
     subst (λ (z : ℕ). IsLeastPair (IsMetBad map.lists fig width b (place_of a (list_of map.lists b) + 1)) z b) same
     (first-new map fig c.facts.ensures b a has width c.args.found c.requires.found
-    (λ up. false≢true (sym c.if-is_up_to.false ∙ c.is_up_to.ensures.1 (subst (λ (z : ℕ). IsUpTo c.args.found z) same up)))
+    (λ up. elim c.in_default.branch [
+      | in_default-via-in-Some+else-e-a w ↦ (let most = rw w.in-Some.is at up in omega (arith, most, same, w.if-e-a.false))
+      | in_default-via-in_default w ↦ rw w.in_default.is at up
+    ])
     (record {
       edge = edge_next map fig c.facts.ensures b a has less;
       bad = λ good. bad (subst (λ (z : ℤ). IsColumn fig width c.head-a.result.0 b z) (sym c.number-x.ensures) (subst (λ (z : ℕ). IsColumn fig width z b (number_at fig.column (get_or next z 0))) same (subst (λ (z : ℤ). IsColumn fig width a b z) (sym (column_next map fig c.facts.ensures b a has next c.requires.numbers less)) good)));

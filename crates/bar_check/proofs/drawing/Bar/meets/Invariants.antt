@@ -1,9 +1,10 @@
+-- No edge of a column before k reaches above the bar.
 use Rattle.std.proofs.Common.{ℕ, ◌+◌, ◌-◌, ◌<◌, ◌≤◌}
 use Rattle.bar_check.specs.Reach.{IsPassed}
-use Rattle.bar_check.proofs.reach.Peaks.passes_between.Given as goal
+use Rattle.bar_check.proofs.drawing.Bar.meets.Given as goal
 
 abbrev pub invariant-loop-k : goal.invariant-loop-k
-invariant-loop-k l = (x : ℕ) → l.left ≤ x → x < l.k → IsPassed l.h x l.self.columns.now l.self.blocks.now l.self.superblocks.now
+invariant-loop-k l = (x : ℕ) → l.left ≤ x → x < l.k → IsPassed l.self.h x l.known.columns.now l.known.blocks.now l.known.superblocks.now
 
 abbrev pub decreases-loop-k : goal.decreases-loop-k
 decreases-loop-k l = l.right + 1 - l.k
