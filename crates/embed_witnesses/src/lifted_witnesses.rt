@@ -3,9 +3,9 @@
 mod changed;
 mod changes;
 mod lifted;
+mod lifting;
 mod mended;
 mod numbers;
 mod split;
-mod tried;
 
 pub use lifted::lift;

@@ -1,7 +1,7 @@
 //! The graph with an edge contracted.
-ghost use Rattle.std.specs.Prelude.{◌≡◌, ◌≤◌, ◌<◌, ◌++◌, ◌∷◌, ◌==◌, ◌&&◌, ◌||◌, [], true, map, IfOk, OnOk};
+ghost use Rattle.std.specs.Prelude.{◌≡◌, ◌≤◌, ◌<◌, ◌++◌, ◌∷◌, [], true, map, IfOk, OnOk};
 ghost use Rattle.graph6_text.specs.Graphs.{Edge, edge_of, has_edge};
-ghost use Rattle.graph6_text.specs.Lines.{pairs, pairs_of};
+ghost use Rattle.graph6_text.specs.Lines.{pairs};
 ghost use Rattle.embed_contraction.specs.Contracted.{IsContraction, before_left as number_before, contracted_edge};
 ghost use Rattle.embed_witnesses.specs.ContractedEdges.{contracted_among, contraction};
 
@@ -9,7 +9,7 @@ use graph6_text::Graph;
 use map_lists::{Ends, VertexId};
 use std::alloc::{AllocError, Global};
 
-/// The graph with an edge contracted: the greater end has left, later numbers have fallen by one, and the
+/// Returns the graph with the edge `e` contracted: the greater end has left, later numbers have fallen by one, and the
 /// lesser end has the neighbours of both. It fails only when out of memory.
 pub fn contract(alloc: Global, graph: &Graph, e: Ends) -> Result<Graph, AllocError>
     requires edge { has_edge graph.now e.a.0 e.b.0 ≡ true }
@@ -37,21 +37,11 @@ impl<'a> Contracting<'a> {
     {
         let mut edges = Vec::new(alloc);
         for u in 0..n {
-            self.push_row(&mut edges, n, u)?;
+            for v in u + 1..n {
+                self.push_joined(&mut edges, u, v)?;
+            }
         }
         Ok(edges)
-    }
-
-    // Appends those with the lesser end `u`.
-    fn push_row(&self, edges: &mut Vec<Ends>, n: u16, u: u16) -> Result<(), AllocError>
-        requires vertex { u < n }
-        requires few { n ≤ 255 }
-        ensures { OnOk result (map edge_of edges.new.items ≡ map edge_of edges.old.items ++ contracted_among self.now.graph.now self.now.e.a.0 self.now.e.b.0 (pairs_of n u)) }
-    {
-        for v in u + 1..n {
-            self.push_joined(edges, u, v)?;
-        }
-        Ok(())
     }
 
     // Appends the edge of `u` and `v`, if it is one of that graph.
@@ -69,26 +59,21 @@ impl<'a> Contracting<'a> {
         Ok(())
     }
 
-    // Says whether an edge joins `u` and `v` in that graph.
+    // Says whether an edge joins `u` and `v` in that graph: it joins what they stand for, or the greater end in place of
+    // the lesser.
     fn is_edge(&self, u: u16, v: u16) -> bool
         requires first { u < 256 }
         requires second { v < 256 }
         ensures { result ≡ contracted_edge self.now.graph.now self.now.e.a.0 self.now.e.b.0 u v }
     {
-        u != v && self.is_moved_edge(u, v)
-    }
-
-    // Says whether an edge joins what they stand for, or the greater end in place of the lesser.
-    fn is_moved_edge(&self, u: u16, v: u16) -> bool
-        requires first { u < 256 }
-        requires second { v < 256 }
-        ensures { result ≡ (has_edge self.now.graph.now (number_before self.now.e.b.0 u) (number_before self.now.e.b.0 v) || ((u == self.now.e.a.0) && has_edge self.now.graph.now self.now.e.b.0 (number_before self.now.e.b.0 v)) || ((v == self.now.e.a.0) && has_edge self.now.graph.now (number_before self.now.e.b.0 u) self.now.e.b.0)) }
-    {
         let a = self.e.a.0;
         let b = self.e.b;
         let s = VertexId(before_left(b.0, u));
         let t = VertexId(before_left(b.0, v));
-        self.graph.has(s, t) || u == a && self.graph.has(b, t) || v == a && self.graph.has(s, b)
+        u != v
+            && (self.graph.has(s, t)
+                || u == a && self.graph.has(b, t)
+                || v == a && self.graph.has(s, b))
     }
 }
 

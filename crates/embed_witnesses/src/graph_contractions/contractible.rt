@@ -1,5 +1,5 @@
 //! The least edge that can be contracted.
-ghost use Rattle.std.specs.Prelude.{◌≡◌, ◌<◌, ◌≤◌, ◌↔◌, ℕ, IsTrue, IfOk, MatchOption};
+ghost use Rattle.std.specs.Prelude.{◌<◌, ◌≤◌, ℕ, IfOk, MatchOption};
 ghost use Rattle.convex_peeling.specs.Polyhedral.{IsThreeConnected};
 ghost use Rattle.conn_parts.specs.GraphLists.{graph_lists as lists_of_graph};
 ghost use Rattle.embed_witnesses.specs.Contractible.{IsContractibleEdge, IsLeastContractible, IsLeastAbove};
@@ -10,8 +10,8 @@ use graph6_text::Graph;
 use map_lists::{Ends, VertexId};
 use std::alloc::{AllocError, Global};
 
-/// The least edge of a three-connected graph with at least five vertices that leaves a three-connected
-/// graph when it is contracted; there is one by Thomassen's theorem. It fails only when out of memory.
+/// Returns the least edge of a three-connected graph with at least five vertices that leaves a three-connected graph when
+/// it is contracted; there is one by Thomassen's theorem. It fails only when out of memory.
 pub fn contractible_edge(alloc: Global, graph: &Graph) -> Result<Ends, AllocError>
     requires five { 5 ≤ graph.now.n }
     requires three { IsThreeConnected (lists_of_graph graph.now) }
@@ -26,7 +26,7 @@ pub fn contractible_edge(alloc: Global, graph: &Graph) -> Result<Ends, AllocErro
     unreachable!()
 }
 
-// The least such edge with the lesser end `u`, or None where there is none.
+// Returns the least such edge with the lesser end `u`, or None where there is none.
 fn contractible_above(alloc: Global, graph: &Graph, u: u16) -> Result<Option<Ends>, AllocError>
     requires { u < graph.now.n }
     ensures { IfOk result (λ found. MatchOption found ((v : ℕ) → ¬ IsContractibleEdge graph.now u v) (λ e. IsLeastAbove graph.now u e.a.0 e.b.0)) }
@@ -37,21 +37,12 @@ fn contractible_above(alloc: Global, graph: &Graph, u: u16) -> Result<Option<End
             a: VertexId(u),
             b: VertexId(v),
         };
-        if is_contractible(alloc, graph, e)? {
-            return Ok(Some(e));
+        if graph.has(e.a, e.b) {
+            let small = contract(alloc, graph, e)?;
+            if is_three_connected(alloc, &small)? {
+                return Ok(Some(e));
+            }
         }
     }
     Ok(None)
-}
-
-// Whether two vertices are the ends of such an edge.
-fn is_contractible(alloc: Global, graph: &Graph, e: Ends) -> Result<bool, AllocError>
-    requires { e.b.0 < graph.now.n }
-    ensures { IfOk result (λ yes. IsTrue yes ↔ IsContractibleEdge graph.now e.a.0 e.b.0) }
-{
-    if !graph.has(e.a, e.b) {
-        return Ok(false);
-    }
-    let small = contract(alloc, graph, e)?;
-    is_three_connected(alloc, &small)
 }

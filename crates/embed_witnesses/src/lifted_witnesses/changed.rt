@@ -1,8 +1,6 @@
 //! A witness changed, by its branches and the vertices of its paths.
-ghost use Rattle.std.specs.Prelude.{◌≡◌, ◌++◌, ◌∷◌, [], map, IfOk, OnOk};
-ghost use Rattle.std.specs.List.{range_with_len};
-ghost use Rattle.embed_contraction.proofs.Traces.{vertices_of};
-ghost use Rattle.embed_witnesses.specs.Changes.{branch_in, path_in, IsChanged};
+ghost use Rattle.std.specs.Prelude.{◌≡◌, ◌++◌, ◌∷◌, [], IfOk, OnOk};
+ghost use Rattle.embed_witnesses.specs.Changes.{path_in, IsChanged};
 
 use crate::lifted_witnesses::changes::Change;
 use crate::lifted_witnesses::numbers::{branch_of, count_of, kind_of, vertex_of_change};
@@ -10,13 +8,19 @@ use kuratowski::Witness;
 use map_lists::{PathList, VertexId, VertexList};
 use std::alloc::{AllocError, Global};
 
-/// The witness changed. It fails only when out of memory.
+/// Returns the witness changed. It fails only when out of memory.
 pub(crate) fn changed(alloc: Global, old: &Witness, change: Change) -> Result<Witness, AllocError>
     ensures { IfOk result (IsChanged change old.now) }
 {
     let kind = kind_of(change, old.kind);
-    let branch = changed_branch(alloc, &old.branch, change, kind.branch_count())?;
-    let paths = changed_paths(alloc, &old.paths, change, kind.path_count())?;
+    let mut branch = VertexList::new(alloc);
+    for j in 0..kind.branch_count() {
+        branch.push(VertexId(branch_of(change, &old.branch, j)))?;
+    }
+    let mut paths = PathList::new(alloc);
+    for p in 0..kind.path_count() {
+        push_changed(&mut paths, &old.paths, change, p)?;
+    }
     Ok(Witness {
         kind,
         branch,
@@ -24,37 +28,7 @@ pub(crate) fn changed(alloc: Global, old: &Witness, change: Change) -> Result<Wi
     })
 }
 
-fn changed_branch(
-    alloc: Global,
-    branch: &VertexList,
-    change: Change,
-    count: usize,
-) -> Result<VertexList, AllocError>
-    ensures { IfOk result (λ new. new ≡ vertices_of (branch_in change branch.now) count) }
-{
-    let mut new = VertexList::new(alloc);
-    for j in 0..count {
-        new.push(VertexId(branch_of(change, branch, j)))?;
-    }
-    Ok(new)
-}
-
-fn changed_paths(
-    alloc: Global,
-    paths: &PathList,
-    change: Change,
-    count: usize,
-) -> Result<PathList, AllocError>
-    ensures { IfOk result (λ new. new ≡ map (path_in change paths.now) (range_with_len 0 count)) }
-{
-    let mut new = PathList::new(alloc);
-    for p in 0..count {
-        push_changed(&mut new, paths, change, p)?;
-    }
-    Ok(new)
-}
-
-// Appends a path.
+// Appends to `new` the path that stands for path number `p` of the witness.
 fn push_changed(
     new: &mut PathList,
     paths: &PathList,

@@ -4,15 +4,14 @@ ghost use Rattle.graph6_text.specs.Graphs.{has_edge};
 ghost use Rattle.kuratowski.specs.Witnesses.{IsWitness};
 ghost use Rattle.embed_witnesses.specs.ContractedEdges.{contraction};
 
-use crate::lifted_witnesses::mended::mended;
-use crate::lifted_witnesses::split::split;
+use crate::lifted_witnesses::lifting::Lifting;
 use crate::merged_ends::on_old_numbers;
 use graph6_text::Graph;
 use kuratowski::Witness;
 use map_lists::Ends;
 use std::alloc::{AllocError, Global};
 
-/// A witness of a graph, from one of the graph with an edge contracted. It fails only when out of memory.
+/// Lifts `small`, a witness of the graph with the edge `e` contracted, to one of `graph`. It fails only when out of memory.
 ///
 /// On its old numbers the witness takes some neighbours of the greater end for neighbours of the lesser. It
 /// is mended where one step lacks its edge, by the greater end put into it; or, with the ends exchanged, by
@@ -24,15 +23,21 @@ pub fn lift(alloc: Global, graph: &Graph, e: Ends, small: &Witness) -> Result<Wi
 {
     let _n = graph.n();
     let old = on_old_numbers(alloc, graph, e, small)?;
-    match mended(alloc, graph, &old, e, false)? {
+    let lifting = Lifting {
+        alloc,
+        graph,
+        old: &old,
+        e,
+    };
+    match lifting.mended(false)? {
         Some(w) => return Ok(w),
         None => {}
     }
-    match mended(alloc, graph, &old, e, true)? {
+    match lifting.mended(true)? {
         Some(w) => return Ok(w),
         None => {}
     }
-    match split(alloc, graph, &old, e)? {
+    match lifting.split()? {
         Some(w) => Ok(w),
         None => unreachable!(),
     }

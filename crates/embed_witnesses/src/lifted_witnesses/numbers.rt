@@ -1,29 +1,29 @@
 //! The vertices of a changed witness, place by place.
-ghost use Rattle.std.specs.Prelude.{◌≡◌, ◌<◌, ◌+◌, ◌-◌, ◌==◌, nat_lt, if◌then◌else◌, length};
+ghost use Rattle.std.specs.Prelude.{◌≡◌, ◌<◌, ◌+◌, ◌-◌, ◌==◌, nat_lt, if◌then◌else◌};
 ghost use Rattle.kuratowski.specs.Witnesses.{branch_count as branches_of, vertex_at as vertex_of};
 ghost use Rattle.embed_contraction.specs.Traces.{path_count as paths_of};
 ghost use Rattle.embed_witnesses.specs.Merged.{exchanged_number as number_of_other};
-ghost use Rattle.embed_witnesses.specs.Changes.{step_count as steps_of, place_in as vertex_of_path, moved as moved_number, put_in as put_number, mended_count as mended_steps, longer as longer_vertex, mended_place as mended_vertex, named_branch as branch_named, first_name as name_of_first, second_name as name_of_second, path_between as path_of_two, link_between as link_of_two, link_of as link_number, linked_place as linked_vertex, ended as ended_vertex, split_count as split_steps, split_place as split_vertex, split_branch as split_branch_vertex, kind_in, branch_in, count_in, vertex_in};
+ghost use Rattle.embed_witnesses.specs.Changes.{step_count as steps_of, place_in as vertex_of_path, moved as moved_number, put_in as put_number, mended_count as mended_steps, longer as longer_vertex, mended_place as mended_vertex, named_branch as branch_named, first_name as name_of_first, path_between as path_of_two, link_between as link_of_two, link_of as link_number, linked_place as linked_vertex, ended as ended_vertex, split_count as split_steps, split_place as split_vertex, split_branch as split_branch_vertex, kind_in, branch_in, count_in, vertex_in};
 
 use crate::lifted_witnesses::changes::{Change, Mending, Splitting};
 use kuratowski::Kind;
 use map_lists::{PathList, VertexId, VertexList};
 
-// The vertex at a place of a list, or 0 past its end.
+// Returns the vertex at a place of a list, or 0 past its end.
 fn vertex_at(list: &[VertexId], i: usize) -> u16
     ensures { result ≡ vertex_of list.now i }
 {
     if i < list.len() { list[i].0 } else { 0 }
 }
 
-// The branch with a number, or 0 past the last.
+// Returns the branch with a number, or 0 past the last.
 fn branch_at(list: &VertexList, i: usize) -> u16
     ensures { result ≡ vertex_of list.now i }
 {
     if i < list.len() { list.get(i).0 } else { 0 }
 }
 
-// The vertex of a path at a place, or 0 where there is none.
+// Returns the vertex of a path at a place, or 0 where there is none.
 fn place_in(paths: &PathList, p: usize, i: usize) -> u16
     ensures { result ≡ vertex_of_path paths.now p i }
 {
@@ -34,24 +34,16 @@ fn place_in(paths: &PathList, p: usize, i: usize) -> u16
     }
 }
 
-/// How many steps a path has; past the last path there are none.
+/// Counts the steps of a path; past the last path there are none.
 pub(crate) fn step_count(paths: &PathList, p: usize) -> usize
     ensures value { result ≡ steps_of paths.now p }
     ensures few { result < 18446744073709551615 }
 {
     if p < paths.len() {
-        steps(paths.list(p))
+        paths.list(p).len().saturating_sub(1)
     } else {
         0
     }
-}
-
-// One less than the vertices of a path.
-fn steps(path: &[VertexId]) -> usize
-    ensures value { result ≡ length path.now - 1 }
-    ensures few { result < 18446744073709551615 }
-{
-    if path.len() == 0 { 0 } else { path.len() - 1 }
 }
 
 fn exchanged_number(a: u16, b: u16, v: u16) -> u16
@@ -175,28 +167,17 @@ fn link_of(order: u32, p: usize) -> usize
     link_between(first, second) as usize
 }
 
-// Whether that path is read from its first branch on.
-fn is_forward(order: u32, p: usize) -> bool
-    ensures { result ≡ nat_lt (branch_named order (name_of_first p)) (branch_named order (name_of_second p)) }
-{
-    named_branch(order, first_name(p)) < named_branch(order, p % 3)
-}
-
+// Returns the vertex at place `i` of the path of K5 that is path `p` of K3,3, which is read backwards where its first branch
+// is the greater.
 fn linked_place(order: u32, paths: &PathList, p: usize, i: usize) -> u16
     ensures { result ≡ linked_vertex order paths.now p i }
 {
     let link = link_of(order, p);
-    if is_forward(order, p) {
+    if named_branch(order, first_name(p)) < named_branch(order, p % 3) {
         place_in(paths, link, i)
     } else {
-        place_in(paths, link, less(step_count(paths, link), i))
+        place_in(paths, link, step_count(paths, link).saturating_sub(i))
     }
-}
-
-fn less(a: usize, b: usize) -> usize
-    ensures { result ≡ a - b }
-{
-    if a < b { 0 } else { a - b }
 }
 
 fn ended(t: Splitting, p: usize, v: u16) -> u16
@@ -248,7 +229,7 @@ fn split_branch(t: Splitting, branch: &VertexList, j: usize) -> u16
     }
 }
 
-/// The kind of the changed witness.
+/// Returns the kind of the changed witness.
 pub(crate) fn kind_of(change: Change, kind: Kind) -> Kind
     ensures { result ≡ kind_in change kind }
 {
@@ -258,7 +239,7 @@ pub(crate) fn kind_of(change: Change, kind: Kind) -> Kind
     }
 }
 
-/// A branch of the changed witness.
+/// Returns a branch of the changed witness.
 pub(crate) fn branch_of(change: Change, branch: &VertexList, j: usize) -> u16
     ensures { result ≡ branch_in change branch.now j }
 {
@@ -268,7 +249,7 @@ pub(crate) fn branch_of(change: Change, branch: &VertexList, j: usize) -> u16
     }
 }
 
-/// How many steps a path of it has.
+/// Counts the steps of a path of it.
 pub(crate) fn count_of(change: Change, paths: &PathList, p: usize) -> usize
     ensures { result ≡ count_in change paths.now p }
 {
@@ -278,7 +259,7 @@ pub(crate) fn count_of(change: Change, paths: &PathList, p: usize) -> usize
     }
 }
 
-/// A vertex of that path.
+/// Returns a vertex of that path.
 pub(crate) fn vertex_of_change(change: Change, paths: &PathList, p: usize, i: usize) -> u16
     ensures { result ≡ vertex_in change paths.now p i }
 {

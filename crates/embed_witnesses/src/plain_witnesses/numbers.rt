@@ -4,7 +4,7 @@ ghost use Rattle.embed_witnesses.specs.Plain.{chosen_at as vertex_chosen, is_pai
 
 use kuratowski::Kind;
 
-/// Whether a branch and a later one are to be joined.
+/// Says whether branch `i` and the later one `k` are to be joined.
 pub(crate) fn is_pair(kind: Kind, i: usize, k: usize) -> bool
     ensures { result ≡ is_pair_of kind i k }
 {
@@ -14,7 +14,7 @@ pub(crate) fn is_pair(kind: Kind, i: usize, k: usize) -> bool
     }
 }
 
-/// The vertex chosen for a branch, or 0 where there is none yet.
+/// Returns the vertex chosen for branch `i`, or 0 where there is none yet.
 pub(crate) fn chosen_at(chosen: &[u16], i: usize) -> u16
     ensures { result ≡ vertex_chosen chosen.now i }
 {

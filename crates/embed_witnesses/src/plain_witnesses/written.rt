@@ -9,8 +9,8 @@ use kuratowski::{Kind, Witness, check_witness};
 use map_lists::{PathList, VertexId, VertexList};
 use std::alloc::{AllocError, Global};
 
-/// Chosen branches with the edges between them as a witness, or none where it is not one of the graph. It fails only
-/// when out of memory.
+/// Returns chosen branches with the edges between them as a witness, or none where it is not one of the graph. It fails
+/// only when out of memory.
 pub(crate) fn as_witness(
     alloc: Global,
     graph: &Graph,
@@ -19,8 +19,14 @@ pub(crate) fn as_witness(
 ) -> Result<Option<Witness>, AllocError>
     ensures { IfOk result (λ found. MatchOption found (¬ IsWitness graph.now kind (branches_of kind chosen.now) (paths_of kind chosen.now)) (λ w. IsWitness graph.now w.kind w.branch w.paths)) }
 {
-    let branch = plain_branch(alloc, kind, chosen)?;
-    let paths = plain_paths(alloc, kind, chosen)?;
+    let mut branch = VertexList::new(alloc);
+    for i in 0..kind.branch_count() {
+        branch.push(VertexId(chosen_at(chosen, i)))?;
+    }
+    let mut paths = PathList::new(alloc);
+    for p in 0..kind.path_count() {
+        push_path(&mut paths, kind, chosen, p)?;
+    }
     let witness = Witness {
         kind,
         branch,
@@ -33,27 +39,7 @@ pub(crate) fn as_witness(
     }
 }
 
-fn plain_branch(alloc: Global, kind: Kind, chosen: &[u16]) -> Result<VertexList, AllocError>
-    ensures { IfOk result (λ new. new ≡ branches_of kind chosen.now) }
-{
-    let mut new = VertexList::new(alloc);
-    for i in 0..kind.branch_count() {
-        new.push(VertexId(chosen_at(chosen, i)))?;
-    }
-    Ok(new)
-}
-
-fn plain_paths(alloc: Global, kind: Kind, chosen: &[u16]) -> Result<PathList, AllocError>
-    ensures { IfOk result (λ new. new ≡ paths_of kind chosen.now) }
-{
-    let mut new = PathList::new(alloc);
-    for p in 0..kind.path_count() {
-        push_path(&mut new, kind, chosen, p)?;
-    }
-    Ok(new)
-}
-
-// Appends a path.
+// Appends path number `p`: the edge between its two branches.
 fn push_path(paths: &mut PathList, kind: Kind, chosen: &[u16], p: usize) -> Result<(), AllocError>
     requires { p < length (pairs_of kind) }
     ensures { OnOk result (paths.new ≡ paths.old ++ path_of kind chosen.now p ∷ []) }

@@ -1,19 +1,25 @@
 //! Witnesses renamed by a table.
 ghost use Rattle.std.specs.Prelude.{◌≡◌, ◌++◌, ◌∷◌, [], map, take, IfOk, OnOk, slice_index_or};
 ghost use Rattle.map_lists.specs.declared.ids.VertexId.{VertexId as Vertex};
-ghost use Rattle.embed_witnesses.specs.Renamed.{named, renamed_list, renamed_paths, IsRenamed};
+ghost use Rattle.embed_witnesses.specs.Renamed.{named, renamed_list, IsRenamed};
 
 use kuratowski::Witness;
 use map_lists::{PathList, VertexId, VertexList};
 use std::alloc::{AllocError, Global};
 
-/// The witness with the entries of a table in place of its vertices; a number past the table stays. It fails
-/// only when out of memory.
+/// Returns the witness with the entries of a table in place of its vertices; a number past the table stays. It fails only
+/// when out of memory.
 pub fn renamed(alloc: Global, witness: &Witness, table: &[u16]) -> Result<Witness, AllocError>
     ensures { IfOk result (λ new. IsRenamed (named table.now) witness.now new) }
 {
-    let branch = renamed_branch(alloc, &witness.branch, table)?;
-    let paths = renamed_all(alloc, &witness.paths, table)?;
+    let mut branch = VertexList::new(alloc);
+    for i in 0..witness.branch.len() {
+        branch.push(name_of(table, witness.branch.get(i)))?;
+    }
+    let mut paths = PathList::new(alloc);
+    for p in 0..witness.paths.len() {
+        push_renamed(&mut paths, witness.paths.list(p), table)?;
+    }
     Ok(Witness {
         kind: witness.kind,
         branch,
@@ -21,31 +27,7 @@ pub fn renamed(alloc: Global, witness: &Witness, table: &[u16]) -> Result<Witnes
     })
 }
 
-fn renamed_branch(
-    alloc: Global,
-    branch: &VertexList,
-    table: &[u16],
-) -> Result<VertexList, AllocError>
-    ensures { IfOk result (λ new. new ≡ renamed_list (named table.now) branch.now) }
-{
-    let mut new = VertexList::new(alloc);
-    for i in 0..branch.len() {
-        new.push(name_of(table, branch.get(i)))?;
-    }
-    Ok(new)
-}
-
-fn renamed_all(alloc: Global, paths: &PathList, table: &[u16]) -> Result<PathList, AllocError>
-    ensures { IfOk result (λ new. new ≡ renamed_paths (named table.now) paths.now) }
-{
-    let mut new = PathList::new(alloc);
-    for p in 0..paths.len() {
-        push_renamed(&mut new, paths.list(p), table)?;
-    }
-    Ok(new)
-}
-
-// Appends a path.
+// Appends a path with the vertices that `table` has for its own.
 fn push_renamed(paths: &mut PathList, path: &[VertexId], table: &[u16]) -> Result<(), AllocError>
     ensures { OnOk result (paths.new ≡ paths.old ++ renamed_list (named table.now) path.now ∷ []) }
 {

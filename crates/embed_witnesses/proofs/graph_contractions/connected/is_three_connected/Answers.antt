@@ -1,9 +1,5 @@
 use Rattle.std.proofs.lemmas.Bool.{false≢true}
-use Rattle.std.proofs.Common.{ℕ, IsTrue, ◌↔◌, arith}
-use Rattle.std.proofs.lemmas.Result.{IfOk-weaker}
-use Rattle.graph_search.specs.Cuts.{IsSeparatingPair}
-use Rattle.convex_peeling.specs.Polyhedral.{IsThreeConnected}
-use Rattle.conn_parts.specs.GraphLists.{graph_lists}
+use Rattle.std.proofs.Common.{refl, arith, rules}
 use Rattle.conn_parts.proofs.GraphLemmas.{length-graph_lists, IsSimpleMap-graph_lists}
 use Rattle.embed_witnesses.proofs.graph_contractions.connected.is_three_connected.Goals as goal
 
@@ -12,18 +8,25 @@ returns-then-n-lt4 c =
     let n = length-graph_lists c.args.graph.now c.n.ensures.known in
     ((λ t. absurd (false≢true t)), λ three. let some = three.some in absurd (omega (arith, c.n.ensures.count, c.if-n-lt4.true)))
 
+pub returns-in-Some : goal.returns-in-Some
+returns-in-Some c =
+    let least = rw c.in-Some.is at c.in_ok-graph_cut_vertex.ensures in
+    ((λ t. absurd (false≢true t)), λ three. absurd (three.uncut c.in-Some.field-0.0 least.is_cut))
+
+pub returns-in-Some-2 : goal.returns-in-Some-2
+returns-in-Some-2 c =
+    let least = rw c.in-Some-2.is at c.in_ok-graph_separating_pair-in-None.ensures in
+    ((λ t. absurd (false≢true t)), λ three. absurd (three.unpaired c.in-Some-2.field-0.0.0 c.in-Some-2.field-0.1.0 least.is_pair))
+
 pub returns : goal.returns
 returns c =
-    let lists = graph_lists c.args.graph.now in
-    let n = length-graph_lists c.args.graph.now c.n.ensures.known in
-    IfOk-weaker c.is_unpaired.result (λ yes. IsTrue yes ↔ ((u v : ℕ) → ¬ IsSeparatingPair lists u v)) (λ yes. IsTrue yes ↔ IsThreeConnected lists)
-    (λ yes h. (
+    let n = length-graph_lists c.args.graph.now c.n.ensures.known in (
       λ t. record {
         simple = IsSimpleMap-graph_lists c.args.graph.now c.n.ensures.known c.requires;
         some = omega (arith, c.n.ensures.count, c.if-n-lt4.false);
-        connected = c.in_ok-is_connected.ensures.0 c.if-not-branch.false;
-        uncut = c.in_ok-is_uncut.ensures.0 c.if-not-branch-2.false;
-        unpaired = h.0 t;
+        connected = search rules;
+        uncut = rw c.in-None.is at c.in_ok-graph_cut_vertex.ensures;
+        unpaired = rw c.in-None-2.is at c.in_ok-graph_separating_pair-in-None.ensures;
       },
-      λ three. h.1 three.unpaired,
-    )) c.is_unpaired.ensures
+      λ three. refl,
+    )

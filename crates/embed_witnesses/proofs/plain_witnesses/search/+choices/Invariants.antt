@@ -6,10 +6,10 @@ use Rattle.embed_witnesses.specs.Plain.{BeginsWith}
 use Rattle.embed_witnesses.proofs.plain_witnesses.search.+choices.Given as goal
 
 abbrev pub decreases-begun : goal.decreases-begun
-decreases-begun l = 2 * (branch_count l.kind - length l.chosen.now) + 1
+decreases-begun l = 2 * (branch_count l.search.now.kind - length l.chosen.now) + 1
 
 abbrev pub decreases-continued : goal.decreases-continued
-decreases-continued l = 2 * (branch_count l.kind - length l.chosen.now)
+decreases-continued l = 2 * (branch_count l.search.now.kind - length l.chosen.now)
 
 abbrev pub invariant-begun-loop-i : goal.invariant-begun-loop-i
-invariant-begun-loop-i l = (branch : ℕ → ℕ) → IsPlain l.graph l.kind branch → BeginsWith l.chosen branch → (j : ℕ) → j < l.i → branch (length l.chosen) ≢ slice_index_or l.live j 0
+invariant-begun-loop-i l = (branch : ℕ → ℕ) → IsPlain l.search.graph.now l.search.kind branch → BeginsWith l.chosen branch → (j : ℕ) → j < l.i → branch (length l.chosen) ≢ slice_index_or l.search.live.now j 0

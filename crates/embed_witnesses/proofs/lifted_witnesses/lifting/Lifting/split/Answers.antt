@@ -2,7 +2,7 @@ use Rattle.std.proofs.Common.{◌≡◌, inl, inr, subst, arith}
 use Rattle.std.proofs.lemmas.Bool.{cases_lt}
 use Rattle.embed_witnesses.specs.declared.lifted_witnesses.changes.Change.TheVariants.{Split}
 use Rattle.embed_witnesses.specs.Changes.{IsRight}
-use Rattle.embed_witnesses.proofs.lifted_witnesses.split.split.Goals as goal
+use Rattle.embed_witnesses.proofs.lifted_witnesses.lifting.Lifting.split.Goals as goal
 
 pub loop-order-preserved : goal.loop-order-preserved
 loop-order-preserved c = λ order l r.
@@ -11,7 +11,7 @@ loop-order-preserved c = λ order l r.
       | inr more ↦
           let e : order ≡ c.loop-order.order = omega arith in
           let none = rw c.in-None.is at c.in_ok-w.ensures in
-          none (subst (λ k. IsRight c.args.graph.now c.args.old.now (Split (record { a = c.args.e.a.0; b = c.args.e.b.0; order = k }))) e r)
+          none (subst (λ k. IsRight c.args.self.now.graph.now c.args.self.now.old.now (Split (record { a = c.args.self.now.e.a.0; b = c.args.self.now.e.b.0; order = k }))) e r)
     ]
 
 pub returns : goal.returns
