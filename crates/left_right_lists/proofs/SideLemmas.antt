@@ -99,11 +99,12 @@ module _ (graph : EdgeGraph) (root : ℕ) (order number parents depths : List �
     )
 
   -- demands as the code hands them over
-  pub in_slices : (ones : List Dart) (depths' : List ℕ) (others others' : List Dart) (demands demands' : List Demand) → depths' ≡ depths → others' ≡ others → demands' ≡ demands → ((x : Demand) → Contains demands x ↔ IsDemanded depths' ones others' x) → (x : Demand) → Contains demands' x ↔ IsDemanded depths ones others x
-  in_slices ones depths' others others' demands demands' e e' e'' are =
-      let first : (x : Demand) → Contains demands x ↔ IsDemanded depths ones others' x = subst (λ (ds : List ℕ). (x : Demand) → Contains demands x ↔ IsDemanded ds ones others' x) e are in
-      let second : (x : Demand) → Contains demands x ↔ IsDemanded depths ones others x = subst (λ (xs : List Dart). (x : Demand) → Contains demands x ↔ IsDemanded depths ones xs x) e' first in
-      subst (λ (xs : List Demand). (x : Demand) → Contains xs x ↔ IsDemanded depths ones others x) (sym e'') second
+  pub in_slices : {ones' ones : List Dart} {depths' : List ℕ} {others' others : List Dart} {demands demands' : List Demand} → ones' ≡ ones → depths' ≡ depths → others' ≡ others → demands' ≡ demands → ((x : Demand) → Contains demands x ↔ IsDemanded depths' ones' others' x) → (x : Demand) → Contains demands' x ↔ IsDemanded depths ones others x
+  in_slices {ones'} {ones} {depths'} {others'} {others} {demands} {demands'} o d e s are =
+      let first : (x : Demand) → Contains demands x ↔ IsDemanded depths ones' others' x = subst (λ (ds : List ℕ). (x : Demand) → Contains demands x ↔ IsDemanded ds ones' others' x) d are in
+      let second : (x : Demand) → Contains demands x ↔ IsDemanded depths ones others' x = subst (λ (xs : List Dart). (x : Demand) → Contains demands x ↔ IsDemanded depths xs others' x) o first in
+      let third : (x : Demand) → Contains demands x ↔ IsDemanded depths ones others x = subst (λ (xs : List Dart). (x : Demand) → Contains demands x ↔ IsDemanded depths ones xs x) e second in
+      subst (λ (xs : List Demand). (x : Demand) → Contains xs x ↔ IsDemanded depths ones others x) (sym s) third
 
   -- ---- one after another
   pub step_none : (groups : List Group) → IsStep graph parents depths groups groups true

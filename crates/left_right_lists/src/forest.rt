@@ -8,20 +8,8 @@ use left_right_check::entry;
 use map_lists::Rotations;
 use std::alloc::{AllocError, Global};
 
-// Returns the depth of a vertex by that of its parent, or 0 where it has none.
-fn depth_from(parents: &[u16], depths: &[u16], v: u16) -> u16
-    requires { (p : ℕ) → slice_index depths.now p < 4096 }
-    ensures { IsDepthBy parents.now depths.now v result }
-{
-    let parent = entry(parents, v);
-    if usize::from(parent) < depths.len() {
-        entry(depths, parent) + 1
-    } else {
-        0
-    }
-}
-
-/// Returns the depths of a search's vertices. It fails only when out of memory.
+/// Returns the depths of a search's vertices: one more than that of the parent, or 0 where there is none. It fails only
+/// when out of memory.
 pub(crate) fn depths_of(
     alloc: Global,
     lists: &Rotations,
@@ -33,7 +21,11 @@ pub(crate) fn depths_of(
     let mut depths = vec![in alloc; 0u16; lists.len()]?;
     for k in 0..lists.len() {
         let v = forest.order[k];
-        let depth = depth_from(&forest.parent, &depths, v);
+        let parent = entry(&forest.parent, v);
+        let mut depth = 0;
+        if usize::from(parent) < depths.len() {
+            depth = entry(&depths, parent) + 1;
+        }
         depths[usize::from(v)] = depth;
     }
     Ok(depths)

@@ -43,14 +43,6 @@ fn tie(groups: &mut [(u32, bool)], a: (u16, u16), b: (u16, u16), turn: bool) -> 
     true
 }
 
-// Returns the demand at a place.
-fn demand_at(demands: &[((u16, u16), bool)], i: usize) -> ((u16, u16), bool)
-    requires { i < length demands.now }
-    ensures { result ≡ slice_index_or demands.now i none_demanded }
-{
-    demands[i]
-}
-
 /// Puts the edges of demands into one group. Returns false where that cannot be.
 pub(crate) fn tie_all(groups: &mut [(u32, bool)], demands: &[((u16, u16), bool)]) -> bool
     requires long { length groups.old ≡ 65536 }
@@ -60,8 +52,8 @@ pub(crate) fn tie_all(groups: &mut [(u32, bool)], demands: &[((u16, u16), bool)]
     ensures met { IsTrue result → AreMet groups.new demands.now }
 {
     for i in 0..demands.len() {
-        let first = demand_at(demands, 0);
-        let demand = demand_at(demands, i);
+        let first = demands[0];
+        let demand = demands[i];
         if !tie(groups, demand.0, first.0, turned(demand.1, first.1)) {
             return false;
         }

@@ -50,8 +50,7 @@ impl<'a> Choice<'a> {
 
     // Says whether a vertex is left, and may stand before all others that are.
     fn is_first(&self, free: &[bool], u: u16) -> bool
-        requires free { length free.now ≡ self.now.n }
-        requires vertex { u < self.now.n }
+        requires { length free.now ≡ self.now.n }
         ensures { IsTrue result ↔ IsFirst self.now.depths.now self.now.sides.now self.now.returns.now free.now u }
     {
         if !is_free(free, u) {

@@ -1,14 +1,14 @@
 //! Sides of the edges that return, by all that forks demand of them.
-ghost use Rattle.std.specs.Prelude.{◌≡◌, ◌≢◌, ◌<◌, ◌↔◌, ℕ, Bool, length, slice_index, IsTrue, IfOk, Contains, MatchOption};
+ghost use Rattle.std.specs.Prelude.{◌≡◌, ◌<◌, ◌↔◌, ℕ, Bool, length, slice_index, IsTrue, IfOk, Contains, MatchOption};
 ghost use Rattle.map_theory.specs.Maps.{Dart};
 ghost use Rattle.left_right_lists.specs.Trees.{AreSides};
 ghost use Rattle.left_right_lists.specs.Upward.{IsUpward};
-ghost use Rattle.left_right_lists.specs.Groups.{Demand, Returns, HasLower, IsDemanded, IsForkMet, AreForksMet, IsStep, side_in};
+ghost use Rattle.left_right_lists.specs.Groups.{Demand, Returns, HasLower, IsDemanded, AreForksMet, IsStep, side_in};
 
 use crate::groups::{single_groups, tie_all};
 use crate::returns::{RootedGraph, Upward, push_if};
 use graph6_text::Graph;
-use left_right_check::{Fork, entry};
+use left_right_check::entry;
 use std::alloc::{AllocError, Global};
 
 // Says whether one of some edges ends nearer to the root than edge `d`.
@@ -73,28 +73,6 @@ impl<'a> Forks<'a> {
         Ok(found)
     }
 
-    // Meets what a fork demands, by whose first edge `ones` return. Returns false where that cannot be.
-    fn meet_fork(
-        &self,
-        groups: &mut [(u32, bool)],
-        fork: Fork,
-        ones: &[(u16, u16)],
-    ) -> Result<bool, AllocError>
-        requires up { IsUpward self.now.graph.now self.now.up.now }
-        requires long { length groups.old ≡ 65536 }
-        requires ones { (d : Dart) → Contains ones.now d ↔ Returns self.now.graph.now self.now.up.now.tree.parents.items self.now.up.now.tree.depths.items fork.vertex fork.one d }
-        ensures step { IfOk result (IsStep self.now.graph.now self.now.up.now.tree.parents.items self.now.up.now.tree.depths.items groups.old groups.new) }
-        ensures met { IfOk result (λ ok. IsTrue ok → fork.one ≢ fork.other → IsForkMet self.now.graph.now self.now.up.now.tree.parents.items self.now.up.now.tree.depths.items groups.new fork.vertex fork.one fork.other) }
-    {
-        if fork.one == fork.other {
-            return Ok(true);
-        }
-        let others = self.returns_by(fork.vertex, fork.other)?;
-        let demands = demands_of(self.alloc, &self.up.tree.depths, ones, &others)?;
-        let ok = tie_all(groups, &demands);
-        Ok(ok)
-    }
-
     // Meets what the forks of the edge from `v` to `e` demand. Returns false where that cannot be.
     fn meet_edge(&self, groups: &mut [(u32, bool)], v: u16, e: u16) -> Result<bool, AllocError>
         requires up { IsUpward self.now.graph.now self.now.up.now }
@@ -107,12 +85,12 @@ impl<'a> Forks<'a> {
             return Ok(true);
         }
         for f in 0..self.graph.n() {
-            let fork = Fork {
-                vertex: v,
-                one: e,
-                other: f,
-            };
-            if !self.meet_fork(groups, fork, &ones)? {
+            if f == e {
+                continue;
+            }
+            let others = self.returns_by(v, f)?;
+            let demands = demands_of(self.alloc, &self.up.tree.depths, &ones, &others)?;
+            if !tie_all(groups, &demands) {
                 return Ok(false);
             }
         }
