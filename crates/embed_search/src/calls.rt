@@ -27,7 +27,7 @@ pub struct Tables {
 }
 
 impl Tables {
-    /// Tables before the first graph. They take no memory of an allocator.
+    /// Returns tables before the first graph. They take no memory of an allocator.
     pub fn new() -> Tables {
         Tables {
             edges: Edges::new(),

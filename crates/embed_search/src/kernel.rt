@@ -1,5 +1,5 @@
 //! A nonplanar part of a graph, with one edge for each of its paths.
-use crate::marks::{BEGINS_BELOW, ENDS_ABOVE, IN_PART, RETURNS};
+use crate::marks::{IN_PART, turn_of};
 use left_right_test::{ByDart, ByEdge, ByVertex, Edges, Links, NONE, minus, plus, twice};
 
 /// The part, and what its reduction works in. Its vertices are numbered anew.
@@ -30,7 +30,7 @@ pub struct Kernel {
 }
 
 impl Kernel {
-    /// No part.
+    /// Returns no part.
     #[inline(always)]
     pub fn new() -> Kernel {
         Kernel {
@@ -51,6 +51,16 @@ impl Kernel {
     /// Says whether the part, of vertices of degree three and more, is K5 or K3,3 if it is nonplanar.
     pub fn is_least(&self) -> bool {
         self.edges.count == 9 || self.edges.are_of_k5()
+    }
+
+    /// Returns the first edge that is not known to be needed; or none.
+    pub fn first_loose(&self) -> u32 {
+        for edge in 0..self.edges.count {
+            if self.needed.get(edge) == 0 {
+                return edge;
+            }
+        }
+        NONE
     }
 
     // Returns how many edges become one with others, if an edge of this vertex goes.
@@ -129,19 +139,6 @@ impl Kernel {
         }
     }
 
-    // Links the marked edges.
-    fn link_marked(&mut self, links: &mut Links) {
-        links.begin(&self.edges);
-        for edge in 0..self.edges.count {
-            let mark = self.marks.get(edge);
-            self.left.set(edge, mark);
-            self.merged.set(edge, edge);
-            if mark != 0 {
-                links.put_edge(&self.edges, edge);
-            }
-        }
-    }
-
     // Joins the paths of all edges that have become one: two rings become one where their successors are exchanged.
     fn join_merged(&mut self, edge: u32) {
         let mut other = self.merged.get(edge);
@@ -162,31 +159,19 @@ impl Kernel {
         }
     }
 
-    // Numbers the vertices that have darts.
-    fn number_vertices(&mut self, links: &Links) {
-        let mut count = 0u32;
+    // Numbers the vertices that have darts, and keeps those edges alone that are left.
+    fn renumber(&mut self, links: &Links) {
+        let mut vertices = 0u32;
         for vertex in 0..links.vertices {
             let degree = links.degree.get(vertex);
-            self.number.set(vertex, count);
+            self.number.set(vertex, vertices);
             if degree > 0 {
-                self.degree.set(count, degree);
-                count = plus(count, 1);
+                self.degree.set(vertices, degree);
+                vertices = plus(vertices, 1);
             }
         }
-        self.edges.vertices = count;
-    }
-
-    /// Keeps the marked edges alone, and makes one edge of each path.
-    pub fn keep_marked(&mut self, links: &mut Links) {
+        self.edges.vertices = vertices;
         let count = self.edges.count;
-        self.link_marked(links);
-        self.reduce(links);
-        for edge in 0..count {
-            if self.left.get(edge) != 0 {
-                self.join_merged(edge);
-            }
-        }
-        self.number_vertices(links);
         self.edges.count = 0;
         for edge in 0..count {
             if self.left.get(edge) != 0 {
@@ -199,6 +184,26 @@ impl Kernel {
                 self.edges.push(one, other);
             }
         }
+    }
+
+    /// Keeps the marked edges alone, and makes one edge of each path.
+    pub fn keep_marked(&mut self, links: &mut Links) {
+        links.begin(&self.edges);
+        for edge in 0..self.edges.count {
+            let mark = self.marks.get(edge);
+            self.left.set(edge, mark);
+            self.merged.set(edge, edge);
+            if mark != 0 {
+                links.put_edge(&self.edges, edge);
+            }
+        }
+        self.reduce(links);
+        for edge in 0..self.edges.count {
+            if self.left.get(edge) != 0 {
+                self.join_merged(edge);
+            }
+        }
+        self.renumber(links);
     }
 
     // Puts a vertex on the stack, if it has one or two darts.
@@ -262,16 +267,5 @@ impl Kernel {
                 self.smooth(links, vertex);
             }
         }
-    }
-}
-
-// In which turn an edge with these marks is linked.
-fn turn_of(mark: u32) -> u32 {
-    if mark & RETURNS == RETURNS {
-        2
-    } else if mark == IN_PART | ENDS_ABOVE | BEGINS_BELOW {
-        0
-    } else {
-        1
     }
 }

@@ -4,14 +4,25 @@ use left_right_test::{ByEdge, ByVertex, LeftRightTest, NONE, branch_of, near_edg
 /// The mark of an edge of the part.
 pub const IN_PART: u32 = 1;
 
-/// A mark beside: a return edge ends at the upper end of this edge of the tree.
-pub const ENDS_ABOVE: u32 = 2;
+// A mark beside: a return edge ends at the upper end of this edge of the tree.
+const ENDS_ABOVE: u32 = 2;
 
-/// A mark beside: a return edge begins at the lower end of this edge of the tree.
-pub const BEGINS_BELOW: u32 = 4;
+// A mark beside: a return edge begins at the lower end of this edge of the tree.
+const BEGINS_BELOW: u32 = 4;
 
-/// The mark of a return edge of the part.
-pub const RETURNS: u32 = 9;
+// The mark of a return edge of the part.
+const RETURNS: u32 = 9;
+
+/// Returns in which turn an edge with these marks is linked.
+pub fn turn_of(mark: u32) -> u32 {
+    if mark & RETURNS == RETURNS {
+        2
+    } else if mark == IN_PART | ENDS_ABOVE | BEGINS_BELOW {
+        0
+    } else {
+        1
+    }
+}
 
 /// The marks of a conflict.
 #[derive(Drop)]
@@ -25,7 +36,7 @@ pub struct ConflictMarks {
 }
 
 impl ConflictMarks {
-    /// No marks.
+    /// Returns no marks.
     #[inline(always)]
     pub fn new() -> ConflictMarks {
         ConflictMarks {
@@ -65,32 +76,28 @@ impl ConflictMarks {
         self.mark_lowest(test, branch_of(&test.links, &test.search, edge, vertex));
     }
 
-    // Marks what makes a tie.
-    fn mark_tie(&mut self, test: &LeftRightTest, tie: u32) {
-        let ties = &test.search.ties;
-        let one = ties.one.get(tie);
-        let dart = ties.dart.get(tie);
-        let vertex = test.links.tail(dart);
-        self.mark(test, one);
-        self.mark(test, ties.other.get(tie));
-        if ties.turn.get(tie) == 0 {
-            self.mark_lowest(test, test.search.leaving.get(vertex));
-        } else {
-            self.mark_lowest(test, dart);
-            self.mark_branch(test, one, vertex);
-        }
-    }
-
     // Marks what makes the ties of the test's ring.
     fn mark_ties(&mut self, test: &LeftRightTest) {
+        let ties = &test.search.ties;
         let mut edge = test.ring.other;
-        for _ in 0..test.search.ties.count {
+        for _ in 0..ties.count {
             let end = test.ring.way.get(edge);
             if end == NONE {
                 return;
             }
-            self.mark_tie(test, end >> 1);
-            edge = near_edge(&test.search.ties, end);
+            let tie = end >> 1;
+            let one = ties.one.get(tie);
+            let dart = ties.dart.get(tie);
+            let vertex = test.links.tail(dart);
+            self.mark(test, one);
+            self.mark(test, ties.other.get(tie));
+            if ties.turn.get(tie) == 0 {
+                self.mark_lowest(test, test.search.leaving.get(vertex));
+            } else {
+                self.mark_lowest(test, dart);
+                self.mark_branch(test, one, vertex);
+            }
+            edge = near_edge(ties, end);
         }
     }
 

@@ -54,16 +54,6 @@ fn is_left_out(
     fails_without(kernel, test, marks, out)
 }
 
-// Returns the first edge that is not known to be needed; or none.
-fn first_loose(kernel: &Kernel) -> u32 {
-    for edge in 0..kernel.edges.count {
-        if kernel.needed.get(edge) == 0 {
-            return edge;
-        }
-    }
-    NONE
-}
-
 // Tests the whole part while that makes it smaller, from another root where it does not.
 fn narrow(kernel: &mut Kernel, test: &mut LeftRightTest, marks: &mut ConflictMarks) {
     let mut roots = 0u32;
@@ -89,7 +79,7 @@ pub fn shrink(kernel: &mut Kernel, test: &mut LeftRightTest, marks: &mut Conflic
         if kernel.is_least() {
             return;
         }
-        let out = first_loose(kernel);
+        let out = kernel.first_loose();
         if out == NONE {
             return;
         }

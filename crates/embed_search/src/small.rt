@@ -20,57 +20,38 @@ fn bit(vertex: u32) -> u32 {
     BITS[vertex as usize % 8]
 }
 
-// Returns the bits of the neighbours of each vertex, without an edge.
-fn neighbours_without(edges: &Edges, out: u32) -> [u32; 8] {
-    let mut near = [0; 8];
-    for edge in 0..edges.count {
-        if edge != out {
-            let (one, other) = (edges.one.get(edge), edges.other.get(edge));
-            near[one as usize % 8] |= bit(other);
-            near[other as usize % 8] |= bit(one);
-        }
-    }
-    near
-}
-
-// Says whether each vertex of a side has all those of the other side as neighbours.
-fn is_joined(near: &[u32; 8], side: u32) -> bool {
-    let rest = ALL ^ side;
-    for vertex in 0..MOST_VERTICES {
-        if side & bit(vertex) != 0 && near[vertex as usize % 8] & rest != rest {
-            return false;
-        }
-    }
-    true
-}
-
-// Says whether there is a K3,3.
+// Says whether there is a K3,3: each vertex of one side has all those of the other as neighbours.
 fn has_k33(near: &[u32; 8]) -> bool {
     for place in 0..SIDES.len() {
-        if is_joined(near, SIDES[place]) {
+        let side = SIDES[place];
+        let rest = ALL ^ side;
+        let mut joined = true;
+        for vertex in 0..MOST_VERTICES {
+            if side & bit(vertex) != 0 && near[vertex as usize % 8] & rest != rest {
+                joined = false;
+                break;
+            }
+        }
+        if joined {
             return true;
         }
     }
     false
 }
 
-// Returns the bits of the vertices that are no neighbours of some other one, of these vertices.
-fn lacking(near: &[u32; 8], vertices: u32) -> u32 {
-    let mut found = 0;
-    for vertex in 0..MOST_VERTICES {
-        let own = bit(vertex);
-        if vertices & own != 0 {
-            found |= vertices & !near[vertex as usize % 8] & !own;
-        }
-    }
-    found
-}
-
 // Says whether there is a K5, or one with one edge subdivided: all vertices but one are a K5, or lack one edge of it, and a
 // path through that one is in its place.
 fn has_k5(near: &[u32; 8]) -> bool {
     for vertex in 0..MOST_VERTICES {
-        let lack = lacking(near, ALL ^ bit(vertex));
+        let others = ALL ^ bit(vertex);
+        // the bits of those that are no neighbours of some other one
+        let mut lack = 0;
+        for other in 0..MOST_VERTICES {
+            let own = bit(other);
+            if others & own != 0 {
+                lack |= others & !near[other as usize % 8] & !own;
+            }
+        }
         let but_one = lack & minus(lack, 1);
         let are_two_at_most = but_one & minus(but_one, 1) == 0;
         if are_two_at_most && lack & near[vertex as usize % 8] == lack {
@@ -87,6 +68,14 @@ pub fn has_few_vertices(edges: &Edges) -> bool {
 
 /// Says whether edges without one of them are those of a planar graph, of at most six vertices.
 pub fn is_planar_without(edges: &Edges, out: u32) -> bool {
-    let near = neighbours_without(edges, out);
+    // for each vertex the bits of its neighbours
+    let mut near = [0; 8];
+    for edge in 0..edges.count {
+        if edge != out {
+            let (one, other) = (edges.one.get(edge), edges.other.get(edge));
+            near[one as usize % 8] |= bit(other);
+            near[other as usize % 8] |= bit(one);
+        }
+    }
     !has_k33(&near) && !has_k5(&near)
 }

@@ -21,18 +21,6 @@ fn dart_on(links: &Links, dart: u32) -> u32 {
     }
 }
 
-// Returns the branch at which the path ends that begins with a dart.
-fn end_of(links: &Links, dart: u32) -> u32 {
-    let mut dart = dart;
-    for _ in 0..links.vertices {
-        if links.degree.get(links.head.get(dart)) != 2 {
-            break;
-        }
-        dart = dart_on(links, dart);
-    }
-    links.head.get(dart)
-}
-
 // The vertices at which paths meet.
 #[derive(Drop)]
 struct Branches {
@@ -45,7 +33,7 @@ struct Branches {
 }
 
 impl Branches {
-    // None.
+    // Returns none.
     #[inline(always)]
     fn new() -> Branches {
         Branches {
@@ -72,15 +60,22 @@ impl Branches {
         }
     }
 
-    // By place, from one on and before another: the first dart of the path from a branch to the one at that place, or NONE.
-    fn darts_from(&self, links: &Links, place: u32, from: u32, end: u32) -> [u32; 8] {
+    // Returns by place, from place `from` on, the first dart of the path from a branch to the one there, or NONE.
+    fn darts_from(&self, links: &Links, place: u32, from: u32) -> [u32; 8] {
         let mut found = [NONE; 8];
         let vertex = self.vertices.get(place);
         let mut dart = links.first.get(vertex);
         for _ in 0..links.degree.get(vertex) {
-            let reached = end_of(links, dart);
-            let place = self.places.get(reached);
-            let is_there = from <= place && place < end && self.vertices.get(place) == reached;
+            let mut last = dart;
+            for _ in 0..links.vertices {
+                if links.degree.get(links.head.get(last)) != 2 {
+                    break;
+                }
+                last = dart_on(links, last);
+            }
+            let end = links.head.get(last);
+            let place = self.places.get(end);
+            let is_there = from <= place && place < self.count && self.vertices.get(place) == end;
             if is_there && found[place as usize % 8] == NONE {
                 found[place as usize % 8] = dart;
             }
@@ -92,7 +87,7 @@ impl Branches {
     // Takes six others in two parts: first those that no path joins to the first one.
     fn take_in_parts(&mut self, links: &Links, others: &Branches) {
         self.count = 6;
-        let darts = others.darts_from(links, 0, 0, 6);
+        let darts = others.darts_from(links, 0, 0);
         let mut near = 0u32;
         let mut far = 3u32;
         for i in 0..6u32 {
@@ -107,7 +102,7 @@ impl Branches {
         }
     }
 
-    // As a list, in the memory of `spent`.
+    // Returns them as a list, in the memory of `spent`.
     fn list(&self, spent: VertexList) -> Result<VertexList, AllocError> {
         let mut list = spent.emptied(self.count as usize)?;
         for place in 0..self.count {
@@ -130,7 +125,7 @@ struct Ways {
 }
 
 impl Ways {
-    // None.
+    // Returns none.
     #[inline(always)]
     fn new() -> Ways {
         Ways {
@@ -156,23 +151,18 @@ impl Ways {
         }
     }
 
-    // Appends the vertices of the path that begins with a dart.
-    fn push_vertices(&mut self, links: &Links, dart: u32) {
+    // Appends the path that begins with a dart.
+    fn follow(&mut self, links: &Links, dart: u32) {
         self.push(links.tail(dart));
         let mut dart = dart;
         for _ in 0..links.vertices {
             let head = links.head.get(dart);
             self.push(head);
             if links.degree.get(head) != 2 {
-                return;
+                break;
             }
             dart = dart_on(links, dart);
         }
-    }
-
-    // Appends that path.
-    fn follow(&mut self, links: &Links, dart: u32) {
-        self.push_vertices(links, dart);
         self.ends.set(self.paths, (self.count & 0xffff) as u32);
         self.paths = plus(self.paths, 1);
     }
@@ -181,17 +171,17 @@ impl Ways {
     fn take(&mut self, links: &Links, branches: &Branches, kind: Kind) -> bool {
         self.count = 0;
         self.paths = 0;
-        let (starts, end) = match kind {
-            Kind::K5 => (4u32, 5u32),
-            Kind::K33 => (3u32, 6u32),
+        let starts = match kind {
+            Kind::K5 => 4u32,
+            Kind::K33 => 3u32,
         };
         for i in 0..starts {
             let from = match kind {
                 Kind::K5 => i + 1,
                 Kind::K33 => 3,
             };
-            let darts = branches.darts_from(links, i, from, end);
-            for place in from..end {
+            let darts = branches.darts_from(links, i, from);
+            for place in from..branches.count {
                 let dart = darts[place as usize % 8];
                 if dart == NONE {
                     return false;
@@ -202,7 +192,7 @@ impl Ways {
         true
     }
 
-    // As a list, in the memory of `spent`.
+    // Returns them as a list, in the memory of `spent`.
     fn list(&self, spent: PathList) -> Result<PathList, AllocError> {
         let (mut entries, spent_ends) = spent.into_parts();
         entries.clear();
@@ -224,7 +214,7 @@ pub struct Tracer {
 }
 
 impl Tracer {
-    /// Tables before the first witness. They take no memory of an allocator.
+    /// Returns tables before the first witness. They take no memory of an allocator.
     #[inline(always)]
     pub fn new() -> Tracer {
         Tracer {
