@@ -2,6 +2,7 @@
 mod Cases
 pub mod EntryLemmas
 pub mod DartLemmas
+pub mod Known
 pub mod DartCounts
 pub mod WithoutEntry
 pub mod EntryMore
