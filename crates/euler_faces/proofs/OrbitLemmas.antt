@@ -1,6 +1,6 @@
 -- A walk along a face by the numbers of darts, which overwrites the twins that it has read.
-use Rattle.std.proofs.Common.{◌≡◌, ◌≢◌, ℕ, ◌+◌, ◌<◌, cond, eqb, List, ◌∷◌, length, get_or, set, slice_get, Some, sym, ap, ap₂, ◌∙◌, subst, inl, inr, arith, get_or-set_same, get_or-set_other}
-use Rattle.std.proofs.lemmas.Bool.{cases_eq, eq-eqb}
+use Rattle.std.proofs.Common.{◌≡◌, ◌≢◌, ℕ, ◌+◌, ◌<◌, false, cond, eqb, List, ◌∷◌, length, get_or, set, slice_get, Some, sym, ap, ap₂, ◌∙◌, subst, inl, inr, arith, get_or-set_same, get_or-set_other}
+use Rattle.std.proofs.lemmas.Bool.{cases_eq, eq-eqb, ne_eqb}
 use Rattle.std.proofs.lemmas.Bool.Decides.{nat_tests}
 use Rattle.std.proofs.lemmas.Option.{slice_get_within, get_or_from_slice_get}
 use Rattle.classes.specs.Classes.{image}
@@ -10,6 +10,7 @@ use Rattle.map_lists.specs.Cuts.{cut, AreCuts}
 use Rattle.map_lists.proofs.CutLemmas.{length-cut}
 use Rattle.map_theory.specs.Maps.{Dart, IsSimpleMap, HasDart, list_of, darts, dart_count, dart_number, place_of, twin_dart, face_images}
 use Rattle.map_theory.proofs.DartLemmas.{length-darts, IsDartNumber-darts, get_or-face_images, place_after, place_of-entry_after, place_of-lt-length, place_of_number}
+use Rattle.simple_maps.specs.Tables.{AreTwins}
 use Rattle.simple_maps.proofs.FlatLemmas.{start-is, end-is, count-is, dart-is}
 use Rattle.euler_faces.specs.Slots.{walked, HaveTwins}
 
@@ -27,6 +28,17 @@ HaveTwins-walked lists twins d l h i m =
       | inl e ↦ inl (ap (λ x. get_or (set twins d 4294967295) x 0) e ∙ get_or-set_same twins d 4294967295 0 l)
       | inr ne ↦ (let same = get_or-set_other twins d i 4294967295 0 ne in rw same (h i m))
     ]
+
+-- the twins of all darts: none was walked over
+module _ (lists : Lists) (twins : List ℕ) (are : AreTwins (darts lists) twins (length (darts lists))) where
+  pub HaveTwins-all : HaveTwins lists twins
+  HaveTwins-all d l = inr (are.at d (omega (arith, l, length-darts lists)))
+
+  pub none_walked : dart_count lists < 16777216 → (i : ℕ) → i < dart_count lists → walked twins i ≡ false
+  none_walked few i l =
+      let n = length-darts lists in
+      let within = slice_get_within (darts lists) (get_or twins i 0) _ (are.at i (omega (arith, l))) in
+      ne_eqb (get_or twins i 0) 4294967295 (omega arith)
 
 -- the k-th of n numbers from s on, and the one after it, cyclically
 after-place : (s n k e : ℕ) → k < n → s + n ≡ e → cond (eqb (s + k + 1) e) s (s + k + 1) ≡ s + place_after n k
@@ -79,3 +91,12 @@ module _ (ends entries : List ℕ) (cuts : AreCuts 0 ends (length entries)) (sim
       → slice_get (darts (cut 0 ends entries)) (get_or twins d 0) ≡ Some (twin_dart (get_or (darts (cut 0 ends entries)) d (0, 0)))
   read_twin twins d l h new =
       elim (h d (omega (arith, count-is ends entries cuts))) [ inl e ↦ absurd (new e) | inr found ↦ found ]
+
+  pub twins_long : (twins : List ℕ) → AreTwins (darts (cut 0 ends entries)) twins (length (darts (cut 0 ends entries))) → length twins ≡ length entries
+  twins_long twins are = omega (arith, are.count, length-darts (cut 0 ends entries), count-is ends entries cuts)
+
+  -- the step from a dart, by its twin
+  pub twin_step : (twins : List ℕ) → AreTwins (darts (cut 0 ends entries)) twins (length (darts (cut 0 ends entries))) → (d : ℕ) → d < length entries
+      → (get_or entries d 0 < length ends) × (get_or twins d 0 < length entries) × (cond (eqb (get_or twins d 0 + 1) (get_or ends (get_or entries d 0) 0)) (get_or (0 ∷ ends) (get_or entries d 0) 0) (get_or twins d 0 + 1) ≡ image (face_images (cut 0 ends entries)) d)
+  twin_step twins are d l =
+      step-is d (get_or twins d 0) l (are.at d (omega (arith, l, length-darts (cut 0 ends entries), count-is ends entries cuts)))

@@ -1,6 +1,5 @@
 -- Where each corner is one of a triangle, three darts make a face.
-use Rattle.std.proofs.Common.{◌≡◌, ◌≢◌, ◌⊎◌, ℕ, zero, suc, ◌+◌, ◌-◌, ◌*◌, ◌<◌, ◌≤◌, Bool, false, cond, eqb, List, ◌∷◌, length, get_or, refl, sym, ap, ap₂, ◌∙◌, subst, inl, inr, arith}
-use Rattle.std.proofs.lemmas.Bool.{eqb-false}
+use Rattle.std.proofs.Common.{◌≡◌, ◌≢◌, ◌⊎◌, ℕ, zero, suc, ◌+◌, ◌-◌, ◌*◌, ◌<◌, ◌≤◌, Bool, cond, eqb, List, ◌∷◌, length, get_or, refl, sym, ap, ap₂, ◌∙◌, subst, inl, inr, arith}
 use Rattle.std.proofs.lemmas.Bool.Decides.{nat_tests}
 use Rattle.classes.specs.Classes.{image, label, orbits, class_count, count_below, IsPermutationOfBelow}
 use Rattle.classes.proofs.Classes.{Together-label, label-lt, same_class-from}
@@ -14,8 +13,7 @@ use Rattle.map_theory.specs.Maps.{Dart, IsSimpleMap, HasDart, list_of, darts, da
 use Rattle.map_theory.proofs.DartLemmas.{HasDart-at, HasDart-follows, HasDart-face_step, IsDartNumber-darts, IsPermutationOfBelow-face_images, dart_number-injective, dart_number-lt, entry_after-injective, entry_after-place, get_or-dart_number, get_or-face_images, length-face_images, place_after, place_after-before, place_before, place_before-lt, place_of-get_or, place_of-lt-length}
 use Rattle.simple_maps.proofs.FlatLemmas.{count-is, dart-is, end-is, entry-is}
 use Rattle.euler_faces.specs.Corners.{IsCornerOfThree, AreCornersBelow}
-use Rattle.euler_faces.specs.Slots.{walked, HaveTwins}
-use Rattle.euler_faces.proofs.OrbitLemmas.{dart_head, step-is, read_twin}
+use Rattle.euler_faces.proofs.OrbitLemmas.{dart_head}
 
 -- a number is just one of three
 one_of_three : (l a b c : ℕ) → a ≢ b → b ≢ c → a ≢ c → (l ≡ a) ⊎ ((l ≡ b) ⊎ (l ≡ c)) → one_if (eqb l a) + one_if (eqb l b) + one_if (eqb l c) ≡ 1
@@ -167,12 +165,6 @@ module _ (ends entries : List ℕ) (cuts : AreCuts 0 ends (length entries)) (sim
         joined = subst (λ (x : ℕ). HasDart lists v x) (sym is) before;
         back = ap (λ (x : ℕ). follows lists v x) is ∙ back;
       }
-
-  -- the step from a dart that was not walked over
-  pub unwalked_step : (twins : List ℕ) (d : ℕ) → d < length entries → HaveTwins (cut 0 ends entries) twins → walked twins d ≡ false
-      → (get_or entries d 0 < length ends) × (get_or twins d 0 < length entries) × (cond (eqb (get_or twins d 0 + 1) (get_or ends (get_or entries d 0) 0)) (get_or (0 ∷ ends) (get_or entries d 0) 0) (get_or twins d 0 + 1) ≡ image (face_images (cut 0 ends entries)) d)
-  unwalked_step twins d l have new =
-      step-is ends entries cuts simple d (get_or twins d 0) l (read_twin ends entries cuts simple twins d l have (eqb-false (get_or twins d 0) 4294967295 new))
 
   pub step_in : (d : ℕ) → d < length entries → image (face_images (cut 0 ends entries)) d < length entries
   step_in d l =

@@ -7,3 +7,4 @@ pub mod FaceWalks
 pub mod Numbers
 pub mod Search
 pub mod Slots
+pub mod Stored

@@ -1,5 +1,5 @@
 -- A search from a vertex: which vertices are marked, and of which the neighbours are still to be marked.
-use Rattle.std.specs.Prelude.{ℕ, ◌<◌, ◌≤◌, ◌≡◌, ◌⊎◌, ◌==◌, Bool, true, false, not, List, map, length, slice_index}
+use Rattle.std.specs.Prelude.{ℕ, ◌+◌, ◌<◌, ◌≤◌, ◌≡◌, ◌⊎◌, ◌==◌, Bool, true, false, not, List, map, length, slice_index}
 use Rattle.classes.specs.Classes.{count_below, label}
 use Rattle.map_lists.specs.Lists.{Lists}
 use Rattle.map_theory.specs.Maps.{HasDart, component_classes}
@@ -45,6 +45,12 @@ marks_of numbers = marks_by 65535 numbers
 
 abbrev pub IsNumbered : List ℕ → List ℕ → ℕ → Type 0
 IsNumbered old new number = IsNumberedBy 65535 old new number
+
+-- numbers of n vertices, and a queue for as many: its first entries, as many as it is filled with, are those that have a number
+pub record AreQueued (numbers queue : List ℕ) (filled n : ℕ) : Type 0 where
+  pub marks : length numbers ≡ n
+  pub room : length queue ≡ n
+  pub work : filled + unmarked_below (marks_of numbers) n ≡ n
 
 -- the number of v's component: how many components have a lesser least vertex
 abbrev pub component_number : Lists → ℕ → ℕ

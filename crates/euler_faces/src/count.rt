@@ -1,15 +1,15 @@
 //! Counts.
 ghost use Rattle.std.specs.Prelude.{◌≡◌, ◌≤◌, ◌<◌, ◌+◌, ◌-◌, ◌*◌, ◌%◌, ℕ, length, false, None, OnOk, IfOk, IfErr};
-ghost use Rattle.map_lists.specs.Cuts.{cut, AreCuts};
 ghost use Rattle.map_theory.specs.Maps.{IsSimpleMap, darts, vertex_count, edge_count, face_count, component_count, genus_of};
 ghost use Rattle.simple_maps.specs.Faults.{first_fault};
 ghost use Rattle.simple_maps.specs.MapFault.{Names};
 ghost use Rattle.simple_maps.specs.Tables.{AreTwins};
 ghost use Rattle.euler_faces.specs.Numbers.{mark_at};
 ghost use Rattle.euler_faces.specs.Search.{marks_of};
+ghost use Rattle.euler_faces.specs.Stored.{lists_of};
 
 use crate::components::{UNMET, number_components};
-use crate::orbits::{count_orbits, isolated_of};
+use crate::slots::StoredMap;
 use half_edges::HalfMap;
 use map_lists::Rotations;
 use simple_maps::{MapFault, fill_twins};
@@ -35,7 +35,7 @@ pub struct EulerCount {
 }
 
 impl EulerCount {
-    /// Half of 2c + m - n - f, which is never negative and always even: the genus.
+    /// Returns the genus: half of 2c + m - n - f, which is never negative and always even.
     pub fn genus(&self) -> u32
         ensures { result ≡ genus_of self.now.n self.now.m self.now.f self.now.c }
     {
@@ -43,56 +43,43 @@ impl EulerCount {
     }
 }
 
-// The counts of lists by the twins of their darts, with no number for any vertex and a queue with room
-// for all.
-fn count_twins(
-    entries: &[u16],
-    ends: &[usize],
-    twins: &mut [u32],
-    numbers: &mut [u16],
-    queue: &mut [u16],
-) -> EulerCount
-    requires cuts { AreCuts 0 ends.now (length entries.now) }
-    requires few { length ends.now < 4096 }
-    requires simple { IsSimpleMap (cut 0 ends.now entries.now) }
-    requires twins { AreTwins (darts (cut 0 ends.now entries.now)) twins.old (length (darts (cut 0 ends.now entries.now))) }
-    requires marks { length numbers.old ≡ length ends.now }
-    requires room { length queue.old ≡ length ends.now }
-    requires unset { (u : ℕ) → mark_at (marks_of numbers.old) u ≡ false }
-    ensures n { result.n ≡ vertex_count (cut 0 ends.now entries.now) }
-    ensures m { result.m ≡ edge_count (cut 0 ends.now entries.now) }
-    ensures f { result.f ≡ face_count (cut 0 ends.now entries.now) }
-    ensures c { result.c ≡ component_count (cut 0 ends.now entries.now) }
-{
-    let c = number_components(entries, ends, numbers, queue);
-    count_known(entries, ends, twins, c)
-}
-
-// The counts of lists by the twins of their darts, where there are so many components.
+// Returns a simple map by its stored lists.
 #[inline(always)]
-fn count_known(entries: &[u16], ends: &[usize], twins: &mut [u32], c: u16) -> EulerCount
-    requires cuts { AreCuts 0 ends.now (length entries.now) }
-    requires few { length ends.now < 4096 }
-    requires simple { IsSimpleMap (cut 0 ends.now entries.now) }
-    requires twins { AreTwins (darts (cut 0 ends.now entries.now)) twins.old (length (darts (cut 0 ends.now entries.now))) }
-    requires components { c ≡ component_count (cut 0 ends.now entries.now) }
-    ensures n { result.n ≡ vertex_count (cut 0 ends.now entries.now) }
-    ensures m { result.m ≡ edge_count (cut 0 ends.now entries.now) }
-    ensures f { result.f ≡ face_count (cut 0 ends.now entries.now) }
-    ensures c { result.c ≡ component_count (cut 0 ends.now entries.now) }
+fn stored(lists: &Rotations) -> StoredMap<'_>
+    requires { IsSimpleMap lists.now }
+    ensures { lists_of result ≡ lists.now }
 {
-    let orbits = count_orbits(entries, ends, twins);
-    let isolated = isolated_of(entries, ends, c);
-    EulerCount {
-        n: ends.len() as u32,
-        m: (entries.len() / 2) as u32,
-        f: orbits + isolated,
-        c: c as u32,
+    lists.facts();
+    StoredMap {
+        entries: lists.entries(),
+        ends: lists.ends(),
     }
 }
 
-/// The counts of lists that are a simple map, by the twins of their darts, and of which the components are counted
-/// already. The faces are walked over the twins, which are lost. The time is linear in the entries, and no memory is
+impl StoredMap<'_> {
+    // Counts the map by the twins of its darts, which are lost, where it has `c` components.
+    #[inline(always)]
+    fn counts(&self, twins: &mut [u32], c: u16) -> EulerCount
+        requires twins { AreTwins (darts (lists_of self.now)) twins.old (length (darts (lists_of self.now))) }
+        requires components { c ≡ component_count (lists_of self.now) }
+        ensures n { result.n ≡ vertex_count (lists_of self.now) }
+        ensures m { result.m ≡ edge_count (lists_of self.now) }
+        ensures f { result.f ≡ face_count (lists_of self.now) }
+        ensures c { result.c ≡ component_count (lists_of self.now) }
+    {
+        self.facts();
+        let orbits = self.count_orbits(twins);
+        let isolated = self.count_isolated(c);
+        EulerCount {
+            n: self.ends.len() as u32,
+            m: (self.entries.len() / 2) as u32,
+            f: orbits + isolated,
+            c: c as u32,
+        }
+    }
+}
+
+/// Counts `lists`, which are a simple map, by the twins of their darts. The components are counted already. The faces are walked over the twins, which are lost. The time is linear in the entries, and no memory is
 /// taken.
 pub fn euler_by_twins(lists: &Rotations, twins: &mut [u32], components: u16) -> EulerCount
     requires simple { IsSimpleMap lists.now }
@@ -103,8 +90,8 @@ pub fn euler_by_twins(lists: &Rotations, twins: &mut [u32], components: u16) -> 
     ensures f { result.f ≡ face_count lists.now }
     ensures c { result.c ≡ component_count lists.now }
 {
-    lists.facts();
-    count_known(lists.entries(), lists.ends(), twins, components)
+    let map = stored(lists);
+    map.counts(twins, components)
 }
 
 /// Counts lists, one after another, and keeps its memory for the next.
@@ -121,7 +108,7 @@ pub struct Counter {
 }
 
 impl Counter {
-    /// A counter that has counted nothing yet. It takes no memory.
+    /// Returns a counter that has counted nothing yet. It takes no memory.
     pub fn new(alloc: Global) -> Counter {
         Counter {
             alloc,
@@ -133,7 +120,7 @@ impl Counter {
         }
     }
 
-    // No number for any of `n` vertices, and a queue with room for all, or for more.
+    // Takes the numbers off all of `n` vertices, and makes room for all in the queue.
     fn clear(&mut self, n: usize) -> Result<(), AllocError>
         ensures marks { OnOk result (length self.new.numbers.items ≡ n) }
         ensures room { OnOk result (n ≤ length self.new.queue.items) }
@@ -148,7 +135,7 @@ impl Counter {
         Ok(())
     }
 
-    /// The counts of lists, which are from 1 to 4095, or the first fault of the lists.
+    /// Returns the counts of lists, which are from 1 to 4095, or the first fault of the lists.
     ///
     /// After `NoMemory` the counter serves as before. The time is linear in the entries.
     pub fn count(&mut self, lists: &Rotations) -> Result<EulerCount, MapFault>
@@ -168,18 +155,19 @@ impl Counter {
             &mut self.threads,
         )?;
         self.clear(lists.len())?;
-        Ok(count_twins(
-            lists.entries(),
-            lists.ends(),
-            &mut self.twins,
+        let map = stored(lists);
+        let components = number_components(
+            map.entries,
+            map.ends,
             &mut self.numbers,
             &mut self.queue[..lists.len()],
-        ))
+        );
+        Ok(map.counts(&mut self.twins, components))
     }
 }
 
-/// The counts of lists, which are from 1 to 4095, or the first fault of the lists. The time is linear in
-/// the entries, and so is the memory: six bytes for a dart.
+/// Returns the counts of lists, which are from 1 to 4095, or the first fault of the lists. The time is linear in the
+/// entries, and so is the memory: six bytes for a dart.
 pub fn count_lists(alloc: Global, lists: &Rotations) -> Result<EulerCount, MapFault>
     requires some_list { 0 < length lists.now }
     ensures n { IfOk result (λ count. count.n ≡ vertex_count lists.now) }
@@ -193,7 +181,7 @@ pub fn count_lists(alloc: Global, lists: &Rotations) -> Result<EulerCount, MapFa
     counter.count(lists)
 }
 
-/// The counts of a map, in time linear in its darts. It fails only when out of memory.
+/// Counts a map in time linear in its darts. It fails only when out of memory.
 pub fn euler(alloc: Global, map: &HalfMap) -> Result<EulerCount, AllocError>
     ensures n { IfOk result (λ count. count.n ≡ vertex_count map.now.lists) }
     ensures m { IfOk result (λ count. count.m ≡ edge_count map.now.lists) }

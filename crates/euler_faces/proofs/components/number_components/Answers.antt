@@ -16,9 +16,7 @@ pub loop-v-init : goal.loop-v-init
 loop-v-init c =
     let none = unmarked_below-none (marks_of c.args.numbers.now) (length c.args.ends.now) c.requires.unset in
     record {
-      marks = c.requires.marks;
-      room = c.requires.room;
-      work = omega arith;
+      queued = record { marks = c.requires.marks; room = c.requires.room; work = omega arith };
       counting = IsCounting-none (component_classes (cut 0 c.args.ends.now c.args.entries.now)) (mark_at (marks_of c.args.numbers.now)) (λ i l. c.requires.unset i);
       numbers = λ u l t. absurd (false≢true (sym (c.requires.unset u) ∙ t));
     }
@@ -45,17 +43,13 @@ loop-v-preserved c =
       | then-numbers-v w ↦
           let off = unmet 65535 c.loop-v.numbers c.loop-v.v (omega arith) w.if-numbers-v.true in
           record {
-            marks = rw w.numbers-is (w.number_component-filled.auto.numbers ∙ h.marks);
-            room = rw w.queue-is (w.number_component-filled.auto.queue ∙ h.room);
-            work = rw (w.numbers-is, w.filled-is) w.number_component-filled.ensures.work;
+            queued = rw (w.numbers-is, w.queue-is, w.filled-is) w.number_component-filled.ensures.queued;
             counting = rw (w.numbers-is, w.count-is) (IsCounting-new (component_classes lists) (mark_at (marks_of c.loop-v.numbers)) (mark_at (marks_of w.number_component-filled.new.numbers)) c.loop-v.count c.loop-v.v _ labels h.counting (omega arith) off
                 (λ y l. w.number_component-filled.ensures.marked y (omega arith)) refl);
             numbers = rw w.numbers-is (λ u l t. component_numbers lists c.loop-v.numbers w.number_component-filled.new.numbers c.loop-v.count c.loop-v.v c.requires.simple h.counting (omega arith) off (λ i m. w.number_component-filled.ensures.marked i (omega arith)) w.number_component-filled.ensures.numbered (λ x m. h.numbers x (omega arith)) u (omega arith) t);
           }
       | else-numbers-v w ↦ record {
-        marks = rw w.numbers-is h.marks;
-        room = rw w.queue-is h.room;
-        work = rw (w.numbers-is, w.filled-is) h.work;
+        queued = rw (w.numbers-is, w.queue-is, w.filled-is) h.queued;
         counting = rw (w.numbers-is, w.count-is) (IsCounting-old (component_classes lists) (mark_at (marks_of c.loop-v.numbers)) c.loop-v.count c.loop-v.v _ labels h.counting (omega arith) (met 65535 c.loop-v.numbers c.loop-v.v (omega arith) w.if-numbers-v.false) refl);
         numbers = rw w.numbers-is h.numbers;
       }
@@ -79,7 +73,7 @@ returns-then-filled-ends-clause-count c =
     let labels = IsLabels-classes (length lists) (darts lists) (components-below lists c.requires.simple) in
     let same = c.if-filled-ends.true in
     let full = IsCounting-full (length (component_classes lists) - c.loop-v.v) (component_classes lists) (mark_at (marks_of c.loop-v.numbers)) c.loop-v.count c.loop-v.v labels h.counting (omega arith)
-    (λ u l. all_marked (marks_of c.loop-v.numbers) (length c.args.ends.now) u (omega (arith, h.work)) (omega arith) (omega (arith, h.marks, length-marks_of 65535 c.loop-v.numbers))) in
+    (λ u l. all_marked (marks_of c.loop-v.numbers) (length c.args.ends.now) u (omega (arith, h.queued.work)) (omega arith) (omega (arith, h.queued.marks, length-marks_of 65535 c.loop-v.numbers))) in
     IsCounting-all (component_classes lists) (mark_at (marks_of c.loop-v.numbers)) c.loop-v.count (length (component_classes lists)) full refl
 
 pub returns-then-filled-ends-clause-few : goal.returns-then-filled-ends-clause-few
@@ -91,7 +85,7 @@ pub returns-then-filled-ends-clause-numbers : goal.returns-then-filled-ends-clau
 returns-then-filled-ends-clause-numbers c = λ u l.
     let h = c.loop-v.invariant in
     let same = c.if-filled-ends.true in
-    h.numbers u l (all_marked (marks_of c.loop-v.numbers) (length c.args.ends.now) u (omega (arith, h.work)) (omega arith) (omega (arith, h.marks, length-marks_of 65535 c.loop-v.numbers)))
+    h.numbers u l (all_marked (marks_of c.loop-v.numbers) (length c.args.ends.now) u (omega (arith, h.queued.work)) (omega arith) (omega (arith, h.queued.marks, length-marks_of 65535 c.loop-v.numbers)))
 
 pub returns-clause-few : goal.returns-clause-few
 returns-clause-few c =

@@ -1,14 +1,16 @@
-use Rattle.std.proofs.Common.{ap₂, ◌+◌, arith}
-use Rattle.map_theory.specs.Maps.{face_count}
+use Rattle.std.proofs.Common.{◌≡◌, ap₂, ◌+◌, ◌∙◌, arith}
+use Rattle.classes.specs.Classes.{class_count}
+use Rattle.map_theory.specs.Maps.{face_count, face_classes}
 use Rattle.map_theory.proofs.DartPermutations.{euler_bound_map}
 use Rattle.euler_faces.proofs.NumberLemmas.{few_darts}
 use Rattle.euler_faces.proofs.map_faces.euler_by_components.Goals as goal
 
 pub overflow_add-result : goal.overflow_add-result
+unfolding face_count
 overflow_add-result c =
     let map = c.args.map.now in
-    let few = few_darts map c.facts.ensures in
-    omega (arith, c.count_marked-orbits.ensures.few, c.count_isolated-isolated.ensures.few, c.facts.ensures.few_vertices)
+    let orbits : c.count.result ≡ class_count (face_classes map.lists) = c.count.ensures ∙ c.in_ok-faces.ensures.count in
+    omega (arith, euler_bound_map map.lists c.facts.ensures.simple, few_darts map c.facts.ensures, orbits, c.count_isolated-isolated.ensures.count, c.requires, c.facts.ensures.few_vertices)
 
 -- the counts are within the Euler bound
 pub invariant_of-result : goal.invariant_of-result
@@ -18,7 +20,7 @@ invariant_of-result c =
     let few = few_darts map c.facts.ensures in
     let vertices = c.facts.ensures.few_vertices in
     let bound = euler_bound_map map.lists c.facts.ensures.simple in
-    let orbits = c.count_marked-orbits.ensures.count in
+    let orbits : c.count.result ≡ class_count (face_classes map.lists) = c.count.ensures ∙ c.in_ok-faces.ensures.count in
     let isolated = c.count_isolated-isolated.ensures.count in
     record {
       few_vertices = omega arith;
@@ -31,4 +33,5 @@ invariant_of-result c =
 
 pub returns-clause-f : goal.returns-clause-f
 unfolding face_count
-returns-clause-f c = ap₂ (λ m n. m + n) c.count_marked-orbits.ensures.count c.count_isolated-isolated.ensures.count
+returns-clause-f c =
+    ap₂ (λ m n. m + n) (c.count.ensures ∙ c.in_ok-faces.ensures.count) c.count_isolated-isolated.ensures.count
