@@ -45,16 +45,18 @@ module _ (lists : Lists) (adjacency : IsAdjacency lists) (order number last pare
     no = λ v l e. not_IsCutVertex-none v l (told.no v l e);
   }
 
-  -- the first vertex with such a child is the least cut vertex
-  pub least_separating : (found : Option ℕ) → MatchOption found ((v : ℕ) → v < length lists → ¬ HasSeparatedChild number parent low v (list_of lists v)) (λ v. (v < length lists) × HasSeparatedChild number parent low v (list_of lists v) × ((u : ℕ) → u < v → ¬ HasSeparatedChild number parent low u (list_of lists u))) → MatchOption found ((v : ℕ) → ¬ IsCutVertex lists v) (λ v. IsLeastCutVertex lists v)
-  least_separating None none = λ v cut. let l = IsCutVertex-within lists adjacency v cut in not_IsCutVertex-none v l (none v l) cut
-  least_separating (Some v) first = record {
-    is_cut = IsCutVertex-has v first.0 first.1;
+  -- the first vertex with such a child is the least cut vertex, and where there is none, there is no cut vertex
+  pub least_separating : (v : ℕ) → v < length lists → HasSeparatedChild number parent low v (list_of lists v) → ((u : ℕ) → u < v → ¬ HasSeparatedChild number parent low u (list_of lists u)) → IsLeastCutVertex lists v
+  least_separating v l has before = record {
+    is_cut = IsCutVertex-has v l has;
     least = λ u cut. elim (cases_lt u v) [
-      | inl less ↦ absurd (not_IsCutVertex-none u (IsCutVertex-within lists adjacency u cut) (first.2 u less) cut)
+      | inl less ↦ absurd (not_IsCutVertex-none u (IsCutVertex-within lists adjacency u cut) (before u less) cut)
       | inr le ↦ le
     ];
   }
+
+  pub none_cut : ((v : ℕ) → v < length lists → ¬ HasSeparatedChild number parent low v (list_of lists v)) → (v : ℕ) → ¬ IsCutVertex lists v
+  none_cut none v cut = let l = IsCutVertex-within lists adjacency v cut in not_IsCutVertex-none v l (none v l) cut
 
   -- where no child is parted, no vertex is a cut vertex
   none_separating : ((v u : ℕ) → v < length number → ¬ IsSeparatedIn number parent low v u) → (v : ℕ) → ¬ IsCutVertex lists v

@@ -1,5 +1,5 @@
 -- Runs over arcs: their beginning, one arc more, the next vertex, and their end.
-use Rattle.std.proofs.Common.{◌≡◌, ◌≢◌, ◌⊎◌, ℕ, zero, suc, ◌+◌, ◌<◌, ◌≤◌, true, false, cond, eqb, List, [], ◌∷◌, ◌++◌, length, get_or, take, Contains, AllPairs, Bool, append_assoc, refl, sym, ap, ◌∙◌, subst, inl, inr, arith, eq-eqb, ne_eqb}
+use Rattle.std.proofs.Common.{◌≡◌, ◌≢◌, ◌⊎◌, ℕ, zero, suc, ◌+◌, ◌<◌, ◌≤◌, true, false, cond, eqb, List, [], ◌∷◌, ◌++◌, length, get_or, take, Contains, AllPairs, Bool, append_assoc, append-nil, set, length-set, get_or-set_same, get_or-set_other, refl, sym, ap, ◌∙◌, subst, inl, inr, arith, eq-eqb, ne_eqb}
 use Rattle.std.proofs.Math.Path.{fun_ext}
 use Rattle.std.proofs.Math.Seq.{take-length, get_or-append_seam}
 use Rattle.std.proofs.lemmas.Bool.{cases_eq, cases_lt}
@@ -13,7 +13,7 @@ use Rattle.map_theory.proofs.DartCounts.{sum_below-same}
 use Rattle.map_theory.proofs.DartLemmas.{get_or-place_of, place_of-lt-length}
 use Rattle.map_theory.proofs.EntryLemmas.{count_of, Contains-counted, Contains-from_count_of}
 use Rattle.graph_search.specs.Arcs.{arcs_of, HasArc, IsAcyclic, AreLongest, IsTopological}
-use Rattle.graph_search.specs.Progress.{IsUsed, used_into, all_into, IsFree, IsProgress, used_at, IsAt}
+use Rattle.graph_search.specs.Progress.{IsRaised, IsPut, IsUsed, used_into, all_into, IsFree, IsProgress, used_at, IsAt}
 use Rattle.graph_search.proofs.Sums.{sum_below-less, sum_below-but, sum_below-none, sum_below-term}
 
 pub used_at-here : (used : ℕ → ℕ) (e k : ℕ) → used_at used e k e ≡ k
@@ -45,6 +45,50 @@ entry_counted us k l = count_by_more_yes (λ u. eqb u (get_or us k 0)) us k 0 l 
 
 other_counted : (us : List ℕ) (k r : ℕ) → k < length us → get_or us k 0 ≢ r → count_of r (take (k + 1) us) ≡ count_of r (take k us)
 other_counted us k r l ne = count_by_more_no (λ u. eqb u r) us k 0 l (ne_eqb (get_or us k 0) r ne)
+
+-- an arc is used: one fewer waits at its end, which has a greater number and may be in the queue, if it is not the base
+module _ (base e r left : ℕ) (n w q : List ℕ) (r_in : r < length w) (one : left + 1 ≡ get_or w r 0) where
+  pub IsUsed-at_base : r ≡ base → IsUsed base e r n w q n (set w r left) q
+  IsUsed-at_base b = record {
+    numbers = refl;
+    counters = length-set w r left;
+    less = omega (arith, get_or-set_same w r left 0 r_in, one);
+    others = λ x ne. get_or-set_other w r x left 0 ne;
+    at_base = λ b. (refl, refl);
+    raised = λ nb. absurd (nb b);
+    put = λ nb. absurd (nb b);
+  }
+
+  pub IsUsed-raised : (n' q' : List ℕ) → r ≢ base → IsRaised n n' e r → IsPut left r q q' → IsUsed base e r n w q n' (set w r left) q'
+  IsUsed-raised n' q' nb raised put = record {
+    numbers = raised.size;
+    counters = length-set w r left;
+    less = omega (arith, get_or-set_same w r left 0 r_in, one);
+    others = λ x ne. get_or-set_other w r x left 0 ne;
+    at_base = λ b. absurd (nb b);
+    raised = λ ne. raised;
+    put = λ ne. subst (λ z. IsPut z r q q') (sym (get_or-set_same w r left 0 r_in)) put;
+  }
+
+-- The first k arcs of e were used since the numbers, counts and queue were n, w and q.
+pub record IsVisited (arcs : List (List ℕ)) (base e k : ℕ) (n w q n' w' q' : List ℕ) : Type 0 where
+  pub run : (used : ℕ → ℕ) → IsProgress arcs base used n w q → used e ≡ 0 → IsProgress arcs base (used_at used e k) n' w' q'
+  pub same : get_or n' e 0 ≡ get_or n e 0
+  pub low : (b : ℕ) → ((x : ℕ) → get_or n x 0 ≤ b) → (x : ℕ) → get_or n' x 0 ≤ b + 1
+  pub rest : List ℕ
+  pub grown : q' ≡ q ++ rest
+
+pub IsVisited-none : (arcs : List (List ℕ)) (base e : ℕ) (n w q : List ℕ) → IsVisited arcs base e 0 n w q n w q
+IsVisited-none arcs base e n w q = record {
+  run = λ used run z. subst (λ u. IsProgress arcs base u n w q) (fun_ext (λ x. elim (cases_eq x e) [
+    | inl s ↦ ap used s ∙ (z ∙ sym (ap (used_at used e 0) s ∙ used_at-here used e 0))
+    | inr ne ↦ sym (used_at-other used e 0 x ne)
+  ])) run;
+  same = refl;
+  low = λ b low x. omega (arith, low x);
+  rest = [];
+  grown = sym (append-nil q);
+}
 
 module _ (arcs : List (List ℕ)) (base : ℕ) (a : IsAcyclic arcs base) where
   -- an arc that is left is waited for
@@ -226,19 +270,19 @@ module _ (arcs : List (List ℕ)) (base : ℕ) (a : IsAcyclic arcs base) where
       u_numbers : (r : ℕ) (n n' w w' q q' : List ℕ) (e : ℕ) → IsUsed base e r n w q n' w' q' → length n' ≡ length n
       u_numbers r n n' w w' q q' e u = u.numbers
 
-  pub IsRun-step : (used : ℕ → ℕ) (n w q n' w' q' : List ℕ) (e k : ℕ) → e < length arcs → k < length (arcs_of arcs e) → Contains q e → IsProgress arcs base (used_at used e k) n w q → IsUsed base e (get_or (arcs_of arcs e) k 0) n w q n' w' q' → IsProgress arcs base (used_at used e (k + 1)) n' w' q'
+  IsRun-step : (used : ℕ → ℕ) (n w q n' w' q' : List ℕ) (e k : ℕ) → e < length arcs → k < length (arcs_of arcs e) → Contains q e → IsProgress arcs base (used_at used e k) n w q → IsUsed base e (get_or (arcs_of arcs e) k 0) n w q n' w' q' → IsProgress arcs base (used_at used e (k + 1)) n' w' q'
   IsRun-step used n w q n' w' q' e k le lk queued run u =
       subst (λ z. IsProgress arcs base z n' w' q') (used_at-twice used e k (k + 1)) (IsProgress-more (used_at used e k) n w q n' w' q' e k le (used_at-here used e k) lk queued run u)
 
   -- what one arc does to the number of e, and to the greatest
-  pub IsUsed-same : (n w q n' w' q' : List ℕ) (e r : ℕ) → HasArc arcs e r → IsUsed base e r n w q n' w' q' → get_or n' e 0 ≡ get_or n e 0
+  IsUsed-same : (n w q n' w' q' : List ℕ) (e r : ℕ) → HasArc arcs e r → IsUsed base e r n w q n' w' q' → get_or n' e 0 ≡ get_or n e 0
   IsUsed-same n w q n' w' q' e r has u =
       elim (cases_eq r base) [
         | inl s ↦ ap (λ z. get_or z e 0) (u.at_base s).0
         | inr nb ↦ (u.raised nb).elsewhere e (used_same e r has nb)
       ]
 
-  pub IsUsed-low : (n w q n' w' q' : List ℕ) (e r b : ℕ) → IsUsed base e r n w q n' w' q' → get_or n e 0 ≤ b → ((x : ℕ) → get_or n x 0 ≤ b + 1) → (x : ℕ) → get_or n' x 0 ≤ b + 1
+  IsUsed-low : (n w q n' w' q' : List ℕ) (e r b : ℕ) → IsUsed base e r n w q n' w' q' → get_or n e 0 ≤ b → ((x : ℕ) → get_or n x 0 ≤ b + 1) → (x : ℕ) → get_or n' x 0 ≤ b + 1
   IsUsed-low n w q n' w' q' e r b u le low x =
       elim (cases_eq r base) [
         | inl s ↦ omega (arith, ap (λ z. get_or z x 0) (u.at_base s).0, low x)
@@ -248,12 +292,26 @@ module _ (arcs : List (List ℕ)) (base : ℕ) (a : IsAcyclic arcs base) where
         ]
       ]
 
-  pub IsUsed-grown : (n w q n' w' q' : List ℕ) (e r : ℕ) → IsUsed base e r n w q n' w' q' → (first : List ℕ) → ((rest : List ℕ) × (q ≡ first ++ rest)) → (rest : List ℕ) × (q' ≡ first ++ rest)
+  IsUsed-grown : (n w q n' w' q' : List ℕ) (e r : ℕ) → IsUsed base e r n w q n' w' q' → (first : List ℕ) → ((rest : List ℕ) × (q ≡ first ++ rest)) → (rest : List ℕ) × (q' ≡ first ++ rest)
   IsUsed-grown n w q n' w' q' e r u first old =
       elim (queue_is r n w q n' w' q' e u) [
         | inl s ↦ (old.0, s.0 ∙ old.1)
         | inr s ↦ (old.0 ++ r ∷ [], s.0 ∙ (ap (λ z. z ++ r ∷ []) old.1 ∙ append_assoc first old.0 (r ∷ [])))
       ]
+
+  pub IsVisited-more : (n w q n' w' q' n'' w'' q'' : List ℕ) (e k : ℕ) → e < length arcs → k < length (arcs_of arcs e) → Contains q e → IsVisited arcs base e k n w q n' w' q' → IsUsed base e (get_or (arcs_of arcs e) k 0) n' w' q' n'' w'' q'' → IsVisited arcs base e (k + 1) n w q n'' w'' q''
+  IsVisited-more n w q n' w' q' n'' w'' q'' e k le lk queued h u =
+      let r = get_or (arcs_of arcs e) k 0 in
+      let has : HasArc arcs e r = (le, Contains-get_or (arcs_of arcs e) k 0 lk) in
+      let still : Contains q' e = subst (λ z. Contains z e) (sym h.grown) (Contains-append_left q h.rest e queued) in
+      let more = IsUsed-grown n' w' q' n'' w'' q'' e r u q (h.rest, h.grown) in
+      record {
+        run = λ used run z. IsRun-step used n' w' q' n'' w'' q'' e k le lk still (h.run used run z) u;
+        same = IsUsed-same n' w' q' n'' w'' q'' e r has u ∙ h.same;
+        low = λ b low. IsUsed-low n' w' q' n'' w'' q'' e r b u (omega (arith, h.same, low e)) (h.low b low);
+        rest = more.0;
+        grown = more.1;
+      }
 
   -- nothing is used
   pub IsAt-none : (n w : List ℕ) → length n ≡ length arcs → length w ≡ length arcs → ((x : ℕ) → get_or n x 0 ≡ 0) → ((x : ℕ) → x < length arcs → get_or w x 0 ≡ all_into arcs x) → IsAt arcs base 0 (λ e. 0) n w (base ∷ [])
@@ -292,7 +350,7 @@ module _ (arcs : List (List ℕ)) (base : ℕ) (a : IsAcyclic arcs base) where
       in_one r (suc i, l, e) = absurd (omega arith)
 
   -- the vertex at the head of the queue is not begun
-  pub head_fresh : (head : ℕ) (used : ℕ → ℕ) (n w q : List ℕ) → IsAt arcs base head used n w q → head < length q → used (get_or q head 0) ≡ 0
+  head_fresh : (head : ℕ) (used : ℕ → ℕ) (n w q : List ℕ) → IsAt arcs base head used n w q → head < length q → used (get_or q head 0) ≡ 0
   head_fresh head used n w q at l =
       let e = get_or q head 0 in
       let le = (at.run.queued e (Contains-get_or q head 0 l)).0 in
@@ -302,7 +360,7 @@ module _ (arcs : List (List ℕ)) (base : ℕ) (a : IsAcyclic arcs base) where
       ]
 
   -- the next vertex is used
-  pub IsAt-more : (head : ℕ) (used : ℕ → ℕ) (n w q n' w' q' : List ℕ) → IsAt arcs base head used n w q → head < length q → IsProgress arcs base (used_at used (get_or q head 0) (length (arcs_of arcs (get_or q head 0)))) n' w' q' → (rest : List ℕ) → q' ≡ q ++ rest → ((x : ℕ) → get_or n' x 0 ≤ head + 1) → IsAt arcs base (head + 1) (used_at used (get_or q head 0) (length (arcs_of arcs (get_or q head 0)))) n' w' q'
+  IsAt-more : (head : ℕ) (used : ℕ → ℕ) (n w q n' w' q' : List ℕ) → IsAt arcs base head used n w q → head < length q → IsProgress arcs base (used_at used (get_or q head 0) (length (arcs_of arcs (get_or q head 0)))) n' w' q' → (rest : List ℕ) → q' ≡ q ++ rest → ((x : ℕ) → get_or n' x 0 ≤ head + 1) → IsAt arcs base (head + 1) (used_at used (get_or q head 0) (length (arcs_of arcs (get_or q head 0)))) n' w' q'
   IsAt-more head used n w q n' w' q' at l run rest grown low =
       let e = get_or q head 0 in
       let len = length (arcs_of arcs e) in
@@ -326,6 +384,32 @@ module _ (arcs : List (List ℕ)) (base : ℕ) (a : IsAcyclic arcs base) where
         ];
         low = low;
       }
+
+  -- the vertex e at the head of the queue has all its arcs used next
+  module _ (head : ℕ) (used : ℕ → ℕ) (n w q : List ℕ) (at : IsAt arcs base head used n w q) (l : head < length q) (e : ℕ) (is : e ≡ get_or q head 0) where
+    pub head_queued : Contains q e
+    head_queued = subst (Contains q) (sym is) (Contains-get_or q head 0 l)
+
+    pub head_in : e < length arcs
+    head_in = (at.run.queued e head_queued).0
+
+    pub head_run : (k : ℕ) (n' w' q' : List ℕ) → IsVisited arcs base e k n w q n' w' q' → IsProgress arcs base (used_at used e k) n' w' q'
+    head_run k n' w' q' h = h.run used at.run (ap used is ∙ head_fresh head used n w q at l)
+
+    pub IsAt-visited : (n' w' q' : List ℕ) → IsVisited arcs base e (length (arcs_of arcs e)) n w q n' w' q' → (now : ℕ → ℕ) × IsAt arcs base (head + 1) now n' w' q'
+    IsAt-visited n' w' q' h = (
+      used_at used (get_or q head 0) (length (arcs_of arcs (get_or q head 0))),
+      IsAt-more head used n w q n' w' q' at l (subst (λ z. IsProgress arcs base (used_at used z (length (arcs_of arcs z))) n' w' q') is (head_run (length (arcs_of arcs e)) n' w' q' h)) h.rest h.grown (h.low head at.low),
+    )
+
+  -- no vertex is left at the head of the queue
+  pub IsAt-passed : (head : ℕ) (used : ℕ → ℕ) (n w q : List ℕ) → length q ≤ head → IsAt arcs base head used n w q → IsAt arcs base (head + 1) used n w q
+  IsAt-passed head used n w q past at = record {
+    run = at.run;
+    done = λ j less l. at.done j (omega (arith, l, past)) l;
+    fresh = λ e l some. (let j = at.fresh e l some in (j.0, omega (arith, j.1), j.2, j.3));
+    low = λ x. omega (arith, at.low x);
+  }
 
   -- the end: all arcs are used
   module _ (used : ℕ → ℕ) (n w q : List ℕ) (at : IsAt arcs base (length arcs) used n w q) where

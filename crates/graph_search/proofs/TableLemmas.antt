@@ -202,6 +202,13 @@ IsSearching-at_none lists order number last parent cursor count current none h =
   read = h.read;
 }
 
+-- Numbers are kept where a vertex that was not seen gets one.
+pub KeepsNumbers-set : (old new : List ℕ) (v count : ℕ) → new ≡ set old v count → length old ≤ get_or old v 0 → KeepsNumbers old new
+KeepsNumbers-set old new v count e unseen = λ u l s. elim (cases_eq u v) [
+  | inl q ↦ absurd (omega (arith, s, unseen, ap (λ x. get_or old x 0) q))
+  | inr ne ↦ ap (λ (xs : List ℕ). get_or xs u 0) e ∙ get_or-set_other old v u count 0 ne
+]
+
 -- numbers that are kept, kept further
 pub KeepsNumbers-chained : (one two three : List ℕ) → length two ≡ length one → KeepsNumbers one two → KeepsNumbers two three → KeepsNumbers one three
 KeepsNumbers-chained one two three same h k = λ v m s.

@@ -7,6 +7,6 @@ mod lows;
 mod searched;
 mod steps;
 
-pub use forest::{Forest, SearchTables, search_forest, search_forest_along};
+pub use forest::{Forest, SearchTables, search_forest, search_forest_along, size};
 pub use lows::low_points;
 pub(crate) use searched::Searched;

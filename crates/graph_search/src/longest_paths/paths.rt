@@ -1,8 +1,7 @@
 //! Longest paths, by a queue of the vertices into which no arc is left.
-ghost use Rattle.std.specs.Prelude.{◌≡◌, ◌+◌, ◌<◌, ◌≤◌, ◌^◌, ◌==◌, ◌++◌, ℕ, List, [], ◌∷◌, length, slice_index, replicate, count_by, All, Contains, IfOk};
-ghost use Rattle.map_lists.specs.Cuts.{joined};
-ghost use Rattle.graph_search.specs.Arcs.{arcs_of, HasArc, IsAcyclic, AreLongest, IsTopological};
-ghost use Rattle.graph_search.specs.Progress.{IsRaised, IsPut, IsUsed, IsProgress, IsAt, used_at, all_into};
+ghost use Rattle.std.specs.Prelude.{◌≡◌, ◌+◌, ◌<◌, ◌^◌, ◌==◌, ℕ, [], ◌∷◌, length, slice_index, replicate, All, IfOk};
+ghost use Rattle.graph_search.specs.Arcs.{HasArc, IsAcyclic, AreLongest, IsTopological};
+ghost use Rattle.graph_search.specs.Progress.{IsRaised, all_into};
 
 use map_lists::ItemLists;
 use std::alloc::{AllocError, Global};
@@ -19,105 +18,6 @@ fn raise(number: &mut [u32], e: u32, r: u32)
     if number[r as usize] < more {
         number[r as usize] = more;
     }
-}
-
-// Puts `r` into the queue, if nothing waits for it.
-fn put(waiting: usize, r: u32, queue: &mut Vec<u32>) -> Result<(), AllocError>
-    ensures { IfOk result (λ _. IsPut waiting r queue.old.items queue.new.items) }
-{
-    if waiting == 0 {
-        queue.push(r)?;
-    }
-    Ok(())
-}
-
-// Uses the arc from `e` to `r`, which is not the base.
-fn reach(
-    e: u32,
-    r: u32,
-    waiting: usize,
-    number: &mut [u32],
-    queue: &mut Vec<u32>,
-) -> Result<(), AllocError>
-    requires e_in { e < length number.old }
-    requires r_in { r < length number.old }
-    requires room { slice_index number.old e + 1 < 2 ^ 32 }
-    ensures raised { IfOk result (λ _. IsRaised number.old number.new e r) }
-    ensures put { IfOk result (λ _. IsPut waiting r queue.old.items queue.new.items) }
-{
-    raise(number, e, r);
-    put(waiting, r, queue)
-}
-
-// Uses the arc from `e` to `r`.
-fn use_arc(
-    e: u32,
-    r: u32,
-    base: u32,
-    number: &mut [u32],
-    waiting: &mut [usize],
-    queue: &mut Vec<u32>,
-) -> Result<(), AllocError>
-    requires e_in { e < length number.old }
-    requires r_in { r < length number.old }
-    requires r_waits { r < length waiting.old }
-    requires some { 0 < slice_index waiting.old r }
-    requires room { slice_index number.old e + 1 < 2 ^ 32 }
-    ensures { IfOk result (λ _. IsUsed base e r number.old waiting.old queue.old.items number.new waiting.new queue.new.items) }
-{
-    let left = waiting[r as usize] - 1;
-    waiting[r as usize] = left;
-    if r == base {
-        Ok(())
-    } else {
-        reach(e, r, left, number, queue)
-    }
-}
-
-// Uses all arcs from `e`.
-fn visit(
-    arcs: &ItemLists<u32>,
-    base: u32,
-    e: u32,
-    number: &mut [u32],
-    waiting: &mut [usize],
-    queue: &mut Vec<u32>,
-) -> Result<(), AllocError>
-    requires acyclic { IsAcyclic arcs.now base }
-    requires e_in { e < length arcs.now }
-    requires run { (used : ℕ → ℕ) × IsProgress arcs.now base used number.old waiting.old queue.old.items × (used e ≡ 0) }
-    requires queued { Contains queue.old.items e }
-    requires room { slice_index number.old e + 1 < 2 ^ 32 }
-    ensures run { IfOk result (λ _. (used : ℕ → ℕ) → IsProgress arcs.now base used number.old waiting.old queue.old.items → used e ≡ 0
-        → IsProgress arcs.now base (used_at used e (length (arcs_of arcs.now e))) number.new waiting.new queue.new.items) }
-    ensures low { IfOk result (λ _. (b : ℕ) → ((x : ℕ) → slice_index number.old x ≤ b) → (x : ℕ) → slice_index number.new x ≤ b + 1) }
-    ensures grown { IfOk result (λ _. (rest : List ℕ) × (queue.new.items ≡ queue.old.items ++ rest)) }
-{
-    for r in arcs.list(e as usize) {
-        use_arc(e, *r, base, number, waiting, queue)?;
-    }
-    Ok(())
-}
-
-// Uses all arcs from the vertex at `head` of the queue, if there is one.
-fn visit_next(
-    arcs: &ItemLists<u32>,
-    base: u32,
-    head: usize,
-    number: &mut [u32],
-    waiting: &mut [usize],
-    queue: &mut Vec<u32>,
-) -> Result<(), AllocError>
-    requires acyclic { IsAcyclic arcs.now base }
-    requires few { length arcs.now < 2 ^ 32 }
-    requires head { head < length arcs.now }
-    requires at { (used : ℕ → ℕ) × IsAt arcs.now base head used number.old waiting.old queue.old.items }
-    ensures { IfOk result (λ _. (used : ℕ → ℕ) × IsAt arcs.now base (head + 1) used number.new waiting.new queue.new.items) }
-{
-    if head < queue.len() {
-        visit(arcs, base, queue[head], number, waiting, queue)?;
-    }
-    Ok(())
 }
 
 // Uses all arcs: from the base, and then from each vertex into which none is left.
@@ -139,7 +39,22 @@ fn visit_all(
     ensures order { IfOk result (λ _. IsTopological arcs.now base queue.new.items) }
 {
     for head in 0..arcs.len() {
-        visit_next(arcs, base, head, number, waiting, queue)?;
+        if queue.len() <= head {
+            continue;
+        }
+        let e = queue[head];
+        for r in arcs.list(e as usize) {
+            let left = waiting[*r as usize] - 1;
+            waiting[*r as usize] = left;
+            if *r == base {
+                continue;
+            }
+            raise(number, e, *r);
+            if left != 0 {
+                continue;
+            }
+            queue.push(*r)?;
+        }
     }
     Ok(())
 }

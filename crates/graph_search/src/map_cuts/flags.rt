@@ -1,5 +1,5 @@
 //! Which vertices are cut vertices.
-ghost use Rattle.std.specs.Prelude.{◌≡◌, ◌+◌, ◌<◌, ◌≤◌, ◌↔◌, ℕ, length, slice_index, All, IfOk, IsTrue, MatchBool};
+ghost use Rattle.std.specs.Prelude.{◌≡◌, ◌+◌, ◌<◌, ◌≤◌, ◌↔◌, ℕ, length, slice_index, IfOk, IsTrue, MatchBool};
 ghost use Rattle.map_theory.specs.Maps.{list_of};
 ghost use Rattle.graph_search.specs.Cuts.{IsCutVertex};
 ghost use Rattle.graph_search.specs.Forests.{IsAdjacency, IsForestOf};
@@ -40,23 +40,21 @@ impl Searched<'_> {
         false
     }
 
-    // Whether `u` has a low point not before `v`, and is a child of `v` that `v` parts from other vertices. Most children
-    // have a low point before their parent, which one look tells.
-    fn is_apart(&self, v: u16, u: u16) -> bool
-        requires v_in { v < length self.now.lists.now }
-        requires u_in { u < length self.now.lists.now }
-        ensures { IsTrue result ↔ ((slice_index self.now.number.now v ≤ slice_index self.now.low.now u) × IsSeparatedIn self.now.number.now self.now.parent.now self.now.low.now v u) }
-    {
-        self.number[v as usize] <= self.low[u as usize] && self.is_separated(v, u)
-    }
-
-    // Whether no vertex with a low point not before its parent is a child that this parts from others.
+    // Says whether no vertex with a low point not before its parent is a child that this parts from others.
     fn no_child_apart(&self) -> bool
         ensures { IsTrue result → (v u : ℕ) → v < length self.now.number.now → slice_index self.now.number.now v ≤ slice_index self.now.low.now u → ¬ IsSeparatedIn self.now.number.now self.now.parent.now self.now.low.now v u }
     {
-        for u in 0..self.number.len() {
-            let v = self.parent[u];
-            if (v as usize) < self.number.len() && self.is_apart(v, u as u16) {
+        let searched = *self;
+        for u in 0..searched.number.len() {
+            let v = searched.parent[u];
+            if searched.number.len() <= v as usize {
+                continue;
+            }
+            // Most children have a low point before their parent, which one look tells.
+            if searched.low[u] < searched.number[v as usize] {
+                continue;
+            }
+            if searched.is_separated(v, u as u16) {
                 return false;
             }
         }

@@ -1,10 +1,8 @@
 //! The least cut vertex.
-ghost use Rattle.std.specs.Prelude.{◌≡◌, ◌<◌, ◌≤◌, ℕ, true, false, length, slice_index, slice_index_or, MatchOption, IfOk};
-ghost use Rattle.map_theory.specs.Maps.{list_of};
+ghost use Rattle.std.specs.Prelude.{◌≡◌, ◌<◌, ◌≤◌, ℕ, true, false, length, slice_index_or, MatchOption, IfOk};
 ghost use Rattle.graph_search.specs.Forests.{IsAdjacency, IsForestOf};
 ghost use Rattle.graph_search.specs.Lows.{AreLows};
 ghost use Rattle.graph_search.specs.Cuts.{IsCutVertex, IsLeastCutVertex};
-ghost use Rattle.graph_search.specs.Flags.{HasSeparatedChild};
 
 use crate::search_forests::{Forest, Searched, low_points, search_forest};
 use half_edges::HalfMap;
@@ -24,20 +22,6 @@ pub(crate) fn first_set(flags: &[bool], from: usize) -> Option<usize>
     None
 }
 
-impl Searched<'_> {
-    // Returns the least vertex that parts a child from other vertices.
-    fn first_separating(&self) -> Option<u16>
-        ensures { MatchOption result ((v : ℕ) → v < length self.now.lists.now → ¬ HasSeparatedChild self.now.number.now self.now.parent.now self.now.low.now v (list_of self.now.lists.now v)) (λ v. (v < length self.now.lists.now) × HasSeparatedChild self.now.number.now self.now.parent.now self.now.low.now v (list_of self.now.lists.now v) × ((u : ℕ) → u < v → ¬ HasSeparatedChild self.now.number.now self.now.parent.now self.now.low.now u (list_of self.now.lists.now u))) }
-    {
-        for v in 0..self.lists.len() {
-            if self.has_separated(v as u16) {
-                return Some(v as u16);
-            }
-        }
-        None
-    }
-}
-
 /// The least cut vertex of lists in which adjacency goes both ways, by a search of them and its low points; None
 /// exactly where there is none.
 pub fn searched_cut_vertex(lists: &Rotations, forest: &Forest, low: &[u16]) -> Option<u16>
@@ -53,7 +37,12 @@ pub fn searched_cut_vertex(lists: &Rotations, forest: &Forest, low: &[u16]) -> O
         parent: &forest.parent,
         low,
     };
-    searched.first_separating()
+    for v in 0..lists.len() {
+        if searched.has_separated(v as u16) {
+            return Some(v as u16);
+        }
+    }
+    None
 }
 
 /// The least cut vertex of lists in which adjacency goes both ways, or None exactly where there is none, in

@@ -1,5 +1,5 @@
 //! The least separating pair.
-ghost use Rattle.std.specs.Prelude.{◌≡◌, ◌<◌, ◌≤◌, ◌≢◌, ◌↔◌, ℕ, true, false, [], ◌∷◌, length, slice_index_or, MatchOption, MatchBool, IfOk};
+ghost use Rattle.std.specs.Prelude.{◌≡◌, ◌<◌, ◌≤◌, ℕ, true, false, length, slice_index_or, MatchOption, IfOk};
 ghost use Rattle.graph_search.specs.Forests.{IsAdjacency};
 ghost use Rattle.graph_search.specs.Cuts.{IsSeparatingPair, IsLeastPair};
 ghost use Rattle.graph_search.specs.Flags.{AreCutFlags};
@@ -11,53 +11,8 @@ use half_edges::HalfMap;
 use map_lists::{Rotations, VertexId};
 use std::alloc::{AllocError, Global};
 
-// The least greater vertex with which u, which is no cut vertex, is a separating pair.
-fn partner_of_other(
-    alloc: Global,
-    lists: &Rotations,
-    flags: &[bool],
-    u: u16,
-) -> Result<Option<u16>, AllocError>
-    requires adjacency { IsAdjacency lists.now }
-    requires flags { AreCutFlags lists.now flags.now }
-    requires vertex { u < length lists.now }
-    requires other { slice_index_or flags.now u false ≡ false }
-    ensures { IfOk result (λ found. MatchOption found ((v : ℕ) → ¬ IsSeparatingPair lists.now u v) (λ v. IsSeparatingPair lists.now u v × ((w : ℕ) → IsSeparatingPair lists.now u w → v ≤ w))) }
-{
-    let rest = lists_without(alloc, lists, u)?;
-    let cuts = cut_flags(alloc, &rest)?;
-    match first_set(&cuts, u as usize + 1) {
-        Some(v) => Ok(Some(v as u16)),
-        None => Ok(None),
-    }
-}
-
-// Whether u, which is a cut vertex, and a greater vertex are a separating pair.
-fn is_partner_of_cut(
-    alloc: Global,
-    lists: &Rotations,
-    flags: &[bool],
-    u: u16,
-    v: u16,
-) -> Result<bool, AllocError>
-    requires adjacency { IsAdjacency lists.now }
-    requires flags { AreCutFlags lists.now flags.now }
-    requires order { u < v }
-    requires vertex { v < length lists.now }
-    requires cut { slice_index_or flags.now u false ≡ true }
-    ensures { IfOk result (λ found. MatchBool found (IsSeparatingPair lists.now u v) (¬ IsSeparatingPair lists.now u v)) }
-{
-    if flags[v as usize] {
-        Ok(true)
-    } else {
-        let rest = lists_without(alloc, lists, v)?;
-        let cuts = cut_flags(alloc, &rest)?;
-        Ok(cuts[u as usize])
-    }
-}
-
-// The least greater vertex with which u, which is a cut vertex, is a separating pair. All but two vertices
-// are, so few are tried.
+// Returns the least greater vertex with which `u`, which is a cut vertex, is a separating pair: the flags tell the cut
+// vertices. All but two vertices are such, so few are tried.
 fn partner_of_cut(
     alloc: Global,
     lists: &Rotations,
@@ -71,14 +26,19 @@ fn partner_of_cut(
     ensures { IfOk result (λ found. MatchOption found ((v : ℕ) → ¬ IsSeparatingPair lists.now u v) (λ v. IsSeparatingPair lists.now u v × ((w : ℕ) → IsSeparatingPair lists.now u w → v ≤ w))) }
 {
     for v in u as usize + 1..lists.len() {
-        if is_partner_of_cut(alloc, lists, flags, u, v as u16)? {
+        if flags[v] {
+            return Ok(Some(v as u16));
+        }
+        let rest = lists_without(alloc, lists, v as u16)?;
+        let cuts = cut_flags(alloc, &rest)?;
+        if cuts[u as usize] {
             return Ok(Some(v as u16));
         }
     }
     Ok(None)
 }
 
-// The least greater vertex with which u is a separating pair.
+// Returns the least greater vertex with which `u` is a separating pair: the flags tell the cut vertices.
 fn partner(
     alloc: Global,
     lists: &Rotations,
@@ -91,29 +51,14 @@ fn partner(
     ensures { IfOk result (λ found. MatchOption found ((v : ℕ) → ¬ IsSeparatingPair lists.now u v) (λ v. IsSeparatingPair lists.now u v × ((w : ℕ) → IsSeparatingPair lists.now u w → v ≤ w))) }
 {
     if flags[u as usize] {
-        partner_of_cut(alloc, lists, flags, u)
-    } else {
-        partner_of_other(alloc, lists, flags, u)
+        return partner_of_cut(alloc, lists, flags, u);
     }
-}
-
-// The least separating pair, where the cut vertices are known.
-fn first_pair(
-    alloc: Global,
-    lists: &Rotations,
-    flags: &[bool],
-) -> Result<Option<(u16, u16)>, AllocError>
-    requires adjacency { IsAdjacency lists.now }
-    requires flags { AreCutFlags lists.now flags.now }
-    ensures { IfOk result (λ found. MatchOption found ((u v : ℕ) → ¬ IsSeparatingPair lists.now u v) (λ p. IsLeastPair lists.now p.0 p.1)) }
-{
-    for u in 0..lists.len() {
-        match partner(alloc, lists, flags, u as u16)? {
-            Some(v) => return Ok(Some((u as u16, v))),
-            None => {}
-        }
+    let rest = lists_without(alloc, lists, u)?;
+    let cuts = cut_flags(alloc, &rest)?;
+    match first_set(&cuts, u as usize + 1) {
+        Some(v) => Ok(Some(v as u16)),
+        None => Ok(None),
     }
-    Ok(None)
 }
 
 /// The least separating pair of lists in which adjacency goes both ways, by its first vertex and then by its
@@ -127,7 +72,13 @@ pub fn list_separating_pair(
     ensures { IfOk result (λ found. MatchOption found ((u v : ℕ) → ¬ IsSeparatingPair lists.now u v) (λ p. IsLeastPair lists.now p.0 p.1)) }
 {
     let flags = cut_flags(alloc, lists)?;
-    first_pair(alloc, lists, &flags)
+    for u in 0..lists.len() {
+        match partner(alloc, lists, &flags, u as u16)? {
+            Some(v) => return Ok(Some((u as u16, v))),
+            None => {}
+        }
+    }
+    Ok(None)
 }
 
 /// The least separating pair of a map, by its first vertex and then by its second, or None exactly where

@@ -1,7 +1,6 @@
 //! Lists without a vertex.
 ghost use Rattle.std.specs.Prelude.{◌≡◌, ◌<◌, ◌==◌, ◌++◌, ◌∷◌, [], List, ℕ, not, length, IfOk};
 ghost use Rattle.std.specs.List.{filter};
-ghost use Rattle.map_theory.specs.Maps.{list_of};
 ghost use Rattle.graph_search.specs.Without.{list_without, IsWithoutVertex};
 
 use map_lists::{ItemLists, Rotations};
@@ -15,26 +14,18 @@ fn append_other(rest: &mut ItemLists<u16>, w: u16, u: u16) -> Result<(), AllocEr
     if w == u { Ok(()) } else { rest.append(w) }
 }
 
-// Appends a list without the entries u.
-fn push_others(rest: &mut ItemLists<u16>, list: &[u16], u: u16) -> Result<(), AllocError>
-    ensures { IfOk result (λ _. rest.new ≡ rest.old ++ filter (λ x. not (x == u)) list.now ∷ []) }
+// Appends the list of `v` as it is without `u`: that of `u` itself is empty.
+fn push_without(rest: &mut ItemLists<u16>, list: &[u16], v: u16, u: u16) -> Result<(), AllocError>
+    ensures { IfOk result (λ _. rest.new ≡ rest.old ++ list_without u v list.now ∷ []) }
 {
     rest.open()?;
+    if v == u {
+        return Ok(());
+    }
     for w in list {
         append_other(rest, *w, u)?;
     }
     Ok(())
-}
-
-// Appends the list of v as it is without u.
-fn push_without(rest: &mut ItemLists<u16>, list: &[u16], v: u16, u: u16) -> Result<(), AllocError>
-    ensures { IfOk result (λ _. rest.new ≡ rest.old ++ list_without u v list.now ∷ []) }
-{
-    if v == u {
-        rest.open()
-    } else {
-        push_others(rest, list, u)
-    }
 }
 
 /// Lists without a vertex, which stays, alone. It fails only when out of memory.

@@ -1,5 +1,5 @@
 //! Finished searches.
-ghost use Rattle.std.specs.Prelude.{◌≡◌, ◌+◌, ◌<◌, ◌≤◌, ◌≢◌, ℕ, length, slice_index, replicate, IfOk};
+ghost use Rattle.std.specs.Prelude.{◌≡◌, ◌<◌, ◌≢◌, length, slice_index, replicate, IfOk};
 ghost use Rattle.map_theory.specs.Maps.{HasDart};
 ghost use Rattle.graph_search.specs.Forests.{IsAdjacency, IsForestOf};
 ghost use Rattle.graph_search.specs.Lows.{AreLows};
@@ -47,29 +47,16 @@ impl Forest {
     }
 }
 
-// Gives a table `n` places.
+/// Gives a table `n` places, with `item` at those that it did not have.
 #[inline(always)]
-fn size(table: &mut Vec<u16>, n: usize) -> Result<(), AllocError>
+pub fn size<T: Copy>(table: &mut Vec<T>, item: T, n: usize) -> Result<(), AllocError>
     ensures { IfOk result (λ _. length table.new.items ≡ n) }
 {
     if n <= table.len() {
         table.truncate(n);
         return Ok(());
     }
-    table.resize(n, 0)?;
-    Ok(())
-}
-
-// Gives a table of cursors `n` places.
-#[inline(always)]
-fn size_cursors(table: &mut Vec<usize>, n: usize) -> Result<(), AllocError>
-    ensures { IfOk result (λ _. length table.new.items ≡ n) }
-{
-    if n <= table.len() {
-        table.truncate(n);
-        return Ok(());
-    }
-    table.resize(n, 0)?;
+    table.resize(n, item)?;
     Ok(())
 }
 
@@ -119,12 +106,12 @@ impl SearchTables {
         requires { n < 4096 }
         ensures { IfOk result (λ _. AreCleared n self.new.forest.order.items self.new.forest.number.items self.new.forest.last.items self.new.forest.parent.items self.new.cursor.items self.new.low.items) }
     {
-        size(&mut self.forest.order, n)?;
-        size(&mut self.forest.number, n)?;
-        size(&mut self.forest.last, n)?;
-        size(&mut self.forest.parent, n)?;
-        size(&mut self.low, n)?;
-        size_cursors(&mut self.cursor, n)?;
+        size(&mut self.forest.order, 0, n)?;
+        size(&mut self.forest.number, 0, n)?;
+        size(&mut self.forest.last, 0, n)?;
+        size(&mut self.forest.parent, 0, n)?;
+        size(&mut self.low, 0, n)?;
+        size(&mut self.cursor, 0, n)?;
         unsee(
             &mut self.forest.number,
             &mut self.forest.last,

@@ -1,8 +1,7 @@
 //! Low points.
-ghost use Rattle.std.specs.Prelude.{◌≡◌, ◌<◌, length, replicate, All, IfOk, min};
-ghost use Rattle.map_theory.specs.Maps.{list_of};
+ghost use Rattle.std.specs.Prelude.{◌≡◌, ◌<◌, length, replicate, IfOk, min};
 ghost use Rattle.graph_search.specs.Forests.{IsAdjacency, IsForestOf};
-ghost use Rattle.graph_search.specs.Lows.{AreLows, IsLeastNumber, IsLowered};
+ghost use Rattle.graph_search.specs.Lows.{AreLows, IsLowered};
 
 use crate::search_forests::forest::Forest;
 use map_lists::Rotations;
@@ -13,18 +12,6 @@ pub(crate) fn lesser(one: u16, other: u16) -> u16
     ensures { result ≡ min one other }
 {
     if one < other { one } else { other }
-}
-
-// Returns the least of a number and of those of the vertices of a list.
-fn least_number(least: u16, list: &[u16], number: &[u16]) -> u16
-    requires { All (λ u. u < length number.now) list.now }
-    ensures { IsLeastNumber list.now number.now least result }
-{
-    let mut least = least;
-    for u in list {
-        least = lesser(least, number[*u as usize]);
-    }
-    least
 }
 
 // Lowers the low point of `v` to `least`, where it is greater and `v` is a vertex.
@@ -45,9 +32,13 @@ pub(crate) fn fill_lows(lists: &Rotations, forest: &Forest, low: &mut [u16])
     ensures { AreLows lists.now forest.now.number.items forest.now.last.items low.new }
 {
     let n = lists.len();
+    let number: &[u16] = &forest.number;
     for i in 0..n {
         let v = forest.order[n - 1 - i];
-        let least = least_number(low[v as usize], lists.list(v as usize), &forest.number);
+        let mut least = low[v as usize];
+        for u in lists.list(v as usize) {
+            least = lesser(least, number[*u as usize]);
+        }
         low[v as usize] = least;
         lower(low, forest.parent[v as usize], least);
     }

@@ -1,5 +1,5 @@
 //! A search under way, and its steps.
-ghost use Rattle.std.specs.Prelude.{◌≡◌, ◌+◌, ◌<◌, ◌≤◌, ◌↔◌, IsTrue, ℕ, length, slice_index, slice_set, replicate, IfOk};
+ghost use Rattle.std.specs.Prelude.{◌≡◌, ◌+◌, ◌<◌, ◌≤◌, ◌↔◌, IsTrue, ℕ, length, slice_index, slice_set, replicate};
 ghost use Rattle.map_theory.specs.Maps.{HasDart, list_of};
 ghost use Rattle.graph_search.specs.Forests.{IsForestOf};
 ghost use Rattle.graph_search.specs.Lows.{AreLows};
@@ -70,14 +70,6 @@ impl<'a> Search<'a> {
         ensures { IsTrue result ↔ (self.now.current < length self.now.lists.now) }
     {
         (self.current as usize) < self.lists.len()
-    }
-
-    // Whether as many vertices were seen as there are.
-    #[inline(always)]
-    fn has_seen_all(&self) -> bool
-        ensures { IsTrue result ↔ (length self.now.lists.now ≤ self.now.count) }
-    {
-        self.count as usize >= self.lists.len()
     }
 
     // Returns the first place from `from` on at which the current list, lent as `list`, has a vertex that was not seen, or
@@ -190,22 +182,6 @@ impl<'a> Search<'a> {
         }
     }
 
-    // Sees a vertex as a top, where it was not seen, and goes on until none is open.
-    #[inline(always)]
-    fn search_from(&mut self, top: u16)
-        requires vertex { top < length self.old.lists.now }
-        requires none { length self.old.lists.now ≤ self.old.current }
-        ensures lists { self.new.lists.now ≡ self.old.lists.now }
-        ensures keeps { KeepsNumbers self.old.number.items self.new.number.items }
-        ensures seen { slice_index self.new.number.items top < length self.old.lists.now }
-        ensures none { length self.old.lists.now ≤ self.new.current }
-    {
-        if self.is_unseen(top) {
-            self.see(top);
-            self.search_on();
-        }
-    }
-
     /// Goes on until all vertices were seen and none is open.
     #[inline(always)]
     pub(crate) fn finish(&mut self)
@@ -215,11 +191,15 @@ impl<'a> Search<'a> {
         ensures lows { AreLows self.old.lists.now self.new.number.items self.new.last.items self.new.low.items }
     {
         self.search_on();
-        if self.has_seen_all() {
+        if self.lists.len() <= usize::from(self.count) {
             return;
         }
         for v in 0..self.lists.len() {
-            self.search_from(v as u16);
+            if !self.is_unseen(v as u16) {
+                continue;
+            }
+            self.see(v as u16);
+            self.search_on();
         }
     }
 

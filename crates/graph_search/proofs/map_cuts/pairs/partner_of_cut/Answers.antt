@@ -1,20 +1,49 @@
-use Rattle.std.proofs.Common.{subst, inl, inr, arith}
+use Rattle.std.proofs.Common.{◌<◌, ◌≤◌, ℕ, false, length, MatchBool, subst, inl, inr, arith}
 use Rattle.std.proofs.lemmas.Bool.{cases_eq, cases_lt}
+use Rattle.std.proofs.lemmas.List.{get_or_read}
+use Rattle.map_lists.specs.Lists.{Lists}
 use Rattle.graph_search.specs.Cuts.{IsSeparatingPair}
+use Rattle.graph_search.proofs.PairLemmas.{IsAdjacency-without}
+use Rattle.graph_search.proofs.PartnerLemmas.{cut_partners, is_partner}
 use Rattle.graph_search.proofs.map_cuts.pairs.partner_of_cut.Goals as goal
 
-pub returns-then-branch : goal.returns-then-branch
-returns-then-branch c =
-    let pair = rw c.if-branch.true at c.in_ok-is_partner_of_cut.ensures in (
-      pair,
-      λ w other. elim (cases_lt w c.loop-v.v) [ inl less ↦ absurd (c.loop-v.invariant w less other) | inr le ↦ le ],
-    )
+-- a partner of u is the least, where no vertex before it is one
+least : (lists : Lists) (u v : ℕ) → ((w : ℕ) → w < v → ¬ IsSeparatingPair lists u w) → IsSeparatingPair lists u v → IsSeparatingPair lists u v × ((w : ℕ) → IsSeparatingPair lists u w → v ≤ w)
+least lists u v before pair = (pair, λ w other. elim (cases_lt w v) [ inl less ↦ absurd (before w less other) | inr le ↦ le ])
+
+pub cut_flags-requires : goal.cut_flags-requires
+cut_flags-requires c = record { adjacency = IsAdjacency-without c.args.lists.now c.in_ok-rest.rest c.loop-v.v c.in_ok-rest.ensures c.requires.adjacency }
+
+pub returns-then-flags-v : goal.returns-then-flags-v
+returns-then-flags-v c =
+    let r = c.requires in
+    least c.args.lists.now c.args.u c.loop-v.v c.loop-v.invariant (cut_partners c.args.lists.now r.adjacency c.args.flags.now r.flags c.args.u c.loop-v.v (omega (arith, c.loop-v.auto.v)) (omega (arith, c.loop-v-test.true, c.len-v-end.ensures.is)) r.cut c.if-flags-v.true)
+
+pub returns-then-index : goal.returns-then-index
+returns-then-index c =
+    let lists = c.args.lists.now in
+    let r = c.requires in
+    let v = c.loop-v.v in
+    let order : c.args.u < v = omega (arith, c.loop-v.auto.v) in
+    let vertex : v < length lists = omega (arith, c.loop-v-test.true, c.len-v-end.ensures.is) in
+    let read = get_or_read c.in_ok-cuts.cuts.items c.args.u c.index.result.now (omega (arith, order, vertex, c.in_ok-cuts.ensures.count, c.in_ok-rest.ensures.count)) c.index.ensures false in
+    let told : MatchBool c.index.result.now (IsSeparatingPair lists c.args.u v) (¬ IsSeparatingPair lists c.args.u v) =
+    rw read (is_partner lists r.adjacency c.args.flags.now r.flags c.in_ok-rest.rest c.in_ok-cuts.cuts.items c.in_ok-cuts.ensures c.args.u v c.in_ok-rest.ensures order vertex c.if-flags-v.false) in
+    least lists c.args.u v c.loop-v.invariant (rw c.if-index.true at told)
 
 pub loop-v-preserved : goal.loop-v-preserved
 loop-v-preserved c = λ w below pair.
-    let none = rw c.if-branch.false at c.in_ok-is_partner_of_cut.ensures in
-    elim (cases_eq w c.loop-v.v) [
-      | inl e ↦ none (subst (λ x. IsSeparatingPair c.args.lists.now c.args.u x) e pair)
+    let lists = c.args.lists.now in
+    let r = c.requires in
+    let v = c.loop-v.v in
+    let order : c.args.u < v = omega (arith, c.loop-v.auto.v) in
+    let vertex : v < length lists = omega (arith, c.loop-v-test.true, c.len-v-end.ensures.is) in
+    let read = get_or_read c.in_ok-cuts.cuts.items c.args.u c.index.result.now (omega (arith, order, vertex, c.in_ok-cuts.ensures.count, c.in_ok-rest.ensures.count)) c.index.ensures false in
+    let told : MatchBool c.index.result.now (IsSeparatingPair lists c.args.u v) (¬ IsSeparatingPair lists c.args.u v) =
+    rw read (is_partner lists r.adjacency c.args.flags.now r.flags c.in_ok-rest.rest c.in_ok-cuts.cuts.items c.in_ok-cuts.ensures c.args.u v c.in_ok-rest.ensures order vertex c.if-flags-v.false) in
+    let none = rw c.if-index.false at told in
+    elim (cases_eq w v) [
+      | inl e ↦ none (subst (λ x. IsSeparatingPair lists c.args.u x) e pair)
       | inr ne ↦ c.loop-v.invariant w (omega arith) pair
     ]
 

@@ -2,7 +2,7 @@ use Rattle.std.proofs.Common.{subst, inl, inr, arith}
 use Rattle.std.proofs.lemmas.Bool.{cases_eq}
 use Rattle.graph_search.specs.Cuts.{IsSeparatingPair}
 use Rattle.graph_search.proofs.PartnerLemmas.{least_pair}
-use Rattle.graph_search.proofs.map_cuts.pairs.first_pair.Goals as goal
+use Rattle.graph_search.proofs.map_cuts.pairs.list_separating_pair.Goals as goal
 
 pub returns-in-Some : goal.returns-in-Some
 returns-in-Some c =
