@@ -1,7 +1,7 @@
 //! The outer face, and the rectangles of its vertices.
 ghost use Rattle.std.specs.Prelude.{◌≡◌, ◌<◌, ◌↔◌, length, IsTrue, Some, MatchOption};
 ghost use Rattle.half_edges.specs.Map.{IsHalfMap, dart_at, first_dart};
-ghost use Rattle.rect_check.specs.Duals.{HasFrame, IsWide as IsAsWide, IsTop, IsBottom, IsLeftmost, IsRightmost, IsFramed};
+ghost use Rattle.rect_check.specs.Duals.{HasFrame, IsWide as IsAsWide, IsLeftmost, IsRightmost, IsFramed};
 ghost use Rattle.rect_check.specs.Faults.{IsFirstUnframed};
 ghost use Rattle.rect_check.specs.Loops.{AreFour, IsRoundOfFour, IsFrame};
 
@@ -61,20 +61,6 @@ fn is_wide(fig: &RectFigure, v: VertexId) -> bool
     number(&fig.x1, v) == 0 && number(&fig.x2, v) == greatest(&fig.x2)
 }
 
-// Says whether it reaches along the top.
-fn is_top(fig: &RectFigure, v: VertexId) -> bool
-    ensures { IsTrue result ↔ IsTop fig.now v.0 }
-{
-    is_wide(fig, v) && number(&fig.y2, v) == greatest(&fig.y2)
-}
-
-// Says whether it reaches along the bottom.
-fn is_bottom(fig: &RectFigure, v: VertexId) -> bool
-    ensures { IsTrue result ↔ IsBottom fig.now v.0 }
-{
-    is_wide(fig, v) && number(&fig.y1, v) == 0
-}
-
 // Returns the first vertex of the frame that is not at its end.
 pub(crate) fn first_unframed(fig: &RectFigure, frame: OuterFour) -> Option<VertexId>
     ensures { MatchOption result (IsFramed fig.now 0 frame.top.0 frame.right.0 frame.bottom.0)
@@ -83,15 +69,14 @@ pub(crate) fn first_unframed(fig: &RectFigure, frame: OuterFour) -> Option<Verte
     if number(&fig.x1, VertexId(0)) != 0 {
         return Some(VertexId(0));
     }
-    if !is_top(fig, frame.top) {
+    if !is_wide(fig, frame.top) || number(&fig.y2, frame.top) != greatest(&fig.y2) {
         return Some(frame.top);
     }
     if number(&fig.x2, frame.right) != greatest(&fig.x2) {
         return Some(frame.right);
     }
-    if is_bottom(fig, frame.bottom) {
-        None
-    } else {
-        Some(frame.bottom)
+    if !is_wide(fig, frame.bottom) || number(&fig.y1, frame.bottom) != 0 {
+        return Some(frame.bottom);
     }
+    None
 }

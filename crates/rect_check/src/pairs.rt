@@ -1,5 +1,5 @@
 //! The search for the least two rectangles with a fault, over the pairs of those with a mark.
-ghost use Rattle.std.specs.Prelude.{◌≡◌, ◌<◌, ◌↔◌, ℕ, length, IsTrue, MatchOption};
+ghost use Rattle.std.specs.Prelude.{◌≡◌, ◌<◌, ◌↔◌, ℕ, length, MatchOption};
 ghost use Rattle.map_theory.specs.Maps.{HasDart};
 ghost use Rattle.vertex_rounds.specs.Least.{IsLeast, IsLeastPair};
 ghost use Rattle.rect_check.specs.Duals.{ShareSide};
@@ -13,54 +13,26 @@ use crate::sides::{are_adjacent, do_meet, share_side};
 use half_edges::VertexId;
 
 impl Rects<'_> {
-    // Returns the least vertex after `u` whose rectangle meets that of `u`, where each vertex has a mark whose rectangle
-    // meets that of a greater one.
-    fn first_meet_at(&self, marks: &[bool], u: VertexId) -> Option<VertexId>
-        requires vertex { u.0 < length self.now.map.now.lists }
-        requires marks { length marks.now ≡ length self.now.map.now.lists }
-        requires marked { MeetsAreMarked self.now.map.now.lists self.now.fig.now marks.now }
-        ensures { MatchOption result ((v : ℕ) → ¬ RectsMeet self.now.map.now.lists self.now.fig.now u.0 v)
-            (λ v. IsLeast (RectsMeet self.now.map.now.lists self.now.fig.now u.0) v.0) }
-    {
-        if !marks[u.0 as usize] {
-            return None;
-        }
-        self.map.facts();
-        for v in u.0 + 1..self.map.n() {
-            if do_meet(self.fig, u, VertexId(v)) {
-                return Some(VertexId(v));
-            }
-        }
-        None
-    }
-
-    // Returns the least two rectangles that meet. Only of a vertex with a mark all pairs are tried.
+    // Returns the least two rectangles that meet, where each vertex has a mark whose rectangle meets that of a greater
+    // one. Only of a vertex with a mark all pairs are tried.
     pub(crate) fn first_marked_meet(&self, marks: &[bool]) -> Option<(VertexId, VertexId)>
         requires marks { length marks.now ≡ length self.now.map.now.lists }
         requires marked { MeetsAreMarked self.now.map.now.lists self.now.fig.now marks.now }
         ensures { MatchOption result (NoneMeet self.now.map.now.lists self.now.fig.now)
             (λ p. IsLeastPair (RectsMeet self.now.map.now.lists self.now.fig.now) p.0.0 p.1.0) }
     {
+        self.map.facts();
         for u in 0..self.map.n() {
-            if let Some(v) = self.first_meet_at(marks, VertexId(u)) {
-                return Some((VertexId(u), v));
+            if !marks[u as usize] {
+                continue;
+            }
+            for v in u + 1..self.map.n() {
+                if do_meet(self.fig, VertexId(u), VertexId(v)) {
+                    return Some((VertexId(u), VertexId(v)));
+                }
             }
         }
         None
-    }
-
-    // Says whether two vertices are adjacent exactly where their rectangles share a side.
-    fn is_right(&self, u: VertexId, v: VertexId) -> bool
-        requires u { u.0 < length self.now.map.now.lists }
-        requires v { v.0 < length self.now.map.now.lists }
-        ensures { IsTrue result ↔ (ShareSide self.now.fig.now u.0 v.0 ↔ HasDart self.now.map.now.lists u.0 v.0) }
-    {
-        let adjacent = are_adjacent(self.map, u, v);
-        if share_side(self.fig, u, v) {
-            adjacent
-        } else {
-            !adjacent
-        }
     }
 
     // Returns the least vertex after `u` with a wrong contact, where a vertex without a mark is adjacent to those that
@@ -77,8 +49,9 @@ impl Rects<'_> {
         }
         self.map.facts();
         for v in u.0 + 1..self.map.n() {
-            if !self.is_right(u, VertexId(v)) {
-                return Some(VertexId(v));
+            let v = VertexId(v);
+            if share_side(self.fig, u, v) != are_adjacent(self.map, u, v) {
+                return Some(v);
             }
         }
         None
