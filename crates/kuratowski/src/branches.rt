@@ -7,27 +7,19 @@ ghost use Rattle.kuratowski.specs.Verdicts.{NoBadBranch, IsLeast};
 use crate::shape::vertex_at;
 use map_lists::VertexList;
 
-/// The first branch that is no vertex below `n`, or an earlier branch.
+/// Finds the first branch that is no vertex below `n`, or an earlier branch.
 pub fn bad_branch(n: u16, branch: &VertexList) -> Option<usize>
     ensures { MatchOption result (NoBadBranch n branch.now) (IsLeast (IsBadBranch n branch.now)) }
 {
     for i in 0..branch.len() {
-        if is_bad(n, branch, i) {
+        if n <= vertex_at(branch, i) || stands_before(branch, i) {
             return Some(i);
         }
     }
     None
 }
 
-// Whether branch `i` is.
-fn is_bad(n: u16, branch: &VertexList, i: usize) -> bool
-    requires { i < length branch.now }
-    ensures { IsTrue result ↔ ((n ≤ vertex_of branch.now i) ⊎ StandsBefore branch.now i) }
-{
-    n <= vertex_at(branch, i) || stands_before(branch, i)
-}
-
-// Whether branch `i` stands at an earlier place too.
+// Says whether branch `i` stands at an earlier place too.
 fn stands_before(branch: &VertexList, i: usize) -> bool
     requires { i < length branch.now }
     ensures { IsTrue result ↔ StandsBefore branch.now i }
@@ -41,7 +33,7 @@ fn stands_before(branch: &VertexList, i: usize) -> bool
     false
 }
 
-/// Whether a vertex stands in a list.
+/// Says whether a vertex stands in a list.
 pub fn stands(list: &VertexList, vertex: u16) -> bool
     ensures { IsTrue result ↔ Stands list.now vertex }
 {

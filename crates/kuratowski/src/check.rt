@@ -1,7 +1,7 @@
 //! The check of a witness.
 ghost use Rattle.std.specs.Prelude.{◌≡◌, ◌↔◌, IsTrue};
 ghost use Rattle.kuratowski.specs.Witnesses.{IsShape, IsWitness};
-ghost use Rattle.kuratowski.specs.Verdicts.{IsVerdict, NoBadBranch, LacksNone};
+ghost use Rattle.kuratowski.specs.Verdicts.{IsVerdict, NoBadBranch};
 
 use crate::Witness;
 use crate::branches::bad_branch;
@@ -11,7 +11,7 @@ use crate::steps::missing_edge;
 use graph6_text::Graph;
 use map_lists::VertexId;
 
-/// The verdict on a witness. Places and paths are counted from 1; what is named is the first of its kind.
+/// Tells whether a witness is one, or what is wrong. Places and paths are counted from 1; what is named is the first of its kind.
 #[derive(Clone, Copy, PartialEq, Eq)]
 pub enum WitnessVerdict {
     /// There are not as many branches and paths as the kind has, or a path does not join its pair.
@@ -28,7 +28,7 @@ pub enum WitnessVerdict {
 }
 
 impl WitnessVerdict {
-    /// Whether it is a witness.
+    /// Says whether it is a witness.
     pub fn is_yes(self) -> bool
         ensures { IsTrue result ↔ (self ≡ WitnessVerdict.Yes) }
     {
@@ -39,7 +39,7 @@ impl WitnessVerdict {
     }
 }
 
-/// The verdict on a witness for a graph. It takes no memory.
+/// Returns the verdict on a witness for a graph. It takes no memory.
 pub fn check_witness(graph: &Graph, witness: &Witness) -> WitnessVerdict
     ensures verdict { IsVerdict graph.now witness.now.kind witness.now.branch witness.now.paths result }
     ensures yes { (result ≡ WitnessVerdict.Yes) ↔ IsWitness graph.now witness.now.kind witness.now.branch witness.now.paths }
@@ -53,25 +53,15 @@ pub fn check_witness(graph: &Graph, witness: &Witness) -> WitnessVerdict
     }
 }
 
-// The verdict where shape and branches are right.
+// Returns the verdict where shape and branches are right.
 fn path_verdict(graph: &Graph, witness: &Witness) -> WitnessVerdict
     requires shape { IsShape witness.now.kind witness.now.branch witness.now.paths }
     requires branches { NoBadBranch graph.now.n witness.now.branch }
     ensures { IsVerdict graph.now witness.now.kind witness.now.branch witness.now.paths result }
 {
-    match missing_edge(graph, &witness.paths) {
-        Some((p, i)) => WitnessVerdict::NotEdge(p + 1, i + 1),
-        None => inner_verdict(graph, witness),
+    if let Some((p, i)) = missing_edge(graph, &witness.paths) {
+        return WitnessVerdict::NotEdge(p + 1, i + 1);
     }
-}
-
-// The verdict where only the inner vertices may be wrong.
-fn inner_verdict(graph: &Graph, witness: &Witness) -> WitnessVerdict
-    requires shape { IsShape witness.now.kind witness.now.branch witness.now.paths }
-    requires branches { NoBadBranch graph.now.n witness.now.branch }
-    requires edges { LacksNone graph.now witness.now.paths }
-    ensures { IsVerdict graph.now witness.now.kind witness.now.branch witness.now.paths result }
-{
     match shared(&witness.branch, &witness.paths) {
         Some(s) => WitnessVerdict::Shared(s.first + 1, s.second + 1, VertexId(s.vertex)),
         None => WitnessVerdict::Yes,

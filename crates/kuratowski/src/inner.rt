@@ -19,7 +19,7 @@ pub struct SharedVertex {
     pub vertex: u16,
 }
 
-/// The first path, then the first other one or itself, and then the least vertex, that is wrong.
+/// Finds the first path, then the first other one or itself, and then the least vertex, that is wrong.
 pub fn shared(branch: &VertexList, paths: &PathList) -> Option<SharedVertex>
     requires { (p : ℕ) → p < length paths.now → 2 ≤ length (path_at paths.now p) }
     ensures { MatchOption result ((p q v : ℕ) → ¬ IsShared branch.now paths.now p q v) (λ s. IsLeastTriple (IsShared branch.now paths.now) s.first s.second s.vertex) }
@@ -39,41 +39,30 @@ pub fn shared(branch: &VertexList, paths: &PathList) -> Option<SharedVertex>
     None
 }
 
-// Returns the first other path or itself, and the least vertex, that is wrong for path number `p`.
+// Returns the first other path or itself, and the least vertex, that is wrong for path number `p`. A path of one edge has
+// no inner vertex to share.
 fn shared_by(branch: &VertexList, paths: &PathList, p: usize) -> Option<(usize, u16)>
     requires path { p < length paths.now }
     requires long { (p : ℕ) → p < length paths.now → 2 ≤ length (path_at paths.now p) }
     ensures { MatchOption result ((q v : ℕ) → ¬ IsShared branch.now paths.now p q v) (λ r. IsLeastPair (IsShared branch.now paths.now p) r.0 r.1) }
 {
-    match wrong_inner(branch, paths.list(p)) {
-        Some(vertex) => Some((p, vertex)),
-        None => shared_with_later(branch, paths, p),
-    }
-}
-
-// Returns the first later path and the least vertex that it shares with path number `p`, which is right by itself. A path
-// of one edge has no inner vertex to share.
-fn shared_with_later(branch: &VertexList, paths: &PathList, p: usize) -> Option<(usize, u16)>
-    requires path { p < length paths.now }
-    requires long { (p : ℕ) → p < length paths.now → 2 ≤ length (path_at paths.now p) }
-    requires right { (v : ℕ) → ¬ IsShared branch.now paths.now p p v }
-    ensures { MatchOption result ((q v : ℕ) → ¬ IsShared branch.now paths.now p q v) (λ r. IsLeastPair (IsShared branch.now paths.now p) r.0 r.1) }
-{
     let path = paths.list(p);
+    if let Some(vertex) = wrong_inner(branch, path) {
+        return Some((p, vertex));
+    }
     if path.len() == 2 {
         return None;
     }
     let count = paths.len();
     for q in p + 1..count {
-        match common_inner(path, paths.list(q)) {
-            Some(vertex) => return Some((q, vertex)),
-            None => {}
+        if let Some(vertex) = common_inner(path, paths.list(q)) {
+            return Some((q, vertex));
         }
     }
     None
 }
 
-// The least inner vertex that is a branch or stands twice.
+// Finds the least inner vertex that is a branch or stands twice.
 fn wrong_inner(branch: &VertexList, path: &[VertexId]) -> Option<u16>
     requires { 2 ≤ length path.now }
     ensures { IsLeastInner path.now (λ v. Stands branch.now v ⊎ StandsTwice path.now v) (length path.now - 1) result }
@@ -87,7 +76,7 @@ fn wrong_inner(branch: &VertexList, path: &[VertexId]) -> Option<u16>
     least
 }
 
-// The least vertex that is inner in two paths.
+// Finds the least vertex that is inner in two paths.
 fn common_inner(path: &[VertexId], other: &[VertexId]) -> Option<u16>
     requires path { 2 ≤ length path.now }
     requires other { 2 ≤ length other.now }
@@ -102,12 +91,20 @@ fn common_inner(path: &[VertexId], other: &[VertexId]) -> Option<u16>
     least
 }
 
-// Whether the vertex at a place is a branch or stands twice.
+// Says whether the vertex at place `i` is a branch or stands at another place too.
 fn is_wrong(branch: &VertexList, path: &[VertexId], i: usize) -> bool
     requires { i < length path.now }
     ensures { IsTrue result ↔ (Stands branch.now (vertex_of path.now i) ⊎ StandsTwice path.now (vertex_of path.now i)) }
 {
-    stands(branch, path[i].0) || stands_elsewhere(path, i)
+    if stands(branch, path[i].0) {
+        return true;
+    }
+    for j in 0..path.len() {
+        if j != i && path[j].0 == path[i].0 {
+            return true;
+        }
+    }
+    false
 }
 
 // Tells whether `vertex` is below the least so far, or there is none yet: no other one can become the least, and
@@ -121,26 +118,13 @@ fn is_below(vertex: u16, least: Option<u16>) -> bool
     }
 }
 
-// Whether a vertex is inner in a path.
+// Says whether a vertex is inner in a path.
 fn is_inner(path: &[VertexId], vertex: u16) -> bool
     requires { 2 ≤ length path.now }
     ensures { IsTrue result ↔ IsInner path.now vertex }
 {
     for i in 1..path.len() - 1 {
         if path[i].0 == vertex {
-            return true;
-        }
-    }
-    false
-}
-
-// Whether the vertex at a place stands at another place too.
-fn stands_elsewhere(path: &[VertexId], place: usize) -> bool
-    requires { place < length path.now }
-    ensures { IsTrue result ↔ StandsTwice path.now (vertex_of path.now place) }
-{
-    for j in 0..path.len() {
-        if j != place && path[j].0 == path[place].0 {
             return true;
         }
     }

@@ -5,21 +5,16 @@ ghost use Rattle.kuratowski.specs.Witnesses.{branch_count as branches_of, pairs_
 use crate::Kind;
 use map_lists::{PathList, VertexId, VertexList};
 
-/// Whether there are as many branches and paths as the kind has, and each path joins its pair.
+/// Says whether there are as many branches and paths as the kind has, and each path joins its pair.
 pub fn has_shape(kind: Kind, branch: &VertexList, paths: &PathList) -> bool
     ensures { IsTrue result ↔ IsShape kind branch.now paths.now }
 {
-    branch.len() == kind.branch_count()
-        && paths.len() == kind.path_count()
-        && all_join(kind, branch, paths)
-}
-
-// Whether each path joins its pair.
-fn all_join(kind: Kind, branch: &VertexList, paths: &PathList) -> bool
-    requires branches { length branch.now ≡ branches_of kind }
-    requires paths { length paths.now ≡ length (pairs_of kind) }
-    ensures { IsTrue result ↔ ((p : ℕ) → p < length paths.now → Joins branch.now (path_at paths.now p) (pair_of kind p)) }
-{
+    if branch.len() != kind.branch_count() {
+        return false;
+    }
+    if paths.len() != kind.path_count() {
+        return false;
+    }
     for p in 0..paths.len() {
         if !joins(kind, branch, paths.list(p), p) {
             return false;
@@ -28,25 +23,19 @@ fn all_join(kind: Kind, branch: &VertexList, paths: &PathList) -> bool
     true
 }
 
-// Whether a path joins the pair of path number `p`.
+// Says whether a path joins the pair of path number `p`.
 fn joins(kind: Kind, branch: &VertexList, path: &[VertexId], p: usize) -> bool
     requires branches { length branch.now ≡ branches_of kind }
     requires path { p < length (pairs_of kind) }
     ensures { IsTrue result ↔ Joins branch.now path.now (pair_of kind p) }
 {
     let (a, b) = kind.pair_at(p);
-    path.len() >= 2 && has_ends(path, vertex_at(branch, a), vertex_at(branch, b))
+    path.len() >= 2
+        && path[0].0 == vertex_at(branch, a)
+        && path[path.len() - 1].0 == vertex_at(branch, b)
 }
 
-// Whether a path runs from one vertex to another.
-fn has_ends(path: &[VertexId], start: u16, end: u16) -> bool
-    requires { 2 ≤ length path.now }
-    ensures { IsTrue result ↔ ((vertex_of path.now 0 ≡ start) × (vertex_of path.now (length path.now - 1) ≡ end)) }
-{
-    path[0].0 == start && path[path.len() - 1].0 == end
-}
-
-/// The vertex at a place of a list.
+/// Returns the vertex at a place of a list.
 pub fn vertex_at(list: &VertexList, i: usize) -> u16
     requires { i < length list.now }
     ensures { result ≡ vertex_of list.now i }

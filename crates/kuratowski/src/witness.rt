@@ -1,7 +1,6 @@
 //! Witnesses.
 ghost use Rattle.std.specs.Prelude.{◌≡◌, ◌<◌, length};
 ghost use Rattle.kuratowski.specs.Witnesses.{branch_count as branches_of, pairs_of, pair_at as pair_of};
-ghost use Rattle.kuratowski.specs.declared.witness.Kind.TheVariants.{K5};
 
 use map_lists::{PathList, VertexList};
 
@@ -15,7 +14,7 @@ pub enum Kind {
 }
 
 impl Kind {
-    /// How many branches there are.
+    /// Counts the branches.
     pub fn branch_count(self) -> usize
         ensures { result ≡ branches_of self }
     {
@@ -25,7 +24,7 @@ impl Kind {
         }
     }
 
-    /// How many paths there are.
+    /// Counts the paths.
     pub fn path_count(self) -> usize
         ensures { result ≡ length (pairs_of self) }
     {
@@ -35,7 +34,7 @@ impl Kind {
         }
     }
 
-    /// The places of the two branches that path number `p`, counted from 0, joins.
+    /// Returns the places of the two branches that path number `p`, counted from 0, joins.
     // Inlined into a loop over `p` it makes the kit's clang crash.
     #[inline(never)]
     pub fn pair_at(self, p: usize) -> (usize, usize)
@@ -45,27 +44,19 @@ impl Kind {
         ensures second { result.1 < branches_of self }
     {
         match self {
-            Kind::K5 => pair_of_five(p),
+            Kind::K5 => {
+                if p < 4 {
+                    (0, p + 1)
+                } else if p < 7 {
+                    (1, p - 2)
+                } else if p < 9 {
+                    (2, p - 4)
+                } else {
+                    (3, 4)
+                }
+            }
             Kind::K33 => (p / 3, 3 + p % 3),
         }
-    }
-}
-
-// The places of the two of five branches that path number `p` joins.
-fn pair_of_five(p: usize) -> (usize, usize)
-    requires { p < 10 }
-    ensures pair { result ≡ pair_of K5 p }
-    ensures first { result.0 < 5 }
-    ensures second { result.1 < 5 }
-{
-    if p < 4 {
-        (0, p + 1)
-    } else if p < 7 {
-        (1, p - 2)
-    } else if p < 9 {
-        (2, p - 4)
-    } else {
-        (3, 4)
     }
 }
 
