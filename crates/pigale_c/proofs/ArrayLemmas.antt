@@ -1,11 +1,13 @@
 -- Maps and points as arrays.
-use Rattle.std.proofs.Common.{◌≡◌, ◌+◌, ◌<◌, ℕ, suc, List, [], ◌∷◌, ◌++◌, ℤ, pos, length, take, get_or, refl, ap, ap₂, sym, ◌∙◌, arith, length-take}
+use Rattle.std.proofs.Common.{◌≡◌, ◌+◌, ◌<◌, ◌≤◌, ℕ, zero, suc, List, [], ◌∷◌, ◌++◌, ℤ, pos, length, take, get_or, refl, ap, ap₂, sym, subst, ◌∙◌, below_more, arith, length-take}
 use Rattle.std.proofs.Math.ListN.{set}
-use Rattle.std.proofs.lemmas.List.{take_more, take_more_set}
+use Rattle.std.proofs.lemmas.List.{take_more, take_more_set, take_all}
 use Rattle.map_lists.specs.Cuts.{AreCuts}
 use Rattle.pg_plane.specs.declared.point.Point.{Point}
 use Rattle.map_lists.proofs.CutLemmas.{length-cut}
-use Rattle.pigale_c.specs.Arrays.{lists_in, points_in}
+use Rattle.pg_plane.specs.Range.{IsInRange}
+use Rattle.plane_drawings.specs.Drawing.{place}
+use Rattle.pigale_c.specs.Arrays.{lists_in, points_in, AllInRange, ArePlaces}
 
 -- the ends are right exactly where those that are left are, the lists of which begin at `from`
 pub record SameCuts (ends : List ℕ) (total from : ℕ) (left : List ℕ) : Type 0 where
@@ -46,3 +48,39 @@ pub length-points_in : (xs ys : List ℤ) → length xs ≡ length ys → length
 length-points_in [] ys same = refl
 length-points_in (x ∷ xs) [] same = sym same
 length-points_in (x ∷ xs) (y ∷ ys) same = ap suc (length-points_in xs ys (omega (arith, same)))
+
+-- the place of a vertex by its coordinates
+abbrev pub point_at : List ℤ → List ℤ → ℕ → Point
+point_at xs ys k = record { x = get_or xs k (pos 0); y = get_or ys k (pos 0) }
+
+place-points_in : (xs ys : List ℤ) (k : ℕ) → k < length xs → k < length ys → place (points_in xs ys) k ≡ point_at xs ys k
+place-points_in [] ys k x_in y_in = let f : ⊥ = omega (arith, x_in) in absurd f
+place-points_in (x ∷ xs) [] k x_in y_in = let f : ⊥ = omega (arith, y_in) in absurd f
+place-points_in (x ∷ xs) (y ∷ ys) zero x_in y_in = refl
+place-points_in (x ∷ xs) (y ∷ ys) (suc k) x_in y_in = place-points_in xs ys k (omega (arith, x_in)) (omega (arith, y_in))
+
+-- the points of the first k coordinates of each kind, all in range
+pub record AreMade (xs ys : List ℤ) (k : ℕ) (points : List Point) : Type 0 where
+  pub made : points ≡ points_in (take k xs) (take k ys)
+  pub in_range : (v : ℕ) → v < k → IsInRange (place (points_in xs ys) v)
+
+pub AreMade-more : (xs ys : List ℤ) (k : ℕ) (points : List Point) → k < length xs → k < length ys → IsInRange (point_at xs ys k) → AreMade xs ys k points → AreMade xs ys (k + 1) (points ++ point_at xs ys k ∷ [])
+AreMade-more xs ys k points x_in y_in within h = record {
+  made = ap (λ ps. ps ++ point_at xs ys k ∷ []) h.made ∙ sym (points_in-take xs ys k x_in y_in);
+  in_range = below_more (λ v. IsInRange (place (points_in xs ys) v)) k h.in_range (subst IsInRange (sym (place-points_in xs ys k x_in y_in)) within);
+}
+
+pub AreMade-done : (xs ys : List ℤ) (n k : ℕ) (points : List Point) → length xs ≡ n → length ys ≡ n → n ≤ k → AreMade xs ys k points → (points ≡ points_in xs ys) × ArePlaces n xs ys × (length points ≡ n) × AllInRange points
+AreMade-done xs ys n k points x_long y_long all_made h =
+    let is : points ≡ points_in xs ys = h.made ∙ ap₂ points_in (take_all k xs (omega (arith, x_long, all_made))) (take_all k ys (omega (arith, y_long, all_made))) in
+    let count : length (points_in xs ys) ≡ n = length-points_in xs ys (omega (arith, x_long, y_long)) ∙ x_long in
+    let all : AllInRange (points_in xs ys) = λ v v_in. h.in_range v (omega (arith, count, v_in, all_made)) in
+    (is, record { x = x_long; y = y_long; in_range = all }, ap length is ∙ count, subst AllInRange (sym is) all)
+
+-- a point out of range
+pub not_places : (xs ys : List ℤ) (n k : ℕ) → k < n → ¬ IsInRange (point_at xs ys k) → ¬ ArePlaces n xs ys
+not_places xs ys n k k_in out places =
+    let x_long = places.x in
+    let y_long = places.y in
+    let count : length (points_in xs ys) ≡ length xs = length-points_in xs ys (omega (arith, x_long, y_long)) in
+    out (subst IsInRange (place-points_in xs ys k (omega (arith, x_long, k_in)) (omega (arith, y_long, k_in))) (places.in_range k (omega (arith, count, x_long, k_in))))

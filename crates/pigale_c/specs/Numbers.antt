@@ -1,5 +1,5 @@
 -- The status of an outcome, and the numbers beside it.
-use Rattle.std.specs.Prelude.{ℕ, ◌≡◌}
+use Rattle.std.specs.Prelude.{ℕ, ◌≡◌, Result, Ok, Err}
 use Rattle.refusals.specs.declared.refusal.Refusal.{Refusal}
 use Rattle.refusals.specs.declared.refusal.Refusal.TheVariants.{OutOfRange, Loop, Repeated, OneSided, Small, Genus, NotConnected, CutVertex, SeparatingPair, OuterNotQuad, NotTriangle, SeparatingTriangle, NoInner}
 use Rattle.draw_check.specs.declared.verdict.Verdict.{Verdict}
@@ -10,7 +10,6 @@ use Rattle.bar_check.specs.declared.verdict.BarVerdict.{BarVerdict}
 use Rattle.bar_check.specs.declared.verdict.BarVerdict.TheVariants.{BadShape, BadHeight, BadBar, BadColumn, Through, Overlap, Turned as TurnedBars, Yes as NoBarFault}
 use Rattle.rect_check.specs.declared.verdict.RectVerdict.{RectVerdict}
 use Rattle.rect_check.specs.declared.verdict.RectVerdict.TheVariants.{BadRect, Meet, Gap, Contact, NoFrame, Frame, Yes as NoRectFault}
-use Rattle.kuratowski.specs.declared.witness.Kind.{Kind}
 use Rattle.kuratowski.specs.declared.witness.Kind.TheVariants.{K5, K33}
 use Rattle.pigale_c.specs.declared.outcome.Failure.{Failure}
 use Rattle.pigale_c.specs.declared.outcome.Failure.TheVariants.{Refused, NoMemory, BadArgument}
@@ -107,6 +106,11 @@ answer_of (Bars verdict) = bars_answer_of verdict
 answer_of (Rects verdict) = rects_answer_of verdict
 answer_of (NotPlanar K5) = told 80 none
 answer_of (NotPlanar K33) = told 81 none
+
+-- the outcome of a call that has one, or failed
+abbrev pub outcome_of : Result Outcome Failure → Outcome
+outcome_of (Ok outcome) = outcome
+outcome_of (Err failure) = Failed failure
 
 -- a status and numbers are those of an outcome that is right
 pub record Reports (IsRight : Outcome → Type 0) (status : ℕ) (numbers : Numbers) : Type 0 where

@@ -1,5 +1,5 @@
-//! Maps and points from arrays.
-ghost use Rattle.std.specs.Prelude.{◌≡◌, ◌<◌, ◌↔◌, length, pos, IsTrue, IfOk, IfErr};
+//! Maps and points from arrays, and what is written into arrays.
+ghost use Rattle.std.specs.Prelude.{◌≡◌, ◌<◌, ◌↔◌, ◌++◌, length, take, drop, pos, IsTrue, IfOk, IfErr};
 ghost use Rattle.map_lists.specs.Cuts.{AreCuts};
 ghost use Rattle.pg_plane.specs.Range.{IsInRange, IsWithin};
 ghost use Rattle.pigale_c.specs.Arrays.{lists_in, points_in, IsGivenMap, AllInRange, ArePlaces};
@@ -8,7 +8,7 @@ ghost use Rattle.pigale_c.specs.Failures.{IsBadOnly};
 use crate::outcome::Failure;
 use map_lists::Rotations;
 use pg_plane::{Point, Points};
-use std::alloc::{AllocError, Global};
+use std::alloc::Global;
 
 /// The arrays of a map, as they are given: where the list of each vertex ends, and the neighbours.
 #[derive(Clone, Copy)]
@@ -18,7 +18,7 @@ pub(crate) struct MapArrays<'a> {
     pub(crate) neighbours: &'a [u16],
 }
 
-// Returns whether the ends do not fall and go to `total`.
+// Says whether the ends do not fall and go to `total`.
 fn are_cuts(ends: &[usize], total: usize) -> bool
     ensures { IsTrue result ↔ AreCuts 0 ends.now total }
 {
@@ -32,7 +32,7 @@ fn are_cuts(ends: &[usize], total: usize) -> bool
     from == total
 }
 
-// Returns whether two arrays are those of a map.
+// Says whether two arrays are those of a map.
 fn is_given_map(ends: &[usize], neighbours: &[u16]) -> bool
     ensures { IsTrue result ↔ IsGivenMap ends.now neighbours.now }
 {
@@ -60,42 +60,18 @@ pub(crate) fn lists_of(
     Ok(lists)
 }
 
-// Returns whether a coordinate is from -2^20 to 2^20.
+// Says whether a coordinate is from -2^20 to 2^20.
 fn is_coordinate(z: i32) -> bool
     ensures { IsTrue result ↔ IsWithin (pos 1048576) z }
 {
     -1048576 <= z && z <= 1048576
 }
 
-// Returns whether both coordinates of a point are in range.
+// Says whether both coordinates of a point are in range.
 fn is_in_range(p: Point) -> bool
     ensures { IsTrue result ↔ IsInRange p }
 {
     is_coordinate(p.x) && is_coordinate(p.y)
-}
-
-// Returns the points with these coordinates.
-fn made_points(alloc: Global, x: &[i32], y: &[i32]) -> Result<Points, AllocError>
-    requires { length x.now ≡ length y.now }
-    ensures { IfOk result (λ points. points ≡ points_in x.now y.now) }
-{
-    let mut points = Points::with_capacity(alloc, x.len())?;
-    for k in 0..x.len() {
-        points.push(Point { x: x[k], y: y[k] })?;
-    }
-    Ok(points)
-}
-
-// Returns whether all points are in range.
-fn are_in_range(points: &[Point]) -> bool
-    ensures { IsTrue result ↔ AllInRange points.now }
-{
-    for point in points {
-        if !is_in_range(*point) {
-            return false;
-        }
-    }
-    true
 }
 
 /// Returns the points of `n` vertices by two arrays.
@@ -109,12 +85,15 @@ pub(crate) fn points_of(alloc: Global, n: usize, x: &[i32], y: &[i32]) -> Result
     if x.len() != n || y.len() != n {
         return Err(Failure::BadArgument);
     }
-    let points = made_points(alloc, x, y)?;
-    if are_in_range(points.as_slice()) {
-        Ok(points)
-    } else {
-        Err(Failure::BadArgument)
+    let mut points = Points::with_capacity(alloc, n)?;
+    for k in 0..n {
+        let point = Point { x: x[k], y: y[k] };
+        if !is_in_range(point) {
+            return Err(Failure::BadArgument);
+        }
+        points.push(point)?;
     }
+    Ok(points)
 }
 
 /// Writes points into two arrays of coordinates.
@@ -128,4 +107,12 @@ pub(crate) fn put_points(points: &[Point], x: &mut [i32], y: &mut [i32])
         x[k] = point.x;
         y[k] = point.y;
     }
+}
+
+/// Writes over the front of an array, as much as there is room for.
+pub(crate) fn put_front<T: Copy>(from: &[T], to: &mut [T])
+    ensures { to.new ≡ take (length to.old) from.now ++ drop (length from.now) to.old }
+{
+    let count = to.len().min(from.len());
+    to[..count].copy_from_slice(&from[..count]);
 }

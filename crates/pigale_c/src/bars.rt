@@ -1,18 +1,15 @@
 //! Visibility drawings of maps, as bars and columns in arrays.
-ghost use Rattle.std.specs.Prelude.{◌≡◌, ◌↔◌, length, Some, None, IsTrue, IfOk, IfErr};
-ghost use Rattle.simple_maps.specs.Faults.{first_fault};
-ghost use Rattle.refusals.specs.Conditions.{fault_refusal};
+ghost use Rattle.std.specs.Prelude.{◌≡◌, ◌↔◌, length, IsTrue, IfOk, IfErr};
 ghost use Rattle.conn_parts.specs.BiconnectedMaps.{IsBiconnectedMap, BreaksFirst};
 ghost use Rattle.visibility.specs.Figures.{IsBarFigure};
-ghost use Rattle.bar_check.specs.Verdicts.{IsBarVerdict};
 ghost use Rattle.pigale_c.specs.Arrays.{lists_in};
 ghost use Rattle.pigale_c.specs.BarArrays.{bars_in, AreBarsFor, IsGivenBars, AreJudgedBars, HasBarRoom, AreDrawnBars};
 ghost use Rattle.pigale_c.specs.Failures.{Fails};
-ghost use Rattle.pigale_c.specs.Numbers.{Reports};
+ghost use Rattle.pigale_c.specs.Numbers.{Reports, outcome_of};
 
 use crate::arrays::{MapArrays, lists_of};
 use crate::outcome::{Failure, Numbers, Outcome, report};
-use bar_check::{BarVerdict, check_bars};
+use bar_check::check_bars;
 use half_edges::HalfMap;
 use pg_plane::{BarFigure, Ints};
 use std::alloc::{AllocError, Global};
@@ -27,39 +24,38 @@ struct BarArrays<'a> {
     column: &'a [i32],
 }
 
-// Returns the bars of four arrays.
-fn bars_of(alloc: Global, bars: &BarArrays<'_>) -> Result<BarFigure, AllocError>
-    ensures { IfOk result (λ fig. fig ≡ bars_in bars.now.y.now bars.now.x1.now bars.now.x2.now bars.now.column.now) }
-{
-    let y = Ints::from_vec(bars.y.to_vec(alloc)?);
-    let x1 = Ints::from_vec(bars.x1.to_vec(alloc)?);
-    let x2 = Ints::from_vec(bars.x2.to_vec(alloc)?);
-    let column = Ints::from_vec(bars.column.to_vec(alloc)?);
-    Ok(BarFigure { y, x1, x2, column })
+impl BarArrays<'_> {
+    // Returns the bars of the arrays.
+    fn figure(&self, alloc: Global) -> Result<BarFigure, AllocError>
+        ensures { IfOk result (λ fig. fig ≡ bars_in self.now.y.now self.now.x1.now self.now.x2.now self.now.column.now) }
+    {
+        let y = Ints::from_vec(self.y.to_vec(alloc)?);
+        let x1 = Ints::from_vec(self.x1.to_vec(alloc)?);
+        let x2 = Ints::from_vec(self.x2.to_vec(alloc)?);
+        let column = Ints::from_vec(self.column.to_vec(alloc)?);
+        Ok(BarFigure { y, x1, x2, column })
+    }
+
+    // Says whether there is a bar for each of `n` vertices.
+    fn are_for(&self, n: usize) -> bool
+        ensures { IsTrue result ↔ AreBarsFor n (bars_in self.now.y.now self.now.x1.now self.now.x2.now self.now.column.now) }
+    {
+        self.y.len() == n && self.x1.len() == n && self.x2.len() == n
+    }
 }
 
-// Returns whether there is a bar for each of `n` vertices.
-fn are_bars(fig: &BarFigure, n: usize) -> bool
-    ensures { IsTrue result ↔ AreBarsFor n fig.now }
+// Judges bars of a map within a width.
+fn judged(given: &MapArrays<'_>, bars: &BarArrays<'_>, width: i32) -> Result<Outcome, Failure>
+    ensures { AreJudgedBars given.now.ends.now given.now.neighbours.now (bars_in bars.now.y.now bars.now.x1.now bars.now.x2.now bars.now.column.now) width (outcome_of result) }
 {
-    fig.y.len() == n && fig.x1.len() == n && fig.x2.len() == n
-}
-
-// Returns the verdict on bars of a map within a width.
-fn judged(given: &MapArrays<'_>, fig: &BarFigure, width: i32) -> Result<BarVerdict, Failure>
-    ensures given { IfOk result (λ verdict. IsGivenBars given.now.ends.now given.now.neighbours.now fig.now) }
-    ensures simple { IfOk result (λ verdict. first_fault (lists_in given.now.ends.now given.now.neighbours.now) ≡ None) }
-    ensures verdict { IfOk result (IsBarVerdict (lists_in given.now.ends.now given.now.neighbours.now) fig.now width) }
-    ensures failed { IfErr result (Fails (IsGivenBars given.now.ends.now given.now.neighbours.now fig.now)
-        (λ refusal. fault_refusal (lists_in given.now.ends.now given.now.neighbours.now) ≡ Some refusal)) }
-{
-    if !are_bars(fig, given.ends.len()) {
+    if !bars.are_for(given.ends.len()) {
         return Err(Failure::BadArgument);
     }
     let lists = lists_of(given.alloc, given.ends, given.neighbours)?;
+    let fig = bars.figure(given.alloc)?;
     let map = HalfMap::from_rotations(given.alloc, &lists)?;
-    let verdict = check_bars(&map, fig, width);
-    Ok(verdict)
+    let verdict = check_bars(&map, &fig, width);
+    Ok(Outcome::Bars(verdict))
 }
 
 /// Judges a visibility drawing of a map within the width from 0 to `width`.
@@ -83,13 +79,7 @@ pub extern "C" fn pigale_check_bars(
         neighbours,
     };
     let bars = BarArrays { y, x1, x2, column };
-    match bars_of(alloc, &bars) {
-        Ok(fig) => match judged(&given, &fig, width) {
-            Ok(verdict) => report(Outcome::Bars(verdict), found),
-            Err(failure) => report(Outcome::Failed(failure), found),
-        },
-        Err(AllocError) => report(Outcome::Failed(Failure::NoMemory), found),
-    }
+    report(judged(&given, &bars, width), found)
 }
 
 // Returns the bars of a map, where there is room for them.
@@ -102,8 +92,7 @@ fn drawn(given: &MapArrays<'_>, bars: &BarArrays<'_>) -> Result<BarFigure, Failu
     ensures failed { IfErr result (Fails (HasBarRoom given.now.ends.now given.now.neighbours.now (bars_in bars.now.y.now bars.now.x1.now bars.now.x2.now bars.now.column.now))
         (BreaksFirst 3 (lists_in given.now.ends.now given.now.neighbours.now))) }
 {
-    let n = given.ends.len();
-    if bars.y.len() != n || bars.x1.len() != n || bars.x2.len() != n {
+    if !bars.are_for(given.ends.len()) {
         return Err(Failure::BadArgument);
     }
     let lists = lists_of(given.alloc, given.ends, given.neighbours)?;
@@ -112,20 +101,6 @@ fn drawn(given: &MapArrays<'_>, bars: &BarArrays<'_>) -> Result<BarFigure, Failu
     }
     let figure = bar_figure(given.alloc, &lists)?;
     Ok(figure)
-}
-
-// Writes bars into four arrays.
-fn put_bars(fig: &BarFigure, y: &mut [i32], x1: &mut [i32], x2: &mut [i32], column: &mut [i32])
-    requires y { length y.old ≡ length fig.now.y }
-    requires x1 { length x1.old ≡ length fig.now.x1 }
-    requires x2 { length x2.old ≡ length fig.now.x2 }
-    requires column { length column.old ≡ length fig.now.column }
-    ensures { bars_in y.new x1.new x2.new column.new ≡ fig.now }
-{
-    y.copy_from_slice(fig.y.as_slice());
-    x1.copy_from_slice(fig.x1.as_slice());
-    x2.copy_from_slice(fig.x2.as_slice());
-    column.copy_from_slice(fig.column.as_slice());
 }
 
 /// Draws a biconnected plane map by bars, over the width f - 1 for f faces.
@@ -150,9 +125,12 @@ pub extern "C" fn pigale_bars(
     let bars = BarArrays { y, x1, x2, column };
     match drawn(&given, &bars) {
         Ok(fig) => {
-            put_bars(&fig, y, x1, x2, column);
-            report(Outcome::Served, found)
+            y.copy_from_slice(fig.y.as_slice());
+            x1.copy_from_slice(fig.x1.as_slice());
+            x2.copy_from_slice(fig.x2.as_slice());
+            column.copy_from_slice(fig.column.as_slice());
+            report(Ok(Outcome::Served), found)
         }
-        Err(failure) => report(Outcome::Failed(failure), found),
+        Err(failure) => report(Err(failure), found),
     }
 }

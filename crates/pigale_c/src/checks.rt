@@ -3,11 +3,10 @@ ghost use Rattle.std.specs.Prelude.{◌≡◌, Some, None, IfOk, IfErr};
 ghost use Rattle.simple_maps.specs.Faults.{first_fault};
 ghost use Rattle.refusals.specs.Conditions.{fault_refusal};
 ghost use Rattle.draw_check.specs.Faults.{HasPlaces};
-ghost use Rattle.draw_check.specs.Verdicts.{IsVerdict};
 ghost use Rattle.pigale_c.specs.Arrays.{lists_in, points_in, IsGivenDrawing};
-ghost use Rattle.pigale_c.specs.Judged.{IsBendVerdict, IsJudged, IsShaped, IsJudgedConvex};
+ghost use Rattle.pigale_c.specs.Judged.{IsBendVerdict, IsJudged, IsJudgedConvex};
 ghost use Rattle.pigale_c.specs.Failures.{Fails};
-ghost use Rattle.pigale_c.specs.Numbers.{Reports};
+ghost use Rattle.pigale_c.specs.Numbers.{Reports, outcome_of};
 
 use crate::arrays::{MapArrays, lists_of, points_of};
 use crate::outcome::{Failure, Numbers, Outcome, report};
@@ -40,16 +39,13 @@ fn drawing_of(given: &MapArrays<'_>, x: &[i32], y: &[i32]) -> Result<Drawing, Fa
     Ok(Drawing { map, points })
 }
 
-// Returns the verdict on the drawing of arrays.
-fn judged(given: &MapArrays<'_>, x: &[i32], y: &[i32], corner: Point) -> Result<Verdict, Failure>
-    ensures verdict { IfOk result (λ verdict. IsGivenDrawing given.now.ends.now given.now.neighbours.now x.now y.now
-        × (first_fault (lists_in given.now.ends.now given.now.neighbours.now) ≡ None)
-        × IsVerdict (lists_in given.now.ends.now given.now.neighbours.now) (points_in x.now y.now) corner.x corner.y verdict) }
-    ensures failed { IfErr result (Fails (IsGivenDrawing given.now.ends.now given.now.neighbours.now x.now y.now)
-        (λ refusal. fault_refusal (lists_in given.now.ends.now given.now.neighbours.now) ≡ Some refusal)) }
+// Judges the drawing of arrays in the grid from (0, 0) to a corner.
+fn judged(given: &MapArrays<'_>, x: &[i32], y: &[i32], corner: Point) -> Result<Outcome, Failure>
+    ensures { IsJudged given.now.ends.now given.now.neighbours.now x.now y.now corner.x corner.y (outcome_of result) }
 {
     let drawing = drawing_of(given, x, y)?;
-    Ok(check_points(&drawing.map, &drawing.points, corner))
+    let verdict = check_points(&drawing.map, &drawing.points, corner);
+    Ok(Outcome::Drawing(verdict))
 }
 
 /// Judges a straight-line drawing of a map in the grid from (0, 0) to (`width`, `height`).
@@ -75,10 +71,7 @@ pub extern "C" fn pigale_check(
         ends,
         neighbours,
     };
-    match judged(&given, x, y, corner) {
-        Ok(verdict) => report(Outcome::Drawing(verdict), found),
-        Err(failure) => report(Outcome::Failed(failure), found),
-    }
+    report(judged(&given, x, y, corner), found)
 }
 
 // Returns the verdict on the bends of a drawing, over the first dart of vertex 0.
@@ -96,41 +89,23 @@ fn bends(alloc: Global, map: &HalfMap, points: &Points) -> Result<ConvexVerdict,
     }
 }
 
-// Returns the first fault of a drawing that is to be convex, or the verdict on its bends where it has none.
-fn shaped(
-    alloc: Global,
-    map: &HalfMap,
-    points: &Points,
-    corner: Point,
-) -> Result<Outcome, AllocError>
-    requires { HasPlaces map.now.lists points.now }
-    ensures { IfOk result (IsShaped map.now.lists points.now corner.x corner.y) }
-{
-    match check_points(map, points, corner) {
-        Verdict::Yes => {
-            let verdict = bends(alloc, map, points)?;
-            Ok(Outcome::Convex(verdict))
-        }
-        verdict => Ok(Outcome::Drawing(verdict)),
-    }
-}
-
-// Returns the outcome of the drawing of arrays that is to be convex.
+// Judges the drawing of arrays that is to be convex: it has a first fault, or a verdict on its bends.
 fn judged_convex(
     given: &MapArrays<'_>,
     x: &[i32],
     y: &[i32],
     corner: Point,
 ) -> Result<Outcome, Failure>
-    ensures given { IfOk result (λ outcome. IsGivenDrawing given.now.ends.now given.now.neighbours.now x.now y.now) }
-    ensures simple { IfOk result (λ outcome. first_fault (lists_in given.now.ends.now given.now.neighbours.now) ≡ None) }
-    ensures outcome { IfOk result (IsShaped (lists_in given.now.ends.now given.now.neighbours.now) (points_in x.now y.now) corner.x corner.y) }
-    ensures failed { IfErr result (Fails (IsGivenDrawing given.now.ends.now given.now.neighbours.now x.now y.now)
-        (λ refusal. fault_refusal (lists_in given.now.ends.now given.now.neighbours.now) ≡ Some refusal)) }
+    ensures { IsJudgedConvex given.now.ends.now given.now.neighbours.now x.now y.now corner.x corner.y (outcome_of result) }
 {
     let drawing = drawing_of(given, x, y)?;
-    let outcome = shaped(given.alloc, &drawing.map, &drawing.points, corner)?;
-    Ok(outcome)
+    match check_points(&drawing.map, &drawing.points, corner) {
+        Verdict::Yes => {
+            let verdict = bends(given.alloc, &drawing.map, &drawing.points)?;
+            Ok(Outcome::Convex(verdict))
+        }
+        verdict => Ok(Outcome::Drawing(verdict)),
+    }
 }
 
 /// Judges a straight-line drawing of a map that is to have convex faces, in the grid from (0, 0) to (`width`, `height`).
@@ -156,8 +131,5 @@ pub extern "C" fn pigale_check_convex(
         ends,
         neighbours,
     };
-    match judged_convex(&given, x, y, corner) {
-        Ok(outcome) => report(outcome, found),
-        Err(failure) => report(Outcome::Failed(failure), found),
-    }
+    report(judged_convex(&given, x, y, corner), found)
 }

@@ -1,11 +1,6 @@
 //! The counts of a map.
-ghost use Rattle.std.specs.Prelude.{◌≡◌, Some, None, IfOk, IfErr};
-ghost use Rattle.simple_maps.specs.Faults.{first_fault};
-ghost use Rattle.refusals.specs.Conditions.{fault_refusal};
-ghost use Rattle.pigale_c.specs.Arrays.{lists_in, IsGivenMap};
-ghost use Rattle.pigale_c.specs.Counted.{counts_of, IsCounted};
-ghost use Rattle.pigale_c.specs.Failures.{Fails};
-ghost use Rattle.pigale_c.specs.Numbers.{Reports};
+ghost use Rattle.pigale_c.specs.Counted.{IsCounted};
+ghost use Rattle.pigale_c.specs.Numbers.{Reports, outcome_of};
 
 use crate::arrays::lists_of;
 use crate::outcome::{Failure, Numbers, Outcome, report};
@@ -28,22 +23,25 @@ pub struct Counts {
     pub genus: u32,
 }
 
-// Returns the counts of the map of two arrays.
-fn counted(alloc: Global, ends: &[usize], neighbours: &[u16]) -> Result<Counts, Failure>
-    ensures counted { IfOk result (λ counts. IsGivenMap ends.now neighbours.now
-        × (first_fault (lists_in ends.now neighbours.now) ≡ None) × (counts ≡ counts_of (lists_in ends.now neighbours.now))) }
-    ensures failed { IfErr result (Fails (IsGivenMap ends.now neighbours.now)
-        (λ refusal. fault_refusal (lists_in ends.now neighbours.now) ≡ Some refusal)) }
+// Writes the counts of the map of two arrays.
+fn count(
+    alloc: Global,
+    ends: &[usize],
+    neighbours: &[u16],
+    counts: &mut Counts,
+) -> Result<Outcome, Failure>
+    ensures { IsCounted ends.now neighbours.now counts.old counts.new (outcome_of result) }
 {
     let lists = lists_of(alloc, ends, neighbours)?;
     let count = count_lists(alloc, &lists)?;
-    Ok(Counts {
+    *counts = Counts {
         n: count.n,
         m: count.m,
         f: count.f,
         c: count.c,
         genus: count.genus(),
-    })
+    };
+    Ok(Outcome::Served)
 }
 
 /// Counts the vertices, edges, faces and components of a map, and its genus.
@@ -59,11 +57,5 @@ pub extern "C" fn pigale_count(
 ) -> u8
     ensures { Reports (IsCounted ends.now neighbours.now counts.old counts.new) result found.new }
 {
-    match counted(alloc, ends, neighbours) {
-        Ok(all) => {
-            *counts = all;
-            report(Outcome::Served, found)
-        }
-        Err(failure) => report(Outcome::Failed(failure), found),
-    }
+    report(count(alloc, ends, neighbours, counts), found)
 }

@@ -19,35 +19,21 @@ pub struct EdgeEnds {
     pub b: u16,
 }
 
-// Returns whether an edge joins two of `n` vertices, the lesser first.
-fn is_edge(n: u16, e: EdgeEnds) -> bool
-    ensures { IsTrue result ↔ IsEdge n e }
-{
-    e.a < e.b && e.b < n
-}
-
-// Returns whether both edges have one lesser end, and the first the lesser of the others.
-fn is_before_at_end(e: EdgeEnds, f: EdgeEnds) -> bool
-    ensures { IsTrue result ↔ ((e.a ≡ f.a) × (e.b < f.b)) }
-{
-    e.a == f.a && e.b < f.b
-}
-
-// Returns whether an edge comes before another.
+// Says whether an edge comes before another: by its lesser end, and where these are one by its greater.
 fn is_before(e: EdgeEnds, f: EdgeEnds) -> bool
     ensures { IsTrue result ↔ ComesBefore (edge_at e) (edge_at f) }
 {
-    e.a < f.a || is_before_at_end(e, f)
+    e.a < f.a || e.a == f.a && e.b < f.b
 }
 
-// Returns whether an edge joins two of `n` vertices and comes behind another.
+// Says whether an edge joins two of `n` vertices, the lesser first, and comes behind another.
 fn is_next(n: u16, last: EdgeEnds, e: EdgeEnds) -> bool
     ensures { IsTrue result ↔ (IsEdge n e × ComesBefore (edge_at last) (edge_at e)) }
 {
-    is_edge(n, e) && is_before(last, e)
+    e.a < e.b && e.b < n && is_before(last, e)
 }
 
-// Returns whether these are edges between `n` vertices, in order and each once.
+// Says whether these are edges between `n` vertices, in order and each once.
 fn are_edges(n: u16, edges: &[EdgeEnds]) -> bool
     ensures { IsTrue result ↔ RiseFrom n (record { a = 0; b = 0 }) edges.now }
 {
@@ -84,23 +70,31 @@ fn stored_edges(alloc: Global, edges: &[EdgeEnds]) -> Result<Vec<Ends>, AllocErr
     Ok(list)
 }
 
-// Returns whether these are a number of vertices and edges of a graph.
+// Says whether these are a number of vertices and edges of a graph.
 fn is_given(n: u16, edges: &[EdgeEnds]) -> bool
     ensures { IsTrue result ↔ IsGraph (graph_in n edges.now) }
 {
     n <= 255 && are_edges(n, edges)
 }
 
-/// Returns the graph on `n` vertices with the edges of an array.
-pub(crate) fn graph_of(alloc: Global, n: u16, edges: &[EdgeEnds]) -> Result<Graph, Failure>
-    ensures graph { IfOk result (λ graph. graph ≡ graph_in n edges.now) }
-    ensures given { IfOk result (λ graph. IsGraph (graph_in n edges.now)) }
-    ensures failed { IfErr result (IsBadOnly (IsGraph (graph_in n edges.now))) }
+/// The arrays of a graph, as they are given: its number of vertices, and its edges.
+#[derive(Clone, Copy)]
+pub(crate) struct GraphArrays<'a> {
+    pub(crate) alloc: Global,
+    pub(crate) n: u16,
+    pub(crate) edges: &'a [EdgeEnds],
+}
+
+/// Returns the graph of a number of vertices and an array of edges.
+pub(crate) fn graph_of(given: &GraphArrays<'_>) -> Result<Graph, Failure>
+    ensures graph { IfOk result (λ graph. graph ≡ graph_in given.now.n given.now.edges.now) }
+    ensures given { IfOk result (λ graph. IsGraph (graph_in given.now.n given.now.edges.now)) }
+    ensures failed { IfErr result (IsBadOnly (IsGraph (graph_in given.now.n given.now.edges.now))) }
 {
-    if !is_given(n, edges) {
+    if !is_given(given.n, given.edges) {
         return Err(Failure::BadArgument);
     }
-    let list = stored_edges(alloc, edges)?;
-    let graph = Graph::of_edges(alloc, n, &list)?;
+    let list = stored_edges(given.alloc, given.edges)?;
+    let graph = Graph::of_edges(given.alloc, given.n, &list)?;
     Ok(graph)
 }

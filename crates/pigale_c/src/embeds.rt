@@ -1,12 +1,12 @@
 //! Maps and drawings of graphs, or witnesses that there are none, in arrays.
-ghost use Rattle.std.specs.Prelude.{◌≡◌, ◌≤◌, ◌++◌, length, take, drop, map, IfOk, IfErr};
+ghost use Rattle.std.specs.Prelude.{◌≡◌, ◌≤◌, map, IfOk, IfErr};
 ghost use Rattle.embed_graph.specs.Figures.{IsEmbedFigure};
 ghost use Rattle.pigale_c.specs.Embedded.{graph_in, number, IsGivenGraph, IsSmall, IsEmbedded};
 ghost use Rattle.pigale_c.specs.Failures.{Fails};
 ghost use Rattle.pigale_c.specs.Numbers.{Reports};
 
-use crate::arrays::put_points;
-use crate::edges::{EdgeEnds, graph_of};
+use crate::arrays::{put_front, put_points};
+use crate::edges::{EdgeEnds, GraphArrays, graph_of};
 use crate::outcome::{Failure, Numbers, Outcome, report};
 use embed_graph::embed_figures::{EmbedFigure, Embedder};
 use map_lists::VertexId;
@@ -14,26 +14,21 @@ use refusals::Refusal;
 use std::alloc::{AllocError, Global};
 
 // Returns what a graph is answered by, where there is room for two coordinates of each vertex.
-fn figure_of(
-    alloc: Global,
-    n: u16,
-    edges: &[EdgeEnds],
-    x: &[i32],
-    y: &[i32],
-) -> Result<EmbedFigure, Failure>
-    ensures given { IfOk result (λ figure. IsGivenGraph n edges.now x.now y.now) }
-    ensures enough { IfOk result (λ figure. 3 ≤ n) }
-    ensures figure { IfOk result (IsEmbedFigure (graph_in n edges.now)) }
-    ensures failed { IfErr result (Fails (IsGivenGraph n edges.now x.now y.now) (IsSmall n)) }
+fn figure_of(given: &GraphArrays<'_>, x: &[i32], y: &[i32]) -> Result<EmbedFigure, Failure>
+    ensures given { IfOk result (λ figure. IsGivenGraph given.now.n given.now.edges.now x.now y.now) }
+    ensures enough { IfOk result (λ figure. 3 ≤ given.now.n) }
+    ensures figure { IfOk result (IsEmbedFigure (graph_in given.now.n given.now.edges.now)) }
+    ensures failed { IfErr result (Fails (IsGivenGraph given.now.n given.now.edges.now x.now y.now) (IsSmall given.now.n)) }
 {
+    let n = given.n;
     if x.len() != usize::from(n) || y.len() != usize::from(n) {
         return Err(Failure::BadArgument);
     }
-    let graph = graph_of(alloc, n, edges)?;
+    let graph = graph_of(given)?;
     if n < 3 {
         return Err(Failure::Refused(Refusal::Small(n)));
     }
-    let mut embedder = Embedder::new(alloc);
+    let mut embedder = Embedder::new(given.alloc);
     let figure = embedder.figure(&graph)?;
     Ok(figure)
 }
@@ -47,14 +42,6 @@ fn numbers_of_vertices(alloc: Global, vertices: &[VertexId]) -> Result<Vec<u16>,
         numbers.push(v.0)?;
     }
     Ok(numbers)
-}
-
-// Writes over the front of an array, as much as there is room for.
-fn put_front<T: Copy>(from: &[T], to: &mut [T])
-    ensures { to.new ≡ take (length to.old) from.now ++ drop (length from.now) to.old }
-{
-    let count = to.len().min(from.len());
-    to[..count].copy_from_slice(&from[..count]);
 }
 
 /// Writes a plane map of a graph and its drawing in the grid n - 2 by n - 2, or the paths of a Kuratowski witness.
@@ -71,23 +58,24 @@ pub extern "C" fn pigale_embed(
 ) -> u8
     ensures { Reports (IsEmbedded n edges.now ends.old neighbours.old x.old y.old ends.new neighbours.new x.new y.new) result found.new }
 {
-    match figure_of(alloc, n, edges, x, y) {
+    let given = GraphArrays { alloc, n, edges };
+    match figure_of(&given, x, y) {
         Ok(EmbedFigure::Drawn(lists, figure)) => {
             put_front(lists.ends(), ends);
             put_front(lists.entries(), neighbours);
             put_points(figure.points.as_slice(), x, y);
-            report(Outcome::Served, found)
+            report(Ok(Outcome::Served), found)
         }
         Ok(EmbedFigure::NotPlanar(witness)) => {
             match numbers_of_vertices(alloc, witness.paths.entries()) {
                 Ok(vertices) => {
                     put_front(witness.paths.ends(), ends);
                     put_front(&vertices, neighbours);
-                    report(Outcome::NotPlanar(witness.kind), found)
+                    report(Ok(Outcome::NotPlanar(witness.kind)), found)
                 }
-                Err(AllocError) => report(Outcome::Failed(Failure::NoMemory), found),
+                Err(AllocError) => report(Err(Failure::NoMemory), found),
             }
         }
-        Err(failure) => report(Outcome::Failed(failure), found),
+        Err(failure) => report(Err(failure), found),
     }
 }

@@ -1,16 +1,9 @@
 //! Straight-line drawings of maps, as coordinates in arrays.
-ghost use Rattle.std.specs.Prelude.{◌≡◌, ◌<◌, Some, None, length, IfOk, IfErr};
-ghost use Rattle.map_theory.specs.Maps.{IsPlane};
-ghost use Rattle.refusals.specs.Conditions.{first_refusal};
-ghost use Rattle.convex_peeling.specs.Polyhedral.{IsThreeConnected};
-ghost use Rattle.convex_class.specs.Convexity.{BreaksConvex};
-ghost use Rattle.grid_figures.specs.ShiftFiguresFigures.{IsShiftFigure};
-ghost use Rattle.grid_figures.specs.SchnyderFiguresFigures.{IsSchnyderFigure};
-ghost use Rattle.convex_draw.specs.Figures.{IsConvexFigure};
+ghost use Rattle.std.specs.Prelude.{◌≡◌, ◌<◌, length, IfOk, IfErr};
 ghost use Rattle.pigale_c.specs.Arrays.{lists_in};
 ghost use Rattle.pigale_c.specs.Drawn.{IsGivenGrid, IsShiftDrawn, IsSchnyderDrawn, IsConvexDrawn};
-ghost use Rattle.pigale_c.specs.Failures.{Fails, IsBadOnly};
-ghost use Rattle.pigale_c.specs.Numbers.{Reports};
+ghost use Rattle.pigale_c.specs.Failures.{IsBadOnly};
+ghost use Rattle.pigale_c.specs.Numbers.{Reports, outcome_of};
 
 use crate::arrays::{MapArrays, lists_of, put_points};
 use crate::outcome::{Failure, Numbers, Outcome, report};
@@ -18,7 +11,6 @@ use convex_draw::convex_figures::convex_figure;
 use grid_figures::schnyder_figures::schnyder_figure;
 use grid_figures::shift_figures::shift_figure;
 use map_lists::Rotations;
-use pg_plane::GridFigure;
 use std::alloc::Global;
 
 // Returns the lists of a map, where there is room for two coordinates of each vertex.
@@ -36,47 +28,34 @@ fn lists_with_room(given: &MapArrays<'_>, x: &[i32], y: &[i32]) -> Result<Rotati
     Ok(lists)
 }
 
-// Returns the drawing of a map by the shift method.
-fn shift_of(given: &MapArrays<'_>, x: &[i32], y: &[i32]) -> Result<GridFigure, Failure>
-    ensures given { IfOk result (λ figure. IsGivenGrid given.now.ends.now given.now.neighbours.now x.now y.now) }
-    ensures count { IfOk result (λ figure. length figure.points ≡ length given.now.ends.now) }
-    ensures served { IfOk result (λ figure. first_refusal 3 (lists_in given.now.ends.now given.now.neighbours.now) ≡ None) }
-    ensures figure { IfOk result (IsShiftFigure (lists_in given.now.ends.now given.now.neighbours.now)) }
-    ensures failed { IfErr result (Fails (IsGivenGrid given.now.ends.now given.now.neighbours.now x.now y.now)
-        (λ refusal. first_refusal 3 (lists_in given.now.ends.now given.now.neighbours.now) ≡ Some refusal)) }
+// Writes the drawing of a map by the shift method.
+fn shift(given: &MapArrays<'_>, x: &mut [i32], y: &mut [i32]) -> Result<Outcome, Failure>
+    ensures { IsShiftDrawn given.now.ends.now given.now.neighbours.now x.old y.old x.new y.new (outcome_of result) }
 {
     let lists = lists_with_room(given, x, y)?;
     let figure = shift_figure(given.alloc, &lists)?;
-    Ok(figure)
+    put_points(figure.points.as_slice(), x, y);
+    Ok(Outcome::Served)
 }
 
-// Returns the drawing of a map by Schnyder's method.
-fn schnyder_of(given: &MapArrays<'_>, x: &[i32], y: &[i32]) -> Result<GridFigure, Failure>
-    ensures given { IfOk result (λ figure. IsGivenGrid given.now.ends.now given.now.neighbours.now x.now y.now) }
-    ensures count { IfOk result (λ figure. length figure.points ≡ length given.now.ends.now) }
-    ensures served { IfOk result (λ figure. first_refusal 3 (lists_in given.now.ends.now given.now.neighbours.now) ≡ None) }
-    ensures figure { IfOk result (IsSchnyderFigure (lists_in given.now.ends.now given.now.neighbours.now)) }
-    ensures failed { IfErr result (Fails (IsGivenGrid given.now.ends.now given.now.neighbours.now x.now y.now)
-        (λ refusal. first_refusal 3 (lists_in given.now.ends.now given.now.neighbours.now) ≡ Some refusal)) }
+// Writes the drawing of a map by Schnyder's method.
+fn schnyder(given: &MapArrays<'_>, x: &mut [i32], y: &mut [i32]) -> Result<Outcome, Failure>
+    ensures { IsSchnyderDrawn given.now.ends.now given.now.neighbours.now x.old y.old x.new y.new (outcome_of result) }
 {
     let lists = lists_with_room(given, x, y)?;
     let figure = schnyder_figure(given.alloc, &lists)?;
-    Ok(figure)
+    put_points(figure.points.as_slice(), x, y);
+    Ok(Outcome::Served)
 }
 
-// Returns the convex drawing of a map.
-fn convex_of(given: &MapArrays<'_>, x: &[i32], y: &[i32]) -> Result<GridFigure, Failure>
-    ensures given { IfOk result (λ figure. IsGivenGrid given.now.ends.now given.now.neighbours.now x.now y.now) }
-    ensures count { IfOk result (λ figure. length figure.points ≡ length given.now.ends.now) }
-    ensures plane { IfOk result (λ figure. IsPlane (lists_in given.now.ends.now given.now.neighbours.now)) }
-    ensures served { IfOk result (λ figure. IsThreeConnected (lists_in given.now.ends.now given.now.neighbours.now)) }
-    ensures figure { IfOk result (IsConvexFigure (lists_in given.now.ends.now given.now.neighbours.now)) }
-    ensures failed { IfErr result (Fails (IsGivenGrid given.now.ends.now given.now.neighbours.now x.now y.now)
-        (BreaksConvex (lists_in given.now.ends.now given.now.neighbours.now))) }
+// Writes the convex drawing of a map.
+fn convex(given: &MapArrays<'_>, x: &mut [i32], y: &mut [i32]) -> Result<Outcome, Failure>
+    ensures { IsConvexDrawn given.now.ends.now given.now.neighbours.now x.old y.old x.new y.new (outcome_of result) }
 {
     let lists = lists_with_room(given, x, y)?;
     let figure = convex_figure(given.alloc, &lists)?;
-    Ok(figure)
+    put_points(figure.points.as_slice(), x, y);
+    Ok(Outcome::Served)
 }
 
 /// Draws a plane map with straight edges by the shift method, in the grid 2n - 4 by n - 2.
@@ -96,13 +75,7 @@ pub extern "C" fn pigale_shift(
         ends,
         neighbours,
     };
-    match shift_of(&given, x, y) {
-        Ok(figure) => {
-            put_points(figure.points.as_slice(), x, y);
-            report(Outcome::Served, found)
-        }
-        Err(failure) => report(Outcome::Failed(failure), found),
-    }
+    report(shift(&given, x, y), found)
 }
 
 /// Draws a plane map with straight edges by Schnyder's method, in the grid n - 2 by n - 2.
@@ -122,13 +95,7 @@ pub extern "C" fn pigale_schnyder(
         ends,
         neighbours,
     };
-    match schnyder_of(&given, x, y) {
-        Ok(figure) => {
-            put_points(figure.points.as_slice(), x, y);
-            report(Outcome::Served, found)
-        }
-        Err(failure) => report(Outcome::Failed(failure), found),
-    }
+    report(schnyder(&given, x, y), found)
 }
 
 /// Draws a three-connected plane map with convex faces, in the grid f - 1 by f - 1.
@@ -148,11 +115,5 @@ pub extern "C" fn pigale_convex(
         ends,
         neighbours,
     };
-    match convex_of(&given, x, y) {
-        Ok(figure) => {
-            put_points(figure.points.as_slice(), x, y);
-            report(Outcome::Served, found)
-        }
-        Err(failure) => report(Outcome::Failed(failure), found),
-    }
+    report(convex(&given, x, y), found)
 }

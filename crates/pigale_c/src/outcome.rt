@@ -1,6 +1,6 @@
 //! How a call ends, as the number of a status and up to four numbers beside it.
 ghost use Rattle.std.specs.Prelude.{◌≡◌};
-ghost use Rattle.pigale_c.specs.Numbers.{four as four_of, none as none_of, one as one_of, two as two_of, three as three_of, refusal_answer_of, drawing_answer_of, convex_answer_of, bars_answer_of, rects_answer_of, failure_answer_of, answer_of};
+ghost use Rattle.pigale_c.specs.Numbers.{four as four_of, none as none_of, one as one_of, two as two_of, three as three_of, refusal_answer_of, drawing_answer_of, bars_answer_of, rects_answer_of, answer_of, outcome_of};
 
 use bar_check::BarVerdict;
 use convex_check::ConvexVerdict;
@@ -190,17 +190,6 @@ fn drawing_answer(verdict: Verdict) -> Answer
     }
 }
 
-// Returns the answer of a verdict on bends.
-fn convex_answer(verdict: ConvexVerdict) -> Answer
-    ensures { result ≡ convex_answer_of verdict }
-{
-    match verdict {
-        ConvexVerdict::Bent(a, b, c) => told(40, three(a, b, c)),
-        ConvexVerdict::OuterBent => told(41, none()),
-        ConvexVerdict::Yes => told(0, none()),
-    }
-}
-
 // Returns the answer of a verdict on bars.
 fn bars_answer(verdict: BarVerdict) -> Answer
     ensures { result ≡ bars_answer_of verdict }
@@ -232,26 +221,19 @@ fn rects_answer(verdict: RectVerdict) -> Answer
     }
 }
 
-// Returns the answer of a failure.
-fn failure_answer(failure: Failure) -> Answer
-    ensures { result ≡ failure_answer_of failure }
-{
-    match failure {
-        Failure::Refused(refusal) => refusal_answer(refusal),
-        Failure::NoMemory => told(16, none()),
-        Failure::BadArgument => told(17, none()),
-    }
-}
-
 // Returns the answer of an outcome.
 fn outcome_answer(outcome: Outcome) -> Answer
     ensures { result ≡ answer_of outcome }
 {
     match outcome {
         Outcome::Served => told(0, none()),
-        Outcome::Failed(failure) => failure_answer(failure),
+        Outcome::Failed(Failure::Refused(refusal)) => refusal_answer(refusal),
+        Outcome::Failed(Failure::NoMemory) => told(16, none()),
+        Outcome::Failed(Failure::BadArgument) => told(17, none()),
         Outcome::Drawing(verdict) => drawing_answer(verdict),
-        Outcome::Convex(verdict) => convex_answer(verdict),
+        Outcome::Convex(ConvexVerdict::Bent(a, b, c)) => told(40, three(a, b, c)),
+        Outcome::Convex(ConvexVerdict::OuterBent) => told(41, none()),
+        Outcome::Convex(ConvexVerdict::Yes) => told(0, none()),
         Outcome::Bars(verdict) => bars_answer(verdict),
         Outcome::Rects(verdict) => rects_answer(verdict),
         Outcome::NotPlanar(Kind::K5) => told(80, none()),
@@ -259,12 +241,22 @@ fn outcome_answer(outcome: Outcome) -> Answer
     }
 }
 
-/// Sets the numbers of an outcome, and returns its status.
-pub(crate) fn report(outcome: Outcome, found: &mut Numbers) -> u8
-    ensures status { result ≡ (answer_of outcome).status }
-    ensures numbers { found.new ≡ (answer_of outcome).numbers }
+// Returns the outcome of a call that has one, or failed.
+fn ended(call: Result<Outcome, Failure>) -> Outcome
+    ensures { result ≡ outcome_of call }
 {
-    let Answer { status, numbers } = outcome_answer(outcome);
+    match call {
+        Ok(outcome) => outcome,
+        Err(failure) => Outcome::Failed(failure),
+    }
+}
+
+/// Sets the numbers of the outcome of a call, and returns its status.
+pub(crate) fn report(call: Result<Outcome, Failure>, found: &mut Numbers) -> u8
+    ensures status { result ≡ (answer_of (outcome_of call)).status }
+    ensures numbers { found.new ≡ (answer_of (outcome_of call)).numbers }
+{
+    let Answer { status, numbers } = outcome_answer(ended(call));
     *found = numbers;
     status
 }

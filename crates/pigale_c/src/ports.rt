@@ -12,16 +12,6 @@ pub struct LentSource<'a> {
     pub left: &'a [u8],
 }
 
-// Copies the first bytes of `from` to the front of `to`, as many as both have, and returns their number.
-pub(crate) fn copy_front(from: &[u8], to: &mut [u8]) -> usize
-    ensures count { result ≡ min (length to.old) (length from.now) }
-    ensures copied { to.new ≡ take result from.now ++ drop result to.old }
-{
-    let count = to.len().min(from.len());
-    to[..count].copy_from_slice(&from[..count]);
-    count
-}
-
 impl Source for LentSource<'_> {
     ghost left = { λ source. Some source.left.now };
 
@@ -29,7 +19,8 @@ impl Source for LentSource<'_> {
 
     /// Reads as many bytes as `buf` has room for and are left. It never fails.
     fn read(&mut self, buf: &mut [u8]) -> Result<usize, ReadFailed> {
-        let count = copy_front(self.left, buf);
+        let count = buf.len().min(self.left.len());
+        buf[..count].copy_from_slice(&self.left[..count]);
         self.left = &self.left[count..];
         Ok(count)
     }

@@ -1,21 +1,18 @@
 //! Rectangular duals of maps, as rectangles in arrays.
-ghost use Rattle.std.specs.Prelude.{◌≡◌, ◌↔◌, length, Some, None, IsTrue, IfOk, IfErr};
-ghost use Rattle.simple_maps.specs.Faults.{first_fault};
-ghost use Rattle.refusals.specs.Conditions.{fault_refusal};
-ghost use Rattle.rect_check.specs.Verdicts.{IsRectVerdict};
+ghost use Rattle.std.specs.Prelude.{◌≡◌, ◌↔◌, length, IsTrue, IfOk, IfErr};
 ghost use Rattle.rect_class.specs.RectMaps.{IsRectMap};
 ghost use Rattle.rect_class.specs.Refusals.{BreaksRect};
 ghost use Rattle.rect_dual.specs.Figures.{IsRectFigure};
 ghost use Rattle.pigale_c.specs.Arrays.{lists_in};
 ghost use Rattle.pigale_c.specs.RectArrays.{rects_in, AreRectsFor, IsGivenRects, AreJudgedRects, AreDrawnRects};
 ghost use Rattle.pigale_c.specs.Failures.{Fails};
-ghost use Rattle.pigale_c.specs.Numbers.{Reports};
+ghost use Rattle.pigale_c.specs.Numbers.{Reports, outcome_of};
 
 use crate::arrays::{MapArrays, lists_of};
 use crate::outcome::{Failure, Numbers, Outcome, report};
 use half_edges::HalfMap;
 use pg_plane::{Ints, RectFigure};
-use rect_check::{RectVerdict, check_rects};
+use rect_check::check_rects;
 use rect_dual::figures::rect_figure;
 use std::alloc::{AllocError, Global};
 
@@ -28,39 +25,38 @@ struct RectArrays<'a> {
     y2: &'a [i32],
 }
 
-// Returns the rectangles of four arrays.
-fn rects_of(alloc: Global, rects: &RectArrays<'_>) -> Result<RectFigure, AllocError>
-    ensures { IfOk result (λ fig. fig ≡ rects_in rects.now.x1.now rects.now.x2.now rects.now.y1.now rects.now.y2.now) }
-{
-    let x1 = Ints::from_vec(rects.x1.to_vec(alloc)?);
-    let x2 = Ints::from_vec(rects.x2.to_vec(alloc)?);
-    let y1 = Ints::from_vec(rects.y1.to_vec(alloc)?);
-    let y2 = Ints::from_vec(rects.y2.to_vec(alloc)?);
-    Ok(RectFigure { x1, x2, y1, y2 })
+impl RectArrays<'_> {
+    // Returns the rectangles of the arrays.
+    fn figure(&self, alloc: Global) -> Result<RectFigure, AllocError>
+        ensures { IfOk result (λ fig. fig ≡ rects_in self.now.x1.now self.now.x2.now self.now.y1.now self.now.y2.now) }
+    {
+        let x1 = Ints::from_vec(self.x1.to_vec(alloc)?);
+        let x2 = Ints::from_vec(self.x2.to_vec(alloc)?);
+        let y1 = Ints::from_vec(self.y1.to_vec(alloc)?);
+        let y2 = Ints::from_vec(self.y2.to_vec(alloc)?);
+        Ok(RectFigure { x1, x2, y1, y2 })
+    }
+
+    // Says whether there is a rectangle for each of `n` vertices.
+    fn are_for(&self, n: usize) -> bool
+        ensures { IsTrue result ↔ AreRectsFor n (rects_in self.now.x1.now self.now.x2.now self.now.y1.now self.now.y2.now) }
+    {
+        self.x1.len() == n && self.x2.len() == n && self.y1.len() == n && self.y2.len() == n
+    }
 }
 
-// Returns whether there is a rectangle for each of `n` vertices.
-fn are_rects(fig: &RectFigure, n: usize) -> bool
-    ensures { IsTrue result ↔ AreRectsFor n fig.now }
+// Judges rectangles of a map.
+fn judged(given: &MapArrays<'_>, rects: &RectArrays<'_>) -> Result<Outcome, Failure>
+    ensures { AreJudgedRects given.now.ends.now given.now.neighbours.now (rects_in rects.now.x1.now rects.now.x2.now rects.now.y1.now rects.now.y2.now) (outcome_of result) }
 {
-    fig.x1.len() == n && fig.x2.len() == n && fig.y1.len() == n && fig.y2.len() == n
-}
-
-// Returns the verdict on rectangles of a map.
-fn judged(given: &MapArrays<'_>, fig: &RectFigure) -> Result<RectVerdict, Failure>
-    ensures given { IfOk result (λ verdict. IsGivenRects given.now.ends.now given.now.neighbours.now fig.now) }
-    ensures simple { IfOk result (λ verdict. first_fault (lists_in given.now.ends.now given.now.neighbours.now) ≡ None) }
-    ensures verdict { IfOk result (IsRectVerdict (lists_in given.now.ends.now given.now.neighbours.now) fig.now) }
-    ensures failed { IfErr result (Fails (IsGivenRects given.now.ends.now given.now.neighbours.now fig.now)
-        (λ refusal. fault_refusal (lists_in given.now.ends.now given.now.neighbours.now) ≡ Some refusal)) }
-{
-    if !are_rects(fig, given.ends.len()) {
+    if !rects.are_for(given.ends.len()) {
         return Err(Failure::BadArgument);
     }
     let lists = lists_of(given.alloc, given.ends, given.neighbours)?;
+    let fig = rects.figure(given.alloc)?;
     let map = HalfMap::from_rotations(given.alloc, &lists)?;
-    let verdict = check_rects(&map, fig);
-    Ok(verdict)
+    let verdict = check_rects(&map, &fig);
+    Ok(Outcome::Rects(verdict))
 }
 
 /// Judges a rectangular dual of a map.
@@ -83,13 +79,7 @@ pub extern "C" fn pigale_check_rects(
         neighbours,
     };
     let rects = RectArrays { x1, x2, y1, y2 };
-    match rects_of(alloc, &rects) {
-        Ok(fig) => match judged(&given, &fig) {
-            Ok(verdict) => report(Outcome::Rects(verdict), found),
-            Err(failure) => report(Outcome::Failed(failure), found),
-        },
-        Err(AllocError) => report(Outcome::Failed(Failure::NoMemory), found),
-    }
+    report(judged(&given, &rects), found)
 }
 
 // Returns the rectangles of a map, where there is room for them.
@@ -101,8 +91,7 @@ fn drawn(given: &MapArrays<'_>, rects: &RectArrays<'_>) -> Result<RectFigure, Fa
     ensures failed { IfErr result (Fails (IsGivenRects given.now.ends.now given.now.neighbours.now (rects_in rects.now.x1.now rects.now.x2.now rects.now.y1.now rects.now.y2.now))
         (BreaksRect (lists_in given.now.ends.now given.now.neighbours.now))) }
 {
-    let n = given.ends.len();
-    if rects.x1.len() != n || rects.x2.len() != n || rects.y1.len() != n || rects.y2.len() != n {
+    if !rects.are_for(given.ends.len()) {
         return Err(Failure::BadArgument);
     }
     let lists = lists_of(given.alloc, given.ends, given.neighbours)?;
@@ -110,20 +99,6 @@ fn drawn(given: &MapArrays<'_>, rects: &RectArrays<'_>) -> Result<RectFigure, Fa
         Ok(figure) => Ok(figure),
         Err(unserved) => Err(Failure::from(unserved)),
     }
-}
-
-// Writes rectangles into four arrays.
-fn put_rects(fig: &RectFigure, x1: &mut [i32], x2: &mut [i32], y1: &mut [i32], y2: &mut [i32])
-    requires x1 { length x1.old ≡ length fig.now.x1 }
-    requires x2 { length x2.old ≡ length fig.now.x2 }
-    requires y1 { length y1.old ≡ length fig.now.y1 }
-    requires y2 { length y2.old ≡ length fig.now.y2 }
-    ensures { rects_in x1.new x2.new y1.new y2.new ≡ fig.now }
-{
-    x1.copy_from_slice(fig.x1.as_slice());
-    x2.copy_from_slice(fig.x2.as_slice());
-    y1.copy_from_slice(fig.y1.as_slice());
-    y2.copy_from_slice(fig.y2.as_slice());
 }
 
 /// Draws a map of triangles within a quadrangle as a rectangular dual, within n - 2 by n - 2.
@@ -148,9 +123,12 @@ pub extern "C" fn pigale_rect(
     let rects = RectArrays { x1, x2, y1, y2 };
     match drawn(&given, &rects) {
         Ok(fig) => {
-            put_rects(&fig, x1, x2, y1, y2);
-            report(Outcome::Served, found)
+            x1.copy_from_slice(fig.x1.as_slice());
+            x2.copy_from_slice(fig.x2.as_slice());
+            y1.copy_from_slice(fig.y1.as_slice());
+            y2.copy_from_slice(fig.y2.as_slice());
+            report(Ok(Outcome::Served), found)
         }
-        Err(failure) => report(Outcome::Failed(failure), found),
+        Err(failure) => report(Err(failure), found),
     }
 }

@@ -1,9 +1,8 @@
 //! One run of the program over memory.
-ghost use Rattle.std.specs.Prelude.{◌≡◌, map, string_bytes, length};
-ghost use Rattle.pigale_shell.specs.Kinds.{kind_named};
-ghost use Rattle.pigale_c.specs.Run.{IsRun, RunsText, RunsTo, written_over};
+ghost use Rattle.pigale_c.specs.Run.{RunsText, RunsTo};
 
-use crate::ports::{LentSource, TextSink, copy_front};
+use crate::arrays::put_front;
+use crate::ports::{LentSource, TextSink};
 use crate::words::words_of;
 use pigale_shell::{Status, pigale};
 use std::alloc::{AllocError, Global};
@@ -15,39 +14,25 @@ struct Run {
     text: Vec<u8>,
 }
 
-// Runs the job of some words over an input.
-fn run_of(alloc: Global, words: &[String], input: &[u8]) -> Run
-    ensures { IsRun (kind_named (map string_bytes words.now)) input.now result.status result.text.items }
-{
-    let mut source = LentSource { left: input };
-    let mut sink = TextSink::new(alloc);
-    let status = pigale(alloc, words, &mut source, &mut sink);
-    Run {
-        status,
-        text: sink.text,
-    }
-}
-
 // Runs the job of the words of a text over an input.
 fn run_of_text(alloc: Global, words: &[u8], input: &[u8]) -> Run
     ensures { RunsText words.now input.now result.status result.text.items }
 {
     match words_of(alloc, words) {
-        Ok(words) => run_of(alloc, &words, input),
+        Ok(words) => {
+            let mut source = LentSource { left: input };
+            let mut sink = TextSink::new(alloc);
+            let status = pigale(alloc, &words, &mut source, &mut sink);
+            Run {
+                status,
+                text: sink.text,
+            }
+        }
         Err(AllocError) => Run {
             status: Status::NoMemory,
             text: Vec::new(alloc),
         },
     }
-}
-
-// Writes as much of a text over an array as there is room for, and returns the length of the text.
-fn write_over(text: &[u8], array: &mut [u8]) -> usize
-    ensures length { result ≡ length text.now }
-    ensures written { array.new ≡ written_over array.old text.now }
-{
-    copy_front(text, array);
-    text.len()
 }
 
 /// Runs the program's words over an input, and returns the number of its status.
@@ -66,6 +51,7 @@ pub extern "C" fn pigale_run(
     ensures { RunsTo words.now input.now text.old result text_length.new text.new }
 {
     let run = run_of_text(alloc, words, input);
-    *text_length = write_over(&run.text, text);
+    *text_length = run.text.len();
+    put_front(&run.text, text);
     run.status.number()
 }

@@ -7,5 +7,5 @@ use Rattle.pigale_c.proofs.edges.graph_of.Goals as goal
 
 pub stored_edges-requires : goal.stored_edges-requires
 stored_edges-requires c =
-    let given : IsGraph (graph_in c.args.n c.args.edges.now) = search rules in
-    lesser_first-graph c.args.n c.args.edges.now given
+    let given : IsGraph (graph_in c.args.given.now.n c.args.given.now.edges.now) = search rules in
+    lesser_first-graph c.args.given.now.n c.args.given.now.edges.now given

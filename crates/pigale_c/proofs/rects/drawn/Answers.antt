@@ -12,7 +12,7 @@ use Rattle.pigale_c.proofs.rects.drawn.Goals as goal
 
 pub returns-clause-failed : goal.returns-clause-failed
 returns-clause-failed c =
-    let given : IsGivenRects c.args.given.now.ends.now c.args.given.now.neighbours.now (rects_in c.args.rects.now.x1.now c.args.rects.now.x2.now c.args.rects.now.y1.now c.args.rects.now.y2.now) = record { map = c.in_ok-lists.ensures.given; rects = record { x1 = c.if-rects-n.false; x2 = c.if-rects-n-2.false; y1 = c.if-rects-n-3.false; y2 = c.if-rects-n-4.false } } in
+    let given : IsGivenRects c.args.given.now.ends.now c.args.given.now.neighbours.now (rects_in c.args.rects.now.x1.now c.args.rects.now.x2.now c.args.rects.now.y1.now c.args.rects.now.y2.now) = record { map = c.in_ok-lists.ensures.given; rects = c.are_for.ensures.0 c.if-not-are_for.false } in
     let breaks = subst (λ (lists : Lists). IfRefused (BreaksRect lists) c.in-Err.unserved) c.in_ok-lists.ensures.lists c.in-Err.ensures.refused in
     subst (λ (failure : Failure). Fails (IsGivenRects c.args.given.now.ends.now c.args.given.now.neighbours.now (rects_in c.args.rects.now.x1.now c.args.rects.now.x2.now c.args.rects.now.y1.now c.args.rects.now.y2.now)) (BreaksRect (lists_in c.args.given.now.ends.now c.args.given.now.neighbours.now)) failure)
     (sym c.from.ensures) (Fails-for _ _ c.in-Err.unserved given breaks)
