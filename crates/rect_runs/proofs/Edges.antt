@@ -102,6 +102,10 @@ pub record IsTurn (label : ℕ → Bool) (s : Step) (c : ℕ) : Type 0 where
   pub last : label c ≡ false → suc c ≡ s.last
   pub runs : (j : ℕ) → c < j → j < s.last → label j ≡ true
 
+-- a turn is within its step, and the step ends within the contour
+pub IsTurn-within : (g : Stage) (s : Step) (label : ℕ → Bool) (c : ℕ) → IsStep g s → IsTurn label s c → (s.first ≤ c) × (c < s.last) × (s.last < g.width)
+IsTurn-within g s label c step turns = (turns.low, turns.high, step.within)
+
 runs_on : (label : ℕ → Bool) (s : Step) (c d : ℕ) → IsSorted label s → s.first ≤ c → c + d < s.last → label c ≡ true → label (c + d) ≡ true
 runs_on label s c zero h l m e = let f : c + 0 ≡ c = omega arith in ap label f ∙ e
 runs_on label s c (suc d) h l m e =

@@ -7,7 +7,7 @@ use Rattle.contour_runs.proofs.Places.{cases_place, vertex_after-low, vertex_aft
 use Rattle.rect_runs.specs.Labels.{turn}
 use Rattle.rect_runs.specs.Numbers.{Numbers}
 use Rattle.rect_runs.specs.Laws.{IsNumbered, IsPut}
-use Rattle.rect_runs.proofs.Edges.{IsTurn, IsTurn-turn}
+use Rattle.rect_runs.proofs.Edges.{IsTurn, IsTurn-within, IsTurn-turn}
 use Rattle.rect_runs.specs.Leads.{AreLower, AreLowerAfter, MakesRoomBelow, LowerAfter, LowerIsGreatest}
 
 module _ (g : Stage) (s : Step) (label : ℕ → Bool) (c : ℕ) (at : Numbers) (lead lead' : ℕ → Bool) (stage : IsStage g) (step : IsStep g s) (turns : IsTurn label s c) (numbered : IsNumbered g label at) (put : IsPut g label c g.count at) (room : label c ≡ true → MakesRoomBelow g c at.y) (marks : AreLowerAfter g s c lead lead') (h : AreLower g at.y lead) where
@@ -36,10 +36,7 @@ module _ (g : Stage) (s : Step) (label : ℕ → Bool) (c : ℕ) (at : Numbers) 
 
   yes : (i j : ℕ) → j < (after g s).width → lead' (vertex_after g s i) ≡ true → i < j → y' j < y' i
   yes i j l t less =
-      let o = step.order in
-      let w = step.within in
-      let lo = turns.low in
-      let hi = turns.high in
+      let (lo, hi, w) = IsTurn-within g s label c step turns in
       elim (cases_place g s i step (omega arith)) [
         | inl a ↦
             let a1 = a.low in
@@ -91,10 +88,7 @@ module _ (g : Stage) (s : Step) (label : ℕ → Bool) (c : ℕ) (at : Numbers) 
 
   no : (i : ℕ) → i < (after g s).width → lead' (vertex_after g s i) ≡ false → (j : ℕ) × (i < j) × (j < (after g s).width) × (y' i ≤ y' j)
   no i l t =
-      let o = step.order in
-      let w = step.within in
-      let lo = turns.low in
-      let hi = turns.high in
+      let (lo, hi, w) = IsTurn-within g s label c step turns in
       elim (cases_place g s i step l) [
         | inl a ↦
             let a1 = a.low in

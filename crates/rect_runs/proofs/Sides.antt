@@ -8,7 +8,7 @@ use Rattle.contour_runs.proofs.Stages.{IsStage-run, IsRun-less, count-stage_afte
 use Rattle.rect_runs.specs.Labels.{labels, IsLabelledRun}
 use Rattle.rect_runs.specs.Numbers.{Numbers, turn_of}
 use Rattle.rect_runs.specs.Laws.{IsPut}
-use Rattle.rect_runs.proofs.Edges.{cases_edge, labels_after-high, labels_after-low, labels_after-run}
+use Rattle.rect_runs.proofs.Edges.{IsTurn-within, cases_edge, labels_after-high, labels_after-low, labels_after-run}
 use Rattle.rect_runs.proofs.Steps.{turn-step}
 use Rattle.rect_runs.specs.Boxes.{stands_between, side_after, rights, highs}
 
@@ -37,11 +37,11 @@ Stands-place g i j p stage l a b =
     record { older = stage.placed p l; vertex = ap g.vertex own; low = omega arith; high = omega arith }
 
 module _ (g : Stage) (i j side : ℕ) (old : ℕ → ℕ) (v : ℕ) where
-  side_after-between : Stands g i j v → side_after g i j side old v ≡ side
+  pub side_after-between : Stands g i j v → side_after g i j side old v ≡ side
   unfolding side_after
   side_after-between h = cond-true (stands_between g i j v) side (old v) (Stands-test g i j v h)
 
-  side_after-other : (Stands g i j v → ⊥) → side_after g i j side old v ≡ old v
+  pub side_after-other : (Stands g i j v → ⊥) → side_after g i j side old v ≡ old v
   unfolding side_after
   side_after-other h = elim (cases_Bool (stands_between g i j v)) [ inl e ↦ absurd (h (Stands-known g i j v e)) | inr e ↦ cond-false (stands_between g i j v) side (old v) e ]
 
@@ -56,6 +56,12 @@ side_after-place g i j side old p stage l out = side_after-other g i j side old 
 module _ (steps : ℕ → Step) (n : ℕ) (h : IsLabelledRun steps n) (at : Numbers) (put : (k : ℕ) → k < n → IsPut (stage_after steps k) (labels steps k) (turn_of steps k) (k + 2) at) where
   stage_at : (k : ℕ) → k ≤ n → IsStage (stage_after steps k)
   stage_at k l = IsStage-run steps k (IsRun-less steps k n l h.run)
+
+  -- a step: its stage, its turn, its end, and the vertices so far
+  at_step : (k : ℕ) → k < n → IsStage (stage_after steps k) × ((steps k).first ≤ turn_of steps k) × (turn_of steps k < (steps k).last) × ((steps k).last < (stage_after steps k).width) × ((stage_after steps k).count ≡ k + 2)
+  at_step k l =
+      let (lo, hi, w) = IsTurn-within (stage_after steps k) (steps k) (labels steps k) (turn_of steps k) (h.run k l) (turn-step steps k n h l) in
+      (stage_at k (omega arith), lo, hi, w, count-stage_after steps k)
 
   module _ (end : ℕ) (few : (v : ℕ) → v < n + 2 → at.x v < end) where
     abbrev r : ℕ → ℕ → ℕ
@@ -79,14 +85,8 @@ module _ (steps : ℕ → Step) (n : ℕ) (h : IsLabelledRun steps n) (at : Numb
         let s = steps k in
         let label = labels steps k in
         let c = turn_of steps k in
-        let stage = stage_at k (omega arith) in
         let step = h.run k l in
-        let o = step.order in
-        let w = step.within in
-        let t = turn-step steps k n h l in
-        let lo = t.low in
-        let hi = t.high in
-        let count = count-stage_after steps k in
+        let (stage, lo, hi, w, count) = at_step k l in
         let before = rights_at k (omega arith) in
         record {
           run = λ i m e. elim (cases_edge g s label i step m) [
@@ -129,11 +129,8 @@ module _ (steps : ℕ → Step) (n : ℕ) (h : IsLabelledRun steps n) (at : Numb
         let g = stage_after steps k in
         let s = steps k in
         let c = turn_of steps k in
-        let stage = stage_at k (omega arith) in
-        let step = h.run k l in
-        let w = step.within in
+        let (stage, lo, hi, w, count) = at_step k l in
         let t = turn-step steps k n h l in
-        let hi = t.high in
         let before = rights_at k (omega arith) in
         elim (cases_side g s.first c (at.x (k + 2)) (r k) v) [
           | inr e ↦ inr e
@@ -216,14 +213,8 @@ module _ (steps : ℕ → Step) (n : ℕ) (h : IsLabelledRun steps n) (at : Numb
         let s = steps k in
         let label = labels steps k in
         let c = turn_of steps k in
-        let stage = stage_at k (omega arith) in
         let step = h.run k l in
-        let o = step.order in
-        let w = step.within in
-        let t = turn-step steps k n h l in
-        let lo = t.low in
-        let hi = t.high in
-        let count = count-stage_after steps k in
+        let (stage, lo, hi, w, count) = at_step k l in
         let before = highs_at k (omega arith) in
         let some : (i : ℕ) → suc i < g.width → (i < s.first) ⊎ (s.last ≤ i) → 0 < k = λ i m out. elim (cases_lt 0 k) [
           | inl a ↦ a
@@ -265,12 +256,8 @@ module _ (steps : ℕ → Step) (n : ℕ) (h : IsLabelledRun steps n) (at : Numb
         let g = stage_after steps k in
         let s = steps k in
         let c = turn_of steps k in
-        let stage = stage_at k (omega arith) in
-        let step = h.run k l in
-        let w = step.within in
+        let (stage, lo, hi, w, count) = at_step k l in
         let t = turn-step steps k n h l in
-        let lo = t.low in
-        let hi = t.high in
         let before = highs_at k (omega arith) in
         elim (cases_side g (suc c) s.last (at.y (k + 2)) (u k) v) [
           | inr e ↦ inr e
