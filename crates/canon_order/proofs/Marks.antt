@@ -1,6 +1,7 @@
 -- Marks that are set and taken away, the counts of marked neighbours, and what a mark puts on the stack.
 use Rattle.std.proofs.Common.{◌≡◌, ◌≢◌, ◌⊎◌, ◌↔◌, ◌&&◌, ℕ, ◌+◌, ◌-◌, ◌<◌, ◌≤◌, Bool, true, false, not, cond, eqb, List, [], ◌∷◌, length, get_or, take, set, count_by, Contains, All, refl, sym, ap, ap₂, ◌∙◌, subst, inl, inr, arith, ltb, lt-ltb, ltb-true, eq-eqb, ne_eqb, length-set, get_or-set_same, get_or-set_other}
 use Rattle.std.proofs.Common.{Result, Ok, Err, IfOk}
+use Rattle.std.proofs.Math.Seq.{take-length}
 use Rattle.std.proofs.lemmas.Bool.{cases_eq, cases_lt, cases_Bool, true≢false, false≢true, and_parts, and_from, and_right, not-true}
 use Rattle.std.proofs.lemmas.List.{get_or_past, get_or_default, take_more, length-take-le, get_or-take}
 use Rattle.std.proofs.lemmas.List.Sums.{sum_by-cons, count_by-le-length}
@@ -172,6 +173,22 @@ IsNoted-unmarked lists marked near stack v marked' near' stack' l e tally elsewh
   ];
 }
 
+-- the vertex v has no mark any more, and one was taken away for each entry of its list
+pub IsNoted-lowered : (lists : Lists) → IsSimpleMap lists → (marked : List Bool) (near stack : List ℕ) (v : ℕ) → v < length lists → IsTally lists marked near → All (λ u. u < length lists) stack → is_set marked v ≡ true → (list : List ℕ) → list ≡ list_of lists v → (near' stack' : List ℕ) → length near' ≡ length near → ((w : ℕ) → w < length near → get_or near' w 0 + count_of w list ≡ get_or near w 0) → ((w : ℕ) → Contains stack w → Contains stack' w) → ((n : ℕ) → All (λ w. w < n) list → All (λ w. w < n) stack → All (λ w. w < n) stack') → ((w : ℕ) → Contains list w → is_set (set marked v false) w ≡ true → get_or near' w 0 ≡ 2 → Contains stack' w) → IsNoted lists marked near stack (set marked v false) near' stack'
+IsNoted-lowered lists simple marked near stack v vertex tally vertices on list is near' stack' same counts kept below noted =
+    let own = subst (λ (us : List ℕ). (w : ℕ) → w < length near → get_or near' w 0 + count_of w us ≡ get_or near w 0) is counts in
+    let within = subst (λ (us : List ℕ). All (λ u. u < length lists) us) (sym is) (list_within lists simple v vertex) in
+    IsNoted-unmarked lists marked near stack v _ near' stack' (let m = tally.marks_of_all in omega arith) refl
+    (IsTally-unmarked lists simple marked near v vertex tally near' same on own)
+    (elsewhere-unmarked lists simple marked near v vertex tally near' same own)
+    (below (length lists) within vertices)
+    kept
+    (λ u has alive two. noted u (subst (λ (us : List ℕ). Contains us u) (sym is) has) alive two)
+
+-- nothing changed
+pub IsNoted-none : (lists : Lists) (marked : List Bool) (near stack : List ℕ) → IsTally lists marked near → All (λ u. u < length lists) stack → IsNoted lists marked near stack marked near stack
+IsNoted-none lists marked near stack tally vertices = record { tally = tally; vertices = vertices; kept = λ u c. c; noted = λ u on two. inr (on, refl) }
+
 -- one after another
 pub IsNoted-chained : (lists : Lists) (m0 : List Bool) (n0 s0 : List ℕ) (m1 : List Bool) (n1 s1 : List ℕ) (m2 : List Bool) (n2 s2 : List ℕ) → IsNoted lists m0 n0 s0 m1 n1 s1 → IsNoted lists m1 n1 s1 m2 n2 s2 → IsNoted lists m0 n0 s0 m2 n2 s2
 IsNoted-chained lists m0 n0 s0 m1 n1 s1 m2 n2 s2 one two = record {
@@ -195,6 +212,14 @@ noted-more marked us near near' stack stack' i l other kept own before w c on tw
         | inr c' ↦ absurd (ne (each_of_one (λ z. z ≡ x) x refl w c'))
       ]
     ]
+
+-- where all entries were noted
+pub noted-all : (marked : List Bool) (us near stack : List ℕ) (i : ℕ) → i ≡ length us → ((w : ℕ) → Contains (take i us) w → is_set marked w ≡ true → get_or near w 0 ≡ 2 → Contains stack w) → (w : ℕ) → Contains us w → is_set marked w ≡ true → get_or near w 0 ≡ 2 → Contains stack w
+noted-all marked us near stack i all h = subst (λ (vs : List ℕ). (w : ℕ) → Contains vs w → is_set marked w ≡ true → get_or near w 0 ≡ 2 → Contains stack w) (ap (λ k. take k us) all ∙ take-length us) h
+
+-- what no entry of a list adds to some marks
+pub marks-none : (p passes : ℕ → Type 0) (us : List ℕ) (u : ℕ) → p u ↔ (p u ⊎ (Contains (take 0 us) u × passes u))
+marks-none p passes us u = (λ t. inl t, λ e. elim e [ inl t ↦ t | inr c ↦ absurd (omega (arith, c.0.1)) ])
 
 -- one more of a list marked, if it passes
 pub marks-more : (p0 p1 p2 passes : ℕ → Type 0) (us : List ℕ) (i : ℕ) → i < length us → ((u : ℕ) → p1 u ↔ (p0 u ⊎ (Contains (take i us) u × passes u))) → ((u : ℕ) → p2 u ↔ (p1 u ⊎ ((u ≡ get_or us i 0) × passes u))) → (u : ℕ) → p2 u ↔ (p0 u ⊎ (Contains (take (i + 1) us) u × passes u))

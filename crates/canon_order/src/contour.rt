@@ -1,10 +1,10 @@
 //! The outer cycle of what is left, while vertices that look removable are taken off it.
-ghost use Rattle.std.specs.Prelude.{◌≡◌, ◌≢◌, ◌<◌, ◌⊎◌, ◌↔◌, ℕ, false, true, [], ◌∷◌, length, slice_set, Contains, All, IsTrue, IfOk};
-ghost use Rattle.canon_order.specs.Marks.{is_set, IsTally, IsUnmarked, IsNoted, IsTaken};
+ghost use Rattle.std.specs.Prelude.{◌≡◌, ◌≢◌, ◌<◌, ◌↔◌, ℕ, true, [], ◌∷◌, length, Contains, IsTrue, IfOk};
+ghost use Rattle.canon_order.specs.Marks.{is_set, IsUnmarked};
 ghost use Rattle.canon_order.specs.Contours.{LooksRemovable, IsPrepared};
 
 use crate::base::Base;
-use crate::cycle_marks::{leave_cycle, mark_three};
+use crate::cycle_marks::Three;
 use std::alloc::AllocError;
 
 // Whether a vertex looks removable.
@@ -38,28 +38,6 @@ pub(crate) fn removable_vertex(
     base.t
 }
 
-// Takes a vertex off: its neighbours that are left are on the outer cycle now.
-pub(crate) fn take_off(
-    marked: &mut [bool],
-    near: &mut [u16],
-    gone: &mut [bool],
-    stack: &mut Vec<u16>,
-    base: &Base<'_>,
-    v: u16,
-) -> Result<(), AllocError>
-    requires gone { length gone.old ≡ length base.now.lists.now }
-    requires tally { IsTally base.now.lists.now marked.old near.old }
-    requires vertices { All (λ u. u < length base.now.lists.now) stack.old.items }
-    requires marked { (v < length base.now.lists.now) × (is_set marked.old v ≡ true) }
-    ensures noted { IfOk result (λ _. IsNoted base.now.lists.now marked.old near.old stack.old.items marked.new near.new stack.new.items) }
-    ensures taken { IfOk result (λ _. IsTaken base.now.lists.now v marked.old gone.old marked.new gone.new) }
-{
-    base.facts();
-    gone[v as usize] = true;
-    leave_cycle(marked, near, stack, gone, base.lists, v)?;
-    Ok(())
-}
-
 // Marks the three vertices of the base's face, of which just one may look removable.
 pub(crate) fn mark_base(
     marked: &mut [bool],
@@ -73,7 +51,13 @@ pub(crate) fn mark_base(
     ensures marked { (u : ℕ) → (is_set marked.new u ≡ true) ↔ Contains (base.now.s ∷ base.now.third ∷ base.now.t ∷ []) u }
 {
     base.facts();
-    mark_three(marked, near, base.lists, base.s, base.third, base.t);
+    let three = Three {
+        lists: base.lists,
+        first: base.s,
+        second: base.third,
+        third: base.t,
+    };
+    three.mark_all(marked, near);
     stack.push(base.third)?;
     Ok(())
 }

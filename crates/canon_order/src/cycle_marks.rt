@@ -27,144 +27,130 @@ pub fn mark(marks: &mut [bool], counts: &mut [u16], lists: &Rotations, v: u16)
     raise(counts, lists.list(v as usize));
 }
 
-/// Marks three vertices, where none is marked.
-#[inline(always)]
-pub fn mark_three(
-    marks: &mut [bool],
-    counts: &mut [u16],
-    lists: &Rotations,
-    first: u16,
-    second: u16,
-    third: u16,
-)
-    requires simple { IsSimpleMap lists.now }
-    requires first { first < length lists.now }
-    requires second { second < length lists.now }
-    requires third { third < length lists.now }
-    requires first_second { first ≢ second }
-    requires first_third { first ≢ third }
-    requires second_third { second ≢ third }
-    requires unmarked { IsUnmarked lists.now marks.old counts.old }
-    ensures tally { IsTally lists.now marks.new counts.new }
-    ensures marks { (u : ℕ) → (is_set marks.new u ≡ true) ↔ Contains (first ∷ second ∷ third ∷ []) u }
-{
-    mark(marks, counts, lists, first);
-    mark(marks, counts, lists, second);
-    mark(marks, counts, lists, third);
+/// Names three vertices of a map, no two of which are the same.
+#[derive(Clone, Copy)]
+pub struct Three<'a> {
+    /// The lists of the map.
+    pub lists: &'a Rotations,
+    /// The first of them.
+    pub first: u16,
+    /// The second of them.
+    pub second: u16,
+    /// The third of them.
+    pub third: u16,
+    pub ghost first_in: { first < length lists.now },
+    pub ghost second_in: { second < length lists.now },
+    pub ghost third_in: { third < length lists.now },
+    pub ghost first_second: { first ≢ second },
+    pub ghost first_third: { first ≢ third },
+    pub ghost second_third: { second ≢ third },
 }
 
-// Marks a vertex that is not marked, and notes it and its marked neighbours.
-fn mark_new(
-    marked: &mut [bool],
-    near: &mut [u16],
-    stack: &mut Vec<u16>,
-    lists: &Rotations,
-    v: u16,
-) -> Result<(), AllocError>
-    requires simple { IsSimpleMap lists.now }
-    requires vertex { v < length lists.now }
-    requires tally { IsTally lists.now marked.old near.old }
-    requires vertices { All (λ u. u < length lists.now) stack.old.items }
-    requires unmarked { is_set marked.old v ≡ false }
-    ensures noted { IfOk result (λ _. IsNoted lists.now marked.old near.old stack.old.items marked.new near.new stack.new.items) }
-    ensures marks { marked.new ≡ slice_set marked.old v true }
-{
-    lists.facts();
-    marked[v as usize] = true;
-    note(near, stack, marked, v)?;
-    raise_noting(near, stack, marked, lists.list(v as usize))
+impl Three<'_> {
+    /// Marks the three vertices in `marks`, where none is marked, and counts in `counts` for each vertex how many of its
+    /// neighbours are marked then.
+    #[inline(always)]
+    pub fn mark_all(&self, marks: &mut [bool], counts: &mut [u16])
+        requires simple { IsSimpleMap self.now.lists.now }
+        requires unmarked { IsUnmarked self.now.lists.now marks.old counts.old }
+        ensures tally { IsTally self.now.lists.now marks.new counts.new }
+        ensures marks { (u : ℕ) → (is_set marks.new u ≡ true) ↔ Contains (self.now.first ∷ self.now.second ∷ self.now.third ∷ []) u }
+    {
+        mark(marks, counts, self.lists, self.first);
+        mark(marks, counts, self.lists, self.second);
+        mark(marks, counts, self.lists, self.third);
+    }
 }
 
-// Takes the mark of a vertex away, and notes its marked neighbours.
-fn unmark_old(
-    marked: &mut [bool],
-    near: &mut [u16],
-    stack: &mut Vec<u16>,
-    lists: &Rotations,
-    list: &[u16],
-    v: u16,
-) -> Result<(), AllocError>
-    requires simple { IsSimpleMap lists.now }
-    requires vertex { v < length lists.now }
-    requires list { list.now ≡ list_of lists.now v }
-    requires tally { IsTally lists.now marked.old near.old }
-    requires vertices { All (λ u. u < length lists.now) stack.old.items }
-    requires marked { is_set marked.old v ≡ true }
-    ensures noted { IfOk result (λ _. IsNoted lists.now marked.old near.old stack.old.items marked.new near.new stack.new.items) }
-    ensures neighbours { IfOk result (λ _. (u : ℕ) → Contains (list_of lists.now v) u → is_set marked.new u ≡ true → slice_index near.new u ≡ 2 → Contains stack.new.items u) }
-    ensures marks { marked.new ≡ slice_set marked.old v false }
-{
-    marked[v as usize] = false;
-    lower_noting(near, stack, marked, list)
+/// Lends the lists of a map and the marks of the vertices that were taken off it, and names one of its vertices.
+#[derive(Clone, Copy)]
+pub struct AtVertex<'a> {
+    /// The lists of the map.
+    pub lists: &'a Rotations,
+    /// For each vertex whether it was taken off.
+    pub gone: &'a [bool],
+    /// The vertex.
+    pub v: u16,
+    pub ghost few: { length lists.now < 4096 },
+    pub ghost simple: { ∥ IsSimpleMap lists.now ∥₁ },
+    pub ghost vertex: { v < length lists.now },
+    pub ghost marks: { length gone.now ≡ length lists.now },
 }
 
-// Marks a vertex, if it is left and not marked.
-fn mark_left(
-    marked: &mut [bool],
-    near: &mut [u16],
-    stack: &mut Vec<u16>,
-    gone: &[bool],
-    lists: &Rotations,
-    v: u16,
-) -> Result<(), AllocError>
-    requires simple { IsSimpleMap lists.now }
-    requires vertex { v < length lists.now }
-    requires gone { length gone.now ≡ length lists.now }
-    requires tally { IsTally lists.now marked.old near.old }
-    requires vertices { All (λ u. u < length lists.now) stack.old.items }
-    ensures noted { IfOk result (λ _. IsNoted lists.now marked.old near.old stack.old.items marked.new near.new stack.new.items) }
-    ensures marks { IfOk result (λ _. (u : ℕ) → (is_set marked.new u ≡ true) ↔ ((is_set marked.old u ≡ true) ⊎ ((u ≡ v) × (is_set gone.now u ≡ false)))) }
-{
-    if !gone[v as usize] && !marked[v as usize] {
-        mark_new(marked, near, stack, lists, v)
-    } else {
+impl AtVertex<'_> {
+    // Does nothing. By its contract a proof learns what holds of the map.
+    fn facts(&self)
+        ensures { IsSimpleMap self.now.lists.now }
+    {}
+
+    // Marks the vertex, which is not marked, and notes it and its marked neighbours.
+    #[inline(always)]
+    fn mark_new(
+        &self,
+        marked: &mut [bool],
+        near: &mut [u16],
+        stack: &mut Vec<u16>,
+    ) -> Result<(), AllocError>
+        requires tally { IsTally self.now.lists.now marked.old near.old }
+        requires vertices { All (λ u. u < length self.now.lists.now) stack.old.items }
+        requires unmarked { is_set marked.old self.now.v ≡ false }
+        ensures noted { IfOk result (λ _. IsNoted self.now.lists.now marked.old near.old stack.old.items marked.new near.new stack.new.items) }
+        ensures marks { marked.new ≡ slice_set marked.old self.now.v true }
+    {
+        self.facts();
+        marked[self.v as usize] = true;
+        note(near, stack, marked, self.v)?;
+        raise_noting(near, stack, marked, self.lists.list(self.v as usize))
+    }
+
+    // Marks the vertex, if it is left and not marked.
+    #[inline(always)]
+    fn mark_left(
+        &self,
+        marked: &mut [bool],
+        near: &mut [u16],
+        stack: &mut Vec<u16>,
+    ) -> Result<(), AllocError>
+        requires tally { IsTally self.now.lists.now marked.old near.old }
+        requires vertices { All (λ u. u < length self.now.lists.now) stack.old.items }
+        ensures noted { IfOk result (λ _. IsNoted self.now.lists.now marked.old near.old stack.old.items marked.new near.new stack.new.items) }
+        ensures marks { IfOk result (λ _. (u : ℕ) → (is_set marked.new u ≡ true) ↔ ((is_set marked.old u ≡ true) ⊎ ((u ≡ self.now.v) × (is_set self.now.gone.now u ≡ false)))) }
+    {
+        if !self.gone[self.v as usize] && !marked[self.v as usize] {
+            self.mark_new(marked, near, stack)
+        } else {
+            Ok(())
+        }
+    }
+
+    /// Takes the vertex off the outer cycle, of which `marked` has the marks and `near` counts each vertex's neighbours:
+    /// its own neighbours that are left are on the cycle now. What may be taken off next for that goes on `stack`.
+    pub fn leave_cycle(
+        &self,
+        marked: &mut [bool],
+        near: &mut [u16],
+        stack: &mut Vec<u16>,
+    ) -> Result<(), AllocError>
+        requires tally { IsTally self.now.lists.now marked.old near.old }
+        requires vertices { All (λ u. u < length self.now.lists.now) stack.old.items }
+        requires marked { is_set marked.old self.now.v ≡ true }
+        ensures noted { IfOk result (λ _. IsNoted self.now.lists.now marked.old near.old stack.old.items marked.new near.new stack.new.items) }
+        ensures neighbours { IfOk result (λ _. (u : ℕ) → Contains (list_of self.now.lists.now self.now.v) u → is_set marked.new u ≡ true → slice_index near.new u ≡ 2 → Contains stack.new.items u) }
+        ensures marks { IfOk result (λ _. (u : ℕ) → (is_set marked.new u ≡ true) ↔ ((is_set (slice_set marked.old self.now.v false) u ≡ true) ⊎ (Contains (list_of self.now.lists.now self.now.v) u × (is_set self.now.gone.now u ≡ false)))) }
+    {
+        self.facts();
+        let at = *self;
+        let list = at.lists.list(at.v as usize);
+        marked[at.v as usize] = false;
+        lower_noting(near, stack, marked, list)?;
+        for u in list {
+            let neighbour = AtVertex {
+                lists: at.lists,
+                gone: at.gone,
+                v: *u,
+            };
+            neighbour.mark_left(marked, near, stack)?;
+        }
         Ok(())
     }
-}
-
-// Marks those of some vertices that are left, and not marked.
-fn mark_all(
-    marked: &mut [bool],
-    near: &mut [u16],
-    stack: &mut Vec<u16>,
-    gone: &[bool],
-    lists: &Rotations,
-    entries: &[u16],
-) -> Result<(), AllocError>
-    requires simple { IsSimpleMap lists.now }
-    requires entries { All (λ u. u < length lists.now) entries.now }
-    requires gone { length gone.now ≡ length lists.now }
-    requires tally { IsTally lists.now marked.old near.old }
-    requires vertices { All (λ u. u < length lists.now) stack.old.items }
-    ensures noted { IfOk result (λ _. IsNoted lists.now marked.old near.old stack.old.items marked.new near.new stack.new.items) }
-    ensures marks { IfOk result (λ _. (u : ℕ) → (is_set marked.new u ≡ true) ↔ ((is_set marked.old u ≡ true) ⊎ (Contains entries.now u × (is_set gone.now u ≡ false)))) }
-{
-    for u in entries {
-        mark_left(marked, near, stack, gone, lists, *u)?;
-    }
-    Ok(())
-}
-
-/// Takes a vertex off the outer cycle: its neighbours that are left are on it now.
-pub fn leave_cycle(
-    marked: &mut [bool],
-    near: &mut [u16],
-    stack: &mut Vec<u16>,
-    gone: &[bool],
-    lists: &Rotations,
-    v: u16,
-) -> Result<(), AllocError>
-    requires simple { IsSimpleMap lists.now }
-    requires vertex { v < length lists.now }
-    requires gone { length gone.now ≡ length lists.now }
-    requires tally { IsTally lists.now marked.old near.old }
-    requires vertices { All (λ u. u < length lists.now) stack.old.items }
-    requires marked { is_set marked.old v ≡ true }
-    ensures noted { IfOk result (λ _. IsNoted lists.now marked.old near.old stack.old.items marked.new near.new stack.new.items) }
-    ensures neighbours { IfOk result (λ _. (u : ℕ) → Contains (list_of lists.now v) u → is_set marked.new u ≡ true → slice_index near.new u ≡ 2 → Contains stack.new.items u) }
-    ensures marks { IfOk result (λ _. (u : ℕ) → (is_set marked.new u ≡ true) ↔ ((is_set (slice_set marked.old v false) u ≡ true) ⊎ (Contains (list_of lists.now v) u × (is_set gone.now u ≡ false)))) }
-{
-    let list = lists.list(v as usize);
-    unmark_old(marked, near, stack, lists, list, v)?;
-    mark_all(marked, near, stack, gone, lists, list)
 }

@@ -7,7 +7,8 @@ ghost use Rattle.canon_order.specs.Marks.{is_set, IsUnmarked};
 ghost use Rattle.canon_order.specs.Orders.{IsCanonicalOrder, vertices_of};
 
 use crate::base::Base;
-use crate::contour::{mark_base, removable_vertex, take_off};
+use crate::contour::{mark_base, removable_vertex};
+use crate::cycle_marks::AtVertex;
 use crate::fault::OrderFault;
 use crate::lists::{entry_behind, resized, turned_vertices};
 use crate::numbered::Order;
@@ -46,7 +47,13 @@ fn peel(
     mark_base(marked, near, stack, base)?;
     for k in (3..base.lists.len()).rev() {
         let v = removable_vertex(marked, near, stack, base);
-        take_off(marked, near, gone, stack, base, v)?;
+        gone[v as usize] = true;
+        let off = AtVertex {
+            lists: base.lists,
+            gone,
+            v,
+        };
+        off.leave_cycle(marked, near, stack)?;
         at[k] = VertexId(v);
     }
     put_first(at, base);

@@ -1,7 +1,5 @@
-use Rattle.std.proofs.Common.{◌≡◌, ◌<◌, ℕ, List, true, length, slice_index, take, Contains, ap, ◌∙◌, subst, arith, get_or-set_other}
-use Rattle.std.proofs.Math.Seq.{take-length}
-use Rattle.canon_order.specs.Marks.{is_set}
-use Rattle.canon_order.proofs.Marks.{noted-more}
+use Rattle.std.proofs.Common.{◌<◌, length, slice_index, arith, get_or-set_other}
+use Rattle.canon_order.proofs.Marks.{noted-more, noted-all}
 use Rattle.canon_order.proofs.Counters.{counted_before, counted_up}
 use Rattle.canon_order.proofs.lists.raise_noting.Goals as goal
 
@@ -20,10 +18,7 @@ loop-u-preserved c =
     let h = c.loop-u.invariant in
     let us = c.args.entries.now in
     let i = c.loop-u.u-index in
-    let u = slice_index us i in
-    let l = c.requires.within i 0 c.loop-u-test.true in
-    let same = c.loop-u.auto.counts in
-    let k : u < length c.loop-u.counts = omega arith in
+    let k : slice_index us i < length c.loop-u.counts = omega (arith, c.requires.within i 0 c.loop-u-test.true, c.loop-u.auto.counts) in
     record {
       counts = counted_up us c.loop-u.counts c.args.counts.now i c.loop-u-test.true k h.counts;
       kept = λ w has. c.in_ok-note.ensures.kept w (h.kept w has);
@@ -33,7 +28,4 @@ loop-u-preserved c =
 
 pub returns-clause-noted : goal.returns-clause-noted
 returns-clause-noted c =
-    let us = c.args.entries.now in
-    let all : c.loop-u.u-index ≡ length us = omega arith in
-    let whole = ap (λ k. take k us) all ∙ take-length us in
-    subst (λ (vs : List ℕ). (w : ℕ) → Contains vs w → is_set c.args.marked.now w ≡ true → slice_index c.loop-u.counts w ≡ 2 → Contains c.loop-u.stack.items w) whole c.loop-u.invariant.noted
+    noted-all c.args.marked.now c.args.entries.now c.loop-u.counts c.loop-u.stack.items c.loop-u.u-index (omega arith) c.loop-u.invariant.noted

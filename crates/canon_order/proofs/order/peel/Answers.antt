@@ -1,7 +1,7 @@
-use Rattle.std.proofs.Common.{◌≡◌, ◌↔◌, ◌-◌, ◌+◌, ℕ, List, true, [], ◌∷◌, length, drop, Contains, sym, ap, ap₂, ◌∙◌, subst, arith, length-set}
+use Rattle.std.proofs.Common.{◌≡◌, ◌↔◌, ◌-◌, ◌+◌, ℕ, List, true, [], ◌∷◌, length, drop, Contains, refl, sym, ap, ap₂, ◌∙◌, set, subst, arith, length-set}
 use Rattle.std.proofs.lemmas.List.{length-map, length-drop, drop_all}
 use Rattle.map_lists.specs.declared.ids.VertexId.{VertexId}
-use Rattle.canon_order.specs.Marks.{is_set}
+use Rattle.canon_order.specs.Marks.{is_set, IsTaken}
 use Rattle.canon_order.specs.Contours.{IsContour}
 use Rattle.canon_order.specs.Orders.{IsCanonicalOrder}
 use Rattle.canon_order.proofs.Contours.{IsPrepared-noted, IsContour-begin, some_looks_removable, IsContour-taken, IsContour-three}
@@ -26,6 +26,14 @@ removable_vertex-v-requires-clause-some c =
     let h = c.loop-k.invariant in
     some_looks_removable c.args.base.now.lists.now c.args.base.now.t c.args.base.now.s c.facts.ensures.triangulation c.loop-k.gone c.loop-k.marked _ h.contour c.loop-k.near h.prepared.tally
 
+pub invariant_of-off : goal.invariant_of-off
+invariant_of-off c = record {
+  few = c.args.base.now.few;
+  simple = ∣ c.facts.ensures.triangulation.simple ∣₁;
+  vertex = c.removable_vertex-v.ensures.vertex;
+  marks = length-set c.loop-k.gone c.removable_vertex-v.result true ∙ c.loop-k.invariant.gone_count;
+}
+
 pub loop-k-preserved : goal.loop-k-preserved
 loop-k-preserved c =
     let h = c.loop-k.invariant in
@@ -33,7 +41,8 @@ loop-k-preserved c =
     let at = c.loop-k.at in
     let k = c.loop-k.k - 1 in
     let v = c.removable_vertex-v.result in
-    let taken = c.in_ok-take_off.ensures.taken in
+    let gone = set c.loop-k.gone v true in
+    let taken : IsTaken lists v c.loop-k.marked c.loop-k.gone c.leave_cycle.new.marked gone = record { gone_is = refl; marks = c.in_ok-leave_cycle.ensures.marks } in
     let test = c.loop-k-test.true in
     let high = c.loop-k.auto.k in
     let same = c.loop-k.auto.at in
@@ -43,12 +52,12 @@ loop-k-preserved c =
     let rest = length-drop c.loop-k.k (numbers at) in
     let one : c.loop-k.k ≡ k + 1 = omega arith in
     let contour = IsContour-taken lists c.args.base.now.t c.args.base.now.s c.facts.ensures.triangulation c.loop-k.gone c.loop-k.marked _ h.contour c.loop-k.near h.prepared.tally v c.removable_vertex-v.ensures.removable
-    (omega arith) h.gone_count c.take_off.new.marked c.take_off.new.gone taken in
+    (omega arith) h.gone_count c.leave_cycle.new.marked gone taken in
     record {
       gone_count = ap length taken.gone_is ∙ (length-set c.loop-k.gone v true ∙ h.gone_count);
-      prepared = IsPrepared-noted lists c.args.base.now.t c.args.base.now.s c.loop-k.marked c.loop-k.near c.removable_vertex-v.new.stack.items c.take_off.new.marked c.take_off.new.near c.take_off.new.stack.items c.in_ok-take_off.ensures.noted c.removable_vertex-v.ensures.prepared;
+      prepared = IsPrepared-noted lists c.args.base.now.t c.args.base.now.s c.loop-k.marked c.loop-k.near c.removable_vertex-v.new.stack.items c.leave_cycle.new.marked c.leave_cycle.new.near c.leave_cycle.new.stack.items c.in_ok-leave_cycle.ensures.noted c.removable_vertex-v.ensures.prepared;
       low = let test = c.loop-k-test.true in omega arith;
-      contour = subst (λ (us : List ℕ). IsContour lists c.args.base.now.t c.args.base.now.s c.take_off.new.gone c.take_off.new.marked us)
+      contour = subst (λ (us : List ℕ). IsContour lists c.args.base.now.t c.args.base.now.s gone c.leave_cycle.new.marked us)
           (ap (λ j. v ∷ drop j (numbers at)) one ∙ sym (numbers_put at k (record { 0 = v }) (omega arith))) contour;
     }
 

@@ -1,4 +1,5 @@
-use Rattle.canon_order.proofs.Known.{HasDart-known, IsTriangulation-known}
+use Rattle.map_theory.proofs.Known.{HasDart-known}
+use Rattle.canon_order.proofs.Known.{IsTriangulation-known}
 use Rattle.canon_order.proofs.base.Base.facts.Goals as goal
 
 pub returns-clause-triangulation : goal.returns-clause-triangulation
