@@ -1,5 +1,5 @@
 -- The least places of the ranges, and the vertices at them, are an st-order.
-use Rattle.std.proofs.Common.{◌≡◌, ◌≢◌, ℕ, ◌-◌, ◌<◌, Bool, false, List, length, get_or, sym, ap, ◌∙◌, subst, inl, inr, arith}
+use Rattle.std.proofs.Common.{◌≡◌, ◌≢◌, ℕ, ◌-◌, ◌<◌, Bool, List, length, get_or, sym, ap, ◌∙◌, subst, inl, inr, arith}
 use Rattle.std.proofs.lemmas.Bool.{cases_eq, cases_lt, cases_Bool}
 use Rattle.std.proofs.lemmas.List.{get_or_default}
 use Rattle.classes.proofs.Orbits.{IsPermuting}
@@ -40,20 +40,25 @@ module _ (lists : Lists) (adjacency : IsAdjacency lists) (order number last pare
   permuting : IsPermuting (λ v. get_or from v 0) (length lists)
   permuting = IsPermuting-places lists _ _ _ _ _ _ _ w.whole _ _ _ _ p.placing
 
+  -- each vertex but the first two stands between two neighbours
+  between : (v : ℕ) → v < length lists → 1 < get_or number v 0 → HasEarlier lists from v × HasLater lists from v
+  between v l two =
+      let a = across lists adjacency _ _ _ _ _ _ _ w.whole _ _ _ _ p.placing v l (omega arith) in
+      let up = w.whole.has_parent v l (omega arith) in
+      let b = by_parent lists adjacency _ _ _ _ _ _ _ w.whole _ _ _ _ p.placing v l up in
+      let back = adjacency.both_ways (get_or parent v 0) v (w.whole.forest.adjacent v l up) in
+      elim (cases_Bool (p.side v)) [
+        | inl is_set ↦ ((a.0, a.1, a.2 is_set), (get_or parent v 0, back, b.0 is_set))
+        | inr is_clear ↦ ((get_or parent v 0, back, b.1 is_clear), (a.0, a.1, a.3 is_clear))
+      ]
+
   earlier : HasDart lists s t → (v : ℕ) → v < length lists → v ≢ s → HasEarlier lists from v
   earlier dart v l ne =
       let f = w.whole.forest in
       let first = w.whole.s_first in
       let second = w.whole.t_second in
       elim (cases_lt 1 (get_or number v 0)) [
-        | inl two ↦
-            let a = across lists adjacency _ _ _ _ _ _ _ w.whole _ _ _ _ p.placing v l (omega arith) in
-            let up = w.whole.has_parent v l (omega arith) in
-            let b = by_parent lists adjacency _ _ _ _ _ _ _ w.whole _ _ _ _ p.placing v l up in
-            elim (cases_Bool (p.side v)) [
-              | inl is_set ↦ (a.0, a.1, a.2 is_set)
-              | inr is_clear ↦ (get_or parent v 0, adjacency.both_ways (get_or parent v 0) v (f.adjacent v l up), b.1 is_clear)
-            ]
+        | inl two ↦ (between v l two).0
         | inr few ↦
             let is_t : v ≡ t = elim (cases_eq (get_or number v 0) 0) [
               | inl e ↦ absurd (ne (same_vertex lists _ _ _ _ f v s l w.whole.s_in (e ∙ sym first)))
@@ -68,14 +73,7 @@ module _ (lists : Lists) (adjacency : IsAdjacency lists) (order number last pare
       let first = w.whole.s_first in
       let second = w.whole.t_second in
       elim (cases_lt 1 (get_or number v 0)) [
-        | inl two ↦
-            let a = across lists adjacency _ _ _ _ _ _ _ w.whole _ _ _ _ p.placing v l (omega arith) in
-            let up = w.whole.has_parent v l (omega arith) in
-            let b = by_parent lists adjacency _ _ _ _ _ _ _ w.whole _ _ _ _ p.placing v l up in
-            elim (cases_Bool (p.side v)) [
-              | inl is_set ↦ (get_or parent v 0, adjacency.both_ways (get_or parent v 0) v (f.adjacent v l up), b.0 is_set)
-              | inr is_clear ↦ (a.0, a.1, a.3 is_clear)
-            ]
+        | inl two ↦ (between v l two).1
         | inr few ↦
             let is_s : v ≡ s = elim (cases_eq (get_or number v 0) 0) [
               | inl e ↦ same_vertex lists _ _ _ _ f v s l w.whole.s_in (e ∙ sym first)

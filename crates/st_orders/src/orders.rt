@@ -8,7 +8,7 @@ ghost use Rattle.graph_search.specs.Cuts.{IsCutVertex};
 ghost use Rattle.st_orders.specs.StOrders.{IsStOrder, IsStOrderOf};
 ghost use Rattle.st_orders.specs.Placing.{ArePlaces};
 
-use crate::places::Ranges;
+use crate::places::{LowSearch, Ranges};
 use graph_search::search_forests::{Forest, low_points, search_forest_along};
 use half_edges::{Counts, DartId, HalfMap, Rotations, VertexId, VertexList};
 use std::alloc::{AllocError, Global};
@@ -79,28 +79,9 @@ pub fn fill_places(
     ensures order { IfOk result (λ _. (at : List ℕ) × IsStOrder lists.now s t at ranges.new.from.items) }
 {
     ranges.make_room(lists)?;
-    ranges.place_all(lists, forest, low);
+    let search = LowSearch { lists, forest, low };
+    ranges.place_all(&search);
     Ok(())
-}
-
-// The order with these places.
-fn order_of(
-    alloc: Global,
-    lists: &Rotations,
-    from: &[u16],
-    s: u16,
-    t: u16,
-) -> Result<StOrder, AllocError>
-    requires places { ArePlaces lists.now s t from.now }
-    ensures { IfOk result (λ order. IsStOrderOf lists.now s t order) }
-{
-    lists.facts();
-    let mut at = vec![in alloc; 0u16; from.len()]?;
-    put_all(from, &mut at);
-    Ok(StOrder {
-        at: vertices_of(alloc, &at)?,
-        rank: counts_of(alloc, from)?,
-    })
 }
 
 // An st-order of lists for the dart from s to t.
@@ -111,11 +92,17 @@ fn list_order(alloc: Global, lists: &Rotations, s: u16, t: u16) -> Result<StOrde
     requires dart { HasDart lists.now s t }
     ensures { IfOk result (λ order. IsStOrderOf lists.now s t order) }
 {
+    let n = lists.len();
     let forest = search_forest_along(alloc, lists, s, t)?;
     let low = low_points(alloc, lists, &forest)?;
     let mut ranges = Ranges::new(alloc);
     fill_places(&mut ranges, lists, &forest, &low, s, t)?;
-    order_of(alloc, lists, &ranges.from, s, t)
+    let mut at = vec![in alloc; 0u16; n]?;
+    put_all(&ranges.from, &mut at);
+    Ok(StOrder {
+        at: vertices_of(alloc, &at)?,
+        rank: counts_of(alloc, &ranges.from)?,
+    })
 }
 
 /// Like [`fill_places`], but returns the places alone, in memory of their own.

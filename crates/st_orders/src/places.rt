@@ -3,9 +3,18 @@ ghost use Rattle.std.specs.Prelude.{◌≡◌, ◌+◌, ◌<◌, ◌≤◌, ◌�
 ghost use Rattle.std.specs.Prelude.{IfOk};
 ghost use Rattle.st_orders.specs.Placing.{IsCarved, IsWholeBy, AreTables, ArePlacedBelow};
 
-use graph_search::search_forests::Forest;
+use graph_search::search_forests::{Forest, size};
 use map_lists::Rotations;
 use std::alloc::{AllocError, Global};
+
+/// Lends lists, a search of them from s that sees t next, and the low point of each vertex in it.
+#[derive(Clone, Copy)]
+pub(crate) struct LowSearch<'a> {
+    pub(crate) lists: &'a Rotations,
+    pub(crate) forest: &'a Forest,
+    pub(crate) low: &'a [u16],
+    pub(crate) ghost some: { 2 ≤ length lists.now },
+}
 
 /// The ranges from which vertices take their places, which keep their memory from one map to the next.
 #[derive(Drop)]
@@ -18,52 +27,39 @@ pub struct Ranges {
     recent: Vec<bool>,
 }
 
-// A vertex takes `size` places of those of its parent, from below or from above.
-fn take_places(from: &mut [u16], to: &mut [u16], vertex: u16, parent: u16, size: u16, below: bool)
+// Says which places a vertex takes of those of its parent.
+#[derive(Clone, Copy)]
+struct Share {
+    vertex: u16,
+    parent: u16,
+    // how many
+    size: u16,
+    // whether from below, or else from above
+    below: bool,
+    ghost other: { parent ≢ vertex },
+}
+
+// Moves a share's places from the range of its parent to that of its vertex.
+fn take_places(from: &mut [u16], to: &mut [u16], share: Share)
     requires froms { length from.old ≡ length to.old }
-    requires vertex_in { vertex < length from.old }
-    requires parent_in { parent < length from.old }
-    requires other { parent ≢ vertex }
-    requires room { slice_index from.old parent + size < slice_index to.old parent }
-    ensures { IsCarved (λ x. slice_index from.old x) (λ x. slice_index to.old x) (λ x. slice_index from.new x) (λ x. slice_index to.new x) vertex parent size below }
+    requires vertex_in { share.vertex < length from.old }
+    requires parent_in { share.parent < length from.old }
+    requires room { slice_index from.old share.parent + share.size < slice_index to.old share.parent }
+    ensures { IsCarved (λ x. slice_index from.old x) (λ x. slice_index to.old x) (λ x. slice_index from.new x) (λ x. slice_index to.new x) share.vertex share.parent share.size share.below }
 {
-    if below {
-        let start = from[parent as usize];
-        from[parent as usize] = start + size;
-        from[vertex as usize] = start;
-        to[vertex as usize] = start + size;
+    let vertex = share.vertex as usize;
+    let parent = share.parent as usize;
+    if share.below {
+        let start = from[parent];
+        from[parent] = start + share.size;
+        from[vertex] = start;
+        to[vertex] = start + share.size;
     } else {
-        let end = to[parent as usize];
-        to[parent as usize] = end - size;
-        from[vertex as usize] = end - size;
-        to[vertex as usize] = end;
+        let end = to[parent];
+        to[parent] = end - share.size;
+        from[vertex] = end - share.size;
+        to[vertex] = end;
     }
-}
-
-// Gives a table `n` places.
-#[inline(always)]
-fn size(table: &mut Vec<u16>, n: usize) -> Result<(), AllocError>
-    ensures { IfOk result (λ _. length table.new.items ≡ n) }
-{
-    if n <= table.len() {
-        table.truncate(n);
-        return Ok(());
-    }
-    table.resize(n, 0)?;
-    Ok(())
-}
-
-// Gives a table of marks `n` places.
-#[inline(always)]
-fn size_marks(table: &mut Vec<bool>, n: usize) -> Result<(), AllocError>
-    ensures { IfOk result (λ _. length table.new.items ≡ n) }
-{
-    if n <= table.len() {
-        table.truncate(n);
-        return Ok(());
-    }
-    table.resize(n, false)?;
-    Ok(())
 }
 
 impl Ranges {
@@ -81,56 +77,52 @@ impl Ranges {
         ensures { IfOk result (λ _. AreTables lists.now self.new.from.items self.new.to.items self.new.recent.items) }
     {
         let n = lists.len();
-        size(&mut self.from, n)?;
-        size(&mut self.to, n)?;
-        size_marks(&mut self.recent, n)?;
+        size(&mut self.from, 0, n)?;
+        size(&mut self.to, 0, n)?;
+        size(&mut self.recent, false, n)?;
         Ok(())
     }
 
     // Gives the vertex numbered `next` its places, on the other side of its parent than the vertex at its low point.
-    fn place_next(&mut self, lists: &Rotations, forest: &Forest, low: &[u16], next: u16)
-        requires whole { IsWholeBy lists.now forest.now low.now }
-        requires placed { ArePlacedBelow lists.now forest.now low.now self.old next }
+    fn place_next(&mut self, search: &LowSearch<'_>, next: u16)
+        requires whole { IsWholeBy search.now.lists.now search.now.forest.now search.now.low.now }
+        requires placed { ArePlacedBelow search.now.lists.now search.now.forest.now search.now.low.now self.old next }
         requires two { 2 ≤ next }
-        requires few { next < length lists.now }
-        ensures { ArePlacedBelow lists.now forest.now low.now self.new (next + 1) }
+        requires few { next < length search.now.lists.now }
+        ensures { ArePlacedBelow search.now.lists.now search.now.forest.now search.now.low.now self.new (next + 1) }
     {
-        let vertex = forest.order[next as usize];
-        let above = forest.parent[vertex as usize];
-        let far = forest.order[low[vertex as usize] as usize];
+        let vertex = search.forest.order[next as usize];
+        let above = search.forest.parent[vertex as usize];
+        let far = search.forest.order[search.low[vertex as usize] as usize];
         let below = !self.recent[far as usize];
-        let size = forest.last[vertex as usize] - next;
-        take_places(&mut self.from, &mut self.to, vertex, above, size, below);
+        let size = search.forest.last[vertex as usize] - next;
+        let share = Share {
+            vertex,
+            parent: above,
+            size,
+            below,
+        };
+        take_places(&mut self.from, &mut self.to, share);
         self.recent[above as usize] = below;
     }
 
-    // Gives the first two vertices their places, s the first and t all others.
-    fn place_two(&mut self, lists: &Rotations, forest: &Forest, low: &[u16])
-        requires some { 2 ≤ length lists.now }
-        requires whole { IsWholeBy lists.now forest.now low.now }
-        requires tables { AreTables lists.now self.old.from.items self.old.to.items self.old.recent.items }
-        ensures { ArePlacedBelow lists.now forest.now low.now self.new 2 }
+    // Gives all vertices their places: of the first two, s the first place and t all others, of which each further
+    // vertex takes its own.
+    pub(crate) fn place_all(&mut self, search: &LowSearch<'_>)
+        requires whole { IsWholeBy search.now.lists.now search.now.forest.now search.now.low.now }
+        requires tables { AreTables search.now.lists.now self.old.from.items self.old.to.items self.old.recent.items }
+        ensures { ArePlacedBelow search.now.lists.now search.now.forest.now search.now.low.now self.new (length search.now.lists.now) }
     {
-        let _low = low;
-        let s = forest.order[0] as usize;
-        let t = forest.order[1] as usize;
+        let n = search.lists.len();
+        let s = search.forest.order[0] as usize;
+        let t = search.forest.order[1] as usize;
         self.from[s] = 0;
         self.to[s] = 1;
         self.from[t] = 1;
-        self.to[t] = lists.len() as u16;
+        self.to[t] = n as u16;
         self.recent[s] = false;
-    }
-
-    // Gives all vertices their places.
-    pub(crate) fn place_all(&mut self, lists: &Rotations, forest: &Forest, low: &[u16])
-        requires some { 2 ≤ length lists.now }
-        requires whole { IsWholeBy lists.now forest.now low.now }
-        requires tables { AreTables lists.now self.old.from.items self.old.to.items self.old.recent.items }
-        ensures { ArePlacedBelow lists.now forest.now low.now self.new (length lists.now) }
-    {
-        self.place_two(lists, forest, low);
-        for k in 2..lists.len() {
-            self.place_next(lists, forest, low, k as u16);
+        for k in 2..n {
+            self.place_next(search, k as u16);
         }
     }
 }
