@@ -1,7 +1,7 @@
 -- Components that are joined one after another to that of vertex 0, in the order of their least vertices.
-use Rattle.std.proofs.Common.{◌≡◌, ◌≢◌, ℕ, ◌+◌, ◌<◌, ◌≤◌, ltb, if◌then◌else◌, max, List, length, refl, sym, ap, ◌∙◌, inl, inr, arith}
+use Rattle.std.proofs.Common.{◌≡◌, ◌≢◌, ℕ, ◌+◌, ◌<◌, ◌≤◌, ltb, if◌then◌else◌, max, List, length, slice_index, ◌==◌, refl, sym, ap, ◌∙◌, inl, inr, arith}
 use Rattle.std.proofs.lemmas.Bool.{cases_eq, cases_lt, lt-ltb, le-ltb, eq-eqb, ne_eqb}
-use Rattle.classes.specs.Classes.{label, merge, relabel}
+use Rattle.classes.specs.Classes.{count_below, label, merge, relabel}
 use Rattle.classes.proofs.Classes.{IsLabels, Together-from, same_class-from, label-merge, length-classes}
 use Rattle.map_lists.specs.Lists.{Lists}
 use Rattle.map_theory.specs.Maps.{darts, HasDart, IsSimpleMap, component_classes, component_count}
@@ -11,6 +11,8 @@ use Rattle.plane_laws.proofs.Completions.{one_component}
 use Rattle.plane_laws.proofs.EdgeComponents.{components_merged}
 use Rattle.plane_laws.proofs.WithEdge.{with_edge, length-new}
 use Rattle.plane_laws.specs.WithEdge.{with_edge_at}
+use Rattle.conn_parts.specs.Parts.{PartNumbers, ArePartsOf}
+use Rattle.conn_parts.proofs.PartLemmas.{least-from_number}
 use Rattle.augment_tri.specs.Growing.{IsPutIn}
 
 -- with the components joined whose least vertices are below v
@@ -101,3 +103,8 @@ module _ (old : List ℕ) (labels : IsLabels old) where
       let at = joined.labels x l ∙ joined_below old v x (omega (arith, labels.low x)) in
       let first = joined.labels 0 (omega arith) ∙ joined_below old v 0 (omega (arith, labels.low 0)) in
       same_class-from (component_classes lists) 0 x (first ∙ sym at))
+
+-- where a vertex has the number that comes next, it is not joined to the first one yet
+pub next_apart : (first : Lists) (simple : IsSimpleMap first) (parts : PartNumbers) → ArePartsOf first parts → (lists : Lists) (v : ℕ) → AreJoined (component_classes first) lists v → 0 < v → v < length lists → v < length first → slice_index parts.numbers v ≡ count_below (λ u. label (component_classes first) u == u) v → ¬ SameComponent lists 0 v
+next_apart first simple parts known lists v joined some in_v old_v e =
+    AreJoined-apart (component_classes first) (IsLabels-components first simple) lists v joined some in_v (least-from_number first simple v (sym (known.number v old_v) ∙ e))

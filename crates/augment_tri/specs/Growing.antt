@@ -1,7 +1,7 @@
 -- Maps that edges are put into, and which of their faces are no triangles yet.
 use Rattle.std.specs.Prelude.{ℕ, ◌+◌, ◌*◌, ◌≤◌, ◌≡◌, ◌⊎◌, length, Option, Some, insert}
 use Rattle.map_lists.specs.Lists.{Lists}
-use Rattle.map_theory.specs.Maps.{Dart, HasDart, IsPlane, list_of, follows, face_step, vertex_count, edge_count}
+use Rattle.map_theory.specs.Maps.{Dart, HasDart, IsPlane, list_of, follows, face_step, vertex_count, edge_count, component_count}
 use Rattle.plane_laws.specs.Laws.{IsTriangle}
 use Rattle.plane_laws.specs.MapEditsCompleted.{IsExtended}
 use Rattle.plane_laws.specs.WithEdge.{with_edge_at, with_edge_after}
@@ -15,6 +15,11 @@ pub record IsRoomy (map : Map) : Type 0 where
   pub plane : IsPlane map.lists
   pub some : 3 ≤ vertex_count map.lists
   pub room : 3 * vertex_count map.lists ≤ edge_count map.lists + map.spare + 6
+
+-- Such a map of one component: edges may be put in until all its faces are triangles.
+pub record IsFillable (map : Map) : Type 0 where
+  pub roomy : IsRoomy map
+  pub one : component_count map.lists ≡ 1
 
 -- The new map is the old one with edges put in, for each of which there was room; old darts keep their ids.
 pub record IsGrown (old new : Map) : Type 0 where

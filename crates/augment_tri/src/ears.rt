@@ -1,10 +1,10 @@
 //! Ears of faces, found and cut.
 ghost use Rattle.std.specs.Prelude.{◌≡◌, ◌+◌, ◌<◌, ◌≤◌, ◌⊎◌, ◌↔◌, ◌==◌, if◌then◌else◌, ℕ, Some, IsTrue, MatchBool};
-ghost use Rattle.map_theory.specs.Maps.{IsPlane, vertex_count, component_count, follows};
+ghost use Rattle.map_theory.specs.Maps.{IsPlane, vertex_count, follows};
 ghost use Rattle.plane_laws.specs.Laws.{IsTriangle};
 ghost use Rattle.plane_laws.specs.Chords.{CanJoin, IsEar};
 ghost use Rattle.half_edges.specs.Map.{Map, IsHalfMap, IsLive, dart_at};
-ghost use Rattle.augment_tri.specs.Growing.{IsCovered, IsCutEar, IsGrown, IsNear, IsRoomy};
+ghost use Rattle.augment_tri.specs.Growing.{IsCovered, IsCutEar, IsFillable, IsGrown, IsNear};
 
 use half_edges::{Corner, DartId, HalfMap, VertexId};
 
@@ -34,28 +34,40 @@ fn can_join(map: &HalfMap, u: VertexId, v: VertexId) -> bool
     }
 }
 
-// Whether an edge may be put between a and c, where one may be between these or between b and x. It goes
-// over the shorter one of the lists of b and c.
-fn is_first(map: &HalfMap, a: VertexId, b: VertexId, c: VertexId, x: VertexId) -> bool
-    requires a_in { a.0 < vertex_count map.now.lists }
-    requires b_in { b.0 < vertex_count map.now.lists }
-    requires c_in { c.0 < vertex_count map.now.lists }
-    requires x_in { x.0 < vertex_count map.now.lists }
-    requires either { CanJoin map.now.lists a.0 c.0 ⊎ CanJoin map.now.lists b.0 x.0 }
-    ensures { MatchBool result (CanJoin map.now.lists a.0 c.0) (CanJoin map.now.lists b.0 x.0) }
-{
-    map.facts();
-    if map.degree(b) < map.degree(c) {
-        !can_join(map, b, x)
-    } else {
-        can_join(map, c, a)
+// Names the vertices of three darts in a row along a face of a map: from a to b, on to c, and on to x.
+#[derive(Clone, Copy)]
+struct Row<'a> {
+    map: &'a HalfMap,
+    a: VertexId,
+    b: VertexId,
+    c: VertexId,
+    x: VertexId,
+    ghost a_in: { a.0 < vertex_count map.now.lists },
+    ghost b_in: { b.0 < vertex_count map.now.lists },
+    ghost c_in: { c.0 < vertex_count map.now.lists },
+    ghost x_in: { x.0 < vertex_count map.now.lists },
+}
+
+impl Row<'_> {
+    // Says whether an edge may be put between a and c, where one may be between these or between b and x. It goes over
+    // the shorter one of the lists of b and c.
+    fn is_first(&self) -> bool
+        requires { CanJoin self.now.map.now.lists self.now.a.0 self.now.c.0 ⊎ CanJoin self.now.map.now.lists self.now.b.0 self.now.x.0 }
+        ensures { MatchBool result (CanJoin self.now.map.now.lists self.now.a.0 self.now.c.0) (CanJoin self.now.map.now.lists self.now.b.0 self.now.x.0) }
+    {
+        let map = self.map;
+        map.facts();
+        if map.degree(self.b) < map.degree(self.c) {
+            !can_join(map, self.b, self.x)
+        } else {
+            can_join(map, self.c, self.a)
+        }
     }
 }
 
 // A dart with an ear: d, whose face is no triangle, or one of the next two along it.
 fn ear_near(map: &HalfMap, d: DartId) -> DartId
-    requires roomy { IsRoomy map.now }
-    requires one { component_count map.now.lists ≡ 1 }
+    requires fillable { IsFillable map.now }
     requires live { IsLive map.now d.0 }
     requires large { (a b : ℕ) → dart_at map.now d.0 ≡ Some (a, b) → ¬ IsTriangle map.now.lists (a, b) }
     ensures { (a b : ℕ) → dart_at map.now d.0 ≡ Some (a, b) → (s : ℕ) × (t : ℕ) × (dart_at map.now result.0 ≡ Some (s, t)) × IsEar map.now.lists s t × IsNear map.now.lists a b s t }
@@ -66,9 +78,10 @@ fn ear_near(map: &HalfMap, d: DartId) -> DartId
     let b = map.tail(e);
     let c = map.tail(f);
     let x = map.head(f);
+    let row = Row { map, a, b, c, x };
     if x.0 == a.0 {
         f
-    } else if is_first(map, a, b, c, x) {
+    } else if row.is_first() {
         d
     } else {
         e
@@ -103,12 +116,10 @@ fn next_at(d: DartId, ear: DartId, new: DartId) -> DartId
 // Cuts an ear near a dart whose face is no triangle, and answers the dart at which to go on: the new one,
 // where the ear was at the dart itself.
 pub(crate) fn cut_near(map: &mut HalfMap, d: DartId) -> DartId
-    requires roomy { IsRoomy map.old }
-    requires one { component_count map.old.lists ≡ 1 }
+    requires fillable { IsFillable map.old }
     requires live { IsLive map.old d.0 }
     requires large { (a b : ℕ) → dart_at map.old d.0 ≡ Some (a, b) → ¬ IsTriangle map.old.lists (a, b) }
-    ensures roomy { IsRoomy map.new }
-    ensures one { component_count map.new.lists ≡ 1 }
+    ensures fillable { IsFillable map.new }
     ensures grown { IsGrown map.old map.new }
     ensures spare { map.new.spare + 1 ≡ map.old.spare }
     ensures live { IsLive map.new result.0 }

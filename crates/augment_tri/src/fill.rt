@@ -1,19 +1,17 @@
 //! Faces filled with triangles.
 ghost use Rattle.std.specs.Prelude.{◌≡◌, ◌+◌, ◌*◌, ℕ, Some};
-ghost use Rattle.map_theory.specs.Maps.{component_count, edge_count, vertex_count};
+ghost use Rattle.map_theory.specs.Maps.{edge_count, vertex_count};
 ghost use Rattle.half_edges.specs.Map.{Map, IsLive, dart_at};
-ghost use Rattle.augment_tri.specs.Growing.{IsCovered, IsFilled, IsGrown, IsRoomy};
+ghost use Rattle.augment_tri.specs.Growing.{IsCovered, IsFillable, IsFilled, IsGrown};
 
 use crate::ears::{cut_near, is_triangle};
 use half_edges::{DartId, HalfMap};
 
 // Cuts ears until the face of a dart is a triangle, and so is all that was cut from it.
 fn fill_face(map: &mut HalfMap, d: DartId)
-    requires roomy { IsRoomy map.old }
-    requires one { component_count map.old.lists ≡ 1 }
+    requires fillable { IsFillable map.old }
     requires live { IsLive map.old d.0 }
-    ensures roomy { IsRoomy map.new }
-    ensures one { component_count map.new.lists ≡ 1 }
+    ensures fillable { IsFillable map.new }
     ensures grown { IsGrown map.old map.new }
     ensures filled { (first : Map) (k a b : ℕ) → dart_at map.old d.0 ≡ Some (a, b) → IsCovered first k map.old.lists a b
         → IsFilled first k map.new.lists }
@@ -26,10 +24,8 @@ fn fill_face(map: &mut HalfMap, d: DartId)
 
 // Fills all faces of a connected map, until it has as many edges as a triangulation.
 pub(crate) fn fill(map: &mut HalfMap)
-    requires roomy { IsRoomy map.old }
-    requires one { component_count map.old.lists ≡ 1 }
-    ensures roomy { IsRoomy map.new }
-    ensures one { component_count map.new.lists ≡ 1 }
+    requires { IsFillable map.old }
+    ensures fillable { IsFillable map.new }
     ensures grown { IsGrown map.old map.new }
     ensures edges { edge_count map.new.lists + 6 ≡ 3 * vertex_count map.new.lists }
 {

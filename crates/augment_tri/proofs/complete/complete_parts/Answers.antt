@@ -11,9 +11,12 @@ overflow_sub-room-2 c =
     let bound = edge_bound c.args.map.now.lists c.n.ensures.known.simple c.requires.plane c.requires.some in
     omega (arith, c.n.ensures.count, c.m.ensures.count)
 
+pub fill-requires : goal.fill-requires
+fill-requires c = record { roomy = c.join_parts.ensures.roomy; one = c.join_parts.ensures.one }
+
 pub returns-in-Ok-clause-triangulation : goal.returns-in-Ok-clause-triangulation
 returns-in-Ok-clause-triangulation c =
-    let h = c.fill.ensures.roomy in
+    let h = c.fill.ensures.fillable.roomy in
     record {
       simple = h.known.simple;
       plane = h.plane;

@@ -9,8 +9,7 @@ use Rattle.augment_tri.proofs.fill.fill.Goals.{then-is_live, else-is_live}
 
 pub loop-d-init : goal.loop-d-init
 loop-d-init c = record {
-  roomy = c.requires.roomy;
-  one = c.requires.one;
+  fillable = c.requires;
   grown = IsGrown-itself c.args.map.now;
   filled = filled_first c.args.map.now c.requires.roomy.known;
 }
@@ -23,15 +22,13 @@ loop-d-preserved c =
           let x = live_dart c.loop-d.map c.loop-d.d (c.is_live.ensures.0 w.if-is_live.true) in
           let covered = covered_first c.loop-d.map c.loop-d.d x.0 x.1 h.filled in
           rw w.map-is (record {
-            roomy = w.fill_face.ensures.roomy;
-            one = w.fill_face.ensures.one;
+            fillable = w.fill_face.ensures.fillable;
             grown = IsGrown-chained _ _ _ h.grown w.fill_face.ensures.grown;
             filled = filled_grown c.loop-d.map w.fill_face.new.map (c.loop-d.d + 1) w.fill_face.new.map.lists w.fill_face.ensures.grown (w.fill_face.ensures.filled c.loop-d.map (c.loop-d.d + 1) x.0.0 x.0.1 x.1 covered);
           })
       | else-is_live w ↦
           rw w.map-is (record {
-            roomy = h.roomy;
-            one = h.one;
+            fillable = h.fillable;
             grown = h.grown;
             filled = filled_skip c.loop-d.map c.loop-d.d c.loop-d.map.lists (λ live. false≢true (sym w.if-is_live.false ∙ c.is_live.ensures.1 live)) h.filled;
           })
@@ -42,8 +39,8 @@ returns-clause-edges c =
     let h = c.loop-d.invariant in
     let total = h.grown.total in
     let last = c.loop-d-test.false in
-    let triangles = filled_last c.loop-d.map c.loop-d.d h.roomy.known (omega (arith, c.m.ensures.count, c.spare.ensures)) h.filled in
-    (edge_bound_met c.loop-d.map.lists h.roomy.known.simple h.roomy.plane h.roomy.some).1 (h.one, triangles)
+    let triangles = filled_last c.loop-d.map c.loop-d.d h.fillable.roomy.known (omega (arith, c.m.ensures.count, c.spare.ensures)) h.filled in
+    (edge_bound_met c.loop-d.map.lists h.fillable.roomy.known.simple h.fillable.roomy.plane h.fillable.roomy.some).1 (h.fillable.one, triangles)
 
 pub returns-then-m-most-clause-edges : goal.returns-then-m-most-clause-edges
 returns-then-m-most-clause-edges c =

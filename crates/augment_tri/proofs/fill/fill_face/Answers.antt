@@ -8,8 +8,7 @@ use Rattle.augment_tri.proofs.fill.fill_face.Goals as goal
 
 pub loop-at-init : goal.loop-at-init
 loop-at-init c = record {
-  roomy = c.requires.roomy;
-  one = c.requires.one;
+  fillable = c.requires.fillable;
   grown = IsGrown-itself c.args.map.now;
   live = c.requires.live;
   covered = λ first k a b at_d covered v u at.
@@ -21,8 +20,7 @@ loop-at-preserved c =
     let h = c.loop-at.invariant in
     let d = live_dart c.loop-at.map c.loop-at.at.0 h.live in
     record {
-      roomy = c.cut_near-at.ensures.roomy;
-      one = c.cut_near-at.ensures.one;
+      fillable = c.cut_near-at.ensures.fillable;
       grown = IsGrown-chained _ _ _ h.grown c.cut_near-at.ensures.grown;
       live = c.cut_near-at.ensures.live;
       covered = λ first k a b at_d covered.

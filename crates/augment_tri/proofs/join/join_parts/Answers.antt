@@ -6,7 +6,7 @@ use Rattle.map_theory.specs.Maps.{component_classes}
 use Rattle.map_theory.proofs.DartPermutations.{IsLabels-components, edge_together}
 use Rattle.conn_parts.proofs.PartLemmas.{least-from_number, not_least-from_number, least_counted, not_least_counted, first_counted}
 use Rattle.augment_tri.proofs.Growth.{IsGrown-itself, IsGrown-chained, grown_join, spare_for_join}
-use Rattle.augment_tri.proofs.JoinedParts.{AreJoined-none, AreJoined-apart, AreJoined-skip, AreJoined-more, AreJoined-all}
+use Rattle.augment_tri.proofs.JoinedParts.{AreJoined-none, AreJoined-apart, AreJoined-skip, AreJoined-more, AreJoined-all, next_apart}
 use Rattle.augment_tri.proofs.join.join_parts.Goals as goal
 use Rattle.augment_tri.proofs.join.join_parts.Goals.{then-of-joined, else-of-joined}
 
@@ -24,32 +24,18 @@ loop-v-init c =
 
 pub join-requires-clause-spare : goal.join-requires-clause-spare
 join-requires-clause-spare c =
-    let first = c.args.map.now.lists in
-    let simple = c.requires.roomy.known.simple in
     let h = c.loop-v.invariant in
     let same = h.grown.extended.vertices in
-    let some = h.some in
     let in_v : c.loop-v.v < length c.loop-v.map.lists = omega (arith, c.n-v-end.ensures.count, c.loop-v-test.true) in
-    let in_0 : 0 < length c.loop-v.map.lists = omega arith in
-    let labels = IsLabels-components first simple in
-    let own : label (component_classes first) c.loop-v.v ≡ c.loop-v.v = least-from_number first simple c.loop-v.v
-    (sym (c.requires.parts.number c.loop-v.v (omega arith)) ∙ (sym c.of.ensures ∙ (c.if-of-joined.true ∙ h.counted))) in
-    let far = AreJoined-apart (component_classes first) labels c.loop-v.map.lists c.loop-v.v h.joined some in_v own in
-    spare_for_join c.loop-v.map 0 c.loop-v.v h.roomy in_0 in_v far
+    let far = next_apart c.args.map.now.lists c.requires.roomy.known.simple c.args.parts.now c.requires.parts c.loop-v.map.lists c.loop-v.v h.joined h.some in_v (omega arith) (sym c.of.ensures ∙ (c.if-of-joined.true ∙ h.counted)) in
+    spare_for_join c.loop-v.map 0 c.loop-v.v h.roomy (omega arith) in_v far
 
 pub join-requires-clause-not_adjacent : goal.join-requires-clause-not_adjacent
 join-requires-clause-not_adjacent c = λ edge.
-    let first = c.args.map.now.lists in
-    let simple = c.requires.roomy.known.simple in
     let h = c.loop-v.invariant in
     let same = h.grown.extended.vertices in
-    let some = h.some in
     let in_v : c.loop-v.v < length c.loop-v.map.lists = omega (arith, c.n-v-end.ensures.count, c.loop-v-test.true) in
-    let in_0 : 0 < length c.loop-v.map.lists = omega arith in
-    let labels = IsLabels-components first simple in
-    let own : label (component_classes first) c.loop-v.v ≡ c.loop-v.v = least-from_number first simple c.loop-v.v
-    (sym (c.requires.parts.number c.loop-v.v (omega arith)) ∙ (sym c.of.ensures ∙ (c.if-of-joined.true ∙ h.counted))) in
-    let far = AreJoined-apart (component_classes first) labels c.loop-v.map.lists c.loop-v.v h.joined some in_v own in
+    let far = next_apart c.args.map.now.lists c.requires.roomy.known.simple c.args.parts.now c.requires.parts c.loop-v.map.lists c.loop-v.v h.joined h.some in_v (omega arith) (sym c.of.ensures ∙ (c.if-of-joined.true ∙ h.counted)) in
     far (same_class-from (component_classes c.loop-v.map.lists) 0 c.loop-v.v (edge_together c.loop-v.map.lists h.roomy.known.simple 0 c.loop-v.v edge))
 
 pub overflow_add-joined : goal.overflow_add-joined
