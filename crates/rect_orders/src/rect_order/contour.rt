@@ -3,40 +3,8 @@
 //! `marked` says of each vertex whether it is on that cycle, `gone` whether it was taken off; `near` counts its
 //! neighbours that are marked, `away` those that are gone. Each vertex that may be taken off next is on `stack`,
 //! with others.
-ghost use Rattle.std.specs.Prelude.{◌≡◌, ◌<◌, ◌↔◌, ℕ, false, true, length, All, IsTrue, IfOk};
-ghost use Rattle.map_theory.specs.Maps.{IsSimpleMap};
-ghost use Rattle.canon_order.specs.Marks.{is_set, IsTally, IsTaken};
-ghost use Rattle.rect_orders.specs.Contours.{LooksRemovable, IsStacked, IsPrepared};
-
-use canon_order::cycle_marks::{leave_cycle, mark};
-use half_edges::Rotations;
-use std::alloc::AllocError;
-
-// Takes a vertex off: its neighbours that are left are on the outer cycle now.
-pub(crate) fn take_off(
-    marked: &mut [bool],
-    near: &mut [u16],
-    gone: &mut [bool],
-    away: &mut [u16],
-    stack: &mut Vec<u16>,
-    lists: &Rotations,
-    v: u16,
-) -> Result<(), AllocError>
-    requires simple { IsSimpleMap lists.now }
-    requires vertex { v < length lists.now }
-    requires near { IsTally lists.now marked.old near.old }
-    requires away { IsTally lists.now gone.old away.old }
-    requires vertices { All (λ u. u < length lists.now) stack.old.items }
-    requires marked { is_set marked.old v ≡ true }
-    requires left { is_set gone.old v ≡ false }
-    ensures prepared { IfOk result (λ _. (t s : ℕ) → IsPrepared lists.now t s marked.old near.old gone.old away.old stack.old.items
-        → IsPrepared lists.now t s marked.new near.new gone.new away.new stack.new.items) }
-    ensures taken { IfOk result (λ _. IsTaken lists.now v marked.old gone.old marked.new gone.new) }
-{
-    mark(gone, away, lists, v);
-    leave_cycle(marked, near, stack, gone, lists, v)?;
-    Ok(())
-}
+ghost use Rattle.std.specs.Prelude.{◌≡◌, ◌<◌, ◌↔◌, ℕ, length, IsTrue};
+ghost use Rattle.rect_orders.specs.Contours.{LooksRemovable, IsStacked};
 
 // The marks of the outer cycle and the counts of all vertices, with the two vertices that stay to the last.
 #[derive(Clone, Copy)]

@@ -1,13 +1,15 @@
 //! Rectangular orders.
-ghost use Rattle.std.specs.Prelude.{◌≡◌, ◌<◌, ℕ, [], ◌∷◌, length, reverse, IfOk};
+ghost use Rattle.std.specs.Prelude.{◌≡◌, ◌<◌, ℕ, false, true, [], ◌∷◌, length, reverse, All, IfOk};
 ghost use Rattle.map_lists.specs.Lists.{Lists};
+ghost use Rattle.map_theory.specs.Maps.{IsSimpleMap};
+ghost use Rattle.canon_order.specs.Marks.{is_set, IsTally, IsTaken};
 ghost use Rattle.canon_order.specs.Orders.{vertices_of};
 ghost use Rattle.rect_orders.specs.Orders.{IsRectOrder};
-ghost use Rattle.rect_orders.specs.Contours.{IsFresh, IsPrepared, IsClosedOf, IsClosedAt, IsContourAt, IsOrderAt};
+ghost use Rattle.rect_orders.specs.Contours.{IsFresh, IsPrepared, IsClosedOf, IsClosedAt, IsOrderAt};
 
 use crate::rect_order::closing::Frame;
-use crate::rect_order::contour::{Cycle, take_off};
-use canon_order::cycle_marks::mark_three;
+use crate::rect_order::contour::Cycle;
+use canon_order::cycle_marks::{AtVertex, Three, mark};
 use canon_order::{Order, push_three, turned_order};
 use half_edges::Rotations;
 use std::alloc::{AllocError, Global};
@@ -18,71 +20,47 @@ struct Closed<'a> {
     lists: &'a Rotations,
     frame: Frame,
     ghost few: { length lists.now < 4096 },
+    ghost simple: { ∥ IsSimpleMap lists.now ∥₁ },
 }
 
 impl Closed<'_> {
-    // Takes the top off, and then the right vertex.
-    fn begin(
+    // Does nothing. By its contract a proof learns what holds of the map.
+    fn facts(&self)
+        ensures { IsSimpleMap self.now.lists.now }
+    {}
+
+    // Takes a vertex off that is on the outer cycle: its neighbours that are left are on it now.
+    fn take_off(
         &self,
         marked: &mut [bool],
         near: &mut [u16],
         gone: &mut [bool],
         away: &mut [u16],
         stack: &mut Vec<u16>,
+        v: u16,
     ) -> Result<(), AllocError>
-        requires class { (map : Lists) × IsClosedAt self.now.lists.now map self.now.frame }
-        requires fresh { IsFresh self.now.lists.now marked.old near.old gone.old away.old stack.old.items }
-        ensures prepared { IfOk result (λ _. IsPrepared self.now.lists.now self.now.frame.bottom.0 self.now.frame.left.0 marked.new near.new gone.new away.new stack.new.items) }
-        ensures contour { IfOk result (λ _. IsContourAt self.now.lists.now self.now.frame gone.new marked.new (self.now.frame.right.0 ∷ self.now.frame.top.0 ∷ [])) }
+        requires near { IsTally self.now.lists.now marked.old near.old }
+        requires away { IsTally self.now.lists.now gone.old away.old }
+        requires vertices { All (λ u. u < length self.now.lists.now) stack.old.items }
+        requires marked { is_set marked.old v ≡ true }
+        requires left { is_set gone.old v ≡ false }
+        ensures prepared { IfOk result (λ _. (t s : ℕ) → IsPrepared self.now.lists.now t s marked.old near.old gone.old away.old stack.old.items
+            → IsPrepared self.now.lists.now t s marked.new near.new gone.new away.new stack.new.items) }
+        ensures taken { IfOk result (λ _. IsTaken self.now.lists.now v marked.old gone.old marked.new gone.new) }
     {
-        let lists = self.lists;
-        let frame = self.frame;
-        mark_three(
-            marked,
-            near,
-            lists,
-            frame.left.0,
-            frame.top.0,
-            frame.bottom.0,
-        );
-        take_off(marked, near, gone, away, stack, lists, frame.top.0)?;
-        take_off(marked, near, gone, away, stack, lists, frame.right.0)
+        self.facts();
+        mark(gone, away, self.lists, v);
+        let off = AtVertex {
+            lists: self.lists,
+            gone,
+            v,
+        };
+        off.leave_cycle(marked, near, stack)?;
+        Ok(())
     }
 
-    // Takes vertices off until three are left, and those too: from the last one of an order to the first.
-    fn peel(
-        &self,
-        marked: &mut [bool],
-        near: &mut [u16],
-        gone: &mut [bool],
-        away: &mut [u16],
-        stack: &mut Vec<u16>,
-        taken: &mut Vec<u16>,
-    ) -> Result<(), AllocError>
-        requires class { (map : Lists) × IsClosedAt self.now.lists.now map self.now.frame }
-        requires prepared { IsPrepared self.now.lists.now self.now.frame.bottom.0 self.now.frame.left.0 marked.old near.old gone.old away.old stack.old.items }
-        requires contour { IsContourAt self.now.lists.now self.now.frame gone.old marked.old (self.now.frame.right.0 ∷ self.now.frame.top.0 ∷ []) }
-        requires begun { taken.old.items ≡ self.now.frame.top.0 ∷ self.now.frame.right.0 ∷ [] }
-        ensures { IfOk result (λ _. IsOrderAt self.now.lists.now self.now.frame (reverse taken.new.items)) }
-    {
-        let lists = self.lists;
-        let frame = self.frame;
-        for _ in 5..lists.len() {
-            let cycle = Cycle {
-                marked,
-                near,
-                away,
-                bottom: frame.bottom.0,
-                left: frame.left.0,
-            };
-            let v = cycle.removable_vertex(stack);
-            take_off(marked, near, gone, away, stack, lists, v)?;
-            taken.push(v)?;
-        }
-        push_three(taken, frame.inner.0, frame.bottom.0, frame.left.0)
-    }
-
-    // Takes all vertices off, from the last one of an order to the first.
+    // Takes all vertices off, from the last one of an order to the first: the top and the right vertex, then others until
+    // three are left, and those too.
     fn take_all(
         &self,
         marked: &mut [bool],
@@ -97,18 +75,32 @@ impl Closed<'_> {
         requires begun { taken.old.items ≡ self.now.frame.top.0 ∷ self.now.frame.right.0 ∷ [] }
         ensures { IfOk result (λ _. IsOrderAt self.now.lists.now self.now.frame (reverse taken.new.items)) }
     {
-        self.begin(marked, near, gone, away, stack)?;
-        self.peel(marked, near, gone, away, stack, taken)
-    }
-
-    // Returns the first two that are taken off.
-    fn first_taken(&self, alloc: Global) -> Result<Vec<u16>, AllocError>
-        ensures { IfOk result (λ taken. taken.items ≡ self.now.frame.top.0 ∷ self.now.frame.right.0 ∷ []) }
-    {
-        let mut taken = Vec::new(alloc);
-        taken.push(self.frame.top.0)?;
-        taken.push(self.frame.right.0)?;
-        Ok(taken)
+        self.facts();
+        let closed = *self;
+        let lists = closed.lists;
+        let frame = closed.frame;
+        let three = Three {
+            lists,
+            first: frame.left.0,
+            second: frame.top.0,
+            third: frame.bottom.0,
+        };
+        three.mark_all(marked, near);
+        closed.take_off(marked, near, gone, away, stack, frame.top.0)?;
+        closed.take_off(marked, near, gone, away, stack, frame.right.0)?;
+        for _ in 5..lists.len() {
+            let cycle = Cycle {
+                marked,
+                near,
+                away,
+                bottom: frame.bottom.0,
+                left: frame.left.0,
+            };
+            let v = cycle.removable_vertex(stack);
+            closed.take_off(marked, near, gone, away, stack, v)?;
+            taken.push(v)?;
+        }
+        push_three(taken, frame.inner.0, frame.bottom.0, frame.left.0)
     }
 
     // Returns the vertices from the last one of an order to the first.
@@ -122,7 +114,9 @@ impl Closed<'_> {
         let mut gone = vec![in alloc; false; n]?;
         let mut away = vec![in alloc; 0; n]?;
         let mut stack = Vec::new(alloc);
-        let mut taken = self.first_taken(alloc)?;
+        let mut taken = Vec::new(alloc);
+        taken.push(self.frame.top.0)?;
+        taken.push(self.frame.right.0)?;
         self.take_all(
             &mut marked,
             &mut near,

@@ -1,7 +1,14 @@
 use Rattle.std.proofs.Common.{◌≢◌, ◌<◌, ℕ, List, length, reverse, All, AllPairs, subst, sym, ap, ◌∙◌, arith}
 use Rattle.rect_orders.specs.Orders.{IsRectOrder}
 use Rattle.rect_orders.proofs.Beginning.{taken_count, taken_within, taken_apart}
+use Rattle.rect_orders.proofs.Contours.{simple_here}
 use Rattle.rect_orders.proofs.rect_order.order.rect_order.Goals as goal
+
+pub invariant_of-closed : goal.invariant_of-closed
+invariant_of-closed c =
+    let frame = c.args.frame in
+    let (map, k) = c.requires.class in
+    record { few = c.facts.ensures; simple = ∣ simple_here map frame.left.0 frame.top.0 frame.right.0 frame.bottom.0 frame.inner.0 c.args.more.now k ∣₁ }
 
 pub turned_order-requires-clause-few : goal.turned_order-requires-clause-few
 turned_order-requires-clause-few c =

@@ -1,6 +1,6 @@
 use Rattle.std.proofs.Common.{◌≡◌, ◌+◌, length, reverse}
 use Rattle.rect_orders.specs.Contours.{IsPrepared, IsContourAt}
-use Rattle.rect_orders.proofs.rect_order.order.Closed.peel.Given as goal
+use Rattle.rect_orders.proofs.rect_order.order.Closed.take_all.Given as goal
 
 abbrev pub invariant-loop : goal.invariant-loop
 invariant-loop l = record {
