@@ -48,27 +48,35 @@ pub place_after-new : (g : Stage) (s : Step) (v : ℕ) → v ≡ g.count → pla
 unfolding place_after
 place_after-new g s v e = cond-false (ltb v g.count) (moved s (g.place v)) _ (le-ltb v g.count (omega arith))
 
--- where a place of the contour after a step comes from
-pub record IsLow (s : Step) (i : ℕ) : Type 0 where
+-- where a place of the contour after a step comes from, and what stands there
+pub record IsLow (g : Stage) (s : Step) (i : ℕ) : Type 0 where
   pub low : i ≤ s.first
+  pub within : i < g.width
+  pub vertex : vertex_after g s i ≡ g.vertex i
 
-pub record IsNew (s : Step) (i : ℕ) : Type 0 where
+pub record IsNew (g : Stage) (s : Step) (i : ℕ) : Type 0 where
   pub new : i ≡ suc s.first
+  pub vertex : vertex_after g s i ≡ g.count
 
 pub record IsHigh (g : Stage) (s : Step) (i : ℕ) : Type 0 where
   pub from : ℕ
   pub high : s.last ≤ from
   pub within : from < g.width
   pub to : i + s.last ≡ from + suc (suc s.first)
+  pub vertex : vertex_after g s i ≡ g.vertex from
 
-pub cases_place : (g : Stage) (s : Step) (i : ℕ) → IsStep g s → i < (after g s).width → IsLow s i ⊎ (IsNew s i ⊎ IsHigh g s i)
+pub cases_place : (g : Stage) (s : Step) (i : ℕ) → IsStep g s → i < (after g s).width → IsLow g s i ⊎ (IsNew g s i ⊎ IsHigh g s i)
 cases_place g s i h l =
     let o = h.order in
     let w = h.within in
     elim (cases_lt s.first i) [
-      | inr a ↦ inl record { low = a }
+      | inr a ↦ inl record { low = a; within = omega arith; vertex = vertex_after-low g s i a }
       | inl a ↦ elim (cases_eq i (suc s.first)) [
-        | inl e ↦ inr (inl record { new = e })
-        | inr ne ↦ inr (inr record { from = i + s.last - (s.first + 2); high = omega arith; within = omega arith; to = omega arith })
+        | inl e ↦ inr (inl record { new = e; vertex = vertex_after-new g s i e })
+        | inr ne ↦
+            let from : ℕ = i + s.last - (s.first + 2) in
+            let high : s.last ≤ from = omega arith in
+            let to : i + s.last ≡ from + suc (suc s.first) = omega arith in
+            inr (inr record { from = from; high = high; within = omega arith; to = to; vertex = vertex_after-high g s i from (omega arith) high to })
       ]
     ]

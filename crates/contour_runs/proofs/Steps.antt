@@ -83,32 +83,23 @@ module _ (g : Stage) (s : Step) (at : Coordinates) (stage : IsStage g) (step : I
   pub cases_falling : (i : ℕ) → i < (after g s).width → IsFallingLow g s at i ⊎ (IsFallingNew g s at i ⊎ IsFallingHigh g s at i)
   cases_falling i l =
       let o = step.order in
-      let w = step.within in
       elim (cases_place g s i step l) [
-        | inl c ↦
-            let a = c.low in
-            let m : i < g.width = omega arith in
-            let e = vertex_after-low g s i a in
-            inl record {
-              low = a;
-              one = ap (one_after g s at) e ∙ one_after-contour i m ∙ ap (λ n. at.one (g.vertex i) + n) (one_gain-low s i a);
-              two = ap (two_after g s at) e ∙ two_after-contour i m ∙ ap (λ n. at.two (g.vertex i) + n) (two_gain-low s i a) ∙ omega arith;
-            }
-        | inr (inl c) ↦
-            let e = vertex_after-new g s i c.new in
-            inr (inl record { new = c.new; one = one_after-new g s at (vertex_after g s i) e; two = two_after-new g s at (vertex_after g s i) e })
+        | inl c ↦ inl record {
+          low = c.low;
+          one = ap (one_after g s at) c.vertex ∙ one_after-contour i c.within ∙ ap (λ n. at.one (g.vertex i) + n) (one_gain-low s i c.low);
+          two = ap (two_after g s at) c.vertex ∙ two_after-contour i c.within ∙ ap (λ n. at.two (g.vertex i) + n) (two_gain-low s i c.low) ∙ omega arith;
+        }
+        | inr (inl c) ↦ inr (inl record { new = c.new; one = one_after-new g s at (vertex_after g s i) c.vertex; two = two_after-new g s at (vertex_after g s i) c.vertex })
         | inr (inr c) ↦
-            let a = c.high in
-            let t = c.to in
+            let high = c.high in
             let b : s.first < c.from = omega arith in
-            let e = vertex_after-high g s i c.from (omega arith) a t in
             inr (inr record {
               from = c.from;
-              high = a;
+              high = high;
               within = c.within;
-              to = t;
-              one = ap (one_after g s at) e ∙ one_after-contour c.from c.within ∙ ap (λ n. at.one (g.vertex c.from) + n) (one_gain-high s c.from b) ∙ omega arith;
-              two = ap (two_after g s at) e ∙ two_after-contour c.from c.within ∙ ap (λ n. at.two (g.vertex c.from) + n) (two_gain-high s c.from b);
+              to = c.to;
+              one = ap (one_after g s at) c.vertex ∙ one_after-contour c.from c.within ∙ ap (λ n. at.one (g.vertex c.from) + n) (one_gain-high s c.from b) ∙ omega arith;
+              two = ap (two_after g s at) c.vertex ∙ two_after-contour c.from c.within ∙ ap (λ n. at.two (g.vertex c.from) + n) (two_gain-high s c.from b);
             })
       ]
 
