@@ -1,14 +1,17 @@
 -- The row of a vertex of a canonical order: its earlier neighbours as its list has them, and as they stand on the contour of a run.
-use Rattle.std.proofs.Common.{◌≡◌, ◌≢◌, ◌+◌, ◌-◌, ◌<◌, ◌≤◌, ℕ, suc, true, false, List, [], ◌∷◌, ◌++◌, length, map, get_or, take, Contains, sym, ap, ◌∙◌, subst, inl, inr, arith, length-append}
+use Rattle.std.proofs.Common.{◌≡◌, ◌≢◌, ◌⊎◌, ◌+◌, ◌-◌, ◌<◌, ◌≤◌, ℕ, zero, suc, true, false, List, [], ◌∷◌, ◌++◌, length, map, get_or, take, Contains, refl, sym, ap, ◌∙◌, subst, inl, inr, arith, length-append}
 use Rattle.std.proofs.lemmas.Bool.{cases_lt, cases_eq, true≢false}
 use Rattle.std.proofs.lemmas.List.{get_or-map, length-map, get_or_default, get_or-take, length-take-le, get_or-append-add}
 use Rattle.std.proofs.lemmas.List.Elements.{Contains-get_or}
+use Rattle.std.proofs.Math.Seq.{get_or-append_seam}
 use Rattle.map_lists.specs.Lists.{Lists}
 use Rattle.map_theory.specs.Maps.{Dart, HasDart, follows}
+use Rattle.map_theory.proofs.DartLemmas.{HasDart-follows}
 use Rattle.map_theory.proofs.EntryLemmas.{Contains-from_list_any, list_any-from_Contains}
 use Rattle.plane_laws.specs.Triangulations.{IsTriangulation}
 use Rattle.plane_peeling.proofs.RestrictedMaps.{restricted-old, restricted-new}
 use Rattle.canon_order.specs.Orders.{stands_in, IsPutOn, IsCanonicalOrder, IsRankOf}
+use Rattle.canon_order.specs.Laws.{RowEnds}
 use Rattle.canon_order.proofs.Counters.{same_place, all_of_them}
 use Rattle.contour_runs.specs.Runs.{Step, Stage, stage_after, IsStep, contour}
 use Rattle.contour_runs.specs.Laws.{IsStage, IsPutOver}
@@ -37,6 +40,39 @@ pub record IsRowOf (lists : Lists) (at ranks : List ℕ) (steps : ℕ → Step) 
   pub is_later : (u : ℕ) → u < length lists → stands_in (take (suc (k + 2)) at) u ≡ false → k + 2 ≤ get_or ranks u 0
   -- the last vertex of all is put over the whole contour
   pub whole : suc (k + 2) ≡ length at → ((steps k).first ≡ 0) × (suc (steps k).last ≡ (stage_after steps k).width)
+
+-- At the first entry the row begins, and at the last it ends: the entry is the first or the second vertex of all, or what
+-- follows it in v's list, or what it follows, is later.
+pub record HasEnds (lists : Lists) (ranks : List ℕ) (k v : ℕ) (ws : List ℕ) : Type 0 where
+  pub begins : (get_or ranks (get_or ws 0 0) 0 ≡ 0) ⊎ (k + 2 ≤ get_or ranks (follows lists v (get_or ws 0 0)) 0)
+  pub ends : (c : ℕ) → suc c ≡ length ws → (get_or ranks (get_or ws c 0) 0 ≡ 1) ⊎ ((w : ℕ) → HasDart lists v w → follows lists v w ≡ get_or ws c 0 → k + 2 ≤ get_or ranks w 0)
+
+module _ (lists : Lists) (at ranks : List ℕ) (steps : ℕ → Step) (k v : ℕ) (ws : List ℕ) (row : IsRowOf lists at ranks steps k v ws) where
+  -- the first vertex of all is the first entry, if it is one, and the second the last
+  zero_first : (c : ℕ) → c < length ws → get_or ranks (get_or ws c 0) 0 ≡ 0 → c ≡ 0
+  zero_first c m z =
+      let w = row.step.within in
+      let reach = row.reach in
+      let zero_at = sym (row.rank_is c m) ∙ z ∙ sym row.stage.begin in
+      let same = sym (row.stage.own ((steps k).first + c) (omega arith)) ∙ ap (stage_after steps k).place zero_at ∙ row.stage.own 0 (omega arith) in
+      omega (arith, same)
+
+  pub one_last : (c : ℕ) → c < length ws → get_or ranks (get_or ws c 0) 0 ≡ 1 → suc c ≡ length ws
+  one_last c m z =
+      let w = row.step.within in
+      let reach = row.reach in
+      let width : ℕ = (stage_after steps k).width in
+      let one_at = sym (row.rank_is c m) ∙ z ∙ sym (row.stage.end (width - 1) (omega arith)) in
+      let same = sym (row.stage.own ((steps k).first + c) (omega arith)) ∙ ap (stage_after steps k).place one_at ∙ row.stage.own (width - 1) (omega arith) in
+      omega (arith, same)
+
+  -- so it begins nowhere else
+  pub begins_first : (c : ℕ) → c < length ws → (get_or ranks (get_or ws c 0) 0 ≡ 0) ⊎ (k + 2 ≤ get_or ranks (follows lists v (get_or ws c 0)) 0) → c ≡ 0
+  begins_first zero m begins = refl
+  begins_first (suc c) m begins = elim begins [
+    | inl z ↦ zero_first (suc c) m z
+    | inr h ↦ let r = row.earlier c (omega arith) in absurd (omega (arith, ap (λ u. get_or ranks u 0) (row.turns c m)))
+  ]
 
 module _ (lists : Lists) (base : Dart) (at ranks : List ℕ) (triangulation : IsTriangulation lists) (order : IsCanonicalOrder lists base at) (rank : IsRankOf ranks at) (steps : ℕ → Step) (run : IsOrderRun lists base at order.cycle steps) where
   abbrev name : ℕ → ℕ
@@ -224,3 +260,26 @@ module _ (lists : Lists) (base : Dart) (at ranks : List ℕ) (triangulation : Is
       is_later = is_later;
       whole = whole;
     }
+
+    module _ (law : RowEnds) where
+      begins : (get_or ranks put.p 0 ≡ 0) ⊎ (k + 2 ≤ get_or ranks (follows lists v put.p) 0)
+      begins =
+          let some : 0 < length ws = omega (arith, length-ws) in
+          let next = triangulation.simple.in_range v (follows lists v put.p) (HasDart-follows lists v put.p (dart_at 0 some).0) in
+          elim (cases_lt (suc (k + 2)) (length at)) [
+            | inl more ↦ inr (is_later (follows lists v put.p) next (law lists base at triangulation order (k + 2) later l more).after)
+            | inr last ↦ (let d : s.first + 0 ≡ 0 = omega (arith, (whole (omega arith)).0) in inl (rank_is 0 some ∙ ap g.vertex d ∙ stage.begin))
+          ]
+
+      ends : (c : ℕ) → suc c ≡ length ws → (get_or ranks (get_or ws c 0) 0 ≡ 1) ⊎ ((w : ℕ) → HasDart lists v w → follows lists v w ≡ get_or ws c 0 → k + 2 ≤ get_or ranks w 0)
+      ends c m =
+          let len = length-ws in
+          let d : c ≡ length (put.p ∷ put.middle) = omega arith in
+          let q = ap (λ c. get_or ws c 0) d ∙ get_or-append_seam (put.p ∷ put.middle) put.q [] 0 in
+          elim (cases_lt (suc (k + 2)) (length at)) [
+            | inl more ↦ inr (λ w dart f. is_later w (triangulation.simple.in_range v w dart) ((law lists base at triangulation order (k + 2) later l more).before w dart (f ∙ q)))
+            | inr last ↦ (let z = (whole (omega arith)).1 in inl (rank_is c (omega arith) ∙ stage.end (s.first + c) (omega (arith, row_of.reach))))
+          ]
+
+      pub ends_of : HasEnds lists ranks k v ws
+      ends_of = record { begins = begins; ends = ends }

@@ -4,9 +4,11 @@
 ghost use Rattle.order_drawings.specs.Ranks.{RanksArePlaces};
 
 mod points;
+mod ranked;
 mod rows;
 
 pub use points::points_at;
+pub use ranked::RankedList;
 pub use rows::{list_rows, order_rows, rows_into};
 
 /// The ranks of an order are places of it.

@@ -3,8 +3,9 @@ ghost use Rattle.std.specs.Prelude.{◌≡◌, ◌<◌, ◌≤◌, ◌+◌, ◌^
 ghost use Rattle.map_theory.specs.Maps.{Dart, list_of};
 ghost use Rattle.plane_laws.specs.Triangulations.{IsTriangulation};
 ghost use Rattle.canon_order.specs.Orders.{IsCanonicalOrder, vertices_of};
-ghost use Rattle.order_drawings.specs.Rows.{place_before, place_after, rank_at, IsFirstPlace, IsRowIn, IsRowPut, AreRanked, OrderRows, AreRowsOf};
+ghost use Rattle.order_drawings.specs.Rows.{place_before, place_after, IsFirstPlace, IsRowIn, IsRowPut, AreRanked, AreRowsOf};
 
+use crate::order_tables::ranked::RankedList;
 use canon_order::Order;
 use half_edges::{Counts, HalfMap, Rotations, VertexList};
 use std::alloc::{AllocError, Global};
@@ -27,133 +28,74 @@ fn after(n: usize, i: usize) -> usize
     if i + 1 < n { i + 1 } else { 0 }
 }
 
-// The rank of an entry.
-fn entry_rank(list: &[u16], ranks: &Counts, i: usize) -> u32
-    requires place { i < length list.now }
-    requires vertices { All (λ u. u < length ranks.now) list.now }
-    ensures { result ≡ rank_at list.now ranks.now i }
-{
-    ranks.get(list[i] as usize)
-}
-
-// Whether the row of the vertex of rank k begins at a place of its list.
-fn is_first(list: &[u16], ranks: &Counts, k: u32, i: usize) -> bool
-    requires place { i < length list.now }
-    requires vertices { All (λ u. u < length ranks.now) list.now }
-    ensures { IsTrue result ↔ IsFirstPlace list.now ranks.now k i }
-{
-    let rank = entry_rank(list, ranks, i);
-    let next = entry_rank(list, ranks, after(list.len(), i));
-    rank < k && (rank == 0 || k <= next)
-}
-
-// Whether it ends at an entry of this rank, where `before` is that of the entry before it.
+// Whether a row ends at an entry of this rank, where `before` is that of the entry before it and `k` that of the vertex.
 fn is_last(rank: u32, before: u32, k: u32) -> bool
     ensures { IsTrue result ↔ ((rank ≡ 1) ⊎ (k ≤ before)) }
 {
     rank == 1 || k <= before
 }
 
-// The first place from `from` on whose entry has rank k or a later one, or the length where there is none.
-fn first_later(list: &[u16], ranks: &Counts, k: u32, from: usize) -> usize
-    requires from { from ≤ length list.now }
-    requires vertices { All (λ u. u < length ranks.now) list.now }
-    ensures from { from ≤ result }
-    ensures within { result ≤ length list.now }
-    ensures before { (i : ℕ) → from ≤ i → i < result → rank_at list.now ranks.now i < k }
-    ensures here { result < length list.now → k ≤ rank_at list.now ranks.now result }
-{
-    for i in from..list.len() {
-        if k <= entry_rank(list, ranks, i) {
-            return i;
-        }
+impl RankedList<'_> {
+    // Whether the row of the vertex begins at place `i` of its list.
+    fn is_first(&self, i: usize) -> bool
+        requires { i < length self.now.list.now }
+        ensures { IsTrue result ↔ IsFirstPlace self.now.list.now self.now.ranks.now self.now.k i }
+    {
+        let rank = self.rank(i);
+        let place = after(self.list.len(), i);
+        let next = self.rank(place);
+        rank < self.k && (rank == 0 || self.k <= next)
     }
-    list.len()
-}
 
-// The first place whose entry has a rank below k, or the length where there is none.
-fn first_earlier(list: &[u16], ranks: &Counts, k: u32) -> usize
-    requires vertices { All (λ u. u < length ranks.now) list.now }
-    ensures within { result ≤ length list.now }
-    ensures before { (i : ℕ) → i < result → k ≤ rank_at list.now ranks.now i }
-    ensures here { result < length list.now → rank_at list.now ranks.now result < k }
-{
-    for i in 0..list.len() {
-        if entry_rank(list, ranks, i) < k {
-            return i;
+    // Finds where the row begins: before an entry that is later, where there is one. Where none is, the vertex is the last one,
+    // and each place is tested.
+    #[inline(always)]
+    fn first_place(&self) -> usize
+        requires { 0 < length self.now.list.now }
+        ensures place { (start : ℕ) (us : List ℕ) → IsRowIn self.now.list.now self.now.ranks.now self.now.k start us → result ≡ start }
+        ensures within { result < length self.now.list.now }
+    {
+        let ranked = *self;
+        let first = ranked.first_earlier(0);
+        if first < ranked.list.len() {
+            let end = ranked.first_later(first + 1);
+            if end < ranked.list.len() {
+                return end - 1;
+            }
+            if 0 < first {
+                return ranked.list.len() - 1;
+            }
         }
+        for i in 0..ranked.list.len() {
+            if ranked.is_first(i) {
+                return i;
+            }
+        }
+        0
     }
-    list.len()
-}
 
-// Where it begins, by a test of each place.
-fn tested_place(list: &[u16], ranks: &Counts, k: u32) -> usize
-    requires some { 0 < length list.now }
-    requires vertices { All (λ u. u < length ranks.now) list.now }
-    ensures place { (start : ℕ) (us : List ℕ) → IsRowIn list.now ranks.now k start us → result ≡ start }
-    ensures within { result < length list.now }
-{
-    for i in 0..list.len() {
-        if is_first(list, ranks, k, i) {
-            return i;
+    // Appends the ranks of the row, which goes backwards in the list from place `start` on.
+    #[inline(always)]
+    fn put_row(&self, entries: &mut Vec<u16>, start: usize) -> Result<(), AllocError>
+        requires start { start < length self.now.list.now }
+        requires few { (u : ℕ) → slice_index self.now.ranks.now u < 2 ^ 16 }
+        ensures { IfOk result (λ _. IsRowPut self.now.list.now self.now.ranks.now self.now.k start entries.old.items entries.new.items) }
+    {
+        let ranked = *self;
+        let mut i = start;
+        let mut rank = ranked.rank(start);
+        for _count in 0..ranked.list.len() {
+            entries.push(rank as u16)?;
+            let place = before(ranked.list.len(), i);
+            let next = ranked.rank(place);
+            if is_last(rank, next, ranked.k) {
+                return Ok(());
+            }
+            i = place;
+            rank = next;
         }
+        Ok(())
     }
-    0
-}
-
-// Where it begins: before an entry that is later, where there is one. Where none is, the vertex is the last one.
-fn first_place(list: &[u16], ranks: &Counts, k: u32) -> usize
-    requires some { 0 < length list.now }
-    requires vertices { All (λ u. u < length ranks.now) list.now }
-    ensures place { (start : ℕ) (us : List ℕ) → IsRowIn list.now ranks.now k start us → result ≡ start }
-    ensures within { result < length list.now }
-{
-    let first = first_earlier(list, ranks, k);
-    if first < list.len() {
-        let end = first_later(list, ranks, k, first + 1);
-        if end < list.len() {
-            return end - 1;
-        }
-        if 0 < first {
-            return list.len() - 1;
-        }
-    }
-    tested_place(list, ranks, k)
-}
-
-// Appends the ranks of a row, which goes backwards in the list of its vertex.
-fn put_row(
-    entries: &mut Vec<u16>,
-    list: &[u16],
-    ranks: &Counts,
-    k: u32,
-    start: usize,
-) -> Result<(), AllocError>
-    requires start { start < length list.now }
-    requires vertices { All (λ u. u < length ranks.now) list.now }
-    requires few { (u : ℕ) → slice_index ranks.now u < 2 ^ 16 }
-    ensures { IfOk result (λ _. IsRowPut list.now ranks.now k start entries.old.items entries.new.items) }
-{
-    let mut i = start;
-    let mut rank = entry_rank(list, ranks, start);
-    for _count in 0..list.len() {
-        entries.push(rank as u16)?;
-        let place = before(list.len(), i);
-        let next = entry_rank(list, ranks, place);
-        if is_last(rank, next, k) {
-            return Ok(());
-        }
-        i = place;
-        rank = next;
-    }
-    Ok(())
-}
-
-// The row of a vertex of a canonical order stands in its list, and is that of a step of the order's run.
-fn order_has_rows()
-    ensures { OrderRows }
-{
-    canon_order::row_ends();
 }
 
 // The rows in lists, from that of the third vertex of an order on, in the memory of `spent`.
@@ -179,8 +121,13 @@ fn listed_rows(
     ends.reserve(at.len())?;
     for k in 2..at.len() {
         let list = lists.list(at.get(k).0 as usize);
-        let start = first_place(list, ranks, k as u32);
-        put_row(&mut entries, list, ranks, k as u32, start)?;
+        let row = RankedList {
+            list,
+            ranks,
+            k: k as u32,
+        };
+        let start = row.first_place();
+        row.put_row(&mut entries, start)?;
         ends.push(entries.len())?;
     }
     Ok(Rotations::from_parts(entries, ends))
@@ -224,7 +171,7 @@ pub fn rows_into(
     ensures { IfOk result (AreRowsOf lists.now (vertices_of order.now)) }
 {
     lists.facts();
-    order_has_rows();
+    canon_order::row_ends();
     crate::order_runs::order_is_run();
     let rows = listed_rows(spent, lists, &order.at, &order.rank)?;
     Ok(rows)

@@ -34,8 +34,8 @@ loop-k-preserved c =
       rows = subst (λ rows. AreRanked c.args.lists.now (map (λ v. v.0) c.args.at.now) c.args.ranks.now rows) (sym now) (AreRanked-more c.args.lists.now (map (λ v. v.0) c.args.at.now) c.args.ranks.now (cut 0 ends entries) put.row h.rows row_is);
     }
 
-pub first_place-start-requires-clause-some : goal.first_place-start-requires-clause-some
-first_place-start-requires-clause-some c =
+pub first_place-start-requires : goal.first_place-start-requires
+first_place-start-requires c =
     let k : ℕ = c.loop-k.k in
     let test = c.loop-k-test.true in
     let len = c.len-k-end.ensures in
