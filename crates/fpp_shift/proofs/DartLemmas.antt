@@ -1,5 +1,5 @@
 -- The ends of rows, by darts.
-use Rattle.std.proofs.Common.{◌≡◌, ℕ, zero, suc, ◌+◌, ◌-◌, ◌<◌, ◌≤◌, ◌⊎◌, List, length, get_or, Option, Some, option_map, unwrap_or, sym, ap, ◌∙◌, subst, inl, inr, arith, AllPairs, ◌≢◌, Contains}
+use Rattle.std.proofs.Common.{◌≡◌, ℕ, ◌+◌, ◌-◌, ◌<◌, ◌≤◌, ◌⊎◌, List, length, get_or, Option, Some, option_map, unwrap_or, sym, ap, ◌∙◌, subst, inl, inr, arith, AllPairs, ◌≢◌, Contains}
 use Rattle.std.proofs.lemmas.List.Elements.{Contains-get_or}
 use Rattle.std.proofs.lemmas.List.{get_or_default}
 use Rattle.map_lists.specs.Lists.{Lists}
@@ -133,17 +133,16 @@ module _ (lists : Lists) (v : ℕ) (list ranks : List ℕ) (is : IsListOf lists 
     EndsRow-after (first - 1) first (omega (arith, some)) l (late (first - 1) (omega arith) (omega (arith, some))) (low l),
   )
 
-  pub end-behind : (end : ℕ) → (0 < length list → IsEarlier ranks k list 0) → end < length list → (end < length list → IsLater ranks k list end) → 0 < end
-  end-behind zero low l next =
-      let high = next l in
-      let under = low l in
-      absurd (omega (arith, high, under))
-  end-behind (suc i) low l next = omega arith
-
   -- one that is earlier stands first, and one that is later behind it
-  pub row-round : (end : ℕ) → (0 < length list → IsEarlier ranks k list 0) → end < length list → 1 ≤ end → ((i : ℕ) → 1 ≤ i → i < end → IsEarlier ranks k list i) → (end < length list → IsLater ranks k list end) → BeginsRow lists ranks k v (get_or list (end - 1) 0)
+  row-round : (end : ℕ) → (0 < length list → IsEarlier ranks k list 0) → end < length list → 1 ≤ end → ((i : ℕ) → 1 ≤ i → i < end → IsEarlier ranks k list i) → (end < length list → IsLater ranks k list end) → BeginsRow lists ranks k v (get_or list (end - 1) 0)
   row-round end low l some lows next =
       BeginsRow-before (end - 1) end (omega (arith, some)) (omega (arith, l)) (lowest 0 end some (low (omega (arith, l))) lows) next (λ e. absurd (omega (arith, e, l)))
+
+  -- by the first place of all where an entry is earlier
+  pub row-round-first : (first end : ℕ) → first ≡ 0 → (first < length list → IsEarlier ranks k list first) → first + 1 ≤ end → end ≤ length list → end ≢ length list → ((i : ℕ) → first + 1 ≤ i → i < end → IsEarlier ranks k list i) → (end < length list → IsLater ranks k list end) → BeginsRow lists ranks k v (get_or list (end - 1) 0)
+  row-round-first first end none low m n ne lows next =
+      let l : end < length list = elim (cases_lt end (length list)) [ inl l ↦ l | inr o ↦ absurd (ne (omega (arith, n, o))) ] in
+      row-round end (λ some. subst (λ (i : ℕ). IsEarlier ranks k list i) none (low (omega (arith, none, some)))) l (omega (arith, m)) (λ i a b. lows i (omega (arith, a, none)) b) next
 
   -- the row ends where entries are earlier again, or at the first
   pub row-again : (end again : ℕ) → end < length list → (end < length list → IsLater ranks k list end) → end ≤ again → again < length list → ((i : ℕ) → end ≤ i → i < again → IsLater ranks k list i) → (again < length list → IsEarlier ranks k list again) → 0 < end → EndsRow lists ranks k v (get_or list again 0)

@@ -21,6 +21,7 @@ pub mod DartLemmas
 pub mod TreeLemmas
 pub mod LinkLemmas
 pub mod PointLemmas
+mod TreeSteps
 mod ShiftTreesRefused
 -- Lemmas on drawings by the shift method.
 mod DrawLemmas

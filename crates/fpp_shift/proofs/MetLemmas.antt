@@ -1,6 +1,6 @@
 -- Ways along the links of a tree, and what is known of the vertices met.
 use Rattle.std.proofs.Common.{◌≡◌, ◌≢◌, ◌⊎◌, ℕ, ◌+◌, ◌*◌, ◌<◌, ◌≤◌, Bool, true, false, List, [], ◌∷◌, ◌++◌, length, take, get_or, set, length-append, get_or-set_same, get_or-set_other, Option, Some, None, option_map, ℤ, pos, ◌+ℤ◌, refl, sym, ap, subst, ◌∙◌, inl, inr, arith}
-use Rattle.std.proofs.lemmas.List.{get_or_append_left, take_more_set, length-take-le}
+use Rattle.std.proofs.lemmas.List.{get_or_append_left, get_or-take, take_more_set, length-take-le}
 use Rattle.std.proofs.lemmas.Int.{ints}
 use Rattle.std.proofs.lemmas.Bool.{cases_lt}
 use Rattle.std.proofs.Math.Seq.{get_or-append_seam}
@@ -285,6 +285,18 @@ AreMet-root nodes root tree points here = record {
     only : (u : ℕ) → IsMet (root ∷ []) u → root ≡ u
     only u is = let first : is.0 ≡ 0 = omega (arith, is.1) in sym (ap (λ (i : ℕ). get_or (root ∷ []) i 0) first) ∙ is.2
 
+-- the root is put first into a row, and its own point is set
+pub AreMet-first : (nodes : List Node) (root : ℕ) → IsTree nodes root → (met met' : List ℕ) (points points' : List Point) (point : Point) → length met ≡ length nodes → length points ≡ length nodes → met' ≡ set met 0 root → points' ≡ set points root point → point ≡ own_point (node_at nodes root) → AreMet nodes root (take 1 met') points' 0
+AreMet-first nodes root tree met met' points points' point room many longer put is =
+    let inside = tree.inside in
+    let alone : take 1 met' ≡ root ∷ [] = ap (take 1) longer ∙ take_more_set met 0 root (omega (arith, inside, room)) in
+    subst (λ (us : List ℕ). AreMet nodes root us points' 0) (sym alone)
+    (AreMet-root nodes root tree points' (ap (λ (l : List Point). place l root) put ∙ get_or-set_same points root point (record { x = pos 0; y = pos 0 }) (omega (arith, inside, many)) ∙ is))
+
+-- both links of the vertex at place i are gone along
+pub AreMet-both : (nodes : List Node) (root : ℕ) (met : List ℕ) (sums : List Point) (i : ℕ) → AreMet nodes root met sums (2 * i + 1 + 1) → AreMet nodes root met sums (2 * (i + 1))
+AreMet-both nodes root met sums i m = let both : 2 * i + 1 + 1 ≡ 2 * (i + 1) = omega arith in subst (AreMet nodes root met sums) both m
+
 -- no vertex stands at place i, so all links are gone along
 pub AreMet-beyond : (nodes : List Node) (root : ℕ) (met : List ℕ) (sums : List Point) (i : ℕ) → length met ≤ i → AreMet nodes root met sums (2 * i) → AreMet nodes root met sums (2 * (i + 1))
 AreMet-beyond nodes root met sums i l m = record {
@@ -367,3 +379,10 @@ next-right nodes met i v node l at is = record {
   number = refl;
   link_is = ap (λ (n : Node). option_map (λ u. u.0) n.right) (sym is);
 }
+
+-- the right link, where more may be met since the left one, and those met before are kept
+pub next-right-kept : (nodes : List Node) (met met' : List ℕ) (i filled filled' : ℕ) (node : Node) → i < filled → filled ≤ filled' → filled' ≤ length met' → ((j : ℕ) → j < filled → get_or met' j 0 ≡ get_or met j 0) → node ≡ node_at nodes (get_or met i 0) → IsNext nodes (take filled' met') (2 * i + 1) (get_or met i 0) (option_map (λ u. u.0) node.right)
+next-right-kept nodes met met' i filled filled' node l grows within kept is =
+    let n = length-take-le filled' met' within in
+    let more : i < filled' = omega arith in
+    next-right nodes (take filled' met') i (get_or met i 0) node (omega (arith, n)) (get_or-take filled' met' i 0 more ∙ kept i l) is

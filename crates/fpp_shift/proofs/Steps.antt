@@ -3,7 +3,7 @@ use Rattle.std.proofs.Common.{◌≡◌, ◌⊎◌, ℕ, zero, suc, ◌+◌, ◌
 use Rattle.std.proofs.lemmas.Bool.{cases_lt, cond-true, cond-false, lt-ltb, le-ltb, le-leb, lt-leb}
 use Rattle.contour_runs.specs.Runs.{Step, Stage, vertex_after, after, base, stage_after, IsStep, IsRun}
 use Rattle.contour_runs.specs.Laws.{IsStage}
-use Rattle.contour_runs.proofs.Places.{vertex_after-low, vertex_after-new, vertex_after-high, cases_place}
+use Rattle.contour_runs.proofs.Places.{cases_place}
 use Rattle.contour_runs.proofs.Stages.{IsStage-run, IsRun-less}
 use Rattle.fpp_shift.specs.Shift.{shift, Places, top_x, top_y, x_after, y_after, shift_points}
 use Rattle.fpp_shift.specs.Contours.{IsShift}
@@ -126,32 +126,21 @@ module _ (g : Stage) (s : Step) (at : Places) (stage : IsStage g) (h : IsShift g
   pub cases_placed : (i : ℕ) → i < (after g s).width → IsPlacedLow g s at i ⊎ (IsPlacedNew g s at i ⊎ IsPlacedHigh g s at i)
   cases_placed i l =
       let o = step.order in
-      let w = step.within in
       elim (cases_place g s i step l) [
-        | inl c ↦
-            let a = c.low in
-            let m : i < g.width = omega arith in
-            let e = vertex_after-low g s i a in
-            inl record {
-              low = a;
-              x = ap (x_after g s at) e ∙ x_after-contour i m ∙ ap (λ n. at.x (g.vertex i) + n) (shift-low s i a) ∙ omega arith;
-              y = ap (y_after g s at) e ∙ y_after-contour i m;
-            }
-        | inr (inl c) ↦
-            let e = vertex_after-new g s i c.new in
-            inr (inl record { new = c.new; across = top_across (vertex_after g s i) e; along = top_along (vertex_after g s i) e })
-        | inr (inr c) ↦
-            let a = c.high in
-            let t = c.to in
-            let e = vertex_after-high g s i c.from (omega arith) a t in
-            inr (inr record {
-              from = c.from;
-              high = a;
-              within = c.within;
-              to = t;
-              x = ap (x_after g s at) e ∙ x_after-contour c.from c.within ∙ ap (λ n. at.x (g.vertex c.from) + n) (shift-high s c.from o a);
-              y = ap (y_after g s at) e ∙ y_after-contour c.from c.within;
-            })
+        | inl c ↦ inl record {
+          low = c.low;
+          x = ap (x_after g s at) c.vertex ∙ x_after-contour i c.within ∙ ap (λ n. at.x (g.vertex i) + n) (shift-low s i c.low) ∙ omega arith;
+          y = ap (y_after g s at) c.vertex ∙ y_after-contour i c.within;
+        }
+        | inr (inl c) ↦ inr (inl record { new = c.new; across = top_across (vertex_after g s i) c.vertex; along = top_along (vertex_after g s i) c.vertex })
+        | inr (inr c) ↦ inr (inr record {
+          from = c.from;
+          high = c.high;
+          within = c.within;
+          to = c.to;
+          x = ap (x_after g s at) c.vertex ∙ x_after-contour c.from c.within ∙ ap (λ n. at.x (g.vertex c.from) + n) (shift-high s c.from o c.high);
+          y = ap (y_after g s at) c.vertex ∙ y_after-contour c.from c.within;
+        })
       ]
 
   -- two vertices of the new contour

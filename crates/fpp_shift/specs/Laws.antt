@@ -3,7 +3,6 @@ use Rattle.std.specs.Prelude.{ℕ, ◌+◌, ◌*◌, ◌-◌, ◌<◌, ◌≤◌
 use Rattle.pg_plane.specs.Geometry.{area}
 use Rattle.contour_runs.specs.Runs.{Step, stage_after, IsRun, IsFaceOf}
 use Rattle.fpp_shift.specs.Shift.{Places, shift_points, point_of}
-use Rattle.fpp_shift.specs.Contours.{IsShift}
 use Rattle.fpp_shift.specs.Opened.{IsOpened}
 
 -- A face so opened is counterclockwise.

@@ -1,5 +1,5 @@
 -- How the tree of offsets grows along a run, as statements about all runs.
-use Rattle.std.specs.Prelude.{ℕ, suc, ◌≡◌, Some, None, pos}
+use Rattle.std.specs.Prelude.{ℕ, suc, ◌≡◌}
 use Rattle.contour_runs.specs.Runs.{Step, stage_after, IsRun}
 use Rattle.fpp_shift.specs.Shift.{shift_points}
 use Rattle.fpp_shift.specs.Grown.{Links, IsGrown, IsWritten, IsOffsetTree}

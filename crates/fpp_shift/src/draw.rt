@@ -96,9 +96,7 @@ impl Shifter {
         let mut steps: Steps<L> = Steps::new(blank);
         let mut tree: Offsets<L> = self.tree(lists.len())?;
         list_tree(lists, order, &mut tree, &mut steps);
-        let points = self
-            .sums
-            .sum_offsets(self.alloc, &tree, order.at.get(0), &mut steps)?;
+        let points = self.sums.sum_offsets(&tree, order.at.get(0), &mut steps)?;
         self.nodes = tree.into_nodes();
         Ok(points)
     }

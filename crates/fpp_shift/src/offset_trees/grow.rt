@@ -88,24 +88,24 @@ fn top(apart: i32, y_p: i32, y_q: i32) -> (i32, i32, i32)
     (x, y, width - x)
 }
 
-// Tells the nodes between p and q from the vertex over them, which stands x to the right of p; `before` is the
-// vertex before q. Gives the first of them, if there is any.
+// Tells the nodes of a row but its ends from the vertex over them, which stands x to the right of the row's first vertex;
+// `row` are this one and the last vertex but one. Gives the first of the nodes, if there is any.
 fn cover<L: Ledger>(
     tree: &mut Offsets<L>,
-    p: u16,
-    before: u16,
+    row: (u16, u16),
     x: i32,
     steps: &mut Steps<L>,
 ) -> Option<VertexId>
-    requires p { p < length tree.old }
-    requires before { before < length tree.old }
-    requires first { before ≢ p → (f : ℕ) × (right_of tree.old p ≡ Some f) × (f < length tree.old) × IsWithin (pos 1048576) (node_at tree.old f).x }
+    requires p { row.0 < length tree.old }
+    requires before { row.1 < length tree.old }
+    requires first { row.1 ≢ row.0 → (f : ℕ) × (right_of tree.old row.0 ≡ Some f) × (f < length tree.old) × IsWithin (pos 1048576) (node_at tree.old f).x }
     requires x { IsWithin (pos 1048576) x }
-    ensures covers { CoversFrom tree.old tree.new p before x (option_map (λ u. u.0) result) }
+    ensures covers { CoversFrom tree.old tree.new row.0 row.1 x (option_map (λ u. u.0) result) }
     ensures count { length tree.new ≡ length tree.old }
     ensures steps { steps.new ≤ steps.old + 6 }
     ensures never_falls { steps.old ≤ steps.new }
 {
+    let (p, before) = row;
     if before == p {
         return None;
     }
@@ -135,53 +135,53 @@ fn height_of<L: Ledger>(tree: &Offsets<L>, at: u16, steps: &mut Steps<L>) -> i32
     node.y
 }
 
-// Sets the node of a vertex.
-fn set_node<L: Ledger>(
-    tree: &mut Offsets<L>,
-    v: u16,
-    place: (i32, i32),
-    links: (Option<VertexId>, Option<VertexId>),
-    steps: &mut Steps<L>,
-)
-    requires { v < length tree.old }
-    ensures set { SetsNode tree.old tree.new v (record { x = place.0; y = place.1; left = links.0; right = links.1 }) }
-    ensures steps { steps.new ≡ steps.old + 1 }
+// The node at this place, with a left and a right link.
+fn node_with(place: (i32, i32), links: (Option<VertexId>, Option<VertexId>)) -> Node
+    ensures { result ≡ record { x = place.0; y = place.1; left = links.0; right = links.1 } }
 {
-    let node = Node {
+    Node {
         x: place.0,
         y: place.1,
         left: links.0,
         right: links.1,
-    };
+    }
+}
+
+// Sets the node of a vertex.
+fn set_node<L: Ledger>(tree: &mut Offsets<L>, v: u16, node: Node, steps: &mut Steps<L>)
+    requires { v < length tree.old }
+    ensures set { SetsNode tree.old tree.new v node }
+    ensures steps { steps.new ≡ steps.old + 1 }
+{
     tree.put(VertexId(v), node, steps);
 }
 
-/// Puts the vertex `v` over the row of the contour from `p` to `q`, where the nodes are the tree of a run
-/// before that step. Five nodes change at most; the tree is used 14 times at most, and twice for each vertex
-/// that follows `p` up to `q`. It takes no memory.
+/// Puts the vertex `v` over the row of the contour from one vertex to another, which are `ends`, where the nodes are
+/// the tree of a run before that step. Five nodes change at most; the tree is used 14 times at most, and twice for
+/// each vertex that follows the first one up to the last. It takes no memory.
 pub fn put_over<L: Ledger>(
     tree: &mut Offsets<L>,
     v: VertexId,
-    p: VertexId,
-    q: VertexId,
+    ends: (VertexId, VertexId),
     steps: &mut Steps<L>,
 )
-    requires next { (at : List ℕ) × (run : ℕ → Step) × (n : ℕ) × IsNextStep at run n tree.old v.0 p.0 q.0 }
-    ensures grown { (at : List ℕ) (run : ℕ → Step) (n : ℕ) → IsNextStep at run n tree.old v.0 p.0 q.0
+    requires next { (at : List ℕ) × (run : ℕ → Step) × (n : ℕ) × IsNextStep at run n tree.old v.0 ends.0.0 ends.1.0 }
+    ensures grown { (at : List ℕ) (run : ℕ → Step) (n : ℕ) → IsNextStep at run n tree.old v.0 ends.0.0 ends.1.0
         → IsGrown (slice_index at) run (suc n) (links_of tree.new at) }
     ensures count { length tree.new ≡ length tree.old }
-    ensures steps { (at : List ℕ) (run : ℕ → Step) (n : ℕ) → IsNextStep at run n tree.old v.0 p.0 q.0
+    ensures steps { (at : List ℕ) (run : ℕ → Step) (n : ℕ) → IsNextStep at run n tree.old v.0 ends.0.0 ends.1.0
         → steps.new ≤ steps.old + 14 + 2 * ((run n).last - (run n).first) }
     ensures never_falls { steps.old ≤ steps.new }
 {
+    let (p, q) = ends;
     let (apart, before) = walk(tree, p.0, q.0, steps);
     let y_p = height_of(tree, p.0, steps);
     let y_q = height_of(tree, q.0, steps);
     let (x, y, rest) = top(apart, y_p, y_q);
-    let first = cover(tree, p.0, before, x, steps);
+    let first = cover(tree, (p.0, before), x, steps);
     set_right(tree, p.0, Some(v), steps);
     set_x(tree, q.0, rest, steps);
-    set_node(tree, v.0, (x, y), (first, Some(q)), steps);
+    set_node(tree, v.0, node_with((x, y), (first, Some(q))), steps);
 }
 
 /// Makes the nodes of `s` and `t` the tree of a run before its first step, whatever they were: both of zeros,
@@ -195,6 +195,6 @@ pub fn begin_tree<L: Ledger>(tree: &mut Offsets<L>, s: VertexId, t: VertexId, st
     ensures count { length tree.new ≡ length tree.old }
     ensures steps { steps.new ≡ steps.old + 2 }
 {
-    set_node(tree, s.0, (0, 0), (None, Some(t)), steps);
-    set_node(tree, t.0, (0, 0), (None, None), steps);
+    set_node(tree, s.0, node_with((0, 0), (None, Some(t))), steps);
+    set_node(tree, t.0, node_with((0, 0), (None, None)), steps);
 }

@@ -1,7 +1,6 @@
 //! The points to which a tree of offsets adds up.
 ghost use Rattle.std.specs.Prelude.{◌≡◌, ◌<◌, ◌≤◌, ◌+◌, ◌*◌, ℕ, length, take, option_map, slice_index, slice_set, pos, ◌+ℤ◌, IfOk};
 ghost use Rattle.pg_plane.specs.Range.{IsWithin};
-ghost use Rattle.fpp_shift.specs.Nodes.{node_at};
 ghost use Rattle.plane_drawings.specs.Drawing.{place};
 ghost use Rattle.fpp_shift.specs.Ways.{IsTree, ArePointsOf};
 ghost use Rattle.fpp_shift.specs.Sums.{AreMet, IsNext, own_point as own, point_beside as beside};
@@ -23,14 +22,6 @@ fn point_beside(from: Point, node: Node) -> Point
         x: from.x + node.x,
         y: node.y,
     }
-}
-
-// The vertex at place i of those met.
-fn vertex_at(met: &[u16], i: usize) -> u16
-    requires { i < length met.now }
-    ensures { result ≡ slice_index met.now i }
-{
-    met[i]
 }
 
 // Sets the vertex at place i of those met.
@@ -65,23 +56,6 @@ fn own_point(node: Node) -> Point
         x: node.x,
         y: node.y,
     }
-}
-
-// Sets the point of the root, which is its own offset and height.
-fn put_first<L: Ledger>(
-    tree: &Offsets<L>,
-    root: VertexId,
-    points: &mut [Point],
-    steps: &mut Steps<L>,
-)
-    requires points { length points.old ≡ length tree.now }
-    requires root { root.0 < length tree.now }
-    ensures point { place points.new root.0 ≡ own (node_at tree.now root.0) }
-    ensures count { length points.new ≡ length points.old }
-    ensures step { steps.new ≡ steps.old + 1 }
-{
-    let node = tree.get(root, steps);
-    put_point(points, root.0, own_point(node));
 }
 
 // Goes along one link of a vertex, where `filled` vertices were met: what it leads to is met too, beside the vertex. It
@@ -121,57 +95,8 @@ fn follow<L: Ledger>(
     }
 }
 
-// Goes along both links of the vertex at place i of those met, if there is one. It answers how many are met then.
-fn follow_both<L: Ledger>(
-    tree: &Offsets<L>,
-    met: &mut [u16],
-    points: &mut [Point],
-    filled: usize,
-    i: usize,
-    steps: &mut Steps<L>,
-) -> usize
-    requires met { length met.old ≡ length tree.now }
-    requires points { length points.old ≡ length tree.now }
-    requires filled { filled ≤ length tree.now }
-    requires begun { (root : ℕ) × IsTree tree.now root × AreMet tree.now root (take filled met.old) points.old (2 * i) }
-    ensures met { (root : ℕ) → IsTree tree.now root → AreMet tree.now root (take filled met.old) points.old (2 * i)
-        → AreMet tree.now root (take result met.new) points.new (2 * (i + 1)) }
-    ensures within { result ≤ length tree.now }
-    ensures met_count { length met.new ≡ length met.old }
-    ensures points_count { length points.new ≡ length points.old }
-    ensures steps { steps.new ≤ steps.old + 3 }
-    ensures never_falls { steps.old ≤ steps.new }
-{
-    if filled <= i {
-        return filled;
-    }
-    let v = vertex_at(met, i);
-    let node = tree.get(VertexId(v), steps);
-    let filled = follow(tree, met, points, filled, v, node.left, steps);
-    follow(tree, met, points, filled, v, node.right, steps)
-}
-
-// Goes along both links of each vertex, in the order in which they are met, where the root alone was met.
-fn follow_all<L: Ledger>(
-    tree: &Offsets<L>,
-    met: &mut [u16],
-    points: &mut [Point],
-    steps: &mut Steps<L>,
-)
-    requires met { length met.old ≡ length tree.now }
-    requires points { length points.old ≡ length tree.now }
-    requires begun { (root : ℕ) × IsTree tree.now root × AreMet tree.now root (take 1 met.old) points.old 0 }
-    ensures points { (root : ℕ) → IsTree tree.now root → AreMet tree.now root (take 1 met.old) points.old 0 → ArePointsOf tree.now root points.new }
-    ensures steps { steps.new ≤ steps.old + 3 * length tree.now }
-    ensures never_falls { steps.old ≤ steps.new }
-{
-    let mut filled = 1;
-    for i in 0..tree.len() {
-        filled = follow_both(tree, met, points, filled, i as usize, steps);
-    }
-}
-
-// Finds the points of a tree, by tables that may hold anything.
+// Finds the points of a tree, by tables that may hold anything: the root is met first, and then what the links of each
+// vertex lead to, in the order in which the vertices are met.
 fn find_points<L: Ledger>(
     tree: &Offsets<L>,
     root: VertexId,
@@ -187,13 +112,25 @@ fn find_points<L: Ledger>(
     ensures never_falls { steps.old ≤ steps.new }
 {
     meet(met, 0, root.0);
-    put_first(tree, root, points, steps);
-    follow_all(tree, met, points, steps);
+    let first = tree.get(root, steps);
+    put_point(points, root.0, own_point(first));
+    let mut filled = 1;
+    for i in 0..tree.len() {
+        let place = i as usize;
+        if filled <= place {
+            continue;
+        }
+        let v = met[place];
+        let node = tree.get(VertexId(v), steps);
+        let left = follow(tree, met, points, filled, v, node.left, steps);
+        filled = follow(tree, met, points, left, v, node.right, steps);
+    }
 }
 
 // The tables by which points are found, kept from one tree to the next.
 #[derive(Drop)]
 pub(crate) struct SumMemory {
+    alloc: Global,
     met: Vec<u16>,
     spent: Points,
 }
@@ -202,6 +139,7 @@ impl SumMemory {
     // No memory yet.
     pub(crate) fn new(alloc: Global) -> SumMemory {
         SumMemory {
+            alloc,
             met: Vec::new(alloc),
             spent: Points::new(alloc),
         }
@@ -210,7 +148,6 @@ impl SumMemory {
     // The points to which a tree adds up, as `sum_offsets` has them.
     pub(crate) fn sum_offsets<L: Ledger>(
         &mut self,
-        alloc: Global,
         tree: &Offsets<L>,
         root: VertexId,
         steps: &mut Steps<L>,
@@ -221,7 +158,7 @@ impl SumMemory {
         ensures never_falls { steps.old ≤ steps.new }
     {
         self.met.resize(tree.len() as usize, 0)?;
-        let spent = mem::replace(&mut self.spent, Points::new(alloc));
+        let spent = mem::replace(&mut self.spent, Points::new(self.alloc));
         let mut points = spent.into_vec();
         points.resize(tree.len() as usize, Point { x: 0, y: 0 })?;
         find_points(tree, root, &mut self.met, &mut points, steps);
@@ -253,6 +190,6 @@ pub fn sum_offsets<L: Ledger>(
     ensures never_falls { steps.old ≤ steps.new }
 {
     let mut memory = SumMemory::new(alloc);
-    let points = memory.sum_offsets(alloc, tree, root, steps)?;
+    let points = memory.sum_offsets(tree, root, steps)?;
     Ok(points)
 }

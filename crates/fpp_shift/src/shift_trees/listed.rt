@@ -1,88 +1,48 @@
 //! Where rows begin and end, and the tree of offsets of an order, by the lists of the map.
-ghost use Rattle.std.specs.Prelude.{◌≡◌, ◌<◌, ◌≤◌, ◌+◌, ◌*◌, ◌↔◌, ℕ, length, slice_index, All, IsTrue};
+ghost use Rattle.std.specs.Prelude.{◌≡◌, ◌<◌, ◌≤◌, ◌+◌, ◌*◌, ℕ, length, slice_index};
 ghost use Rattle.map_lists.specs.Lists.{Lists};
 ghost use Rattle.map_theory.specs.Maps.{Dart, vertex_count};
 ghost use Rattle.plane_laws.specs.Triangulations.{IsTriangulation};
 ghost use Rattle.canon_order.specs.Orders.{IsCanonicalOrder, vertices_of};
-ghost use Rattle.fpp_shift.specs.ShiftTreesRows.{IsListOf, IsEarlier, IsLater, BeginsRow, EndsRow};
+ghost use Rattle.fpp_shift.specs.ShiftTreesRows.{IsListOf, BeginsRow, EndsRow};
 ghost use Rattle.fpp_shift.specs.Ways.{IsTree};
 ghost use Rattle.fpp_shift.specs.Trees.{IsTreeOf};
 
 use crate::offset_trees::{Offsets, begin_tree, put_over};
 use crate::shift_trees::rows::order_has_rows;
 use canon_order::Order;
-use half_edges::{Counts, Rotations, VertexId};
+use half_edges::{Rotations, VertexId};
+use order_drawings::order_tables::RankedList;
 use pg_io::Steps;
 use std::sync::ledger::Ledger;
 
-// The rank of an entry.
-fn entry_rank(list: &[u16], ranks: &Counts, i: usize) -> u32
-    requires place { i < length list.now }
-    requires vertices { All (λ u. u < length ranks.now) list.now }
-    ensures { result ≡ slice_index ranks.now (slice_index list.now i) }
+// The neighbours at which the row of a vertex begins and ends, by one round of its list: where those of its list that are
+// later begin, and come to an end. Where none is later, these are the base's vertices, s and t.
+fn row_in(row: &RankedList<'_>, s: u16, t: u16) -> (u16, u16)
+    requires { 0 < length row.now.list.now }
+    ensures begin { (lists : Lists) (v p : ℕ) → IsListOf lists v row.now.list.now → BeginsRow lists row.now.ranks.now row.now.k v p → (slice_index row.now.ranks.now p ≡ 0 → p ≡ s)
+        → BeginsRow lists row.now.ranks.now row.now.k v result.0 }
+    ensures end { (lists : Lists) (v q : ℕ) → IsListOf lists v row.now.list.now → EndsRow lists row.now.ranks.now row.now.k v q → (slice_index row.now.ranks.now q ≡ 1 → q ≡ t)
+        → EndsRow lists row.now.ranks.now row.now.k v result.1 }
 {
-    ranks.get(list[i] as usize)
-}
-
-// The first place from `from` on whose entry has rank k or a later one, or the length where there is none.
-fn first_later(list: &[u16], ranks: &Counts, k: u32, from: usize) -> usize
-    requires from { from ≤ length list.now }
-    requires vertices { All (λ u. u < length ranks.now) list.now }
-    ensures from { from ≤ result }
-    ensures within { result ≤ length list.now }
-    ensures before { (i : ℕ) → from ≤ i → i < result → IsEarlier ranks.now k list.now i }
-    ensures here { result < length list.now → IsLater ranks.now k list.now result }
-{
-    for i in from..list.len() {
-        if k <= entry_rank(list, ranks, i) {
-            return i;
-        }
-    }
-    list.len()
-}
-
-// The first place from `from` on whose entry has a rank below k, or the length where there is none.
-fn first_earlier(list: &[u16], ranks: &Counts, k: u32, from: usize) -> usize
-    requires from { from ≤ length list.now }
-    requires vertices { All (λ u. u < length ranks.now) list.now }
-    ensures from { from ≤ result }
-    ensures within { result ≤ length list.now }
-    ensures before { (i : ℕ) → from ≤ i → i < result → IsLater ranks.now k list.now i }
-    ensures here { result < length list.now → IsEarlier ranks.now k list.now result }
-{
-    for i in from..list.len() {
-        if entry_rank(list, ranks, i) < k {
-            return i;
-        }
-    }
-    list.len()
-}
-
-// The neighbours at which the row of a vertex of rank k begins and ends, by one round of its list: where those of its
-// list that are later begin, and come to an end. Where none is later, these are the base's vertices, s and t.
-fn row_in(list: &[u16], ranks: &Counts, k: u32, s: u16, t: u16) -> (u16, u16)
-    requires some { 0 < length list.now }
-    requires vertices { All (λ u. u < length ranks.now) list.now }
-    ensures begin { (lists : Lists) (v p : ℕ) → IsListOf lists v list.now → BeginsRow lists ranks.now k v p → (slice_index ranks.now p ≡ 0 → p ≡ s)
-        → BeginsRow lists ranks.now k v result.0 }
-    ensures end { (lists : Lists) (v q : ℕ) → IsListOf lists v list.now → EndsRow lists ranks.now k v q → (slice_index ranks.now q ≡ 1 → q ≡ t)
-        → EndsRow lists ranks.now k v result.1 }
-{
-    let first = first_earlier(list, ranks, k, 0);
+    let list = row.list;
+    let k = row.k;
+    let first = row.first_earlier(0);
     if first == list.len() {
         return (s, t);
     }
-    let end = first_later(list, ranks, k, first + 1);
+    let end = row.first_later(first + 1);
     if 0 < first {
         return (list[end - 1], list[first]);
     }
     if end == list.len() {
         return (s, t);
     }
-    if k <= entry_rank(list, ranks, list.len() - 1) {
+    let last = row.rank(list.len() - 1);
+    if k <= last {
         return (list[end - 1], list[0]);
     }
-    let again = first_earlier(list, ranks, k, end);
+    let again = row.first_earlier(end);
     (list[end - 1], list[again])
 }
 
@@ -113,7 +73,12 @@ pub(crate) fn list_tree<L: Ledger>(
     for k in 2..order.at.len() {
         let v = order.at.get(k);
         let list = lists.list(v.0 as usize);
-        let row = row_in(list, &order.rank, k as u32, s.0, t.0);
-        put_over(tree, v, VertexId(row.0), VertexId(row.1), steps);
+        let ranked = RankedList {
+            list,
+            ranks: &order.rank,
+            k: k as u32,
+        };
+        let row = row_in(&ranked, s.0, t.0);
+        put_over(tree, v, (VertexId(row.0), VertexId(row.1)), steps);
     }
 }

@@ -7,7 +7,7 @@ ghost use Rattle.fpp_shift.specs.Ways.{IsTree};
 ghost use Rattle.fpp_shift.specs.Trees.{IsTreeOf};
 
 use crate::offset_trees::{Offsets, begin_tree, put_over};
-use crate::shift_trees::rows::{order_has_rows, row_begin, row_end};
+use crate::shift_trees::rows::{RankedMap, order_has_rows};
 use canon_order::Order;
 use half_edges::HalfMap;
 use pg_io::Steps;
@@ -42,11 +42,15 @@ pub fn offset_tree<L: Ledger>(
     order_drawings::order_runs::order_is_run();
     contour_runs::face_count();
     crate::offset_trees::grown_is_offset_tree();
+    let ranked = RankedMap {
+        map: tri,
+        ranks: &order.rank,
+    };
     begin_tree(tree, order.at.get(0), order.at.get(1), steps);
     for k in 2..order.at.len() {
         let v = order.at.get(k);
-        let p = row_begin(tri, &order.rank, v, k as u32);
-        let q = row_end(tri, &order.rank, v, k as u32);
-        put_over(tree, v, p, q, steps);
+        let p = ranked.row_begin(v, k as u32);
+        let q = ranked.row_end(v, k as u32);
+        put_over(tree, v, (p, q), steps);
     }
 }

@@ -1,5 +1,7 @@
-use Rattle.std.proofs.Common.{◌∙◌, refl, arith, rules, SFits, w32}
+use Rattle.std.proofs.Common.{◌∙◌, refl, subst, arith, rules, SFits, w32}
 use Rattle.std.proofs.lemmas.Int.{ints, to_z-of_z}
+use Rattle.fpp_shift.specs.declared.offset_trees.nodes.Node.{Node}
+use Rattle.fpp_shift.specs.Writes.{SetsNode}
 use Rattle.fpp_shift.proofs.NextLemmas.{row, row-is, near-q, top-told, p-inside, q-inside, v-inside, before-row, before-inside, first-of}
 use Rattle.fpp_shift.proofs.PutLemmas.{covering, grown-after}
 use Rattle.fpp_shift.proofs.offset_trees.grow.put_over.Goals as goal
@@ -81,8 +83,9 @@ returns-clause-grown g c = λ at run n next.
     let across = is.across in
     let high = is.high in
     let small = is.small in
+    let set = subst (λ (node : Node). SetsNode c.set_x.new.tree c.set_node.new.tree c.args.v.0 node) c.node_with.ensures c.set_node.ensures.set in
     let one = covering at run n _ _ _ _ next _ _ _ _ (before-row at run n _ _ _ _ next _ c.walk-apart.ensures.before) c.cover-first.ensures.covers in
-    grown-after at run n _ _ _ _ next _ _ _ _ _ _ _ _ one c.set_right.ensures.set c.set_x.ensures.set c.set_node.ensures.set refl refl (omega (arith, ints, x, across, small)) (omega (arith, ints, y, high, small)) (omega (arith, ints, x, across, small)) (omega (arith, ints, x, rest, across, small))
+    grown-after at run n _ _ _ _ next _ _ _ _ _ _ _ _ one c.set_right.ensures.set c.set_x.ensures.set set refl refl (omega (arith, ints, x, across, small)) (omega (arith, ints, y, high, small)) (omega (arith, ints, x, across, small)) (omega (arith, ints, x, rest, across, small))
 
 pub returns-clause-steps : goal.returns-clause-steps
 returns-clause-steps g c = λ at run n next.

@@ -1,101 +1,62 @@
-use Rattle.std.proofs.Common.{◌≡◌, ℕ, suc, ◌+◌, ◌-◌, get_or, ◌∙◌, subst, arith}
+use Rattle.std.proofs.Common.{◌∙◌, arith}
 use Rattle.std.proofs.lemmas.List.{length-map}
-use Rattle.map_theory.specs.Maps.{Dart}
-use Rattle.canon_order.specs.Orders.{IsCanonicalOrder, vertices_of}
-use Rattle.contour_runs.specs.Runs.{Step}
-use Rattle.order_drawings.specs.OrderRuns.{IsOrderRun}
-use Rattle.fpp_shift.specs.Next.{IsNextStep}
-use Rattle.fpp_shift.specs.Grown.{links_of, IsGrown}
-use Rattle.fpp_shift.proofs.TreeLemmas.{vertex-is, IsNextStep-order, row-at, uses-more, IsTreeOf-all, uses-all}
-use Rattle.fpp_shift.proofs.PointLemmas.{AddsUp-order}
+use Rattle.canon_order.specs.Orders.{vertices_of}
+use Rattle.fpp_shift.proofs.TreeLemmas.{vertex-is}
+use Rattle.fpp_shift.proofs.TreeSteps.{IsTreeTo-two, IsTreeTo-more, AreUsesTo-more, next-order, some-next, tree-done, vertex-in, ends-at}
 use Rattle.fpp_shift.proofs.shift_trees.tree.offset_tree.Goals as goal
 
 pub loop-k-init : goal.loop-k-init
-loop-k-init g c =
-    let at = vertices_of c.args.order.now in
-    record {
-      grown = λ base order steps run j e.
-          let d : 0 ≡ j = omega arith in
-          subst (λ (j : ℕ). IsGrown (λ i. get_or at i 0) steps j (links_of c.begin_tree.new.tree at)) d
-          (c.begin_tree.ensures.grown at steps (vertex-is c.args.order.now.at 0 c.get.result c.get.ensures) (vertex-is c.args.order.now.at 1 c.get-2.result c.get-2.ensures));
-      count = c.begin_tree.ensures.count;
-      uses = λ base order steps run j e. omega (arith, c.begin_tree.ensures.steps);
-      never_falls = omega (arith, c.begin_tree.ensures.steps);
-    }
+loop-k-init g c = record {
+  grown = IsTreeTo-two c.args.tri.now.lists (vertices_of c.args.order.now) c.begin_tree.new.tree (λ steps. c.begin_tree.ensures.grown (vertices_of c.args.order.now) steps (vertex-is c.args.order.now.at 0 c.get.result c.get.ensures) (vertex-is c.args.order.now.at 1 c.get-2.result c.get-2.ensures));
+  count = c.begin_tree.ensures.count;
+  uses = λ base order steps run j e. omega (arith, c.begin_tree.ensures.steps);
+  never_falls = omega (arith, c.begin_tree.ensures.steps);
+}
 
 pub row_begin-p-requires-clause-vertex : goal.row_begin-p-requires-clause-vertex
 row_begin-p-requires-clause-vertex g c =
-    let order = c.requires.order.1 in
     let n = length-map c.args.order.now.at (λ v. v.0) in
     let len = c.len-k-end.ensures in
     let test = c.loop-k-test.true in
-    let v = order.vertices c.loop-k.k 0 (omega arith) in
-    omega (arith, vertex-is c.args.order.now.at c.loop-k.k c.get-v.result c.get-v.ensures)
+    let is = vertex-is c.args.order.now.at c.loop-k.k c.get-v.result c.get-v.ensures in
+    vertex-in c.args.tri.now.lists c.requires.order.0 (vertices_of c.args.order.now) c.requires.triangulation c.requires.order.1 c.order_is_run.ensures c.facts.ensures.few_vertices c.args.order.now.rank c.args.order.now.ranked c.order_has_rows.ensures c.loop-k.k c.get-v.result.0 c.loop-k.auto.k (omega arith) is
 
 pub row_begin-p-requires-clause-begins : goal.row_begin-p-requires-clause-begins
 row_begin-p-requires-clause-begins g c =
-    let at = vertices_of c.args.order.now in
     let n = length-map c.args.order.now.at (λ v. v.0) in
     let len = c.len-k-end.ensures in
     let test = c.loop-k-test.true in
-    (row-at c.args.tri.now.lists c.requires.order.0 at c.args.order.now.rank c.requires.triangulation c.requires.order.1 c.args.order.now.ranked c.order_is_run.ensures c.order_has_rows.ensures c.loop-k.k c.get-v.result.0 c.loop-k.auto.k
-    (omega arith) (vertex-is c.args.order.now.at c.loop-k.k c.get-v.result c.get-v.ensures)).0
+    let is = vertex-is c.args.order.now.at c.loop-k.k c.get-v.result c.get-v.ensures in
+    (ends-at c.args.tri.now.lists c.requires.order.0 (vertices_of c.args.order.now) c.requires.triangulation c.requires.order.1 c.order_is_run.ensures c.facts.ensures.few_vertices c.args.order.now.rank c.args.order.now.ranked c.order_has_rows.ensures c.loop-k.k c.get-v.result.0 c.loop-k.auto.k (omega arith) is).0
 
 pub row_end-q-requires-clause-ends : goal.row_end-q-requires-clause-ends
 row_end-q-requires-clause-ends g c =
-    let at = vertices_of c.args.order.now in
     let n = length-map c.args.order.now.at (λ v. v.0) in
     let len = c.len-k-end.ensures in
     let test = c.loop-k-test.true in
-    (row-at c.args.tri.now.lists c.requires.order.0 at c.args.order.now.rank c.requires.triangulation c.requires.order.1 c.args.order.now.ranked c.order_is_run.ensures c.order_has_rows.ensures c.loop-k.k c.get-v.result.0 c.loop-k.auto.k
-    (omega arith) (vertex-is c.args.order.now.at c.loop-k.k c.get-v.result c.get-v.ensures)).1
+    let is = vertex-is c.args.order.now.at c.loop-k.k c.get-v.result c.get-v.ensures in
+    (ends-at c.args.tri.now.lists c.requires.order.0 (vertices_of c.args.order.now) c.requires.triangulation c.requires.order.1 c.order_is_run.ensures c.facts.ensures.few_vertices c.args.order.now.rank c.args.order.now.ranked c.order_has_rows.ensures c.loop-k.k c.get-v.result.0 c.loop-k.auto.k (omega arith) is).1
 
 pub put_over-requires : goal.put_over-requires
 put_over-requires g c =
-    let at = vertices_of c.args.order.now in
-    let lists = c.args.tri.now.lists in
-    let base = c.requires.order.0 in
-    let order = c.requires.order.1 in
-    let run = c.order_is_run.ensures lists base at c.requires.triangulation order in
     let n = length-map c.args.order.now.at (λ v. v.0) in
     let len = c.len-k-end.ensures in
     let test = c.loop-k-test.true in
-    let low = c.loop-k.auto.k in
-    let few = c.facts.ensures.few_vertices in
-    let count = order.count in
-    record {
-      next = (
-        at,
-        run.0,
-        c.loop-k.k - 2,
-        IsNextStep-order lists base at c.args.order.now.rank c.requires.triangulation order c.args.order.now.ranked run.0 run.1 c.order_has_rows.ensures (omega arith) c.loop-k.tree (omega (arith, c.loop-k.invariant.count, c.requires.nodes)) (c.loop-k.k - 2) c.loop-k.k
-            c.get-v.result.0 c.row_begin-p.result.0 c.row_end-q.result.0 (omega arith) (omega arith) c.loop-k.invariant.grown (vertex-is c.args.order.now.at c.loop-k.k c.get-v.result c.get-v.ensures) c.row_begin-p.ensures c.row_end-q.ensures,
-      );
-    }
+    let is = vertex-is c.args.order.now.at c.loop-k.k c.get-v.result c.get-v.ensures in
+    let next = next-order c.args.tri.now.lists c.requires.order.0 (vertices_of c.args.order.now) c.requires.triangulation c.requires.order.1 c.order_is_run.ensures c.facts.ensures.few_vertices c.args.order.now.rank c.args.order.now.ranked c.order_has_rows.ensures c.loop-k.k c.get-v.result.0 c.loop-k.auto.k (omega arith) is c.loop-k.tree c.row_begin-p.result.0 c.row_end-q.result.0 (c.loop-k.invariant.count ∙ c.requires.nodes) c.loop-k.invariant.grown c.row_begin-p.ensures c.row_end-q.ensures in
+    record { next = some-next c.args.tri.now.lists c.requires.order.0 (vertices_of c.args.order.now) c.requires.triangulation c.requires.order.1 c.order_is_run.ensures c.facts.ensures.few_vertices c.args.order.now.rank c.args.order.now.ranked c.order_has_rows.ensures c.loop-k.k c.get-v.result.0 c.loop-k.auto.k (omega arith) is c.loop-k.tree c.row_begin-p.result.0 c.row_end-q.result.0 next }
 
 pub loop-k-preserved : goal.loop-k-preserved
 loop-k-preserved g c =
-    let at = vertices_of c.args.order.now in
-    let lists = c.args.tri.now.lists in
     let n = length-map c.args.order.now.at (λ v. v.0) in
     let len = c.len-k-end.ensures in
     let test = c.loop-k-test.true in
-    let low = c.loop-k.auto.k in
-    let few = c.facts.ensures.few_vertices in
-    let i : ℕ = c.loop-k.k - 2 in
-    let d : i + 2 ≡ c.loop-k.k = omega arith in
-    let next : (base : Dart) (order : IsCanonicalOrder lists base at) (steps : ℕ → Step) → IsOrderRun lists base at order.cycle steps → IsNextStep at steps i c.loop-k.tree c.get-v.result.0 c.row_begin-p.result.0 c.row_end-q.result.0 =
-    λ base order steps run.
-    (let count = order.count in
-    IsNextStep-order lists base at c.args.order.now.rank c.requires.triangulation order c.args.order.now.ranked steps run c.order_has_rows.ensures (omega arith) c.loop-k.tree (omega (arith, c.loop-k.invariant.count, c.requires.nodes)) i c.loop-k.k c.get-v.result.0
-    c.row_begin-p.result.0 c.row_end-q.result.0 d (omega arith) c.loop-k.invariant.grown (vertex-is c.args.order.now.at c.loop-k.k c.get-v.result c.get-v.ensures) c.row_begin-p.ensures c.row_end-q.ensures) in
+    let is = vertex-is c.args.order.now.at c.loop-k.k c.get-v.result c.get-v.ensures in
+    let next = next-order c.args.tri.now.lists c.requires.order.0 (vertices_of c.args.order.now) c.requires.triangulation c.requires.order.1 c.order_is_run.ensures c.facts.ensures.few_vertices c.args.order.now.rank c.args.order.now.ranked c.order_has_rows.ensures c.loop-k.k c.get-v.result.0 c.loop-k.auto.k (omega arith) is c.loop-k.tree c.row_begin-p.result.0 c.row_end-q.result.0 (c.loop-k.invariant.count ∙ c.requires.nodes) c.loop-k.invariant.grown c.row_begin-p.ensures c.row_end-q.ensures in
     record {
-      grown = λ base order steps run j e.
-          let more : suc i ≡ j = omega arith in
-          subst (λ (j : ℕ). IsGrown (λ i. get_or at i 0) steps j (links_of c.put_over.new.tree at)) more (c.put_over.ensures.grown at steps i (next base order steps run));
+      grown = IsTreeTo-more c.args.tri.now.lists (vertices_of c.args.order.now) c.loop-k.tree c.loop-k.k c.get-v.result.0 c.row_begin-p.result.0 c.row_end-q.result.0 c.loop-k.auto.k next c.put_over.new.tree c.put_over.ensures.grown;
       count = c.put_over.ensures.count ∙ c.loop-k.invariant.count;
-      uses = λ base order steps run j e.
-          uses-more steps i j c.args.steps.now c.loop-k.steps c.put_over.new.steps (omega arith) (c.loop-k.invariant.uses base order steps run i d) (c.put_over.ensures.steps at steps i (next base order steps run));
+      uses = AreUsesTo-more c.args.tri.now.lists (vertices_of c.args.order.now) c.loop-k.tree c.loop-k.k c.get-v.result.0 c.row_begin-p.result.0 c.row_end-q.result.0 c.loop-k.auto.k next c.args.steps.now c.loop-k.steps c.put_over.new.steps c.loop-k.invariant.uses c.put_over.ensures.steps;
       never_falls = omega (arith, c.put_over.ensures.never_falls, c.loop-k.invariant.never_falls);
     }
 
@@ -105,37 +66,20 @@ returns-clause-tree g c =
     let len = c.len-k-end.ensures in
     let test = c.loop-k-test.false in
     let end = c.loop-k.auto.k-end in
-    let some = c.requires.triangulation.some in
-    let count = c.requires.order.1.count in
-    IsTreeOf-all c.grown_is_offset_tree.ensures c.args.tri.now.lists (vertices_of c.args.order.now) c.loop-k.tree c.loop-k.k (omega arith) (omega arith) c.loop-k.invariant.grown
+    (tree-done c.args.tri.now.lists c.requires.order.0 (vertices_of c.args.order.now) c.requires.triangulation c.requires.order.1 c.order_is_run.ensures c.facts.ensures.few_vertices c.grown_is_offset_tree.ensures c.face_count.ensures c.loop-k.tree c.loop-k.k c.args.steps.now c.loop-k.steps (c.loop-k.invariant.count ∙ c.requires.nodes) (omega (arith, c.requires.triangulation.some, c.requires.order.1.count)) c.loop-k.invariant.grown c.loop-k.invariant.uses).0
 
 pub returns-clause-steps : goal.returns-clause-steps
 returns-clause-steps g c =
-    let at = vertices_of c.args.order.now in
-    let lists = c.args.tri.now.lists in
-    let base = c.requires.order.0 in
-    let order = c.requires.order.1 in
-    let run = c.order_is_run.ensures lists base at c.requires.triangulation order in
     let n = length-map c.args.order.now.at (λ v. v.0) in
     let len = c.len-k-end.ensures in
     let test = c.loop-k-test.false in
     let end = c.loop-k.auto.k-end in
-    let some = c.requires.triangulation.some in
-    let count = order.count in
-    omega (arith, uses-all c.face_count.ensures lists base at order run.0 run.1 c.args.steps.now c.loop-k.steps c.loop-k.k (omega arith) (omega arith) c.loop-k.invariant.uses)
+    (tree-done c.args.tri.now.lists c.requires.order.0 (vertices_of c.args.order.now) c.requires.triangulation c.requires.order.1 c.order_is_run.ensures c.facts.ensures.few_vertices c.grown_is_offset_tree.ensures c.face_count.ensures c.loop-k.tree c.loop-k.k c.args.steps.now c.loop-k.steps (c.loop-k.invariant.count ∙ c.requires.nodes) (omega (arith, c.requires.triangulation.some, c.requires.order.1.count)) c.loop-k.invariant.grown c.loop-k.invariant.uses).1
 
 pub returns-clause-links : goal.returns-clause-links
 returns-clause-links g c =
-    let at = vertices_of c.args.order.now in
-    let lists = c.args.tri.now.lists in
-    let base = c.requires.order.0 in
-    let order = c.requires.order.1 in
-    let run = c.order_is_run.ensures lists base at c.requires.triangulation order in
     let n = length-map c.args.order.now.at (λ v. v.0) in
     let len = c.len-k-end.ensures in
     let test = c.loop-k-test.false in
     let end = c.loop-k.auto.k-end in
-    let some = c.requires.triangulation.some in
-    let count = order.count in
-    let made = IsTreeOf-all c.grown_is_offset_tree.ensures lists at c.loop-k.tree c.loop-k.k (omega arith) (omega arith) c.loop-k.invariant.grown in
-    (AddsUp-order lists base at c.loop-k.tree c.requires.triangulation c.facts.ensures.few_vertices order run.0 run.1 (omega (arith, c.loop-k.invariant.count, c.requires.nodes)) made).tree
+    (tree-done c.args.tri.now.lists c.requires.order.0 (vertices_of c.args.order.now) c.requires.triangulation c.requires.order.1 c.order_is_run.ensures c.facts.ensures.few_vertices c.grown_is_offset_tree.ensures c.face_count.ensures c.loop-k.tree c.loop-k.k c.args.steps.now c.loop-k.steps (c.loop-k.invariant.count ∙ c.requires.nodes) (omega (arith, c.requires.triangulation.some, c.requires.order.1.count)) c.loop-k.invariant.grown c.loop-k.invariant.uses).2

@@ -1,7 +1,0 @@
--- So are the entries passed.
-use Rattle.std.proofs.Common.{ℕ, ◌<◌, ◌≤◌}
-use Rattle.fpp_shift.specs.ShiftTreesRows.{IsLater}
-use Rattle.fpp_shift.proofs.shift_trees.listed.first_earlier.Given as goal
-
-abbrev pub invariant-loop-i : goal.invariant-loop-i
-invariant-loop-i l = (j : ℕ) → l.from ≤ j → j < l.i → IsLater l.ranks l.k l.list j
