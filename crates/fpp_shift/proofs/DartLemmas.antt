@@ -1,5 +1,5 @@
 -- The ends of rows, by darts.
-use Rattle.std.proofs.Common.{◌≡◌, ℕ, ◌+◌, ◌-◌, ◌<◌, ◌≤◌, ◌⊎◌, List, length, get_or, Option, Some, option_map, unwrap_or, sym, ap, ◌∙◌, subst, inl, inr, arith, AllPairs, ◌≢◌, Contains}
+use Rattle.std.proofs.Common.{Bool, IsTrue, ◌↔◌, ◌≡◌, ℕ, ◌+◌, ◌-◌, ◌<◌, ◌≤◌, ◌⊎◌, List, length, get_or, Option, Some, option_map, unwrap_or, sym, ap, ◌∙◌, subst, inl, inr, arith, AllPairs, ◌≢◌, Contains}
 use Rattle.std.proofs.lemmas.List.Elements.{Contains-get_or}
 use Rattle.std.proofs.lemmas.List.{get_or_default}
 use Rattle.map_lists.specs.Lists.{Lists}
@@ -28,7 +28,7 @@ head-within map d r known live e =
     omega arith
 
 -- the dart before another
-pub before-is : (map : Map) (d e v u : ℕ) → IsLive map e → option_map (next_dart map.lists) (dart_at map e) ≡ dart_at map d → dart_at map d ≡ Some (v, u) → (w : ℕ) × (dart_at map e ≡ Some (v, w)) × (follows map.lists v w ≡ u)
+before-is : (map : Map) (d e v u : ℕ) → IsLive map e → option_map (next_dart map.lists) (dart_at map e) ≡ dart_at map d → dart_at map d ≡ Some (v, u) → (w : ℕ) × (dart_at map e ≡ Some (v, w)) × (follows map.lists v w ≡ u)
 before-is map d e v u live step is =
     let y = some_of (dart_at map e) live in
     let same : Some (next_dart map.lists y.0) ≡ Some (v, u) = sym (ap (option_map (next_dart map.lists)) y.1) ∙ step ∙ is in
@@ -43,7 +43,7 @@ next-is map d e v k known vertex l is step =
 
 module _ (lists : Lists) (simple : IsSimpleMap lists) (ranks : List ℕ) (k v u r b : ℕ) (dart : HasDart lists v u) (rank : r ≡ get_or ranks u 0) where
   -- where a row begins, by the ranks of a neighbour and the next
-  pub BeginsRow-iff : b ≡ get_or ranks (follows lists v u) 0 → (((r < k) × ((r ≡ 0) ⊎ (k ≤ b))) → BeginsRow lists ranks k v u) × (BeginsRow lists ranks k v u → ((r < k) × ((r ≡ 0) ⊎ (k ≤ b))))
+  BeginsRow-iff : b ≡ get_or ranks (follows lists v u) 0 → (((r < k) × ((r ≡ 0) ⊎ (k ≤ b))) → BeginsRow lists ranks k v u) × (BeginsRow lists ranks k v u → ((r < k) × ((r ≡ 0) ⊎ (k ≤ b))))
   BeginsRow-iff next = (
     λ t. record {
       dart = dart;
@@ -54,7 +54,7 @@ module _ (lists : Lists) (simple : IsSimpleMap lists) (ranks : List ℕ) (k v u 
   )
 
   -- where a row ends, by the ranks of a neighbour and the one before it, w
-  pub EndsRow-iff : (w : ℕ) → HasDart lists v w → follows lists v w ≡ u → b ≡ get_or ranks w 0 → (((r < k) × ((r ≡ 1) ⊎ (k ≤ b))) → EndsRow lists ranks k v u) × (EndsRow lists ranks k v u → ((r < k) × ((r ≡ 1) ⊎ (k ≤ b))))
+  EndsRow-iff : (w : ℕ) → HasDart lists v w → follows lists v w ≡ u → b ≡ get_or ranks w 0 → (((r < k) × ((r ≡ 1) ⊎ (k ≤ b))) → EndsRow lists ranks k v u) × (EndsRow lists ranks k v u → ((r < k) × ((r ≡ 1) ⊎ (k ≤ b))))
   EndsRow-iff w has turns before = (
     λ t. record {
       dart = dart;
@@ -68,6 +68,21 @@ module _ (lists : Lists) (simple : IsSimpleMap lists) (ranks : List ℕ) (k v u 
     },
     λ s. let e = s.earlier in (omega arith, elim s.ends [ inl z ↦ inl (rank ∙ z) | inr h ↦ inr (let l = h w has turns in omega arith) ]),
   )
+
+-- and by a test of the ranks that calls answer at darts
+module _ (map : Map) (known : IsHalfMap map) (ranks : List ℕ) (k v u d e r b : ℕ) (test : Bool) (is : dart_at map d ≡ Some (v, u)) (rank : (v u : ℕ) → dart_at map d ≡ Some (v, u) → r ≡ get_or ranks u 0) (beside : (v u : ℕ) → dart_at map e ≡ Some (v, u) → b ≡ get_or ranks u 0) where
+  pub BeginsRow-tested : dart_at map e ≡ option_map (next_dart map.lists) (dart_at map d) → IsTrue test ↔ ((r < k) × ((r ≡ 0) ⊎ (k ≤ b))) → IsTrue test ↔ BeginsRow map.lists ranks k v u
+  BeginsRow-tested after law =
+      let next = after ∙ ap (option_map (next_dart map.lists)) is in
+      let iff = BeginsRow-iff map.lists known.simple ranks k v u r b (known.is_dart d v u is) (rank v u is) (beside v (follows map.lists v u) next) in
+      (λ t. iff.0 (law.0 t), λ s. law.1 (iff.1 s))
+
+  pub EndsRow-tested : IsLive map e → option_map (next_dart map.lists) (dart_at map e) ≡ dart_at map d → IsTrue test ↔ ((r < k) × ((r ≡ 1) ⊎ (k ≤ b))) → IsTrue test ↔ EndsRow map.lists ranks k v u
+  EndsRow-tested live step law =
+      let before = before-is map d e v u live step is in
+      let w = before.0 in
+      let iff = EndsRow-iff map.lists known.simple ranks k v u r b (known.is_dart d v u is) (rank v u is) w (known.is_dart e v w before.1) before.2 (beside v w before.1) in
+      (λ t. iff.0 (law.0 t), λ s. law.1 (iff.1 s))
 
 -- where a row begins and ends, by which entries of a list are earlier than k and which are later
 module _ (lists : Lists) (v : ℕ) (list ranks : List ℕ) (is : IsListOf lists v list) (k : ℕ) where

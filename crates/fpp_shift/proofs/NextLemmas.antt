@@ -1,6 +1,6 @@
 -- The next step of a run, by the nodes of the tree before it.
-use Rattle.std.proofs.Common.{◌≡◌, ℕ, zero, suc, ◌+◌, ◌-◌, ◌<◌, List, length, get_or, Some, ℤ, pos, ◌+ℤ◌, refl, sym, ap, subst, ◌∙◌, arith}
-use Rattle.std.proofs.lemmas.Int.{ints}
+use Rattle.std.proofs.Common.{SFits, w32, to_z, of_z, ◌≡◌, ℕ, zero, suc, ◌+◌, ◌-◌, ◌<◌, List, length, get_or, Some, ℤ, pos, ◌+ℤ◌, refl, sym, ap, subst, ◌∙◌, arith}
+use Rattle.std.proofs.lemmas.Int.{ints, to_z-of_z}
 use Rattle.pg_plane.specs.Range.{IsWithin}
 use Rattle.contour_runs.specs.Runs.{Step, Stage, stage_after, IsStep}
 use Rattle.contour_runs.specs.Laws.{IsStage}
@@ -166,3 +166,13 @@ module _ (at : List ℕ) (steps : ℕ → Step) (n : ℕ) (nodes : List Node) (v
 
   pub near-q : IsWithin (pos 1048576) (far nodes row (s.last - s.first))
   near-q = row-is.near (s.last - s.first) (omega arith)
+
+  -- and as a call is told them
+  pub top-called :
+      (a b c : ℤ) → a ≡ far nodes row (s.last - s.first) → b ≡ (node_at nodes p).y → c ≡ (node_at nodes q).y → SFits w32 b → SFits w32 c
+      → IsTop (to_z w32 (of_z w32 a)) (to_z w32 (of_z w32 b)) (to_z w32 (of_z w32 c)) (x_q - x_p) (points.y (g.vertex s.first)) (points.y (g.vertex s.last)) (x_after g s points g.count - x_p) (y_after g s points g.count)
+  top-called a b c ea eb ec fb fc =
+      let least = near-q.least in
+      let most = near-q.most in
+      let fa : SFits w32 a = omega (arith, ints, ea, least, most) in
+      top-told (to_z w32 (of_z w32 a)) (to_z w32 (of_z w32 b)) (to_z w32 (of_z w32 c)) (to_z-of_z w32 a fa ∙ ea) (to_z-of_z w32 b fb ∙ eb) (to_z-of_z w32 c fc ∙ ec)

@@ -1,8 +1,8 @@
-use Rattle.std.proofs.Common.{◌∙◌, refl, subst, arith, rules, SFits, w32}
-use Rattle.std.proofs.lemmas.Int.{ints, to_z-of_z}
+use Rattle.std.proofs.Common.{refl, subst, arith, rules}
+use Rattle.std.proofs.lemmas.Int.{ints}
 use Rattle.fpp_shift.specs.declared.offset_trees.nodes.Node.{Node}
 use Rattle.fpp_shift.specs.Writes.{SetsNode}
-use Rattle.fpp_shift.proofs.NextLemmas.{row, row-is, near-q, top-told, p-inside, q-inside, v-inside, before-row, before-inside, first-of}
+use Rattle.fpp_shift.proofs.NextLemmas.{row, row-is, top-called, p-inside, q-inside, v-inside, before-row, before-inside, first-of}
 use Rattle.fpp_shift.proofs.PutLemmas.{covering, grown-after}
 use Rattle.fpp_shift.proofs.offset_trees.grow.put_over.Goals as goal
 
@@ -20,15 +20,7 @@ height_of-y_q-requires g c = q-inside _ _ _ _ _ _ _ c.requires.next.3
 pub top-x-requires : goal.top-x-requires
 top-x-requires g c =
     let next = c.requires.next.3 in
-    let r = row-is _ _ _ _ _ _ _ next in
-    let width = c.walk-apart.ensures.width _ _ r in
-    let near = near-q _ _ _ _ _ _ _ next in
-    let least = near.least in
-    let most = near.most in
-    let fits : SFits w32 c.walk-apart.result.0 = omega (arith, ints, width, least, most) in
-    let y_p : SFits w32 c.height_of-y_p.result = search rules in
-    let y_q : SFits w32 c.height_of-y_q.result = search rules in
-    (_, _, _, _, _, top-told _ _ _ _ _ _ _ next _ _ _ (to_z-of_z w32 c.walk-apart.result.0 fits ∙ width) (to_z-of_z w32 c.height_of-y_p.result y_p ∙ c.height_of-y_p.ensures.height) (to_z-of_z w32 c.height_of-y_q.result y_q ∙ c.height_of-y_q.ensures.height))
+    (_, _, _, _, _, top-called _ _ _ _ _ _ _ next c.walk-apart.result.0 c.height_of-y_p.result c.height_of-y_q.result (c.walk-apart.ensures.width _ _ (row-is _ _ _ _ _ _ _ next)) c.height_of-y_p.ensures.height c.height_of-y_q.ensures.height (search rules) (search rules))
 
 pub cover-first-requires-clause-p : goal.cover-first-requires-clause-p
 cover-first-requires-clause-p g c = p-inside _ _ _ _ _ _ _ c.requires.next.3
@@ -42,15 +34,7 @@ cover-first-requires-clause-first g c = λ _. first-of _ _ _ _ _ _ _ c.requires.
 pub cover-first-requires-clause-x : goal.cover-first-requires-clause-x
 cover-first-requires-clause-x g c =
     let next = c.requires.next.3 in
-    let r = row-is _ _ _ _ _ _ _ next in
-    let width = c.walk-apart.ensures.width _ _ r in
-    let near = near-q _ _ _ _ _ _ _ next in
-    let least = near.least in
-    let most = near.most in
-    let fits : SFits w32 c.walk-apart.result.0 = omega (arith, ints, width, least, most) in
-    let y_p : SFits w32 c.height_of-y_p.result = search rules in
-    let y_q : SFits w32 c.height_of-y_q.result = search rules in
-    let is = top-told _ _ _ _ _ _ _ next _ _ _ (to_z-of_z w32 c.walk-apart.result.0 fits ∙ width) (to_z-of_z w32 c.height_of-y_p.result y_p ∙ c.height_of-y_p.ensures.height) (to_z-of_z w32 c.height_of-y_q.result y_q ∙ c.height_of-y_q.ensures.height) in
+    let is = top-called _ _ _ _ _ _ _ next c.walk-apart.result.0 c.height_of-y_p.result c.height_of-y_q.result (c.walk-apart.ensures.width _ _ (row-is _ _ _ _ _ _ _ next)) c.height_of-y_p.ensures.height c.height_of-y_q.ensures.height (search rules) (search rules) in
     let told = (c.top-x.ensures _ _ _ _ _ is).0 in
     let across = is.across in
     let small = is.small in
@@ -67,15 +51,7 @@ set_node-requires g c = let l = v-inside _ _ _ _ _ _ _ c.requires.next.3 in omeg
 
 pub returns-clause-grown : goal.returns-clause-grown
 returns-clause-grown g c = λ at run n next.
-    let r = row-is at run n _ _ _ _ next in
-    let width = c.walk-apart.ensures.width _ _ r in
-    let near = near-q at run n _ _ _ _ next in
-    let least = near.least in
-    let most = near.most in
-    let fits : SFits w32 c.walk-apart.result.0 = omega (arith, ints, width, least, most) in
-    let y_p : SFits w32 c.height_of-y_p.result = search rules in
-    let y_q : SFits w32 c.height_of-y_q.result = search rules in
-    let is = top-told at run n _ _ _ _ next _ _ _ (to_z-of_z w32 c.walk-apart.result.0 fits ∙ width) (to_z-of_z w32 c.height_of-y_p.result y_p ∙ c.height_of-y_p.ensures.height) (to_z-of_z w32 c.height_of-y_q.result y_q ∙ c.height_of-y_q.ensures.height) in
+    let is = top-called at run n _ _ _ _ next c.walk-apart.result.0 c.height_of-y_p.result c.height_of-y_q.result (c.walk-apart.ensures.width _ _ (row-is at run n _ _ _ _ next)) c.height_of-y_p.ensures.height c.height_of-y_q.ensures.height (search rules) (search rules) in
     let told = c.top-x.ensures _ _ _ _ _ is in
     let x = told.0 in
     let y = told.1 in
