@@ -191,6 +191,55 @@ module _ (lists : Lists) (base : Dart) (parent : Colour → ℕ → ℕ) (at : L
     not_base x (inr (inl e)) = i.1 three e.1
     not_base x (inr (inr e)) = i.1 two e.1
 
+    -- the row has no repeats
+    row_once : (i j : ℕ) → i ≤ high → j ≤ high → row i ≡ row j → i ≡ j
+    row_once i j a b e =
+        let s = size in
+        let p = placed k i l a in
+        let q = placed k j l b in
+        same_place k i j l a b (once' ((stage k).vertex i) ((stage k).vertex j) (omega arith) (omega arith) e)
+
+    -- A dart to it stands in a face of a step: with a later vertex behind it, along the row, or from a later vertex.
+    made_by : (x : ℕ) → IsMadeByStep at steps x v → ((w : ℕ) × (k + 2 < w) × (w < length lists) × (named w ≡ follows lists v x)) ⊎ (((j : ℕ) × (low ≤ j) × (j < high) × (row (suc j) ≡ x) × (row j ≡ follows lists v x)) ⊎ ((w : ℕ) × (k + 2 < w) × (w < length lists) × (named w ≡ x)))
+    made_by x m =
+        let s = size in
+        let c = a.count in
+        let l' : m.step < n = let e = m.earlier in omega arith in
+        let f = run.faces m.step m.place m.a m.b m.v m.earlier m.face in
+        let hi = m.face.high in
+        let lo = m.face.low in
+        let pa = placed m.step m.place l' (omega arith) in
+        let pb = placed m.step (suc m.place) l' (omega arith) in
+        let ea = m.face.left in
+        let eb = m.face.right in
+        let ev = sym (count-stage_after steps m.step) ∙ m.face.new in
+        elim m.dart [
+          | inl e ↦
+              let q = once' (k + 2) m.b (omega arith) (omega arith) e.1 in
+              inl (m.v, omega arith, omega arith, sym (ap (follows lists v) e.0 ∙ (ap (λ w. follows lists w (named m.a)) e.1 ∙ f.second)))
+          | inr (inl e) ↦
+              let q = once' (k + 2) m.v (omega arith) (omega arith) e.1 in
+              let same : m.step ≡ k = omega arith in
+              let first = ap (λ s. (stage s).vertex m.place) (sym same) ∙ ea in
+              let second = ap (λ s. (stage s).vertex (suc m.place)) (sym same) ∙ eb in
+              let turned = ap (follows lists v) e.0 ∙ (ap (λ w. follows lists w (named m.b)) e.1 ∙ f.third) in
+              inr (inl (m.place, subst (λ s. (steps s).first ≤ m.place) same lo, subst (λ s. m.place < (steps s).last) same hi, ap named second ∙ sym e.0, ap named first ∙ sym turned))
+          | inr (inr e) ↦
+              let q = once' (k + 2) m.a (omega arith) (omega arith) e.1 in
+              inr (inr (m.v, omega arith, omega arith, sym e.0))
+        ]
+
+    -- an earlier vertex is no later one
+    not_both : (z : (x : ℕ) × (x < k + 2)) → (w : (x : ℕ) × (k + 2 < x) × (x < length lists)) → named z.0 ≡ named w.0 → ⊥
+    not_both z w e =
+        let s = size in
+        let c = a.count in
+        let less = z.1 in
+        let more = w.1 in
+        let within = w.2 in
+        let same = once' z.0 w.0 (omega arith) (omega arith) e in
+        omega arith
+
     -- the first of the row is the parent of colour one
     pub first_is : parent one v ≡ row low
     first_is =
@@ -208,37 +257,11 @@ module _ (lists : Lists) (base : Dart) (parent : Colour → ℕ → ℕ) (at : L
       where
         none : (x : ℕ) × (x < k + 2) × (named x ≡ follows lists v (row low)) → IsMadeByStep at steps (row low) v → ⊥
         none z m =
-            let s = size in
-            let l' : m.step < n = let e = m.earlier in omega arith in
-            let f = run.faces m.step m.place m.a m.b m.v m.earlier m.face in
-            let hi = m.face.high in
-            let lo = m.face.low in
-            let pa = placed m.step m.place l' (omega arith) in
-            let pb = placed m.step (suc m.place) l' (omega arith) in
-            let ea = m.face.left in
-            let eb = m.face.right in
-            let ev = sym (count-stage_after steps m.step) ∙ m.face.new in
-            let pr = placed k low l (let o = some in omega arith) in
-            let zl = z.1 in
-            elim m.dart [
-              | inl e ↦
-                  let q = once' (k + 2) m.b (omega arith) (omega arith) e.1 in
-                  let to : named z.0 ≡ named m.v = z.2 ∙ (ap (follows lists v) e.0 ∙ (ap (λ w. follows lists w (named m.a)) e.1 ∙ f.second)) in
-                  let q' = once' z.0 m.v (omega arith) (omega arith) to in
-                  omega arith
-              | inr (inl e) ↦
-                  let q = once' (k + 2) m.v (omega arith) (omega arith) e.1 in
-                  let q' = once' ((stage k).vertex low) m.b (omega arith) (omega arith) e.0 in
-                  let same : m.step ≡ k = omega arith in
-                  let high' : suc m.place ≤ (steps k).last = subst (λ s. suc m.place ≤ (steps s).last) same hi in
-                  let low' : (steps k).first ≤ m.place = subst (λ s. (steps s).first ≤ m.place) same lo in
-                  let there : (stage k).vertex (suc m.place) ≡ (stage k).vertex low = ap (λ s. (stage s).vertex (suc m.place)) (sym same) ∙ (eb ∙ sym q') in
-                  let q'' = same_place k (suc m.place) low l high' (let o = some in omega arith) there in
-                  omega arith
-              | inr (inr e) ↦
-                  let q = once' (k + 2) m.a (omega arith) (omega arith) e.1 in
-                  let q' = once' ((stage k).vertex low) m.v (omega arith) (omega arith) e.0 in
-                  omega arith
+            let o = some in
+            elim (made_by (row low) m) [
+              | inl h ↦ not_both (z.0, z.1) (h.0, h.1, h.2) (z.2 ∙ sym h.3)
+              | inr (inl h) ↦ (let lo = h.1 in let e = row_once (suc h.0) low h.2 (omega arith) h.3 in omega arith)
+              | inr (inr h) ↦ not_later low (omega arith) h
             ]
 
     -- and the last that of colour two
@@ -262,39 +285,11 @@ module _ (lists : Lists) (base : Dart) (parent : Colour → ℕ → ℕ) (at : L
         ]
       where
         none : (z : ℕ) → follows lists v z ≡ row high → (x : ℕ) × (x < k + 2) × (named x ≡ z) → IsMadeByStep at steps z v → ⊥
-        none u to z m =
-            let s = size in
-            let l' : m.step < n = let e = m.earlier in omega arith in
-            let f = run.faces m.step m.place m.a m.b m.v m.earlier m.face in
-            let hi = m.face.high in
-            let lo = m.face.low in
-            let pa = placed m.step m.place l' (omega arith) in
-            let pb = placed m.step (suc m.place) l' (omega arith) in
-            let ea = m.face.left in
-            let eb = m.face.right in
-            let ev = sym (count-stage_after steps m.step) ∙ m.face.new in
-            let pr = placed k high l (omega arith) in
-            let zl = z.1 in
-            elim m.dart [
-              | inl e ↦
-                  let q = once' (k + 2) m.b (omega arith) (omega arith) e.1 in
-                  let there : row high ≡ named m.v = sym to ∙ (ap (follows lists v) e.0 ∙ (ap (λ w. follows lists w (named m.a)) e.1 ∙ f.second)) in
-                  let q' = once' ((stage k).vertex high) m.v (omega arith) (omega arith) there in
-                  omega arith
-              | inr (inl e) ↦
-                  let q = once' (k + 2) m.v (omega arith) (omega arith) e.1 in
-                  let there : row high ≡ named m.a = sym to ∙ (ap (follows lists v) e.0 ∙ (ap (λ w. follows lists w (named m.b)) e.1 ∙ f.third)) in
-                  let q' = once' ((stage k).vertex high) m.a (omega arith) (omega arith) there in
-                  let same : m.step ≡ k = omega arith in
-                  let high' : m.place < (steps k).last = subst (λ s. m.place < (steps s).last) same hi in
-                  let back : (stage k).vertex m.place ≡ (stage k).vertex high = ap (λ s. (stage s).vertex m.place) (sym same) ∙ (ea ∙ sym q') in
-                  let q'' = same_place k m.place high l (omega arith) (omega arith) back in
-                  omega arith
-              | inr (inr e) ↦
-                  let q = once' (k + 2) m.a (omega arith) (omega arith) e.1 in
-                  let q' = once' z.0 m.v (omega arith) (omega arith) (z.2 ∙ e.0) in
-                  omega arith
-            ]
+        none u to z m = elim (made_by u m) [
+          | inl h ↦ not_later high (omega arith) (h.0, h.1, h.2, h.3 ∙ to)
+          | inr (inl h) ↦ (let hi = h.2 in let e = row_once h.0 high (omega arith) (omega arith) (h.4 ∙ to) in omega arith)
+          | inr (inr h) ↦ not_both (z.0, z.1) (h.0, h.1, h.2) (z.2 ∙ sym h.3)
+        ]
 
   -- THE LEMMA
   pub parents_are : AreParentsOf at steps parent
