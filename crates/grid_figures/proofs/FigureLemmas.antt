@@ -1,17 +1,20 @@
 -- From a drawing of a completion to the figure of the map, for every method, and what each of the two methods draws.
-use Rattle.std.proofs.Common.{◌≡◌, ℕ, ◌*◌, ◌-◌, ◌<◌, List, length, pos, refl, ap, subst, ◌∙◌}
+use Rattle.std.proofs.Common.{◌≡◌, ℕ, ℤ, ◌*◌, ◌-◌, ◌<◌, List, length, pos, refl, ap, sym, subst, ◌∙◌}
 use Rattle.map_lists.specs.Lists.{Lists}
-use Rattle.map_theory.specs.Maps.{HasDart, follows}
+use Rattle.map_theory.specs.Maps.{Dart, HasDart, follows}
 use Rattle.map_theory.proofs.DartLemmas.{HasDart-follows}
+use Rattle.pg_plane.specs.declared.point.Point.{Point}
 use Rattle.pg_plane.specs.declared.figure.GridFigure.{GridFigure}
 use Rattle.plane_laws.specs.Triangulations.{IsTriangulation}
-use Rattle.plane_drawings.specs.Drawing.{place}
-use Rattle.canon_order.specs.Orders.{IsCanonicalOrder}
+use Rattle.plane_drawings.specs.Drawing.{place, IsInGrid, IsPlaneDrawing, KeepsRotations, IsCounterclockwise}
+use Rattle.canon_order.specs.Orders.{IsCanonicalOrder, vertices_of}
+use Rattle.canon_order.specs.declared.numbered.Order.{Order}
 use Rattle.canon_order.specs.Laws.{SomeOrder}
 use Rattle.order_drawings.specs.SchnyderDrawings.{AreWoodPoints, IsSchnyderDrawing, SomeWoodPoints, WoodPointsDraw}
 use Rattle.fpp_shift.specs.ShiftDrawings.{AreShiftPoints, IsShiftDrawing, SomeShiftPoints, ShiftPointsDraw}
-use Rattle.grid_figures.specs.DrawingOrdersLaws.{IsCompletionFor, CompletionDraws, SomeCompletion}
-use Rattle.grid_figures.specs.Forms.{Form, IsPlaced, IsFigure, IsDrawnFor, SomeFigure}
+use Rattle.grid_figures.specs.DrawingOrdersLaws.{IsBaseDrawing, IsCompletionFor, CompletionDraws, SomeCompletion}
+use Rattle.grid_figures.specs.Forms.{Form, IsPlaced, IsFigure, IsDrawnFor, IsDrawnBy, SomeFigure}
+use Rattle.grid_figures.specs.Orders.{IsOrdered}
 use Rattle.grid_figures.specs.ShiftFiguresFigures.{shift_form}
 use Rattle.grid_figures.specs.SchnyderFiguresFigures.{schnyder_form}
 
@@ -44,6 +47,18 @@ module _ (form : Form) (draws : CompletionDraws) (lists more : Lists) (to : ℕ)
         method = record { more = more; to = to; completion = h; at = at; order = order; by_order = d.by_order };
       }
 
+-- so an order of a completion, and a drawing by that, give the figure of the map
+pub figure_ordered : (form : Form) → CompletionDraws → (lists more : Lists) (order : Order) (figure : GridFigure) → IsOrdered lists more order → IsDrawnBy form more (vertices_of order) figure → IsFigure form lists figure
+figure_ordered form draws lists more order figure h drawn =
+    figure_of_drawing form draws lists more h.to (record { simple = h.simple; triangulation = h.triangulation; extended = h.extended; base = h.base }) (vertices_of order) h.canonical figure (drawn h.to h.base.dart h.canonical)
+
+-- so it is for lists that are those of the completion
+pub order_of_made : (lists more made : Lists) (order : Order) → made ≡ more → IsOrdered lists more order → (base : Dart) × IsCanonicalOrder made base (vertices_of order)
+order_of_made lists more made order is h = ((0, h.to), subst (λ (ls : Lists). IsCanonicalOrder ls (0, h.to) (vertices_of order)) (sym is) h.canonical)
+
+pub figure_of_made : (form : Form) → CompletionDraws → (lists more made : Lists) (order : Order) (figure : GridFigure) → made ≡ more → IsOrdered lists more order → IsDrawnBy form made (vertices_of order) figure → IsFigure form lists figure
+figure_of_made form draws lists more made order figure is h drawn = figure_ordered form draws lists more order figure h (subst (λ (ls : Lists). IsDrawnBy form ls (vertices_of order) figure) is drawn)
+
 -- so each map that can be completed has a figure, where triangulations are drawn
 pub some_figure : (form : Form) → CompletionDraws → SomeCompletion → SomeOrder → ((more : Lists) (to : ℕ) (at : List ℕ) → IsTriangulation more → HasDart more 0 to → (order : IsCanonicalOrder more (0, to) at) → (figure : GridFigure) × IsDrawnFor form more to at order.cycle figure) → SomeFigure form
 some_figure form draws completion orders drawn lists simple plane some =
@@ -55,6 +70,12 @@ some_figure form draws completion orders drawn lists simple plane some =
     let figure = drawn more to order.0 h.triangulation h.base.dart order.1 in
     (figure.0, figure_of_drawing form draws lists more to h order.0 order.1 figure.0 figure.1)
 
+-- a drawing for a base, in a grid with sides that have these lengths
+base_drawing :
+    (lists : Lists) (to : ℕ) (points : List Point) (width height w h : ℤ) → width ≡ w → height ≡ h → IsCounterclockwise lists points (0, to) → IsPlaneDrawing lists points → KeepsRotations lists points → ((v : ℕ) → v < length lists → IsInGrid w h (place points v))
+    → IsBaseDrawing lists to points width height
+base_drawing lists to points width height w h is is' counterclockwise plane rotations grid = record { counterclockwise = counterclockwise; plane = plane; rotations = rotations; grid = rw (is, is') grid }
+
 -- what the shift method draws
 pub drawn_by_shift :
     (lists : Lists) (to : ℕ) (at : List ℕ) (cycle : ℕ → List ℕ) (figure : GridFigure) → AreShiftPoints lists (0, to) at cycle figure.points → IsShiftDrawing lists (0, to) figure.points → figure.width ≡ pos (2 * length lists - 4) → figure.height ≡ pos (length lists - 2)
@@ -63,12 +84,7 @@ drawn_by_shift lists to at cycle figure points d width height = record {
   count = points.count;
   width = width;
   height = height;
-  drawing = record {
-    counterclockwise = d.counterclockwise;
-    plane = d.plane;
-    rotations = d.rotations;
-    grid = rw (width, height) d.grid;
-  };
+  drawing = base_drawing lists to figure.points figure.width figure.height _ _ width height d.counterclockwise d.plane d.rotations d.grid;
   tail = d.second;
   head = d.first;
   third = d.top;
@@ -83,12 +99,7 @@ drawn_by_wood lists to at cycle figure points d width height = record {
   count = points.count;
   width = width;
   height = height;
-  drawing = record {
-    counterclockwise = d.counterclockwise;
-    plane = d.plane;
-    rotations = d.rotations;
-    grid = rw (width, height) d.grid;
-  };
+  drawing = base_drawing lists to figure.points figure.width figure.height _ _ width height d.counterclockwise d.plane d.rotations d.grid;
   tail = d.root_two;
   head = d.root_one;
   third = d.root_three;

@@ -41,7 +41,7 @@ pub(crate) struct Tools {
     pub(crate) peeler: Peeler,
 }
 
-// The dart from vertex 0 of a triangulation to its least neighbour.
+// Returns the dart from vertex 0 of a triangulation to its least neighbour.
 fn least_dart(tri: &HalfMap) -> DartId
     requires triangulation { IsTriangulation tri.now.lists }
     ensures { LeadsToLeast tri.now result.0 }
@@ -54,8 +54,7 @@ fn least_dart(tri: &HalfMap) -> DartId
     unreachable!()
 }
 
-// The base for a drawing of a triangulation: the dart given, or else that from vertex 0 to its least
-// neighbour.
+// Returns the base for a drawing of a triangulation: the dart `first`, or else that from vertex 0 to its least neighbour.
 fn base_dart(tri: &HalfMap, first: Option<DartId>) -> DartId
     requires triangulation { IsTriangulation tri.now.lists }
     ensures given { IfSome first (λ d. result ≡ d) }
@@ -68,7 +67,7 @@ fn base_dart(tri: &HalfMap, first: Option<DartId>) -> DartId
 }
 
 impl Tools {
-    // No memory yet.
+    // Makes tables that have no memory yet.
     pub(crate) fn new(alloc: Global) -> Tools {
         Tools {
             alloc,
@@ -105,12 +104,12 @@ impl Tools {
     // it. It answers whether edges were put in.
     #[inline(always)]
     fn order_map(&mut self, map: &mut HalfMap, lists: &Rotations) -> Result<bool, AllocError>
-        requires plane { IsPlane map.old.lists }
-        requires some { 3 ≤ vertex_count map.old.lists }
-        requires parts { ArePartsOf map.old.lists self.old.maps.parts }
-        requires lists { lists.now ≡ map.old.lists }
-        ensures order { OnOk result (IsOrdered map.old.lists map.new.lists self.new.peeler.order) }
-        ensures lists { IfOk result (λ made. lists_by made self.new.lists map.old.lists ≡ map.new.lists) }
+        requires lists { map.old.lists ≡ lists.now }
+        requires plane { IsPlane lists.now }
+        requires some { 3 ≤ vertex_count lists.now }
+        requires parts { ArePartsOf lists.now self.old.maps.parts }
+        ensures order { OnOk result (IsOrdered lists.now map.new.lists self.new.peeler.order) }
+        ensures lists { IfOk result (λ made. lists_by made self.new.lists lists.now ≡ map.new.lists) }
     {
         map.facts();
         let first = map.first_dart(VertexId(0));
@@ -137,14 +136,14 @@ impl Tools {
     }
 }
 
-// The lists that were made for a completion, where edges were put in, or else those of the record.
+// Returns the `lists` that were made for a completion, where edges were put in, or else those of the record, `own`.
 pub(crate) fn made_or<'a>(made: bool, lists: &'a Rotations, own: &'a Rotations) -> &'a Rotations
     ensures { result.now ≡ lists_by made lists.now own.now }
 {
     if made { lists } else { own }
 }
 
-// The lists that were made for a completion, where edges were put in.
+// Returns the `lists` that were made for a completion, where edges were put in.
 fn some_if(made: bool, lists: Rotations) -> Option<Rotations>
     ensures { result ≡ (if made then Some lists else None) }
 {

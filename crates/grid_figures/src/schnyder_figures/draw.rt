@@ -17,7 +17,7 @@ use pg_plane::GridFigure;
 use refusals::Unserved;
 use std::alloc::{AllocError, Global};
 
-// The drawing of a triangulation by a canonical order.
+// Draws a triangulation by a canonical order.
 fn order_figure(
     woods: &mut WoodDrawer,
     lists: &Rotations,
@@ -31,7 +31,7 @@ fn order_figure(
     Ok(figure)
 }
 
-// The figure of a record that is a triangulation.
+// Draws a record that is a triangulation.
 fn full_figure(
     tools: &mut Tools,
     woods: &mut WoodDrawer,
@@ -46,24 +46,8 @@ fn full_figure(
     Ok(figure)
 }
 
-// The figure of a record, by a completion of its map.
-fn map_figure(
-    tools: &mut Tools,
-    woods: &mut WoodDrawer,
-    input: &Record<'_>,
-) -> Result<GridFigure, Unserved>
-    ensures figure { IfOk result (IsSchnyderFigure input.now.lists.now) }
-    ensures served { OnOk result (first_refusal 3 input.now.lists.now ≡ None) }
-    ensures refused { IfErr result (IfRefused (λ refusal. first_refusal 3 input.now.lists.now ≡ Some refusal)) }
-{
-    crate::drawing_orders::completion_draws();
-    let made = tools.order_record(input)?;
-    let lists = made_or(made, &tools.lists, input.lists);
-    let figure = order_figure(woods, lists, &tools.peeler.order)?;
-    Ok(figure)
-}
-
-// The figure of a record, with a counter that may have counted other records before.
+// Draws a record: from its own lists where it is a triangulation, and else by a completion of its map. The tables may
+// have served other records before.
 pub(crate) fn drawn_record(
     tools: &mut Tools,
     woods: &mut WoodDrawer,
@@ -74,10 +58,14 @@ pub(crate) fn drawn_record(
     ensures refused { IfErr result (IfRefused (λ refusal. first_refusal 3 input.now.lists.now ≡ Some refusal)) }
 {
     if is_triangulated(&mut tools.counter, input)? {
-        let figure = full_figure(tools, woods, input)?;
-        return Ok(figure);
+        let drawn = full_figure(tools, woods, input)?;
+        return Ok(drawn);
     }
-    map_figure(tools, woods, input)
+    crate::drawing_orders::completion_draws();
+    let made = tools.order_record(input)?;
+    let lists = made_or(made, &tools.lists, input.lists);
+    let figure = order_figure(woods, lists, &tools.peeler.order)?;
+    Ok(figure)
 }
 
 /// The figure of a record with these lists, which are from 1 to 4095: a plane drawing of its map that keeps

@@ -1,43 +1,20 @@
 //! Drawings by Schnyder's coordinates.
-ghost use Rattle.std.specs.Prelude.{◌≡◌, ◌<◌, ◌+◌, ◌-◌, ℕ, length, replicate, slice_index, All, OnOk, IfOk};
+ghost use Rattle.std.specs.Prelude.{◌≡◌, ◌<◌, ◌+◌, ◌-◌, ℕ, length, replicate, All, OnOk, IfOk};
 ghost use Rattle.map_theory.specs.Maps.{Dart};
 ghost use Rattle.plane_laws.specs.Triangulations.{IsTriangulation};
 ghost use Rattle.canon_order.specs.Orders.{IsCanonicalOrder, vertices_of};
 ghost use Rattle.contour_runs.specs.Runs.{Step};
 ghost use Rattle.order_drawings.specs.Rows.{AreAllRows};
 ghost use Rattle.order_drawings.specs.SchnyderDrawings.{IsSchnyderOf};
-ghost use Rattle.grid_figures.specs.Gaps.{AreTables};
 ghost use Rattle.grid_figures.specs.Points.{ArePoints};
 
-use crate::schnyder_grid::gaps::find_coordinates;
+use crate::schnyder_grid::gaps::wood_points;
 use canon_order::Order;
 use half_edges::{Counts, HalfMap, Rotations};
-use order_drawings::order_tables::{points_at, rows_into};
+use order_drawings::order_tables::rows_into;
 use pg_plane::{GridFigure, Points};
 use std::alloc::{AllocError, Global};
 use std::mem;
-
-// The points of a run, by its rows, for vertices of these ranks, where the first three tables have zeros. They stand in
-// the memory of `spent`.
-fn wood_points(
-    spent: Points,
-    drops: &mut [u32],
-    rises: &mut [u32],
-    spans: &mut [u32],
-    covers: &mut [u16],
-    rows: &Rotations,
-    ranks: &Counts,
-) -> Result<Points, AllocError>
-    requires tables { AreTables (length ranks.now) drops.old rises.old spans.old covers.old }
-    requires zeros { (u : ℕ) → (slice_index drops.old u ≡ 0) × (slice_index rises.old u ≡ 0) × (slice_index spans.old u ≡ 0) }
-    requires rows { length rows.now + 2 ≡ length ranks.now }
-    requires ranks { All (λ k. k < length ranks.now) ranks.now }
-    requires run { (steps : ℕ → Step) × AreAllRows steps rows.now }
-    ensures { IfOk result (λ points. (steps : ℕ → Step) → AreAllRows steps rows.now → ArePoints steps (length rows.now) ranks.now points) }
-{
-    find_coordinates(drops, rises, spans, covers, rows);
-    points_at(spent, drops, rises, ranks)
-}
 
 /// Draws by Schnyder's coordinates, one triangulation after another, and keeps its memory for the next: some bytes for
 /// each vertex of the largest one so far.

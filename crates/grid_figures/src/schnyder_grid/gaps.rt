@@ -6,41 +6,47 @@
 //! that one stood, which the span of that one tells. So a step changes the differences of the vertices that it
 //! covers and of the last of its row alone.
 
-ghost use Rattle.std.specs.Prelude.{◌≡◌, ◌≢◌, ◌<◌, ◌+◌, ◌^◌, ℕ, List, length, slice_index, All, AllPairs};
-ghost use Rattle.contour_runs.specs.Runs.{Step, Stage, after, stage_after};
-ghost use Rattle.contour_runs.specs.Wood.{Coordinates, coordinates_after, coordinates, drawn_one, drawn_two, wood_points};
-ghost use Rattle.order_drawings.specs.Rows.{AreRows, AreAllRows};
+ghost use Rattle.std.specs.Prelude.{◌≡◌, ◌≢◌, ◌<◌, ◌+◌, ◌^◌, ℕ, List, length, slice_index, All, AllPairs, IfOk};
+ghost use Rattle.contour_runs.specs.Runs.{Step, Stage, after};
+ghost use Rattle.contour_runs.specs.Wood.{Coordinates, coordinates_after, drawn_one, drawn_two};
+ghost use Rattle.order_drawings.specs.Rows.{AreAllRows};
 ghost use Rattle.grid_figures.specs.Gaps.{AreLastGaps, AreGaps, ArePassed, AreCovered, AreTables, IsPut, gap_sum};
+ghost use Rattle.grid_figures.specs.Points.{ArePoints};
 
-use half_edges::Rotations;
+use half_edges::{Counts, Rotations};
+use order_drawings::order_tables::points_at;
+use pg_plane::Points;
+use std::alloc::AllocError;
 
-// Goes along the vertices of a row, which v covers now, and gives the sum of their drops. Each one gets as its drop the
-// sum up to it, and 1 more, and so as its rise.
-fn pass(drops: &mut [u32], rises: &mut [u32], covers: &mut [u16], row: &[u16], v: u16) -> u32
-    requires drops { All (λ u. u < length drops.old) row.now }
-    requires rises { All (λ u. u < length rises.old) row.now }
-    requires covers { All (λ u. u < length covers.old) row.now }
+// Goes along the vertices of a row, and returns the sum of their gaps. Each one gets as its gap the sum up to it, and 1
+// more.
+fn pass(gaps: &mut [u32], row: &[u16]) -> u32
+    requires gaps { All (λ u. u < length gaps.old) row.now }
     requires distinct { AllPairs ◌≢◌ row.now }
-    requires drops_room { gap_sum drops.old row.now + 1 < 2 ^ 32 }
-    requires rises_room { gap_sum rises.old row.now + 1 < 2 ^ 32 }
-    ensures far { result ≡ gap_sum drops.old row.now }
-    ensures drops { ArePassed row.now (length row.now) drops.old drops.new }
-    ensures rises { ArePassed row.now (length row.now) rises.old rises.new }
-    ensures covered { AreCovered v row.now (length row.now) covers.old covers.new }
+    requires room { gap_sum gaps.old row.now + 1 < 2 ^ 32 }
+    ensures far { result ≡ gap_sum gaps.old row.now }
+    ensures passed { ArePassed row.now (length row.now) gaps.old gaps.new }
 {
     let mut far = 0;
-    let mut high = 0;
     for u in row {
-        far += drops[*u as usize];
-        drops[*u as usize] = far + 1;
-        high += rises[*u as usize];
-        rises[*u as usize] = high + 1;
-        covers[*u as usize] = v;
+        far += gaps[*u as usize];
+        gaps[*u as usize] = far + 1;
     }
     far
 }
 
-// Puts v over a row of the contour.
+// Notes the vertices of a row as covered by `v`.
+fn cover(covers: &mut [u16], row: &[u16], v: u16)
+    requires covers { All (λ u. u < length covers.old) row.now }
+    requires distinct { AllPairs ◌≢◌ row.now }
+    ensures { AreCovered v row.now (length row.now) covers.old covers.new }
+{
+    for u in row {
+        covers[*u as usize] = v;
+    }
+}
+
+// Puts `v` over a row of the contour: all but the first of its vertices are passed, and the last is no longer covered.
 fn put_over(
     drops: &mut [u32],
     rises: &mut [u32],
@@ -56,87 +62,59 @@ fn put_over(
         → AreGaps (after g s) (coordinates_after g s at) drops.new rises.new spans.new covers.new }
 {
     let q = row[row.len() - 1];
-    let span = pass(drops, rises, covers, &row[1..], v);
+    let passed = &row[1..];
+    let span = pass(drops, passed);
+    pass(rises, passed);
+    cover(covers, passed, v);
     drops[v as usize] = span;
     rises[v as usize] = 0;
     spans[v as usize] = span;
     drops[q as usize] = 1;
 }
 
-// Puts vertices over rows of the contour, one after another, from the third on.
-fn put_all(
-    drops: &mut [u32],
-    rises: &mut [u32],
-    spans: &mut [u32],
-    covers: &mut [u16],
-    rows: &Rotations,
-)
-    requires tables { AreTables (length drops.old) drops.old rises.old spans.old covers.old }
-    requires rows { length rows.now + 2 ≡ length drops.old }
-    requires zeros { (u : ℕ) → (slice_index drops.old u ≡ 0) × (slice_index rises.old u ≡ 0) × (slice_index spans.old u ≡ 0) }
-    requires run { (steps : ℕ → Step) × AreRows steps rows.now }
-    ensures { (steps : ℕ → Step) → AreRows steps rows.now
-        → AreGaps (stage_after steps (length rows.now)) (coordinates steps (length rows.now)) drops.new rises.new spans.new covers.new }
-{
-    drops[1] = 1;
-    for k in 0..rows.len() {
-        put_over(drops, rises, spans, covers, rows.list(k), (k + 2) as u16);
-    }
-}
-
-// Adds the drops up, from the last vertex on.
-fn add_ones(drops: &mut [u32], spans: &[u32], covers: &[u16])
-    requires spans { length spans.now ≡ length drops.old }
-    requires covers { length covers.now ≡ length drops.old }
-    requires few { length drops.old < 4096 }
-    requires last { (g : Stage) × (at : Coordinates) × (rises : List ℕ) × AreLastGaps g at drops.old rises spans.now covers.now }
-    ensures { (g : Stage) (at : Coordinates) (rises : List ℕ) → AreLastGaps g at drops.old rises spans.now covers.now
-        → (v : ℕ) → v < g.count → slice_index drops.new v ≡ drawn_one at v }
+// Adds the drops and the rises up, each from the last vertex on.
+fn add_up(drops: &mut [u32], rises: &mut [u32], spans: &[u32], covers: &[u16])
+    requires tables { AreTables (length drops.old) drops.old rises.old spans.now covers.now }
+    requires last { (g : Stage) × (at : Coordinates) × AreLastGaps g at drops.old rises.old spans.now covers.now }
+    ensures { (g : Stage) (at : Coordinates) → AreLastGaps g at drops.old rises.old spans.now covers.now
+        → (v : ℕ) → v < g.count → (slice_index drops.new v ≡ drawn_one at v) × (slice_index rises.new v ≡ drawn_two at v) }
 {
     let top = drops.len() - 1;
     drops[0] = (top - 1) as u32;
     drops[1] = 0;
     drops[top] = 1;
-    for v in (2..top).rev() {
-        let w = covers[v] as usize;
-        drops[v] = drops[w] + spans[w] - drops[v];
-    }
-}
-
-// Adds the rises up, from the last vertex on.
-fn add_twos(rises: &mut [u32], covers: &[u16])
-    requires covers { length covers.now ≡ length rises.old }
-    requires few { length rises.old < 4096 }
-    requires last { (g : Stage) × (at : Coordinates) × (drops spans : List ℕ) × AreLastGaps g at drops rises.old spans covers.now }
-    ensures { (g : Stage) (at : Coordinates) (drops spans : List ℕ) → AreLastGaps g at drops rises.old spans covers.now
-        → (v : ℕ) → v < g.count → slice_index rises.new v ≡ drawn_two at v }
-{
-    let top = rises.len() - 1;
     rises[0] = 1;
     rises[1] = (top - 1) as u32;
     rises[top] = 0;
     for v in (2..top).rev() {
-        rises[v] += rises[covers[v] as usize];
+        let w = covers[v] as usize;
+        drops[v] = drops[w] + spans[w] - drops[v];
+        rises[v] += rises[w];
     }
 }
 
-// The places of the vertices of a run, by its rows: x in `drops`, and y in `rises`.
-pub(crate) fn find_coordinates(
+/// Returns the points of a run, by its rows, for vertices of these ranks, in the memory of `spent`; the first three tables
+/// have zeros. The vertices from the third on are put over the rows, one after another, and then the gaps are added up.
+pub(crate) fn wood_points(
+    spent: Points,
     drops: &mut [u32],
     rises: &mut [u32],
     spans: &mut [u32],
     covers: &mut [u16],
     rows: &Rotations,
-)
-    requires tables { AreTables (length drops.old) drops.old rises.old spans.old covers.old }
-    requires rows { length rows.now + 2 ≡ length drops.old }
+    ranks: &Counts,
+) -> Result<Points, AllocError>
+    requires tables { AreTables (length ranks.now) drops.old rises.old spans.old covers.old }
     requires zeros { (u : ℕ) → (slice_index drops.old u ≡ 0) × (slice_index rises.old u ≡ 0) × (slice_index spans.old u ≡ 0) }
+    requires rows { length rows.now + 2 ≡ length ranks.now }
+    requires ranks { All (λ k. k < length ranks.now) ranks.now }
     requires run { (steps : ℕ → Step) × AreAllRows steps rows.now }
-    ensures { (steps : ℕ → Step) → AreAllRows steps rows.now → (k : ℕ) → k < length drops.old
-        → (slice_index drops.new k ≡ (wood_points steps (length rows.now)).one k)
-        × (slice_index rises.new k ≡ (wood_points steps (length rows.now)).two k) }
+    ensures { IfOk result (λ points. (steps : ℕ → Step) → AreAllRows steps rows.now → ArePoints steps (length rows.now) ranks.now points) }
 {
-    put_all(drops, rises, spans, covers, rows);
-    add_ones(drops, spans, covers);
-    add_twos(rises, covers);
+    drops[1] = 1;
+    for k in 0..rows.len() {
+        put_over(drops, rises, spans, covers, rows.list(k), (k + 2) as u16);
+    }
+    add_up(drops, rises, spans, covers);
+    points_at(spent, drops, rises, ranks)
 }

@@ -1,35 +1,17 @@
-use Rattle.std.proofs.Common.{sym, ap, subst, ◌∙◌}
-use Rattle.map_lists.specs.Lists.{Lists}
-use Rattle.grid_figures.specs.Orders.{IsOrdered, lists_by}
 use Rattle.grid_figures.proofs.CompletionLemmas.{listed_by}
 use Rattle.grid_figures.proofs.drawing_orders.order.drawing_order.Goals as goal
 
-pub order_map-requires-clause-plane : goal.order_map-requires-clause-plane
-order_map-requires-clause-plane c = rw c.in_ok-map.ensures.lists c.in_ok-map.ensures.plane
-
-pub order_map-requires-clause-some : goal.order_map-requires-clause-some
-order_map-requires-clause-some c = rw c.in_ok-map.ensures.lists c.in_ok-map.ensures.some
-
-pub order_map-requires-clause-parts : goal.order_map-requires-clause-parts
-order_map-requires-clause-parts c = rw c.in_ok-map.ensures.lists c.in_ok-map.ensures.parts
-
-pub order_map-requires-clause-lists : goal.order_map-requires-clause-lists
-order_map-requires-clause-lists c = sym c.in_ok-map.ensures.lists
-
 pub returns-clause-order : goal.returns-clause-order
 returns-clause-order c =
-    let own = c.in_ok-map.ensures.lists in
     let made = c.in_ok-made in
-    let order = c.order_map.new.self.peeler.order in
-    let more = c.order_map.new.map.lists in
-    let h = subst (λ (ls : Lists). IsOrdered ls more order) own made.ensures.order in
+    let h = made.ensures.order in
     record {
       simple = h.simple;
       triangulation = h.triangulation;
-      listed = rw c.some_if.ensures (listed_by made.made c.order_map.new.self.lists c.args.lists.now more (sym (ap (lists_by made.made c.order_map.new.self.lists) own) ∙ made.ensures.lists));
+      listed = rw c.some_if.ensures (listed_by made.made c.order_map.new.self.lists c.args.lists.now c.order_map.new.map.lists made.ensures.lists);
       extended = h.extended;
       to = h.to;
       base = h.base;
       canonical = h.canonical;
-      rank = order.ranked;
+      rank = c.order_map.new.self.peeler.order.ranked;
     }

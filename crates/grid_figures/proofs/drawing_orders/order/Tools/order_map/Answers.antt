@@ -1,11 +1,24 @@
-use Rattle.std.proofs.Common.{ap, ◌∙◌, refl}
-use Rattle.grid_figures.specs.Orders.{lists_by}
+-- The lists of the map are those given.
+use Rattle.std.proofs.Common.{ap, sym, subst, ◌∙◌, refl}
+use Rattle.map_lists.specs.Lists.{Lists}
+use Rattle.map_theory.specs.Maps.{IsSimpleMap}
+use Rattle.plane_laws.specs.MapEditsCompleted.{IsExtended}
+use Rattle.grid_figures.specs.Orders.{IsBaseTo, lists_by}
 use Rattle.grid_figures.proofs.CompletionLemmas.{base_of_choice}
 use Rattle.grid_figures.proofs.drawing_orders.order.Tools.order_map.Goals as goal
 
+pub complete_map-requires-clause-plane : goal.complete_map-requires-clause-plane
+complete_map-requires-clause-plane c = rw c.requires.lists c.requires.plane
+
+pub complete_map-requires-clause-some : goal.complete_map-requires-clause-some
+complete_map-requires-clause-some c = rw c.requires.lists c.requires.some
+
+pub complete_map-requires-clause-parts : goal.complete_map-requires-clause-parts
+complete_map-requires-clause-parts c = rw c.requires.lists c.requires.parts
+
 pub order_map-requires-clause-lists : goal.order_map-requires-clause-lists
 order_map-requires-clause-lists c =
-    c.made_or-own.ensures ∙ ap (lists_by c.in_ok-made.made c.complete_map.new.self.lists) c.requires.lists ∙ c.in_ok-made.ensures.lists
+    c.made_or-own.ensures ∙ ap (lists_by c.in_ok-made.made c.complete_map.new.self.lists) (sym c.requires.lists) ∙ c.in_ok-made.ensures.lists
 
 pub order_map-requires-clause-live : goal.order_map-requires-clause-live
 order_map-requires-clause-live c =
@@ -16,15 +29,19 @@ order_map-requires-clause-live c =
 
 pub returns-clause-order : goal.returns-clause-order
 returns-clause-order c =
+    let is = c.requires.lists in
     let made = c.in_ok-made.ensures in
     let tri = c.complete_map.new.map in
     let base =
     base_of_choice c.args.map.now tri c.first_dart-first.result c.base_dart-base.result c.facts-2.ensures.is_dart c.first_dart-first.ensures.dart made.ids c.base_dart-base.ensures.given c.base_dart-base.ensures.least c.first_dart-first.ensures.not_isolated in
     record {
-      simple = c.facts.ensures.simple;
+      simple = subst IsSimpleMap is c.facts.ensures.simple;
       triangulation = made.triangulation;
-      extended = made.extended;
+      extended = subst (λ (ls : Lists). IsExtended ls tri.lists) is made.extended;
       to = base.to;
-      base = base.base_to;
+      base = subst (λ (ls : Lists). IsBaseTo ls tri.lists base.to) is base.base_to;
       canonical = c.in_ok-order_map.ensures.order 0 base.to base.dart;
     }
+
+pub returns-clause-lists : goal.returns-clause-lists
+returns-clause-lists c = ap (lists_by c.in_ok-made.made c.complete_map.new.self.lists) (sym c.requires.lists) ∙ c.in_ok-made.ensures.lists
