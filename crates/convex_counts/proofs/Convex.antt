@@ -63,6 +63,22 @@ module _ (steps : ℕ → Step) (n k i : ℕ) (turned : IsTurnedRun steps n) (lk
   abbrev vertex : ℕ → ℕ
   vertex r = face_vertex g s i r
 
+  -- with two on the third side
+  before_third : (x r' r'' : ℕ) → IsAtThird g s i r' → r' < r'' → r'' < face_length s i → at.one (vertex r') + at.two (vertex r') ≤ at.one x + at.two x → pos 0 ≤ℤ area (point_of at x) (point_of at (vertex r')) (point_of at (vertex r''))
+  before_third x r' r'' y b c sum =
+      let st = step steps n turned k i lk li in
+      let t = st.high i li in
+      let y0 = y.behind in
+      let y1 = y.new in
+      elim (cases_side g s st i li r'' c) [
+        | inl z ↦ let z1 = z.at in let z2 = z.high in absurd (omega arith)
+        | inr (inl z) ↦ let z1 = z.at in let z2 = z.high in absurd (omega arith)
+        | inr (inr z) ↦
+            let z1 = z.new in
+            let q = on_third steps n turned k i lk li (vertex r') (vertex r'') z.low (omega arith) y.high in
+            turned_weak at _ _ _ (third_weak at _ _ _ q.sum q.one (omega arith))
+      ]
+
   convex : (r r' r'' : ℕ) → r < r' → r' < r'' → r'' < face_length s i → pos 0 ≤ℤ area (point_of at (vertex r)) (point_of at (vertex r')) (point_of at (vertex r''))
   convex r r' r'' a b c =
       let st = step steps n turned k i lk li in
@@ -110,18 +126,9 @@ module _ (steps : ℕ → Step) (n k i : ℕ) (turned : IsTurnedRun steps n) (lk
                         as_named at (g.vertex x.place) (g.vertex y.place) (vertex r'') _ _ _ x.vertex y.vertex (same (vertex r'')) (omega (arith, ints))
                   ]
               | inr (inr y) ↦
-                  let y0 = y.behind in
-                  let y1 = y.new in
-                  elim (sides r'' c) [
-                    | inl z ↦ let z1 = z.at in let z2 = z.high in absurd (omega arith)
-                    | inr (inl z) ↦ let z1 = z.at in let z2 = z.high in absurd (omega arith)
-                    | inr (inr z) ↦
-                        let z1 = z.new in
-                        let p = third_first steps n turned k i lk li (vertex r') x.place y.low y.high (omega arith) x2 in
-                        let p2 = p.sum in
-                        let q = on_third steps n turned k i lk li (vertex r') (vertex r'') z.low (omega arith) y.high in
-                        as_named at (g.vertex x.place) (vertex r') (vertex r'') _ _ _ x.vertex (same (vertex r')) (same (vertex r'')) (turned_weak at _ _ _ (third_weak at _ _ _ q.sum q.one (omega arith)))
-                  ]
+                  let p = third_first steps n turned k i lk li (vertex r') x.place y.low y.high (omega arith) x2 in
+                  let p2 = p.sum in
+                  as_named at (g.vertex x.place) (vertex r') (vertex r'') _ _ _ x.vertex (same (vertex r')) (same (vertex r'')) (before_third (g.vertex x.place) r' r'' y b c (omega arith))
             ]
         | inr (inl x) ↦
             let x1 = x.at in
@@ -145,18 +152,9 @@ module _ (steps : ℕ → Step) (n k i : ℕ) (turned : IsTurnedRun steps n) (lk
                         as_named at (g.vertex x.place) (g.vertex y.place) (vertex r'') _ _ _ x.vertex y.vertex (same (vertex r'')) (second_weak at _ _ _ p.two (omega arith) (omega arith))
                   ]
               | inr (inr y) ↦
-                  let y0 = y.behind in
-                  let y1 = y.new in
-                  elim (sides r'' c) [
-                    | inl z ↦ let z1 = z.at in let z2 = z.high in absurd (omega arith)
-                    | inr (inl z) ↦ let z1 = z.at in let z2 = z.high in absurd (omega arith)
-                    | inr (inr z) ↦
-                        let z1 = z.new in
-                        let p = second_third steps n turned k i lk li x.place (vertex r') x.low x.high y.low y.high in
-                        let p2 = p.sum in
-                        let q = on_third steps n turned k i lk li (vertex r') (vertex r'') z.low (omega arith) y.high in
-                        as_named at (g.vertex x.place) (vertex r') (vertex r'') _ _ _ x.vertex (same (vertex r')) (same (vertex r'')) (turned_weak at _ _ _ (third_weak at _ _ _ q.sum q.one (omega arith)))
-                  ]
+                  let p = second_third steps n turned k i lk li x.place (vertex r') x.low x.high y.low y.high in
+                  let p2 = p.sum in
+                  as_named at (g.vertex x.place) (vertex r') (vertex r'') _ _ _ x.vertex (same (vertex r')) (same (vertex r'')) (before_third (g.vertex x.place) r' r'' y b c (omega arith))
             ]
         | inr (inr x) ↦
             let x0 = x.behind in

@@ -58,6 +58,19 @@ module _ (g : Stage) (s : Step) (at : Coordinates) (m : ℕ) (stage : IsStage g)
   place_old : (j : ℕ) → j < g.width → place_after g s (old j) ≡ moved s j
   place_old j b = place_after-older g s (old j) (stage.placed j b) ∙ ap (moved s) (stage.own j b)
 
+  -- between the first turn and the last one all goes to one place
+  moved-between : (j : ℕ) → s.turn 0 < j → j ≤ s.turn (s.faces - 1) → moved s j ≡ suc s.first
+  moved-between j a b =
+      let f = first_turn g s step in
+      let lt = last_turn g s step in
+      elim (cases_moved g s step j) [
+        | inl z ↦ let z' = z.low in absurd (omega arith)
+        | inr (inl z) ↦ let z' = z.high in absurd (omega arith)
+        | inr (inr (inl z)) ↦ z.to
+        | inr (inr (inr (inl z))) ↦ let z' = z.low in absurd (omega arith)
+        | inr (inr (inr (inr z))) ↦ let z' = z.low in absurd (omega arith)
+      ]
+
   -- the first side goes to one place
   moved-first : (j : ℕ) → s.cut i ≤ j → j ≤ s.turn i → ((i ≡ 0) × (moved s j ≡ s.first)) ⊎ ((0 < i) × (moved s j ≡ suc s.first))
   moved-first j a b =
@@ -71,16 +84,7 @@ module _ (g : Stage) (s : Step) (at : Coordinates) (m : ℕ) (stage : IsStage g)
             let d = cut-le g s step 1 i more (omega arith) in
             let e = step.high 0 some in
             let f = first_turn g s step in
-            inr (
-              more,
-              elim (cases_moved g s step j) [
-                | inl z ↦ let z' = z.low in absurd (omega arith)
-                | inr (inl z) ↦ let z' = z.high in absurd (omega arith)
-                | inr (inr (inl z)) ↦ z.to
-                | inr (inr (inr (inl z))) ↦ let z' = z.low in absurd (omega arith)
-                | inr (inr (inr (inr z))) ↦ let z' = z.low in absurd (omega arith)
-              ],
-            )
+            inr (more, moved-between j (omega arith) (omega arith))
         | inr none ↦
             let zero_i : i ≡ 0 = omega arith in
             let ti = ap s.turn zero_i in
@@ -110,16 +114,7 @@ module _ (g : Stage) (s : Step) (at : Coordinates) (m : ℕ) (stage : IsStage g)
         | inl more ↦
             let d = step.low (suc i) more in
             let e = turn-le g s step (suc i) (s.faces - 1) (omega arith) (omega arith) in
-            inl (
-              more,
-              elim (cases_moved g s step j) [
-                | inl z ↦ let z' = z.low in absurd (omega arith)
-                | inr (inl z) ↦ let z' = z.high in absurd (omega arith)
-                | inr (inr (inl z)) ↦ z.to
-                | inr (inr (inr (inl z))) ↦ let z' = z.low in absurd (omega arith)
-                | inr (inr (inr (inr z))) ↦ let z' = z.low in absurd (omega arith)
-              ],
-            )
+            inl (more, moved-between j (omega arith) (omega arith))
         | inr none ↦
             let last_i : suc i ≡ s.faces = omega arith in
             let e : s.faces - 1 ≡ i = omega arith in

@@ -93,56 +93,43 @@ module _ (g : Stage) (s : Step) (i : ℕ) where
               ]
         ]
 
-module _ (steps : ℕ → Step) (n k i : ℕ) (turned : IsTurnedRun steps n) (lk : k < n) (li : i < (steps k).faces) where
-  abbrev g : Stage
-  g = stage_after steps k
+    -- and at each corner the walk does not bend inwards, where the face does not
+    module _ (at : Coordinates) (convex : (r r' r'' : ℕ) → r < r' → r' < r'' → r'' < face_length s i → pos 0 ≤ℤ area (point_of at (face_vertex g s i r)) (point_of at (face_vertex g s i r')) (point_of at (face_vertex g s i r''))) where
+      abbrev vertex : ℕ → ℕ
+      vertex r = face_vertex g s i r
 
-  abbrev s : Step
-  s = steps k
-
-  abbrev at : Coordinates
-  at = face_counts steps n
-
-  abbrev vertex : ℕ → ℕ
-  vertex r = face_vertex g s i r
-
-  stage : IsStage g
-  stage = IsStage-run steps k (IsRun-less steps k n (omega arith) turned.run)
-
-  step : IsStep g s
-  step = turned.run k lk
-
-  at_corner : (x y z : ℕ) → IsDartOf g s i x y → IsDartOf g s i y z → pos 0 ≤ℤ area (point_of at x) (point_of at y) (point_of at z)
-  at_corner x y z d e =
-      let rise = cut-next g s step i li in
-      let some = step.some_vertex in
-      let p = dart_at g s i stage step li x y d in
-      let q = dart_at g s i stage step li y z e in
-      elim p.1 [
-        | inl a ↦
-            let aw = a.within in
-            elim q.1 [
-              | inl b ↦
-                  let bw = b.within in
-                  let same = passed_once g s i stage step li (suc p.0) q.0 aw (omega arith) (a.head ∙ sym b.tail) in
-                  let after : suc q.0 ≡ suc (suc p.0) = omega arith in
-                  as_named at (vertex p.0) (vertex (suc p.0)) (vertex (suc (suc p.0))) x y z (sym a.tail) (sym a.head) (sym b.head ∙ ap vertex after) (faces_convex steps n k i p.0 (suc p.0) (suc (suc p.0)) turned lk li (omega arith) (omega arith) (omega arith))
-              | inr b ↦
-                  let bl = b.last in
-                  let same = passed_once g s i stage step li (suc p.0) q.0 aw (omega arith) (a.head ∙ sym b.tail) in
-                  as_named at (vertex p.0) (vertex (suc p.0)) (vertex 0) x y z (sym a.tail) (sym a.head) (sym b.head) (turned_weak at (vertex p.0) (vertex (suc p.0)) (vertex 0) (turned_weak at (vertex (suc p.0)) (vertex 0) (vertex p.0) (faces_convex steps n k i 0 p.0 (suc p.0) turned lk li (omega arith) (omega arith) (omega arith))))
-            ]
-        | inr a ↦
-            let al = a.last in
-            elim q.1 [
-              | inl b ↦
-                  let bw = b.within in
-                  let same = passed_once g s i stage step li 0 q.0 (omega arith) (omega arith) (a.head ∙ sym b.tail) in
-                  let after : suc q.0 ≡ 1 = omega arith in
-                  as_named at (vertex p.0) (vertex 0) (vertex 1) x y z (sym a.tail) (sym a.head) (sym b.head ∙ ap vertex after) (turned_weak at (vertex p.0) (vertex 0) (vertex 1) (faces_convex steps n k i 0 1 p.0 turned lk li (omega arith) (omega arith) (omega arith)))
-              | inr b ↦ let bl = b.last in let same = passed_once g s i stage step li 0 q.0 (omega arith) (omega arith) (a.head ∙ sym b.tail) in absurd (omega arith)
-            ]
-      ]
+      at_corner : (x y z : ℕ) → IsDartOf g s i x y → IsDartOf g s i y z → pos 0 ≤ℤ area (point_of at x) (point_of at y) (point_of at z)
+      at_corner x y z d e =
+          let rise = cut-next g s step i li in
+          let some = step.some_vertex in
+          let p = dart_at x y d in
+          let q = dart_at y z e in
+          elim p.1 [
+            | inl a ↦
+                let aw = a.within in
+                elim q.1 [
+                  | inl b ↦
+                      let bw = b.within in
+                      let same = passed_once (suc p.0) q.0 aw (omega arith) (a.head ∙ sym b.tail) in
+                      let after : suc q.0 ≡ suc (suc p.0) = omega arith in
+                      as_named at (vertex p.0) (vertex (suc p.0)) (vertex (suc (suc p.0))) x y z (sym a.tail) (sym a.head) (sym b.head ∙ ap vertex after) (convex p.0 (suc p.0) (suc (suc p.0)) (omega arith) (omega arith) (omega arith))
+                  | inr b ↦
+                      let bl = b.last in
+                      let same = passed_once (suc p.0) q.0 aw (omega arith) (a.head ∙ sym b.tail) in
+                      as_named at (vertex p.0) (vertex (suc p.0)) (vertex 0) x y z (sym a.tail) (sym a.head) (sym b.head) (turned_weak at (vertex p.0) (vertex (suc p.0)) (vertex 0) (turned_weak at (vertex (suc p.0)) (vertex 0) (vertex p.0) (convex 0 p.0 (suc p.0) (omega arith) (omega arith) (omega arith))))
+                ]
+            | inr a ↦
+                let al = a.last in
+                elim q.1 [
+                  | inl b ↦
+                      let bw = b.within in
+                      let same = passed_once 0 q.0 (omega arith) (omega arith) (a.head ∙ sym b.tail) in
+                      let after : suc q.0 ≡ 1 = omega arith in
+                      as_named at (vertex p.0) (vertex 0) (vertex 1) x y z (sym a.tail) (sym a.head) (sym b.head ∙ ap vertex after) (turned_weak at (vertex p.0) (vertex 0) (vertex 1) (convex 0 1 p.0 (omega arith) (omega arith) (omega arith)))
+                  | inr b ↦ let bl = b.last in let same = passed_once 0 q.0 (omega arith) (omega arith) (a.head ∙ sym b.tail) in absurd (omega arith)
+                ]
+          ]
 
 pub corners_convex : (steps : ℕ → Step) (n k i x y z : ℕ) → IsTurnedRun steps n → k < n → IsDartOf (stage_after steps k) (steps k) i x y → IsDartOf (stage_after steps k) (steps k) i y z → pos 0 ≤ℤ area (point_of (face_counts steps n) x) (point_of (face_counts steps n) y) (point_of (face_counts steps n) z)
-corners_convex steps n k i x y z turned lk d e = at_corner steps n k i turned lk d.within x y z d e
+corners_convex steps n k i x y z turned lk d e =
+    at_corner (stage_after steps k) (steps k) i (IsStage-run steps k (IsRun-less steps k n (omega arith) turned.run)) (turned.run k lk) d.within (face_counts steps n) (λ r r' r''. faces_convex steps n k i r r' r'' turned lk d.within) x y z d e
