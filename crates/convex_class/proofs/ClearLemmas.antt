@@ -4,10 +4,12 @@ use Rattle.std.specs.Option.{option_map}
 use Rattle.std.proofs.lemmas.Bool.{cases_eq, cases_lt}
 use Rattle.std.proofs.lemmas.List.{get_or_default}
 use Rattle.map_lists.specs.declared.ids.DartId.{DartId}
-use Rattle.map_theory.specs.Maps.{Dart, HasDart, list_of, twin_dart}
+use Rattle.map_theory.specs.Maps.{Dart, HasDart, face_step, list_of, twin_dart}
 use Rattle.half_edges.specs.Map.{Map, IsHalfMap, IsLive, dart_at}
-use Rattle.euler_faces.specs.FaceWalks.{walk_at, ids_of, AreFaces}
+use Rattle.euler_faces.specs.FaceWalks.{walk_at, ids_of, IsFaceWalk, AreFaces}
 use Rattle.euler_faces.proofs.NumberLemmas.{live_from}
+use Rattle.vertex_rounds.specs.Rounds.{dart_of}
+use Rattle.vertex_rounds.proofs.DartIds.{dart_of-live}
 use Rattle.convex_class.specs.Stamps.{IsStamped, AreStamped}
 use Rattle.convex_class.specs.declared.face_pairs.meetings.Meeting.{Meeting}
 use Rattle.convex_class.specs.Meetings.{IsMet}
@@ -46,9 +48,31 @@ ring_dart map u ds r i l =
 pub ring_live : (map : Map) (u : ℕ) (ds : List DartId) → IsRing map u (ids_of ds) → (i : ℕ) → i < length ds → IsLive map (get_or ds i (record { 0 = 0 })).0
 ring_live map u ds r i l = live_from (dart_at map (get_or ds i (record { 0 = 0 })).0) (u, get_or (list_of map.lists u) i 0) (ring_dart map u ds r i l)
 
--- a live dart has a number
-pub some_number : (map : Map) (walks : List (List ℕ)) → AreFaces map walks → (d : ℕ) → IsLive map d → (f : ℕ) × IsNumber walks d f
-some_number map walks faces d live = let h = faces.all d live in (h.0, (h.1, h.2))
+-- the darts of a walk are live
+pub walk_live : (map : Map) (walks : List (List ℕ)) → AreFaces map walks → (f : ℕ) → f < length walks → (ds : List DartId) → ids_of ds ≡ walk_at walks f → (i : ℕ) → i < length ds → IsLive map (get_or ds i (record { 0 = 0 })).0
+walk_live map walks faces f l ds is = each_dart ds (IsLive map) (subst (λ (w : List ℕ). IsFaceWalk map w) (sym is) (faces.each f l)).live
+
+-- so is what goes on from a place
+after_live : (map : Map) (walk : List ℕ) → IsFaceWalk map walk → (i : ℕ) → i < length walk → IsLive map (after_place walk i)
+after_live map walk w i l =
+    let d = get_or walk i 0 in
+    live_from (dart_at map (after_place walk i)) (face_step map.lists (dart_of map d)) (w.steps i l ∙ ap (option_map (face_step map.lists)) (dart_of-live map d (w.live i l)))
+
+-- the tail of a live dart is a vertex
+pub tail_below : (map : Map) → IsHalfMap map → (d v : ℕ) → IsLive map d → option_map (λ (e : Dart). e.0) (dart_at map d) ≡ Some v → v < length map.lists
+tail_below map known d v live tail =
+    let x = dart_of map d in
+    let is = dart_of-live map d live in
+    let same = tail_is (dart_at map d) x.0 x.1 v is tail in
+    let l = (known.is_dart d x.0 x.1 is).0 in
+    omega (arith, same, l)
+
+-- and that of the dart behind a place of a face, by the dart that the call names
+pub corner_below : (map : Map) → IsHalfMap map → (walks : List (List ℕ)) → AreFaces map walks → (f : ℕ) → f < length walks → (ds : List DartId) → ids_of ds ≡ walk_at walks f → (i : ℕ) → i < length ds → (e v : ℕ) → e ≡ after_place (ids_of ds) i → option_map (λ (w : Dart). w.0) (dart_at map e) ≡ Some v → v < length map.lists
+corner_below map known walks faces f l ds is i m e v behind tail =
+    let w = subst (λ (w : List ℕ). IsFaceWalk map w) (sym is) (faces.each f l) in
+    let long = length-ids ds in
+    tail_below map known e v (subst (λ d. IsLive map d) (sym behind) (after_live map (ids_of ds) w i (omega (arith, long, m)))) tail
 
 -- ---- from a vertex
 module _ (u z p : ℕ) (us marks : List ℕ) (z_in : z < length marks) (at : get_or us p 0 ≡ z) where
@@ -142,6 +166,13 @@ module _ (map : Map) (known : IsHalfMap map) (walks : List (List ℕ)) (faces : 
         same,
         both ∙ same,
       )
+
+-- no face counts at a vertex with more darts, by the vertex that the call names
+pub large_corner : (map : Map) (walks : List (List ℕ)) (most f d e v z x y : ℕ) → option_map (λ (w : Dart). w.0) (dart_at map e) ≡ Some v → most < length (list_of map.lists v) → IsCorner map walks most f d e z x y → ⊥
+large_corner map walks most f d e v z x y tail large h =
+    let same = tail_is (dart_at map e) x h.0.y v h.0.dart tail in
+    let small : length (list_of map.lists v) ≤ most = subst (λ u. length (list_of map.lists u) ≤ most) same h.0.small in
+    omega arith
 
 -- the meetings of a call at place i of walk f, by the numbers that the call names
 pub off_place : (map : Map) (walks : List (List ℕ)) (f i n d e : ℕ) (old : List Meeting) (best : ℕ) (new : List Meeting) (result : ℕ) → n ≡ length (walk_at walks f) → d ≡ get_or (walk_at walks f) i 0 → e ≡ after_place (walk_at walks f) i → IsMet f (IsCorner map walks n f d e) old best new result → IsMet f (IsOffPlace map walks f i) old best new result

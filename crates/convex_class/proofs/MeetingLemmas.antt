@@ -1,5 +1,5 @@
 -- Meetings of fewer edges, of a step more, and what two of one face tell.
-use Rattle.std.proofs.Common.{◌≡◌, ◌≢◌, ◌⊎◌, ℕ, ◌+◌, ◌<◌, ◌≤◌, List, sym, ap, ◌∙◌, subst, inl, inr, arith}
+use Rattle.std.proofs.Common.{◌≡◌, ◌≢◌, ◌⊎◌, ℕ, ◌+◌, ◌<◌, ◌≤◌, List, refl, sym, ap, ◌∙◌, subst, inl, inr, arith}
 use Rattle.std.proofs.lemmas.Bool.{cases_lt, cases_eq}
 use Rattle.convex_class.specs.declared.face_pairs.meetings.Meeting.{Meeting}
 use Rattle.convex_class.specs.Meetings.{ArePartedBy, IsMet, meeting_at}
@@ -18,6 +18,10 @@ IsFirstOr best m x y = ((m.tail ≡ x) × (m.head ≡ y)) ⊎ ArePartedBy best m
 IsFirstOr-lower : (best less : ℕ) (m : Meeting) (x y : ℕ) → less ≤ best → IsFirstOr best m x y → IsFirstOr less m x y
 IsFirstOr-lower best less m x y l (inl e) = inl e
 IsFirstOr-lower best less m x y l (inr p) = inr (ArePartedBy-lower best less m.tail m.head x y l p)
+
+-- no meeting
+pub IsMet-none : (f : ℕ) (Z : ℕ → ℕ → ℕ → Type 0) (met : List Meeting) (best : ℕ) → ((z x y : ℕ) → Z z x y → ⊥) → IsMet f Z met best met best
+IsMet-none f Z met best none = record { lower = omega arith; met = λ z x y h. absurd (none z x y h); first = λ z x y h. absurd (none z x y h); kept = λ z q. refl }
 
 module _ (f : ℕ) (old : List Meeting) (best : ℕ) (new : List Meeting) (result : ℕ) where
   -- fewer edges

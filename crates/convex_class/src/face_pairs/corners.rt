@@ -1,13 +1,12 @@
 //! Where a face has two places in common with another one, from the face.
-ghost use Rattle.std.specs.Prelude.{◌≡◌, ◌≢◌, ◌<◌, ◌≤◌, ℕ, length, slice_index, Some, Contains, IfOk};
-ghost use Rattle.half_edges.specs.Map.{IsLive, dart_at};
-ghost use Rattle.euler_faces.specs.FaceWalks.{IsFaceWalk, ids_of, walk_at};
-ghost use Rattle.convex_class.specs.Clear.{IsRing, IsNumber, IsAcross, IsSide, IsCorner, IsOffPlace, IsClearFace, after_place};
+ghost use Rattle.std.specs.Prelude.{◌≡◌, ◌≢◌, ◌<◌, ◌≤◌, ℕ, length, slice_index, Contains, IfOk};
+ghost use Rattle.half_edges.specs.Map.{IsLive};
+ghost use Rattle.euler_faces.specs.FaceWalks.{ids_of, walk_at};
+ghost use Rattle.convex_class.specs.Clear.{IsNumber, IsAcross, IsOffPlace, IsClearFace, after_place};
 ghost use Rattle.convex_class.specs.Meetings.{IsHere, IsMet};
 
 use crate::face_pairs::meetings::{Meeting, meet};
 use crate::face_pairs::uncut::UncutMap;
-use euler_faces::Faces;
 use half_edges::DartId;
 use std::alloc::AllocError;
 
@@ -30,24 +29,7 @@ struct Spot<'a> {
     y: u32,
 }
 
-// Two darts of a face, of which one is behind the other.
-#[derive(Clone, Copy)]
-struct Corner {
-    // the dart that leads to the vertex
-    before: DartId,
-    // and the one that leaves it
-    behind: DartId,
-}
-
-// The number of a dart's face.
-fn number_of(faces: &Faces, d: DartId) -> u32
-    requires { (f : ℕ) × IsNumber faces.now d.0 f }
-    ensures { IsNumber faces.now d.0 result }
-{
-    faces.of_dart(d).0
-}
-
-// The dart of a walk behind place i.
+// Returns the dart of a walk behind place `i`.
 fn behind(walk: &[DartId], i: usize) -> DartId
     requires { i < length walk.now }
     ensures { result.0 ≡ after_place (ids_of walk.now) i }
@@ -60,7 +42,7 @@ fn behind(walk: &[DartId], i: usize) -> DartId
 }
 
 impl UncutMap<'_> {
-    // The number of the face across a dart.
+    // Returns the number of the face across a dart.
     fn across(&self, d: DartId) -> u32
         requires live { IsLive self.now.map.now d.0 }
         ensures within { result < length self.now.faces.now }
@@ -94,7 +76,7 @@ impl Spot<'_> {
         let spot = *self;
         spot.uncut.facts();
         for c in ring {
-            let z = number_of(spot.uncut.faces, *c);
+            let z = spot.uncut.faces.of_dart(*c).0;
             best = spot.meet_number(z, met, best);
         }
         best
@@ -102,70 +84,8 @@ impl Spot<'_> {
 }
 
 impl WalkedFace<'_> {
-    // Notes that the face across a dart of this one meets it there.
-    fn meet_across(&self, d: DartId, met: &mut [Meeting], best: u16) -> u16
-        requires live { IsLive self.now.uncut.map.now d.0 }
-        requires met { length met.old ≡ length self.now.uncut.faces.now }
-        ensures { IsMet self.now.f (IsSide self.now.uncut.map.now self.now.uncut.faces.now d.0) met.old best met.new result }
-    {
-        let z = self.uncut.across(d);
-        let tail = self.uncut.map.tail(d);
-        let head = self.uncut.map.head(d);
-        let place = Meeting {
-            face: self.f,
-            tail: tail.0,
-            head: head.0,
-        };
-        meet(met, z, place, best)
-    }
-
-    // Notes all faces that meet this one along a dart of its walk.
-    fn meet_sides(&self, met: &mut [Meeting], mut best: u16) -> u16
-        requires walk { IsFaceWalk self.now.uncut.map.now (ids_of self.now.walk.now) }
-        requires met { length met.old ≡ length self.now.uncut.faces.now }
-        ensures { IsMet self.now.f (λ z x y. (i : ℕ) × (i < length self.now.walk.now) × IsSide self.now.uncut.map.now self.now.uncut.faces.now (slice_index (ids_of self.now.walk.now) i) z x y) met.old best met.new result }
-    {
-        let face = *self;
-        for d in face.walk {
-            best = face.meet_across(*d, met, best);
-        }
-        best
-    }
-
-    // Notes the faces that meet this one at the vertex of a corner alone, where that has no more darts than the face; the
-    // faces across the two darts are noted already.
-    fn meet_corner(
-        &self,
-        corner: Corner,
-        ring: &mut Vec<DartId>,
-        met: &mut [Meeting],
-        best: u16,
-    ) -> Result<u16, AllocError>
-        requires live { IsLive self.now.uncut.map.now corner.before.0 }
-        requires live_e { IsLive self.now.uncut.map.now corner.behind.0 }
-        requires met { length met.old ≡ length self.now.uncut.faces.now }
-        ensures { IfOk result (λ least. IsMet self.now.f (IsCorner self.now.uncut.map.now self.now.uncut.faces.now (length self.now.walk.now) self.now.f corner.before.0 corner.behind.0) met.old best met.new least) }
-    {
-        let WalkedFace { uncut, f, walk } = *self;
-        uncut.facts();
-        let v = uncut.map.tail(corner.behind);
-        let x = uncut.across(corner.before);
-        let y = uncut.across(corner.behind);
-        if uncut.map.degree(v) as usize > walk.len() {
-            return Ok(best);
-        }
-        uncut.put_ring(v, ring)?;
-        let place = Meeting {
-            face: f,
-            tail: v.0,
-            head: v.0,
-        };
-        let spot = Spot { uncut, place, x, y };
-        let least = spot.meet_round(ring, met, best);
-        Ok(least)
-    }
-
-    // Notes the faces that meet this one at a vertex of its walk alone.
+    // Notes the faces that meet this one at a vertex of its walk alone, where that has no more darts than the face; the
+    // faces across the two darts there are noted already. `ring` is memory for the darts of a vertex.
     fn meet_corners(
         &self,
         ring: &mut Vec<DartId>,
@@ -175,33 +95,55 @@ impl WalkedFace<'_> {
         requires met { length met.old ≡ length self.now.uncut.faces.now }
         ensures { IfOk result (λ least. IsMet self.now.f (λ z x y. (i : ℕ) × (i < length (walk_at self.now.uncut.faces.now self.now.f)) × IsOffPlace self.now.uncut.map.now self.now.uncut.faces.now self.now.f i z x y) met.old best met.new least) }
     {
-        let face = *self;
-        face.uncut.facts();
-        for i in 0..face.walk.len() {
-            let corner = Corner {
-                before: face.walk[i],
-                behind: behind(face.walk, i),
+        let WalkedFace { uncut, f, walk } = *self;
+        uncut.facts();
+        for i in 0..walk.len() {
+            let next = behind(walk, i);
+            let v = uncut.map.tail(next);
+            if uncut.map.degree(v) as usize > walk.len() {
+                continue;
+            }
+            let x = uncut.across(walk[i]);
+            let y = uncut.across(next);
+            uncut.put_ring(v, ring)?;
+            let place = Meeting {
+                face: f,
+                tail: v.0,
+                head: v.0,
             };
-            best = face.meet_corner(corner, ring, met, best)?;
+            let spot = Spot { uncut, place, x, y };
+            best = spot.meet_round(ring, met, best);
         }
         Ok(best)
     }
 
-    // The least of `best` and the vertices of the face at which one meets it twice: across its darts, or at vertices with
-    // no more darts than the face. The vertex between two darts with one face across counts for neither.
+    // Returns the least of `best` and the vertices of the face at which one meets it twice: across its darts, or at vertices
+    // with no more darts than the face. The vertex between two darts with one face across counts for neither. `ring` is
+    // memory for the darts of a vertex, and `met` tells where each face met this one first.
     pub(crate) fn least(
         &self,
         ring: &mut Vec<DartId>,
         met: &mut [Meeting],
-        best: u16,
+        mut best: u16,
     ) -> Result<u16, AllocError>
         requires met { length met.old ≡ length self.now.uncut.faces.now }
         ensures lower { IfOk result (λ least. least ≤ best) }
         ensures clear { IfOk result (λ least. IsClearFace self.now.uncut.map.now self.now.uncut.faces.now least self.now.f) }
     {
-        self.uncut.facts();
-        let across = self.meet_sides(met, best);
-        let least = self.meet_corners(ring, met, across)?;
+        let WalkedFace { uncut, f, walk } = *self;
+        uncut.facts();
+        for d in walk {
+            let z = uncut.across(*d);
+            let tail = uncut.map.tail(*d).0;
+            let head = uncut.map.head(*d).0;
+            let place = Meeting {
+                face: f,
+                tail,
+                head,
+            };
+            best = meet(met, z, place, best);
+        }
+        let least = self.meet_corners(ring, met, best)?;
         Ok(least)
     }
 }

@@ -1,7 +1,6 @@
 //! Where two faces at a vertex have another vertex in common, from the vertex.
-ghost use Rattle.std.specs.Prelude.{◌≡◌, ◌≢◌, ◌<◌, ◌≤◌, ℕ, length, slice_index, Some, Contains, IfOk};
-ghost use Rattle.map_theory.specs.Maps.{HasDart, list_of};
-ghost use Rattle.half_edges.specs.Map.{IsLive, dart_at};
+ghost use Rattle.std.specs.Prelude.{◌≡◌, ◌≤◌, ℕ, length, slice_index, Contains};
+ghost use Rattle.half_edges.specs.Map.{IsLive};
 ghost use Rattle.euler_faces.specs.FaceWalks.{IsFaceWalk, ids_of};
 ghost use Rattle.convex_class.specs.Clear.{IsRing, IsOffAt, IsOff, IsClearVertex};
 ghost use Rattle.convex_class.specs.Stamps.{IsStamped, AreStamped};
@@ -59,38 +58,31 @@ impl FaceOf<'_> {
 }
 
 impl Star<'_> {
-    // Gives the vertices of the face of a dart from the vertex its mark, where the face has no more darts than that.
-    fn mark_face(&self, d: DartId, marks: &mut [u16], best: u16) -> u16
-        requires live { IsLive self.now.uncut.map.now d.0 }
-        requires marks { length marks.old ≡ length self.now.uncut.map.now.lists }
-        ensures { IsStamped self.now.u (IsOff self.now.uncut.map.now self.now.uncut.faces.now (length self.now.ring.now) self.now.u d.0) marks.old best marks.new result }
-    {
-        let Star { uncut, u, ring } = *self;
-        uncut.facts();
-        let walk = uncut.faces.walk(uncut.faces.of_dart(d));
-        let a = uncut.map.head(d).0;
-        if walk.len() > ring.len() {
-            return best;
-        }
-        FaceOf { uncut, u, a }.mark_passed(walk, marks, best)
-    }
-
-    // Gives the vertices of the faces of all darts from the vertex its mark, where a face has no more darts than that.
+    // Gives the vertices of the faces of all darts from the vertex its mark, where a face has no more darts than that. The
+    // answer is the least of `best`, the vertex, and those that had the mark.
     fn mark_faces(&self, marks: &mut [u16], mut best: u16) -> u16
         requires marks { length marks.old ≡ length self.now.uncut.map.now.lists }
         ensures { AreStamped self.now.u (length self.now.ring.now) (λ i. IsOff self.now.uncut.map.now self.now.uncut.faces.now (length self.now.ring.now) self.now.u (slice_index (ids_of self.now.ring.now) i)) marks.old best marks.new result }
     {
-        let star = *self;
-        for d in star.ring {
-            best = star.mark_face(*d, marks, best);
+        let Star { uncut, u, ring } = *self;
+        uncut.facts();
+        for d in ring {
+            let walk = uncut.faces.walk(uncut.faces.of_dart(*d));
+            let a = uncut.map.head(*d).0;
+            if walk.len() > ring.len() {
+                continue;
+            }
+            best = FaceOf { uncut, u, a }.mark_passed(walk, marks, best);
         }
         best
     }
 
-    // Gives the neighbours of the vertex its mark.
-    fn mark_heads(&self, marks: &mut [u16])
+    // Returns the least of `best`, the vertex, and another one, where two faces of it that have no more darts than it pass
+    // that one, and not along an edge from it. All neighbours get the mark of the vertex first.
+    pub(crate) fn least(&self, marks: &mut [u16], best: u16) -> u16
         requires marks { length marks.old ≡ length self.now.uncut.map.now.lists }
-        ensures { (z : ℕ) → HasDart self.now.uncut.map.now.lists self.now.u z → slice_index marks.new z ≡ self.now.u }
+        ensures lower { result ≤ best }
+        ensures clear { IsClearVertex self.now.uncut.map.now self.now.uncut.faces.now result self.now.u }
     {
         let Star { uncut, u, ring } = *self;
         uncut.facts();
@@ -98,17 +90,6 @@ impl Star<'_> {
             let z = uncut.map.head(*d);
             marks[z.0 as usize] = u;
         }
-    }
-
-    // The least of `best`, the vertex, and another one, where two faces of it that have no more darts than it pass that
-    // one, and not along an edge from it.
-    pub(crate) fn least(&self, marks: &mut [u16], best: u16) -> u16
-        requires marks { length marks.old ≡ length self.now.uncut.map.now.lists }
-        ensures lower { result ≤ best }
-        ensures clear { IsClearVertex self.now.uncut.map.now self.now.uncut.faces.now result self.now.u }
-    {
-        self.uncut.facts();
-        self.mark_heads(marks);
         self.mark_faces(marks, best)
     }
 }

@@ -5,12 +5,11 @@ use Rattle.convex_class.specs.Clear.{IsNumber}
 use Rattle.convex_class.specs.Meetings.{IsHere}
 use Rattle.convex_class.proofs.WalkMarks.{get_or-ids, length-ids}
 use Rattle.convex_class.proofs.MeetingLemmas.{IsMet-more, IsMet-fewer}
-use Rattle.convex_class.proofs.ClearLemmas.{each_dart, some_number, place_in}
+use Rattle.convex_class.proofs.ClearLemmas.{each_dart, place_in}
 use Rattle.convex_class.proofs.face_pairs.corners.Spot.meet_round.Goals as goal
 
-pub number_of-z-requires : goal.number_of-z-requires
-number_of-z-requires c =
-    some_number c.args.self.now.uncut.map.now c.args.self.now.uncut.faces.now c.facts.ensures.faces _ (each_dart c.args.ring.now (IsLive c.args.self.now.uncut.map.now) c.requires.ring c.loop-c.c-index c.loop-c-test.true)
+pub of_dart-z-requires : goal.of_dart-z-requires
+of_dart-z-requires c = c.facts.ensures.faces.all _ (each_dart c.args.ring.now (IsLive c.args.self.now.uncut.map.now) c.requires.ring c.loop-c.c-index c.loop-c-test.true)
 
 pub loop-c-preserved : goal.loop-c-preserved
 loop-c-preserved c =
@@ -20,12 +19,12 @@ loop-c-preserved c =
     let x = c.args.self.now.x in
     let y = c.args.self.now.y in
     let p = c.loop-c.c-index in
-    let z = c.number_of-z.result in
+    let z = c.of_dart-z.result.0 in
     let ids = ids_of c.args.ring.now in
     let off : ℕ → ℕ → ℕ → ℕ → Type 0 = λ i w t h. IsNumber walks (get_or ids i 0) w × (w ≢ f) × (w ≢ x) × (w ≢ y) × (t ≡ place.tail) × (h ≡ place.head) in
     let now = c.meet_number-best.new.met in
     let least = c.meet_number-best.result in
-    let is = subst (λ d. IsNumber walks d z) (sym (get_or-ids c.args.ring.now p c.loop-c-test.true)) c.number_of-z.ensures in
+    let is = subst (λ d. IsNumber walks d z) (sym (get_or-ids c.args.ring.now p c.loop-c-test.true)) (c.of_dart-z.ensures.face, c.of_dart-z.ensures.stands) in
     let step = IsMet-fewer f c.loop-c.met c.loop-c.best now least (λ w t h. IsHere place z w t h × (z ≢ f) × (z ≢ x) × (z ≢ y)) (off p)
     (λ w t h q.
     let e = c.facts.ensures.faces.apart w z (get_or ids p 0) q.0.0 is.0 q.0.1 is.1 in

@@ -1,11 +1,37 @@
-use Rattle.std.proofs.Common.{◌≡◌, ◌<◌, ℕ, List, length, get_or, sym, ap, ◌∙◌, subst, arith}
-use Rattle.euler_faces.specs.FaceWalks.{walk_at}
-use Rattle.convex_class.specs.Clear.{IsOffPlace, after_place}
+use Rattle.std.proofs.Common.{◌≡◌, ◌≢◌, ◌<◌, ℕ, List, length, get_or, Contains, sym, ap, ◌∙◌, subst, arith}
+use Rattle.map_lists.specs.declared.ids.DartId.{DartId}
+use Rattle.euler_faces.specs.FaceWalks.{ids_of, walk_at}
+use Rattle.convex_class.specs.Clear.{IsRing, IsNumber, IsCorner, IsOffPlace, after_place}
 use Rattle.convex_class.specs.Meetings.{IsMet}
 use Rattle.convex_class.proofs.WalkMarks.{get_or-ids, length-ids}
-use Rattle.convex_class.proofs.MeetingLemmas.{IsMet-more}
-use Rattle.convex_class.proofs.ClearLemmas.{off_place}
+use Rattle.convex_class.proofs.MeetingLemmas.{IsMet-none, IsMet-fewer, IsMet-more}
+use Rattle.convex_class.proofs.ClearLemmas.{off_in_ring, off_place, corner_below, large_corner}
 use Rattle.convex_class.proofs.face_pairs.corners.WalkedFace.meet_corners.Goals as goal
+
+pub degree-requires : goal.degree-requires
+degree-requires c = corner_below c.args.self.now.uncut.map.now c.facts.ensures.known c.args.self.now.uncut.faces.now c.facts.ensures.faces c.args.self.now.f c.args.self.now.face c.args.self.now.walk.now c.args.self.now.walked c.loop-i.i (omega (arith, c.loop-i-test.true)) c.behind-next.result.0 c.tail-v.result.0 c.behind-next.ensures c.tail-v.ensures
+
+pub put_ring-requires : goal.put_ring-requires
+put_ring-requires c = record { vertex = corner_below c.args.self.now.uncut.map.now c.facts.ensures.known c.args.self.now.uncut.faces.now c.facts.ensures.faces c.args.self.now.f c.args.self.now.face c.args.self.now.walk.now c.args.self.now.walked c.loop-i.i (omega (arith, c.loop-i-test.true)) c.behind-next.result.0 c.tail-v.result.0 c.behind-next.ensures c.tail-v.ensures }
+
+pub loop-i-preserved-then-degree-walk : goal.loop-i-preserved-then-degree-walk
+loop-i-preserved-then-degree-walk c =
+    let map = c.args.self.now.uncut.map.now in
+    let walks = c.args.self.now.uncut.faces.now in
+    let f = c.args.self.now.f in
+    let i = c.loop-i.i in
+    let ds = c.args.self.now.walk.now in
+    let is = c.args.self.now.walked in
+    let d = (get_or ds i (record { 0 = 0 })).0 in
+    let e = c.behind-next.result.0 in
+    let met = c.loop-i.met in
+    let best = c.loop-i.best in
+    let long = sym (length-ids ds) ∙ ap (λ (w : List ℕ). length w) is in
+    let l : i < length ds = omega (arith, c.loop-i-test.true) in
+    let at = sym (get_or-ids ds i l) ∙ ap (λ (w : List ℕ). get_or w i 0) is in
+    let behind = c.behind-next.ensures ∙ ap (λ (w : List ℕ). after_place w i) is in
+    let none = IsMet-none f (IsCorner map walks (length ds) f d e) met best (λ z x y. large_corner map walks (length ds) f d e c.tail-v.result.0 z x y c.tail-v.ensures (omega (arith, c.degree.ensures, c.if-degree-walk.true))) in
+    IsMet-more f c.args.met.now c.args.best met best i (IsOffPlace map walks f) met best c.loop-i.invariant (off_place map walks f i (length ds) d e met best met best long at behind none)
 
 pub loop-i-preserved : goal.loop-i-preserved
 loop-i-preserved c =
@@ -15,13 +41,23 @@ loop-i-preserved c =
     let i = c.loop-i.i in
     let ds = c.args.self.now.walk.now in
     let is = c.args.self.now.walked in
-    let now = c.meet_corner.new.met in
-    let least = c.in_ok-best.best in
+    let d = (get_or ds i (record { 0 = 0 })).0 in
+    let e = c.behind-next.result.0 in
+    let now = c.meet_round-best.new.met in
+    let least = c.meet_round-best.result in
     let long = sym (length-ids ds) ∙ ap (λ (w : List ℕ). length w) is in
     let l : i < length ds = omega (arith, c.loop-i-test.true) in
     let at = sym (get_or-ids ds i l) ∙ ap (λ (w : List ℕ). get_or w i 0) is in
-    let behind = c.behind.ensures ∙ ap (λ (w : List ℕ). after_place w i) is in
-    IsMet-more f c.args.met.now c.args.best now least i (IsOffPlace map walks f) c.loop-i.met c.loop-i.best c.loop-i.invariant (off_place map walks f i _ _ _ c.loop-i.met c.loop-i.best now least long at behind c.in_ok-best.ensures)
+    let behind = c.behind-next.ensures ∙ ap (λ (w : List ℕ). after_place w i) is in
+    let v = c.tail-v.result.0 in
+    let x = c.across-x.result in
+    let y = c.across-y.result in
+    let ring = ids_of c.deref.result.now in
+    let r : IsRing map v ring = subst (λ (l : List DartId). IsRing map v (ids_of l)) (sym c.deref.ensures.value) c.in_ok-put_ring.ensures in
+    let here = IsMet-fewer f c.loop-i.met c.loop-i.best now least
+    (λ z t h. (b : ℕ) × Contains ring b × IsNumber walks b z × (z ≢ f) × (z ≢ x) × (z ≢ y) × (t ≡ v) × (h ≡ v)) (IsCorner map walks (length ds) f d e)
+    (λ z t h p. off_in_ring map c.facts.ensures.known walks c.facts.ensures.faces (length ds) f d e v x y z t h ring c.tail-v.ensures c.across-x.ensures.is c.across-y.ensures.is r p) c.meet_round-best.ensures in
+    IsMet-more f c.args.met.now c.args.best now least i (IsOffPlace map walks f) c.loop-i.met c.loop-i.best c.loop-i.invariant (off_place map walks f i (length ds) d e c.loop-i.met c.loop-i.best now least long at behind here)
 
 pub returns : goal.returns
 returns c =
