@@ -2,7 +2,7 @@
 ghost use Rattle.std.specs.Prelude.{◌≡◌, ◌<◌, ◌^◌, ◌↔◌, ℕ, length, slice_index, Some, IsTrue, IfOk};
 ghost use Rattle.half_edges.specs.Map.{IsHalfMap, IsLive, dart_at};
 ghost use Rattle.euler_faces.specs.FaceWalks.{AreFaces, walk_at, ids_of};
-ghost use Rattle.bipolar.specs.FaceArcs.{IsPutRight, ArePutRight, AreFaceArcs};
+ghost use Rattle.bipolar.specs.FaceArcs.{ArePutRight, AreFaceArcs};
 
 use euler_faces::Faces;
 use half_edges::{Counts, DartId, FaceId, HalfMap};
@@ -27,19 +27,6 @@ impl RankedMap<'_> {
         self.rank.get(self.map.tail(d).0 as usize) < self.rank.get(self.map.head(d).0 as usize)
     }
 
-    // Puts the right face of an upward dart behind others.
-    fn put_right(&self, faces: &Faces, d: DartId, entries: &mut Vec<u32>) -> Result<(), AllocError>
-        requires faces { AreFaces self.now.map.now faces.now }
-        requires live { IsLive self.now.map.now d.0 }
-        ensures { IfOk result (λ _. (u v : ℕ) → dart_at self.now.map.now d.0 ≡ Some (u, v) → IsPutRight self.now.map.now faces.now self.now.rank.now u v entries.old.items entries.new.items) }
-    {
-        self.map.facts();
-        if self.goes_up(d) {
-            entries.push(faces.of_dart(self.map.twin(d)).0)?;
-        }
-        Ok(())
-    }
-
     // Puts the right faces of the upward darts of a walk behind others.
     fn put_walk(&self, faces: &Faces, f: u32, entries: &mut Vec<u32>) -> Result<(), AllocError>
         requires faces { AreFaces self.now.map.now faces.now }
@@ -47,7 +34,11 @@ impl RankedMap<'_> {
         ensures { IfOk result (λ _. ArePutRight self.now.map.now faces.now self.now.rank.now (walk_at faces.now f) entries.old.items entries.new.items) }
     {
         for d in faces.walk(FaceId(f)) {
-            self.put_right(faces, *d, entries)?;
+            if !self.goes_up(*d) {
+                continue;
+            }
+            let back = self.map.twin(*d);
+            entries.push(faces.of_dart(back).0)?;
         }
         Ok(())
     }

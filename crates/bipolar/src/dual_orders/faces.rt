@@ -47,19 +47,18 @@ fn after(ends: &[usize], v: usize, d: usize) -> usize
     }
 }
 
-// Puts the twin of an upward dart behind others.
+// Puts the twin of a dart behind others, where the dart goes upwards.
 fn put_upward(
     rank: &[u16],
-    tail: u16,
-    head: u16,
+    dart: (u16, u16),
     twin: u32,
     arcs: &mut Vec<u32>,
 ) -> Result<(), AllocError>
-    requires tail { tail < length rank.now }
-    requires head { head < length rank.now }
-    ensures { OnOk result (IsPutUp rank.now tail head twin arcs.old.items arcs.new.items) }
+    requires tail { dart.0 < length rank.now }
+    requires head { dart.1 < length rank.now }
+    ensures { OnOk result (IsPutUp rank.now dart.0 dart.1 twin arcs.old.items arcs.new.items) }
 {
-    if rank[tail as usize] < rank[head as usize] {
+    if rank[dart.0 as usize] < rank[dart.1 as usize] {
         arcs.push(twin)?;
     }
     Ok(())
@@ -94,36 +93,15 @@ impl RankedDarts<'_> {
             of[d] = f;
             let twin = self.twins[d];
             let head = self.entries[d];
-            put_upward(self.rank, self.entries[twin as usize], head, twin, arcs)?;
+            let tail = self.entries[twin as usize];
+            put_upward(self.rank, (tail, head), twin, arcs)?;
             d = after(self.ends, head as usize, twin as usize);
         }
         Ok(())
     }
 
-    // Numbers the face of the dart with number `d`, where it is the least of its face: where it has no face yet, and
-    // those of the darts before have.
-    fn number_dart(
-        &self,
-        of: &mut [u32],
-        arcs: &mut Vec<u32>,
-        arc_ends: &mut Vec<usize>,
-        d: usize,
-    ) -> Result<(), AllocError>
-        requires d_in { d < length self.now.entries.now }
-        requires below { AreNumberedBelow (cut 0 self.now.ends.now self.now.entries.now) self.now.rank.now self.now.twins.now of.old arcs.old.items arc_ends.old.items d }
-        ensures { OnOk result (AreNumberedBelow (cut 0 self.now.ends.now self.now.entries.now) self.now.rank.now self.now.twins.now of.new arcs.new.items arc_ends.new.items (d + 1)) }
-    {
-        self.facts();
-        if of[d] != NO_FACE {
-            return Ok(());
-        }
-        let f = arc_ends.len() as u32;
-        self.walk_face(of, arcs, d, f)?;
-        arc_ends.push(arcs.len())?;
-        Ok(())
-    }
-
-    // Numbers all faces, and puts the twins of the upward darts of each behind those of the ones before.
+    // Numbers all faces by their least darts, those that have no face yet where all before have theirs, and puts the twins
+    // of the upward darts of each behind those of the faces before.
     fn number_all(
         &self,
         of: &mut [u32],
@@ -138,7 +116,12 @@ impl RankedDarts<'_> {
     {
         self.facts();
         for d in 0..self.entries.len() {
-            self.number_dart(of, arcs, arc_ends, d)?;
+            if of[d] != NO_FACE {
+                continue;
+            }
+            let f = arc_ends.len() as u32;
+            self.walk_face(of, arcs, d, f)?;
+            arc_ends.push(arcs.len())?;
         }
         Ok(())
     }
