@@ -1,7 +1,7 @@
 -- A map with what is counted of it.
-use Rattle.std.specs.Prelude.{ℕ, ◌≤◌, ◌≡◌}
+use Rattle.std.specs.Prelude.{◌≡◌}
 use Rattle.map_lists.specs.Lists.{Lists}
-use Rattle.map_theory.specs.Maps.{IsSimpleMap, IsPlane, vertex_count, edge_count, face_count, component_count}
+use Rattle.map_theory.specs.Maps.{IsSimpleMap, vertex_count, edge_count, face_count, component_count}
 use Rattle.euler_faces.specs.declared.count.EulerCount.{EulerCount}
 use Rattle.conn_parts.specs.Parts.{ArePartsOf}
 use Rattle.conn_parts.specs.declared.counted.CountedMap.{CountedMap}

@@ -9,4 +9,4 @@ mod parts;
 pub use counted::{CountedMaker, CountedMap, counted_map, plane_count};
 pub use graph_cuts::{graph_components, graph_cut_vertex, graph_separating_pair};
 pub use graph_search::map_cuts::{cut_vertex, separating_pair};
-pub use parts::{Parts, components, list_components};
+pub use parts::{Parts, components, list_components, numbered_parts};

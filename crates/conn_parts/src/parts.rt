@@ -28,8 +28,8 @@ impl Model for Parts {
 }
 
 impl Parts {
-    // The components of no vertices. It takes no memory.
-    pub(crate) fn new(alloc: Global) -> Parts {
+    /// Makes the components of no vertices. It takes no memory.
+    pub fn new(alloc: Global) -> Parts {
         Parts {
             count: 0,
             numbers: Vec::new(alloc),
@@ -72,9 +72,10 @@ pub fn list_components(alloc: Global, lists: &Rotations) -> Result<Parts, AllocE
     Ok(parts)
 }
 
-// The components of lists, as `list_components` has them, in the memory of others that are done with.
+/// Returns the components of lists, as [`list_components`] has them, in the memory of others that are done with: `spent`, and
+/// the row `queue`, whose entries say nothing before or after.
 #[inline(always)]
-pub(crate) fn numbered_parts(
+pub fn numbered_parts(
     lists: &Rotations,
     spent: Parts,
     queue: &mut Vec<u16>,

@@ -1,5 +1,4 @@
-use Rattle.std.proofs.Common.{length, ap, arith}
-use Rattle.conn_parts.proofs.GraphLemmas.{length-graph_lists, IsSimpleMap-graph_lists}
+use Rattle.conn_parts.proofs.GraphLemmas.{IsSimpleMap-graph_lists}
 use Rattle.conn_parts.proofs.graph_cuts.cuts.graph_components.Goals as goal
 
 pub list_components-requires : goal.list_components-requires

@@ -1,9 +1,9 @@
-use Rattle.std.proofs.Common.{ℕ, length, ap, subst, arith}
+use Rattle.std.proofs.Common.{ℕ, subst}
 use Rattle.map_lists.specs.Lists.{Lists}
 use Rattle.graph_search.proofs.ForestLemmas.{IsAdjacency-simple}
 use Rattle.graph_search.specs.Cuts.{IsCutVertex}
 use Rattle.conn_parts.specs.GraphLists.{graph_lists}
-use Rattle.conn_parts.proofs.GraphLemmas.{length-graph_lists, IsSimpleMap-graph_lists}
+use Rattle.conn_parts.proofs.GraphLemmas.{IsSimpleMap-graph_lists}
 use Rattle.conn_parts.proofs.graph_cuts.cuts.graph_cut_vertex.Goals as goal
 
 pub list_cut_vertex-requires : goal.list_cut_vertex-requires
