@@ -1,5 +1,5 @@
 -- The least and the greatest of the first entries of a row.
-use Rattle.std.proofs.Common.{◌≡◌, ◌⊎◌, ℕ, ◌+◌, ◌<◌, ◌≤◌, List, length, get_or, cond, ltb, sym, ap, ◌∙◌, inl, inr, arith}
+use Rattle.std.proofs.Common.{◌≡◌, ◌⊎◌, ℕ, ◌+◌, ◌<◌, ◌≤◌, List, length, get_or, cond, ltb, refl, sym, ap, ◌∙◌, subst, inl, inr, arith}
 use Rattle.std.proofs.lemmas.Bool.{cases_lt, cases_eq}
 use Rattle.std.proofs.lemmas.List.Elements.{Contains-get_or}
 use Rattle.map_lists.specs.Lists.{Lists}
@@ -90,3 +90,9 @@ module _ (lists : Lists) (rank of twins numbers : List ℕ) (w : AreSides lists 
       ∙ (ap (λ k. get_or numbers (cond (ltb (get_or rank b 0) (get_or rank u 0)) (get_or of (darts_before lists b + i) 0) (get_or of k 0)) 0) (sym entry_twin)
       ∙ (ap (λ k. get_or numbers (cond (ltb k (get_or rank u 0)) (get_or of (darts_before lists b + i) 0) (get_or of (get_or twins (darts_before lists b + i) 0) 0)) 0) (sym et)
       ∙ (ap (λ k. get_or numbers (cond (ltb tail k) (get_or of (darts_before lists b + i) 0) (get_or of (get_or twins (darts_before lists b + i) 0) 0)) 0) (sym eh) ∙ sym is))))
+
+  -- where it is read by the number of the first dart of the list
+  pub entry_read : (first : ℕ) → first ≡ darts_before lists b → (list : List ℕ) → list ≡ list_of lists b → (x : ℕ) → x ≡ get_or numbers (cond (ltb (get_or rank b 0) (get_or rank (get_or list i 0) 0)) (get_or of (first + i) 0) (get_or of (get_or twins (first + i) 0) 0)) 0 → get_or (arcs_of (left_rows lists rank of numbers) b) i 0 ≡ x
+  entry_read first ef list el x told =
+      let head : ℕ = get_or rank (get_or list i 0) 0 in
+      entry_is (get_or rank b 0) head x refl (ap (λ (us : List ℕ). get_or rank (get_or us i 0) 0) el) (subst (λ k. x ≡ get_or numbers (cond (ltb (get_or rank b 0) head) (get_or of (k + i) 0) (get_or of (get_or twins (k + i) 0) 0)) 0) ef told)

@@ -3,17 +3,15 @@ ghost use Rattle.std.specs.Prelude.{◌≡◌, ◌<◌, length, Some, IfOk, IfEr
 ghost use Rattle.half_edges.specs.Map.{IsLive, dart_at, first_dart as first_of};
 ghost use Rattle.refusals.specs.Conditions.{IfRefused};
 ghost use Rattle.conn_parts.specs.BiconnectedMaps.{IsBiconnectedMap, BreaksFirst};
-ghost use Rattle.conn_parts.specs.Searched.{IsSearchOf};
 ghost use Rattle.visibility.specs.Figures.{IsBarFigure};
 
 use crate::bars_of_ranks;
 use conn_parts::biconnected_maps::searched_map;
-use graph_search::search_forests::Forest;
 use half_edges::{DartId, HalfMap, Rotations, VertexId};
 use pg_plane::BarFigure;
 use refusals::Unserved;
 use st_orders::st_ranks;
-use std::alloc::{AllocError, Global};
+use std::alloc::Global;
 
 // The dart from vertex 0 to the first of its list.
 fn first_dart(map: &HalfMap) -> DartId
@@ -25,26 +23,6 @@ fn first_dart(map: &HalfMap) -> DartId
         Some(d) => d,
         None => unreachable!(),
     }
-}
-
-// The bars of a biconnected map with these lists, by the search that found it to be one.
-fn map_bars(
-    alloc: Global,
-    lists: &Rotations,
-    map: &HalfMap,
-    forest: &Forest,
-    low: &[u16],
-) -> Result<BarFigure, AllocError>
-    requires lists { map.now.lists ≡ lists.now }
-    requires biconnected { IsBiconnectedMap 3 lists.now }
-    requires search { IsSearchOf lists.now forest.now.order.items forest.now.number.items forest.now.last.items forest.now.parent.items low.now }
-    ensures { IfOk result (IsBarFigure lists.now) }
-{
-    let st = first_dart(map);
-    let t = lists.list(0)[0];
-    let rank = st_ranks(alloc, lists, forest, low, 0, t)?;
-    let figure = bars_of_ranks(alloc, lists, map, &rank, st)?;
-    Ok(figure)
 }
 
 /// The figure of a record with these lists, which are from 1 to 4095: each vertex as a level bar, each edge as a
@@ -65,6 +43,9 @@ pub fn bar_figure(alloc: Global, lists: &Rotations) -> Result<BarFigure, Unserve
     ensures refused { IfErr result (IfRefused (BreaksFirst 3 lists.now)) }
 {
     let found = searched_map(alloc, lists, 3)?;
-    let figure = map_bars(alloc, lists, &found.map, &found.forest, &found.low)?;
+    let st = first_dart(&found.map);
+    let t = lists.list(0)[0];
+    let rank = st_ranks(alloc, lists, &found.forest, &found.low, 0, t)?;
+    let figure = bars_of_ranks(alloc, lists, &found.map, &rank, st)?;
     Ok(figure)
 }

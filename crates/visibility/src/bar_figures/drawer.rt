@@ -68,15 +68,6 @@ fn sees_all(forest: &Forest) -> bool
     forest.last[0] as usize == forest.last.len()
 }
 
-// Searches a map from vertex 0, which sees the first of its list next.
-fn search_map(tables: &mut SearchTables, alloc: Global, map: &Rooted<'_>) -> Result<(), AllocError>
-    ensures { IfOk result (λ _. IsSearchFrom map.now.lists.now map.now.t tables.new.forest.order.items tables.new.forest.number.items tables.new.forest.last.items tables.new.forest.parent.items tables.new.low.items) }
-{
-    map.facts();
-    tables.search(alloc, map.lists, 0, map.t)?;
-    Ok(())
-}
-
 // Numbers the faces of a map with ranks.
 fn find_faces(
     tables: &mut FaceTables,
@@ -252,7 +243,8 @@ impl Tables {
         }
     }
 
-    // Finds the answer to a map by the twins of its darts, where it is connected and has genus zero.
+    // Finds the answer to a map by the twins of its darts, where it is connected and has genus zero, by a search from
+    // vertex 0 that sees the first of its list next.
     fn find(&mut self, alloc: Global, lists: &Rotations, twins: &[u32]) -> Result<Found, AllocError>
         requires simple { IsSimpleMap lists.now }
         requires twins { AreTwins (darts lists.now) twins.now (length (darts lists.now)) }
@@ -263,7 +255,8 @@ impl Tables {
         }
         let t = lists.list(0)[0];
         let map = Rooted { lists, twins, t };
-        search_map(&mut self.search, alloc, &map)?;
+        map.facts();
+        self.search.search(alloc, lists, 0, t)?;
         self.dual.find(alloc, &map, &self.search)
     }
 }
@@ -303,9 +296,11 @@ impl BarDrawer {
         self.tables.dual.spans.x2 = x2.into_vec();
     }
 
-    // The first condition that a record breaks, if it breaks one.
-    fn refuse(&mut self, lists: &Rotations) -> Result<(), Unserved>
+    // The figure of a record by the exact search for the first condition that it breaks.
+    fn exact_figure(&mut self, lists: &Rotations) -> Result<BarFigure, Unserved>
         requires some_list { 0 < length lists.now }
+        ensures figure { IfOk result (IsBarFigure lists.now) }
+        ensures served { OnOk result (IsBiconnectedMap 3 lists.now) }
         ensures refused { IfErr result (IfRefused (BreaksFirst 3 lists.now)) }
     {
         let count = plane_count(&mut self.counter, lists, 3)?;
@@ -314,19 +309,8 @@ impl BarDrawer {
         }
         match list_cut_vertex(self.alloc, lists)? {
             Some(v) => Err(Unserved::Refused(Refusal::CutVertex(VertexId(v)))),
-            None => Ok(()),
+            None => bar_figure(self.alloc, lists),
         }
-    }
-
-    // The figure of a record by the exact search for the first condition that it breaks.
-    fn exact_figure(&mut self, lists: &Rotations) -> Result<BarFigure, Unserved>
-        requires some_list { 0 < length lists.now }
-        ensures figure { IfOk result (IsBarFigure lists.now) }
-        ensures served { OnOk result (IsBiconnectedMap 3 lists.now) }
-        ensures refused { IfErr result (IfRefused (BreaksFirst 3 lists.now)) }
-    {
-        self.refuse(lists)?;
-        bar_figure(self.alloc, lists)
     }
 
     /// The figure of a record, as `bar_figure` has it. After `NoMemory` the drawer serves as before.

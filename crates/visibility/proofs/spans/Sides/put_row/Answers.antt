@@ -1,4 +1,4 @@
-use Rattle.std.proofs.Common.{◌≡◌, ◌≢◌, ℕ, ◌+◌, ◌<◌, List, length, get_or, cond, ltb, set, ℤ, pos, refl, sym, ap, ◌∙◌, subst, arith}
+use Rattle.std.proofs.Common.{◌≡◌, ◌≢◌, ℕ, ◌+◌, ◌<◌, List, length, get_or, cond, ltb, set, ℤ, pos, refl, sym, ap, ◌∙◌, arith}
 use Rattle.std.proofs.lemmas.List.{length-map}
 use Rattle.std.proofs.lemmas.List.Elements.{Contains-get_or}
 use Rattle.map_theory.specs.Maps.{list_of}
@@ -9,7 +9,7 @@ use Rattle.bipolar.specs.FaceNumbers.{left_rows}
 use Rattle.bar_check.proofs.EdgeLemmas.{edges_until-all}
 use Rattle.bipolar.proofs.FaceAgree.{length-left_row}
 use Rattle.visibility.proofs.StartLemmas.{below_more, one_most, columns_put, start_in, IsFilledTo-more}
-use Rattle.visibility.proofs.SpanLemmas.{IsSpan-more, IsLeastOf-span, IsGreatestOf-span, entry_in, entry_twin_in, entry_head, entry_is}
+use Rattle.visibility.proofs.SpanLemmas.{IsSpan-more, IsLeastOf-span, IsGreatestOf-span, entry_in, entry_twin_in, entry_head, entry_read}
 use Rattle.visibility.proofs.spans.Sides.put_row.Goals as goal
 
 pub overflow_add-first : goal.overflow_add-first
@@ -63,26 +63,17 @@ pub put_if-down-requires-clause-low : goal.put_if-down-requires-clause-low
 put_if-down-requires-clause-low c =
     let lists = c.args.self.now.lists.now in
     let s = c.facts.ensures in
-    let rank = c.args.self.now.rank.now in
-    let of = c.args.self.now.of.now in
-    let twins = c.args.self.now.twins.now in
-    let numbers = c.args.self.now.numbers.now in
-    let rows = left_rows lists rank of numbers in
-    let b = c.args.b in
     let i = c.loop-i.i in
-    let list = c.list-list.result.now in
-    let x = c.left_number-x.result in
-    let li : i < length (list_of lists b) = omega (arith, c.loop-i-test.true, ap (λ (us : List ℕ). length us) c.list-list.ensures) in
-    let told = subst (λ k. x ≡ get_or numbers (cond (ltb (get_or rank b 0) (get_or rank (get_or list i 0) 0)) (get_or of (k + i) 0) (get_or of (get_or twins (k + i) 0) 0)) 0) c.requires.first c.left_number-x.ensures in
-    let is : get_or (arcs_of rows b) i 0 ≡ x = entry_is lists rank of twins numbers s b i c.requires.vertex li (get_or rank b 0) (get_or rank (get_or list i 0) 0) x refl (ap (λ (us : List ℕ). get_or rank (get_or us i 0) 0) c.list-list.ensures) told in
-    omega (arith, s.low b i, is)
+    let li : i < length (list_of lists c.args.b) = omega (arith, c.loop-i-test.true, ap (λ (us : List ℕ). length us) c.list-list.ensures) in
+    let is = entry_read lists c.args.self.now.rank.now c.args.self.now.of.now c.args.self.now.twins.now c.args.self.now.numbers.now s c.args.b i c.requires.vertex li c.args.first c.requires.first c.list-list.result.now c.list-list.ensures c.left_number-x.result c.left_number-x.ensures in
+    omega (arith, s.low c.args.b i, is)
 
-pub put_if-down-requires-clause-few : goal.put_if-down-requires-clause-few
-put_if-down-requires-clause-few c =
+pub overflow_add-down : goal.overflow_add-down
+overflow_add-down c =
     let lists = c.args.self.now.lists.now in
     let s = c.facts.ensures in
     let li : c.loop-i.i < length (list_of lists c.args.b) = omega (arith, c.loop-i-test.true, ap (λ (us : List ℕ). length us) c.list-list.ensures) in
-    omega (arith, c.loop-i.invariant.few, entry_in lists c.args.self.now.rank.now c.args.self.now.of.now c.args.self.now.twins.now c.args.self.now.numbers.now s c.args.b c.loop-i.i c.requires.vertex li, few_darts-simple lists s.few s.simple)
+    omega (arith, c.loop-i.invariant.few, c.put_if-down.ensures.count, one_most (ltb (get_or c.list-list.result.now c.loop-i.i 0) c.args.b), entry_in lists c.args.self.now.rank.now c.args.self.now.of.now c.args.self.now.twins.now c.args.self.now.numbers.now s c.args.b c.loop-i.i c.requires.vertex li, few_darts-simple lists s.few s.simple)
 
 pub loop-i-preserved : goal.loop-i-preserved
 loop-i-preserved c =
@@ -99,8 +90,7 @@ loop-i-preserved c =
     let list = c.list-list.result.now in
     let x = c.left_number-x.result in
     let li : i < length (list_of lists b) = omega (arith, c.loop-i-test.true, ap (λ (us : List ℕ). length us) c.list-list.ensures) in
-    let told = subst (λ k. x ≡ get_or numbers (cond (ltb (get_or rank b 0) (get_or rank (get_or list i 0) 0)) (get_or of (k + i) 0) (get_or of (get_or twins (k + i) 0) 0)) 0) c.requires.first c.left_number-x.ensures in
-    let is : get_or (arcs_of rows b) i 0 ≡ x = entry_is lists rank of twins numbers s b i c.requires.vertex li (get_or rank b 0) (get_or rank (get_or list i 0) 0) x refl (ap (λ (us : List ℕ). get_or rank (get_or us i 0) 0) c.list-list.ensures) told in
+    let is = entry_read lists rank of twins numbers s b i c.requires.vertex li c.args.first c.requires.first list c.list-list.ensures x c.left_number-x.ensures in
     let within = entry_head lists rank of twins numbers s b i c.requires.vertex li in
     let same : get_or list i 0 ≡ get_or (list_of lists b) i 0 = ap (λ (us : List ℕ). get_or us i 0) c.list-list.ensures in
     let apart : get_or (list_of lists b) i 0 ≢ b = λ e. s.simple.no_loop b (get_or (list_of lists b) i 0) (c.requires.vertex, Contains-get_or (list_of lists b) i 0 li) e in

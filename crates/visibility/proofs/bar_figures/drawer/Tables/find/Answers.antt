@@ -1,6 +1,6 @@
-use Rattle.visibility.proofs.bar_figures.drawer.search_map.Goals as goal
+use Rattle.visibility.proofs.bar_figures.drawer.Tables.find.Goals as goal
 
-pub returns : goal.returns
-returns c =
+pub find-requires : goal.find-requires
+find-requires c =
     let found = c.in_ok-search.ensures in
     record { forest = found.forest; lows = found.lows; first = found.first; second = found.second }
