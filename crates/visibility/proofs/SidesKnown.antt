@@ -3,8 +3,7 @@ use Rattle.std.proofs.Common.{ℕ, List}
 use Rattle.std.proofs.Math.Logic.{∥∥₁_elim, ∥∥₁_map}
 use Rattle.std.proofs.Props.{props}
 use Rattle.map_lists.specs.Lists.{Lists}
-use Rattle.graph_search.proofs.Known.{HasDart-known}
-use Rattle.bipolar.proofs.Known.{IsSimpleMap-known}
+use Rattle.map_theory.proofs.Known.{HasDart-known, IsSimpleMap-known}
 use Rattle.visibility.specs.Spans.{AreSides}
 use Rattle.visibility.specs.Found.{IsRooted}
 
