@@ -9,6 +9,8 @@ mod Agree
 pub mod ColumnLemmas
 mod Numbered
 mod FaceNumbering
+-- The numbers of twins, by a table of them.
+pub mod TwinNumbers
 -- What facts that are kept with maps tell.
 pub mod Known
 -- The rows that longest paths between faces give.

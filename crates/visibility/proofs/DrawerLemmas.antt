@@ -1,10 +1,8 @@
 -- From a search to the figure: what each stage of the drawer hands to the next.
-use Rattle.std.proofs.Common.{◌≡◌, ℕ, ◌+◌, ◌/◌, ◌<◌, List, length, get_or, slice_get, Some, ℤ, sym, ap, ◌∙◌, subst, arith}
-use Rattle.std.proofs.lemmas.Option.{slice_get_within, get_or_from_slice_get}
+use Rattle.std.proofs.Common.{◌≡◌, ℕ, ◌+◌, ◌/◌, ◌<◌, List, length, get_or, ℤ, sym, ap, ◌∙◌, subst, arith}
 use Rattle.map_lists.specs.Lists.{Lists}
-use Rattle.map_theory.specs.Maps.{Dart, IsSimpleMap, HasDart, darts, dart_count, dart_number, twin_dart, list_of, component_count}
-use Rattle.map_theory.proofs.DartLemmas.{length-darts, IsDartNumber-darts, dart_number-lt, get_or-dart_number, darts_before_none, place_of-lt-length, place_of-get_or}
-use Rattle.simple_maps.specs.Tables.{AreTwins}
+use Rattle.map_theory.specs.Maps.{dart_count, dart_number, list_of, component_count}
+use Rattle.map_theory.proofs.DartLemmas.{length-darts, dart_number-lt, darts_before_none, place_of-lt-length, place_of-get_or}
 use Rattle.pg_plane.specs.declared.figure.BarFigure.{BarFigure}
 use Rattle.graph_search.specs.Arcs.{IsAcyclic, AreLongest}
 use Rattle.graph_search.specs.Cuts.{IsCutVertex}
@@ -13,25 +11,12 @@ use Rattle.bipolar.specs.Laws.{IsStMap}
 use Rattle.bipolar.specs.Numbered.{GiveDuals}
 use Rattle.bipolar.specs.FaceNumbers.{face_of, AreFaceNumbers, AreFaceArcs, left_rows}
 use Rattle.bipolar.proofs.FaceAgree.{acyclic_faces, give_duals}
+use Rattle.bipolar.proofs.TwinNumbers.{twin_number}
 use Rattle.conn_parts.specs.BiconnectedMaps.{IsBiconnectedMap}
 use Rattle.visibility.specs.Spans.{AreSides, AreSpanned}
 use Rattle.visibility.specs.Figures.{IsBarFigure}
 use Rattle.visibility.specs.Found.{IsRooted}
 use Rattle.visibility.proofs.ListDrawn.{list_pos, IsPlane-counted, some_entry, small_rows, figure_is}
-
--- the number of a dart's twin
-twin_number : (lists : Lists) → IsSimpleMap lists → (twins : List ℕ) → AreTwins (darts lists) twins (length (darts lists)) → (v u : ℕ) → HasDart lists v u → get_or twins (dart_number lists (v, u)) 0 ≡ dart_number lists (u, v)
-twin_number lists simple twins w v u has =
-    let d = dart_number lists (v, u) in
-    let d_in = dart_number-lt lists v u has in
-    let n = length-darts lists in
-    let at = get_or-dart_number lists v u (0, 0) has in
-    let r = get_or twins d 0 in
-    let dart : Dart = get_or (darts lists) d (0, 0) in
-    let found : slice_get (darts lists) r ≡ Some (twin_dart dart) = w.at d (omega (arith, d_in, n)) in
-    let r_in : r < dart_count lists = omega (arith, slice_get_within (darts lists) r (twin_dart dart) found, n) in
-    let is = get_or_from_slice_get (darts lists) r (twin_dart dart) (0, 0) found in
-    sym (IsDartNumber-darts lists r (0, 0) simple.no_repeat r_in).number ∙ ap (λ (x : Dart). dart_number lists x) (is ∙ ap twin_dart at)
 
 -- A connected map with an st-order and its faces, of which there are as many as in genus zero.
 pub record IsFaced (lists : Lists) (twins : List ℕ) (t : ℕ) (rank of : List ℕ) (arcs : List (List ℕ)) : Type 0 where
@@ -83,7 +68,7 @@ module _ (lists : Lists) (twins : List ℕ) (t : ℕ) (rank of : List ℕ) (arcs
           ranks = f.order.ranks;
           faces = faces.size;
           twin_count = r.are_twins.count ∙ length-darts lists;
-          twin = twin_number lists r.simple twins r.are_twins;
+          twin = twin_number lists twins r.are_twins r.simple;
           within = λ i l. omega (arith, faces.below i l, longest.count, f.lead.count_is);
           low = small_rows lists r.few rank f.at 0 t st_map (left_rows lists rank of numbers) duals;
           some = some_entry lists rank f.at 0 t r.dart f.order;
