@@ -1,6 +1,6 @@
 -- Marks by number: which numbers of a list have been met.
 use Rattle.std.proofs.Common.{ℕ, ◌+◌, ◌<◌, ◌≡◌, ◌≢◌, List, [], ◌∷◌, ◌++◌, length, get_or, set, take, All, Contains, Option, Some, None, sym, ap, ◌∙◌, subst, inl, inr, arith}
-use Rattle.std.proofs.lemmas.List.{length-set, get_or-set_same, get_or-set_other, take_more}
+use Rattle.std.proofs.lemmas.List.{length-set, get_or-set_same, get_or-set_other, set-get_or, take_more}
 use Rattle.std.proofs.lemmas.List.Elements.{Contains-push, Contains-push_cases, Contains-append_left, All-set}
 use Rattle.std.proofs.lemmas.Bool.{cases_eq}
 use Rattle.simple_maps.specs.Faults.{lesser_of, least_repeated, first_from, least_out_of_range}
@@ -42,9 +42,9 @@ module _ (marks : List ℕ) (mark : ℕ) (list : List ℕ) (i : ℕ) (least : Op
   marks_more : AreMarks (set marks (get_or list i 0) mark) mark (take (i + 1) list)
   marks_more = rw (take_more list i 0 l) (AreMarks-push marks mark (take i list) (get_or list i 0) (within i 0 l) h.are_marks)
 
-  pub HasMet-again : get_or marks (get_or list i 0) 0 ≡ mark → HasMet (set marks (get_or list i 0) mark) mark list (i + 1) (lesser_of least (Some (get_or list i 0)))
+  pub HasMet-again : get_or marks (get_or list i 0) 0 ≡ mark → HasMet marks mark list (i + 1) (lesser_of least (Some (get_or list i 0)))
   HasMet-again e = record {
-    are_marks = marks_more;
+    are_marks = subst (λ (ms : List ℕ). AreMarks ms mark (take (i + 1) list)) (ap (set marks (get_or list i 0)) (sym e) ∙ set-get_or marks (get_or list i 0) 0) marks_more;
     is_least = rw (take_more list i 0 l) (ap (λ o. lesser_of o (Some (get_or list i 0))) h.is_least ∙ sym (least_repeated_push_again 0 (take i list) (get_or list i 0) (h.are_marks.marked (get_or list i 0) (within i 0 l) e)));
   }
 

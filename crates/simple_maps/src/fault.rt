@@ -2,7 +2,7 @@
 
 use std::alloc::AllocError;
 
-/// Why lists are no simple map, with vertices numbered from 0, or out of memory.
+/// Tells why lists are no simple map, or of no memory. List 0 is that of vertex 0.
 ///
 /// The first kind that applies is named, and of it the least first and then the least second vertex.
 #[derive(Clone, Copy, PartialEq, Eq)]

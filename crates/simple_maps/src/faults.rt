@@ -1,12 +1,12 @@
 //! The search for the first fault of lists, one kind after another.
-ghost use Rattle.std.specs.Prelude.{◌≡◌, ◌+◌, ◌<◌, ◌==◌, ◌↔◌, ℕ, length, nat_le, slice_index, slice_set, All, Some, None, IsTrue, IfOk, MatchOption};
+ghost use Rattle.std.specs.Prelude.{◌≡◌, ◌+◌, ◌<◌, ◌==◌, length, nat_le, All, Some, None, IfOk, MatchOption};
 ghost use Rattle.std.specs.List.{list_any};
 ghost use Rattle.simple_maps.specs.Faults.{lesser_of, least_where, first_from, least_out_of_range, own_number, least_repeated};
 
 use map_lists::Rotations;
 use std::alloc::{AllocError, Global};
 
-// The lesser of a number and the least one so far.
+// Returns the lesser of a number and the least one so far.
 pub(crate) fn lesser(least: Option<u16>, u: u16) -> Option<u16>
     ensures { result ≡ lesser_of least (Some u) }
 {
@@ -16,7 +16,7 @@ pub(crate) fn lesser(least: Option<u16>, u: u16) -> Option<u16>
     }
 }
 
-// The least number of a list that is not below `n`.
+// Returns the least number of `list` that is not below `n`.
 fn least_beyond(list: &[u16], n: usize) -> Option<u16>
     ensures { result ≡ least_where (nat_le n) list.now }
 {
@@ -29,7 +29,7 @@ fn least_beyond(list: &[u16], n: usize) -> Option<u16>
     least
 }
 
-// The first vertex whose list holds a number that is no vertex, and the least such number.
+// Finds the first vertex whose list holds a number that is no vertex, and the least such number.
 pub(crate) fn first_out_of_range(lists: &Rotations) -> Option<(u16, u16)>
     ensures { result ≡ first_from (least_out_of_range (length lists.now)) 0 lists.now }
 {
@@ -41,14 +41,14 @@ pub(crate) fn first_out_of_range(lists: &Rotations) -> Option<(u16, u16)>
     None
 }
 
-// Whether a list holds a number.
+// Says whether `list` holds `u`.
 pub(crate) fn holds(list: &[u16], u: u16) -> bool
     ensures { result ≡ list_any (λ w. w == u) list.now }
 {
     list.contains(&u)
 }
 
-// The first vertex whose list holds itself.
+// Finds the first vertex whose list holds itself.
 pub(crate) fn first_loop(lists: &Rotations) -> Option<u16>
     ensures { MatchOption result (first_from own_number 0 lists.now ≡ None)
         (λ v. first_from own_number 0 lists.now ≡ Some (v, v)) }
@@ -62,18 +62,7 @@ pub(crate) fn first_loop(lists: &Rotations) -> Option<u16>
     None
 }
 
-// Marks a number, and says whether it had the mark.
-fn meet(marks: &mut [u16], u: u16, mark: u16) -> bool
-    requires { u < length marks.old }
-    ensures met { IsTrue result ↔ (slice_index marks.old u ≡ mark) }
-    ensures marked { marks.new ≡ slice_set marks.old u mark }
-{
-    let met = marks[u as usize] == mark;
-    marks[u as usize] = mark;
-    met
-}
-
-// The least number that a list holds twice. Each number of it gets the mark, which none had before.
+// Returns the least number that `list` holds twice. Each number of it gets `mark`, which none had before.
 fn least_twice(marks: &mut [u16], mark: u16, list: &[u16]) -> Option<u16>
     requires within { All (λ u. u < length marks.old) list.now }
     requires fresh { All (λ m. m < mark) marks.old }
@@ -82,14 +71,16 @@ fn least_twice(marks: &mut [u16], mark: u16, list: &[u16]) -> Option<u16>
 {
     let mut twice = None;
     for u in list {
-        if meet(marks, *u, mark) {
+        if marks[*u as usize] == mark {
             twice = lesser(twice, *u);
+        } else {
+            marks[*u as usize] = mark;
         }
     }
     twice
 }
 
-// The first vertex whose list holds a number twice, and the least such number.
+// Finds the first vertex whose list holds a number twice, and the least such number.
 pub(crate) fn first_repeated(
     alloc: Global,
     lists: &Rotations,

@@ -6,10 +6,8 @@ mod faults;
 mod laws;
 mod one_sided;
 mod pass;
-mod simple;
+mod searched;
 mod slots;
-mod tables;
-mod twins;
 
 pub use fault::MapFault;
 pub use laws::{first_fault_is_first, no_fault_is_simple};

@@ -6,9 +6,11 @@
 //! it answers that lists are a simple map, and never that they are none.
 ghost use Rattle.std.specs.Prelude.{◌≡◌, ◌+◌, ◌^◌, ◌<◌, ◌≤◌, ℕ, length, slice_index, All};
 ghost use Rattle.std.specs.Bool.{OnTrue};
-ghost use Rattle.map_lists.specs.Cuts.{cut, AreCuts};
+ghost use Rattle.map_lists.specs.Cuts.{joined};
 ghost use Rattle.simple_maps.specs.Tables.{AreSlots};
 ghost use Rattle.simple_maps.specs.Pass.{IsSimpleList, IsPlaced, AreMutual};
+
+use map_lists::Rotations;
 
 /// A slot of a dart keeps its tail, the number of its twin, and what follows from its own number.
 pub trait DartSlot: Copy {
@@ -18,7 +20,7 @@ pub trait DartSlot: Copy {
 
     ghost IsInLine: { Self → ℕ → Type 0 };
 
-    /// Dart number `place`, from `tail` and with this twin.
+    /// Makes the slot of dart number `place`, from `tail` and with this twin.
     fn new(tail: u16, twin: u32, place: u32) -> Self
         requires few { place < 16777216 }
         ensures tail { tail_of result ≡ tail }
@@ -32,12 +34,12 @@ pub(crate) const NO_PLACE: u32 = 1 << 24;
 // A thread names place d of the entries by d more than this.
 const FIRST_PLACE: u32 = NO_PLACE + 1;
 
-// The place that a thread names, or any other number where it names none.
+// Returns the place that a thread names, or any other number where it names none.
 fn place_named(link: u32) -> usize {
     link.wrapping_sub(FIRST_PLACE) as usize
 }
 
-// Whether all entries are below `n`.
+// Says whether all entries are below `n`.
 fn are_below(entries: &[u16], n: usize) -> bool
     ensures { OnTrue result (All (λ u. u < n) entries.now) }
 {
@@ -48,7 +50,7 @@ fn are_below(entries: &[u16], n: usize) -> bool
     (greatest as usize) < n
 }
 
-// Whether all darts have a twin.
+// Says whether all darts have a twin.
 fn are_paired(twins: &[u32]) -> bool
     ensures { OnTrue result (All (λ t. t < 16777216) twins.now) }
 {
@@ -59,20 +61,22 @@ fn are_paired(twins: &[u32]) -> bool
     joined < NO_PLACE
 }
 
-// The list of `v`, as a part of the entries of all lists: from `start` on and before `end`.
+// The list of `v`, as a part of the entries of all lists: from `start` on and before `end`. `before` is the thread of the
+// darts to `v` in the lists before.
 #[derive(Clone, Copy)]
 struct ListPart<'a> {
     entries: &'a [u16],
     start: usize,
     end: usize,
     v: u16,
+    before: u32,
     ghost order: { start ≤ end },
     ghost within: { end ≤ length entries.now },
     ghost few: { length entries.now < 16777216 },
 }
 
 impl ListPart<'_> {
-    // Threads the darts of the list. It answers whether the list holds no number twice and not `v`.
+    // Threads the darts of the list, and says whether the list holds no number twice and not `v`.
     #[inline(always)]
     fn thread(&self, tails: &mut [u16], twins: &mut [u32], newest: &mut [u32]) -> bool
         requires tails { length tails.old ≡ length self.now.entries.now }
@@ -102,7 +106,7 @@ impl ListPart<'_> {
     // Pairs the darts of the list with those to `v` in the lists before, along their thread, which leads from each
     // dart to one before it.
     #[inline(always)]
-    fn pair(&self, thread: u32, tails: &[u16], twins: &mut [u32], newest: &[u32])
+    fn pair(&self, tails: &[u16], twins: &mut [u32], newest: &[u32])
         requires tails { length tails.now ≡ length self.now.entries.now }
         requires twins { length twins.old ≡ length self.now.entries.now }
         requires before { (d : ℕ) → d < self.now.start → slice_index tails.now d < length newest.now }
@@ -111,7 +115,7 @@ impl ListPart<'_> {
         ensures { AreMutual self.now.entries.now tails.now twins.new self.now.end }
     {
         let mut bound = self.start;
-        let mut d = place_named(thread);
+        let mut d = place_named(self.before);
         'along: while d < bound {
             let tail = tails[d];
             let twin = place_named(newest[tail as usize]);
@@ -131,43 +135,43 @@ impl ListPart<'_> {
     }
 }
 
-// Whether lists are found to be a simple map, and then the tails and the twins of their darts. No thread is
+// Says whether lists are found to be a simple map, and then finds the tails and the twins of their darts. No thread is
 // known before: each of `newest` is `NO_PLACE`.
 #[inline(never)]
 pub(crate) fn finds_twins(
-    entries: &[u16],
-    ends: &[usize],
+    lists: &Rotations,
     tails: &mut [u16],
     twins: &mut [u32],
     newest: &mut [u32],
 ) -> bool
-    requires some_list { 0 < length ends.now }
-    requires few_lists { length ends.now < 4096 }
-    requires cuts { AreCuts 0 ends.now (length entries.now) }
-    requires few { length entries.now < 16777216 }
-    requires tails { length tails.old ≡ length entries.now }
-    requires twins { length twins.old ≡ length entries.now }
-    requires newest { length newest.old ≡ length ends.now }
+    requires some_list { 0 < length lists.now }
+    requires few { length (joined lists.now) < 16777216 }
+    requires tails { length tails.old ≡ length (joined lists.now) }
+    requires twins { length twins.old ≡ length (joined lists.now) }
+    requires newest { length newest.old ≡ length lists.now }
     requires unset { All (λ m. 16777216 ≤ m) newest.old }
-    ensures { OnTrue result (AreSlots (cut 0 ends.now entries.now) tails.new twins.new) }
+    ensures { OnTrue result (AreSlots lists.now tails.new twins.new) }
 {
+    lists.facts();
+    let entries = lists.entries();
+    let ends = lists.ends();
     if !are_below(entries, ends.len()) {
         return false;
     }
     let mut start = 0;
     for v in 0..ends.len() {
         let end = ends[v];
-        let thread = newest[v];
         let list = ListPart {
             entries,
             start,
             end,
             v: v as u16,
+            before: newest[v],
         };
         if !list.thread(tails, twins, newest) {
             return false;
         }
-        list.pair(thread, tails, twins, newest);
+        list.pair(tails, twins, newest);
         start = end;
     }
     are_paired(twins)

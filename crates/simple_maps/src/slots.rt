@@ -1,6 +1,5 @@
 //! The tails and twins of the darts of a simple map, as tables or as slots, or the first fault of other lists.
-ghost use Rattle.std.specs.Prelude.{◌≡◌, ◌<◌, ◌++◌, ℕ, length, map, slice_index, OnOk, IfOk, IfErr};
-ghost use Rattle.std.specs.Bool.{OnTrue};
+ghost use Rattle.std.specs.Prelude.{◌≡◌, ◌<◌, ℕ, length, map, slice_index, OnOk, IfErr};
 ghost use Rattle.simple_maps.specs.Faults.{first_fault};
 ghost use Rattle.simple_maps.specs.MapFault.{Names};
 ghost use Rattle.simple_maps.specs.Tables.{AreSlots};
@@ -8,11 +7,11 @@ ghost use Rattle.simple_maps.specs.Pass.{AreInLine};
 
 use crate::MapFault;
 use crate::pass::{DartSlot, NO_PLACE, finds_twins};
-use crate::simple::tables_of;
+use crate::searched::searched_twins;
 use map_lists::Rotations;
 use std::alloc::{AllocError, Global};
 
-// Whether a list is found that has as many entries as there are lists, which no simple map has. Whatever this answers,
+// Says whether a list is found that has as many entries as there are lists, which no simple map has. Whatever this answers,
 // the searches tell the fault: it saves tables for such lists, and passes over lists as short as those of a plane map
 // without a look.
 fn has_long_list(lists: &Rotations) -> bool {
@@ -30,59 +29,7 @@ fn has_long_list(lists: &Rotations) -> bool {
     false
 }
 
-// The tails and the twins by one pass over the lists, which finds them or tells nothing.
-fn found_twins(
-    lists: &Rotations,
-    tails: &mut Vec<u16>,
-    twins: &mut Vec<u32>,
-    threads: &mut Vec<u32>,
-) -> Result<bool, AllocError>
-    requires some_list { 0 < length lists.now }
-    ensures slots { IfOk result (λ found. OnTrue found (AreSlots lists.now tails.new.items twins.new.items)) }
-    ensures count { IfOk result (λ found. OnTrue found (length tails.new.items ≡ length twins.new.items)) }
-{
-    let entries = lists.entries();
-    if entries.len() >= NO_PLACE as usize || has_long_list(lists) {
-        return Ok(false);
-    }
-    tails.resize(entries.len(), 0)?;
-    twins.resize(entries.len(), 0)?;
-    threads.clear();
-    threads.resize(lists.len(), NO_PLACE)?;
-    Ok(finds_twins(entries, lists.ends(), tails, twins, threads))
-}
-
-// Appends the tails of darts.
-fn push_tails(darts: &[(u16, u16)], tails: &mut Vec<u16>) -> Result<(), AllocError>
-    ensures { OnOk result (tails.new.items ≡ tails.old.items ++ map (λ dart. dart.0) darts.now) }
-{
-    for dart in darts {
-        tails.push(dart.0)?;
-    }
-    Ok(())
-}
-
-// The tails and the twins by the exact searches for faults, one kind after another.
-fn searched_twins(
-    alloc: Global,
-    lists: &Rotations,
-    tails: &mut Vec<u16>,
-    twins: &mut Vec<u32>,
-) -> Result<(), MapFault>
-    requires some_list { 0 < length lists.now }
-    ensures slots { OnOk result (AreSlots lists.now tails.new.items twins.new.items) }
-    ensures count { OnOk result (length tails.new.items ≡ length twins.new.items) }
-    ensures fault { IfErr result (Names (first_fault lists.now)) }
-{
-    *tails = Vec::new(alloc);
-    *twins = Vec::new(alloc);
-    let tables = tables_of(alloc, lists)?;
-    push_tails(&tables.ends, tails)?;
-    *twins = tables.twins;
-    Ok(())
-}
-
-/// Makes `tails` and `twins` those of the darts of lists, which are from 1 to 4095, or answers the first
+/// Makes `tails` and `twins` those of the darts of lists, which are from 1 to 4095, or returns the first
 /// fault of the lists.
 ///
 /// The vectors may hold anything before; they are kept by a caller who has many maps, so that their
@@ -100,8 +47,15 @@ pub fn fill_twins(
     ensures count { OnOk result (length tails.new.items ≡ length twins.new.items) }
     ensures fault { IfErr result (Names (first_fault lists.now)) }
 {
-    if found_twins(lists, tails, twins, threads)? {
-        return Ok(());
+    let count = lists.entries().len();
+    if count < NO_PLACE as usize && !has_long_list(lists) {
+        tails.resize(count, 0)?;
+        twins.resize(count, 0)?;
+        threads.clear();
+        threads.resize(lists.len(), NO_PLACE)?;
+        if finds_twins(lists, tails, twins, threads) {
+            return Ok(());
+        }
     }
     searched_twins(alloc, lists, tails, twins)
 }
