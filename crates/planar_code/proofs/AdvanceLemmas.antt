@@ -4,19 +4,19 @@ use Rattle.std.proofs.lemmas.List.{append-nil, length-append, length-take-le, sa
 use Rattle.std.proofs.lemmas.List.Elements.{All-nil}
 use Rattle.std.proofs.lemmas.Grind.{flat_map-append}
 use Rattle.std.proofs.lemmas.Bool.Decides.{nat_tests}
-use Rattle.std.specs.Prelude.{nat_le, IsFalse}
+use Rattle.std.specs.Prelude.{◌⊎◌, nat_le, IsTrue, IsFalse}
 use Rattle.map_lists.specs.Lists.{Lists}
 use Rattle.planar_code.specs.Reading.{record_numbers, two_bytes, IsRecord, is_bad_count}
 use Rattle.planar_code.specs.declared.scan.Phase.{Phase}
-use Rattle.planar_code.specs.declared.scan.Phase.TheVariants.{Start, WideHigh, Narrow, Wide, WideHalf}
+use Rattle.planar_code.specs.declared.scan.Phase.TheVariants.{Start, WideStart, WideHigh, Narrow, Wide, WideHalf}
 use Rattle.planar_code.specs.declared.scan.Scanned.{Scanned}
-use Rattle.planar_code.specs.declared.scan.Scanned.TheVariants.{More, Ended}
+use Rattle.planar_code.specs.declared.scan.Scanned.TheVariants.{More, Ended, Bad}
 use Rattle.planar_code.specs.Open.{Open, numbers_of, IsOpen, Gathers, Collects}
 use Rattle.planar_code.specs.Scan.{bytes_of, IsScanned, GoesOn, Passes, room_of, most_lists, Advances}
 use Rattle.planar_code.proofs.GatherLemmas.{GathersWide, gathers-none, gathers-more, wide-room}
 use Rattle.planar_code.proofs.SplitLemmas.{take-first, take-next, last-split}
 use Rattle.planar_code.proofs.PassLemmas.{Passes-append, narrow-passes, wide_bytes, half-goes_on, wide-push, wide-goes_on, wide-passes, ends-zero}
-use Rattle.planar_code.proofs.ScanLemmas.{zeros, zeros-append, zeros-numbers_of, not_bad-first, not_bad-long, narrow-no_record, wide-no_record, pair_of}
+use Rattle.planar_code.proofs.ScanLemmas.{zeros, zeros-append, zeros-numbers_of, not_bad-first, not_bad-long, zero-no_record, pair-no_record, narrow-no_record, wide-no_record, pair_of}
 
 -- there is no less room than the entries took
 room-by : (most room room' k : ℕ) (b : Bool) → nat_le most_lists most ≡ b → room ≤ room' + k → room_of most room ≤ room_of most room' + k
@@ -46,6 +46,15 @@ ends-with phase old new lent lists piece k some within passes not_bad is none no
 }
 
 module _ (piece : List ℕ) (some : 0 < length piece) (now : Open) (lent : Lists) where
+  -- a first byte 0, and the high byte of a count
+  pub begins-wide : get_or piece 0 0 ≡ 0 → IsScanned Start now → Advances Start now lent piece WideStart (More 1) now lent
+  begins-wide at is =
+      one-more Start WideStart now now lent piece 0 some at is (refl, zero-no_record) refl refl (omega arith)
+
+  pub begins-high : (b : ℕ) → get_or piece 0 0 ≡ b → IsScanned WideStart now → Advances WideStart now lent piece (WideHigh b) (More 1) now lent
+  begins-high b at is =
+      one-more WideStart (WideHigh b) now now lent piece b some at is (refl, pair-no_record b) refl refl (omega arith)
+
   -- a first byte that is the number of lists
   pub begins-narrow : (b : ℕ) → get_or piece 0 0 ≡ b → 0 < b → b < 256 → IsScanned Start now → Advances Start now lent piece (Narrow b) (More 1) now lent
   begins-narrow b at positive small is =
@@ -53,6 +62,17 @@ module _ (piece : List ℕ) (some : 0 < length piece) (now : Open) (lent : Lists
       (record { few_lists = small; some_left = rw is.0 positive; small_lists = rw is.0 (All-nil (λ us. All (λ u. u < 255) us)); small_last = rw is.1 (All-nil (λ u. u < 255)) })
       (not_bad-first b [] positive, narrow-no_record b [] positive positive)
       (rw (is.0, is.1) refl) refl (omega arith)
+
+  -- a bad count
+  pub count-bad : (high low n : ℕ) → get_or piece 0 0 ≡ low → n ≡ 256 * high + low → (n ≡ 0) ⊎ ((n ≡ 0 → ⊥) × (4095 < n)) → IsScanned (WideHigh high) now → Advances (WideHigh high) now lent piece (WideHigh high) (Bad 1) now lent
+  count-bad high low n at is_n bad is =
+      let first : low ∷ [] ≡ take 1 piece = ap (λ (x : ℕ). x ∷ []) (sym at) ∙ sym (take-first piece some) in
+      let P : List ℕ → Type 0 = λ x. IsTrue (is_bad_count (0 ∷ high ∷ x)) in
+      record { is = is; scans = ((omega arith, omega arith, tt), subst P first (bad_bytes high low (rw is_n at bad)), refl, refl); some = omega arith }
+    where
+      bad_bytes : (high low : ℕ) → (256 * high + low ≡ 0) ⊎ ((256 * high + low ≡ 0 → ⊥) × (4095 < 256 * high + low)) → IsTrue (is_bad_count (0 ∷ high ∷ low ∷ []))
+      bad_bytes high low (inl none) = grind (arith, nat_tests)
+      bad_bytes high low (inr (_, many)) = grind (arith, nat_tests)
 
   -- a count
   pub count-ends : (high low n : ℕ) → get_or piece 0 0 ≡ low → low < 256 → n ≡ 256 * high + low → 0 < n → n ≤ 4095 → IsScanned (WideHigh high) now → Advances (WideHigh high) now lent piece (Wide n) (More 1) now lent
@@ -203,10 +223,10 @@ half-begins count low old lent piece some at is =
     one-more (Wide count) (WideHalf count low) old old lent piece low some at is
     (half-goes_on count low (numbers_of old.lists old.last)) refl refl (omega arith)
 
-module _ (count high low n : ℕ) (old new : Open) (lent : Lists) (piece : List ℕ) (some : 0 < length piece) (at : get_or piece 0 0 ≡ low) (small : low < 256) (is_n : n ≡ 256 * high + low) (fits : n < 65536) where
+module _ (count high low n : ℕ) (old new : Open) (lent : Lists) (piece : List ℕ) (some : 0 < length piece) (at : get_or piece 0 0 ≡ low) (small : low < 256) (is_n : n ≡ 256 * high + low) (fits : n < 65536) (is : IsScanned (WideHalf count high) old) (collects : Collects n old.lists old.last new.lists new.last) (room : old.room ≤ new.room + 1) (most : new.most ≡ old.most) where
   -- its other half joins the lists
-  pub half-gathers : IsScanned (WideHalf count high) old → Collects n old.lists old.last new.lists new.last → old.room ≤ new.room + 1 → new.most ≡ old.most → Gathers 65535 count (n ∷ []) old new
-  half-gathers is collects room most =
+  pub half-gathers : Gathers 65535 count (n ∷ []) old new
+  half-gathers =
       gathers-more 65535 count n [] old old new (omega arith) is.some_left (gathers-none 4096 65535 count old is) collects room most
 
   halves : (n / 256 ≡ high) × (n % 256 ≡ low)
@@ -216,8 +236,9 @@ module _ (count high low n : ℕ) (old new : Open) (lent : Lists) (piece : List 
   half-bytes = sym (wide-push count n (numbers_of old.lists old.last)) ∙ ap (λ (x : ℕ). (wide_bytes count (numbers_of old.lists old.last) ++ x ∷ []) ++ (n % 256) ∷ []) halves.0 ∙ ap (λ (x : ℕ). (wide_bytes count (numbers_of old.lists old.last) ++ high ∷ []) ++ x ∷ []) halves.1
 
   -- where it leaves some open
-  pub half-more : IsScanned (WideHalf count high) old → Gathers 65535 count (n ∷ []) old new → (length new.lists ≡ count → ⊥) → Advances (WideHalf count high) old lent piece (Wide count) (More 1) new lent
-  half-more is gathers not =
+  pub half-more : (length new.lists ≡ count → ⊥) → Advances (WideHalf count high) old lent piece (Wide count) (More 1) new lent
+  half-more not =
+      let gathers = half-gathers in
       let f = gathers.few in
       let few : zeros (numbers_of old.lists old.last ++ n ∷ []) < count = omega (arith, ap zeros gathers.joined, zeros-numbers_of new.lists new.last, not) in
       let P : List ℕ → Type 0 = λ x. GoesOn x in
@@ -228,8 +249,9 @@ module _ (count high low n : ℕ) (old new : Open) (lent : Lists) (piece : List 
       gathers.most gathers.room
 
   -- and where it ends the record
-  pub half-ends : (after : Open) (lists : Lists) → IsScanned (WideHalf count high) old → Gathers 65535 count (n ∷ []) old new → length new.lists ≡ count → lists ≡ new.lists → after.lists ≡ [] → after.last ≡ [] → Advances (WideHalf count high) old lent piece Start (Ended 1) after lists
-  half-ends after lists is gathers all same none none' =
+  pub half-ends : (after : Open) (lists : Lists) → length new.lists ≡ count → lists ≡ new.lists → after.lists ≡ [] → after.last ≡ [] → Advances (WideHalf count high) old lent piece Start (Ended 1) after lists
+  half-ends after lists all same none none' =
+      let gathers = half-gathers in
       let positive : length old.lists < count = is.some_left in
       let numbers : numbers_of new.lists new.last ≡ record_numbers new.lists = rw (gathers.full all) (append-nil (record_numbers new.lists)) in
       let first : low ∷ [] ≡ take 1 piece = ap (λ (x : ℕ). x ∷ []) (sym at) ∙ sym (take-first piece some) in

@@ -1,5 +1,5 @@
 -- The bytes passed at an offset, and more of them.
-use Rattle.std.proofs.Common.{◌≡◌, ℕ, ◌+◌, ◌-◌, ◌<◌, ◌≤◌, List, [], ◌∷◌, ◌++◌, length, take, drop, refl, sym, ap, subst, ◌∙◌, arith, append_assoc}
+use Rattle.std.proofs.Common.{◌≡◌, ℕ, ◌+◌, ◌-◌, ◌<◌, ◌≤◌, List, [], ◌∷◌, ◌++◌, length, take, drop, min, refl, sym, ap, subst, ◌∙◌, arith, append_assoc}
 use Rattle.std.proofs.lemmas.List.{append-nil, take-append-drop, take_rest, take-take, length-drop, length-take}
 use Rattle.std.specs.Prelude.{slice_range, IsTrue, IsFalse}
 use Rattle.map_lists.specs.Lists.{Lists}
@@ -22,12 +22,17 @@ passed-from bytes (b ∷ more) none none' passes =
 pub passed-all : (bytes : List ℕ) → Passes [] bytes → NoRecord bytes × IsFalse (has_bad_count bytes)
 passed-all bytes passes = passed-from [] bytes NoRecord-nil refl passes
 
-module _ (rest scanned piece : List ℕ) (passed k : ℕ) (within : passed ≤ length rest) (same : scanned ≡ take passed rest) (is : piece ≡ take (length piece) (take (length rest - passed) (drop passed rest))) (less : k ≤ length piece) where
+-- a piece of the rest, of which k bytes are taken
+module _ (rest scanned : List ℕ) (passed end k : ℕ) (within : passed ≤ length rest) (same : scanned ≡ take passed rest) (less : k ≤ length (take (end - passed) (drop passed rest))) where
+  abbrev piece : List ℕ
+  piece = take (end - passed) (drop passed rest)
+
+  long : length piece ≡ min (end - passed) (length (drop passed rest))
+  long = length-take (end - passed) (drop passed rest)
+
   -- the next bytes, as a part of the rest
   next-part : take k piece ≡ take k (drop passed rest)
-  next-part =
-      ap (λ (x : List ℕ). take k x) is ∙ take-take k (length piece) (take (length rest - passed) (drop passed rest)) less
-      ∙ ap (λ (x : List ℕ). take k x) (take_rest rest passed)
+  next-part = take-take k (end - passed) (drop passed rest) (omega (arith, less, long))
 
   -- the bytes passed and the next ones
   pub next-joined : scanned ++ take k piece ≡ take (passed + k) rest
@@ -36,11 +41,7 @@ module _ (rest scanned piece : List ℕ) (passed k : ℕ) (within : passed ≤ l
 
   -- they are no more than the rest
   pub next-within : passed + k ≤ length rest
-  next-within =
-      let long = ap length is in
-      let far = length-take (length piece) (take (length rest - passed) (drop passed rest)) in
-      let near = ap length (take_rest rest passed) in
-      omega (arith, length-drop passed rest)
+  next-within = omega (arith, less, long, length-drop passed rest)
 
 -- bytes that pass behind those that passed
 pub next-passes : (rest piece : List ℕ) (passed k : ℕ) → Passes [] (take passed rest) → Passes (take passed rest) (take k piece) → take passed rest ++ take k piece ≡ take (passed + k) rest → Passes [] (take (passed + k) rest)

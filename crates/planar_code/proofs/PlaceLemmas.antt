@@ -81,7 +81,7 @@ module _ (old new : Scan) (place : Place) (piece : List ℕ) (off : IsFalse plac
       append_assoc old.bytes (take (k - 1) piece) (get_or piece (k - 1) 0 ∷ []) ∙ ap (λ (x : List ℕ). old.bytes ++ x) (sym (take-next piece k some within))
 
   -- A piece where no header comes, as the reader answers it.
-  pub plain-takes : (scanned : Scanned) → Scans old piece scanned new → Exhausts piece scanned → Takes (state_of old place) piece (told place scanned) (state_of new (moved place scanned))
+  plain-takes : (scanned : Scanned) → Scans old piece scanned new → Exhausts piece scanned → Takes (state_of old place) piece (told place scanned) (state_of new (moved place scanned))
   plain-takes (ScannedMore k) scans whole =
       let all : take k piece ≡ piece = take_all k piece (omega (arith, whole)) in
       let P : List ℕ → Type 0 = λ x. Passes old.bytes x in
@@ -128,7 +128,7 @@ module _ (old new : Scan) (place : Place) (piece : List ℕ) (off : IsFalse plac
       )
 
   -- What the reader keeps of the bytes pending then.
-  pub plain-counted : (scanned : Scanned) → Scans old piece scanned new → IsCounted (moved place scanned).header_may_come new.bytes (moved place scanned).pending_len (moved place scanned).in_header
+  plain-counted : (scanned : Scanned) → Scans old piece scanned new → IsCounted (moved place scanned).header_may_come new.bytes (moved place scanned).pending_len (moved place scanned).in_header
   plain-counted (ScannedMore k) scans = (
     omega (arith, ap length scans.2, length-append old.bytes (take k piece), length-take-le k piece scans.0, counted.0),
     off ∙ sym (rw scans.2 (no_header-all place.header_may_come old.bytes (take k piece) no_header)),
@@ -140,6 +140,18 @@ module _ (old new : Scan) (place : Place) (piece : List ℕ) (off : IsFalse plac
         omega (arith, ap length scans.2, length-append old.bytes (take (k - 1) piece), length-take-le (k - 1) piece (omega arith), counted.0),
         off ∙ sym (rw scans.2 (no_header-all place.header_may_come old.bytes (take (k - 1) piece) no_header)),
       )
+
+  -- A piece where no header comes, with the answer and the place told by equations.
+  pub answered-takes : (scanned : Scanned) (place' : Place) (taken : Taken) → place' ≡ moved place scanned → taken ≡ told place scanned → Scans old piece scanned new → Exhausts piece scanned → Takes (state_of old place) piece taken (state_of new place')
+  answered-takes scanned place' taken moves tells scans whole =
+      let P : Place → Type 0 = λ p. Takes (state_of old place) piece taken (state_of new p) in
+      let Q : Taken → Type 0 = λ t. Takes (state_of old place) piece t (state_of new (moved place scanned)) in
+      subst P (sym moves) (subst Q (sym tells) (plain-takes scanned scans whole))
+
+  pub answered-counted : (scanned : Scanned) (place' : Place) → place' ≡ moved place scanned → Scans old piece scanned new → IsCounted place'.header_may_come new.bytes place'.pending_len place'.in_header
+  answered-counted scanned place' moves scans =
+      let P : Place → Type 0 = λ p. IsCounted p.header_may_come new.bytes p.pending_len p.in_header in
+      subst P (sym moves) (plain-counted scanned scans)
 
 -- the same of a stop
 stops-parts : (old mid : State) (piece : List ℕ) (n k : ℕ) → n ≤ length piece → AllJoin old (take n piece) → mid ≡ after_all old (take n piece) → (Does : State → ℕ → Type 0) → StopsAt mid (drop n piece) k Does → StopsAt old piece (n + k) Does

@@ -85,6 +85,15 @@ zero-not_narrow xs lists is =
     let none : 0 ≡ length lists = cc in
     omega (arith, is.some_list)
 
+-- a byte 0 is no record, and it is none with one byte more
+pub zero-no_record : (lists : Lists) → IsRecord (0 ∷ []) lists → ⊥
+zero-no_record lists (inl is) = zero-not_narrow [] lists is
+zero-no_record lists (inr is) = let spelled = is.spelled in cc
+
+pub pair-no_record : (b : ℕ) (lists : Lists) → IsRecord (0 ∷ b ∷ []) lists → ⊥
+pair-no_record b lists (inl is) = zero-not_narrow (b ∷ []) lists is
+pair-no_record b lists (inr is) = let spelled = is.spelled in cc
+
 -- numbers with fewer zeros than the count says are no narrow record
 pub narrow-no_record : (n : ℕ) (xs : List ℕ) → 0 < n → zeros xs < n → (lists : Lists) → IsRecord (n ∷ xs) lists → ⊥
 narrow-no_record n xs positive few lists (inl is) =

@@ -1,13 +1,19 @@
 -- What a scanner makes of a piece, part by part.
-use Rattle.std.proofs.Common.{◌≡◌, ℕ, ◌+◌, ◌-◌, ◌≤◌, List, ◌++◌, length, take, drop, refl, sym, ap, subst, ◌∙◌, arith, append_assoc}
+use Rattle.std.proofs.Common.{◌≡◌, ℕ, ◌+◌, ◌-◌, ◌≤◌, List, ◌++◌, length, take, drop, sym, ap, subst, ◌∙◌, arith, append_assoc}
 use Rattle.std.proofs.lemmas.List.{length-drop, take-append-drop, length-take-le, take_rest}
 use Rattle.std.proofs.Math.Seq.{take-append-add}
 use Rattle.std.specs.Prelude.{IsTrue, IsFalse}
 use Rattle.planar_code.specs.Reading.{IsRecord, is_bad_count}
 use Rattle.planar_code.specs.declared.scan.Scanned.{Scanned}
 use Rattle.planar_code.specs.declared.scan.Scanned.TheVariants.{More, Ended, Bad}
-use Rattle.planar_code.specs.Scan.{Scan, Passes, PassesBefore, Scans, Exhausts, shifted}
+use Rattle.planar_code.specs.Scan.{Scan, Passes, PassesBefore, Scans}
 use Rattle.planar_code.proofs.PassLemmas.{Passes-append}
+
+-- what was scanned, behind bytes of the piece that passed
+abbrev pub shifted : ℕ → Scanned → Scanned
+shifted passed (More k) = More (passed + k)
+shifted passed (Ended k) = Ended (passed + k)
+shifted passed (Bad k) = Bad (passed + k)
 
 -- the first bytes of a piece, in two parts
 pub take-parts : (piece : List ℕ) (n k : ℕ) → n ≤ length piece → take (n + k) piece ≡ take n piece ++ take k (drop n piece)
@@ -74,9 +80,3 @@ Scans-rest old mid new piece n scanned scanned' same first then =
     let P : List ℕ → Type 0 = λ x. Scans mid x scanned new in
     let Q : Scanned → Type 0 = λ x. Scans old piece (shifted n x) new in
     subst Q same (Scans-parts old mid new piece n scanned first (subst P (take_rest piece n) then))
-
--- a piece that was stopped within owes nothing more
-pub stopped-exhausts : (piece : List ℕ) (n : ℕ) (scanned : Scanned) → ((k : ℕ) → scanned ≡ More k → ⊥) → Exhausts piece (shifted n scanned)
-stopped-exhausts piece n (More k) not = absurd (not k refl)
-stopped-exhausts piece n (Ended k) not = tt
-stopped-exhausts piece n (Bad k) not = tt

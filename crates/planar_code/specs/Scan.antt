@@ -86,12 +86,6 @@ seen_of (More k) = k
 seen_of (Ended k) = k
 seen_of (Bad k) = k
 
--- the same behind bytes of the piece that passed
-abbrev pub shifted : ℕ → Scanned → Scanned
-shifted passed (More k) = More (passed + k)
-shifted passed (Ended k) = Ended (passed + k)
-shifted passed (Bad k) = Bad (passed + k)
-
 -- a whole piece passed, unless it was stopped within
 abbrev pub Exhausts : List ℕ → Scanned → Type 0
 Exhausts piece (More k) = k ≡ length piece

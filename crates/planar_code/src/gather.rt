@@ -8,33 +8,31 @@ ghost use Rattle.planar_code.specs.declared.scan.Phase.TheVariants.{Narrow, Wide
 
 use super::open::OpenLists;
 use map_lists::Rotations;
-use std::alloc::Global;
-use std::mem;
 
-/// The number of two bytes, the greater first.
+/// Returns the number of two bytes, the greater first.
 pub fn number_of(high: u8, low: u8) -> u16
     ensures { result ≡ 256 * high + low }
 {
     u16::from(high) * 256 + u16::from(low)
 }
 
-/// Numbers of one byte each join the lists, up to the one that closes list number `count`. It answers
+/// Lets numbers of one byte each join the lists, up to the one that closes list number `count`. It answers
 /// how many bytes they were.
 ///
 /// The lists are a value of its own for the loop, so that their ends stay in registers.
-pub fn gather_narrow(alloc: Global, gathered: &mut OpenLists, count: usize, piece: &[u8]) -> usize
+pub fn gather_narrow(gathered: &mut OpenLists, count: usize, piece: &[u8]) -> usize
     requires { CanGather 0 (Narrow count) count gathered.old piece.now }
     ensures some { 0 < result }
     ensures within { result ≤ length piece.now }
     ensures gathers { Gathers 255 count (take result piece.now) gathered.old gathered.new }
 {
-    let mut lists = mem::replace(gathered, OpenLists::new(alloc));
+    let mut lists = gathered.take_out();
     let taken = narrow_numbers(&mut lists, count, piece);
     *gathered = lists;
     taken
 }
 
-// The place behind the last 0, or the begin.
+// Returns the place behind the last 0, or the begin.
 fn behind_last_zero(piece: &[u8]) -> usize
     ensures within { result ≤ length piece.now }
     ensures zero { 0 < result → slice_index piece.now (result - 1) ≡ 0 }
@@ -50,7 +48,7 @@ fn behind_last_zero(piece: &[u8]) -> usize
     0
 }
 
-// The loops of `gather_narrow`. As far as a 0 is still to come no number is asked whether it is the last of the
+// Does the loops of `gather_narrow`. As far as a 0 is still to come no number is asked whether it is the last of the
 // piece, and behind the last 0 no list is closed.
 #[inline(always)]
 fn narrow_numbers(gathered: &mut OpenLists, count: usize, piece: &[u8]) -> usize
@@ -78,22 +76,22 @@ fn narrow_numbers(gathered: &mut OpenLists, count: usize, piece: &[u8]) -> usize
     piece.len()
 }
 
-/// Numbers of two bytes each join the lists, up to the one that closes list number `count`. It answers
+/// Lets numbers of two bytes each join the lists, up to the one that closes list number `count`. It answers
 /// how many bytes they were; a last byte alone is none of them.
-pub fn gather_wide(alloc: Global, gathered: &mut OpenLists, count: usize, piece: &[u8]) -> usize
+pub fn gather_wide(gathered: &mut OpenLists, count: usize, piece: &[u8]) -> usize
     requires { CanGather 1 (Wide count) count gathered.old piece.now }
     ensures some { 0 < result }
     ensures within { result ≤ length piece.now }
     ensures gathers { (numbers : List ℕ) × (flat_map two_bytes numbers ≡ take result piece.now)
         × Gathers 65535 count numbers gathered.old gathered.new }
 {
-    let mut lists = mem::replace(gathered, OpenLists::new(alloc));
+    let mut lists = gathered.take_out();
     let taken = wide_numbers(&mut lists, count, piece);
     *gathered = lists;
     taken
 }
 
-// The number of the pair of bytes at `pair`.
+// Returns the number of the pair of bytes at `pair`.
 fn pair_at(piece: &[u8], pair: usize) -> u16
     requires { 2 * pair + 1 < length piece.now }
     ensures { result ≡ 256 * slice_index piece.now (2 * pair) + slice_index piece.now (2 * pair + 1) }
@@ -101,7 +99,7 @@ fn pair_at(piece: &[u8], pair: usize) -> u16
     number_of(piece[2 * pair], piece[2 * pair + 1])
 }
 
-// How many pairs of bytes there are up to the last number 0, or none.
+// Returns how many pairs of bytes there are up to the last number 0, or none.
 fn pairs_to_last_zero(piece: &[u8]) -> usize
     ensures within { 2 * result ≤ length piece.now }
     ensures zero { 0 < result → 256 * slice_index piece.now (2 * (result - 1)) + slice_index piece.now (2 * (result - 1) + 1) ≡ 0 }
@@ -117,7 +115,7 @@ fn pairs_to_last_zero(piece: &[u8]) -> usize
     0
 }
 
-// The loops of `gather_wide`, as those of `narrow_numbers`.
+// Does the loops of `gather_wide`, as those of `narrow_numbers`.
 #[inline(always)]
 fn wide_numbers(gathered: &mut OpenLists, count: usize, piece: &[u8]) -> usize
     requires { CanGather 1 (Wide count) count gathered.old piece.now }
@@ -149,12 +147,7 @@ fn wide_numbers(gathered: &mut OpenLists, count: usize, piece: &[u8]) -> usize
 }
 
 /// Lends the lists if they are as many as the count says.
-pub fn lend_whole(
-    alloc: Global,
-    gathered: &mut OpenLists,
-    lent: &mut Rotations,
-    count: usize,
-) -> bool
+pub fn lend_whole(gathered: &mut OpenLists, lent: &mut Rotations, count: usize) -> bool
     requires whole { length gathered.old.lists ≡ count → gathered.old.last ≡ [] }
     requires few { count < 4096 }
     ensures whole { OnTrue result ((length gathered.old.lists ≡ count) × (lent.new ≡ gathered.old.lists)
@@ -162,7 +155,7 @@ pub fn lend_whole(
     ensures not { OnFalse result ((length gathered.old.lists ≢ count) × (gathered.new ≡ gathered.old) × (lent.new ≡ lent.old)) }
 {
     if gathered.closed() == count {
-        gathered.exchange(alloc, lent);
+        gathered.exchange(lent);
         true
     } else {
         false

@@ -1,5 +1,5 @@
 //! Records of bytes that are all there.
-ghost use Rattle.std.specs.Prelude.{◌≡◌, ◌<◌, ◌≤◌, length, take, MatchResult};
+ghost use Rattle.std.specs.Prelude.{◌≡◌, ◌≤◌, length, MatchResult};
 ghost use Rattle.planar_code.specs.Reading.{header_of};
 ghost use Rattle.planar_code.specs.Step.{StandsAt, FailsAt};
 
@@ -31,7 +31,7 @@ pub enum CodeFault {
 /// For how many bytes room is made at once.
 const AT_ONCE: usize = 4096;
 
-/// The record at the offset `at`, which is at most the length of the bytes.
+/// Reads the record at the offset `at`, which is at most the length of the bytes.
 pub fn next_record(alloc: Global, bytes: &[u8], at: usize) -> Result<Step, CodeFault>
     requires { at ≤ length bytes.now }
     ensures { MatchResult result (StandsAt bytes.now at) (FailsAt bytes.now at) }
@@ -40,7 +40,8 @@ pub fn next_record(alloc: Global, bytes: &[u8], at: usize) -> Result<Step, CodeF
     let mut scanner = Scanner::new(alloc);
     let mut passed = 0;
     while passed < rest.len() {
-        let piece = front_of(&rest[passed..]);
+        let size = (rest.len() - passed).min(AT_ONCE);
+        let piece = &rest[passed..passed + size];
         if scanner.reserve(piece.len()).is_err() {
             return Err(CodeFault::NoMemory);
         }
@@ -57,20 +58,7 @@ pub fn next_record(alloc: Global, bytes: &[u8], at: usize) -> Result<Step, CodeF
     }
 }
 
-/// The first bytes of some, at most as many as there is room made for at once.
-fn front_of(bytes: &[u8]) -> &[u8]
-    requires { 0 < length bytes.now }
-    ensures some { 0 < length result.now }
-    ensures front { result.now ≡ take (length result.now) bytes.now }
-{
-    if bytes.len() < AT_ONCE {
-        bytes
-    } else {
-        &bytes[..AT_ONCE]
-    }
-}
-
-/// The offset of the first record: 15 where the bytes begin with the header, and 0 otherwise.
+/// Returns the offset of the first record: 15 where the bytes begin with the header, and 0 otherwise.
 pub fn after_header(bytes: &[u8]) -> usize
     ensures { result ≡ length (header_of bytes.now) }
 {

@@ -10,6 +10,7 @@ use std::mem;
 /// Lists as their numbers come: those that are closed, and the open one.
 #[derive(Drop)]
 pub struct OpenLists {
+    alloc: Global,
     // the entries of all lists, one list after another
     entries: Vec<u16>,
     // for each closed list the place behind its last entry
@@ -34,15 +35,23 @@ impl Model for OpenLists {
 }
 
 impl OpenLists {
-    /// No lists. It takes no memory.
+    /// Makes no lists. It takes no memory.
     pub fn new(alloc: Global) -> Self
         ensures lists { result.lists ≡ [] }
         ensures last { result.last ≡ [] }
     {
         OpenLists {
+            alloc,
             entries: Vec::new(alloc),
             ends: Vec::new(alloc),
         }
+    }
+
+    /// Takes the lists out, and leaves none.
+    pub fn take_out(&mut self) -> OpenLists
+        ensures { result ≡ self.old }
+    {
+        mem::replace(self, OpenLists::new(self.alloc))
     }
 
     /// Makes room for so many more entries and for so many lists. The lists stay.
@@ -59,7 +68,7 @@ impl OpenLists {
         Ok(())
     }
 
-    /// A number joins the lists: 0 closes the open one.
+    /// Lets a number join the lists: 0 closes the open one.
     pub fn collect(&mut self, number: u16)
         requires room { 0 < self.old.room }
         requires most { length self.old.lists < self.old.most }
@@ -74,7 +83,7 @@ impl OpenLists {
         }
     }
 
-    /// How many lists are closed.
+    /// Returns how many lists are closed.
     pub fn closed(&self) -> usize
         ensures { result ≡ length self.now.lists }
     {
@@ -82,7 +91,7 @@ impl OpenLists {
     }
 
     /// Gives the lists away in place of those that were lent before, whose memory is kept.
-    pub fn exchange(&mut self, alloc: Global, lent: &mut Rotations)
+    pub fn exchange(&mut self, lent: &mut Rotations)
         requires whole { self.old.last ≡ [] }
         requires few { length self.old.lists < 4096 }
         ensures lent { lent.new ≡ self.old.lists }
@@ -91,11 +100,12 @@ impl OpenLists {
     {
         let (mut old_entries, mut old_ends) = mem::replace(
             lent,
-            Rotations::new(alloc),
+            Rotations::new(self.alloc),
         ).into_parts();
         old_entries.clear();
         old_ends.clear();
         let kept = OpenLists {
+            alloc: self.alloc,
             entries: old_entries,
             ends: old_ends,
         };

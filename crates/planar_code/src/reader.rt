@@ -71,7 +71,7 @@ const BEHIND_HEADER: Place = Place {
     in_header: false,
 };
 
-/// Whether bytes that are a front of the header or not, of this length, are one with one byte more.
+/// Says whether bytes that are a front of the header or not, of this length, are one with one byte more.
 fn goes_on(in_header: bool, length: usize, byte: u8) -> bool
     ensures { IsTrue result
         ↔ (IsTrue in_header × (length < 15) × (byte ≡ slice_index header length)) }
@@ -79,7 +79,7 @@ fn goes_on(in_header: bool, length: usize, byte: u8) -> bool
     in_header && length < HEADER.len() && byte == HEADER[length]
 }
 
-/// Whether a byte ends the header, where the bytes behind it are a front of one, of this length.
+/// Says whether a byte ends the header, where the bytes behind it are a front of one, of this length.
 fn ends_header(in_header: bool, length: usize) -> bool
     ensures { result ≡ (in_header && (length == 15)) }
 {
@@ -114,17 +114,6 @@ fn answer(place: &mut Place, scanned: Scanned) -> Taken
     }
 }
 
-/// Takes a piece where no header may end in it.
-fn take_plain(scanner: &mut Scanner, place: &mut Place, piece: &[u8]) -> Taken
-    requires can { CanRead scanner.old place.old piece.now }
-    requires no_header { IsFalse place.old.in_header }
-    ensures takes { Takes (state_of scanner.old place.old) piece.now result (state_of scanner.new place.new) }
-    ensures counted { IsCounted place.new.header_may_come scanner.new.bytes place.new.pending_len place.new.in_header }
-{
-    let scanned = scanner.take(piece);
-    answer(place, scanned)
-}
-
 /// Takes a byte, with which the header may end.
 fn take_byte(scanner: &mut Scanner, place: &mut Place, byte: u8) -> Taken
     requires { CanRead scanner.old place.old (byte ∷ []) }
@@ -157,7 +146,8 @@ fn take_piece(scanner: &mut Scanner, place: &mut Place, piece: &[u8]) -> Taken
 {
     for k in 0..piece.len() {
         if !place.in_header {
-            let taken = take_plain(scanner, place, &piece[k..]);
+            let scanned = scanner.take(&piece[k..]);
+            let taken = answer(place, scanned);
             return shift(k, taken);
         }
         match take_byte(scanner, place, piece[k]) {
@@ -190,7 +180,7 @@ impl Model for RecordReader {
 impl RecordReader {
     ghost use Rattle.planar_code.specs.State.{at_front};
 
-    /// A reader before the first byte of a file: nothing is pending, and a header may come. It takes
+    /// Makes a reader before the first byte of a file: nothing is pending, and a header may come. It takes
     /// no memory.
     pub fn new(alloc: Global) -> Self
         ensures { result ≡ at_front }
@@ -206,21 +196,21 @@ impl RecordReader {
         }
     }
 
-    /// The offset in the file of the first byte of the record that has begun, or of the next byte.
+    /// Returns the offset in the file of the first byte of the record that has begun, or of the next byte.
     pub fn start(&self) -> usize
         ensures { result ≡ self.now.start }
     {
         self.place.start
     }
 
-    /// Whether nothing is pending.
+    /// Says whether nothing is pending.
     pub fn is_between(&self) -> bool
         ensures { IsTrue result ↔ (self.now.pending ≡ []) }
     {
         self.place.pending_len == 0
     }
 
-    /// The lists of the record that `take` has ended last, numbered from 0. There are none before the
+    /// Lends the lists of the record that `take` has ended last, numbered from 0. There are none before the
     /// first, and none after a record that `feed` has handed over.
     pub fn lists(&self) -> &Rotations
         ensures { result.now ≡ self.now.lists }

@@ -3,10 +3,8 @@
 //! A scanner keeps the lists that are closed, the entries of the open one, and where in the record it
 //! stands. So no byte is stored twice, and each is handled once.
 ghost use Rattle.std.specs.Prelude.{◌≡◌, ◌+◌, ◌<◌, ◌≤◌, [], length, OnOk};
-ghost use Rattle.map_lists.specs.Lists.{Lists};
-ghost use Rattle.planar_code.specs.Open.{Open};
-ghost use Rattle.planar_code.specs.Scan.{Scans, Exhausts, IsScanned, CanTake, Advances, seen_of, shifted};
-ghost use Rattle.planar_code.specs.declared.scan.Phase.TheVariants.{Start, WideStart, WideHigh, Narrow, Wide, WideHalf};
+ghost use Rattle.planar_code.specs.Scan.{Scans, Exhausts, CanTake, Advances, seen_of};
+ghost use Rattle.planar_code.specs.declared.scan.Phase.TheVariants.{Narrow, Wide};
 
 use super::gather::{gather_narrow, gather_wide, lend_whole, number_of};
 use super::open::OpenLists;
@@ -46,45 +44,8 @@ pub enum Phase {
 /// The most lists that a record may have.
 const MOST_LISTS: u16 = 4095;
 
-/// The first byte of a record.
-fn begin(piece: &[u8]) -> (Phase, Scanned)
-    requires { 0 < length piece.now }
-    ensures { (gathered : Open) (lent : Lists) → IsScanned Start gathered
-        → Advances Start gathered lent piece.now result.0 result.1 gathered lent }
-{
-    if piece[0] == 0 {
-        (Phase::WideStart, Scanned::More(1))
-    } else {
-        (Phase::Narrow(piece[0]), Scanned::More(1))
-    }
-}
-
-/// The high byte of the count of a wide record.
-fn begin_wide(piece: &[u8]) -> (Phase, Scanned)
-    requires { 0 < length piece.now }
-    ensures { (gathered : Open) (lent : Lists) → IsScanned WideStart gathered
-        → Advances WideStart gathered lent piece.now result.0 result.1 gathered lent }
-{
-    (Phase::WideHigh(piece[0]), Scanned::More(1))
-}
-
-/// The low byte of the count of a wide record.
-fn end_count(high: u8, piece: &[u8]) -> (Phase, Scanned)
-    requires { 0 < length piece.now }
-    ensures { (gathered : Open) (lent : Lists) → IsScanned (WideHigh high) gathered
-        → Advances (WideHigh high) gathered lent piece.now result.0 result.1 gathered lent }
-{
-    let count = number_of(high, piece[0]);
-    if count == 0 || count > MOST_LISTS {
-        (Phase::WideHigh(high), Scanned::Bad(1))
-    } else {
-        (Phase::Wide(count), Scanned::More(1))
-    }
-}
-
-/// Lists of a narrow record.
+/// Takes lists of a narrow record.
 fn take_narrow(
-    alloc: Global,
     gathered: &mut OpenLists,
     lent: &mut Rotations,
     count: u8,
@@ -93,17 +54,16 @@ fn take_narrow(
     requires { CanTake (Narrow count) gathered.old piece.now }
     ensures { Advances (Narrow count) gathered.old lent.old piece.now result.0 result.1 gathered.new lent.new }
 {
-    let taken = gather_narrow(alloc, gathered, usize::from(count), piece);
-    if lend_whole(alloc, gathered, lent, usize::from(count)) {
+    let taken = gather_narrow(gathered, usize::from(count), piece);
+    if lend_whole(gathered, lent, usize::from(count)) {
         (Phase::Start, Scanned::Ended(taken))
     } else {
         (Phase::Narrow(count), Scanned::More(taken))
     }
 }
 
-/// Lists of a wide record, from the front of a number.
+/// Takes lists of a wide record, from the front of a number.
 fn take_wide(
-    alloc: Global,
     gathered: &mut OpenLists,
     lent: &mut Rotations,
     count: u16,
@@ -115,37 +75,16 @@ fn take_wide(
     if piece.len() == 1 {
         return (Phase::WideHalf(count, piece[0]), Scanned::More(1));
     }
-    let taken = gather_wide(alloc, gathered, usize::from(count), piece);
-    if lend_whole(alloc, gathered, lent, usize::from(count)) {
+    let taken = gather_wide(gathered, usize::from(count), piece);
+    if lend_whole(gathered, lent, usize::from(count)) {
         (Phase::Start, Scanned::Ended(taken))
     } else {
         (Phase::Wide(count), Scanned::More(taken))
     }
 }
 
-/// The low byte of a number of a wide record.
-fn end_number(
-    alloc: Global,
-    gathered: &mut OpenLists,
-    lent: &mut Rotations,
-    count: u16,
-    high: u8,
-    piece: &[u8],
-) -> (Phase, Scanned)
-    requires { CanTake (WideHalf count high) gathered.old piece.now }
-    ensures { Advances (WideHalf count high) gathered.old lent.old piece.now result.0 result.1 gathered.new lent.new }
-{
-    gathered.collect(number_of(high, piece[0]));
-    if lend_whole(alloc, gathered, lent, usize::from(count)) {
-        (Phase::Start, Scanned::Ended(1))
-    } else {
-        (Phase::Wide(count), Scanned::More(1))
-    }
-}
-
-/// As many bytes of a piece as go in one phase.
+/// Takes as many bytes of a piece as go in one phase.
 fn advance(
-    alloc: Global,
     phase: Phase,
     gathered: &mut OpenLists,
     lent: &mut Rotations,
@@ -155,24 +94,32 @@ fn advance(
     ensures { Advances phase gathered.old lent.old piece.now result.0 result.1 gathered.new lent.new }
 {
     match phase {
-        Phase::Start => begin(piece),
-        Phase::WideStart => begin_wide(piece),
-        Phase::WideHigh(high) => end_count(high, piece),
-        Phase::Narrow(count) => take_narrow(alloc, gathered, lent, count, piece),
-        Phase::Wide(count) => take_wide(alloc, gathered, lent, count, piece),
-        Phase::WideHalf(count, high) => end_number(alloc, gathered, lent, count, high, piece),
-    }
-}
-
-/// Moves what was scanned by the `passed` bytes before it.
-fn shift(passed: usize, scanned: Scanned) -> Scanned
-    requires { passed + seen_of scanned ≤ usize.MAX }
-    ensures { result ≡ shifted passed scanned }
-{
-    match scanned {
-        Scanned::More(k) => Scanned::More(passed + k),
-        Scanned::Ended(k) => Scanned::Ended(passed + k),
-        Scanned::Bad(k) => Scanned::Bad(passed + k),
+        Phase::Start => {
+            if piece[0] == 0 {
+                (Phase::WideStart, Scanned::More(1))
+            } else {
+                (Phase::Narrow(piece[0]), Scanned::More(1))
+            }
+        }
+        Phase::WideStart => (Phase::WideHigh(piece[0]), Scanned::More(1)),
+        Phase::WideHigh(high) => {
+            let count = number_of(high, piece[0]);
+            if count == 0 || count > MOST_LISTS {
+                (Phase::WideHigh(high), Scanned::Bad(1))
+            } else {
+                (Phase::Wide(count), Scanned::More(1))
+            }
+        }
+        Phase::Narrow(count) => take_narrow(gathered, lent, count, piece),
+        Phase::Wide(count) => take_wide(gathered, lent, count, piece),
+        Phase::WideHalf(count, high) => {
+            gathered.collect(number_of(high, piece[0]));
+            if lend_whole(gathered, lent, usize::from(count)) {
+                (Phase::Start, Scanned::Ended(1))
+            } else {
+                (Phase::Wide(count), Scanned::More(1))
+            }
+        }
     }
 }
 
@@ -196,7 +143,7 @@ impl Model for Scanner {
 }
 
 impl Scanner {
-    /// A scanner with no bytes and no lists. It takes no memory.
+    /// Makes a scanner with no bytes and no lists. It takes no memory.
     pub fn new(alloc: Global) -> Self
         ensures bytes { result.bytes ≡ [] }
         ensures lists { result.lists ≡ [] }
@@ -218,7 +165,7 @@ impl Scanner {
         self.gathered.reserve(bytes, usize::from(MOST_LISTS))
     }
 
-    /// The lists of the record that ended last, numbered from 0.
+    /// Lends the lists of the record that ended last, numbered from 0.
     pub fn lists(&self) -> &Rotations
         ensures { result.now ≡ self.now.lists }
     {
@@ -250,13 +197,7 @@ impl Scanner {
         ensures scans { Scans self.old piece.now result self.new }
         ensures some { 0 < seen_of result }
     {
-        let (phase, scanned) = advance(
-            self.alloc,
-            self.phase,
-            &mut self.gathered,
-            &mut self.lent,
-            piece,
-        );
+        let (phase, scanned) = advance(self.phase, &mut self.gathered, &mut self.lent, piece);
         self.phase = phase;
         scanned
     }
@@ -272,7 +213,8 @@ impl Scanner {
         while taken < piece.len() {
             match self.advance(&piece[taken..]) {
                 Scanned::More(k) => taken += k,
-                stopped => return shift(taken, stopped),
+                Scanned::Ended(k) => return Scanned::Ended(taken + k),
+                Scanned::Bad(k) => return Scanned::Bad(taken + k),
             }
         }
         Scanned::More(taken)

@@ -1,6 +1,6 @@
 //! Records as bytes.
-ghost use Rattle.std.specs.Prelude.{◌≡◌, ◌+◌, ◌<◌, ◌≤◌, ◌++◌, length, take, All, flat_map, OnOk, OnErr};
-ghost use Rattle.planar_code.specs.Reading.{IsRecord, list_numbers, record_numbers};
+ghost use Rattle.std.specs.Prelude.{◌≡◌, ◌+◌, ◌<◌, ◌≤◌, ◌++◌, length, take, OnOk, OnErr};
+ghost use Rattle.planar_code.specs.Reading.{IsRecord};
 ghost use Rattle.planar_code.specs.Scan.{most_lists};
 ghost use Rattle.planar_code.specs.Write.{spelled, entry_limit, first_bytes, record_bytes, is_wide, AreBelow};
 
@@ -21,30 +21,6 @@ fn write_number(wide: bool, number: u16, out: &mut Vec<u8>) -> Result<(), AllocE
         out.push(number as u8)?;
         Ok(())
     }
-}
-
-// Appends the numbers of a list, and the 0 that closes it.
-fn write_list(wide: bool, list: &[u16], out: &mut Vec<u8>) -> Result<(), AllocError>
-    requires { All (λ u. u < entry_limit wide) list.now }
-    ensures ok { OnOk result (out.new.items ≡ out.old.items ++ flat_map (spelled wide) (list_numbers list.now)) }
-    ensures err { OnErr result (take (length out.old.items) out.new.items ≡ out.old.items) }
-{
-    for k in 0..list.len() {
-        write_number(wide, list[k] + 1, out)?;
-    }
-    write_number(wide, 0, out)
-}
-
-// Appends the numbers of all lists.
-fn write_lists(wide: bool, lists: &Rotations, out: &mut Vec<u8>) -> Result<(), AllocError>
-    requires { AreBelow (entry_limit wide) lists.now }
-    ensures ok { OnOk result (out.new.items ≡ out.old.items ++ flat_map (spelled wide) (record_numbers lists.now)) }
-    ensures err { OnErr result (take (length out.old.items) out.new.items ≡ out.old.items) }
-{
-    for v in 0..lists.len() {
-        write_list(wide, lists.list(v), out)?;
-    }
-    Ok(())
 }
 
 // Appends the byte 0 of a wide record.
@@ -70,7 +46,14 @@ fn write_whole(lists: &Rotations, out: &mut Vec<u8>) -> Result<(), AllocError>
     let wide = 255 < lists.len();
     write_first(wide, out)?;
     write_number(wide, lists.len() as u16, out)?;
-    write_lists(wide, lists, out)
+    for v in 0..lists.len() {
+        let list = lists.list(v);
+        for k in 0..list.len() {
+            write_number(wide, list[k] + 1, out)?;
+        }
+        write_number(wide, 0, out)?;
+    }
+    Ok(())
 }
 
 /// Appends the record of some lists, from 1 to 4095: in the narrow form for at most 255 lists, and in

@@ -11,15 +11,16 @@ pub loop-passed-preserved : goal.loop-passed-preserved
 loop-passed-preserved c =
     let l = c.loop-passed in
     let rest : List ℕ = take (length c.args.bytes.now - c.args.at) (drop c.args.at c.args.bytes.now) in
-    let piece = c.front_of-piece.result.now in
+    let end = l.passed + c.min-size.result in
+    let piece : List ℕ = take (end - l.passed) (drop l.passed rest) in
     let k = c.in-More.k in
     let scans = c.in-More.ensures.scans in
     let same = c.reserve.ensures.bytes ∙ l.invariant.bytes in
-    let joined = next-joined rest c.reserve.new.self.bytes piece l.passed k l.invariant.within same c.front_of-piece.ensures.front scans.0 in
+    let joined = next-joined rest c.reserve.new.self.bytes l.passed end k l.invariant.within same scans.0 in
     let P : List ℕ → Type 0 = λ x. Passes x (take k piece) in
     let Q : List ℕ → Type 0 = λ x. x ++ take k piece ≡ take (l.passed + k) rest in
     record {
-      within = next-within rest c.reserve.new.self.bytes piece l.passed k l.invariant.within same c.front_of-piece.ensures.front scans.0;
+      within = next-within rest c.reserve.new.self.bytes l.passed end k l.invariant.within same scans.0;
       bytes = scans.2 ∙ joined;
       passes = next-passes rest piece l.passed k l.invariant.passes (subst P same scans.1) (subst Q same joined);
     }
@@ -28,13 +29,14 @@ pub returns-in-Ended : goal.returns-in-Ended
 returns-in-Ended c =
     let l = c.loop-passed in
     let rest : List ℕ = take (length c.args.bytes.now - c.args.at) (drop c.args.at c.args.bytes.now) in
-    let piece = c.front_of-piece.result.now in
+    let end = l.passed + c.min-size.result in
+    let piece : List ℕ = take (end - l.passed) (drop l.passed rest) in
     let k = c.in-Ended.k in
     let scans = c.in-Ended.ensures.scans in
     let some = scans.0.0 in
     let same = c.reserve.ensures.bytes ∙ l.invariant.bytes in
-    let joined = next-joined rest c.reserve.new.self.bytes piece l.passed k l.invariant.within same c.front_of-piece.ensures.front scans.0.1 in
-    let within = next-within rest c.reserve.new.self.bytes piece l.passed k l.invariant.within same c.front_of-piece.ensures.front scans.0.1 in
+    let joined = next-joined rest c.reserve.new.self.bytes l.passed end k l.invariant.within same scans.0.1 in
+    let within = next-within rest c.reserve.new.self.bytes l.passed end k l.invariant.within same scans.0.1 in
     let is = rw (← c.hand_over.ensures.lists) at scans.2 in
     record-at c.args.bytes.now c.args.at c.requires (l.passed + k) (c.args.at + l.passed + k) (c.reserve.new.self.bytes ++ take k piece) c.hand_over.result (omega arith) (omega arith) within joined is
 
@@ -42,11 +44,12 @@ pub returns-in-Bad : goal.returns-in-Bad
 returns-in-Bad c =
     let l = c.loop-passed in
     let rest : List ℕ = take (length c.args.bytes.now - c.args.at) (drop c.args.at c.args.bytes.now) in
-    let piece = c.front_of-piece.result.now in
+    let end = l.passed + c.min-size.result in
+    let piece : List ℕ = take (end - l.passed) (drop l.passed rest) in
     let k = c.in-Bad.field-0 in
     let scans = c.in-Bad.ensures.scans in
     let same = c.reserve.ensures.bytes ∙ l.invariant.bytes in
-    let joined = next-joined rest c.reserve.new.self.bytes piece l.passed k l.invariant.within same c.front_of-piece.ensures.front scans.0.1 in
+    let joined = next-joined rest c.reserve.new.self.bytes l.passed end k l.invariant.within same scans.0.1 in
     (refl, bad-at c.args.bytes.now c.args.at c.requires (l.passed + k) (c.reserve.new.self.bytes ++ take k piece) joined scans.1)
 
 pub returns : goal.returns
