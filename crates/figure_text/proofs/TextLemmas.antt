@@ -1,11 +1,14 @@
 -- Lines by their parts, and one line more.
 use Rattle.std.proofs.Common.{◌≡◌, ℕ, zero, suc, ℤ, ◌+◌, ◌<◌, List, [], ◌∷◌, ◌++◌, length, map, flat_map, refl, sym, ap, ◌∙◌, add-one, get_or, arith, append_assoc}
-use Rattle.std.specs.Prelude.{decimal}
+use Rattle.std.specs.Prelude.{decimal, codes, false, ◌==◌}
+use Rattle.std.proofs.lemmas.Bool.Decides.{nat_tests}
 use Rattle.std.proofs.lemmas.Grind.{flat_map-append}
 use Rattle.map_lists.specs.Lists.{Lists}
 use Rattle.map_lists.specs.declared.ids.VertexId.{VertexId}
 use Rattle.figure_text.specs.declared.piece.Piece.{Piece}
 use Rattle.kuratowski.specs.declared.witness.Witness.{Witness}
+use Rattle.figure_text.specs.declared.words.Name.{Name}
+use Rattle.figure_text.specs.declared.words.Name.TheVariants as name
 use Rattle.figure_text.specs.Lines.{row_name}
 use Rattle.figure_text.specs.Pieces.{row_front}
 use Rattle.figure_text.specs.Text.{joined, name_text, front_words, vertex_line, vertex_lines, vertex_numbers, witness_lists, witness_lines}
@@ -43,7 +46,7 @@ numerals-of : (us : List VertexId) → flat_map (λ w. 32 ∷ w) (map (λ u. dec
 numerals-of [] = refl
 numerals-of (u ∷ us) = ap (λ (x : List ℕ). (32 ∷ decimal (u.0 + 1)) ++ x) (numerals-of us)
 
-pub row_line-parts : (v : ℕ) (us : List VertexId) → vertex_line row_front v [] (vertex_numbers us) ≡ name_text (row_name (v + 1)) ++ (flat_map (λ (u : VertexId). 32 ∷ decimal (u.0 + 1)) us ++ 10 ∷ [])
+row_line-parts : (v : ℕ) (us : List VertexId) → vertex_line row_front v [] (vertex_numbers us) ≡ name_text (row_name (v + 1)) ++ (flat_map (λ (u : VertexId). 32 ∷ decimal (u.0 + 1)) us ++ 10 ∷ [])
 unfolding vertex_line
 row_line-parts v us =
     ap (λ (x : List ℕ). (name_text (row_name (v + 1)) ++ x) ++ 10 ∷ []) (numerals-of us) ∙ append_assoc (name_text (row_name (v + 1))) (flat_map (λ (u : VertexId). 32 ∷ decimal (u.0 + 1)) us) (10 ∷ [])
@@ -54,10 +57,20 @@ path-list p [] = refl
 path-list zero (path ∷ paths) = refl
 path-list (suc p) (path ∷ paths) = path-list p paths
 
-pub row-list : (witness : Witness) (p : ℕ) → get_or (witness_lists witness) (p + 1) [] ≡ vertex_numbers (get_or witness.paths p [])
+row-list : (witness : Witness) (p : ℕ) → get_or (witness_lists witness) (p + 1) [] ≡ vertex_numbers (get_or witness.paths p [])
 row-list witness p = rw add-one (path-list p witness.paths)
 
--- one line more
-pub witness_lines-more : (witness : Witness) (p : ℕ) → witness_lines witness (p + 1 + 1) ≡ witness_lines witness (p + 1) ++ vertex_line row_front (p + 1) [] (vertex_numbers (get_or witness.paths p []))
+-- the line of the branches, and that of one path more
+pub witness_lines-first : (witness : Witness) → witness_lines witness 1 ≡ codes "branch" ++ (flat_map (λ (u : VertexId). 32 ∷ decimal (u.0 + 1)) witness.branch ++ 10 ∷ [])
+unfolding vertex_lines
+witness_lines-first witness = row_line-parts 0 witness.branch
+
+later_row : (p : ℕ) → row_name (p + 1 + 1) ≡ name.Path
+later_row p = let later : (p + 1 + 1 == 1) ≡ false = grind (arith, nat_tests) in rw later refl
+
+pub witness_lines-more : (witness : Witness) (p : ℕ) → witness_lines witness (p + 1 + 1) ≡ witness_lines witness (p + 1) ++ (codes "path" ++ (flat_map (λ (u : VertexId). 32 ∷ decimal (u.0 + 1)) (get_or witness.paths p []) ++ 10 ∷ []))
 witness_lines-more witness p =
-    vertex_lines-more row_front (λ v. []) (witness_lists witness) (p + 1) ∙ ap (λ (us : List ℕ). witness_lines witness (p + 1) ++ vertex_line row_front (p + 1) [] us) (row-list witness p)
+    let path = get_or witness.paths p [] in
+    vertex_lines-more row_front (λ v. []) (witness_lists witness) (p + 1)
+    ∙ ap (λ (us : List ℕ). witness_lines witness (p + 1) ++ vertex_line row_front (p + 1) [] us) (row-list witness p)
+    ∙ ap (λ (x : List ℕ). witness_lines witness (p + 1) ++ x) (row_line-parts (p + 1) path ∙ ap (λ (n : Name). name_text n ++ (flat_map (λ (u : VertexId). 32 ∷ decimal (u.0 + 1)) path ++ 10 ∷ [])) (later_row p))

@@ -21,7 +21,7 @@ pub struct LineFront {
     pub end: usize,
 }
 
-// Returns a word with this end, where it is there.
+// Returns the word `name` with this end, where it is there.
 #[inline(always)]
 fn word_if(is_there: bool, name: Name, end: usize) -> Option<Next>
     ensures { IfSome result (λ next. IsTrue is_there × (next.word ≡ Word.Named name) × (next.end ≡ end)) }
@@ -36,23 +36,8 @@ fn word_if(is_there: bool, name: Name, end: usize) -> Option<Next>
     }
 }
 
-// Returns one of the words within the lines of vertices, where it begins at `at` and a space follows.
-#[inline(always)]
-fn literal_at(line: &[u8], at: usize, name: Name) -> Option<Next>
-    ensures { (place : ℕ) → IfSome result (IsPieceAt (Piece.Literal name) place line.now at) }
-{
-    if line.len() < at {
-        return None;
-    }
-    match name {
-        Name::At => word_if(is_word_at(line, at), Name::At, at + 2),
-        Name::Y => word_if(is_letter_at(line, at, b'y'), Name::Y, at + 1),
-        Name::X => word_if(is_letter_at(line, at, b'x'), Name::X, at + 1),
-        _ => None,
-    }
-}
-
-// Returns a piece that begins at `at`, where it is one that is told at sight.
+// Returns a piece that begins at `at`, where it is one that is told at sight, in line `place` of a figure. A word must
+// have a space behind it.
 #[inline(always)]
 fn plain_piece(piece: Piece, place: usize, line: &[u8], at: usize) -> Option<Next>
     ensures { IfSome result (IsPieceAt piece place line.now at) }
@@ -68,7 +53,15 @@ fn plain_piece(piece: Piece, place: usize, line: &[u8], at: usize) -> Option<Nex
             }),
             _ => None,
         },
-        Piece::Literal(name) => literal_at(line, at, name),
+        Piece::Literal(Name::At) if at <= line.len() => {
+            word_if(is_word_at(line, at), Name::At, at + 2)
+        }
+        Piece::Literal(Name::Y) if at <= line.len() => {
+            word_if(is_letter_at(line, at, b'y'), Name::Y, at + 1)
+        }
+        Piece::Literal(Name::X) if at <= line.len() => {
+            word_if(is_letter_at(line, at, b'x'), Name::X, at + 1)
+        }
         Piece::Value => match short_coordinate_at(line, at) {
             Some(digits) => Some(Next {
                 word: Word::Number(Signed {
@@ -89,7 +82,7 @@ fn plain_piece(piece: Piece, place: usize, line: &[u8], at: usize) -> Option<Nex
             }),
             _ => None,
         },
-        Piece::Row => None,
+        _ => None,
     }
 }
 

@@ -1,7 +1,8 @@
 //! A figure as text.
 ghost use Rattle.std.specs.Prelude.{◌≡◌, ◌+◌, ◌++◌, ◌∷◌, [], ℕ, List, ◌*◌, length, drop, sum_by, decimal, ◌<◌, ◌≤◌, OnOk, OnErr, IfOk};
 ghost use Rattle.graph6_text.specs.Lines.{IsLine};
-ghost use Rattle.figure_text.specs.Text.{first_line, vertex_lines, fronts_room, job_word, grid_text, bars_text, rects_text, witness_text, IsText, IsWhole, HasBars, HasRects};
+ghost use Rattle.figure_text.specs.Pieces.{bar_front};
+ghost use Rattle.figure_text.specs.Text.{first_line, vertex_lines, columns_line, bar_numbers, fronts_room, job_word, grid_text, bars_text, rects_text, witness_text, IsText, IsWhole, HasBars, HasRects};
 
 use crate::backward::{write_columns, write_first};
 use crate::numerals::{Numerals, Texts};
@@ -142,26 +143,17 @@ fn bars_room(lists: &Rotations, columns: &Ints) -> Result<usize, AllocError>
     Ok(room)
 }
 
-// Writes the text of a visibility drawing at the end, and returns where it starts.
-fn write_bars(
-    texts: &Texts<'_>,
-    number: u32,
-    lists: &Rotations,
-    bars: &BarFigure,
-    bytes: &mut [u8],
-) -> usize
-    requires bars { HasBars lists.now bars.now }
-    requires room { 60 + 6 * sum_by length lists.now + fronts_room 62 (length lists.now) + (12 * length bars.now.column + 8) ≤ length bytes.old }
+// Writes the first line, the lines of the vertices and that of the columns of `bars` at the end, and returns where they
+// start.
+fn write_bars(texts: &Texts<'_>, heading: &Heading<'_>, bars: &BarFigure, bytes: &mut [u8]) -> usize
+    requires bars { HasBars heading.now.lists.now bars.now }
+    requires room { 60 + 6 * sum_by length heading.now.lists.now + fronts_room 62 (length heading.now.lists.now) + (12 * length bars.now.column + 8) ≤ length bytes.old }
     ensures within { result ≤ length bytes.new }
-    ensures written { drop result bytes.new ≡ bars_text number lists.now bars.now }
+    ensures written { drop result bytes.new ≡ first_line heading.now.number heading.now.word.now (length heading.now.lists.now)
+        ++ (vertex_lines bar_front (bar_numbers bars.now) heading.now.lists.now (length heading.now.lists.now) ++ columns_line bars.now.column) }
 {
-    let heading = Heading {
-        number,
-        word: b"bars",
-        lists,
-    };
     let end = write_columns(texts, bars.column.as_slice(), bytes);
-    write_figure(texts, &heading, bars, &mut bytes[..end])
+    write_figure(texts, heading, bars, &mut bytes[..end])
 }
 
 /// Prints figures, one after another, and keeps its memory for the next: that of the longest text so far, and the texts of
@@ -249,9 +241,14 @@ impl Printer {
         ensures ok { OnOk result (out.new.items ≡ out.old.items ++ bars_text number lists.now bars.now) }
         ensures err { OnErr result (out.new.items ≡ out.old.items) }
     {
+        let heading = Heading {
+            number,
+            word: b"bars",
+            lists,
+        };
         self.prepare(lists.len(), bars_room(lists, &bars.column)?)?;
         let texts = self.numerals.lend();
-        let start = write_bars(&texts, number, lists, bars, &mut self.bytes);
+        let start = write_bars(&texts, &heading, bars, &mut self.bytes);
         out.extend_from_slice(&self.bytes[start..])
     }
 

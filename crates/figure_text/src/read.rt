@@ -38,7 +38,7 @@ pub enum Columns {
     NoMemory,
 }
 
-// Returns the numbers of the line of the columns.
+// Returns the numbers that `words` are.
 fn integers(alloc: Global, words: &[Word]) -> Result<Ints, AllocError>
     ensures { IfOk result (λ list. list ≡ map integer_of words.now) }
 {
@@ -64,21 +64,16 @@ fn plain_columns(alloc: Global, line: &[u8]) -> Result<Option<Ints>, AllocError>
     Ok(Some(list))
 }
 
-/// Judges the line of the columns, which is given without the byte 10 that closes it.
+/// Judges the line of the columns, which is given without the byte 10 that closes it: by all its words, where its numbers
+/// are not plainly written.
 pub fn columns_line(alloc: Global, line: &[u8]) -> Columns
     ensures { JudgesColumns (words_of line.now) result }
 {
     match plain_columns(alloc, line) {
-        Ok(Some(list)) => Columns::Good(list),
-        Ok(None) => exact_columns(alloc, line),
-        Err(_) => Columns::NoMemory,
+        Ok(Some(list)) => return Columns::Good(list),
+        Ok(None) => {}
+        Err(_) => return Columns::NoMemory,
     }
-}
-
-// Judges the line of the columns by all its words.
-fn exact_columns(alloc: Global, line: &[u8]) -> Columns
-    ensures { JudgesColumns (words_of line.now) result }
-{
     match known_words(alloc, line) {
         Ok(None) => Columns::Bad,
         Ok(Some(found)) => match judged_columns(&found) {
@@ -112,7 +107,7 @@ pub fn draft_rects(made: Draft) -> Figure
     }
 }
 
-// Returns the vertices of a list.
+// Returns the vertices that have the numbers of `list`.
 fn ids_of(alloc: Global, list: &[u16]) -> Result<Vec<VertexId>, AllocError>
     ensures { IfOk result (λ v. v.items ≡ ids list.now) }
 {

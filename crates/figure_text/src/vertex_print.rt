@@ -8,6 +8,15 @@ use crate::numerals::Texts;
 use map_lists::Rotations;
 use pg_plane::{BarFigure, Ints, Point, Points, RectFigure};
 
+/// The line of a vertex that is to be written: the number of the vertex, from 0, its neighbours, and the texts of numbers.
+#[derive(Clone, Copy)]
+pub struct PrintedLine<'a> {
+    pub texts: Texts<'a>,
+    pub v: usize,
+    pub list: &'a [u16],
+    pub ghost max: { v < 4096 },
+}
+
 /// A figure in which each vertex has numbers, which stand on its line.
 pub trait Numbered {
     /// The pieces before the neighbours.
@@ -27,14 +36,13 @@ pub trait Numbered {
         ensures is { result ≡ longest }
         ensures few { result ≤ 80 };
 
-    /// Writes what stands before the neighbours of vertex `v` before `end`, and returns where it starts.
-    fn write_front(&self, texts: &Texts<'_>, v: usize, bytes: &mut [u8], end: usize) -> usize
-        requires max { v < usize.MAX }
-        requires has { Has self.now v }
+    /// Writes what stands on `line` before the neighbours before `end`, and returns where it starts.
+    fn write_front(&self, line: &PrintedLine<'_>, bytes: &mut [u8], end: usize) -> usize
+        requires has { Has self.now line.now.v }
         requires room { (longest ≤ end) × (end ≤ length bytes.old) }
-        ensures some { 0 < length (front_words (pieces) v (numbers self.now v)) }
+        ensures some { 0 < length (front_words (pieces) line.now.v (numbers self.now line.now.v)) }
         ensures within { (result ≤ end) × (end ≤ result + longest) }
-        ensures written { drop result bytes.new ≡ joined (front_words (pieces) v (numbers self.now v)) ++ drop end bytes.old };
+        ensures written { drop result bytes.new ≡ joined (front_words (pieces) line.now.v (numbers self.now line.now.v)) ++ drop end bytes.old };
 }
 
 // Returns number `v` of a list of points.
@@ -69,14 +77,17 @@ impl Numbered for Points {
         49
     }
 
-    fn write_front(&self, texts: &Texts<'_>, v: usize, bytes: &mut [u8], end: usize) -> usize {
+    #[inline(always)]
+    fn write_front(&self, line: &PrintedLine<'_>, bytes: &mut [u8], end: usize) -> usize {
+        let texts = line.texts;
+        let v = line.v;
         let point = point(self, v);
         let colon = write_byte(b':', bytes, end);
-        let y = write_signed(texts, point.y, bytes, colon);
-        let x = write_signed(texts, point.x, bytes, y);
+        let y = write_signed(&texts, point.y, bytes, colon);
+        let x = write_signed(&texts, point.x, bytes, y);
         let t = write_byte(b't', bytes, x);
         let at = write_letter(b'a', bytes, t);
-        write_number(texts, v as u64 + 1, bytes, at)
+        write_number(&texts, v as u64 + 1, bytes, at)
     }
 }
 
@@ -96,17 +107,20 @@ impl Numbered for BarFigure {
         62
     }
 
-    fn write_front(&self, texts: &Texts<'_>, v: usize, bytes: &mut [u8], end: usize) -> usize {
+    #[inline(always)]
+    fn write_front(&self, line: &PrintedLine<'_>, bytes: &mut [u8], end: usize) -> usize {
+        let texts = line.texts;
+        let v = line.v;
         let y = integer(&self.y, v);
         let a = integer(&self.x1, v);
         let b = integer(&self.x2, v);
         let colon = write_byte(b':', bytes, end);
-        let second = write_signed(texts, b, bytes, colon);
-        let first = write_signed(texts, a, bytes, second);
+        let second = write_signed(&texts, b, bytes, colon);
+        let first = write_signed(&texts, a, bytes, second);
         let x = write_letter(b'x', bytes, first);
-        let height = write_signed(texts, y, bytes, x);
+        let height = write_signed(&texts, y, bytes, x);
         let word = write_letter(b'y', bytes, height);
-        write_number(texts, v as u64 + 1, bytes, word)
+        write_number(&texts, v as u64 + 1, bytes, word)
     }
 }
 
@@ -126,45 +140,47 @@ impl Numbered for RectFigure {
         74
     }
 
-    fn write_front(&self, texts: &Texts<'_>, v: usize, bytes: &mut [u8], end: usize) -> usize {
+    #[inline(always)]
+    fn write_front(&self, line: &PrintedLine<'_>, bytes: &mut [u8], end: usize) -> usize {
+        let texts = line.texts;
+        let v = line.v;
         let a = integer(&self.x1, v);
         let b = integer(&self.x2, v);
         let c = integer(&self.y1, v);
         let d = integer(&self.y2, v);
         let colon = write_byte(b':', bytes, end);
-        let top = write_signed(texts, d, bytes, colon);
-        let bottom = write_signed(texts, c, bytes, top);
+        let top = write_signed(&texts, d, bytes, colon);
+        let bottom = write_signed(&texts, c, bytes, top);
         let y = write_letter(b'y', bytes, bottom);
-        let right = write_signed(texts, b, bytes, y);
-        let left = write_signed(texts, a, bytes, right);
+        let right = write_signed(&texts, b, bytes, y);
+        let left = write_signed(&texts, a, bytes, right);
         let x = write_letter(b'x', bytes, left);
-        write_number(texts, v as u64 + 1, bytes, x)
+        write_number(&texts, v as u64 + 1, bytes, x)
     }
 }
 
-// Writes the line of a vertex before `end`, and returns where it starts.
+// Writes `line`, with the numbers that `figure` has for its vertex, before `end`, and returns where it starts.
+#[inline(always)]
 fn write_line<R: Numbered>(
-    texts: &Texts<'_>,
+    line: &PrintedLine<'_>,
     figure: &R,
-    v: usize,
-    list: &[u16],
     bytes: &mut [u8],
     end: usize,
 ) -> usize
-    requires max { v < usize.MAX }
-    requires has { R.Has figure.now v }
-    requires room { 6 * length list.now + 8 + R.longest ≤ end }
+    requires has { R.Has figure.now line.now.v }
+    requires room { 6 * length line.now.list.now + 8 + R.longest ≤ end }
     requires end { end ≤ length bytes.old }
-    ensures within { (result ≤ end) × (end ≤ result + (6 * length list.now + 1 + R.longest)) }
-    ensures written { drop result bytes.new ≡ vertex_line R.pieces v (R.numbers figure.now v) list.now ++ drop end bytes.old }
+    ensures within { (result ≤ end) × (end ≤ result + (6 * length line.now.list.now + 1 + R.longest)) }
+    ensures written { drop result bytes.new ≡ vertex_line R.pieces line.now.v (R.numbers figure.now line.now.v) line.now.list.now ++ drop end bytes.old }
 {
-    let texts = *texts;
+    let texts = line.texts;
     let newline = write_byte(b'\n', bytes, end);
-    let front = write_vertices(&texts, list, bytes, newline);
-    figure.write_front(&texts, v, bytes, front)
+    let front = write_vertices(&texts, line.list, bytes, newline);
+    figure.write_front(line, bytes, front)
 }
 
-/// Writes the lines of the vertices at the end, and returns where they start: there is still room for a first line.
+/// Writes the lines of the vertices, with the numbers of `figure` and their neighbours by `lists`, at the end, and returns
+/// where they start: there is still room for a first line.
 pub fn write_lines<R: Numbered>(
     texts: &Texts<'_>,
     figure: &R,
@@ -179,7 +195,12 @@ pub fn write_lines<R: Numbered>(
     let mut start = bytes.len();
     for k in 0..lists.len() {
         let v = lists.len() - 1 - k;
-        start = write_line(texts, figure, v, lists.list(v), bytes, start);
+        let line = PrintedLine {
+            texts: *texts,
+            v,
+            list: lists.list(v),
+        };
+        start = write_line(&line, figure, bytes, start);
     }
     start
 }

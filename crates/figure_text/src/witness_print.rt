@@ -1,9 +1,7 @@
 //! A witness as text.
 ghost use Rattle.std.specs.Prelude.{◌≡◌, ◌+◌, ◌++◌, ◌∷◌, [], List, ℕ, length, flat_map, codes, decimal, ◌<◌, OnOk, OnErr, IfOk};
 ghost use Rattle.graph6_text.specs.Lines.{IsLine as IsGraphLine};
-ghost use Rattle.figure_text.specs.Lines.{row_name};
-ghost use Rattle.figure_text.specs.Pieces.{row_front};
-ghost use Rattle.figure_text.specs.Text.{name_text, kind_word, witness_first_line, vertex_line, vertex_numbers, witness_lines, witness_text};
+ghost use Rattle.figure_text.specs.Text.{kind_word, witness_lines, witness_text};
 
 use crate::print::{Printer, push_next};
 use graph6_text::{Graph, write_line};
@@ -21,31 +19,7 @@ fn word_of(kind: Kind) -> &'static [u8]
     }
 }
 
-// Appends the first line of a witness, with the line of its graph.
-fn push_first(out: &mut Vec<u8>, number: u32, graph: &Graph, kind: Kind) -> Result<(), AllocError>
-    ensures { OnOk result ((line : List ℕ) × IsGraphLine line graph.now × (out.new.items ≡ out.old.items ++ witness_first_line number kind line)) }
-{
-    out.extend_from_slice(b"figure")?;
-    push_next(out, u64::from(number))?;
-    out.extend_from_slice(b" witness ")?;
-    out.extend_from_slice(word_of(kind))?;
-    out.push(b' ')?;
-    write_line(graph, out)?;
-    out.push(b'\n')?;
-    Ok(())
-}
-
-// Appends the word with which line `v` behind the first begins, from 0.
-fn push_word(out: &mut Vec<u8>, v: usize) -> Result<(), AllocError>
-    ensures { OnOk result (out.new.items ≡ out.old.items ++ name_text (row_name (v + 1))) }
-{
-    if v == 0 {
-        return out.extend_from_slice(b"branch");
-    }
-    out.extend_from_slice(b"path")
-}
-
-// Appends vertices.
+// Appends the numbers of `ids`, from 1 and each after a space.
 fn push_ids(out: &mut Vec<u8>, ids: &[VertexId]) -> Result<(), AllocError>
     ensures { OnOk result (out.new.items ≡ out.old.items ++ flat_map (λ (u : VertexId). 32 ∷ decimal (u.0 + 1)) ids.now) }
 {
@@ -55,11 +29,11 @@ fn push_ids(out: &mut Vec<u8>, ids: &[VertexId]) -> Result<(), AllocError>
     Ok(())
 }
 
-// Appends line `v` behind the first, from 0, with these vertices.
-fn push_row(out: &mut Vec<u8>, v: usize, ids: &[VertexId]) -> Result<(), AllocError>
-    ensures { OnOk result (out.new.items ≡ out.old.items ++ vertex_line row_front v [] (vertex_numbers ids.now)) }
+// Appends a line that begins with `word` and names the vertices `ids`.
+fn push_row(out: &mut Vec<u8>, word: &[u8], ids: &[VertexId]) -> Result<(), AllocError>
+    ensures { OnOk result (out.new.items ≡ out.old.items ++ (word.now ++ (flat_map (λ (u : VertexId). 32 ∷ decimal (u.0 + 1)) ids.now ++ 10 ∷ []))) }
 {
-    push_word(out, v)?;
+    out.extend_from_slice(word)?;
     push_ids(out, ids)?;
     out.push(b'\n')?;
     Ok(())
@@ -69,14 +43,15 @@ fn push_row(out: &mut Vec<u8>, v: usize, ids: &[VertexId]) -> Result<(), AllocEr
 fn push_rows(out: &mut Vec<u8>, witness: &Witness) -> Result<(), AllocError>
     ensures { OnOk result (out.new.items ≡ out.old.items ++ witness_lines witness.now (length witness.now.paths + 1)) }
 {
-    push_row(out, 0, witness.branch.as_slice())?;
+    push_row(out, b"branch", witness.branch.as_slice())?;
     for p in 0..witness.paths.len() {
-        push_row(out, p + 1, witness.paths.list(p))?;
+        push_row(out, b"path", witness.paths.list(p))?;
     }
     Ok(())
 }
 
-// Appends the text of a witness.
+// Appends the text of `witness` with this number: a first line, which holds that of `graph`, and the lines of the branches
+// and of the paths.
 pub(crate) fn push_witness(
     text: &mut Vec<u8>,
     number: u32,
@@ -86,7 +61,13 @@ pub(crate) fn push_witness(
     ensures { OnOk result ((line : List ℕ) × IsGraphLine line graph.now
         × (text.new.items ≡ text.old.items ++ witness_text number line witness.now)) }
 {
-    push_first(text, number, graph, witness.kind)?;
+    text.extend_from_slice(b"figure")?;
+    push_next(text, u64::from(number))?;
+    text.extend_from_slice(b" witness ")?;
+    text.extend_from_slice(word_of(witness.kind))?;
+    text.push(b' ')?;
+    write_line(graph, text)?;
+    text.push(b'\n')?;
     push_rows(text, witness)?;
     Ok(())
 }

@@ -412,16 +412,6 @@ pub fn fill_front(line: &[u8], most: usize, found: &mut Vec<Word>) -> Result<usi
     Ok(at)
 }
 
-// Says whether a word is neither a number nor a word of figures.
-fn is_other(word: Word) -> bool
-    ensures { IsTrue result ↔ (word ≡ Word.Other) }
-{
-    match word {
-        Word::Other => true,
-        _ => false,
-    }
-}
-
 /// Fills a vector with the words of a line, as far as each is a number or a word of figures, and says whether they are
 /// all. What it held before is gone, and its memory is kept.
 pub fn fill_known(line: &[u8], found: &mut Vec<Word>) -> Result<bool, AllocError>
@@ -432,7 +422,7 @@ pub fn fill_known(line: &[u8], found: &mut Vec<Word>) -> Result<bool, AllocError
     let mut at = 0;
     while at <= line.len() {
         let next = next_word(line, at);
-        if is_other(next.word) {
+        if let Word::Other = next.word {
             return Ok(false);
         }
         found.push(next.word)?;

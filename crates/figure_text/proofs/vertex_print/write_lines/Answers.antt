@@ -21,7 +21,6 @@ write_line-start-requires g c =
     let is = ap length (c.list.ensures ∙ ap (λ n. get_or c.args.lists.now (n - 1 - c.loop-k.k) []) c.len.ensures.is) in
     let room = c.loop-k.invariant.room in
     record {
-      max = omega arith;
       has = c.requires.has _ (omega arith);
       room = omega (arith, more, fronts, is, room);
       end = omega arith;

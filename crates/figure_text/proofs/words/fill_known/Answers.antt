@@ -16,10 +16,10 @@ loop-at-preserved c =
     (sym (grown ∙ ap (λ (w : Word). found ++ w ∷ []) c.next_word-next.ensures.word))
     (words-more line found c.loop-at.at end c.loop-at-test.true c.next_word-next.ensures.order c.next_word-next.ensures.within c.next_word-next.ensures.before c.next_word-next.ensures.found c.loop-at.invariant)
 
-pub returns-then-is_other-clause-other : goal.returns-then-is_other-clause-other
-returns-then-is_other-clause-other c =
+pub returns-in-Other-clause-other : goal.returns-in-Other-clause-other
+returns-in-Other-clause-other c =
     words-other c.args.line.now c.loop-at.found.items c.loop-at.at c.next_word-next.result.end c.loop-at-test.true c.next_word-next.ensures.order c.next_word-next.ensures.within c.next_word-next.ensures.before c.next_word-next.ensures.found c.loop-at.invariant
-    (sym c.next_word-next.ensures.word ∙ c.is_other.ensures.0 c.if-is_other.true)
+    (sym c.next_word-next.ensures.word ∙ c.in-Other.is)
 
 pub returns-clause-known : goal.returns-clause-known
 returns-clause-known c =
