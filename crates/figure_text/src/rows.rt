@@ -212,11 +212,18 @@ impl VertexLine<'_> {
         Ok(true)
     }
 
-    // Judges it by its words, and appends what a good one gives.
-    fn exact(&self, found: &mut Vec<Word>, draft: &mut Draft) -> Option<Judged>
+    /// Judges it, by its words where it is not found good at sight, and appends what a good one gives. Without memory there
+    /// is no answer. The vector `found` is for its words, and keeps its memory for those of the next line.
+    #[inline(never)]
+    pub fn judge(&self, found: &mut Vec<Word>, draft: &mut Draft) -> Option<Judged>
         ensures { IfSome result (λ judged. Judges (IsRow self.now.kind self.now.place (words_of self.now.line.now)) (RowInRange self.now.kind (words_of self.now.line.now)) judged
             × (judged ≡ Judged.Good → draft.new ≡ with_row self.now.kind draft.old (words_of self.now.line.now))) }
     {
+        match self.quick(found, draft) {
+            Ok(true) => return Some(Judged::Good),
+            Ok(false) => {}
+            Err(_) => return None,
+        }
         match fill_known(self.line, found) {
             Ok(false) => Some(Judged::Bad),
             Ok(true) => match judged_row(self.kind, self.place, found) {
@@ -227,20 +234,6 @@ impl VertexLine<'_> {
                 Judged::Bad => Some(Judged::Bad),
                 Judged::Limit => Some(Judged::Limit),
             },
-            Err(_) => None,
-        }
-    }
-
-    /// Judges it, and appends what a good one gives. Without memory there is no answer. The vector is for its words, and keeps
-    /// its memory for those of the next line.
-    #[inline(never)]
-    pub fn judge(&self, found: &mut Vec<Word>, draft: &mut Draft) -> Option<Judged>
-        ensures { IfSome result (λ judged. Judges (IsRow self.now.kind self.now.place (words_of self.now.line.now)) (RowInRange self.now.kind (words_of self.now.line.now)) judged
-            × (judged ≡ Judged.Good → draft.new ≡ with_row self.now.kind draft.old (words_of self.now.line.now))) }
-    {
-        match self.quick(found, draft) {
-            Ok(true) => Some(Judged::Good),
-            Ok(false) => self.exact(found, draft),
             Err(_) => None,
         }
     }
