@@ -1,7 +1,5 @@
 -- Lemmas on darts by their numbers.
 pub mod NumberLemmas
--- What is known of a map is had of it.
-mod Known
 pub mod WalkFaces
 mod IsolatedLemmas
 pub mod SearchLemmas

@@ -3,7 +3,7 @@ use Rattle.std.proofs.lemmas.List.{length-take-le}
 use Rattle.map_lists.proofs.CutLemmas.{length-cut}
 use Rattle.map_theory.specs.Maps.{vertex_count, edge_count, face_count, component_count}
 use Rattle.simple_maps.proofs.FaultLemmas.{first_fault-IsSimpleMap}
-use Rattle.euler_faces.proofs.Known.{AreCuts-known}
+use Rattle.map_theory.proofs.Known.{AreCuts-known}
 use Rattle.euler_faces.proofs.count.Counter.count.Goals as goal
 
 pub number_components-components-requires-clause-cuts : goal.number_components-components-requires-clause-cuts

@@ -3,7 +3,7 @@ use Rattle.map_lists.specs.Cuts.{cut}
 use Rattle.map_lists.proofs.CutLemmas.{length-cut}
 use Rattle.map_theory.proofs.DartCounts.{few_darts-simple}
 use Rattle.simple_maps.proofs.FlatLemmas.{count-is}
-use Rattle.euler_faces.proofs.Known.{AreCuts-known, IsSimpleMap-known}
+use Rattle.map_theory.proofs.Known.{AreCuts-known, IsSimpleMap-known}
 use Rattle.euler_faces.proofs.slots.StoredMap.facts.Goals as goal
 
 pub returns-clause-cuts : goal.returns-clause-cuts
