@@ -1,10 +1,11 @@
 -- Later neighbours are what a sort gives, and edges are made vertex by vertex.
-use Rattle.std.proofs.Common.{◌≡◌, ◌≢◌, ◌&&◌, ◌==◌, ◌+◌, ◌<◌, ◌≤◌, ℕ, zero, suc, Bool, true, false, true≢false, List, [], ◌∷◌, ◌++◌, length, get_or, nat_lt, cond, eqb, AllPairs, Contains, All, IsPermutation, refl, sym, ap, ap₂, ◌∙◌, subst, inl, inr, arith, add-one, append-nil, IsSorted, lt-ltb, ltb-true}
+use Rattle.std.proofs.Common.{◌≡◌, ◌≢◌, ◌&&◌, ◌==◌, ◌+◌, ◌<◌, ◌≤◌, ℕ, zero, suc, Bool, true, false, true≢false, List, [], ◌∷◌, ◌++◌, length, take, get_or, nat_lt, cond, eqb, AllPairs, Contains, All, IsPermutation, refl, sym, ap, ap₂, ◌∙◌, subst, inl, inr, arith, add-one, append-nil, IsSorted, lt-ltb, ltb-true}
 use Rattle.std.specs.List.{filter, flat_map, list_any, range_with_len}
 use Rattle.std.specs.Ordering.{nat_cmp}
 use Rattle.std.proofs.lemmas.Grind.{flat_map-append}
+use Rattle.std.proofs.lemmas.List.{take_more}
 use Rattle.std.proofs.lemmas.List.FromFn.{length-range_with_len, get_or-range_with_len}
-use Rattle.std.proofs.lemmas.List.Elements.{All-append, All-nil, All-map, All-contains_itself, All-weaker}
+use Rattle.std.proofs.lemmas.List.Elements.{All-append, All-nil, All-map, All-contains_itself, All-weaker, filter-append}
 use Rattle.std.proofs.lemmas.List.Sorted.{IsNonDecreasingBy-from_sort, Contains-permutation, IsPermutation-sym, sum_by-IsPermutation}
 use Rattle.std.proofs.lemmas.List.Kept.{AllPairs-filter}
 use Rattle.map_lists.specs.Lists.{Lists}
@@ -113,6 +114,12 @@ Contains-later lists v u l h c =
 later_rises : (lists : Lists) (v : ℕ) → AllPairs (λ (a b : ℕ). a < b) (later_neighbours lists v)
 unfolding later_neighbours
 later_rises lists v = AllPairs-filter (λ (a b : ℕ). a < b) _ (vertices lists) (range_rises (length lists))
+
+-- one number more of a list, if it is greater than v
+pub later-more : (v : ℕ) (us : List ℕ) (k : ℕ) (old new : List ℕ) → k < length us → old ≡ filter (λ u. nat_lt v u) (take k us) → new ≡ old ++ cond (nat_lt v (get_or us k 0)) (get_or us k 0 ∷ []) [] → new ≡ filter (λ u. nat_lt v u) (take (k + 1) us)
+later-more v us k old new l was is =
+    let u = get_or us k 0 in
+    is ∙ ap (λ (xs : List ℕ). xs ++ cond (nat_lt v u) (u ∷ []) []) was ∙ sym (filter-append (λ u. nat_lt v u) (take k us) (u ∷ [])) ∙ ap (filter (λ u. nat_lt v u)) (sym (take_more us k 0 l))
 
 -- the neighbours that are greater, sorted, are the later neighbours
 pub later-sorted : (lists : Lists) (v : ℕ) (row : List ℕ) → IsSimpleMap lists → v < length lists → IsPermutation (filter (λ u. nat_lt v u) (list_of lists v)) row → IsSorted nat_cmp row → row ≡ later_neighbours lists v

@@ -1,7 +1,7 @@
 //! Rectangular duals as SVG.
 ghost use Rattle.std.specs.Prelude.{◌≡◌, ◌<◌, ℕ, ◌++◌, length, OnOk, OnErr, IfOk};
-ghost use Rattle.figure_text.specs.Text.{integer_at, HasRects};
-ghost use Rattle.svg_out.specs.Svg.{greatest, tile, unfilled as the_style, tiles, rects_svg};
+ghost use Rattle.figure_text.specs.Text.{HasRects};
+ghost use Rattle.svg_out.specs.Svg.{greatest, unfilled as the_style, tiles, rects_svg};
 
 use crate::bars::{greatest_from, integer};
 use crate::tags::{Spot, across, down, extent, push_closing, push_opening, push_sides};
@@ -16,27 +16,7 @@ fn unfilled() -> &'static [u8]
     b" fill=\"none\" stroke=\"black\"/>\n"
 }
 
-// Appends the rectangle of vertex `v`, in a drawing of this height.
-fn push_tile(out: &mut Vec<u8>, rects: &RectFigure, height: i32, v: usize) -> Result<(), AllocError>
-    requires x { (v < length rects.now.x1) × (v < length rects.now.x2) }
-    requires y { (v < length rects.now.y1) × (v < length rects.now.y2) }
-    ensures { OnOk result (out.new.items ≡ out.old.items
-        ++ tile height (integer_at rects.now.x1 v) (integer_at rects.now.x2 v) (integer_at rects.now.y1 v) (integer_at rects.now.y2 v)) }
-{
-    let a = integer(&rects.x1, v);
-    let b = integer(&rects.x2, v);
-    let c = integer(&rects.y1, v);
-    let d = integer(&rects.y2, v);
-    let corner = Spot {
-        x: across(a),
-        y: down(height, d),
-    };
-    out.extend_from_slice(b"<rect")?;
-    push_sides(out, corner, extent(a, b), extent(c, d))?;
-    out.extend_from_slice(unfilled())
-}
-
-// Appends the rectangles of all vertices.
+// Appends the rectangles of all vertices, each as a tag, in a drawing of this height.
 fn push_tiles(
     out: &mut Vec<u8>,
     lists: &Rotations,
@@ -47,7 +27,17 @@ fn push_tiles(
     ensures { OnOk result (out.new.items ≡ out.old.items ++ tiles rects.now height (length lists.now)) }
 {
     for v in 0..lists.len() {
-        push_tile(out, rects, height, v)?;
+        let a = integer(&rects.x1, v);
+        let b = integer(&rects.x2, v);
+        let c = integer(&rects.y1, v);
+        let d = integer(&rects.y2, v);
+        let corner = Spot {
+            x: across(a),
+            y: down(height, d),
+        };
+        out.extend_from_slice(b"<rect")?;
+        push_sides(out, corner, extent(a, b), extent(c, d))?;
+        out.extend_from_slice(unfilled())?;
     }
     Ok(())
 }

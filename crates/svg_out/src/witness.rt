@@ -1,27 +1,13 @@
 //! Witnesses as SVG.
 ghost use Rattle.std.specs.Prelude.{◌≡◌, ◌++◌, List, ℕ, OnOk, OnErr, IfOk};
-ghost use Rattle.svg_out.specs.Svg.{IsWitnessSvg, comment_start, comment_end};
+ghost use Rattle.svg_out.specs.Svg.{IsWitnessSvg};
 
 use figure_text::print_witness;
 use graph6_text::Graph;
 use kuratowski::Witness;
 use std::alloc::{AllocError, Global};
 
-// How a comment begins.
-fn start() -> &'static [u8]
-    ensures { result.now ≡ comment_start }
-{
-    b"<!--\n"
-}
-
-// How it ends.
-fn end() -> &'static [u8]
-    ensures { result.now ≡ comment_end }
-{
-    b"-->\n"
-}
-
-// The text of a witness, in a comment.
+// Returns the text of `witness` with this number, and with the line of `graph`, in a comment.
 fn comment(
     alloc: Global,
     number: u32,
@@ -31,9 +17,9 @@ fn comment(
     ensures { IfOk result (λ text. IsWitnessSvg number graph.now witness.now text.items) }
 {
     let mut text = Vec::new(alloc);
-    text.extend_from_slice(start())?;
+    text.extend_from_slice(b"<!--\n")?;
     print_witness(alloc, number, graph, witness, &mut text)?;
-    text.extend_from_slice(end())?;
+    text.extend_from_slice(b"-->\n")?;
     Ok(text)
 }
 
