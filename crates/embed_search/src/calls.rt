@@ -47,7 +47,8 @@ impl Tables {
     // Leaves edges alone that are a subdivision of K5 or K3,3, after a conflict.
     fn shrink(&mut self) {
         self.marks.mark_conflict(&self.test);
-        self.kernel.load(&self.edges, &self.marks.marks);
+        self.kernel
+            .load(&mut self.edges, &self.test.links, &self.marks.marks);
         self.kernel.keep_marked(&mut self.test.links);
         shrink(&mut self.kernel, &mut self.test, &mut self.marks);
         self.kernel.link_paths(&mut self.test.links, &self.edges);
@@ -113,6 +114,9 @@ impl Tables {
     /// be. It fails only when out of memory.
     pub fn witness(&mut self, alloc: Global) -> Result<Option<Witness>, AllocError> {
         if self.edges.are_of_k5() {
+            for edge in 0..self.edges.count {
+                self.edges.take_ends(&self.test.links, edge);
+            }
             self.test.links.put_all(&self.edges);
         } else if !self.test.has_failed() && self.test.passes_all() {
             return Ok(None);

@@ -85,8 +85,8 @@ impl Kernel {
         self.keep_marked(links);
     }
 
-    /// Makes the marked edges of a graph the part.
-    pub fn load(&mut self, edges: &Edges, marks: &ByEdge) {
+    /// Makes the marked edges of a graph the part, and takes their ends from the graph's darts.
+    pub fn load(&mut self, edges: &mut Edges, links: &Links, marks: &ByEdge) {
         self.edges.vertices = edges.vertices;
         self.edges.count = 0;
         for edge in 0..edges.count {
@@ -97,6 +97,7 @@ impl Kernel {
                 self.needed.set(place, 0);
                 self.marks.set(place, mark);
                 self.ring.set(edge, edge);
+                edges.take_ends(links, edge);
                 self.edges.push(edges.one.get(edge), edges.other.get(edge));
             }
         }

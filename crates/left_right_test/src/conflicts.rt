@@ -1,8 +1,8 @@
 //! The second search, the testing phase: it keeps a stack of conflict pairs, each of two intervals of return edges that
 //! lie on different sides.
 use crate::links::Links;
-use crate::row::{NONE, lesser, minus, plus};
-use crate::search::{Search, steps};
+use crate::row::{MANY_DARTS, MANY_STEPS, NONE, lesser, minus, plus};
+use crate::search::Search;
 use crate::ties::Tie;
 
 // The return edges from one to another, each relative to the next, or none.
@@ -283,7 +283,7 @@ impl Search {
             return interval;
         }
         let mut high = interval.high;
-        for _ in 0..links.darts {
+        for _ in 0..MANY_DARTS {
             if high == NONE || links.head.get(high) != vertex {
                 break;
             }
@@ -336,7 +336,7 @@ fn agrees_from(links: &Links, search: &mut Search, root: u32) -> bool {
     search.top = 0;
     let mut vertex = root;
     let mut dart = search.leaving.get(root);
-    for _ in 0..steps(links.vertices, links.darts) {
+    for _ in 0..MANY_STEPS {
         if dart == NONE {
             let parent = search.parent.get(vertex);
             if parent == NONE {

@@ -36,11 +36,10 @@ impl Edges {
         self.count = plus(self.count, 1);
     }
 
-    /// Takes the edges of a graph, by the greater end and then by the lesser, and chains their darts; of edges that are too
-    /// many for a plane map the first ones, one too many.
+    /// Counts and chains the edges of a graph, by the greater end and then by the lesser; of edges that are too many for a
+    /// plane map the first ones, one too many. Their ends are left to `take_ends`.
     pub fn read(&mut self, graph: &Graph, links: &mut Links) {
         self.vertices = u32::from(graph.n());
-        self.count = 0;
         links.begin_chains(self.vertices);
         links.degree.fill(self.vertices, 0);
         // of a plane map on as many vertices, or on three
@@ -48,48 +47,31 @@ impl Edges {
         let mut place = Place {
             v: 1,
             last: 5,
-            most,
+            count: 0,
         };
         for byte in graph.body() {
             if *byte > 63 {
-                place = self.push_byte(u32::from(*byte - 63), place, links);
-                if self.count > most {
+                place = chain_byte(links, u32::from(*byte - 63), place, plus(most, 1));
+                if place.count > most {
                     break;
                 }
             }
             place.last = plus(place.last, 6);
         }
-        links.darts = twice(self.count);
+        self.count = place.count;
+        links.darts = twice(place.count);
+    }
+
+    /// Takes the ends of an edge, which its darts have.
+    #[inline(always)]
+    pub fn take_ends(&mut self, links: &Links, edge: u32) {
+        self.one.set(edge, links.tail(twice(edge)));
+        self.other.set(edge, links.head.get(twice(edge)));
     }
 
     /// Whether the graph is K5, if it has no loops and no parallels.
     pub fn are_of_k5(&self) -> bool {
         self.vertices == 5 && self.count == 10
-    }
-
-    // Appends and chains the edges of one byte, until there are too many. Returns in which row the last one of them is.
-    #[inline(always)]
-    fn push_byte(&mut self, bits: u32, place: Place, links: &mut Links) -> Place {
-        let mut bits = bits;
-        let mut place = place;
-        for _ in self.count..plus(place.most, 1) {
-            if bits == 0 {
-                break;
-            }
-            let bit = 31 ^ bits.leading_zeros();
-            for _ in 0..256u32 {
-                if minus(place.last, bit) < place.v {
-                    break;
-                }
-                place.last = minus(place.last, place.v);
-                place.v = plus(place.v, 1);
-            }
-            let u = minus(place.last, bit);
-            links.chain_next(self.count, u, place.v);
-            self.push(u, place.v);
-            bits = bits ^ (1 << (bit & 31));
-        }
-        place
     }
 }
 
@@ -100,6 +82,31 @@ struct Place {
     v: u32,
     // the lesser vertex of the pair of the byte's last bit, if the row went on so far
     last: u32,
-    // how many edges may be taken before there are too many
-    most: u32,
+    // how many edges there are so far
+    count: u32,
+}
+
+// Chains the edges of one byte, until there are `enough`. Returns in which row the last one of them is.
+#[inline(always)]
+fn chain_byte(links: &mut Links, bits: u32, place: Place, enough: u32) -> Place {
+    let mut bits = bits;
+    let mut place = place;
+    for _ in place.count..enough {
+        if bits == 0 {
+            break;
+        }
+        let bit = 31 ^ bits.leading_zeros();
+        for _ in 0..256u32 {
+            if minus(place.last, bit) < place.v {
+                break;
+            }
+            place.last = minus(place.last, place.v);
+            place.v = plus(place.v, 1);
+        }
+        let u = minus(place.last, bit);
+        links.chain_next(place.count, u, place.v);
+        place.count = plus(place.count, 1);
+        bits = bits ^ (1 << (bit & 31));
+    }
+    place
 }

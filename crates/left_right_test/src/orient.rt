@@ -61,6 +61,7 @@ fn go_down(search: &mut Search, at: Stand, dart: u32, head: u32) -> Stand {
     search.lowpt2.set(at.parent, at.second);
     search.parent.set(head, dart);
     search.height.set(head, height);
+    search.leaving.set(head, NONE);
     Stand {
         vertex: head,
         height,
@@ -112,8 +113,8 @@ fn orient_from(links: &Links, search: &mut Search, root: u32) {
             dart = links.first.get(head);
             continue;
         }
-        if low < at.height && at.parent != dart ^ 1 {
-            // a return edge, which has no second lowpoint
+        if plus(low, 1) < at.height {
+            // a return edge, since it leads above the parent; it has no second lowpoint
             search.end_dart(dart, low);
             search.put_in_order(dart, at.vertex, twice(low));
             at = at.with_returns(low, u32::MAX);
@@ -125,16 +126,19 @@ fn orient_from(links: &Links, search: &mut Search, root: u32) {
 /// Orients all edges, notes the roots in rising order, and puts the darts that leave each vertex into rising order of depth.
 pub fn orient_all(links: &Links, search: &mut Search) {
     search.height.fill(links.vertices, NONE);
-    search.parent.fill(links.vertices, NONE);
-    search.leaving.fill(links.vertices, NONE);
     search.root_count = 0;
     let first = search.root;
     orient_from(links, search, first);
     for root in 0..links.vertices {
-        let is_root = root == first || !search.is_reached(root);
-        if is_root && links.first.get(root) != NONE {
-            orient_from(links, search, root);
-            search.note_root(root);
+        if root != first && search.is_reached(root) {
+            continue;
         }
+        if links.first.get(root) == NONE {
+            search.parent.set(root, NONE);
+            search.leaving.set(root, NONE);
+            continue;
+        }
+        orient_from(links, search, root);
+        search.note_root(root);
     }
 }

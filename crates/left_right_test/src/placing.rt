@@ -1,10 +1,11 @@
-//! The third search: it places the twins of oriented darts, which gives rotation lists.
+//! The third search: it settles sides and places the twins of oriented darts, which gives rotation lists.
 ghost use Rattle.std.specs.Prelude.{◌≡◌, ◌<◌, length, IfOk};
 ghost use Rattle.map_lists.specs.Cuts.{AreCuts};
 
 use crate::links::Links;
-use crate::row::{ByArc, ByDart, ByVertex, NONE, minus, plus};
-use crate::search::{Search, steps};
+use crate::row::{ByArc, ByDart, ByVertex, MANY_DARTS, MANY_STEPS, NONE, minus, plus};
+use crate::search::Search;
+use crate::signs::settle_leaving;
 use map_lists::Rotations;
 use std::alloc::AllocError;
 
@@ -64,7 +65,7 @@ impl Places {
     fn put_tails(&mut self, links: &Links, place: u32, dart: u32) -> u32 {
         let mut place = place;
         let mut dart = dart;
-        for _ in 0..links.darts {
+        for _ in 0..MANY_DARTS {
             if dart == NONE {
                 break;
             }
@@ -95,12 +96,12 @@ impl Places {
         self.put_tails(links, place, right)
     }
 
-    // Lists what leaves a root and all that it reaches.
-    fn list_from(&mut self, links: &Links, search: &Search, root: u32) {
+    // Lists what leaves a root and all that it reaches, whose sides it settles.
+    fn list_from(&mut self, links: &Links, search: &mut Search, root: u32) {
         let mut vertex = root;
         let mut place = self.place.get(root);
-        let mut dart = search.leaving.get(root);
-        for _ in 0..steps(links.vertices, links.darts) {
+        let mut dart = settle_leaving(search, root);
+        for _ in 0..MANY_STEPS {
             if dart == NONE {
                 let parent = search.parent.get(vertex);
                 if parent == NONE {
@@ -118,7 +119,7 @@ impl Places {
                 self.place.set(vertex, place);
                 place = self.go_down(vertex, head);
                 vertex = head;
-                dart = search.leaving.get(head);
+                dart = settle_leaving(search, head);
             } else {
                 place = self.put(place, head);
                 self.place_twin(search, head, dart);
@@ -128,15 +129,16 @@ impl Places {
         self.place.set(root, place);
     }
 
-    /// Makes all lists, of edges whose sides are settled. Each list has as many places as its vertex has darts.
-    pub fn list_all(&mut self, links: &Links, search: &Search) {
+    /// Settles the sides of all edges, and makes all lists. Each list has as many places as its vertex has darts.
+    pub fn list_all(&mut self, links: &Links, search: &mut Search) {
         self.count = 0;
         for vertex in 0..links.vertices {
             self.place.set(vertex, self.count);
             self.count = plus(self.count, links.degree.get(vertex));
         }
         for place in 0..search.root_count {
-            self.list_from(links, search, search.roots.get(place));
+            let root = search.roots.get(place);
+            self.list_from(links, search, root);
         }
     }
 

@@ -7,6 +7,12 @@ ghost use Rattle.std.specs.Prelude.{◌<◌};
 /// Stands for no vertex, no dart and no edge: its cell is none that belongs to one.
 pub const NONE: u32 = 0xffff;
 
+/// More than there are darts: a bound that is known of a loop along them saves a test.
+pub const MANY_DARTS: u32 = 2048;
+
+/// More than a search has steps.
+pub const MANY_STEPS: u32 = 4096;
+
 /// N numbers; of a place the rest by N counts.
 #[derive(Drop)]
 pub struct Row<const N: usize> {

@@ -11,7 +11,6 @@ use crate::ring::OddRing;
 use crate::row::NONE;
 use crate::search::Search;
 use crate::shown::Forest;
-use crate::signs::settle_all;
 use graph6_text::Graph;
 use left_right_check::is_k5;
 use map_lists::Rotations;
@@ -85,8 +84,7 @@ impl LeftRightTest {
         requires { n < 4096 }
         ensures { IfOk result (λ lists. length lists ≡ n) }
     {
-        settle_all(&self.links, &mut self.search);
-        self.places.list_all(&self.links, &self.search);
+        self.places.list_all(&self.links, &mut self.search);
         self.places.lists(spent, n)
     }
 }
