@@ -121,10 +121,10 @@ fn close_rounds(
     for v in 0..ends.len() {
         let end = ends[v];
         close_round(darts, start as u32, end as u32);
-        vertices.push(VertexRecord {
+        vertices.push_reserved(VertexRecord {
             first: start as u32,
             degree: (end - start) as u16,
-        })?;
+        });
         start = end;
     }
     Ok(())

@@ -305,7 +305,7 @@ impl HalfMap {
         ends.reserve(self.vertices.len())?;
         for vertex in &self.vertices {
             push_heads(&mut entries, &self.darts, vertex.first, vertex.degree)?;
-            ends.push(entries.len())?;
+            ends.push_reserved(entries.len());
         }
         Ok(Rotations::from_parts(entries, ends))
     }

@@ -54,5 +54,11 @@ loop-v-preserved c =
         | inr m ↦ (let e : w ≡ v = omega arith in rw e (omega arith))
       ];
       rounds = AreRounds-more ends c.args.darts.now c.loop-v.darts c.close_round.new.darts c.loop-v.start _ v (v + 1) h.rounds h.before h.start_is refl (omega (arith, h.start_is)) c.close_round.auto.darts c.close_round.ensures.here c.close_round.ensures.elsewhere refl;
-      vertices = rw c.in_ok-push.ensures.items (AreRoundVertices-push ends c.loop-v.vertices.items v _ h.vertices h.start_is (let begins = h.start_is in omega arith));
+      vertices = rw c.push_reserved.ensures.items (AreRoundVertices-push ends c.loop-v.vertices.items v _ h.vertices h.start_is (let begins = h.start_is in omega arith));
+      room = omega (arith, h.room, c.push_reserved.ensures.capacity);
     }
+
+pub push_reserved-requires : goal.push_reserved-requires
+push_reserved-requires c =
+    let h = c.loop-v.invariant in
+    omega (arith, h.room, h.vertices.count, c.loop-v-test.true, c.loop-v.vertices.ok.0)

@@ -1,4 +1,5 @@
-use Rattle.std.proofs.Common.{◌≡◌, ◌∷◌, ℕ, ◌<◌, ◌≤◌, get_or}
+use Rattle.std.proofs.Common.{◌≡◌, ◌∷◌, ℕ, ◌<◌, ◌≤◌, length, get_or}
+use Rattle.std.specs.Vec.{vec_capacity}
 use Rattle.half_edges.specs.Rounds.{AreRounds, AreRoundVertices}
 use Rattle.half_edges.proofs.arena.close_rounds.Given as goal
 
@@ -8,4 +9,5 @@ invariant-loop-v l = record {
   before : (w : ℕ) → w < l.v → get_or l.ends w 0 ≤ l.start;
   rounds : AreRounds l.ends l.fn.darts l.darts l.v;
   vertices : AreRoundVertices l.ends l.vertices.items l.v;
+  room : length l.ends ≤ vec_capacity l.vertices;
 }
