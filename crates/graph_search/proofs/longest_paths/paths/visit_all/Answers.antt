@@ -1,9 +1,9 @@
-use Rattle.std.proofs.Common.{◌≡◌, ◌+◌, ◌-◌, ◌<◌, ℕ, List, length, get_or, Contains, refl, sym, ap, ◌∙◌, subst, arith}
+use Rattle.std.proofs.Common.{◌≡◌, ◌≢◌, ◌+◌, ◌-◌, ◌<◌, ℕ, List, length, get_or, set, Contains, refl, sym, ap, ◌∙◌, subst, arith}
 use Rattle.std.proofs.lemmas.List.{get_or_default}
 use Rattle.std.proofs.lemmas.List.Elements.{Contains-get_or}
 use Rattle.graph_search.specs.Arcs.{arcs_of, IsAcyclic}
-use Rattle.graph_search.specs.Progress.{IsUsed, IsProgress, IsAt, used_at}
-use Rattle.graph_search.proofs.Progress.{IsVisited, IsVisited-none, IsVisited-more, IsUsed-at_base, IsUsed-raised, used_at-here, some_waits, head_queued, head_in, head_run, IsAt-none, IsAt-visited, IsAt-passed, AreLongest-from, IsTopological-from}
+use Rattle.graph_search.specs.Progress.{IsRaised}
+use Rattle.graph_search.proofs.Progress.{IsPut, IsVisited, IsVisited-none, IsVisited-more, IsUsed-at_base, IsUsed-raised, used_at-here, some_waits, head_queued, head_in, head_run, IsAt-none, IsAt-visited, IsAt-passed, AreLongest-from, IsTopological-from, IsUsed, IsProgress, IsAt, used_at}
 use Rattle.graph_search.proofs.longest_paths.paths.visit_all.Goals as goal
 
 -- the vertex e at the head of the queue, and the arc at place k of its list
@@ -32,6 +32,17 @@ module _ (arcs : List (List ℕ)) (base : ℕ) (a : IsAcyclic arcs base) (head :
 
     more : (n'' w'' q'' : List ℕ) → IsUsed base e (get_or items k 0) n' w' q' n'' w'' q'' → IsVisited arcs base e (k + 1) n w q n'' w'' q''
     more n'' w'' q'' u = IsVisited-more arcs base a n w q n' w' q' n'' w'' q'' e k e_in within (head_queued arcs base a head at.0 n w q at.1 l e is) h (subst (λ us. IsUsed base e (get_or us k 0) n' w' q' n'' w'' q'') same u)
+
+    abbrev left : ℕ
+    left = get_or w' (get_or items k 0) 0 - 1
+
+    -- the arc to the base is used
+    used_at_base : get_or items k 0 ≡ base → IsVisited arcs base e (k + 1) n w q n' (set w' (get_or items k 0) left) q'
+    used_at_base b = more n' (set w' (get_or items k 0) left) q' (IsUsed-at_base base e (get_or items k 0) left n' w' q' r_waits (omega (arith, some)) b)
+
+    -- the arc to another vertex is used
+    used_raised : (n'' q'' : List ℕ) → get_or items k 0 ≢ base → IsRaised n' n'' e (get_or items k 0) → IsPut left (get_or items k 0) q' q'' → IsVisited arcs base e (k + 1) n w q n'' (set w' (get_or items k 0) left) q''
+    used_raised n'' q'' b raised put = more n'' (set w' (get_or items k 0) left) q'' (IsUsed-raised base e (get_or items k 0) left n' w' q' r_waits (omega (arith, some)) n'' q'' b raised put)
 
 pub list-r-items-requires : goal.list-r-items-requires
 list-r-items-requires c =
@@ -71,40 +82,19 @@ loop-r-init c = IsVisited-none c.args.arcs.now c.args.base c.index-e.result.now 
 pub loop-r-preserved-then-r-base : goal.loop-r-preserved-then-r-base
 loop-r-preserved-then-r-base c =
     let l : c.loop-head.head < length c.loop-head.queue.items = omega (arith, c.if-len-head.false, c.len.ensures) in
-    let at = c.loop-head.invariant in
-    let h = c.loop-r.invariant in
-    let r = get_or c.list-r-items.result.now c.loop-r.r-index 0 in
-    let left : ℕ = get_or c.loop-r.waiting r 0 - 1 in
-    let waits = some _ _ c.requires.acyclic _ _ _ _ at l _ c.index-e.ensures _ _ c.list-r-items.ensures c.loop-r-test.true _ _ _ h in
-    let inside = r_waits _ _ c.requires.acyclic _ _ _ _ at l _ c.index-e.ensures _ _ c.list-r-items.ensures c.loop-r-test.true _ _ _ h in
-    more _ _ c.requires.acyclic _ _ _ _ at l _ c.index-e.ensures _ _ c.list-r-items.ensures c.loop-r-test.true _ _ _ h _ _ _
-    (IsUsed-at_base c.args.base c.index-e.result.now r left c.loop-r.number c.loop-r.waiting c.loop-r.queue.items inside (omega (arith, waits)) c.if-r-base.true)
+    used_at_base _ _ c.requires.acyclic _ _ _ _ c.loop-head.invariant l _ c.index-e.ensures _ _ c.list-r-items.ensures c.loop-r-test.true _ _ _ c.loop-r.invariant c.if-r-base.true
 
 pub loop-r-preserved-then-left-ne0 : goal.loop-r-preserved-then-left-ne0
 loop-r-preserved-then-left-ne0 c =
     let l : c.loop-head.head < length c.loop-head.queue.items = omega (arith, c.if-len-head.false, c.len.ensures) in
-    let at = c.loop-head.invariant in
-    let h = c.loop-r.invariant in
-    let r = get_or c.list-r-items.result.now c.loop-r.r-index 0 in
-    let left : ℕ = get_or c.loop-r.waiting r 0 - 1 in
-    let waits = some _ _ c.requires.acyclic _ _ _ _ at l _ c.index-e.ensures _ _ c.list-r-items.ensures c.loop-r-test.true _ _ _ h in
-    let inside = r_waits _ _ c.requires.acyclic _ _ _ _ at l _ c.index-e.ensures _ _ c.list-r-items.ensures c.loop-r-test.true _ _ _ h in
-    more _ _ c.requires.acyclic _ _ _ _ at l _ c.index-e.ensures _ _ c.list-r-items.ensures c.loop-r-test.true _ _ _ h _ _ _
-    (IsUsed-raised c.args.base c.index-e.result.now r left c.loop-r.number c.loop-r.waiting c.loop-r.queue.items inside (omega (arith, waits)) c.raise.new.number c.loop-r.queue.items c.if-r-base.false c.raise.ensures
-    (record { put = λ z. absurd (c.if-left-ne0.true z); kept = λ nz. refl }))
+    used_raised _ _ c.requires.acyclic _ _ _ _ c.loop-head.invariant l _ c.index-e.ensures _ _ c.list-r-items.ensures c.loop-r-test.true _ _ _ c.loop-r.invariant c.raise.new.number c.loop-r.queue.items c.if-r-base.false c.raise.ensures
+    (record { put = λ z. absurd (c.if-left-ne0.true z); kept = λ nz. refl })
 
 pub loop-r-preserved : goal.loop-r-preserved
 loop-r-preserved c =
     let l : c.loop-head.head < length c.loop-head.queue.items = omega (arith, c.if-len-head.false, c.len.ensures) in
-    let at = c.loop-head.invariant in
-    let h = c.loop-r.invariant in
-    let r = get_or c.list-r-items.result.now c.loop-r.r-index 0 in
-    let left : ℕ = get_or c.loop-r.waiting r 0 - 1 in
-    let waits = some _ _ c.requires.acyclic _ _ _ _ at l _ c.index-e.ensures _ _ c.list-r-items.ensures c.loop-r-test.true _ _ _ h in
-    let inside = r_waits _ _ c.requires.acyclic _ _ _ _ at l _ c.index-e.ensures _ _ c.list-r-items.ensures c.loop-r-test.true _ _ _ h in
-    more _ _ c.requires.acyclic _ _ _ _ at l _ c.index-e.ensures _ _ c.list-r-items.ensures c.loop-r-test.true _ _ _ h _ _ _
-    (IsUsed-raised c.args.base c.index-e.result.now r left c.loop-r.number c.loop-r.waiting c.loop-r.queue.items inside (omega (arith, waits)) c.raise.new.number c.push.new.self.items c.if-r-base.false c.raise.ensures
-    (record { put = λ z. c.in_ok-push.ensures.items; kept = λ nz. absurd (nz c.if-left-ne0.false) }))
+    used_raised _ _ c.requires.acyclic _ _ _ _ c.loop-head.invariant l _ c.index-e.ensures _ _ c.list-r-items.ensures c.loop-r-test.true _ _ _ c.loop-r.invariant c.raise.new.number c.push.new.self.items c.if-r-base.false c.raise.ensures
+    (record { put = λ z. c.in_ok-push.ensures.items; kept = λ nz. absurd (nz c.if-left-ne0.false) })
 
 pub loop-head-init : goal.loop-head-init
 loop-head-init c =

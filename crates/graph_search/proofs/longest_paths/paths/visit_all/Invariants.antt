@@ -1,6 +1,5 @@
 use Rattle.std.proofs.Common.{ℕ}
-use Rattle.graph_search.specs.Progress.{IsAt}
-use Rattle.graph_search.proofs.Progress.{IsVisited}
+use Rattle.graph_search.proofs.Progress.{IsVisited, IsAt}
 use Rattle.graph_search.proofs.longest_paths.paths.visit_all.Given as goal
 
 abbrev pub invariant-loop-head : goal.invariant-loop-head
