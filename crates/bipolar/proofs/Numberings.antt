@@ -6,7 +6,7 @@ use Rattle.map_theory.specs.Paths.{SameFace}
 use Rattle.map_theory.proofs.DartLemmas.{get_or-dart_number, HasDart-face_step}
 use Rattle.map_theory.proofs.DartPermutations.{dart_of, rotation, twin, dart_of-twin}
 use Rattle.plane_laws.proofs.DartPaths.{twin-number, face_together, same_face, dart_of-face_step}
-use Rattle.bipolar_faces.specs.Upward.{InFace, IsDual}
+use Rattle.bipolar_faces.proofs.Upward.{InFace, IsDual}
 use Rattle.bipolar_faces.proofs.Faces.{twin_in, step_in, step_face}
 use Rattle.bipolar_faces.proofs.Numbers.{same_number}
 use Rattle.bipolar_faces.proofs.Dual.{dual_numbers, unique, below_faces}

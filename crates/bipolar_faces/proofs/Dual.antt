@@ -6,7 +6,7 @@ use Rattle.classes.proofs.Counting.{count_below_all, count_below_into, count_bel
 use Rattle.classes.proofs.Classes.{Together-from, same_class-from, Together-not, cases_Together, Together-label, label-lt}
 use Rattle.classes.proofs.Orbits.{orbits_of, length-orbits_of, IsLabels-orbits_of}
 use Rattle.classes.proofs.Bound.{after}
-use Rattle.bipolar_faces.specs.Upward.{InFace, IsBipolar, IsRising, IsDual}
+use Rattle.bipolar_faces.proofs.Upward.{InFace, IsBipolar, IsRising, IsDual}
 use Rattle.bipolar_faces.proofs.Falls.{last_below, last_below-passes, some_or_none, but, count_but}
 use Rattle.bipolar_faces.proofs.Faces.{up, twin_in, steps, step_face, is_up, up_from, is_down, twin_up, face_fails}
 use Rattle.bipolar_faces.proofs.Numbers.{same_number}

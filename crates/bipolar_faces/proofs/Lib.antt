@@ -1,4 +1,5 @@
 -- The lemmas on falls, faces and their numbers.
+pub mod Upward
 pub mod Falls
 pub mod Faces
 pub mod Numbers

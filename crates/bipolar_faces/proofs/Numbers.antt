@@ -4,7 +4,7 @@ use Rattle.std.proofs.lemmas.Bool.{cases_Bool, ltb-true, lt-ltb}
 use Rattle.classes.proofs.Classes.{cases_Together}
 use Rattle.classes.proofs.Orbits.{orbits_of, orbits_of-marked}
 use Rattle.classes.proofs.Bound.{after}
-use Rattle.bipolar_faces.specs.Upward.{SameTail, InFace, IsBipolar, IsRising}
+use Rattle.bipolar_faces.proofs.Upward.{SameTail, InFace, IsBipolar, IsRising}
 use Rattle.bipolar_faces.proofs.Falls.{kept_on}
 use Rattle.bipolar_faces.proofs.Faces.{up, twin_in, steps, corner, is_up, up_from, is_down, down_from, twin_up, chain, base_only, crossing_before}
 

@@ -1,2 +1,1 @@
 -- Darts that go upwards or downwards, by the ranks of their vertices.
-pub mod Upward

@@ -1,5 +1,5 @@
 -- The classes into which pairs join the numbers below k, and the orbits of a list of images.
-use Rattle.std.specs.Prelude.{ℕ, zero, suc, ◌+◌, ◌*◌, ◌<◌, min, max, Bool, true, false, ◌≡◌, ◌==◌, if◌then◌else◌, List, [], ◌∷◌, map, length, slice_index_or, AllPairs, All, ◌≢◌}
+use Rattle.std.specs.Prelude.{ℕ, zero, suc, ◌+◌, ◌<◌, min, max, Bool, true, false, ◌≡◌, ◌==◌, if◌then◌else◌, List, ◌∷◌, map, length, slice_index_or, AllPairs, All, [], ◌≢◌}
 use Rattle.std.specs.List.{range_with_len, enumerate_from}
 
 -- how many numbers below n pass a test
@@ -55,24 +55,6 @@ image images i = slice_index_or images i i
 pub record IsPermutationOfBelow (images : List ℕ) : Type 0 where
   pub within : All (λ i. i < length images) images
   pub distinct : AllPairs ◌≢◌ images
-
--- the images of `second` after those of `first`
-abbrev pub composed : List ℕ → List ℕ → List ℕ
-composed second first = map (image second) first
-
--- the classes into which two lists of images together join the numbers
-abbrev pub joint_classes : List ℕ → List ℕ → List ℕ
-joint_classes one other = merge_all (orbits one) (enumerate_from 0 other)
-
--- The images pair the numbers: each has another for its partner, and is the partner's partner.
-pub record IsPairingOfBelow (images : List ℕ) : Type 0 where
-  pub within : All (λ i. i < length images) images
-  pub back : (i : ℕ) → i < length images → image images (image images i) ≡ i
-  pub other : (i : ℕ) → i < length images → image images i ≢ i
-
--- The Euler bound for two permutations of the numbers below 2m: a permutation and a pairing with c classes together. The orbits of the permutation, and of the permutation after the pairing, are at most 2c + m, and d is half of what is missing.
-pub record IsWithinEuler (permutation pairing : List ℕ) (m d : ℕ) : Type 0 where
-  pub bound : orbit_count permutation + orbit_count (composed permutation pairing) + 2 * d ≡ 2 * class_count (joint_classes permutation pairing) + m
 
 -- The classes `one` are the classes `two` with those of a and b, which are apart there, made one; so they are one fewer.
 pub record IsMerged (two one : List ℕ) (a b : ℕ) : Type 0 where

@@ -5,15 +5,22 @@ use Rattle.std.proofs.lemmas.Int.{ints}
 use Rattle.pg_plane.specs.declared.point.Point.{Point}
 use Rattle.pg_plane.specs.Geometry.{area}
 use Rattle.pg_plane.proofs.Ring.{ring, sums}
-use Rattle.contour_runs.specs.Runs.{Step, Stage, stage_after, IsStep, IsFaceOf}
+use Rattle.contour_runs.specs.Runs.{Step, Stage, stage_after, IsStep, IsFaceOf, IsRun}
 use Rattle.contour_runs.proofs.Stages.{IsStage-run, IsRun-less, count-stage_after}
 use Rattle.contour_runs.specs.Wood.{Coordinates, coordinates, drawn_one, drawn_two, wood_points, point_of}
 use Rattle.contour_runs.specs.Spread.{IsSpread}
 use Rattle.contour_runs.specs.Contours.{IsFalling}
-use Rattle.contour_runs.specs.WoodPointsLaws.{IsWholeRun, StandsAt, IsCornered}
+use Rattle.contour_runs.specs.WoodPointsLaws.{StandsAt, IsCornered}
 use Rattle.contour_runs.proofs.Areas.{spread_area}
 use Rattle.contour_runs.proofs.Steps.{two_gain-high, one_after-new, two_after-new, two_after-older, IsFalling-run}
 use Rattle.contour_runs.proofs.WoodPointsFaces.{spread_run}
+
+-- a run of n steps that places m vertices, of which the last covers all but the base
+pub record IsWholeRun (steps : ℕ → Step) (n m : ℕ) : Type 0 where
+  pub run : IsRun steps n
+  pub count : m ≡ n + 2
+  pub some : 3 ≤ m
+  pub end : (stage_after steps n).width ≡ 3
 
 -- where the drawing has the first vertex, and the others
 pub drawn_one-first : (at : Coordinates) (v : ℕ) → v ≡ 0 → drawn_one at v ≡ at.one 0 - 1

@@ -3,7 +3,8 @@ use Rattle.std.specs.Prelude.{ℕ, zero, suc, ◌≡◌, List, [], ◌∷◌, ma
 use Rattle.std.specs.List.{range_with_len}
 use Rattle.std.proofs.Common.{inl, inr, arith}
 use Rattle.contour_runs.specs.Runs.{Stage, contour}
-use Rattle.contour_runs.specs.FaceRuns.{IsRun, Step, moved, vertex_after, place_after, stage_after, IsStep, faces_made, face_vertex, face_length}
+use Rattle.contour_runs.proofs.FaceRunsFaces.{face_length, face_vertex}
+use Rattle.contour_runs.specs.FaceRuns.{IsRun, Step, moved, vertex_after, place_after, stage_after, IsStep, faces_made}
 
 -- a row of new vertices, and a single one with a neighbour at each place
 abbrev pub row : ℕ → ℕ → ℕ → ℕ → Step

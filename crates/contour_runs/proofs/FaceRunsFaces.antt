@@ -1,4 +1,5 @@
 -- No two faces that a run makes have a dart in common.
+use Rattle.std.specs.Prelude.{nat_le, if◌then◌else◌}
 use Rattle.std.proofs.Common.{◌≡◌, ◌⊎◌, ℕ, suc, ◌+◌, ◌-◌, ◌<◌, ◌≤◌, sym, ap, ◌∙◌, subst, inl, inr, arith}
 use Rattle.std.proofs.lemmas.Bool.{cases_order}
 use Rattle.contour_runs.specs.Runs.{Stage}
@@ -8,6 +9,13 @@ use Rattle.contour_runs.specs.FaceRuns.{Step, after, stage_after, IsStep, IsRun,
 use Rattle.contour_runs.specs.FaceRunsLaws.{GoesAlong}
 use Rattle.contour_runs.proofs.FaceRunsPlaces.{cut-lt, cut-le, cut-first, cut-last, order, vertex_after-low, vertex_after-new, vertex_after-high}
 use Rattle.contour_runs.proofs.FaceRunsStages.{IsStage-run, IsRun-less, count-le}
+
+-- how many vertices face i has, and which: those of the contour from cut to cut, and then the new ones, the last first
+abbrev pub face_length : Step → ℕ → ℕ
+face_length s i = s.cut (suc i) + 1 - s.cut i + s.vertices
+
+unfoldable pub face_vertex : Stage → Step → ℕ → ℕ → ℕ
+face_vertex g s i r = if nat_le (s.cut i + r) (s.cut (suc i)) then g.vertex (s.cut i + r) else g.count + face_length s i - suc r
 
 -- it went along the contour before the step, at one side of it
 pub record IsBeside (g : Stage) (s : Step) (x y : ℕ) : Type 0 where

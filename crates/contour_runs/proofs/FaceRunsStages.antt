@@ -5,7 +5,7 @@ use Rattle.contour_runs.specs.Runs.{Stage, base}
 use Rattle.contour_runs.specs.Laws.{IsStage}
 use Rattle.contour_runs.proofs.Upward.{upward}
 use Rattle.contour_runs.specs.FaceRuns.{Step, moved, vertex_after, place_after, after, stage_after, IsStep, IsRun}
-use Rattle.contour_runs.proofs.FaceRunsPlaces.{turn-le, order, first_turn, last_turn, moved-le, vertex_after-high, place_after-older}
+use Rattle.contour_runs.proofs.FaceRunsPlaces.{turn-le, order, first_turn, last_turn, vertex_after-high}
 
 -- the base
 pub IsStage-base : IsStage base
@@ -84,13 +84,3 @@ IsStage-run steps (suc n) h = IsStage-after (stage_after steps n) (steps n) (IsS
 -- vertices only come
 pub count-le : (steps : ℕ → Step) (m n : ℕ) → m ≤ n → (stage_after steps m).count ≤ (stage_after steps n).count
 count-le steps m n l = upward (λ k. (stage_after steps m).count ≤ (stage_after steps k).count) m n l (omega arith) (λ k a b c. omega arith)
-
--- order is kept
-pub order_kept : (steps : ℕ → Step) (m n u v : ℕ) → IsRun steps n → m ≤ n → u < (stage_after steps m).count → v < (stage_after steps m).count → (stage_after steps m).place u ≤ (stage_after steps m).place v → (stage_after steps n).place u ≤ (stage_after steps n).place v
-order_kept steps m n u v h l a b e =
-    upward (λ k. (stage_after steps k).place u ≤ (stage_after steps k).place v) m n l e
-    (λ k low high less.
-    let g = stage_after steps k in
-    let c = count-le steps m k low in
-    let le = moved-le g (steps k) (h k high) (g.place u) (g.place v) less in
-    omega (arith, place_after-older g (steps k) u (omega arith), place_after-older g (steps k) v (omega arith)))

@@ -83,20 +83,6 @@ pub record IsDartOf (g : Stage) (s : Step) (i x y : ℕ) : Type 0 where
   pub within : i < s.faces
   pub dart : IsAlong g s i x y ⊎ (IsUp g s i x y ⊎ (IsAcross g s i x y ⊎ IsDown g s i x y))
 
--- how many vertices face i has, and which: those of the contour from cut to cut, and then the new ones, the last first
-abbrev pub face_length : Step → ℕ → ℕ
-face_length s i = s.cut (suc i) + 1 - s.cut i + s.vertices
-
-unfoldable pub face_vertex : Stage → Step → ℕ → ℕ → ℕ
-face_vertex g s i r = if nat_le (s.cut i + r) (s.cut (suc i)) then g.vertex (s.cut i + r) else g.count + face_length s i - suc r
-
--- the step k covers v: it stands on the contour strictly between the two places
-pub record IsCovered (steps : ℕ → Step) (k v : ℕ) : Type 0 where
-  pub place : ℕ
-  pub low : (steps k).first < place
-  pub high : place < (steps k).last
-  pub vertex : (stage_after steps k).vertex place ≡ v
-
 -- v stands strictly under a face of the step k, and so is no neighbour of what it puts on
 pub record IsUnder (steps : ℕ → Step) (k v : ℕ) : Type 0 where
   pub face : ℕ

@@ -1,10 +1,6 @@
 -- The laws of runs.
-use Rattle.std.specs.Prelude.{ℕ, suc, ◌+◌, ◌*◌, ◌-◌, ◌<◌, ◌≤◌, ◌≡◌, ◌≢◌, ◌⊎◌, List, [], ◌∷◌, ◌++◌, map, length, slice_index}
-use Rattle.contour_runs.specs.Runs.{Step, Stage, moved, stage_after, IsRun, contour, IsCovered, IsFaceOf, IsDartOf, faces_made}
-
--- The place map does not fall.
-abbrev pub PlacesDoNotFall : Type 0
-PlacesDoNotFall = (s : Step) (i j : ℕ) → s.first < s.last → i ≤ j → moved s i ≤ moved s j
+use Rattle.std.specs.Prelude.{ℕ, suc, ◌+◌, ◌*◌, ◌-◌, ◌<◌, ◌≤◌, ◌≡◌, ◌≢◌, ◌⊎◌, List, ◌∷◌, ◌++◌, map, length, slice_index, []}
+use Rattle.contour_runs.specs.Runs.{Step, Stage, stage_after, IsRun, contour, IsCovered, IsFaceOf, faces_made}
 
 -- What holds at a stage: the two vertices of the base are the ends of the contour, what stands there is placed, each at its own place, and each place that a vertex has is one of the contour.
 pub record IsStage (g : Stage) : Type 0 where
@@ -15,15 +11,6 @@ pub record IsStage (g : Stage) : Type 0 where
   pub placed : (i : ℕ) → i < g.width → g.vertex i < g.count
   pub own : (i : ℕ) → i < g.width → g.place (g.vertex i) ≡ i
   pub within : (v : ℕ) → v < g.count → g.place v < g.width
-
--- A run comes to such a stage, with two vertices more than steps.
-abbrev pub StageOfRun : Type 0
-StageOfRun = (steps : ℕ → Step) (n : ℕ) → IsRun steps n → IsStage (stage_after steps n) × ((stage_after steps n).count ≡ n + 2)
-
--- Along a run places keep their order: what is not before a vertex comes not before it later.
-abbrev pub OrderKept : Type 0
-OrderKept =
-    (steps : ℕ → Step) (m n u v : ℕ) → IsRun steps n → m ≤ n → u < m + 2 → v < m + 2 → (stage_after steps m).place u ≤ (stage_after steps m).place v → (stage_after steps n).place u ≤ (stage_after steps n).place v
 
 -- Just one step covers v, and it does not stand on the contour in the end.
 pub record IsCoveredOnce (steps : ℕ → Step) (n v : ℕ) : Type 0 where
@@ -37,11 +24,6 @@ pub record IsCoveredOnce (steps : ℕ → Step) (n v : ℕ) : Type 0 where
 abbrev pub CoveredOnce : Type 0
 CoveredOnce =
     (steps : ℕ → Step) (n v : ℕ) → IsRun steps n → v < n + 2 → (((stage_after steps n).vertex ((stage_after steps n).place v) ≡ v) × ((k : ℕ) → k < n → ¬ IsCovered steps k v)) ⊎ IsCoveredOnce steps n v
-
--- Each face is made by just one step, and no two faces have a dart in common.
-abbrev pub FaceMadeOnce : Type 0
-FaceMadeOnce =
-    (steps : ℕ → Step) (n k l i j x y : ℕ) → IsRun steps n → k < n → l < n → IsDartOf steps k i x y → IsDartOf steps l j x y → (k ≡ l) × (i ≡ j)
 
 -- The faces made and the places of the contour are twice as many as the vertices, less two.
 abbrev pub FaceCount : Type 0

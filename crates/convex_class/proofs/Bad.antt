@@ -13,7 +13,7 @@ use Rattle.euler_faces.specs.FaceWalks.{walk_at, first_number, AreFaces}
 use Rattle.euler_faces.proofs.NumberLemmas.{live_from, number_at-is, some_of}
 use Rattle.euler_faces.proofs.WalkFaces.{in_class, in_walk}
 use Rattle.graph_search.specs.Cuts.{IsSeparatingPair}
-use Rattle.convex_peeling.specs.TwoFaces.{AreOnTwoFaces}
+use Rattle.convex_peeling.proofs.Meetings.{AreOnTwoFaces}
 use Rattle.convex_peeling.specs.PolyhedralMapsLaws.{IsPlaneUncut}
 use Rattle.convex_peeling.proofs.PolyhedralLemmas.{pairs_stand_on_two_faces}
 use Rattle.convex_class.specs.Clear.{IsNumber, IsOff, IsClearVertex, IsAcross, IsOffPlace, IsClearFace, after_place}

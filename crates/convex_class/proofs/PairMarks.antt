@@ -12,7 +12,7 @@ use Rattle.euler_faces.proofs.NumberLemmas.{live_from}
 use Rattle.vertex_rounds.proofs.RoundLemmas.{LeavesFrom, LeavesFrom-later, head_at, place_at, place_at-later, at_place, last_place, later_place}
 use Rattle.graph_search.specs.Cuts.{IsSeparatingPair, IsLeastPair}
 use Rattle.graph_search.proofs.PartnerLemmas.{least_pair}
-use Rattle.convex_peeling.specs.TwoFaces.{AreMetTwice}
+use Rattle.convex_peeling.proofs.Meetings.{AreMetTwice}
 use Rattle.convex_peeling.specs.PolyhedralMapsLaws.{IsPlaneUncut}
 use Rattle.convex_peeling.proofs.PolyhedralLemmas.{pairs_meet_twice}
 use Rattle.convex_class.specs.Passing.{IsPassed, IsTwiceSeen, AreMarksOf}

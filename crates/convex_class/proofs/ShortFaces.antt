@@ -7,7 +7,7 @@ use Rattle.map_theory.specs.Maps.{face_step, follows}
 use Rattle.half_edges.specs.Map.{Map, IsHalfMap, dart_at}
 use Rattle.euler_faces.specs.FaceWalks.{walk_at, AreFaces}
 use Rattle.graph_search.specs.Cuts.{IsSeparatingPair}
-use Rattle.convex_peeling.specs.TwoFaces.{AreMetTwice}
+use Rattle.convex_peeling.proofs.Meetings.{AreMetTwice}
 use Rattle.convex_peeling.specs.PolyhedralMapsLaws.{IsPlaneUncut}
 use Rattle.convex_peeling.proofs.PolyhedralLemmas.{pairs_meet_twice}
 use Rattle.convex_class.specs.Clear.{after_place}

@@ -6,7 +6,8 @@ use Rattle.pg_plane.specs.Geometry.{area}
 use Rattle.contour_runs.specs.Runs.{Stage}
 use Rattle.contour_runs.specs.Wood.{Coordinates, point_of}
 use Rattle.contour_runs.proofs.Areas.{spread_area}
-use Rattle.contour_runs.specs.FaceRuns.{Step, stage_after, IsStep, face_length, face_vertex}
+use Rattle.contour_runs.specs.FaceRuns.{Step, stage_after, IsStep}
+use Rattle.contour_runs.proofs.FaceRunsFaces.{face_length, face_vertex}
 use Rattle.contour_runs.proofs.FaceRunsPlaces.{cut-next}
 use Rattle.convex_counts.specs.Counts.{face_counts, IsTurnedRun}
 use Rattle.convex_counts.proofs.Areas.{as_named, turned_weak, first_weak, second_weak, third_weak}

@@ -6,7 +6,7 @@ use Rattle.contour_runs.specs.Wood.{Coordinates}
 use Rattle.contour_runs.specs.FaceRuns.{Step, stage_after, IsDartOf}
 use Rattle.contour_runs.specs.FaceRunsLaws.{GoesAlong}
 use Rattle.convex_counts.specs.Counts.{face_counts}
-use Rattle.convex_counts.specs.Pairs.{AreOnFirst, AreOnSecond, IsFirstSecond, IsSecondThird, IsThirdFirst}
+use Rattle.convex_counts.proofs.Kept.{AreOnFirst, AreOnSecond, IsFirstSecond, IsSecondThird, IsThirdFirst}
 use Rattle.convex_counts.specs.FacePointsLaws.{IsWholeRun}
 use Rattle.convex_counts.proofs.Steps.{IsFalling-run}
 use Rattle.convex_counts.proofs.Corners.{some_faces}

@@ -10,9 +10,8 @@ use Rattle.contour_runs.proofs.FaceRunsPlaces.{cut-last}
 use Rattle.contour_runs.proofs.FaceRunsStages.{IsStage-run, IsRun-less}
 use Rattle.convex_counts.specs.Counts.{face_counts, IsTurned, IsTurnedRun}
 use Rattle.convex_counts.specs.Contours.{IsFalling}
-use Rattle.convex_counts.specs.Pairs.{AreOnFirst, AreOnSecond, AreOnThird, IsFirstSecond, IsSecondThird, IsThirdFirst}
 use Rattle.convex_counts.proofs.Steps.{IsFalling-run}
-use Rattle.convex_counts.proofs.Kept.{KeepsFirst, KeepsSecond, KeepsThird, KeepsFirstSecond, KeepsSecondThird, KeepsThirdFirst, KeepsFirst-after, KeepsSecond-after, KeepsThird-after, KeepsFirstSecond-after, KeepsSecondThird-after, KeepsThirdFirst-after, kept_on}
+use Rattle.convex_counts.proofs.Kept.{KeepsFirst, KeepsSecond, KeepsThird, KeepsFirstSecond, KeepsSecondThird, KeepsThirdFirst, KeepsFirst-after, KeepsSecond-after, KeepsThird-after, KeepsFirstSecond-after, KeepsSecondThird-after, KeepsThirdFirst-after, kept_on, AreOnFirst, AreOnSecond, AreOnThird, IsFirstSecond, IsSecondThird, IsThirdFirst}
 use Rattle.convex_counts.proofs.Made.{first_made, second_made, first_second_made, second_third_made, third_first_made, third_made}
 
 module _ (steps : ℕ → Step) (n : ℕ) (turned : IsTurnedRun steps n) (k i : ℕ) (lk : k < n) (li : i < (steps k).faces) where

@@ -2,15 +2,13 @@
 use Rattle.std.proofs.Common.{◌≡◌, ◌≢◌, ◌⊎◌, ℕ, zero, suc, ◌+◌, ◌-◌, ◌<◌, ◌≤◌, refl, sym, ap, ◌∙◌, subst, inl, inr, arith}
 use Rattle.std.proofs.lemmas.Bool.{cases_lt, cases_eq, cases_order}
 use Rattle.contour_runs.specs.Runs.{Stage}
-use Rattle.contour_runs.specs.Laws.{IsStage}
 use Rattle.contour_runs.proofs.Upward.{upward}
 use Rattle.contour_runs.specs.Wood.{Coordinates}
 use Rattle.contour_runs.specs.FaceRuns.{Step, stage_after, IsRun}
 use Rattle.contour_runs.specs.FaceRunsLaws.{GoesAlong}
 use Rattle.contour_runs.proofs.FaceRunsPlaces.{order, cut-last, vertex_after-low, vertex_after-new, vertex_after-high}
-use Rattle.contour_runs.proofs.FaceRunsStages.{IsStage-run, IsRun-less}
 use Rattle.convex_counts.specs.Counts.{face_counts}
-use Rattle.convex_counts.specs.Pairs.{AreOnFirst, AreOnSecond, IsThirdFirst}
+use Rattle.convex_counts.proofs.Kept.{AreOnFirst, AreOnSecond, IsThirdFirst}
 use Rattle.convex_counts.specs.FacePointsLaws.{IsWholeRun}
 use Rattle.convex_counts.proofs.Apart.{find_face}
 use Rattle.convex_counts.proofs.FacePointsSides.{on_first, on_second, second_third, third_first}
@@ -39,9 +37,6 @@ module _ (steps : ℕ → Step) (n : ℕ) (whole : IsWholeRun steps n) (some : 0
 
   run : IsRun steps n
   run = whole.turned.run
-
-  sound : (k : ℕ) → k ≤ n → IsStage (st k)
-  sound k l = IsStage-run steps k (IsRun-less steps k n l run)
 
   abbrev Leads : Axis → ℕ → Type 0
   Leads c v = (u : ℕ) × IsRunEdge steps n v u × IsRising at c v u

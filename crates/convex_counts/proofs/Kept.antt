@@ -7,8 +7,37 @@ use Rattle.contour_runs.specs.FaceRuns.{Step, moved, after, stage_after, IsStep,
 use Rattle.contour_runs.proofs.FaceRunsPlaces.{moved-le, place_after-older}
 use Rattle.contour_runs.proofs.FaceRunsStages.{count-le}
 use Rattle.convex_counts.specs.Counts.{counts_after, face_counts, two_gain}
-use Rattle.convex_counts.specs.Pairs.{AreOnFirst, AreOnSecond, AreOnThird, IsFirstSecond, IsSecondThird, IsThirdFirst}
 use Rattle.convex_counts.proofs.Gains.{gain-le, one_after-older, two_after-older}
+
+-- a comes before b on the first side
+pub record AreOnFirst (at : Coordinates) (a b : ℕ) : Type 0 where
+  pub one : at.one b ≡ at.one a
+  pub two : at.two a < at.two b
+
+-- a comes before b on the second side
+pub record AreOnSecond (at : Coordinates) (a b : ℕ) : Type 0 where
+  pub one : at.one b < at.one a
+  pub two : at.two b ≡ at.two a
+
+-- a comes before b on the third side, or both are at one point
+pub record AreOnThird (at : Coordinates) (a b : ℕ) : Type 0 where
+  pub one : at.one a ≤ at.one b
+  pub sum : at.one b + at.two b ≡ at.one a + at.two a
+
+-- a is on the first side and b on the second
+pub record IsFirstSecond (at : Coordinates) (a b : ℕ) : Type 0 where
+  pub one : at.one b < at.one a
+  pub two : at.two a < at.two b
+
+-- a is on the second side and b on the third
+pub record IsSecondThird (at : Coordinates) (a b : ℕ) : Type 0 where
+  pub two : at.two b < at.two a
+  pub sum : at.one b + at.two b < at.one a + at.two a
+
+-- a is on the third side and b on the first
+pub record IsThirdFirst (at : Coordinates) (a b : ℕ) : Type 0 where
+  pub one : at.one a < at.one b
+  pub sum : at.one a + at.two a < at.one b + at.two b
 
 -- at one place on the first side or the second
 pub record KeepsFirst (g : Stage) (at : Coordinates) (a b : ℕ) : Type 0 where

@@ -10,11 +10,22 @@ use Rattle.contour_runs.specs.Runs.{Stage}
 use Rattle.contour_runs.specs.Wood.{Coordinates, point_of}
 use Rattle.contour_runs.proofs.Areas.{spread_area}
 use Rattle.contour_runs.specs.FaceRuns.{Step, stage_after, IsStep, IsAlong, IsUp, IsAcross, IsDown, IsDartOf}
-use Rattle.convex_counts.specs.Counts.{face_counts, thrice, sum_of, middle}
+use Rattle.convex_counts.specs.Counts.{face_counts}
 use Rattle.convex_counts.specs.FacePointsLaws.{IsWholeRun}
 use Rattle.convex_counts.proofs.Areas.{turned_weak, first_weak, first_strict, second_weak, second_strict, third_weak, third_strict}
 use Rattle.convex_counts.proofs.FacePointsSides.{on_first, on_second, on_third, first_second, second_third, third_first, three_sides, first_weak_pair, second_weak_pair, step}
 use Rattle.convex_counts.proofs.Apart.{new_apart}
+
+-- the point of a vertex in a drawing three times as large, and the sum of three points
+abbrev pub thrice : Coordinates → ℕ → Point
+thrice at v = record { x = pos (3 * at.one v); y = pos (3 * at.two v) }
+
+abbrev pub sum_of : Coordinates → ℕ → ℕ → ℕ → Point
+sum_of at a b c = record { x = pos (at.one a + at.one b + at.one c); y = pos (at.two a + at.two b + at.two c) }
+
+-- the place of a face: the middle of three of its vertices, that at its turn, the last one under it and the first new one
+abbrev pub middle : (ℕ → Step) → Coordinates → ℕ → ℕ → Point
+middle steps at k i = (let g = stage_after steps k in let s = steps k in sum_of at (g.vertex (s.turn i)) (g.vertex (s.cut (suc i))) g.count)
 
 -- the area of three vertices
 abbrev pub area_of : Coordinates → ℕ → ℕ → ℕ → ℤ

@@ -8,8 +8,8 @@ use Rattle.pg_plane.proofs.Ring.{neg_mul, mul_neg, sums}
 use Rattle.contour_runs.specs.FaceRuns.{Step, stage_after}
 use Rattle.contour_runs.proofs.FaceRunsStages.{IsStage-run}
 use Rattle.convex_counts.specs.Counts.{face_counts}
-use Rattle.convex_counts.specs.FacePointsLaws.{IsWholeRun, IsOuterTriangle}
-use Rattle.convex_counts.proofs.Corners.{cornered, some_faces}
+use Rattle.convex_counts.specs.FacePointsLaws.{IsWholeRun}
+use Rattle.convex_counts.proofs.Corners.{cornered, some_faces, IsOuterTriangle}
 
 -- on the one axis, from (0, 0) on the one end
 on_axis_two : (at : Coordinates) (v u w : ℕ) → at.two v ≡ 0 → at.two u ≡ 0 → at.two w ≡ 0 → at.one w ≡ 0 → at.one v ≤ at.one u → IsOnSegment (point_of at v) (point_of at u) (point_of at w)

@@ -6,7 +6,8 @@ use Rattle.convex_counts.proofs.Areas.{as_named, turned_weak}
 use Rattle.contour_runs.specs.Runs.{Stage}
 use Rattle.contour_runs.specs.Laws.{IsStage}
 use Rattle.contour_runs.specs.Wood.{Coordinates, point_of}
-use Rattle.contour_runs.specs.FaceRuns.{Step, stage_after, IsStep, IsDartOf, face_length, face_vertex}
+use Rattle.contour_runs.specs.FaceRuns.{Step, stage_after, IsStep, IsDartOf}
+use Rattle.contour_runs.proofs.FaceRunsFaces.{face_length, face_vertex}
 use Rattle.contour_runs.proofs.FaceRunsPlaces.{cut-next, cut-last}
 use Rattle.contour_runs.proofs.FaceRunsStages.{IsStage-run, IsRun-less}
 use Rattle.contour_runs.proofs.FaceRunsFaces.{one_place}

@@ -1,6 +1,5 @@
 -- Two coordinates for each vertex, by counts of faces (Felsner 2001), over a run: of the faces that a step makes, a vertex counts those that turn before its place as two and the others as one.
-use Rattle.std.specs.Prelude.{ℕ, zero, suc, ◌+◌, ◌-◌, ◌<◌, ◌≤◌, ◌≡◌, nat_lt, if◌then◌else◌, ◌*◌, pos}
-use Rattle.pg_plane.specs.declared.point.Point.{Point}
+use Rattle.std.specs.Prelude.{ℕ, zero, suc, ◌+◌, ◌-◌, ◌<◌, ◌≤◌, ◌≡◌, nat_lt, if◌then◌else◌}
 use Rattle.contour_runs.specs.Runs.{Stage}
 use Rattle.contour_runs.specs.Wood.{Coordinates}
 use Rattle.contour_runs.specs.FaceRuns.{Step, stage_after, IsRun}
@@ -50,14 +49,3 @@ pub record IsTurned (g : Stage) (at : Coordinates) (s : Step) : Type 0 where
 pub record IsTurnedRun (steps : ℕ → Step) (n : ℕ) : Type 0 where
   pub run : IsRun steps n
   pub turned : (k : ℕ) → k < n → IsTurned (stage_after steps k) (face_counts steps k) (steps k)
-
--- the point of a vertex in a drawing three times as large, and the sum of three points
-abbrev pub thrice : Coordinates → ℕ → Point
-thrice at v = record { x = pos (3 * at.one v); y = pos (3 * at.two v) }
-
-abbrev pub sum_of : Coordinates → ℕ → ℕ → ℕ → Point
-sum_of at a b c = record { x = pos (at.one a + at.one b + at.one c); y = pos (at.two a + at.two b + at.two c) }
-
--- the place of a face: the middle of three of its vertices, that at its turn, the last one under it and the first new one
-abbrev pub middle : (ℕ → Step) → Coordinates → ℕ → ℕ → Point
-middle steps at k i = (let g = stage_after steps k in let s = steps k in sum_of at (g.vertex (s.turn i)) (g.vertex (s.cut (suc i))) g.count)

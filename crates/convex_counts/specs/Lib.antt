@@ -1,7 +1,6 @@
 -- Points by counts of faces, over a run.
 pub mod Counts
 pub mod Contours
-pub mod Pairs
 pub mod Turns
 pub mod FacePointsLaws
 -- The woods of runs that make faces of any size.

@@ -15,7 +15,7 @@ use Rattle.graph_search.proofs.WalkLemmas.{Off, linked_path, walks_keep}
 use Rattle.graph_search.proofs.CutLemmas.{ne_off, off_one}
 use Rattle.graph_search.proofs.PairLemmas.{AreBoth-pair}
 use Rattle.plane_laws.proofs.ComponentPaths.{JoinsAvoiding-fewer}
-use Rattle.convex_peeling.specs.TwoFaces.{AreMetTwice}
+use Rattle.convex_peeling.proofs.Meetings.{AreMetTwice}
 use Rattle.convex_peeling.specs.PolyhedralMapsLaws.{IsPlaneUncut}
 use Rattle.convex_peeling.specs.Polyhedral.{IsThreeConnected}
 use Rattle.convex_peeling.proofs.Faces.{along_face, labels-SameFace}

@@ -1,8 +1,7 @@
 -- Where the base alone is left, the rows are those of a run.
-use Rattle.std.proofs.Common.{◌≡◌, ◌≢◌, ℕ, zero, suc, ◌+◌, ◌≤◌, Bool, true, false, ap, ◌∙◌, subst, inl, inr, arith}
-use Rattle.classes.specs.Classes.{label, count_below}
+use Rattle.std.proofs.Common.{◌≡◌, ◌≢◌, ℕ, zero, suc, ◌+◌, ◌≤◌, Bool, true, subst, arith}
 use Rattle.map_lists.specs.Lists.{Lists}
-use Rattle.map_theory.specs.Maps.{HasDart, IsSimpleMap, dart_count, face_classes}
+use Rattle.map_theory.specs.Maps.{HasDart, IsSimpleMap}
 use Rattle.contour_runs.specs.FaceRuns.{Step, faces_made, IsRun}
 use Rattle.convex_peeling.specs.Contours.{face_of}
 use Rattle.convex_laws.specs.declared.convex_rows.rows.ConvexRows.{ConvexRows}

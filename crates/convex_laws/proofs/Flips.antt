@@ -1,5 +1,5 @@
 -- Flips of Booleans.
-use Rattle.std.proofs.Common.{◌≡◌, ◌≢◌, ℕ, Bool, true, false, ◌&&◌, eqb, refl, sym, ap, ap₂, ◌∙◌, true≢false}
+use Rattle.std.proofs.Common.{◌≡◌, ℕ, Bool, true, false, ◌&&◌, eqb, refl, sym, ap, ap₂, ◌∙◌}
 use Rattle.convex_laws.specs.Walks.{flipped}
 
 pub flipped_twice : (a b : Bool) → flipped a (flipped a b) ≡ b
@@ -47,6 +47,3 @@ and_comm false false = refl
 pub pair_alike : (c : Bool) (at at' : Bool → ℕ) (r : ℕ) → ((b : Bool) → at b ≡ at' (flipped c b)) → (eqb (at false) r && eqb (at true) r) ≡ (eqb (at' false) r && eqb (at' true) r)
 pair_alike false at at' r h = ap₂ (λ x y. eqb x r && eqb y r) (h false) (h true)
 pair_alike true at at' r h = ap₂ (λ x y. eqb x r && eqb y r) (h false) (h true) ∙ and_comm (eqb (at' true) r) (eqb (at' false) r)
-
-pub not_both : (a : Bool) → a ≡ true → a ≢ false
-not_both a e f = true≢false (sym e ∙ f)

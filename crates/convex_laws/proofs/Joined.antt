@@ -7,15 +7,35 @@ use Rattle.pg_plane.specs.Geometry.{area}
 use Rattle.contour_runs.specs.Wood.{Coordinates, point_of}
 use Rattle.contour_runs.specs.FaceRuns.{Step, stage_after, faces_made}
 use Rattle.contour_runs.proofs.Upward.{upward}
-use Rattle.convex_counts.specs.Counts.{face_counts, thrice, middle}
-use Rattle.convex_counts.specs.FacePointsLaws.{IsWholeRun, outside}
-use Rattle.convex_counts.proofs.Middles.{middle_within}
-use Rattle.convex_counts.proofs.Corners.{left_of_outer, right_of_base}
-use Rattle.convex_laws.specs.Middles.{IsMiddled, IsPlaneRound, larger}
+use Rattle.convex_counts.specs.Counts.{face_counts}
+use Rattle.convex_counts.specs.FacePointsLaws.{IsWholeRun}
+use Rattle.convex_counts.proofs.Middles.{middle_within, thrice, middle}
+use Rattle.convex_counts.proofs.Corners.{left_of_outer, right_of_base, outside}
+use Rattle.convex_laws.specs.Middles.{IsMiddled, IsPlaneRound}
 use Rattle.convex_laws.proofs.Plane.{middles_are_plane}
-use Rattle.convex_laws.proofs.Larger.{larger_is_plane}
-use Rattle.convex_laws.specs.FaceDrawings.{AreDartsOf, middle_of}
-use Rattle.convex_laws.specs.FaceDrawingsLaws.{FaceCountsDraw}
+use Rattle.convex_laws.proofs.Larger.{larger_is_plane, larger}
+use Rattle.std.specs.Prelude.{nat_lt}
+use Rattle.classes.proofs.Orbits.{IsPermuting}
+use Rattle.convex_laws.specs.FaceDrawings.{IsBaseDart, IsRunDart}
+
+-- k darts, each of which leaves the vertex `tail` of the run and is on the face of that number: the twin is the dart the other way, the step goes on along the face on the left, and `back` the other way; one dart alone is the base.
+pub record AreDartsOf (steps : ℕ → Step) (n k : ℕ) (twin step back tail face : ℕ → ℕ) (base : ℕ) : Type 0 where
+  pub twins : IsPermuting twin k
+  pub steps_on : IsPermuting step k
+  pub twice : (i : ℕ) → i < k → twin (twin i) ≡ i
+  pub back_in : (i : ℕ) → i < k → back i < k
+  pub step_back : (i : ℕ) → i < k → step (back i) ≡ i
+  pub tails : (i : ℕ) → i < k → tail (step i) ≡ tail (twin i)
+  pub faces : (i : ℕ) → i < k → face (step i) ≡ face i
+  pub on_face : (i : ℕ) → i < k → IsRunDart steps n (tail i) (tail (step i)) (face i)
+  pub base_in : base < k
+  pub base_dart : IsBaseDart steps n (tail base) (tail (step base)) (face base)
+  pub one_base : (i : ℕ) → i < k → tail i ≡ 1 → tail (step i) ≡ 0 → i ≡ base
+
+-- the middle of the face of a number, of the first n steps
+unfoldable pub middle_of : (ℕ → Step) → Coordinates → ℕ → ℕ → Point
+middle_of steps at zero m = outside
+middle_of steps at (suc n) m = if nat_lt m (faces_made steps n) then middle_of steps at n m else if nat_lt m (faces_made steps (suc n)) then middle steps at n (m - faces_made steps n) else outside
 
 module _ (steps : ℕ → Step) (at : Coordinates) where
   -- the middle by the number of a face
@@ -120,5 +140,6 @@ module _ (steps : ℕ → Step) (n k : ℕ) (twin step back tail face : ℕ → 
   pub drawn : IsPlaneRound k twin step back (λ i. point_of at (tail i)) tail
   drawn = larger_is_plane k twin step back (λ i. point_of at (tail i)) tail (middles_are_plane k twin step back large tail face middles base middled)
 
-pub face_counts_draw : FaceCountsDraw
+-- Where darts are those of a whole run, the drawing by its counts is plane, and the darts round each vertex go clockwise just once round.
+pub face_counts_draw : (steps : ℕ → Step) (n k : ℕ) (twin step back tail face : ℕ → ℕ) (base : ℕ) → IsWholeRun steps n → 0 < n → AreDartsOf steps n k twin step back tail face base → IsPlaneRound k twin step back (λ i. point_of (face_counts steps n) (tail i)) tail
 face_counts_draw steps n k twin step back tail face base whole some d = drawn steps n k twin step back tail face base whole some d

@@ -5,8 +5,11 @@ use Rattle.pg_plane.specs.declared.point.Point.{Point}
 use Rattle.pg_plane.specs.Geometry.{vector, cross, area, IsBetween, IsOnSegment, AreOpposite, DoCross, IsFirstHalf, IsClockBefore}
 use Rattle.pg_plane.specs.Law.{direction}
 use Rattle.pg_plane.proofs.Ring.{ring, sums}
-use Rattle.convex_laws.specs.Middles.{next, IsBreakAt, IsPlaneRound, larger}
-use Rattle.convex_laws.specs.FaceMiddlesLaws.{LargerIsPlane}
+use Rattle.convex_laws.specs.Middles.{next, IsBreakAt, IsPlaneRound}
+
+-- a point three times as far from (0, 0)
+abbrev pub larger : Point → Point
+larger p = record { x = (p.x +ℤ p.x) +ℤ p.x; y = (p.y +ℤ p.y) +ℤ p.y }
 
 -- nine times a number
 nine : ℤ → ℤ
@@ -106,5 +109,6 @@ module _ (k : ℕ) (twin step back : ℕ → ℕ) (at : ℕ → Point) (tail : �
     one_break = λ i j li lj same a b. p.one_break i j li lj same (break_larger i a) (break_larger j b);
   }
 
-pub larger_is_plane : LargerIsPlane
+-- A drawing is plane where it is plane three times as large.
+pub larger_is_plane : (k : ℕ) (twin step back : ℕ → ℕ) (at : ℕ → Point) (tail : ℕ → ℕ) → IsPlaneRound k twin step back (λ i. larger (at i)) tail → IsPlaneRound k twin step back at tail
 larger_is_plane k twin step back at tail p = smaller_plane k twin step back at tail p

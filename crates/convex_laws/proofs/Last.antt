@@ -9,7 +9,8 @@ use Rattle.plane_peeling.proofs.RestrictedMaps.{kept_but-old, kept_but-new}
 use Rattle.plane_peeling.proofs.Rings.{entries_closed}
 use Rattle.plane_peeling.proofs.Counted.{marks_everywhere}
 use Rattle.convex_peeling.specs.Polyhedral.{IsPolyhedral}
-use Rattle.convex_peeling.specs.Contours.{face_of, Passes, IsContour, IsOpen, IsEar}
+use Rattle.convex_peeling.specs.Contours.{face_of, Passes, IsContour, IsOpen}
+use Rattle.convex_peeling.proofs.Contours.{IsEar}
 use Rattle.convex_peeling.specs.Removals.{Removal, IsTakenOff}
 use Rattle.convex_peeling.specs.FacePeelingLaws.{HasThree, AreOpen}
 use Rattle.convex_peeling.proofs.Faces.{some_dart, face_of-step}

@@ -20,8 +20,8 @@ use Rattle.convex_counts.proofs.Corners.{cornered}
 use Rattle.convex_counts.proofs.Walks.{corners_convex}
 use Rattle.convex_counts.proofs.Outer.{outer_triangle}
 use Rattle.convex_laws.specs.Middles.{IsPlaneRound}
-use Rattle.convex_laws.specs.FaceDrawings.{IsRunDart, AreDartsOf}
-use Rattle.convex_laws.proofs.Joined.{face_counts_draw}
+use Rattle.convex_laws.specs.FaceDrawings.{IsRunDart}
+use Rattle.convex_laws.proofs.Joined.{face_counts_draw, AreDartsOf}
 use Rattle.convex_laws.specs.ConvexDrawings.{IsRunMap, AreCountPoints, IsConvexDrawing, ConvexRunDraws, grid_point}
 use Rattle.convex_laws.proofs.Rounds.{step, back, steps, twins_in, back_in, step_back, head_tail, has_dart, dart_of-step, number, number_in, number_dart, number_tail, number_head, is_plane, rotations_kept}
 

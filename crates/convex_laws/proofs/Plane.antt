@@ -93,10 +93,6 @@ module _ (k : ℕ) (twin step back : ℕ → ℕ) (at : ℕ → Point) (tail fac
   named_step : (i : ℕ) → i < k → V (S i) ≡ 2 * tail (step i)
   named_step i l = ap V (stepped i l) ∙ tail-second k twin step back at tail face middle base d i l
 
-  -- the middle of the face before a dart, seen from its vertex
-  beside : ℕ → Point
-  beside i = direction S A (back i + k)
-
   way_is : (i : ℕ) → i < k → direction S A i ≡ direction step at i
   way_is i l = ap₂ (λ p q. vector p q) (here i l) (there i l)
 

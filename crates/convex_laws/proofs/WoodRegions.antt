@@ -26,9 +26,8 @@ use Rattle.convex_peeling.specs.Contours.{face_of}
 use Rattle.convex_peeling.proofs.Faces.{along_face}
 use Rattle.convex_laws.specs.ConvexWoods.{AreRoots}
 use Rattle.convex_laws.specs.ConvexWoodsLaws.{IsNamedRun, AreRisingOut}
-use Rattle.convex_laws.specs.RegionDrawings.{IsCoordinate}
+use Rattle.convex_laws.specs.RegionDrawings.{IsCoordinate, IsRegionDrawing}
 use Rattle.convex_laws.specs.Signs.{IsRisingBy}
-use Rattle.convex_laws.specs.FaceRegionsLaws.{RegionsDraw}
 use Rattle.convex_laws.proofs.SignLemmas.{IsRising-points}
 use Rattle.convex_laws.specs.Walks.{flipped, is_odd_on, IsWalk}
 use Rattle.euler_faces.specs.Chains.{GoesOn, along, over, ReachesBy, Reaches}
@@ -46,6 +45,7 @@ use Rattle.convex_laws.proofs.ConvexWoodsWhole.{wood_at, IsWoodRun-named, some_o
 use Rattle.convex_laws.proofs.FaceTests.{one_counted, two_counted, one_is_count, two_is_count}
 use Rattle.convex_laws.proofs.TestOrders.{tests_apart}
 use Rattle.convex_laws.proofs.WoodSides.{label, label-outer, label_sides, region_walk, three_inner}
+use Rattle.convex_laws.specs.ConvexDrawings.{AreCountPoints}
 
 flip_back : (p q o : Bool) → flipped p q ≡ o → q ≡ flipped o p
 flip_back p q o e = sym (flipped_twice p q) ∙ (ap (flipped p) e ∙ flipped_comm p o)
@@ -281,7 +281,8 @@ coordinate_is at m f Three v p e l k =
     let whole : at.one v + at.two v + (m - (at.one v + at.two v)) ≡ f - 1 = omega arith in
     ap (λ (p : Point). (p.x +ℤ p.y) +ℤ pos (m - (at.one v + at.two v))) e ∙ ap pos whole
 
-pub regions_draw : RegionsDraw
+-- Points by the counts of a run of a map are placed by the regions of its wood: of the edges along which the coordinates rise.
+pub regions_draw : (lists : Lists) (s d : ℕ) (steps : ℕ → Step) (n : ℕ) (rank : ℕ → ℕ) (face : ℕ → ℕ → ℕ) (at : ℕ → ℕ) (root : Axis → ℕ) (out : Axis → ℕ → ℕ) (points : List Point) → IsPlane lists → component_count lists ≡ 1 → IsNamedRun lists s d steps n rank face at → AreRoots lists (s, d) root → AreRisingOut lists (face_counts (well_turned steps) n) rank root out → AreCountPoints lists (well_turned steps) n rank points → IsRegionDrawing lists (s, d) root out points
 regions_draw lists s d steps n rank face at root out points plane connected run roots are placed =
     let h = IsWoodRun-named lists s d steps n rank face at run in
     let turned = well_turned steps in

@@ -1,17 +1,12 @@
 -- A region is one, and the counts of a run are those of the regions of its wood.
 use Rattle.std.specs.Prelude.{ℕ, ◌-◌, ◌<◌, ◌≡◌, List, length}
 use Rattle.map_lists.specs.Lists.{Lists}
-use Rattle.map_theory.specs.Maps.{Dart, IsPlane, component_count, face_count}
+use Rattle.map_theory.specs.Maps.{Dart, IsPlane, face_count}
 use Rattle.pg_plane.specs.declared.point.Point.{Point}
 use Rattle.plane_drawings.specs.Drawing.{place}
-use Rattle.contour_runs.specs.FaceRuns.{Step}
-use Rattle.convex_counts.specs.Counts.{face_counts}
-use Rattle.convex_counts.specs.Turns.{well_turned}
 use Rattle.convex_peeling.specs.Polyhedral.{IsThreeConnected}
 use Rattle.convex_counts.specs.declared.face_woods.axis.Axis.{Axis}
-use Rattle.convex_laws.specs.ConvexDrawings.{AreCountPoints}
-use Rattle.convex_laws.specs.ConvexWoods.{AreRoots, IsOut, IsConvexWood}
-use Rattle.convex_laws.specs.ConvexWoodsLaws.{IsNamedRun, AreRisingOut}
+use Rattle.convex_laws.specs.ConvexWoods.{IsOut, IsConvexWood}
 use Rattle.convex_laws.specs.Regions.{IsFaceRegion}
 use Rattle.convex_laws.specs.RegionDrawings.{IsCoordinate, IsRegionDrawing}
 use Rattle.convex_laws.specs.Signs.{IsRisingBy}
@@ -20,12 +15,6 @@ use Rattle.convex_laws.specs.Signs.{IsRisingBy}
 abbrev pub RegionsAreOne : Type 0
 RegionsAreOne =
     (lists : Lists) (base : Dart) (root : Axis → ℕ) (out : Axis → ℕ → ℕ) (c : Axis) (v k l : ℕ) → IsPlane lists → IsThreeConnected lists → IsConvexWood lists base root out → IsFaceRegion lists base root out c v k → IsFaceRegion lists base root out c v l → k ≡ l
-
--- Points by the counts of a run of a map are placed by the regions of its wood: of the edges along which the coordinates rise.
-abbrev pub RegionsDraw : Type 0
-RegionsDraw =
-    (lists : Lists) (s d : ℕ) (steps : ℕ → Step) (n : ℕ) (rank : ℕ → ℕ) (face : ℕ → ℕ → ℕ) (at : ℕ → ℕ) (root : Axis → ℕ) (out : Axis → ℕ → ℕ) (points : List Point) → IsPlane lists → component_count lists ≡ 1 → IsNamedRun lists s d steps n rank face at → AreRoots lists (s, d) root
-    → AreRisingOut lists (face_counts (well_turned steps) n) rank root out → AreCountPoints lists (well_turned steps) n rank points → IsRegionDrawing lists (s, d) root out points
 
 -- Where the darts of a wood lead along the axes whose coordinates alone rise in such a drawing, the coordinates are the numbers of faces in its regions.
 abbrev pub RisingWoodsDraw : Type 0

@@ -3,7 +3,6 @@ pub mod Middles
 pub mod FaceMiddlesLaws
 -- Drawings by counts of faces.
 pub mod FaceDrawings
-pub mod FaceDrawingsLaws
 -- Drawings of maps by counts of faces.
 pub mod ConvexDrawings
 -- Runs of polyhedral maps.

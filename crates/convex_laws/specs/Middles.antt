@@ -1,5 +1,5 @@
 -- A drawing by its darts, each with a place, that of the vertex that it leaves. The twin is the dart the other way; the step goes on along the face on the left, of any size, and `back` the other way. Each face has a number, and a point for its middle.
-use Rattle.std.specs.Prelude.{ℕ, ◌<◌, ◌≡◌, ◌≢◌, pos, ◌+ℤ◌, ◌<ℤ◌}
+use Rattle.std.specs.Prelude.{ℕ, ◌<◌, ◌≡◌, ◌≢◌, pos, ◌<ℤ◌}
 use Rattle.pg_plane.specs.declared.point.Point.{Point}
 use Rattle.pg_plane.specs.Geometry.{area, IsOnSegment, DoCross, IsClockBefore}
 use Rattle.classes.proofs.Orbits.{IsPermuting}
@@ -35,7 +35,3 @@ pub record IsPlaneRound (k : ℕ) (twin step back : ℕ → ℕ) (at : ℕ → P
   pub no_crossing : (i j : ℕ) → i < k → j < k → ¬ DoCross (at i) (at (step i)) (at j) (at (step j))
   pub some_break : (o : ℕ) → o < k → (i : ℕ) × (i < k) × (tail i ≡ tail o) × IsBreakAt twin step back at i
   pub one_break : (i j : ℕ) → i < k → j < k → tail i ≡ tail j → IsBreakAt twin step back at i → IsBreakAt twin step back at j → i ≡ j
-
--- a point three times as far from (0, 0)
-abbrev pub larger : Point → Point
-larger p = record { x = (p.x +ℤ p.x) +ℤ p.x; y = (p.y +ℤ p.y) +ℤ p.y }

@@ -13,13 +13,28 @@ use Rattle.plane_laws.proofs.EdgeBound.{hw}
 use Rattle.plane_peeling.specs.Restricted.{kept_but}
 use Rattle.plane_peeling.proofs.RestrictedMaps.{kept_but-old, kept_but-new, kept_but-itself, count-kept_but}
 use Rattle.convex_peeling.specs.Polyhedral.{IsPolyhedral}
-use Rattle.convex_peeling.specs.Contours.{face_of, Passes, IsContour, IsOpen, IsEar, spliced}
-use Rattle.convex_peeling.specs.Removals.{Removal, IsTakenOff, IsOnRemoved, two_cuts}
+use Rattle.convex_peeling.specs.Contours.{face_of, Passes, IsContour, IsOpen, IsStretch}
+use Rattle.convex_peeling.proofs.Contours.{IsEar, spliced}
+use Rattle.convex_peeling.specs.Removals.{Removal, IsTakenOff, IsOnRemoved}
 use Rattle.convex_peeling.specs.FacePeelingLaws.{HasThree}
 use Rattle.convex_peeling.proofs.Faces.{face_of-step}
 use Rattle.convex_peeling.proofs.Kept.{rim_at}
 use Rattle.convex_peeling.proofs.Sections.{leaves_once}
 use Rattle.convex_peeling.proofs.EarsOff.{spliced-low, spliced-mid, spliced-high}
+use Rattle.std.specs.Prelude.{zero, ◌≢◌}
+
+-- two places that bound a face
+abbrev pub two_cuts : ℕ → ℕ → ℕ → ℕ
+two_cuts p q zero = p
+two_cuts p q (suc i) = q
+
+-- The vertex at place i + 1 is removable next: each face there that is left is one stretch, of one edge beside the vertex at most, and none is the face inside of the base.
+pub record IsRemovableNext (lists : Lists) (alive : ℕ → Bool) (w : ℕ → ℕ) (r i : ℕ) : Type 0 where
+  pub within : suc i < r
+  pub stretches : (face : ℕ) → alive face ≡ true → Passes lists face (w (suc i)) → IsStretch lists w r face
+  pub right : suc (suc i) < r → face_of lists (w (suc (suc (suc i)))) (w (suc (suc i))) ≢ face_of lists (w (suc (suc i))) (w (suc i))
+  pub left : (h : ℕ) → suc h ≡ i → face_of lists (w (suc h)) (w h) ≢ face_of lists (w (suc i)) (w i)
+  pub base : ¬ Passes lists (face_of lists (w 0) (w r)) (w (suc i))
 
 -- the label of a face is a number of darts
 pub face_of-lt : (lists : Lists) → IsSimpleMap lists → (x y : ℕ) → HasDart lists x y → face_of lists x y < dart_count lists

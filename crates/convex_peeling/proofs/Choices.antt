@@ -5,7 +5,8 @@ use Rattle.map_lists.specs.Lists.{Lists}
 use Rattle.map_theory.specs.Maps.{HasDart, IsSimpleMap, IsPlane, follows}
 use Rattle.map_theory.proofs.DartLemmas.{HasDart-follows}
 use Rattle.convex_peeling.specs.Polyhedral.{IsPolyhedral}
-use Rattle.convex_peeling.specs.Contours.{face_of, Passes, IsContour, IsBegun, IsGap, IsStretch, IsRemovable}
+use Rattle.convex_peeling.specs.Contours.{face_of, Passes, IsContour, IsBegun, IsStretch, IsRemovable}
+use Rattle.convex_peeling.proofs.Contours.{IsGap}
 use Rattle.convex_peeling.specs.FacePeelingLaws.{SomeRemovable}
 use Rattle.convex_peeling.proofs.Faces.{some_or_none, some_dart, cases_Passes, face_of-step}
 use Rattle.convex_peeling.proofs.Crossings.{no_crossing_law}

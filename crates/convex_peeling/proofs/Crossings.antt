@@ -15,7 +15,6 @@ use Rattle.plane_laws.proofs.PlaneCuts.{two_cuts_apart}
 use Rattle.plane_laws.proofs.DartPaths.{before_dart, face_together, same_face, corner_of, numbers_apart, HoldsCut, HoldsCut-joint}
 use Rattle.plane_peeling.proofs.Rings.{entries_closed}
 use Rattle.convex_peeling.specs.Contours.{face_of, Passes, IsContour}
-use Rattle.convex_peeling.specs.FacePeelingLaws.{NoCrossing}
 use Rattle.convex_peeling.proofs.Faces.{SameFace-labels, labels-SameFace, face_of-step, along_face}
 use Rattle.convex_peeling.proofs.Kept.{kept, kept_simple, kept_plane, kept_living, living-kept, kept-living, kept-dead, HasDart-rim, kept_turn, outer_one}
 
@@ -237,8 +236,8 @@ module _ (lists : Lists) (alive : ℕ → Bool) (w : ℕ → ℕ) (r a b one : �
           ])),
         )) s t s' t' has has' e (refl, refl)).1
 
--- THE LAW: no crossing
-pub no_crossing_law : NoCrossing
+-- Two faces that are left do not cross: where one passes the places a and b and the other j and l, with a < j < b < l, they are one.
+pub no_crossing_law : (lists : Lists) (alive : ℕ → Bool) (w : ℕ → ℕ) (r a j b l one other : ℕ) → IsSimpleMap lists → IsPlane lists → IsContour lists alive w r → a < j → j < b → b < l → l ≤ r → alive one ≡ true → alive other ≡ true → Passes lists one (w a) → Passes lists one (w b) → Passes lists other (w j) → Passes lists other (w l) → one ≡ other
 no_crossing_law lists alive w r a j b l one other simple plane contour a_j j_b b_l l_r living living' at_a at_b at_j at_l =
     elim (cases_eq one other) [
       | inl e ↦ e

@@ -5,8 +5,8 @@ use Rattle.map_lists.specs.Lists.{Lists}
 use Rattle.map_theory.specs.Maps.{HasDart, IsSimpleMap, follows}
 use Rattle.map_theory.proofs.DartLemmas.{HasDart-follows}
 use Rattle.convex_peeling.specs.Polyhedral.{IsPolyhedral}
-use Rattle.convex_peeling.specs.Contours.{face_of, Passes, IsContour, IsEar}
-use Rattle.convex_peeling.specs.FacePeelingLaws.{StretchIsEar}
+use Rattle.convex_peeling.specs.Contours.{face_of, Passes, IsContour, IsStretch}
+use Rattle.convex_peeling.proofs.Contours.{IsEar}
 use Rattle.convex_peeling.proofs.Faces.{some_or_none, first_or_none, cases_Passes, face_of-step, stepped, HasDart-stepped, steps_on, along_face, before_once}
 use Rattle.convex_peeling.proofs.Sections.{leaves_once}
 
@@ -235,8 +235,8 @@ module _ (lists : Lists) (alive : ℕ → Bool) (w : ℕ → ℕ) (r face a h : 
           only = λ x y has e. (along_face lists simple (λ p q. (face_of lists p q ≡ face) × IsHere p q) here_on (w a) u1 x y has_first has (first_face ∙ sym e) (first_face, inr (0, m.some_step, sym walk_first, sym walk_second))).1;
         }
 
--- THE LAW: ears
-pub stretch_is_ear_law : StretchIsEar
+-- In a polyhedral map a face with an edge on the contour, which meets the contour in one stretch, is an ear.
+pub stretch_is_ear_law : (lists : Lists) (alive : ℕ → Bool) (w : ℕ → ℕ) (r i : ℕ) → IsSimpleMap lists → IsPolyhedral lists → IsContour lists alive w r → i < r → IsStretch lists w r (face_of lists (w (suc i)) (w i)) → (a : ℕ) × (b : ℕ) × (walk : ℕ → ℕ) × (many : ℕ) × IsEar lists w r (face_of lists (w (suc i)) (w i)) a b walk many
 stretch_is_ear_law lists alive w r i simple polyhedral contour l stretch =
     let face = face_of lists (w (suc i)) (w i) in
     let P : ℕ → Type 0 = λ j. Passes lists face (w j) in

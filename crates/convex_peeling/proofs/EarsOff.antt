@@ -8,7 +8,8 @@ use Rattle.map_theory.proofs.DartLemmas.{HasDart-follows}
 use Rattle.plane_peeling.specs.Restricted.{kept_but}
 use Rattle.plane_peeling.proofs.RestrictedMaps.{kept_but-old, kept_but-new, kept_but-itself}
 use Rattle.convex_peeling.specs.Polyhedral.{IsPolyhedral}
-use Rattle.convex_peeling.specs.Contours.{face_of, Passes, IsRim, IsContour, IsEar, spliced}
+use Rattle.convex_peeling.specs.Contours.{face_of, Passes, IsRim, IsContour}
+use Rattle.convex_peeling.proofs.Contours.{IsEar, spliced}
 use Rattle.convex_peeling.proofs.Faces.{SameFace-labels, face_of-step}
 
 module _ (lists : Lists) (w : ℕ → ℕ) (r face a b : ℕ) (walk : ℕ → ℕ) (many : ℕ) (ear : IsEar lists w r face a b walk many) where

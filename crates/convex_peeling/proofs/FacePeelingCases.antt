@@ -4,8 +4,9 @@ use Rattle.classes.specs.Classes.{merge}
 use Rattle.map_lists.specs.Lists.{Lists}
 use Rattle.map_theory.specs.Maps.{entry_after, face_classes}
 use Rattle.map_theory.proofs.DartLemmas.{Contains-from_place_of}
-use Rattle.convex_peeling.specs.Contours.{face_of, Passes, IsRim, spliced}
-use Rattle.convex_peeling.specs.Removals.{two_cuts}
+use Rattle.convex_peeling.specs.Contours.{face_of, Passes, IsRim}
+use Rattle.convex_peeling.proofs.Contours.{spliced}
+use Rattle.convex_peeling.proofs.ChainsOff.{two_cuts}
 
 -- the tetrahedron: its faces are 0 1 2, 0 3 1, 0 2 3 and 1 3 2
 abbrev tetrahedron : Lists

@@ -12,7 +12,7 @@ use Rattle.plane_peeling.proofs.RestrictedMaps.{kept_but-old, kept_but-new, kept
 use Rattle.convex_peeling.specs.Polyhedral.{IsPolyhedral}
 use Rattle.convex_peeling.specs.Contours.{face_of, Passes, IsContour, IsOpen, IsBegun, IsFirst}
 use Rattle.convex_peeling.specs.Removals.{Removal, IsTakenOff}
-use Rattle.convex_peeling.specs.FacePeelingLaws.{HasThree, FirstTakenOff}
+use Rattle.convex_peeling.specs.FacePeelingLaws.{HasThree}
 use Rattle.convex_peeling.proofs.Faces.{SameFace-labels, labels-SameFace, first_or_none, face_of-step, stepped, HasDart-stepped, steps_on, along_face}
 use Rattle.convex_peeling.proofs.Kept.{rim_at}
 use Rattle.convex_peeling.proofs.Sections.{leaves_once, rim_back}
@@ -308,8 +308,8 @@ module _ (lists : Lists) (s d : ℕ) (simple : IsSimpleMap lists) (polyhedral : 
           one_is,
         )
 
--- THE LAW: the first removal
-pub first_taken_off_law : FirstTakenOff
+-- In a polyhedral map whose vertices have three neighbours or more the face of a base may be taken off, and then the vertex before the base on it with all its faces; so the removals have begun.
+pub first_taken_off_law : (lists : Lists) (s d : ℕ) → IsSimpleMap lists → IsPolyhedral lists → HasThree lists → HasDart lists s d → (alive : ℕ → Bool) × (w : ℕ → ℕ) × (r : ℕ) × (o : Removal) × IsFirst lists s d alive w r × IsTakenOff lists alive w r o × IsContour lists o.alive o.contour o.places × IsBegun lists o.alive o.contour o.places × (o.first + 2 ≡ r) × (o.vertices ≡ 1)
 first_taken_off_law lists s d simple polyhedral three base =
     let f = first lists s d simple polyhedral base in
     let o = first_goes lists s d simple polyhedral base three f.0 f.1 f.2 in

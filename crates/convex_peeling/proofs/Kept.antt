@@ -1,6 +1,6 @@
 -- The map with the edges alone that have a face on some side that is left: its inner faces are those that are left, and its outer one goes along the contour.
 use Rattle.std.proofs.Common.{◌≡◌, ◌≢◌, ◌||◌, ℕ, zero, suc, ◌<◌, ◌≤◌, Bool, true, false, refl, sym, ap, ◌∙◌, inl, inr, arith}
-use Rattle.std.proofs.lemmas.Bool.{cases_Bool, cases_eq, or_left, or_right, or_cases, true≢false}
+use Rattle.std.proofs.lemmas.Bool.{cases_Bool, or_left, or_right, or_cases, true≢false}
 use Rattle.map_lists.specs.Lists.{Lists}
 use Rattle.map_theory.specs.Maps.{list_of, HasDart, IsSimpleMap, IsPlane, follows}
 use Rattle.map_theory.proofs.DartLemmas.{HasDart-follows}
@@ -116,22 +116,6 @@ module _ (lists : Lists) (alive : ℕ → Bool) (simple : IsSimpleMap lists) whe
         let o = contour.only (w i) y rim in
         let e : o.0 ≡ i = contour.distinct o.0 i o.1 l o.2 in
         sym o.3 ∙ ap (λ n. w (suc n)) e
-
-    -- and one to a place comes from the one before it
-    pub rim_to : (i : ℕ) → i < r → (x : ℕ) → IsRim lists alive x (w (suc i)) → x ≡ w i
-    rim_to i l x rim =
-        let o = contour.only x (w (suc i)) rim in
-        let in_r = o.1 in
-        elim (cases_eq o.0 r) [
-          | inl e ↦
-              let back : w 0 ≡ w (suc i) = sym contour.round ∙ (ap (λ n. w (suc n)) (sym e) ∙ o.3) in
-              let z : 0 ≡ suc i = contour.distinct 0 (suc i) (omega arith) (omega arith) back in
-              absurd (omega arith)
-          | inr ne ↦
-              let e : suc o.0 ≡ suc i = contour.distinct (suc o.0) (suc i) (omega arith) (omega arith) o.3 in
-              let e' : o.0 ≡ i = omega arith in
-              sym o.2 ∙ ap w e'
-        ]
 
     -- the outer face of the rest goes along the contour
     pub kept_turn : (i : ℕ) → i < r → follows kept (w (suc i)) (w i) ≡ w (suc (suc i))

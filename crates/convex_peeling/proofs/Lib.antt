@@ -1,4 +1,5 @@
 -- Faces and cuts in plane maps without cut vertices.
+pub mod Contours
 pub mod Corners
 pub mod TwoFaces
 pub mod Sides

@@ -1,5 +1,5 @@
 -- Where u and v part others in a plane map without cut vertices, two faces lead from u to v with darts off u.
-use Rattle.std.proofs.Common.{◌≡◌, ◌≢◌, ◌&&◌, ℕ, ◌<◌, Bool, true, false, not, cond, eqb, List, [], ◌∷◌, length, Contains, refl, sym, ap, ◌∙◌, subst, inl, inr}
+use Rattle.std.proofs.Common.{◌≡◌, ◌≢◌, ◌&&◌, ℕ, ◌<◌, Bool, true, false, not, cond, eqb, [], ◌∷◌, length, Contains, refl, sym, ap, ◌∙◌, subst, inl, inr}
 use Rattle.std.proofs.lemmas.Bool.{cases_eq, eq-eqb, ne_eqb, and_parts, and_from, cond-true, cond-false, true≢false, not-true}
 use Rattle.classes.specs.Classes.{same_class}
 use Rattle.map_lists.specs.Lists.{Lists}
@@ -7,15 +7,39 @@ use Rattle.map_theory.specs.Maps.{Dart, HasDart, IsSimpleMap, IsPlane, list_of, 
 use Rattle.map_theory.specs.Paths.{SameFace}
 use Rattle.map_theory.proofs.DartLemmas.{HasDart-follows, HasDart-face_step, entry_after-injective}
 use Rattle.plane_laws.proofs.DartPaths.{same_face-step}
-use Rattle.graph_search.specs.Forests.{IsAdjacency}
 use Rattle.graph_search.proofs.ForestLemmas.{IsAdjacency-simple}
 use Rattle.graph_search.specs.Cuts.{AreSeparated, IsCutVertex}
-use Rattle.graph_search.proofs.WalkLemmas.{Off, linked_turned, linked_path, path_linked_by, walks_keep}
+use Rattle.graph_search.proofs.WalkLemmas.{Off, linked_path, walks_keep}
 use Rattle.graph_search.proofs.CutLemmas.{off_one, ne_off}
 use Rattle.graph_search.proofs.PairLemmas.{AreBoth-pair, separated_turned}
-use Rattle.convex_peeling.specs.TwoFaces.{MeetTwice}
 use Rattle.convex_peeling.proofs.Corners.{SameFace-turned, SameFace-step, passed_once, comes_along}
 use Rattle.convex_peeling.proofs.Sides.{face_closed, some_entry, ring_changes, IsSide, IsSide-other, side_of}
+use Rattle.convex_peeling.specs.Polyhedral.{IsEdgeBetween}
+
+-- The faces of (u, a) and of (u, c) are two, and pass v with its darts to b and to e; u and v are no edge between them.
+pub record AreOnTwoFaces (lists : Lists) (u v a b c e : ℕ) : Type 0 where
+  pub from_u : HasDart lists u a × HasDart lists u c
+  pub from_v : HasDart lists v b × HasDart lists v e
+  pub one : SameFace lists (u, a) (v, b)
+  pub other : SameFace lists (u, c) (v, e)
+  pub apart : ¬ SameFace lists (u, a) (u, c)
+  pub no_edge : ¬ IsEdgeBetween lists (u, a) (u, c) u v
+
+-- u and v stand so on some two faces
+abbrev pub StandOnTwoFaces : Lists → ℕ → ℕ → Type 0
+StandOnTwoFaces lists u v = (a : ℕ) × (b : ℕ) × (c : ℕ) × (e : ℕ) × AreOnTwoFaces lists u v a b c e
+
+-- Two darts of u have faces that pass v with darts to other vertices than u.
+pub record AreMetTwice (lists : Lists) (u v a b c e : ℕ) : Type 0 where
+  pub from_u : HasDart lists u a × HasDart lists u c
+  pub two : a ≢ c
+  pub from_v : HasDart lists v b × HasDart lists v e
+  pub others : (b ≢ u) × (e ≢ u)
+  pub one : SameFace lists (u, a) (v, b)
+  pub other : SameFace lists (u, c) (v, e)
+
+abbrev pub MeetTwice : Lists → ℕ → ℕ → Type 0
+MeetTwice lists u v = (a : ℕ) × (b : ℕ) × (c : ℕ) × (e : ℕ) × AreMetTwice lists u v a b c e
 
 module _ (lists : Lists) (simple : IsSimpleMap lists) (u v : ℕ) (u_in : u < length lists) where
   -- u has a neighbour of the colour of s, which v alone does not part from t

@@ -14,13 +14,13 @@ use Rattle.plane_laws.proofs.EdgeBound.{one_class}
 use Rattle.plane_laws.proofs.ComponentPaths.{components_are_paths}
 use Rattle.graph_search.proofs.ForestLemmas.{IsAdjacency-simple}
 use Rattle.graph_search.specs.Cuts.{AreSeparated}
-use Rattle.graph_search.specs.Flags.{Walks}
-use Rattle.graph_search.proofs.WalkLemmas.{Off, linked_path, walks_start}
+use Rattle.graph_search.proofs.WalkLemmas.{Off, linked_path, walks_start, Walks}
 use Rattle.graph_search.proofs.CutLemmas.{off_one}
 use Rattle.graph_search.proofs.PairLemmas.{AreBoth-pair, off_both}
 use Rattle.map_theory.proofs.EntryLemmas.{Contains-here}
-use Rattle.convex_peeling.specs.PolyhedralMapsLaws.{ThreeNeighbours}
 use Rattle.convex_peeling.proofs.PolyhedralLemmas.{pair_of_separated}
+use Rattle.std.specs.Prelude.{◌≤◌}
+use Rattle.convex_peeling.specs.Polyhedral.{IsThreeConnected}
 
 -- a number is none of three, or one of them
 abbrev IsOneOf : ℕ → ℕ → ℕ → ℕ → Type 0
@@ -84,8 +84,8 @@ module _ (lists : Lists) (simple : IsSimpleMap lists) (one : component_count lis
         | suc n ↦ λ h. (walks_start lists (Off avoided) n h.0 w h.3).1 (all h.0 h.1)
       ]
 
--- THE LAW: three neighbours
-pub three_neighbours : ThreeNeighbours
+-- Each vertex of a three-connected map has three neighbours at least.
+pub three_neighbours : (lists : Lists) (v : ℕ) → IsThreeConnected lists → v < length lists → 3 ≤ length (list_of lists v)
 three_neighbours lists v three v_in =
     let some = three.some in
     let simple = three.simple in

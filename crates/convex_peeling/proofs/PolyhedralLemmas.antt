@@ -2,7 +2,7 @@
 use Rattle.std.proofs.Common.{◌≡◌, ◌≢◌, ◌⊎◌, ℕ, ◌<◌, ◌≤◌, [], ◌∷◌, length, Contains, sym, ap, ◌∙◌, subst, inl, inr, arith}
 use Rattle.std.proofs.lemmas.Bool.{cases_lt}
 use Rattle.map_lists.specs.Lists.{Lists}
-use Rattle.map_theory.specs.Maps.{Dart, HasDart, component_count, list_of, follows, face_step}
+use Rattle.map_theory.specs.Maps.{Dart, HasDart, component_count, list_of, follows, face_step, IsPlane}
 use Rattle.map_theory.specs.Paths.{SameFace}
 use Rattle.map_theory.proofs.DartLemmas.{HasDart-follows}
 use Rattle.plane_laws.proofs.ComponentPaths.{JoinsAvoiding-fewer}
@@ -10,12 +10,12 @@ use Rattle.plane_laws.proofs.Triangles.{faces_have_three}
 use Rattle.plane_peeling.proofs.RestrictedMaps.{cases_Contains}
 use Rattle.graph_search.specs.Cuts.{AreSeparated, IsSeparatingPair}
 use Rattle.graph_search.proofs.PairLemmas.{AreBoth-pair}
-use Rattle.convex_peeling.specs.Polyhedral.{IsEdgeBetween, IsPolyhedral}
-use Rattle.convex_peeling.specs.TwoFaces.{AreOnTwoFaces}
-use Rattle.convex_peeling.specs.PolyhedralMapsLaws.{IsPlaneUncut, FacesPassOnce, PairsStandOnTwoFaces, PairsMeetTwice, ThreeConnectedIsPolyhedral}
+use Rattle.convex_peeling.specs.Polyhedral.{IsEdgeBetween, IsPolyhedral, IsThreeConnected}
+use Rattle.convex_peeling.specs.PolyhedralMapsLaws.{IsPlaneUncut}
 use Rattle.convex_peeling.proofs.Corners.{SameFace-turned, SameFace-chained, SameFace-step, cases_SameFace, passed_once}
 use Rattle.convex_peeling.proofs.TwoFaces.{two_faces_part, AreOnTwoFaces-met}
-use Rattle.convex_peeling.proofs.Meetings.{meet_twice}
+use Rattle.convex_peeling.proofs.Meetings.{meet_twice, AreOnTwoFaces, StandOnTwoFaces, MeetTwice}
+use Rattle.std.specs.Prelude.{◌↔◌}
 
 -- vertices in the other order part the same
 pub AreSeparated-swapped : (lists : Lists) (u v s t : ℕ) → AreSeparated lists (u ∷ v ∷ []) s t → AreSeparated lists (v ∷ u ∷ []) s t
@@ -64,11 +64,12 @@ cases_IsEdgeBetween lists d e u v =
     cases_both P Q (inl p) (inr not_q) = inr (λ h. not_q h.1)
     cases_both P Q (inr not_p) q = inr (λ h. not_p h.0)
 
-pub faces_pass_once : FacesPassOnce
+-- Without cut vertices no face passes a vertex twice.
+pub faces_pass_once : (lists : Lists) (x y z : ℕ) → IsPlaneUncut lists → HasDart lists x y → HasDart lists x z → SameFace lists (x, y) (x, z) → y ≡ z
 faces_pass_once lists x y z map has_y has_z same = passed_once lists map.simple map.plane map.uncut x y z has_y has_z same
 
--- THE LAW: separating pairs and faces
-pub pairs_stand_on_two_faces : PairsStandOnTwoFaces
+-- Without cut vertices two vertices are a separating pair exactly where they stand on two faces, and are no edge between these.
+pub pairs_stand_on_two_faces : (lists : Lists) (u v : ℕ) → IsPlaneUncut lists → u < v → v < length lists → IsSeparatingPair lists u v ↔ StandOnTwoFaces lists u v
 pairs_stand_on_two_faces lists u v map order v_in =
     let ne : u ≢ v = λ e. (let q = e in omega arith) in (
       λ pair.
@@ -79,7 +80,8 @@ pairs_stand_on_two_faces lists u v map order v_in =
           (order, v_in, p.0, p.1, p.2),
     )
 
-pub pairs_meet_twice : PairsMeetTwice
+-- Or exactly where the faces of two darts of the lesser pass the greater with darts to others than the lesser.
+pub pairs_meet_twice : (lists : Lists) (u v : ℕ) → IsPlaneUncut lists → u < v → v < length lists → IsSeparatingPair lists u v ↔ MeetTwice lists u v
 pairs_meet_twice lists u v map order v_in =
     let ne : u ≢ v = λ e. (let q = e in omega arith) in (
       λ pair. meet_twice lists map.simple map.plane map.uncut u v v_in ne (omega arith) pair.2 pair.3 pair.4,
@@ -120,8 +122,8 @@ polyhedral_of_unpaired lists map some one unpaired =
           ];
     }
 
--- THE LAW: three-connected and polyhedral
-pub three_connected_is_polyhedral : ThreeConnectedIsPolyhedral
+-- A three-connected map of genus zero is polyhedral.
+pub three_connected_is_polyhedral : (lists : Lists) → IsThreeConnected lists → IsPlane lists → IsPolyhedral lists
 three_connected_is_polyhedral lists three plane =
     let some = three.some in
     polyhedral_of_unpaired lists (record { simple = three.simple; plane = plane; uncut = three.uncut }) (omega arith) three.connected three.unpaired

@@ -5,7 +5,7 @@ use Rattle.classes.specs.Classes.{merge}
 use Rattle.map_lists.specs.Lists.{Lists}
 use Rattle.map_theory.specs.Maps.{entry_after}
 use Rattle.convex_peeling.specs.Polyhedral.{IsEdgeBetween}
-use Rattle.convex_peeling.specs.TwoFaces.{AreMetTwice}
+use Rattle.convex_peeling.proofs.Meetings.{AreMetTwice}
 
 abbrev square : Lists
 square = (1 ∷ 3 ∷ []) ∷ (2 ∷ 0 ∷ []) ∷ (3 ∷ 1 ∷ []) ∷ (0 ∷ 2 ∷ []) ∷ []

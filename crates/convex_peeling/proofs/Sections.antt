@@ -6,7 +6,7 @@ use Rattle.map_theory.specs.Maps.{HasDart, IsSimpleMap, follows}
 use Rattle.map_theory.proofs.DartLemmas.{HasDart-follows}
 use Rattle.convex_peeling.specs.Polyhedral.{IsPolyhedral}
 use Rattle.convex_peeling.specs.Contours.{face_of, IsRim, IsContour, IsOpen, IsBegun}
-use Rattle.convex_peeling.specs.FacePeelingLaws.{SectionOpen}
+use Rattle.convex_peeling.proofs.Contours.{IsGap}
 use Rattle.convex_peeling.proofs.Faces.{SameFace-labels, labels-SameFace, some_or_none, some_dart, cases_both, face_of-step, before_once}
 use Rattle.convex_peeling.proofs.Kept.{rim_at}
 
@@ -78,8 +78,8 @@ module _ (lists : Lists) (alive : ℕ → Bool) (simple : IsSimpleMap lists) whe
         let same : w i ≡ begun.0 = before_once lists simple (w i) (w r) begun.0 dart begun.1 (to_base (w i) dart e ∙ sym (to_base begun.0 begun.1 begun.2)) in
         true≢false (sym (ap (λ t. alive (face_of lists (w t) (w i))) (sym q) ∙ rim.inside) ∙ (ap (λ t. alive (face_of lists (w r) t)) same ∙ begun.3))
 
--- THE LAW: sections
-pub section_open_law : SectionOpen
+-- In a polyhedral map, where a face does not have all edges of the contour between two of its places, an edge is taken off at some vertex strictly between.
+pub section_open_law : (lists : Lists) (alive : ℕ → Bool) (w : ℕ → ℕ) (r face a i b : ℕ) → IsSimpleMap lists → IsPolyhedral lists → IsContour lists alive w r → IsBegun lists alive w r → IsGap lists alive w r face a i b → (j : ℕ) × (a < j) × (j < b) × IsOpen lists alive (w j)
 section_open_law lists alive w r face a i b simple polyhedral contour begun gap =
     let l = gap.low in
     let l' = gap.high in

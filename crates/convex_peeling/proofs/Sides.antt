@@ -14,8 +14,7 @@ use Rattle.classes.proofs.Bound.{after}
 use Rattle.plane_laws.proofs.DartPaths.{face_step-number, same_face-step}
 use Rattle.graph_search.proofs.ForestLemmas.{IsAdjacency-simple}
 use Rattle.graph_search.specs.Cuts.{AreSeparated}
-use Rattle.graph_search.specs.Flags.{AreLinked}
-use Rattle.graph_search.proofs.WalkLemmas.{Off, linked_itself, linked_dart, linked_chained, path_linked_by}
+use Rattle.graph_search.proofs.WalkLemmas.{Off, linked_itself, linked_dart, linked_chained, path_linked_by, AreLinked}
 use Rattle.graph_search.proofs.PairLemmas.{AreBoth-pair, off_both}
 use Rattle.plane_peeling.specs.Restricted.{restricted}
 use Rattle.plane_peeling.proofs.RestrictedMaps.{restricted-map, restricted-old, restricted-new, length-restricted}

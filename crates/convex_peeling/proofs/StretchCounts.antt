@@ -3,12 +3,13 @@ use Rattle.std.proofs.Common.{◌≡◌, ◌≢◌, ◌&&◌, ℕ, zero, suc, �
 use Rattle.std.proofs.lemmas.Bool.{cases_Bool, cases_eq, cases_lt, true≢false, and_parts, and_from, not-true}
 use Rattle.classes.specs.Classes.{count_below}
 use Rattle.classes.proofs.Counting.{one_if, count_below_none, count_below_more, count_below_into}
-use Rattle.convex_peeling.specs.Contours.{face_of, Passes}
-use Rattle.convex_peeling.specs.Removals.{two_cuts}
-use Rattle.convex_peeling.specs.FacePeelingLaws.{StretchByCounts}
+use Rattle.convex_peeling.specs.Contours.{face_of, Passes, IsContour, IsStretch}
 use Rattle.convex_peeling.proofs.Faces.{first_or_none}
 use Rattle.convex_peeling.proofs.Sections.{cases_is}
-use Rattle.convex_peeling.proofs.ChainsOff.{edge_passes}
+use Rattle.convex_peeling.proofs.ChainsOff.{edge_passes, two_cuts}
+use Rattle.std.specs.Prelude.{◌↔◌, ◌==◌}
+use Rattle.map_lists.specs.Lists.{Lists}
+use Rattle.map_theory.specs.Maps.{IsSimpleMap}
 
 module _ (passed own : ℕ → Bool) (r : ℕ) (ends : (i : ℕ) → i < r → own i ≡ true → (passed i ≡ true) × (passed (suc i) ≡ true)) where
   -- an edge of the face comes before a place
@@ -124,8 +125,8 @@ module _ (passed own : ℕ → Bool) (r : ℕ) (ends : (i : ℕ) → i < r → o
       edge_before a zero m n at_a at_i = absurd (omega arith)
       edge_before a (suc i) m n at_a at_i = own_all a i (suc i) (omega arith) (omega arith) n at_a at_i
 
--- THE LAW: a stretch by counts
-pub stretch_by_counts_law : StretchByCounts
+-- A face that passes some place meets the contour in one stretch exactly where it passes one place more than the contour has edges of its own, the base not counted.
+pub stretch_by_counts_law : (lists : Lists) (alive : ℕ → Bool) (w : ℕ → ℕ) (r face p : ℕ) (passed : ℕ → Bool) → IsSimpleMap lists → IsContour lists alive w r → ((i : ℕ) → i ≤ r → (passed i ≡ true) ↔ Passes lists face (w i)) → p ≤ r → Passes lists face (w p) → (count_below passed (suc r) ≡ count_below (λ i. face_of lists (w (suc i)) (w i) == face) r + 1) ↔ IsStretch lists w r face
 stretch_by_counts_law lists alive w r face p passed simple contour tells p_r at =
     let own : ℕ → Bool = λ i. eqb (face_of lists (w (suc i)) (w i)) face in
     let ends : (i : ℕ) → i < r → own i ≡ true → (passed i ≡ true) × (passed (suc i) ≡ true) = λ i l t.

@@ -8,7 +8,7 @@ use Rattle.map_theory.proofs.DartLemmas.{HasDart-follows}
 use Rattle.convex_peeling.specs.Polyhedral.{IsPolyhedral}
 use Rattle.convex_peeling.specs.Contours.{face_of, Passes, IsContour, IsOpen, IsStretch, IsRemovable}
 use Rattle.convex_peeling.specs.Removals.{Removal, IsTakenOff}
-use Rattle.convex_peeling.specs.FacePeelingLaws.{HasThree, AreOpen, ChainTakenOff, SomeTakenOff}
+use Rattle.convex_peeling.specs.FacePeelingLaws.{HasThree, AreOpen, SomeTakenOff}
 use Rattle.convex_peeling.proofs.Faces.{cases_Passes, face_of-step}
 use Rattle.convex_peeling.proofs.Choices.{some_removable_law}
 use Rattle.convex_peeling.proofs.Ears.{stretch_is_ear_law}
@@ -105,8 +105,8 @@ module _ (lists : Lists) (alive : ℕ → Bool) (w : ℕ → ℕ) (r : ℕ) (sim
         ]
       ]
 
--- THE LAW: a chain taken off
-pub chain_taken_off_law : ChainTakenOff
+-- A face with two edges of the contour that follow one another, which meets the contour in one stretch and is not the one inside of the base, goes with all vertices strictly within its stretch; at each of them an edge is taken off.
+pub chain_taken_off_law : (lists : Lists) (alive : ℕ → Bool) (w : ℕ → ℕ) (r i face : ℕ) → IsSimpleMap lists → IsPolyhedral lists → HasThree lists → IsContour lists alive w r → suc (suc i) ≤ r → face_of lists (w (suc i)) (w i) ≡ face → face_of lists (w (suc (suc i))) (w (suc i)) ≡ face → IsStretch lists w r face → face ≢ face_of lists (w 0) (w r) → (o : Removal) × IsTakenOff lists alive w r o × IsContour lists o.alive o.contour o.places × AreOpen lists alive w o × (o.faces ≡ 1) × (o.made 0 ≡ face) × (o.first ≤ i) × (suc i ≤ o.first + o.vertices)
 chain_taken_off_law lists alive w r i face simple polyhedral three contour l own next stretch inner = chain_goes lists alive w r simple polyhedral three contour i face l own next stretch inner
 
 -- THE LAW: a removal

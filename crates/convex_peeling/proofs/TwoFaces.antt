@@ -17,7 +17,7 @@ use Rattle.plane_laws.proofs.ArcLemmas.{arc-first, arc-longer}
 use Rattle.plane_laws.proofs.DartPaths.{before_dart, face_together, same_face, corner_of, numbers_apart, HoldsCut, HoldsCut-joint, arcs_joined}
 use Rattle.graph_search.specs.Cuts.{AreSeparated, IsCutVertex}
 use Rattle.graph_search.proofs.PairLemmas.{AreBoth-pair, off_both}
-use Rattle.convex_peeling.specs.TwoFaces.{AreOnTwoFaces, AreMetTwice}
+use Rattle.convex_peeling.proofs.Meetings.{AreOnTwoFaces, AreMetTwice}
 use Rattle.plane_peeling.proofs.Rings.{entries_closed}
 use Rattle.convex_peeling.proofs.Corners.{SameFace-turned, SameFace-chained, SameFace-step, neighbours_joined, passed_once}
 

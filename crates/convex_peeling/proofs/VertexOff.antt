@@ -8,13 +8,17 @@ use Rattle.map_theory.specs.Maps.{HasDart, IsSimpleMap, dart_count}
 use Rattle.plane_peeling.specs.Restricted.{kept_but}
 use Rattle.plane_peeling.proofs.RestrictedMaps.{kept_but-old, kept_but-new, kept_but-itself}
 use Rattle.convex_peeling.specs.Polyhedral.{IsPolyhedral}
-use Rattle.convex_peeling.specs.Contours.{face_of, Passes, IsRim, IsContour, IsEar, spliced}
-use Rattle.convex_peeling.specs.Removals.{IsRemovableNext, Removal, IsTakenOff, IsOnRemoved}
-use Rattle.convex_peeling.specs.FacePeelingLaws.{VertexGoes, VertexTakenOff}
+use Rattle.convex_peeling.specs.Contours.{face_of, Passes, IsRim, IsContour}
+use Rattle.convex_peeling.proofs.Contours.{IsEar, spliced}
+use Rattle.convex_peeling.specs.Removals.{Removal, IsTakenOff, IsOnRemoved}
 use Rattle.convex_peeling.proofs.Faces.{SameFace-labels, labels-SameFace}
 use Rattle.convex_peeling.proofs.Ears.{stretch_is_ear_law}
 use Rattle.convex_peeling.proofs.EarsOff.{spliced-low, spliced-mid, spliced-high, kind, contour_after, living}
-use Rattle.convex_peeling.proofs.ChainsOff.{edge_passes, count-without, removal, chain_off}
+use Rattle.convex_peeling.proofs.ChainsOff.{edge_passes, count-without, removal, chain_off, IsRemovableNext}
+
+-- the vertex at place i + 1 goes
+abbrev pub VertexGoes : Lists → (ℕ → Bool) → (ℕ → ℕ) → ℕ → ℕ → Type 0
+VertexGoes lists alive w r i = (o : Removal) × IsTakenOff lists alive w r o × IsContour lists o.alive o.contour o.places × (o.first ≡ i) × (o.vertices ≡ 1)
 
 -- one place more that bounds a face, and one face more
 unfoldable pub longer_cut : (ℕ → ℕ) → ℕ → ℕ → ℕ → ℕ
@@ -358,6 +362,6 @@ vertex_goes (suc n) lists alive w r i simple polyhedral contour removable_next l
           )
     ]
 
--- THE LAW: a vertex taken off
-pub vertex_taken_off_law : VertexTakenOff
+-- In a polyhedral map a vertex that is ready goes alone, with all its faces.
+pub vertex_taken_off_law : (lists : Lists) (alive : ℕ → Bool) (w : ℕ → ℕ) (r i : ℕ) → IsSimpleMap lists → IsPolyhedral lists → IsContour lists alive w r → IsRemovableNext lists alive w r i → VertexGoes lists alive w r i
 vertex_taken_off_law lists alive w r i simple polyhedral contour removable_next = vertex_goes (suc (count_below alive (dart_count lists))) lists alive w r i simple polyhedral contour removable_next (omega arith)

@@ -1,5 +1,5 @@
 -- What is left of a map where faces have been taken off from outside: its contour, and which face may go next.
-use Rattle.std.specs.Prelude.{ℕ, suc, ◌+◌, ◌-◌, ◌<◌, ◌≤◌, ◌≡◌, ◌≢◌, ◌⊎◌, Bool, true, false, nat_le, if◌then◌else◌}
+use Rattle.std.specs.Prelude.{ℕ, suc, ◌+◌, ◌<◌, ◌≤◌, ◌≡◌, Bool, true, false}
 use Rattle.classes.specs.Classes.{label, count_below, class_count}
 use Rattle.map_lists.specs.Lists.{Lists}
 use Rattle.map_theory.specs.Maps.{HasDart, dart_count, dart_number, face_classes}
@@ -37,40 +37,12 @@ IsBegun lists alive w r = (e : ℕ) × HasDart lists e (w r) × (face_of lists e
 abbrev pub IsStretch : Lists → (ℕ → ℕ) → ℕ → ℕ → Type 0
 IsStretch lists w r face = (a i b : ℕ) → a ≤ i → i < b → b ≤ r → Passes lists face (w a) → Passes lists face (w b) → face_of lists (w (suc i)) (w i) ≡ face
 
--- A face that is left passes the places a and b, and the edge of the contour at place i between them is not its own.
-pub record IsGap (lists : Lists) (alive : ℕ → Bool) (w : ℕ → ℕ) (r face a i b : ℕ) : Type 0 where
-  pub living : alive face ≡ true
-  pub low : a ≤ i
-  pub high : i < b
-  pub within : b ≤ r
-  pub first : Passes lists face (w a)
-  pub last : Passes lists face (w b)
-  pub gap : face_of lists (w (suc i)) (w i) ≢ face
-
 -- A vertex of the contour that may go: not of the base, an edge at it is taken off, and each face there that is left meets the contour in one stretch.
 pub record IsRemovable (lists : Lists) (alive : ℕ → Bool) (w : ℕ → ℕ) (r j : ℕ) : Type 0 where
   pub after : 0 < j
   pub before : j < r
   pub open_at : IsOpen lists alive (w j)
   pub stretches : (x : ℕ) → HasDart lists (w j) x → alive (face_of lists (w j) x) ≡ true → IsStretch lists w r (face_of lists (w j) x)
-
--- A face of which one stretch is on the contour, from place a to place b, and the rest behind it: from `walk 0`, the vertex at a, it goes on to `walk many`, that at b, and meets no other vertex of the contour.
-pub record IsEar (lists : Lists) (w : ℕ → ℕ) (r face a b : ℕ) (walk : ℕ → ℕ) (many : ℕ) : Type 0 where
-  pub some_edge : a < b
-  pub within : b ≤ r
-  pub edges : (i : ℕ) → a ≤ i → i < b → face_of lists (w (suc i)) (w i) ≡ face
-  pub places : (i : ℕ) → i ≤ r → Passes lists face (w i) → (a ≤ i) × (i ≤ b)
-  pub some_step : 0 < many
-  pub first : walk 0 ≡ w a
-  pub last : walk many ≡ w b
-  pub darts : (t : ℕ) → t < many → HasDart lists (walk t) (walk (suc t)) × (face_of lists (walk t) (walk (suc t)) ≡ face)
-  pub inside : (t i : ℕ) → 0 < t → t < many → i ≤ r → walk t ≢ w i
-  pub distinct : (s t : ℕ) → s ≤ many → t ≤ many → walk s ≡ walk t → s ≡ t
-  pub only : (x y : ℕ) → HasDart lists x y → face_of lists x y ≡ face → ((i : ℕ) × (a ≤ i) × (i < b) × (x ≡ w (suc i)) × (y ≡ w i)) ⊎ ((t : ℕ) × (t < many) × (x ≡ walk t) × (y ≡ walk (suc t)))
-
--- the contour with a walk in place of what stands from place a to place b
-unfoldable pub spliced : (ℕ → ℕ) → ℕ → ℕ → (ℕ → ℕ) → ℕ → ℕ → ℕ
-spliced w a b walk many i = if nat_le i a then w i else if nat_le i (a + many) then walk (i - a) else w (i + b - (a + many))
 
 -- The contour where just the face of the base (s, d) is taken off: it goes from d to s.
 pub record IsFirst (lists : Lists) (s d : ℕ) (alive : ℕ → Bool) (w : ℕ → ℕ) (r : ℕ) : Type 0 where

@@ -1,6 +1,5 @@
 -- Maps in which two faces have at most a vertex or an edge in common, and three-connected ones.
 pub mod Polyhedral
-pub mod TwoFaces
 pub mod PolyhedralMapsLaws
 -- Faces taken off a plane map from its contour.
 pub mod Contours

@@ -1,9 +1,9 @@
 -- What is taken off from a contour at once: a row of vertices under one face, or one vertex with all its faces.
-use Rattle.std.specs.Prelude.{ℕ, zero, suc, ◌+◌, ◌<◌, ◌≤◌, ◌≡◌, ◌≢◌, ◌⊎◌, Bool, true, false}
+use Rattle.std.specs.Prelude.{ℕ, suc, ◌+◌, ◌<◌, ◌≤◌, ◌≡◌, ◌≢◌, ◌⊎◌, Bool, true, false}
 use Rattle.classes.specs.Classes.{count_below}
 use Rattle.map_lists.specs.Lists.{Lists}
 use Rattle.map_theory.specs.Maps.{HasDart, dart_count}
-use Rattle.convex_peeling.specs.Contours.{face_of, Passes, IsStretch}
+use Rattle.convex_peeling.specs.Contours.{face_of}
 
 -- A removal: the faces and the contour that it leaves, whose last place is `places`; how many vertices go, which stood behind the place `first`, and how many faces; and the places of the new contour that bound the faces, from `first` to `last`: face i has the new contour from `cut i` to `cut (i + 1)`.
 pub record Removal : Type 0 where
@@ -44,16 +44,3 @@ pub record IsTakenOff (lists : Lists) (alive : ℕ → Bool) (w : ℕ → ℕ) (
   pub gone : (x : ℕ) → alive x ≡ true → o.alive x ≡ false → (i : ℕ) × (i < o.faces) × (x ≡ o.made i)
   pub darts : (i x y : ℕ) → i < o.faces → HasDart lists x y → face_of lists x y ≡ o.made i → IsOnRemoved w o i x y
   pub fewer : count_below alive (dart_count lists) ≡ count_below o.alive (dart_count lists) + o.faces
-
--- two places that bound a face
-abbrev pub two_cuts : ℕ → ℕ → ℕ → ℕ
-two_cuts p q zero = p
-two_cuts p q (suc i) = q
-
--- The vertex at place i + 1 is removable next: each face there that is left is one stretch, of one edge beside the vertex at most, and none is the face inside of the base.
-pub record IsRemovableNext (lists : Lists) (alive : ℕ → Bool) (w : ℕ → ℕ) (r i : ℕ) : Type 0 where
-  pub within : suc i < r
-  pub stretches : (face : ℕ) → alive face ≡ true → Passes lists face (w (suc i)) → IsStretch lists w r face
-  pub right : suc (suc i) < r → face_of lists (w (suc (suc (suc i)))) (w (suc (suc i))) ≢ face_of lists (w (suc (suc i))) (w (suc i))
-  pub left : (h : ℕ) → suc h ≡ i → face_of lists (w (suc h)) (w h) ≢ face_of lists (w (suc i)) (w i)
-  pub base : ¬ Passes lists (face_of lists (w 0) (w r)) (w (suc i))

@@ -13,7 +13,8 @@ use Rattle.plane_laws.specs.Triangulations.{IsTriangulation}
 use Rattle.plane_laws.proofs.Triangles.{triangles_where_met}
 use Rattle.pg_plane.specs.declared.point.Point.{Point}
 use Rattle.pg_plane.specs.Geometry.{area}
-use Rattle.pg_plane.specs.Faced.{in_base, IsOnFace}
+use Rattle.pg_plane.specs.Faced.{in_base}
+use Rattle.pg_plane.proofs.Near.{IsOnFace}
 use Rattle.pg_plane.proofs.Faces.{in_base_from}
 use Rattle.pg_plane.proofs.Identities.{area_turned}
 use Rattle.plane_drawings.specs.Drawing.{place, IsCounterclockwise}

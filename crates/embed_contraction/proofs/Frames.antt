@@ -5,7 +5,8 @@ use Rattle.map_lists.specs.declared.ids.VertexId.{VertexId}
 use Rattle.graph6_text.specs.Graphs.{EdgeGraph, has_edge}
 use Rattle.kuratowski.specs.Witnesses.{branch_count, pair_at, vertex_at, path_at, IsWitness}
 use Rattle.kuratowski.specs.declared.witness.Kind.{Kind}
-use Rattle.embed_contraction.specs.Traces.{path_count, HasWitness, IsTraced}
+use Rattle.embed_contraction.specs.Traces.{path_count, HasWitness}
+use Rattle.embed_contraction.proofs.Spans.{IsTraced}
 use Rattle.embed_contraction.proofs.Traces.{traced_witness}
 
 -- what holds of a traced witness but that its steps are edges

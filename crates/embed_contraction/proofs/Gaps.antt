@@ -6,10 +6,10 @@ use Rattle.std.proofs.lemmas.List.Elements.{Contains-append_cases, Contains-appe
 use Rattle.map_theory.proofs.EntryLemmas.{Contains-here, Contains-there}
 use Rattle.graph6_text.specs.Graphs.{EdgeGraph, has_edge}
 use Rattle.graph6_text.proofs.EdgeLemmas.{has_edge-turned}
-use Rattle.embed_contraction.specs.Places.{IsGap, IsOuterGap, Lie.in_gap, Lie.around, Lie.alternate, Lie.alternate', Lie.common}
-use Rattle.embed_contraction.specs.Rims.{IsRimmed, spoke, IsGapOf, GapOrWitness}
 use Rattle.embed_contraction.proofs.Places.{two_sets_lie}
-use Rattle.embed_contraction.proofs.Rings.{alternating_witness, common_witness}
+use Rattle.embed_contraction.proofs.Rings.{alternating_witness, common_witness, IsRimmed, spoke, IsGapOf, IsGap, IsOuterGap, HasTwo, Lie.in_gap, Lie.around, Lie.alternate, Lie.alternate', Lie.common}
+use Rattle.std.specs.Prelude.{◌⊎◌}
+use Rattle.embed_contraction.specs.Traces.{HasWitness}
 
 -- an entry of a front, or of a back, by its place in the whole
 pub Contains-take : (m : ℕ) (us : List ℕ) (w : ℕ) → m ≤ length us → Contains (take m us) w → (t : ℕ) × (t < m) × (get_or us t 0 ≡ w)
@@ -181,8 +181,8 @@ IsRimmed-turned graph ws x y r = record {
   hub = has_edge-turned graph y x ∙ r.hub;
 }
 
--- THE LAW: a gap or a witness
-pub gap_or_witness : GapOrWitness
+-- Two adjacent vertices beside a ring, each with two neighbours on it at least: the graph has a witness, or the neighbours of y lie in a gap between neighbours of x.
+pub gap_or_witness : (graph : EdgeGraph) (ws : List ℕ) (x y : ℕ) → IsRimmed graph ws x y → HasTwo (length ws) (spoke graph ws x) → HasTwo (length ws) (spoke graph ws y) → HasWitness graph ⊎ ((us : List ℕ) × (vs : List ℕ) × (a : ℕ) × (mid : List ℕ) × (b : ℕ) × (back : List ℕ) × IsGapOf graph ws x y us vs a mid b back)
 gap_or_witness graph ws x y rim two two' =
     elim (two_sets_lie (length ws) (spoke graph ws x) (spoke graph ws y) two two') [
       | in_gap i k g ↦ inr (from_gap graph ws x y i k g)

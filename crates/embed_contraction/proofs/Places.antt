@@ -1,7 +1,7 @@
 -- How two sets of places lie: by a place of the one that is none of the other, and the places of the other before and after it.
 use Rattle.std.proofs.Common.{◌≡◌, ◌⊎◌, ℕ, zero, suc, ◌+◌, ◌-◌, ◌<◌, ◌≤◌, Bool, true, false, not, ◌&&◌, sym, ap, ◌∙◌, subst, inl, inr, arith}
 use Rattle.std.proofs.lemmas.Bool.{cases_Bool, cases_eq, cases_lt, true≢false, and_from, and_parts}
-use Rattle.embed_contraction.specs.Places.{HasTwo, Lie, Lie.in_gap, Lie.around, Lie.alternate, Lie.alternate', Lie.common, TwoSetsLie}
+use Rattle.embed_contraction.proofs.Rings.{HasTwo, Lie, Lie.in_gap, Lie.around, Lie.alternate, Lie.alternate', Lie.common}
 
 -- no place from one to before another
 abbrev None : (ℕ → Bool) → ℕ → ℕ → Type 0
@@ -185,8 +185,8 @@ module _ (n : ℕ) (X Y : ℕ → Bool) (x : HasTwo n X) (y : HasTwo n Y) where
         ]
       ]
 
--- THE LAW: how two sets of places lie
-pub two_sets_lie : TwoSetsLie
+-- Of two sets of places round a ring, each of two at least, the one lies in a gap of the other, or four places alternate, or three are in both.
+pub two_sets_lie : (n : ℕ) (X Y : ℕ → Bool) → HasTwo n X → HasTwo n Y → Lie n X Y
 two_sets_lie n X Y x y =
     elim (least_in (λ j. Y j && not (X j)) 0 n) [
       | inr r ↦

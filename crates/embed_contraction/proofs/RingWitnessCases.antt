@@ -2,8 +2,7 @@
 use Rattle.std.proofs.Common.{◌≡◌, ℕ, ◌||◌, Bool, true, false, ◌==◌, refl, arith}
 use Rattle.graph6_text.specs.Graphs.{EdgeGraph}
 use Rattle.std.proofs.Common.{[], ◌∷◌}
-use Rattle.embed_contraction.specs.Places.{IsGap, Alternate}
-use Rattle.embed_contraction.specs.Rims.{spoke}
+use Rattle.embed_contraction.proofs.Rings.{spoke, IsGap, Alternate}
 
 -- the places 0 and 3, and the places 1 and 2
 abbrev outer : ℕ → Bool

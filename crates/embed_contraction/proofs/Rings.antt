@@ -1,5 +1,5 @@
 -- The witnesses of two adjacent vertices beside a ring: K3,3 where their neighbours alternate, K5 where three are common. The ring is read from the first of these places.
-use Rattle.std.proofs.Common.{◌≡◌, ◌≢◌, ◌⊎◌, ℕ, zero, suc, ◌+◌, ◌-◌, ◌<◌, ◌≤◌, true, cond, ltb, eqb, List, length, get_or, Contains, refl, sym, ap, ◌∙◌, subst, inl, inr, arith}
+use Rattle.std.proofs.Common.{◌≡◌, ◌≢◌, ◌⊎◌, ℕ, zero, suc, ◌+◌, ◌-◌, ◌<◌, ◌≤◌, true, cond, ltb, eqb, List, length, get_or, Contains, refl, sym, ap, ◌∙◌, subst, inl, inr, arith, []}
 use Rattle.std.proofs.lemmas.Bool.Decides.{nat_tests}
 use Rattle.std.proofs.lemmas.List.{get_or_default}
 use Rattle.map_theory.specs.Maps.{entry_after, place_of}
@@ -9,10 +9,80 @@ use Rattle.graph6_text.proofs.EdgeLemmas.{has_edge-turned}
 use Rattle.kuratowski.specs.Witnesses.{pair_at}
 use Rattle.kuratowski.specs.declared.witness.Kind.TheVariants.{K5, K33}
 use Rattle.embed_contraction.specs.Traces.{HasWitness}
-use Rattle.embed_contraction.specs.Rims.{IsRimmed, AlternatingWitness, CommonWitness}
 use Rattle.embed_contraction.proofs.Numbers.{each_of_one, each_of_two, each_of_three, each_of_four, each_of_five, each_of_six, each_of_nine, each_of_ten}
 use Rattle.embed_contraction.proofs.Spans.{Span, Span.edge, Span.up, Span.down, IsSound, vertex_on, size_of, IsPlaced, IsPlan, traced}
 use Rattle.embed_contraction.proofs.Traces.{traced_witness}
+use Rattle.std.specs.Prelude.{Bool, false, ◌∷◌, ◌++◌, slice_index_or, AllPairs}
+
+-- i and k are places of X, with no place of X between them, and each place of Y is one of them or between
+pub record IsGap (n : ℕ) (X Y : ℕ → Bool) (i k : ℕ) : Type 0 where
+  pub order : i < k
+  pub within : k < n
+  pub first : X i ≡ true
+  pub last : X k ≡ true
+  pub none : (j : ℕ) → i < j → j < k → X j ≡ false
+  pub all : (j : ℕ) → j < n → Y j ≡ true → (i ≤ j) × (j ≤ k)
+
+-- i and k are places of X, with no place of X before or after the two, and no place of Y is between them
+pub record IsOuterGap (n : ℕ) (X Y : ℕ → Bool) (i k : ℕ) : Type 0 where
+  pub order : i < k
+  pub within : k < n
+  pub first : X i ≡ true
+  pub last : X k ≡ true
+  pub all : (j : ℕ) → j < n → X j ≡ true → (i ≤ j) × (j ≤ k)
+  pub none : (j : ℕ) → i < j → j < k → Y j ≡ false
+
+-- four places that alternate between X and Y
+pub record Alternate (n : ℕ) (X Y : ℕ → Bool) (i j k l : ℕ) : Type 0 where
+  pub order : (i < j) × (j < k) × (k < l) × (l < n)
+  pub odd : (X i ≡ true) × (X k ≡ true)
+  pub even : (Y j ≡ true) × (Y l ≡ true)
+
+-- three places of both
+pub record AreCommon (n : ℕ) (X Y : ℕ → Bool) (i j k : ℕ) : Type 0 where
+  pub order : (i < j) × (j < k) × (k < n)
+  pub of_X : (X i ≡ true) × (X j ≡ true) × (X k ≡ true)
+  pub of_Y : (Y i ≡ true) × (Y j ≡ true) × (Y k ≡ true)
+
+-- two places at least
+pub record HasTwo (n : ℕ) (X : ℕ → Bool) : Type 0 where
+  pub one : ℕ
+  pub other : ℕ
+  pub order : (one < other) × (other < n)
+  pub passes : (X one ≡ true) × (X other ≡ true)
+
+-- how two sets of places lie
+pub data Lie (n : ℕ) (X Y : ℕ → Bool) : Type 0 where
+  in_gap : (i k : ℕ) → IsGap n X Y i k → Lie n X Y
+  around : (i k : ℕ) → IsOuterGap n X Y i k → Lie n X Y
+  alternate : (i j k l : ℕ) → Alternate n X Y i j k l → Lie n X Y
+  alternate' : (i j k l : ℕ) → Alternate n Y X i j k l → Lie n X Y
+  common : (i j k : ℕ) → AreCommon n X Y i j k → Lie n X Y
+
+-- a ring of the graph, along edges, and two adjacent vertices that are not on it
+pub record IsRimmed (graph : EdgeGraph) (ws : List ℕ) (x y : ℕ) : Type 0 where
+  pub distinct : AllPairs ◌≢◌ ws
+  pub below : (w : ℕ) → Contains ws w → w < graph.n
+  pub rim : (w : ℕ) → Contains ws w → has_edge graph w (entry_after w ws) ≡ true
+  pub x_below : x < graph.n
+  pub y_below : y < graph.n
+  pub x_off : ¬ Contains ws x
+  pub y_off : ¬ Contains ws y
+  pub two : x ≢ y
+  pub hub : has_edge graph x y ≡ true
+
+-- whether v is adjacent to the vertex at a place of the ring
+abbrev pub spoke : EdgeGraph → List ℕ → ℕ → ℕ → Bool
+spoke graph ws v i = has_edge graph v (slice_index_or ws i 0)
+
+-- The ring, read from another of its entries, begins with a neighbour a of x, then those of mid, which are none, and then a neighbour b of x; and the neighbours of y on the ring are among a, mid and b.
+pub record IsGapOf (graph : EdgeGraph) (ws : List ℕ) (x y : ℕ) (us vs : List ℕ) (a : ℕ) (mid : List ℕ) (b : ℕ) (back : List ℕ) : Type 0 where
+  pub parts : ws ≡ us ++ vs
+  pub turned : vs ++ us ≡ a ∷ mid ++ b ∷ back
+  pub first : has_edge graph x a ≡ true
+  pub last : has_edge graph x b ≡ true
+  pub none : (w : ℕ) → Contains mid w → has_edge graph x w ≡ false
+  pub all : (w : ℕ) → Contains ws w → has_edge graph y w ≡ true → Contains (a ∷ mid ++ b ∷ []) w
 
 -- place i of a ring of n that is read from place p on
 abbrev turned_place : ℕ → ℕ → ℕ → ℕ
@@ -235,8 +305,8 @@ module _ (graph : EdgeGraph) (ws : List ℕ) (x y : ℕ) (rim : IsRimmed graph w
     witness5 =
         traced_witness graph K5 branch5 (λ p. size_of (spans5 p)) (λ p i. vertex_on at (spans5 p) i) (traced graph n at placed owner5 K5 branch5 spans5 plan5)
 
--- THE LAW: neighbours that alternate
-pub alternating_witness : AlternatingWitness
+-- Where neighbours of the two alternate on the ring, the graph has a witness, of K3,3.
+pub alternating_witness : (graph : EdgeGraph) (ws : List ℕ) (x y i j k l : ℕ) → IsRimmed graph ws x y → Alternate (length ws) (spoke graph ws x) (spoke graph ws y) i j k l → HasWitness graph
 alternating_witness graph ws x y i j k l rim a =
     let o1 = a.order.0 in
     let o2 = a.order.1 in
@@ -252,8 +322,8 @@ alternating_witness graph ws x y i j k l rim a =
     witness33 graph ws x y rim i in_i q r s (omega arith) (omega arith) (omega arith) (omega arith)
     (ap (has_edge graph x) first ∙ a.odd.0) (ap (has_edge graph y) (later j (omega arith) (omega arith)) ∙ a.even.0) (ap (has_edge graph x) (later k (omega arith) (omega arith)) ∙ a.odd.1) (ap (has_edge graph y) (later l (omega arith) (omega arith)) ∙ a.even.1)
 
--- THE LAW: three common neighbours
-pub common_witness : CommonWitness
+-- Where the two have three common neighbours on the ring, the graph has a witness, of K5.
+pub common_witness : (graph : EdgeGraph) (ws : List ℕ) (x y i j k : ℕ) → IsRimmed graph ws x y → AreCommon (length ws) (spoke graph ws x) (spoke graph ws y) i j k → HasWitness graph
 common_witness graph ws x y i j k rim a =
     let o1 = a.order.0 in
     let o2 = a.order.1 in

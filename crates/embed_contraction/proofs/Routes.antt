@@ -3,13 +3,21 @@ use Rattle.std.proofs.Common.{◌≡◌, ◌≢◌, ◌⊎◌, ℕ, zero, suc, �
 use Rattle.std.proofs.lemmas.Bool.{cases_eq}
 use Rattle.std.proofs.lemmas.List.Elements.{Contains-append_right}
 use Rattle.map_lists.specs.Lists.{Lists}
-use Rattle.map_theory.specs.Maps.{HasDart}
+use Rattle.map_theory.specs.Maps.{HasDart, IsSimpleMap}
 use Rattle.map_theory.proofs.EntryLemmas.{Contains-there, Contains-cons_cases, AllPairs-tail, AllPairs-right, head_apart}
 use Rattle.graph6_text.specs.Graphs.{EdgeGraph, has_edge}
 use Rattle.plane_laws.proofs.ComponentPaths.{components_are_paths}
 use Rattle.plane_peeling.proofs.Rings.{separated_at, AllPairs-put}
 use Rattle.plane_peeling.proofs.RestrictedMaps.{cases_Contains}
-use Rattle.embed_contraction.specs.Routed.{LeadsAlong, IsRoute, SomeRoute}
+use Rattle.embed_contraction.specs.Routed.{LeadsAlong}
+use Rattle.plane_laws.specs.Laws.{SameComponent}
+
+-- a path from u to v over vertices that are neither, without repeats
+pub record IsRoute (graph : EdgeGraph) (u v : ℕ) (mid : List ℕ) : Type 0 where
+  pub way : LeadsAlong graph u mid v
+  pub distinct : AllPairs ◌≢◌ mid
+  pub not_first : ¬ Contains mid u
+  pub not_last : ¬ Contains mid v
 
 -- the end of a way, from one of its vertices on
 later : (graph : EdgeGraph) (u : ℕ) (front : List ℕ) (w : ℕ) (back : List ℕ) (v : ℕ) → LeadsAlong graph u (front ++ w ∷ back) v → LeadsAlong graph w back v
@@ -64,8 +72,8 @@ from_place graph lists path v edges steps last (suc spare) i n =
       ]
     ]
 
--- THE LAW: two vertices of one component have a route
-pub some_route : SomeRoute
+-- Two vertices in one component of a map whose edges are edges of the graph have one.
+pub some_route : (graph : EdgeGraph) (lists : Lists) (u v : ℕ) → IsSimpleMap lists → ((a b : ℕ) → HasDart lists a b → has_edge graph a b ≡ true) → u ≢ v → u < length lists → v < length lists → SameComponent lists u v → (mid : List ℕ) × IsRoute graph u v mid
 some_route graph lists u v simple edges u_v in_u in_v same =
     let joined = (components_are_paths lists u v simple in_u in_v).0 same in
     let path = joined.0 in

@@ -8,7 +8,8 @@ use Rattle.graph6_text.specs.Graphs.{EdgeGraph}
 use Rattle.kuratowski.specs.Witnesses.{branch_count, pair_at, vertex_at, path_at, IsInnerPlace, IsWitness}
 use Rattle.kuratowski.specs.declared.witness.Kind.{Kind}
 use Rattle.kuratowski.specs.declared.witness.Kind.TheVariants.{K5, K33}
-use Rattle.embed_contraction.specs.Traces.{path_count, IsTraced, TracedWitness}
+use Rattle.embed_contraction.specs.Traces.{path_count, HasWitness}
+use Rattle.embed_contraction.proofs.Spans.{IsTraced}
 use Rattle.embed_contraction.proofs.Numbers.{each_of_nine, each_of_ten}
 
 -- the vertices that a function gives at the numbers below n
@@ -122,7 +123,7 @@ module _ (graph : EdgeGraph) (kind : Kind) (branch size : ℕ → ℕ) (way : �
   witness : IsWitness graph kind branches paths
   witness = witness_by graph kind branch size way t branches paths size_branches branch_is size_paths size_path vertex_is
 
--- THE LAW: a witness from functions
-pub traced_witness : TracedWitness
+-- Such functions give a witness.
+pub traced_witness : (graph : EdgeGraph) (kind : Kind) (branch size : ℕ → ℕ) (way : ℕ → ℕ → ℕ) → IsTraced graph kind branch size way → HasWitness graph
 traced_witness graph kind branch size way t =
     (kind, branches graph kind branch size way t, paths graph kind branch size way t, witness graph kind branch size way t)

@@ -1,8 +1,5 @@
 -- A witness that uses an edge which a graph lacks, with a path of the graph in its place.
-use Rattle.std.specs.Prelude.{ℕ, ◌<◌, ◌≡◌, ◌≢◌, ◌⊎◌, true, false, List, [], ◌∷◌, length, AllPairs, Contains}
-use Rattle.map_lists.specs.Lists.{Lists}
-use Rattle.map_theory.specs.Maps.{HasDart, IsSimpleMap}
-use Rattle.plane_laws.specs.Laws.{SameComponent}
+use Rattle.std.specs.Prelude.{ℕ, ◌≡◌, ◌⊎◌, true, false, List, ◌∷◌, AllPairs, Contains, [], ◌≢◌}
 use Rattle.graph6_text.specs.Graphs.{EdgeGraph, has_edge}
 use Rattle.embed_contraction.specs.Traces.{HasWitness}
 
@@ -22,15 +19,3 @@ pub record IsRouted (whole part : EdgeGraph) (u v : ℕ) (mid : List ℕ) : Type
 -- A witness of such a part gives one of the whole.
 abbrev pub RoutedWitness : Type 0
 RoutedWitness = (whole part : EdgeGraph) (u v : ℕ) (mid : List ℕ) → IsRouted whole part u v mid → HasWitness part → HasWitness whole
-
--- a path from u to v over vertices that are neither, without repeats
-pub record IsRoute (graph : EdgeGraph) (u v : ℕ) (mid : List ℕ) : Type 0 where
-  pub way : LeadsAlong graph u mid v
-  pub distinct : AllPairs ◌≢◌ mid
-  pub not_first : ¬ Contains mid u
-  pub not_last : ¬ Contains mid v
-
--- Two vertices in one component of a map whose edges are edges of the graph have one.
-abbrev pub SomeRoute : Type 0
-SomeRoute =
-    (graph : EdgeGraph) (lists : Lists) (u v : ℕ) → IsSimpleMap lists → ((a b : ℕ) → HasDart lists a b → has_edge graph a b ≡ true) → u ≢ v → u < length lists → v < length lists → SameComponent lists u v → (mid : List ℕ) × IsRoute graph u v mid

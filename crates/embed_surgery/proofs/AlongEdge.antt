@@ -12,12 +12,10 @@ use Rattle.map_theory.proofs.DartLemmas.{dart_number-lt, dart_number-injective, 
 use Rattle.map_theory.proofs.EntryLemmas.{AllPairs-append}
 use Rattle.map_theory.proofs.DartPermutations.{tail_of, dart_classes, IsLabels-dart_classes, components, face_count-orbits, component_count-classes, two_m}
 use Rattle.plane_laws.proofs.DartPaths.{tail_of-number, face_step_together}
-use Rattle.embed_surgery.specs.Marks.{KeepsFaces}
-use Rattle.embed_surgery.proofs.Marks.{face_orbits, IsLabels-face_orbits, components_by_marks, genus_by_marks}
-use Rattle.embed_surgery.specs.Glued.{lists_by, glued_at, edge_glued_lists, GluedAlongEdge}
+use Rattle.embed_surgery.proofs.Marks.{face_orbits, IsLabels-face_orbits, components_by_marks, genus_by_marks, KeepsFaces}
 use Rattle.embed_surgery.proofs.Labels.{counted_joined}
 use Rattle.embed_surgery.proofs.Unions.{length-face_orbits, length-dart_classes, joined_more, isolated-below, count_below-both, count_below-one, count_below-or, face_one, face_other, face_mark, face_mark-one, face_mark-joined, face_mark-same, face_test, AreMet, face_marks, part_mark, part_test, part_marks, darts_few}
-use Rattle.embed_surgery.proofs.Entries.{head_of, glued-distinct, glued-old, glued-all, glued-first, glued-second}
+use Rattle.embed_surgery.proofs.Entries.{head_of, glued-distinct, glued-old, glued-all, glued-first, glued-second, lists_by, glued_at, edge_glued_lists, IsUnion}
 use Rattle.embed_surgery.proofs.UnionLists.{length-lists_by, list_of-lists_by, has_dart, has_dart-is, HasDart-from, union-old, union-new, IsSimpleMap-union}
 use Rattle.embed_surgery.proofs.AtVertex.{cases_empty, is_empty_one, is_empty_append}
 
@@ -486,8 +484,8 @@ module _ (one other : Lists) (u v : ℕ) (s1 : IsSimpleMap one) (s2 : IsSimpleMa
         genus_by_marks new M (length FA + length FB) (face_test one other new s1 s2 s' drawn in_one in_other za zb) s' keeps (face_marks one other new s1 s2 s' drawn in_one in_other za zb met)
         (enough (count_below (face_test one other new s1 s2 s' drawn in_one in_other za zb) (length FA + length FB)) (count_below (part_test one other new s1 s2 s' drawn in_one in_other ya yb) (length CA + length CB)) faces parts few)
 
--- THE LAW: two maps along an edge
-pub glued_along_edge : GluedAlongEdge
+-- And those that have an edge in common, and edges at no other common vertex.
+pub glued_along_edge : (one other : Lists) (u v : ℕ) → IsSimpleMap one → IsPlane one → IsSimpleMap other → IsPlane other → length other ≡ length one → HasDart one u v → HasDart other u v → ((w p q : ℕ) → HasDart one w p → HasDart other w q → (w ≡ u) ⊎ (w ≡ v)) → IsUnion one other (edge_glued_lists one other u v)
 glued_along_edge one other u v s1 p1 s2 p2 same has1 has2 shared = record {
   simple = s' one other u v s1 s2 same has1 has2 shared;
   plane = plane one other u v s1 s2 same has1 has2 shared p1 p2;

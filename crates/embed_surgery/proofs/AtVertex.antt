@@ -12,12 +12,10 @@ use Rattle.map_theory.proofs.DartLemmas.{dart_number-lt, HasDart-follows}
 use Rattle.map_theory.proofs.EntryLemmas.{AllPairs-append}
 use Rattle.map_theory.proofs.DartPermutations.{tail_of, dart_classes, IsLabels-dart_classes, components, face_count-orbits, component_count-classes, two_m}
 use Rattle.plane_laws.proofs.DartPaths.{tail_of-number, face_step_together}
-use Rattle.embed_surgery.specs.Marks.{KeepsFaces}
-use Rattle.embed_surgery.proofs.Marks.{face_orbits, IsLabels-face_orbits, components_by_marks, genus_by_marks}
-use Rattle.embed_surgery.specs.Glued.{glued_lists, IsUnion, GluedAtVertex}
+use Rattle.embed_surgery.proofs.Marks.{face_orbits, IsLabels-face_orbits, components_by_marks, genus_by_marks, KeepsFaces}
 use Rattle.embed_surgery.proofs.Labels.{counted_joined, counted_apart}
 use Rattle.embed_surgery.proofs.Unions.{length-face_orbits, length-dart_classes, joined_more, isolated-below, count_below-both, count_below-one, face_one, face_other, face_mark, face_mark-one, face_mark-joined, face_mark-same, face_test, AreMet, face_marks, part_mark, part_test, part_marks, darts_few}
-use Rattle.embed_surgery.proofs.Entries.{head_of, entry_after-left, entry_after-right}
+use Rattle.embed_surgery.proofs.Entries.{head_of, entry_after-left, entry_after-right, glued_lists, IsUnion}
 use Rattle.embed_surgery.proofs.UnionLists.{length-lists_by, list_of-lists_by, has_dart, has_dart-is, HasDart-from, has_dart-not, union-old, union-new, IsSimpleMap-union}
 
 -- a list is empty or has a first entry
@@ -301,8 +299,8 @@ module _ (one other : Lists) (s : ℕ) (s1 : IsSimpleMap one) (s2 : IsSimpleMap 
         genus_by_marks new (M 0 z) (length FA + length FB) (face_test one other new s1 s2 s' drawn in_one in_other 0 z) s' (keeps 0 z (λ h h'. absurd (none h h'))) (face_marks one other new s1 s2 s' drawn in_one in_other 0 z (met z))
         (enough (count_below (face_test one other new s1 s2 s' drawn in_one in_other 0 z) (length FA + length FB)) (count_below (part_test one other new s1 s2 s' drawn in_one in_other 0 z) (length CA + length CB)) 0 (omega arith) (omega arith) few (omega arith))
 
--- THE LAW: two maps at a vertex
-pub glued_at_vertex : GluedAtVertex
+-- So do those that have edges at one common vertex.
+pub glued_at_vertex : (one other : Lists) (s : ℕ) → IsSimpleMap one → IsPlane one → IsSimpleMap other → IsPlane other → length other ≡ length one → ((w p q : ℕ) → HasDart one w p → HasDart other w q → w ≡ s) → IsUnion one other (glued_lists one other)
 glued_at_vertex one other s s1 p1 s2 p2 same shared =
     is_union one other s s1 s2 same shared (elim (cases_empty (list_of one s)) [
       | inl none ↦ apart_s one other s s1 s2 same shared p1 p2 (λ h h'. let e = ap (λ us. length us) none in omega arith)

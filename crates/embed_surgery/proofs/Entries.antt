@@ -3,13 +3,39 @@ use Rattle.std.proofs.Common.{◌≡◌, ◌≢◌, ◌⊎◌, ℕ, ◌+◌, ◌
 use Rattle.std.proofs.lemmas.Bool.{cases_lt, cases_eq}
 use Rattle.std.proofs.lemmas.List.{get_or_default, get_or_append_left, get_or-append_right, get_or_past, take-append-drop, append-nil}
 use Rattle.std.proofs.lemmas.List.Elements.{Contains-append_cases, Contains-append_left, Contains-append_right}
-use Rattle.map_theory.specs.Maps.{entry_after, place_of}
+use Rattle.map_theory.specs.Maps.{entry_after, place_of, HasDart, IsSimpleMap, IsPlane, list_of}
 use Rattle.map_theory.proofs.DartLemmas.{place_of-lt-length, get_or-place_of, place_of-get_or, place_of-here}
 use Rattle.map_theory.specs.Paths.{from_entry}
 use Rattle.map_theory.proofs.EntryLemmas.{AllPairs-left, AllPairs-right, AllPairs-append, AllPairs-tail, head_apart, Contains-here, Contains-there, Contains-cons_cases}
 use Rattle.plane_laws.proofs.ArcLemmas.{from_entry-first, length-from_entry}
 use Rattle.embed_surgery.proofs.Turned.{Contains-turned, AllPairs-turned, entry_after-turned}
-use Rattle.embed_surgery.specs.Glued.{glued_at}
+use Rattle.std.specs.Prelude.{◌↔◌, ◌==◌, if◌then◌else◌, map}
+use Rattle.std.specs.List.{range_with_len}
+use Rattle.map_lists.specs.Lists.{Lists}
+
+-- the lists that a function gives for n vertices
+abbrev pub lists_by : (ℕ → List ℕ) → ℕ → Lists
+lists_by f n = map f (range_with_len 0 n)
+
+-- at each vertex the list of the one map, and then that of the other
+abbrev pub glued_lists : Lists → Lists → Lists
+glued_lists one other = lists_by (λ w. list_of one w ++ list_of other w) (length one)
+
+-- the list of a vertex from x on, and then another list from behind its x on
+abbrev pub glued_at : ℕ → List ℕ → List ℕ → List ℕ
+glued_at x us vs = from_entry x us ++ drop 1 (from_entry x vs)
+
+-- The same, but along the edge from u to v, which both have: at u first the list of the one map, from v on, and then that of the other behind v; at v first that of the other, from u on, and then that of the one behind u.
+abbrev pub edge_glued_lists : Lists → Lists → ℕ → ℕ → Lists
+edge_glued_lists one other u v =
+    lists_by (λ w. if w == u then glued_at v (list_of one u) (list_of other u) else if w == v then glued_at u (list_of other v) (list_of one v) else list_of one w ++ list_of other w) (length one)
+
+-- a map of genus zero with just the edges of the two
+pub record IsUnion (one other new : Lists) : Type 0 where
+  pub simple : IsSimpleMap new
+  pub plane : IsPlane new
+  pub vertices : length new ≡ length one
+  pub darts : (u v : ℕ) → HasDart new u v ↔ (HasDart one u v ⊎ HasDart other u v)
 
 -- a list without entries
 pub empty_list : (us : List ℕ) → length us ≤ 0 → us ≡ []

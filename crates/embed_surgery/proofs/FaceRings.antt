@@ -13,7 +13,7 @@ use Rattle.map_theory.specs.Maps.{Dart, HasDart, IsSimpleMap, follows, dart_numb
 use Rattle.map_theory.specs.Paths.{SameFace}
 use Rattle.map_theory.proofs.DartLemmas.{dart_number-lt, get_or-dart_number, HasDart-face_step, length-face_images, get_or-face_images, IsPermutationOfBelow-face_images, entry_after-place, place_of-get_or, place_after}
 use Rattle.map_theory.proofs.DartPermutations.{dart_of, dart_of-number}
-use Rattle.embed_surgery.specs.Holes.{IsRing, IsRingOf, FaceIsRing}
+use Rattle.embed_surgery.proofs.Holes.{IsRing, IsRingOf}
 
 -- the first return of a walk
 first_return : (f : ℕ → ℕ) (k : ℕ) → IsPermuting f k → (a : ℕ) → a < k → (spare n : ℕ) → n + spare ≡ k → IsAway f a n → (m : ℕ) × (walk f a (suc m) ≡ a) × IsAway f a m
@@ -182,8 +182,8 @@ module _ (lists : Lists) (simple : IsSimpleMap lists) (u v : ℕ) (has : HasDart
           );
     }
 
--- THE LAW: a face that passes no vertex twice
-pub face_is_ring : FaceIsRing
+-- A face that passes no vertex twice is a ring.
+pub face_is_ring : (lists : Lists) (u v : ℕ) → IsSimpleMap lists → HasDart lists u v → ((x a b : ℕ) → HasDart lists x a → HasDart lists x b → SameFace lists (u, v) (x, a) → SameFace lists (u, v) (x, b) → a ≡ b) → (ws : List ℕ) × IsRingOf lists u v ws
 face_is_ring lists u v simple has once =
     let r = first_return (f lists simple u v has) (k lists simple u v has) (w lists simple u v has) (a lists simple u v has) (in_a lists simple u v has) (dart_count lists) 0 (omega arith) (λ i pos l. absurd (omega arith)) in
     (ws lists simple u v has r.0 r.1 r.2 once, ring_of lists simple u v has r.0 r.1 r.2 once)

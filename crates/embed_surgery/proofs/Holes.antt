@@ -1,12 +1,12 @@
 -- A vertex taken out of a map: each dart is given the face that it is drawn into, and a face step that does not pass the vertex keeps it.
-use Rattle.std.proofs.Common.{◌≡◌, ◌≢◌, ◌&&◌, ℕ, ◌<◌, Bool, true, not, cond, eqb, Contains, refl, sym, ap, ◌∙◌, subst, inl, inr}
+use Rattle.std.proofs.Common.{◌≡◌, ◌≢◌, ◌&&◌, ℕ, ◌<◌, Bool, true, not, cond, eqb, Contains, refl, sym, ap, ◌∙◌, subst, inl, inr, []}
 use Rattle.std.proofs.lemmas.Bool.{cases_eq, eqb-true, eq-eqb, ne_eqb, cond-true, cond-false, and_from, and_parts, and_right}
 use Rattle.classes.specs.Classes.{label}
 use Rattle.classes.proofs.Classes.{Together}
 use Rattle.classes.proofs.Orbits.{orbits_of, orbits_of-step, IsPermuting, marks_back}
 use Rattle.classes.proofs.Bound.{after, IsPermuting-pairing, IsPermuting-after}
 use Rattle.map_lists.specs.Lists.{Lists}
-use Rattle.map_theory.specs.Maps.{Dart, list_of, HasDart, IsSimpleMap, follows, dart_number, dart_count, face_step}
+use Rattle.map_theory.specs.Maps.{Dart, list_of, HasDart, IsSimpleMap, follows, dart_number, dart_count, face_step, IsPlane, entry_after}
 use Rattle.map_theory.proofs.DartLemmas.{dart_number-lt, get_or-dart_number, HasDart-follows, Contains-entry_after, entry_after-injective}
 use Rattle.map_theory.proofs.DartPermutations.{dart_of, dart_of-number, rotation, twin, IsPermuting-rotation, IsPairing-twin}
 use Rattle.plane_laws.proofs.ArcLemmas.{arc-first}
@@ -15,11 +15,38 @@ use Rattle.plane_laws.proofs.DartPaths.{dart_of-face_step, face_step_together, s
 use Rattle.plane_laws.specs.Kept.{IsKeptMap}
 use Rattle.plane_peeling.proofs.Rings.{entries_closed}
 use Rattle.plane_peeling.proofs.RestrictedMaps.{both, restricted-map, restricted-new}
-use Rattle.embed_surgery.specs.Holes.{IsPassedOnce, PassedOnce, all_but, without_vertex, HoleOfVertex}
 use Rattle.embed_surgery.proofs.Marks.{face_orbits}
+use Rattle.std.specs.Prelude.{List, ◌∷◌, ◌==◌, AllPairs}
+use Rattle.map_theory.specs.Paths.{JoinsAvoiding, SameFace}
+use Rattle.plane_peeling.specs.Restricted.{restricted}
 
--- THE LAW: vertices whose neighbours are joined without them
-pub passed_once : PassedOnce
+-- no face passes v twice: no two of its darts are in one face
+abbrev pub IsPassedOnce : Lists → ℕ → Type 0
+IsPassedOnce lists v = (a b : ℕ) → HasDart lists v a → HasDart lists v b → SameFace lists (v, a) (v, b) → a ≡ b
+
+-- all vertices but v
+abbrev pub all_but : ℕ → ℕ → Bool
+all_but v u = not (u == v)
+
+-- the map without v, which stays as an isolated vertex
+abbrev pub without_vertex : ℕ → Lists → Lists
+without_vertex v lists = restricted (all_but v) lists
+
+-- A ring: a list without repeats round which a face goes.
+pub record IsRing (lists : Lists) (ws : List ℕ) : Type 0 where
+  pub distinct : AllPairs ◌≢◌ ws
+  pub darts : (x : ℕ) → Contains ws x → HasDart lists x (entry_after x ws)
+  pub turns : (x : ℕ) → Contains ws x → follows lists (entry_after x ws) x ≡ entry_after (entry_after x ws) ws
+
+-- the ring of the face of (u, v), with all of its darts
+pub record IsRingOf (lists : Lists) (u v : ℕ) (ws : List ℕ) : Type 0 where
+  pub ring : IsRing lists ws
+  pub on : Contains ws u
+  pub next : entry_after u ws ≡ v
+  pub all : (x y : ℕ) → HasDart lists x y → SameFace lists (u, v) (x, y) → Contains ws x × (entry_after x ws ≡ y)
+
+-- In a map of genus zero no face passes a vertex twice whose neighbours are joined by paths that avoid it.
+pub passed_once : (lists : Lists) (v : ℕ) → IsSimpleMap lists → IsPlane lists → ((a b : ℕ) → HasDart lists v a → HasDart lists v b → a ≢ b → (path : List ℕ) × JoinsAvoiding lists (v ∷ []) a b path) → IsPassedOnce lists v
 passed_once lists v simple plane paths a b has_a has_b face =
     elim (cases_eq a b) [
       | inl e ↦ e
@@ -158,8 +185,8 @@ module _ (lists : Lists) (z : ℕ) (simple : IsSimpleMap lists) where
         let next : dart_of lists (f x) ≡ (z, q) = dart_of-face_step lists simple x l ∙ ap (face_step lists) here in
         sym (into_from z q (simple.no_loop z q has_q) refl) ∙ (ap drawn_into (sym next) ∙ (kept ∙ (ap drawn_into here ∙ into_to p z refl)))
 
--- THE LAW: the hole that a vertex leaves
-pub hole_of_vertex : HoleOfVertex
+-- Let no face pass z twice, and each of its neighbours have another. Without z its neighbours stand in one face: so do the darts that followed those to z.
+pub hole_of_vertex : (lists : Lists) (z : ℕ) → IsSimpleMap lists → IsPassedOnce lists z → ((p : ℕ) → HasDart lists z p → follows lists p z ≢ z) → (p q : ℕ) → HasDart lists z p → HasDart lists z q → SameFace (without_vertex z lists) (p, follows lists p z) (q, follows lists q z)
 unfolding face_label
 hole_of_vertex lists z simple once more p q has_p has_q =
     let us = list_of lists z in

@@ -1,6 +1,6 @@
 -- A vertex put into a ring: its edges are put in one after another, along the ring; the face that is still open goes from the vertex to the last of its neighbours, and on along the ring.
 use Rattle.std.proofs.Common.{◌≡◌, ◌≢◌, ◌⊎◌, ℕ, ◌+◌, ◌-◌, ◌<◌, ◌≤◌, Bool, true, false, not, cond, eqb, List, [], ◌∷◌, ◌++◌, length, get_or, AllPairs, Contains, refl, sym, ap, ap₂, ◌∙◌, subst, inl, inr, arith}
-use Rattle.std.specs.Prelude.{slice_set}
+use Rattle.std.specs.Prelude.{slice_set, if◌then◌else◌, slice_index_or}
 use Rattle.std.specs.List.{insert}
 use Rattle.std.proofs.lemmas.Bool.{cases_Bool, cases_eq, true≢false, eq-eqb, ne_eqb, cond-true, cond-false}
 use Rattle.std.proofs.lemmas.List.{append_assoc}
@@ -21,8 +21,32 @@ use Rattle.plane_laws.proofs.InsertedEntry.{entry_after-put}
 use Rattle.plane_laws.proofs.WithEdge.{with_edge, new_second, entry_at-after, with_edge_after_law, edge_put_in_face, edge_put_between}
 use Rattle.plane_peeling.proofs.Rings.{Leads, Leads-part, Leads-join, Leads-in, Leads-same, leads_round, ends_with, round-entry, AllPairs-put, each_of_one}
 use Rattle.plane_peeling.proofs.OuterCycles.{entry_before}
-use Rattle.embed_surgery.specs.Holes.{IsRing}
-use Rattle.embed_surgery.specs.Inserts.{IsTaken, IsPutIn, VertexPutIn, joined_along, put_in_ring}
+use Rattle.embed_surgery.proofs.Holes.{IsRing}
+
+-- w stands in the list and passes the test
+abbrev pub IsTaken : List ℕ → (ℕ → Bool) → ℕ → Type 0
+IsTaken ws taken w = Contains ws w × (taken w ≡ true)
+
+-- x is put into the ring and joined to what is taken of it: it comes between the vertices before and after each of these, and all else follows as it did.
+pub record IsPutIn (lists new : Lists) (ws : List ℕ) (taken : ℕ → Bool) (x : ℕ) : Type 0 where
+  pub simple : IsSimpleMap new
+  pub plane : IsPlane new
+  pub vertices : length new ≡ length lists
+  pub kept : (u v : ℕ) → HasDart lists u v → HasDart new u v
+  pub edges : (w : ℕ) → IsTaken ws taken w → HasDart new x w
+  pub only : (u v : ℕ) → HasDart new u v → HasDart lists u v ⊎ (((u ≡ x) × IsTaken ws taken v) ⊎ ((v ≡ x) × IsTaken ws taken u))
+  pub turns : (p : ℕ) → Contains ws p → taken (entry_after p ws) ≡ true → (follows new (entry_after p ws) p ≡ x) × (follows new (entry_after p ws) x ≡ entry_after (entry_after p ws) ws)
+  pub same : (v u : ℕ) → HasDart lists v u → ¬ (Contains ws u × (entry_after u ws ≡ v) × (taken v ≡ true)) → follows new v u ≡ follows lists v u
+
+-- the lists with x joined to what is taken of a part of a ring, whose entries come after p: each of these is put in directly after a in x's list, and x in its list directly after what comes before it on the ring
+abbrev pub joined_along : (ℕ → Bool) → ℕ → ℕ → Lists → ℕ → List ℕ → Lists
+joined_along taken x a lists p [] = lists
+joined_along taken x a lists p (v ∷ vs) = joined_along taken x a (if taken v then with_edge_after lists x a v p else lists) v vs
+
+-- the lists with x put into a ring of which the first entry is taken
+abbrev pub put_in_ring : (ℕ → Bool) → ℕ → Lists → List ℕ → Lists
+put_in_ring taken x lists ws =
+    joined_along taken x (slice_index_or ws 0 0) lists (slice_index_or ws (length ws - 1) 0) ws
 
 -- from the entries of a way but its last it goes on to entries of it
 pub Leads-next_in : (next : ℕ → ℕ) (x : ℕ) (mid : List ℕ) (b : ℕ) → Leads next x (mid ++ b ∷ []) b → (z : ℕ) → Contains (x ∷ mid) z → Contains (mid ++ b ∷ []) (next z)
@@ -541,8 +565,8 @@ put_in_ring_law lists x a mid b back taken simple plane in_x empty ring taken_a 
     ∙ (ap (λ (l : Lists). joined_along taken x a l a (mid ++ b ∷ back)) begun_is ∙ joined_along-taken taken x a lists t a a (mid ++ b ∷ back) taken_a refl))) in
     (subst (λ l. IsPutIn lists l ws taken x) is put, subst (λ l. IsRing l (x ∷ a ∷ mid ++ b ∷ [])) is new_on)
 
--- THE LAW: a vertex put into a ring
-pub vertex_put_in : VertexPutIn
+-- An isolated vertex can be put into a ring of a map of genus zero, and joined to those that are taken of it, where at least two are, a and b, with none taken between: it then stands in a ring with a and b and what is between.
+pub vertex_put_in : (lists : Lists) (x a : ℕ) (mid : List ℕ) (b : ℕ) (back : List ℕ) (taken : ℕ → Bool) → IsSimpleMap lists → IsPlane lists → x < length lists → list_of lists x ≡ [] → IsRing lists (a ∷ mid ++ b ∷ back) → taken a ≡ true → taken b ≡ true → ((w : ℕ) → Contains mid w → taken w ≡ false) → (new : Lists) × IsPutIn lists new (a ∷ mid ++ b ∷ back) taken x × IsRing new (x ∷ a ∷ mid ++ b ∷ [])
 vertex_put_in lists x a mid b back taken simple plane in_x empty ring taken_a taken_b none =
     let r = put_in_ring_law lists x a mid b back taken simple plane in_x empty ring taken_a taken_b none in
     (put_in_ring taken x lists (a ∷ mid ++ b ∷ back), r.0, r.1)

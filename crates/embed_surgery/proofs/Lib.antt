@@ -4,7 +4,6 @@ pub mod Holes
 pub mod FaceRings
 pub mod Inserts
 pub mod Turned
-mod FaceMarksCases
 -- What the laws rest on.
 pub mod Labels
 pub mod Unions
@@ -12,4 +11,3 @@ pub mod Entries
 pub mod UnionLists
 pub mod AtVertex
 pub mod AlongEdge
-mod GluingCases

@@ -7,11 +7,28 @@ use Rattle.classes.proofs.Classes.{Together, IsLabels, label-lt, Together-from}
 use Rattle.classes.proofs.Orbits.{orbits_of, length-orbits_of, IsLabels-orbits_of, orbits_of-marked}
 use Rattle.classes.proofs.Bound.{after, length-joint, IsPermuting-pairing, IsPermuting-after}
 use Rattle.map_lists.specs.Lists.{Lists}
-use Rattle.map_theory.specs.Maps.{Dart, HasDart, IsSimpleMap, dart_number, dart_count, face_step, component_classes}
+use Rattle.map_theory.specs.Maps.{Dart, HasDart, IsSimpleMap, dart_number, dart_count, face_step, component_classes, face_count, isolated_count, component_count, IsPlane, vertex_count, edge_count}
 use Rattle.map_theory.proofs.DartLemmas.{dart_number-lt, get_or-dart_number}
 use Rattle.map_theory.proofs.DartPermutations.{dart_of, tail_of, dart_of-number, rotation, twin, IsPermuting-rotation, IsPairing-twin, face_count-orbits, dart_classes, class_of_component, component_count-classes, euler_bound_map}
 use Rattle.plane_laws.proofs.DartPaths.{dart_of-face_step}
-use Rattle.embed_surgery.specs.Marks.{KeepsFaces, HasMarks, FacesByMarks, JoinsMarked, ComponentsByMarks, GenusByMarks}
+use Rattle.std.specs.Prelude.{◌+◌, ◌*◌}
+use Rattle.plane_laws.specs.Laws.{SameComponent}
+
+-- the mark is one along each face step
+abbrev pub KeepsFaces : Lists → (Dart → ℕ) → Type 0
+KeepsFaces lists mark = (u v : ℕ) → HasDart lists u v → mark (face_step lists (u, v)) ≡ mark (u, v)
+
+-- each number below the bound that passes the test is the mark of a dart
+pub record HasMarks (lists : Lists) (mark : Dart → ℕ) (bound : ℕ) (test : ℕ → Bool) : Type 0 where
+  pub pick : ℕ → Dart
+  pub darts : (j : ℕ) → j < bound → test j ≡ true → HasDart lists (pick j).0 (pick j).1
+  pub marked : (j : ℕ) → j < bound → test j ≡ true → mark (pick j) ≡ j
+
+-- each dart's mark is below the bound and passes the test, and two darts with one mark leave vertices of one component
+pub record JoinsMarked (lists : Lists) (mark : Dart → ℕ) (bound : ℕ) (test : ℕ → Bool) : Type 0 where
+  pub within : (u v : ℕ) → HasDart lists u v → mark (u, v) < bound
+  pub passes : (u v : ℕ) → HasDart lists u v → test (mark (u, v)) ≡ true
+  pub joined : (u v x y : ℕ) → HasDart lists u v → HasDart lists x y → mark (u, v) ≡ mark (x, y) → SameComponent lists u x
 
 -- numbers that pass go to different classes: there are as many classes at least
 pub classes_many : (labels : List ℕ) → IsLabels labels → (bound : ℕ) (test : ℕ → Bool) (to : ℕ → ℕ) → ((j : ℕ) → j < bound → test j ≡ true → to j < length labels) → ((i j : ℕ) → i < bound → j < bound → test i ≡ true → test j ≡ true → Together labels (to i) (to j) → i ≡ j) → count_below test bound ≤ class_count labels
@@ -59,18 +76,18 @@ module _ (lists : Lists) (simple : IsSimpleMap lists) where
       class_of_component lists simple i j (omega arith) (omega arith)
       (Together-from (component_classes lists) (tail_of lists i) (tail_of lists j) (joins.joined (dart_of lists i).0 (dart_of lists i).1 (dart_of lists j).0 (dart_of lists j).1 (is_dart i l) (is_dart j m) e)))
 
--- THE LAW: faces by marks
-pub faces_by_marks : FacesByMarks
+-- Where marks are one along each face, there are at least as many faces as marks, and one for each isolated vertex.
+pub faces_by_marks : (lists : Lists) (mark : Dart → ℕ) (bound : ℕ) (test : ℕ → Bool) → IsSimpleMap lists → KeepsFaces lists mark → HasMarks lists mark bound test → count_below test bound + isolated_count lists ≤ face_count lists
 faces_by_marks lists mark bound test simple keeps has =
     omega (arith, faces_many lists simple mark bound test keeps has, face_count-orbits lists simple)
 
--- THE LAW: components by marks
-pub components_by_marks : ComponentsByMarks
+-- Where darts with one mark are joined, there are at most as many components as marks, and one for each isolated vertex.
+pub components_by_marks : (lists : Lists) (mark : Dart → ℕ) (bound : ℕ) (test : ℕ → Bool) → IsSimpleMap lists → JoinsMarked lists mark bound test → component_count lists ≤ count_below test bound + isolated_count lists
 components_by_marks lists mark bound test simple joins =
     omega (arith, components_few lists simple mark bound test joins, component_count-classes lists simple)
 
--- THE LAW: genus zero by marks
-pub genus_by_marks : GenusByMarks
+-- A map has genus zero where its marks give faces enough.
+pub genus_by_marks : (lists : Lists) (mark : Dart → ℕ) (bound : ℕ) (test : ℕ → Bool) → IsSimpleMap lists → KeepsFaces lists mark → HasMarks lists mark bound test → 2 * component_count lists + edge_count lists ≤ vertex_count lists + (count_below test bound + isolated_count lists) → IsPlane lists
 genus_by_marks lists mark bound test simple keeps has enough =
     let bound_is = euler_bound_map lists simple in
     let total = bound_is.1 in

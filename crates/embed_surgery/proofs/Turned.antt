@@ -5,7 +5,8 @@ use Rattle.map_theory.specs.Maps.{HasDart, follows, entry_after}
 use Rattle.map_theory.proofs.DartLemmas.{Contains-entry_after}
 use Rattle.map_theory.proofs.EntryLemmas.{AllPairs-append, AllPairs-left, AllPairs-right, parts_apart}
 use Rattle.plane_peeling.proofs.Rings.{Leads-part, Leads-join, leads_round, ends_with, round-entry}
-use Rattle.embed_surgery.specs.Holes.{RingTurned}
+use Rattle.map_lists.specs.Lists.{Lists}
+use Rattle.embed_surgery.proofs.Holes.{IsRing}
 
 pub Contains-turned : (us vs : List ℕ) (x : ℕ) → Contains (us ++ vs) x → Contains (vs ++ us) x
 Contains-turned us vs x c =
@@ -28,8 +29,8 @@ entry_after-turned us vs distinct x c =
     let parts = Leads-part next t us vs t (leads_round ws t distinct end.0 end.1) in
     round-entry next (vs ++ us) parts.0 (AllPairs-turned us vs distinct) (Leads-join next parts.0 vs t us parts.0 parts.2 parts.1) x (Contains-turned us vs x c)
 
--- THE LAW: a ring read from another entry
-pub ring_turned : RingTurned
+-- A ring may be read from another of its entries.
+pub ring_turned : (lists : Lists) (us vs : List ℕ) → IsRing lists (us ++ vs) → IsRing lists (vs ++ us)
 ring_turned lists us vs ring =
     let same = entry_after-turned us vs ring.distinct in
     let old : (x : ℕ) → Contains (vs ++ us) x → Contains (us ++ vs) x = Contains-turned vs us in

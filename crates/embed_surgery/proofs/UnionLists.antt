@@ -7,7 +7,7 @@ use Rattle.std.proofs.lemmas.List.FromFn.{length-range_with_len, get_or-range_wi
 use Rattle.map_lists.specs.Lists.{Lists}
 use Rattle.map_theory.specs.Maps.{Dart, HasDart, IsSimpleMap, list_of, place_of}
 use Rattle.map_theory.proofs.DartLemmas.{place_of-lt-length, Contains-from_place_of}
-use Rattle.embed_surgery.specs.Glued.{lists_by}
+use Rattle.embed_surgery.proofs.Entries.{lists_by}
 
 pub length-lists_by : (f : ℕ → List ℕ) (n : ℕ) → length (lists_by f n) ≡ n
 length-lists_by f n = length-map {B = List ℕ} (range_with_len 0 n) f ∙ length-range_with_len 0 n

@@ -11,8 +11,7 @@ use Rattle.map_theory.specs.Maps.{Dart, HasDart, IsSimpleMap, list_of, dart_numb
 use Rattle.map_theory.proofs.DartLemmas.{dart_number-lt, dart_number-injective}
 use Rattle.map_theory.proofs.DartPermutations.{dart_of, tail_of, dart_of-number, rotation, twin, IsPermuting-rotation, IsPairing-twin, dart_classes, IsLabels-dart_classes, component_of_class, components, components-marked, edge_together, dart_of-twin, count_by-count_below}
 use Rattle.plane_laws.proofs.DartPaths.{tail_of-number}
-use Rattle.embed_surgery.specs.Marks.{HasMarks, JoinsMarked}
-use Rattle.embed_surgery.proofs.Marks.{face_orbits, IsLabels-face_orbits}
+use Rattle.embed_surgery.proofs.Marks.{face_orbits, IsLabels-face_orbits, HasMarks, JoinsMarked}
 use Rattle.embed_surgery.proofs.Labels.{test, value, value_zb, value_else, test_first, test_second, first_passes, second_passes}
 
 pub length-face_orbits : (lists : Lists) (simple : IsSimpleMap lists) → length (face_orbits lists simple) ≡ dart_count lists
@@ -58,9 +57,6 @@ count_below-or p q (suc n) = omega (arith, count_below-or p q n, one_if_or (p n)
 module _ (one other new : Lists) (s1 : IsSimpleMap one) (s2 : IsSimpleMap other) (s' : IsSimpleMap new) (drawn : Dart → Bool) (in_one : (x y : ℕ) → HasDart new x y → drawn (x, y) ≡ true → HasDart one x y) (in_other : (x y : ℕ) → HasDart new x y → drawn (x, y) ≡ false → HasDart other x y) where
   abbrev k1 : ℕ
   k1 = dart_count one
-
-  abbrev k2 : ℕ
-  k2 = dart_count other
 
   -- ---- faces
   abbrev FA : List ℕ

@@ -11,15 +11,14 @@ use Rattle.plane_laws.specs.WithEdge.{with_edge_at, IsEdgeMore}
 use Rattle.plane_laws.proofs.KeptEdges.{kept_edges, length-with_kept}
 use Rattle.plane_laws.proofs.WithEdge.{with_edge, edge_put_between, length-new}
 use Rattle.plane_peeling.proofs.Rings.{each_of_one, each_of_two, AllPairs-put, entry_after-inside, entry_after-last}
-use Rattle.embed_surgery.specs.Holes.{IsRing}
-use Rattle.embed_surgery.specs.Inserts.{IsPutIn}
+use Rattle.embed_surgery.proofs.Holes.{IsRing}
 use Rattle.embed_surgery.proofs.Marks.{components_by_marks, genus_by_marks}
-use Rattle.embed_surgery.proofs.Inserts.{vertex_put_in}
+use Rattle.embed_surgery.proofs.Inserts.{vertex_put_in, IsPutIn}
 use Rattle.embed_contraction.specs.Linked.{HasEdge, IsThreeLinked, without_vertices}
 use Rattle.embed_contraction.proofs.Parts.{rest-simple, rest-length, rest-old}
 use Rattle.embed_theorem.specs.Expanded.{IsMapOf}
 use Rattle.embed_theorem.proofs.Joined.{empty_of}
-use Rattle.embed_theorem.specs.Sides.{IsBetween}
+use Rattle.embed_theorem.proofs.Graphs.{IsBetween}
 use Rattle.embed_theorem.proofs.Sides.{joined_edge}
 use Rattle.embed_theorem.specs.ListGraphs.{graph_of}
 use Rattle.embed_theorem.proofs.GraphLemmas.{has_edge-from, has_edge-is}

@@ -8,11 +8,23 @@ use Rattle.embed_contraction.specs.Linked.{HasEdge}
 use Rattle.embed_contraction.proofs.Lifted.{lifted_witness}
 use Rattle.embed_contraction.specs.Traces.{HasWitness}
 use Rattle.embed_theorem.specs.Expanded.{IsContractedInto}
-use Rattle.embed_theorem.specs.Sides.{live}
-use Rattle.embed_theorem.specs.Contracted.{IsMoved, AreContracted}
-use Rattle.embed_theorem.proofs.Graphs.{lists_of, length-lists_of, HasDart-lists_of, lists_of-dart, IsSimpleMap-lists_of, live_less}
+use Rattle.embed_theorem.proofs.Graphs.{lists_of, length-lists_of, HasDart-lists_of, lists_of-dart, IsSimpleMap-lists_of, live_less, live}
 use Rattle.embed_theorem.specs.ListGraphs.{graph_of}
 use Rattle.embed_theorem.proofs.GraphLemmas.{has_edge-from, has_edge-is}
+use Rattle.std.specs.Prelude.{◌⊎◌, ◌↔◌}
+
+-- a and b are two vertices other than y that an edge joins, or one of y where x stands for y
+pub record IsMoved (lists : Lists) (x y a b : ℕ) : Type 0 where
+  pub two : a ≢ b
+  pub first : a ≢ y
+  pub second : b ≢ y
+  pub dart : HasDart lists a b ⊎ (((a ≡ x) × HasDart lists y b) ⊎ ((b ≡ x) × HasDart lists a y))
+
+-- new has just these edges: y has left, and x has the neighbours of both
+pub record AreContracted (lists new : Lists) (x y : ℕ) : Type 0 where
+  pub simple : IsSimpleMap new
+  pub vertices : length new ≡ length lists
+  pub darts : (a b : ℕ) → HasDart new a b ↔ IsMoved lists x y a b
 
 module _ (lists small : Lists) (x y : ℕ) (edge : HasDart lists x y) (simple : IsSimpleMap lists) (con : AreContracted lists small x y) where
   x_y : x ≢ y

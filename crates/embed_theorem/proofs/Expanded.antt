@@ -12,17 +12,14 @@ use Rattle.graph6_text.specs.Graphs.{EdgeGraph, has_edge}
 use Rattle.graph6_text.proofs.EdgeLemmas.{has_edge-turned}
 use Rattle.plane_peeling.proofs.Rings.{each_of_one}
 use Rattle.plane_peeling.proofs.RestrictedMaps.{restricted-map, restricted-old, length-restricted}
-use Rattle.embed_surgery.specs.Holes.{all_but, without_vertex, IsPassedOnce, IsRing, IsRingOf}
-use Rattle.embed_surgery.specs.Inserts.{IsPutIn, put_in_ring}
-use Rattle.embed_surgery.proofs.Holes.{passed_once, hole_of_vertex, rest_dart}
+use Rattle.embed_surgery.proofs.Holes.{passed_once, hole_of_vertex, rest_dart, all_but, without_vertex, IsPassedOnce, IsRing, IsRingOf}
 use Rattle.embed_surgery.proofs.FaceRings.{face_is_ring}
 use Rattle.embed_surgery.proofs.Turned.{ring_turned, Contains-turned}
-use Rattle.embed_surgery.proofs.Inserts.{put_in_ring_law}
+use Rattle.embed_surgery.proofs.Inserts.{put_in_ring_law, IsPutIn, put_in_ring}
 use Rattle.embed_contraction.specs.Linked.{HasEdge, IsThreeLinked, IsContractible, without_vertices}
 use Rattle.embed_contraction.proofs.Parts.{rest-length, rest-old}
 use Rattle.embed_contraction.proofs.Growth.{not_two, not_three}
-use Rattle.embed_contraction.specs.Places.{HasTwo}
-use Rattle.embed_contraction.specs.Rims.{IsRimmed, spoke, IsGapOf}
+use Rattle.embed_contraction.proofs.Rings.{IsRimmed, spoke, IsGapOf, HasTwo}
 use Rattle.embed_contraction.proofs.Gaps.{gap_or_witness}
 use Rattle.embed_theorem.specs.Expanded.{HasJustEdges, IsMapOf, HasFour, IsContractedInto, ExpandedEdge}
 use Rattle.embed_theorem.proofs.Joined.{path_over, part_path, third_neighbour, follows_other, first_taken, empty_of}

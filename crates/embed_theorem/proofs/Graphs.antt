@@ -1,8 +1,7 @@
 -- Graphs as lists and as edges, witnesses of parts, and vertices that have edges, counted.
-use Rattle.std.proofs.Common.{◌≡◌, ◌≢◌, ◌⊎◌, ℕ, zero, suc, ◌+◌, ◌-◌, ◌<◌, ◌++◌, Bool, true, not, eqb, List, [], ◌∷◌, length, AllPairs, Contains, refl, sym, ap, ◌∙◌, subst, arith}
+use Rattle.std.proofs.Common.{◌≡◌, ◌≢◌, ◌⊎◌, ℕ, suc, ◌-◌, ◌<◌, Bool, true, not, eqb, List, [], ◌∷◌, length, AllPairs, Contains, refl, sym, ap, ◌∙◌, subst, arith}
 use Rattle.std.specs.List.{filter, range_with_len}
 use Rattle.std.proofs.lemmas.Bool.{false≢true, and_from, ne_eqb}
-use Rattle.std.proofs.lemmas.List.Elements.{filter-append}
 use Rattle.std.proofs.lemmas.List.FromFn.{length-range_with_len, get_or-range_with_len}
 use Rattle.std.proofs.lemmas.List.Kept.{AllPairs-filter}
 use Rattle.classes.specs.Classes.{count_below}
@@ -12,7 +11,7 @@ use Rattle.map_theory.specs.Maps.{list_of, HasDart, IsSimpleMap, is_empty_list}
 use Rattle.map_theory.proofs.EntryLemmas.{Contains-from_filter, Contains-filter}
 use Rattle.map_theory.proofs.DartPermutations.{has_edge as has_some}
 use Rattle.graph6_text.specs.Graphs.{EdgeGraph, has_edge}
-use Rattle.embed_surgery.specs.Glued.{lists_by}
+use Rattle.embed_surgery.proofs.Entries.{lists_by}
 use Rattle.embed_surgery.proofs.UnionLists.{length-lists_by, list_of-lists_by}
 use Rattle.embed_contraction.specs.Linked.{HasEdge}
 use Rattle.embed_contraction.proofs.Parts.{minus, count_below-minus}
@@ -20,33 +19,48 @@ use Rattle.embed_contraction.proofs.Frames.{frame-witness, witness-frame, frame-
 use Rattle.embed_contraction.specs.Traces.{HasWitness}
 use Rattle.kuratowski.specs.Witnesses.{vertex_at, path_at}
 use Rattle.embed_theorem.specs.Expanded.{HasJustEdges, IsMapOf}
-use Rattle.embed_theorem.specs.Sides.{live}
 use Rattle.embed_theorem.specs.ListGraphs.{graph_of}
 use Rattle.embed_theorem.proofs.GraphLemmas.{has_edge-from, has_edge-is}
+
+-- how many vertices have edges
+abbrev pub live : Lists → ℕ
+live lists = count_below (λ v. not (is_empty_list (list_of lists v))) (length lists)
+
+-- A and B have the edges of the lists between them, and meet in u and v at most; each lacks a vertex that has an edge.
+pub record IsSided (lists A B : Lists) (u v : ℕ) : Type 0 where
+  pub simple_A : IsSimpleMap A
+  pub simple_B : IsSimpleMap B
+  pub length_A : length A ≡ length lists
+  pub length_B : length B ≡ length lists
+  pub split : (a b : ℕ) → HasDart lists a b → HasDart A a b ⊎ HasDart B a b
+  pub of_A : (a b : ℕ) → HasDart A a b → HasDart lists a b
+  pub of_B : (a b : ℕ) → HasDart B a b → HasDart lists a b
+  pub shared : (w p q : ℕ) → HasDart A w p → HasDart B w q → (w ≡ u) ⊎ (w ≡ v)
+  pub lost_A : ℕ
+  pub edge_A : HasEdge lists lost_A
+  pub gone_A : ¬ HasEdge A lost_A
+  pub lost_B : ℕ
+  pub edge_B : HasEdge lists lost_B
+  pub gone_B : ¬ HasEdge B lost_B
+
+-- the edge between u and v, in either direction
+abbrev pub IsBetween : ℕ → ℕ → ℕ → ℕ → Type 0
+IsBetween u v a b = ((a ≡ u) × (b ≡ v)) ⊎ ((a ≡ v) × (b ≡ u))
+
+-- lists with an edge between u and v
+pub record IsJoinedUp (old new : Lists) (u v : ℕ) : Type 0 where
+  pub simple : IsSimpleMap new
+  pub vertices : length new ≡ length old
+  pub edge : HasDart new u v
+  pub kept : (a b : ℕ) → HasDart old a b → HasDart new a b
+  pub only : (a b : ℕ) → HasDart new a b → HasDart old a b ⊎ IsBetween u v a b
 
 pub just_edges : (lists : Lists) → IsSimpleMap lists → HasJustEdges lists (graph_of lists)
 just_edges lists simple = record { vertices = refl; there = has_edge-from lists; all = has_edge-is lists simple }
 
--- one number more
-range_suc : (a n : ℕ) → range_with_len a (suc n) ≡ range_with_len a n ++ (a + n) ∷ []
-range_suc a zero = ap (λ x. x ∷ []) (omega arith)
-range_suc a (suc n) =
-    let e : a + 1 + n ≡ a + suc n = omega arith in
-    ap (λ xs. a ∷ xs) (range_suc (a + 1) n ∙ ap (λ x. range_with_len (a + 1) n ++ x ∷ []) e)
-
-pub kept_more : (f : ℕ → Bool) (n : ℕ) → filter f (range_with_len 0 n) ++ filter f (n ∷ []) ≡ filter f (range_with_len 0 (n + 1))
-kept_more f n =
-    let s : n + 1 ≡ suc n = omega arith in
-    let z : 0 + n ≡ n = omega arith in
-    sym (ap (filter f) (ap (range_with_len 0) s ∙ (range_suc 0 n ∙ ap (λ x. range_with_len 0 n ++ x ∷ []) z)) ∙ filter-append f (range_with_len 0 n) (n ∷ []))
-
 -- the lists of a graph given by a test
 pub lists_of : ℕ → (ℕ → ℕ → Bool) → Lists
 lists_of n t = lists_by (λ v. filter (t v) (range_with_len 0 n)) n
-
-pub lists_of-rows : (n : ℕ) (t : ℕ → ℕ → Bool) → lists_of n t ≡ lists_by (λ v. filter (t v) (range_with_len 0 n)) n
-unfolding lists_of
-lists_of-rows n t = refl
 
 pub length-lists_of : (n : ℕ) (t : ℕ → ℕ → Bool) → length (lists_of n t) ≡ n
 unfolding lists_of

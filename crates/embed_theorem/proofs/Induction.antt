@@ -16,8 +16,7 @@ use Rattle.embed_theorem.specs.Expanded.{HasFour}
 use Rattle.embed_theorem.proofs.Expanded.{expanded_edge}
 use Rattle.embed_theorem.proofs.Refuted.{witnesses_refute}
 use Rattle.embed_theorem.specs.Embedding.{MapOrWitness, PlanarExactly}
-use Rattle.embed_theorem.specs.Sides.{live}
-use Rattle.embed_theorem.proofs.Graphs.{just_edges, lists_of, length-lists_of, HasDart-lists_of, lists_of-dart, IsSimpleMap-lists_of, witness_more, Result}
+use Rattle.embed_theorem.proofs.Graphs.{just_edges, lists_of, length-lists_of, HasDart-lists_of, lists_of-dart, IsSimpleMap-lists_of, witness_more, Result, live}
 use Rattle.embed_theorem.proofs.Contracted.{contracted_less, contracted_into, contracted_witness, contracted_by, moved_test, moved-is, moved-from}
 use Rattle.embed_theorem.proofs.Sides.{Smaller}
 use Rattle.embed_theorem.proofs.TwoSides.{separated_sides}

@@ -12,7 +12,7 @@ use Rattle.plane_laws.specs.WithEdge.{with_edge_at}
 use Rattle.plane_laws.proofs.WithEdge.{with_edge, length-new}
 use Rattle.plane_peeling.proofs.RestrictedMaps.{cases_Contains}
 use Rattle.graph6_text.specs.Graphs.{EdgeGraph, has_edge}
-use Rattle.embed_surgery.specs.Glued.{glued_lists, edge_glued_lists, IsUnion}
+use Rattle.embed_surgery.proofs.Entries.{glued_lists, edge_glued_lists, IsUnion}
 use Rattle.embed_surgery.proofs.AtVertex.{glued_at_vertex}
 use Rattle.embed_surgery.proofs.AlongEdge.{glued_along_edge}
 use Rattle.embed_contraction.specs.Linked.{HasEdge}
@@ -22,8 +22,7 @@ use Rattle.embed_contraction.proofs.Routes.{some_route}
 use Rattle.embed_contraction.proofs.Routed.{routed_witness}
 use Rattle.embed_contraction.specs.Traces.{HasWitness}
 use Rattle.embed_theorem.specs.Expanded.{IsMapOf}
-use Rattle.embed_theorem.specs.Sides.{IsSided, IsBetween, IsJoinedUp, live}
-use Rattle.embed_theorem.proofs.Graphs.{Result, part_witness, map_from, map_to, live_less}
+use Rattle.embed_theorem.proofs.Graphs.{Result, part_witness, map_from, map_to, live_less, IsSided, IsBetween, IsJoinedUp, live}
 use Rattle.embed_theorem.specs.ListGraphs.{graph_of}
 use Rattle.embed_theorem.proofs.GraphLemmas.{has_edge-from, has_edge-is}
 

@@ -15,8 +15,7 @@ use Rattle.embed_surgery.proofs.UnionLists.{has_dart, has_dart-is, HasDart-from}
 use Rattle.embed_contraction.specs.Linked.{HasEdge, without_vertices, outside}
 use Rattle.embed_contraction.proofs.Parts.{cases_part, cases_edge, part-chained, part-itself, rest-together, outside-is, outside-from}
 use Rattle.classes.proofs.Classes.{same_class-from}
-use Rattle.embed_theorem.proofs.Graphs.{Result}
-use Rattle.embed_theorem.specs.Sides.{IsSided}
+use Rattle.embed_theorem.proofs.Graphs.{Result, IsSided}
 use Rattle.embed_theorem.proofs.Sides.{sides_turned, Smaller, glue_one, glue_two}
 
 both_same : (a b : Bool) → (a ≡ true → b ≡ true) → (b ≡ true → a ≡ true) → a ≡ b

@@ -6,5 +6,3 @@ pub mod Expanded
 pub mod ListGraphs
 -- Each graph has a map of genus zero, or a witness.
 pub mod Embedding
-pub mod Sides
-pub mod Contracted

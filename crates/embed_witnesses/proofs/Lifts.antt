@@ -10,7 +10,8 @@ use Rattle.kuratowski.specs.Witnesses.{branch_count, vertex_at, path_at, IsWitne
 use Rattle.kuratowski.specs.declared.witness.Kind.{Kind}
 use Rattle.kuratowski.specs.declared.witness.Kind.TheVariants.{K5, K33}
 use Rattle.kuratowski.specs.declared.witness.Witness.{Witness}
-use Rattle.embed_contraction.specs.Traces.{path_count, IsTraced}
+use Rattle.embed_contraction.specs.Traces.{path_count}
+use Rattle.embed_contraction.proofs.Spans.{IsTraced}
 use Rattle.embed_contraction.proofs.Numbers.{each_of_five, each_of_six, each_of_nine}
 use Rattle.embed_contraction.proofs.Traces.{length-vertices_of, vertex_at-vertices_of, witness_by}
 use Rattle.embed_contraction.specs.Contracted.{IsEdgeOf}

@@ -8,8 +8,8 @@ use Rattle.graph_search.specs.Forests.{IsAdjacency, Holds, IsForest}
 use Rattle.graph_search.specs.Lows.{IsWithin, IsLow}
 use Rattle.graph_search.proofs.ForestLemmas.{same_vertex, IsWithin-itself, IsWithin-cases, IsWithin-ends, IsWithin-parent, Holds-edge, child_towards}
 use Rattle.graph_search.specs.Cuts.{IsCutVertex}
-use Rattle.graph_search.specs.Flags.{IsSeparatedChild, Walks, AreLinked}
-use Rattle.graph_search.proofs.WalkLemmas.{Off, linked_itself, linked_weaker, linked_chained, linked_dart, linked_turned, walks_keep, linked_path, path_linked_by}
+use Rattle.graph_search.specs.Flags.{IsSeparatedChild}
+use Rattle.graph_search.proofs.WalkLemmas.{Off, linked_itself, linked_weaker, linked_chained, linked_dart, linked_turned, walks_keep, linked_path, path_linked_by, Walks, AreLinked}
 
 -- avoiding one vertex
 pub off_one : (v x : ℕ) → x ≢ v → Off (v ∷ []) x

@@ -1,14 +1,21 @@
 -- The low points of vertices, by falling numbers.
-use Rattle.std.proofs.Common.{◌≡◌, ◌≢◌, ℕ, ◌+◌, ◌-◌, ◌<◌, ◌≤◌, min, List, [], ◌∷◌, length, take, set, replicate, length-set, get_or, get_or-set_same, get_or-set_other, Contains, All, sym, ap, ◌∙◌, subst, inl, inr, arith}
+use Rattle.std.proofs.Common.{◌≡◌, ◌≢◌, ℕ, ◌+◌, ◌-◌, ◌<◌, ◌≤◌, min, List, [], ◌∷◌, length, take, set, length-set, get_or, get_or-set_same, get_or-set_other, Contains, All, sym, ap, ◌∙◌, subst, inl, inr, arith}
 use Rattle.std.proofs.lemmas.Bool.{cases_eq, cases_lt}
-use Rattle.std.proofs.lemmas.List.{take_more, length-replicate, get_or-replicate}
+use Rattle.std.proofs.lemmas.List.{take_more}
 use Rattle.std.proofs.lemmas.List.Elements.{Contains-append_cases, Contains-append_left, Contains-append_right, Contains-get_or}
 use Rattle.map_theory.proofs.EntryLemmas.{Contains-here, Contains-cons_cases}
 use Rattle.map_lists.specs.Lists.{Lists}
 use Rattle.map_theory.specs.Maps.{HasDart, list_of}
 use Rattle.graph_search.specs.Forests.{IsAdjacency, IsForestOf}
-use Rattle.graph_search.specs.Lows.{IsLow, Meets, IsLeastNumber, IsLowered}
+use Rattle.graph_search.specs.Lows.{IsLow, Meets, IsLowered}
 use Rattle.graph_search.proofs.ForestLemmas.{IsWithin-cases, IsWithin-itself, IsWithin-held, IsWithin-chained, child_towards}
+use Rattle.std.specs.Prelude.{◌⊎◌, slice_index}
+
+-- the least of a number and of those of the vertices of a list
+pub record IsLeastNumber (entries number : List ℕ) (start least : ℕ) : Type 0 where
+  pub most : least ≤ start
+  pub below : (u : ℕ) → Contains entries u → least ≤ slice_index number u
+  pub met : (least ≡ start) ⊎ ((u : ℕ) × Contains entries u × (slice_index number u ≡ least))
 
 -- The low points of the vertices of the i greatest numbers are found. No vertex has a greater one so far than a child of these, and what it has is met.
 pub record AreLowsFrom (lists : Lists) (number last parent low : List ℕ) (i : ℕ) : Type 0 where
@@ -51,18 +58,6 @@ module _ (lists : Lists) (adjacency : IsAdjacency lists) (order number last pare
 
   abbrev end : ℕ → ℕ
   end v = get_or last v 0
-
-  -- before the first
-  pub AreLowsFrom-none : (low : List ℕ) → low ≡ replicate (length lists) (length lists) → AreLowsFrom lists number last parent low 0
-  AreLowsFrom-none low is =
-      let f = all.forest in
-      let entry : (v : ℕ) → v < length lists → get_or low v 0 ≡ length lists = λ v m. ap (λ (xs : List ℕ). get_or xs v 0) is ∙ get_or-replicate {A = ℕ} (length lists) v (length lists) 0 m in
-      record {
-        lows = ap length is ∙ length-replicate {A = ℕ} (length lists) (length lists);
-        done = λ v m few. absurd (omega (arith, f.numbered v m));
-        children = λ c m few p. absurd (omega (arith, f.numbered c m));
-        met = λ v m few. absurd (omega (arith, entry v m));
-      }
 
   module _ (low : List ℕ) (i v least : ℕ) (l : i < length lists) (is : v ≡ get_or order (length lists - 1 - i) 0) (h : AreLowsFrom lists number last parent low i) (along : IsLeastNumber (list_of lists v) number (get_or low v 0) least) where
     v_in : v < length lists

@@ -10,9 +10,9 @@ use Rattle.map_theory.specs.Maps.{HasDart, list_of, place_of}
 use Rattle.map_theory.proofs.DartLemmas.{place_of-lt-length, Contains-from_place_of}
 use Rattle.graph_search.specs.Forests.{IsForestOf}
 use Rattle.graph_search.specs.Lows.{Meets, AreLows, IsLowered}
-use Rattle.graph_search.specs.UnderWay.{IsUnderWay, AreRead, IsPut, IsMetFrom, AreLowering, AreLowsSoFar, IsSearching, IsLeastFrom}
+use Rattle.graph_search.specs.UnderWay.{IsUnderWay, AreRead, IsMetFrom, AreLowering, AreLowsSoFar, IsSearching, IsLeastFrom}
 use Rattle.graph_search.proofs.ForestLemmas.{IsWithin-cases, child_towards}
-use Rattle.graph_search.proofs.StepLemmas.{IsPut-set, unseen_open}
+use Rattle.graph_search.proofs.StepLemmas.{IsPut-set, unseen_open, IsPut}
 
 -- an entry is lowered to `least`, where it is greater
 pub record IsLowering (old new : ℕ → ℕ) (n p least : ℕ) : Type 0 where

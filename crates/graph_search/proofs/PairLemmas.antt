@@ -7,9 +7,8 @@ use Rattle.map_theory.specs.Maps.{HasDart, list_of}
 use Rattle.map_theory.proofs.EntryLemmas.{Contains-cons_cases, Contains-here, Contains-there, Contains-filter, Contains-from_filter}
 use Rattle.graph_search.specs.Forests.{IsAdjacency}
 use Rattle.graph_search.specs.Cuts.{AreSeparated, IsCutVertex}
-use Rattle.graph_search.specs.Flags.{Walks, AreLinked}
 use Rattle.graph_search.specs.Without.{IsWithoutVertex}
-use Rattle.graph_search.proofs.WalkLemmas.{Off, linked_itself, linked_weaker, linked_chained, linked_dart, linked_turned, linked_path, path_linked_by, walks_start}
+use Rattle.graph_search.proofs.WalkLemmas.{Off, linked_itself, linked_weaker, linked_chained, linked_dart, linked_turned, linked_path, path_linked_by, walks_start, Walks, AreLinked}
 use Rattle.graph_search.proofs.CutLemmas.{off_one, ne_off, off_none}
 
 -- two vertices are avoided: x and y

@@ -9,12 +9,63 @@ use Rattle.std.proofs.lemmas.List.Quantifiers.{all_pairs_push}
 use Rattle.std.proofs.lemmas.List.Sums.{count_by_more_yes, count_by_more_no, sum_by-take-le}
 use Rattle.classes.proofs.Counting.{count_below_all, count_below_into}
 use Rattle.map_theory.specs.Maps.{place_of}
-use Rattle.map_theory.proofs.DartCounts.{sum_below-same}
+use Rattle.map_theory.proofs.DartCounts.{sum_below-same, sum_below}
 use Rattle.map_theory.proofs.DartLemmas.{get_or-place_of, place_of-lt-length}
 use Rattle.map_theory.proofs.EntryLemmas.{count_of, Contains-counted, Contains-from_count_of}
 use Rattle.graph_search.specs.Arcs.{arcs_of, HasArc, IsAcyclic, AreLongest, IsTopological}
-use Rattle.graph_search.specs.Progress.{IsRaised, IsPut, IsUsed, used_into, all_into, IsFree, IsProgress, used_at, IsAt}
+use Rattle.graph_search.specs.Progress.{IsRaised, all_into}
 use Rattle.graph_search.proofs.Sums.{sum_below-less, sum_below-but, sum_below-none, sum_below-term}
+use Rattle.std.specs.Prelude.{◌==◌, if◌then◌else◌, slice_index, count_by}
+
+-- `r` was put at the end of the queue, if nothing waits for it
+pub record IsPut (waiting : ℕ) (r : ℕ) (old new : List ℕ) : Type 0 where
+  pub put : waiting ≡ 0 → new ≡ old ++ r ∷ []
+  pub kept : waiting ≢ 0 → new ≡ old
+
+-- What is changed when the arc from e to r is used.
+pub record IsUsed (base e r : ℕ) (number waiting queue number' waiting' queue' : List ℕ) : Type 0 where
+  pub numbers : length number' ≡ length number
+  pub counters : length waiting' ≡ length waiting
+  pub less : slice_index waiting' r + 1 ≡ slice_index waiting r
+  pub others : (x : ℕ) → x ≢ r → slice_index waiting' x ≡ slice_index waiting x
+  pub at_base : r ≡ base → (number' ≡ number) × (queue' ≡ queue)
+  pub raised : r ≢ base → IsRaised number number' e r
+  pub put : r ≢ base → IsPut (slice_index waiting' r) r queue queue'
+
+-- how many arcs lead to r, of the first `used e` of each e
+abbrev pub used_into : List (List ℕ) → (ℕ → ℕ) → ℕ → ℕ
+used_into arcs used r = sum_below (λ e. count_by (λ u. u == r) (take (used e) (arcs_of arcs e))) (length arcs)
+
+-- no arc into r is left, or r is the base
+abbrev pub IsFree : ℕ → List ℕ → ℕ → Type 0
+IsFree base waiting r = (r ≡ base) ⊎ (slice_index waiting r ≡ 0)
+
+-- The first `used e` arcs of each e have been used.
+pub record IsProgress (arcs : List (List ℕ)) (base : ℕ) (used : ℕ → ℕ) (number waiting queue : List ℕ) : Type 0 where
+  pub numbers : length number ≡ length arcs
+  pub counters : length waiting ≡ length arcs
+  pub limits : (e : ℕ) → e < length arcs → used e ≤ length (arcs_of arcs e)
+  pub first : slice_index number base ≡ 0
+  pub counted : (r : ℕ) → r < length arcs → slice_index waiting r + used_into arcs used r ≡ all_into arcs r
+  pub raised : (e i : ℕ) → e < length arcs → i < used e → slice_index (arcs_of arcs e) i ≢ base → slice_index number e < slice_index number (slice_index (arcs_of arcs e) i)
+  pub tight : (r : ℕ) → r < length arcs → r ≢ base → (slice_index number r ≡ 0) ⊎ ((e : ℕ) × (i : ℕ) × (e < length arcs) × (i < used e) × (slice_index (arcs_of arcs e) i ≡ r) × (slice_index number r ≡ slice_index number e + 1))
+  pub begun : (e : ℕ) → e < length arcs → 0 < used e → Contains queue e
+  pub queued : (r : ℕ) → Contains queue r → (r < length arcs) × IsFree base waiting r
+  pub all : (r : ℕ) → r < length arcs → IsFree base waiting r → Contains queue r
+  pub distinct : AllPairs ◌≢◌ queue
+  pub begin : (0 < length queue) × (slice_index queue 0 ≡ base)
+  pub earlier : (e r j : ℕ) → HasArc arcs e r → r ≢ base → j < length queue → slice_index queue j ≡ r → (i : ℕ) × (i < j) × (slice_index queue i ≡ e)
+
+-- `used` with another number at e
+abbrev pub used_at : (ℕ → ℕ) → ℕ → ℕ → ℕ → ℕ
+used_at used e k x = if x == e then k else used x
+
+-- All arcs of the first `head` vertices of the queue have been used, and no others.
+pub record IsAt (arcs : List (List ℕ)) (base head : ℕ) (used : ℕ → ℕ) (number waiting queue : List ℕ) : Type 0 where
+  pub run : IsProgress arcs base used number waiting queue
+  pub done : (j : ℕ) → j < head → j < length queue → used (slice_index queue j) ≡ length (arcs_of arcs (slice_index queue j))
+  pub fresh : (e : ℕ) → e < length arcs → 0 < used e → (j : ℕ) × (j < head) × (j < length queue) × (slice_index queue j ≡ e)
+  pub low : (x : ℕ) → slice_index number x ≤ head
 
 pub used_at-here : (used : ℕ → ℕ) (e k : ℕ) → used_at used e k e ≡ k
 used_at-here used e k = rw (eq-eqb e e refl) refl

@@ -6,8 +6,13 @@ use Rattle.classes.proofs.Counting.{count_below_more, count_below_same, count_be
 use Rattle.map_lists.specs.Lists.{Lists}
 use Rattle.map_theory.specs.Maps.{HasDart}
 use Rattle.graph_search.specs.Forests.{Holds, IsForest}
-use Rattle.graph_search.specs.UnderWay.{work_left, MayHold, IsUnderWay, IsPut}
+use Rattle.graph_search.specs.UnderWay.{work_left, MayHold, IsUnderWay}
 use Rattle.graph_search.proofs.Known.{HasDart-known}
+
+-- f with another value at one place
+pub record IsPut (old new : ℕ → ℕ) (place value : ℕ) : Type 0 where
+  pub here : new place ≡ value
+  pub elsewhere : (v : ℕ) → v ≢ place → new v ≡ old v
 
 -- a write to a table
 pub IsPut-set : (xs : List ℕ) (i x : ℕ) → i < length xs → IsPut (λ v. get_or xs v 0) (λ v. get_or (set xs i x) v 0) i x
@@ -49,6 +54,13 @@ module _ (lists : Lists) (order number last parent : ℕ → ℕ) (count current
         let other : x ≢ w = λ e. (let z = at x e in let y = f.after in omega arith) in
         let z = u.elsewhere x other in
         record { after = let y = f.after in omega arith; before = λ d. let y = f.before d in omega arith }) in
+        let top : (x v : ℕ) → x < n → v ≡ w → MayHold number' last x v → (number x < n) × (last x ≡ 0) × (number' x ≡ number x) = λ x v m e f.
+        (let a = f.after in
+        let y = at v e in
+        let other : x ≢ w = λ q. (let z = at x q in omega arith) in
+        let low = u.elsewhere x other in
+        let le = h.ends_within x m in
+        (omega arith, elim (cases_lt 0 (last x)) [ inl d ↦ absurd (let b = f.before d in omega arith) | inr z ↦ omega arith ], low)) in
         record {
           counted =
               omega (arith, h.counted, count_below_more (λ v. ltb (number v) n) (λ v. ltb (number' v) n) n w l (le-ltb (number w) n (omega arith)) (lt-ltb (number' w) n (omega (arith, u.here))) (λ i m ne. ap (λ x. ltb x n) (sym (u.elsewhere i ne))));
@@ -107,28 +119,18 @@ module _ (lists : Lists) (order number last parent : ℕ → ℕ) (count current
           ];
           has_parent = λ x v m k s f. elim (cases_eq v w) [
             | inl e ↦
-                let a = f.after in
-                let other : x ≢ w = λ q. (let z = at x q in let y = at v e in omega arith) in
-                let low = u.elsewhere x other in
-                let y = at v e in
-                let le = h.ends_within x m in
-                let still : last x ≡ 0 = elim (cases_lt 0 (last x)) [ inl d ↦ absurd (let b = f.before d in omega arith) | inr z ↦ omega arith ] in
-                let c = h.some_current x m (omega arith) still in
+                let low = top x v m e f in
+                let c = h.some_current x m low.0 low.1 in
                 omega (arith, ap parent' e, p.here)
             | inr ne ↦ omega (arith, p.elsewhere v ne, h.has_parent x v m k (fewer v s ne) (held_before x v m k ne s f))
           ];
           nearest = λ x v m k s f. elim (cases_eq v w) [
             | inl e ↦
-                let a = f.after in
-                let other : x ≢ w = λ q. (let z = at x q in let y = at v e in omega arith) in
-                let low = u.elsewhere x other in
-                let y = at v e in
-                let le = h.ends_within x m in
-                let still : last x ≡ 0 = elim (cases_lt 0 (last x)) [ inl d ↦ absurd (let b = f.before d in omega arith) | inr z ↦ omega arith ] in
-                let c = h.some_current x m (omega arith) still in
-                let top = h.top_most x m (omega arith) still in
+                let low = top x v m e f in
+                let c = h.some_current x m low.0 low.1 in
+                let most = h.top_most x m low.0 low.1 in
                 let is : parent' v ≡ current = ap parent' e ∙ p.here in
-                rw is (omega (arith, u.elsewhere current (off current (h.current_seen c))))
+                rw is (omega (arith, low.2, u.elsewhere current (off current (h.current_seen c))))
             | inr ne ↦
                 let old = held_before x v m k ne s f in
                 let q = h.has_parent x v m k (fewer v s ne) old in

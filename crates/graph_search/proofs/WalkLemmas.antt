@@ -6,7 +6,14 @@ use Rattle.map_theory.specs.Maps.{HasDart}
 use Rattle.map_theory.specs.Paths.{IsPath, JoinsAvoiding}
 use Rattle.map_theory.proofs.EntryLemmas.{Contains-cons_cases}
 use Rattle.graph_search.specs.Forests.{IsAdjacency}
-use Rattle.graph_search.specs.Flags.{Walks, AreLinked}
+
+-- a walk of k steps from s to t, over vertices that pass
+abbrev pub Walks : Lists → (ℕ → Type 0) → ℕ → ℕ → ℕ → Type 0
+Walks lists passes zero s t = (s < length lists) × passes s × (s ≡ t)
+Walks lists passes (suc k) s t = (u : ℕ) × HasDart lists s u × passes s × Walks lists passes k u t
+
+abbrev pub AreLinked : Lists → (ℕ → Type 0) → ℕ → ℕ → Type 0
+AreLinked lists passes s t = (k : ℕ) × Walks lists passes k s t
 
 -- not among those that are avoided
 abbrev pub Off : List ℕ → ℕ → Type 0

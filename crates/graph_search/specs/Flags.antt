@@ -1,7 +1,7 @@
 -- How cut vertices show in a search, and tables that tell them.
-use Rattle.std.specs.Prelude.{ℕ, zero, suc, ◌+◌, ◌<◌, ◌≤◌, ◌≡◌, Bool, true, false, List, length, slice_index, slice_index_or, Contains}
+use Rattle.std.specs.Prelude.{ℕ, ◌+◌, ◌<◌, ◌≤◌, ◌≡◌, Bool, true, false, List, length, slice_index, slice_index_or, Contains}
 use Rattle.map_lists.specs.Lists.{Lists}
-use Rattle.map_theory.specs.Maps.{HasDart, list_of}
+use Rattle.map_theory.specs.Maps.{list_of}
 use Rattle.graph_search.specs.Cuts.{IsCutVertex}
 
 -- c is a child of v, and v parts it from v's parent; or from v's first child, where v has no parent
@@ -10,14 +10,6 @@ pub record IsSeparatedChild (n : ℕ) (number parent low : ℕ → ℕ) (v c : �
   pub child : parent c ≡ v
   pub from_parent : parent v < n → number v ≤ low c
   pub from_first : n ≤ parent v → number v + 1 < number c
-
--- a walk of k steps from s to t, over vertices that pass
-abbrev pub Walks : Lists → (ℕ → Type 0) → ℕ → ℕ → ℕ → Type 0
-Walks lists passes zero s t = (s < length lists) × passes s × (s ≡ t)
-Walks lists passes (suc k) s t = (u : ℕ) × HasDart lists s u × passes s × Walks lists passes k u t
-
-abbrev pub AreLinked : Lists → (ℕ → Type 0) → ℕ → ℕ → Type 0
-AreLinked lists passes s t = (k : ℕ) × Walks lists passes k s t
 
 -- the flag of each vertex tells whether it is a cut vertex
 pub record AreCutFlags (lists : Lists) (flags : List Bool) : Type 0 where

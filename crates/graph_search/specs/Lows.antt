@@ -1,5 +1,5 @@
 -- Low points of a finished search.
-use Rattle.std.specs.Prelude.{ℕ, ◌<◌, ◌≤◌, ◌≡◌, ◌≢◌, ◌⊎◌, min, List, length, slice_index, Contains}
+use Rattle.std.specs.Prelude.{ℕ, ◌<◌, ◌≤◌, ◌≡◌, ◌≢◌, min, List, length, slice_index}
 use Rattle.map_lists.specs.Lists.{Lists}
 use Rattle.map_theory.specs.Maps.{HasDart}
 
@@ -23,12 +23,6 @@ pub record IsLow (lists : Lists) (number last : ℕ → ℕ) (v low : ℕ) : Typ
 pub record AreLows (lists : Lists) (number last low : List ℕ) : Type 0 where
   pub count : length low ≡ length lists
   pub at : (v : ℕ) → v < length lists → IsLow lists (λ u. slice_index number u) (λ u. slice_index last u) v (slice_index low v)
-
--- the least of a number and of those of the vertices of a list
-pub record IsLeastNumber (entries number : List ℕ) (start least : ℕ) : Type 0 where
-  pub most : least ≤ start
-  pub below : (u : ℕ) → Contains entries u → least ≤ slice_index number u
-  pub met : (least ≡ start) ⊎ ((u : ℕ) × Contains entries u × (slice_index number u ≡ least))
 
 -- the entry of v lowered to `least`, where it is greater, and no other changed
 pub record IsLowered (old new : List ℕ) (v least : ℕ) : Type 0 where

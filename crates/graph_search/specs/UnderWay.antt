@@ -1,5 +1,5 @@
 -- A depth-first search under way. A vertex that was not seen has the number of vertices for its number, and one that is not done ends at 0.
-use Rattle.std.specs.Prelude.{ℕ, ◌+◌, ◌<◌, ◌≤◌, ◌≡◌, ◌≢◌, ◌⊎◌, not, nat_lt, List, length, slice_index, replicate}
+use Rattle.std.specs.Prelude.{ℕ, ◌+◌, ◌<◌, ◌≤◌, ◌≡◌, ◌⊎◌, not, nat_lt, List, length, slice_index, replicate}
 use Rattle.classes.specs.Classes.{count_below}
 use Rattle.map_lists.specs.Lists.{Lists}
 use Rattle.map_theory.specs.Maps.{HasDart, list_of}
@@ -38,11 +38,6 @@ pub record IsUnderWay (lists : Lists) (order number last parent : ℕ → ℕ) (
   pub current_open : current < length lists → last current ≡ 0
   pub some_current : (u : ℕ) → u < length lists → number u < length lists → last u ≡ 0 → current < length lists
   pub top_most : (u : ℕ) → u < length lists → number u < length lists → last u ≡ 0 → number u ≤ number current
-
--- f with another value at one place
-pub record IsPut (old new : ℕ → ℕ) (place value : ℕ) : Type 0 where
-  pub here : new place ≡ value
-  pub elsewhere : (v : ℕ) → v ≢ place → new v ≡ old v
 
 -- the entries of each list before its cursor were seen
 pub record AreRead (lists : Lists) (number cursor : ℕ → ℕ) : Type 0 where

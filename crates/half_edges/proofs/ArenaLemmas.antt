@@ -168,9 +168,6 @@ module _ (darts : List DartRecord) (vertices : List VertexRecord) (edges free sp
     dart_in-here : (d : ℕ) → IsLive map d → dart_in darts d ≡ Some (tail_of darts d, head_of darts d)
     dart_in-here d live = dart_in-live darts d (live_here d live)
 
-    pub live_from : (d : ℕ) → live_of darts d ≡ true → IsLive map d
-    live_from d live = ap (λ o. is_some o) (dart_at-in d ∙ dart_in-live darts d live)
-
     pub in_darts : (d : ℕ) → IsLive map d → d < length darts
     in_darts d live = live-lt darts d (live_here d live)
 

@@ -202,9 +202,6 @@ length-kept_lists-le (k ∷ keep) [] = omega arith
 length-kept_lists-le (true ∷ keep) (us ∷ lists) = omega (arith, length-kept_lists-le keep lists)
 length-kept_lists-le (false ∷ keep) (us ∷ lists) = omega (arith, length-kept_lists-le keep lists)
 
-pub length-induced-le : (keep : List Bool) (lists : Lists) → length (induced_lists keep lists) ≤ length lists
-length-induced-le keep lists = omega (arith, length-map (kept_lists keep lists) (induced_list keep), length-kept_lists-le keep lists)
-
 -- one list more
 pub kept_lists_more : (keep : List Bool) (lists : Lists) (i : ℕ) → i < length keep → i < length lists → kept_lists (take (i + 1) keep) (take (i + 1) lists) ≡ kept_lists (take i keep) (take i lists) ++ cond (is_kept keep i) (list_of lists i ∷ []) []
 kept_lists_more [] lists i l m = absurd (omega (arith, l))

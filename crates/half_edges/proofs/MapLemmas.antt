@@ -1,14 +1,13 @@
 -- What the tables of a map say of its darts and their ids.
-use Rattle.std.proofs.Common.{ℕ, zero, suc, ◌+◌, ◌-◌, ◌/◌, ◌<◌, ◌≤◌, ◌≡◌, cond, eqb, ltb, List, [], ◌∷◌, length, get_or, slice_get, Option, Some, is_some, option_map, refl, sym, ap, ◌∙◌, subst, inl, inr, arith}
+use Rattle.std.proofs.Common.{ℕ, zero, suc, ◌+◌, ◌/◌, ◌<◌, ◌≤◌, ◌≡◌, cond, ltb, List, [], ◌∷◌, length, get_or, slice_get, Option, Some, option_map, refl, sym, ap, ◌∙◌, arith}
 use Rattle.std.proofs.lemmas.List.{length-map}
-use Rattle.std.proofs.lemmas.Option.{slice_get-get_or, slice_get_within, slice_get_past, get_or_from_slice_get}
+use Rattle.std.proofs.lemmas.Option.{slice_get-get_or, slice_get_within, get_or_from_slice_get}
 use Rattle.std.proofs.lemmas.Bool.Decides.{nat_tests}
-use Rattle.std.proofs.lemmas.Bool.{cases_lt, true≢false}
 use Rattle.map_lists.specs.Lists.{Lists}
-use Rattle.map_theory.specs.Maps.{Dart, list_of, HasDart, darts, darts_before, dart_count, dart_number, edge_count, place_of, follows, entry_after}
-use Rattle.map_theory.proofs.DartLemmas.{length-darts, IsDartNumber-darts, dart_at_place, place_after, place_before, place_after-before, place_before-lt, place_after-lt, darts_before_end, place_of-get_or, place_of-lt-length, entry_after-place, get_or-place_of, darts_before_more}
+use Rattle.map_theory.specs.Maps.{Dart, list_of, HasDart, darts, darts_before, dart_count, dart_number, edge_count, place_of, follows}
+use Rattle.map_theory.proofs.DartLemmas.{length-darts, IsDartNumber-darts, dart_at_place, place_after, place_after-lt, darts_before_end, place_of-lt-length, entry_after-place, darts_before_more}
 use Rattle.map_theory.proofs.DartCounts.{dart_count-edge_count, few_darts-simple}
-use Rattle.half_edges.specs.Map.{Map, dart_at, IsLive, IsHalfMap, next_dart}
+use Rattle.half_edges.specs.Map.{Map, dart_at, IsHalfMap, next_dart}
 use Rattle.simple_maps.specs.Tables.{AreTables}
 use Rattle.half_edges.specs.Tables.{map_of}
 use Rattle.simple_maps.proofs.TwinLemmas.{HasDart-from_slice_get, slice_get-dart_number}
@@ -22,9 +21,6 @@ dart_at-map_of lists (e ∷ ends) (suc d) = dart_at-map_of lists ends d
 -- the number after and before the k-th of n numbers from s on, cyclically
 number_after-place : (s n k : ℕ) → k < n → cond (ltb (s + k + 1) (s + n)) (s + k + 1) s ≡ s + place_after n k
 number_after-place s n k h = grind (arith, nat_tests)
-
-number_before-place : (s n k : ℕ) → k < n → cond (eqb (s + k) s) (s + n - 1) (s + k - 1) ≡ s + place_before n k
-number_before-place s n k h = grind (arith, nat_tests)
 
 module _ (lists : Lists) (starts : List ℕ) (ends : List Dart) (twins : List ℕ) (t : AreTables lists starts ends twins) where
   length-ends : length ends ≡ dart_count lists
@@ -60,19 +56,8 @@ module _ (lists : Lists) (starts : List ℕ) (ends : List Dart) (twins : List �
   pub same_lists : map.lists ≡ lists
   same_lists = ap (λ (m : Map). m.lists) (sym view)
 
-  pub known : IsHalfMap map
-  known = subst (λ m. IsHalfMap m) view (IsHalfMap-map_of lists starts ends twins t)
-
   pub dart_at-slice_get : (d : ℕ) → dart_at map d ≡ slice_get ends d
   dart_at-slice_get d = ap (λ m. dart_at m d) (sym view) ∙ dart_at-map_of lists ends d
-
-  -- the live ids are the numbers of darts
-  pub live-lt : (d : ℕ) → IsLive map d → d < length ends
-  live-lt d live =
-      elim (cases_lt d (length ends)) [
-        | inl less ↦ less
-        | inr more ↦ absurd (true≢false (sym live ∙ ap (λ o. is_some o) (dart_at-slice_get d ∙ slice_get_past ends d more)))
-      ]
 
   -- an entry's dart has the number of its place
   dart_at-place : (v k : ℕ) → v < length lists → k < length (list_of lists v) → dart_at map (darts_before lists v + k) ≡ Some (v, get_or (list_of lists v) k 0)
@@ -84,12 +69,6 @@ module _ (lists : Lists) (starts : List ℕ) (ends : List Dart) (twins : List �
   module _ (d : ℕ) (dart : Dart) (here : slice_get ends d ≡ Some dart) where
     is_dart : HasDart lists dart.0 dart.1
     is_dart = HasDart-from_slice_get lists ends d dart.0 dart.1 t.ends_are here
-
-    place : ℕ
-    place = place_of dart.1 (list_of lists dart.0)
-
-    pub tail_in : dart.0 < length lists
-    tail_in = is_dart.0
 
     pub start_at : get_or starts dart.0 0 ≡ darts_before lists dart.0
     start_at = t.starts_are.at dart.0 (omega (arith, is_dart.0))
@@ -123,33 +102,6 @@ module _ (lists : Lists) (starts : List ℕ) (ends : List Dart) (twins : List �
         ∙ ap (λ x. Some (dart.0, x)) (sym (entry_after-place dart.1 us 0 place_in))
         ∙ ap (λ (ls : Lists). Some (dart.0, follows ls dart.0 dart.1)) (sym same_lists)
         ∙ ap (λ o. option_map (next_dart map.lists) o) (sym dart_at-here)
-
-    before_number : (s e : ℕ) → s ≡ get_or starts dart.0 0 → e ≡ get_or starts (dart.0 + 1) 0 → dart_at map (cond (eqb d s) (e - 1) (d - 1)) ≡ Some (dart.0, get_or (list_of lists dart.0) (place_before (length (list_of lists dart.0)) (place_of dart.1 (list_of lists dart.0))) 0)
-    before_number s e start end =
-        let us = list_of lists dart.0 in
-        let k = place_of dart.1 us in
-        let n = length us in
-        let number : cond (eqb d s) (e - 1) (d - 1) ≡ darts_before lists dart.0 + place_before n k =
-        rw (start, end, start_at, end_at, number_is) (number_before-place (darts_before lists dart.0) n k place_in) in
-        ap (λ x. dart_at map x) number ∙ dart_at-place dart.0 (place_before n k) is_dart.0 (place_before-lt n k place_in)
-
-    pub prev_live : (s e : ℕ) → s ≡ get_or starts dart.0 0 → e ≡ get_or starts (dart.0 + 1) 0 → IsLive map (cond (eqb d s) (e - 1) (d - 1))
-    prev_live s e start end = ap (λ o. is_some o) (before_number s e start end)
-
-    pub prev_at : (s e : ℕ) → s ≡ get_or starts dart.0 0 → e ≡ get_or starts (dart.0 + 1) 0 → option_map (next_dart map.lists) (dart_at map (cond (eqb d s) (e - 1) (d - 1))) ≡ dart_at map d
-    prev_at s e start end =
-        let us = list_of lists dart.0 in
-        let k = place_of dart.1 us in
-        let n = length us in
-        let w = get_or us (place_before n k) 0 in
-        let distinct = t.simple.no_repeat dart.0 is_dart.0 in
-        let w_at : place_of w us ≡ place_before n k = place_of-get_or us (place_before n k) 0 distinct (place_before-lt n k place_in) in
-        let back : entry_after w us ≡ dart.1 =
-        entry_after-place w us 0 (omega (arith, w_at, place_before-lt n k place_in))
-        ∙ ap (λ x. get_or us (place_after n x) 0) w_at ∙ ap (λ x. get_or us x 0) (place_after-before n k place_in) ∙ get_or-place_of dart.1 us 0 place_in in
-        ap (λ o. option_map (next_dart map.lists) o) (before_number s e start end)
-        ∙ ap (λ (ls : Lists). Some (dart.0, follows ls dart.0 w)) same_lists
-        ∙ ap (λ x. Some (dart.0, x)) back ∙ sym dart_at-here
 
   module _ (v : ℕ) (v_in : v < length map.lists) where
     in_lists : v < length lists

@@ -16,7 +16,7 @@ use Rattle.half_edges.specs.declared.arena.DartRecord.{DartRecord}
 use Rattle.half_edges.specs.declared.arena.VertexRecord.{VertexRecord}
 use Rattle.simple_maps.proofs.TwinLemmas.{HasDart-from_slice_get, slice_get-dart_number}
 use Rattle.half_edges.proofs.ArenaLemmas.{IsLinked-same, arena_lists_are}
-use Rattle.half_edges.proofs.MapLemmas.{few_ends, dart_at-map_of, IsHalfMap-map_of, tail_in, from_start, below_end, next_at, first_at}
+use Rattle.half_edges.proofs.MapLemmas.{dart_at-map_of, IsHalfMap-map_of, from_start, below_end, next_at, first_at}
 
 -- a vertex's list is short
 pub few_entries : (lists : Lists) (v : ℕ) → IsSimpleMap lists → length lists < 4096 → v < length lists → length (list_of lists v) < 4096

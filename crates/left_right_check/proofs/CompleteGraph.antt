@@ -2,8 +2,8 @@
 use Rattle.std.proofs.Common.{◌≡◌, ℕ, zero, suc, true, false, List, [], ◌∷◌, length, get_or, refl, sym, ap₂, subst, ◌∙◌, inl, inr, arith}
 use Rattle.graph6_text.specs.Graphs.{EdgeGraph}
 use Rattle.graph6_text.specs.Lines.{pair_place, has_bit, is_set, pairs, edges_of}
-use Rattle.left_right_check.specs.Ties.{IsPlaced, ReturnsBy, AreTied, HasNoMap}
-use Rattle.left_right_check.proofs.TieLemmas.{forest_by_places, placed_past, alike_by_fork, opposite_by_fork, AreTied-more, HasNoMap-odd}
+use Rattle.left_right_check.specs.Ties.{ReturnsBy, AreTied, HasNoMap}
+use Rattle.left_right_check.proofs.TieLemmas.{forest_by_places, placed_past, alike_by_fork, opposite_by_fork, AreTied-more, HasNoMap-odd, IsPlaced}
 
 abbrev k5 : EdgeGraph
 k5 = record { n = 5; edges = (0, 1) ∷ (0, 2) ∷ (0, 3) ∷ (0, 4) ∷ (1, 2) ∷ (1, 3) ∷ (1, 4) ∷ (2, 3) ∷ (2, 4) ∷ (3, 4) ∷ [] }

@@ -7,7 +7,13 @@ use Rattle.graph6_text.specs.Graphs.{EdgeGraph}
 use Rattle.left_right_laws.specs.Forests.{up, IsForest, IsAbove, IsBranch, IsReturn, IsLeftRight}
 use Rattle.left_right_laws.proofs.Forks.{plane_is_left_right}
 use Rattle.embed_theorem.specs.Expanded.{HasJustEdges}
-use Rattle.left_right_check.specs.Ties.{IsJoined, IsPlaced, IsForestOf, ReturnsBy, turned, AreTied, HasNoMap}
+use Rattle.left_right_check.specs.Ties.{IsJoined, IsForestOf, ReturnsBy, turned, AreTied, HasNoMap}
+use Rattle.std.specs.Prelude.{◌+◌}
+
+-- by tables of parents and depths, a vertex is a root, or is adjacent to its parent and deeper by one
+abbrev pub IsPlaced : EdgeGraph → List ℕ → List ℕ → ℕ → Type 0
+IsPlaced graph parents depths v =
+    0 < slice_index depths v → IsJoined graph v (slice_index parents v) × (slice_index depths v ≡ slice_index depths (slice_index parents v) + 1)
 
 -- one step up behind k
 pub up-suc : (parent : ℕ → ℕ) (k v : ℕ) → up parent (suc k) v ≡ parent (up parent k v)
@@ -57,10 +63,6 @@ turned_turned true true side = not_not side
 turned_turned true false side = refl
 turned_turned false true side = refl
 turned_turned false false side = refl
-
--- no edges between
-pub AreTied-none : (graph : EdgeGraph) (parents depths : List ℕ) (t w : ℕ) → AreTied graph parents depths false t w t w
-AreTied-none graph parents depths t w left sides = refl
 
 -- one edge more
 pub AreTied-more : (graph : EdgeGraph) (parents depths : List ℕ) (a b : Bool) (t w s z l h : ℕ) → AreTied graph parents depths a t w s z → AreTied graph parents depths b s z l h → AreTied graph parents depths (turned b a) t w l h

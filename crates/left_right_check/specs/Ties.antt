@@ -1,5 +1,5 @@
 -- Sides that edges of a graph have in each partition into left and right.
-use Rattle.std.specs.Prelude.{ℕ, ◌+◌, ◌<◌, ◌≡◌, Bool, true, not, if◌then◌else◌, List, slice_index}
+use Rattle.std.specs.Prelude.{ℕ, ◌≡◌, Bool, true, not, if◌then◌else◌, List, slice_index}
 use Rattle.map_lists.specs.Lists.{Lists}
 use Rattle.graph6_text.specs.Graphs.{EdgeGraph, has_edge}
 use Rattle.left_right_laws.specs.Forests.{IsForest, IsReturn, IsLeftRight}
@@ -8,11 +8,6 @@ use Rattle.embed_theorem.specs.Expanded.{IsMapOf}
 -- an edge of a graph joins u and v
 abbrev pub IsJoined : EdgeGraph → ℕ → ℕ → Type 0
 IsJoined graph u v = has_edge graph u v ≡ true
-
--- by tables of parents and depths, a vertex is a root, or is adjacent to its parent and deeper by one
-abbrev pub IsPlaced : EdgeGraph → List ℕ → List ℕ → ℕ → Type 0
-IsPlaced graph parents depths v =
-    0 < slice_index depths v → IsJoined graph v (slice_index parents v) × (slice_index depths v ≡ slice_index depths (slice_index parents v) + 1)
 
 -- tables of parents and depths by vertex are those of a rooted forest of a graph
 abbrev pub IsForestOf : EdgeGraph → List ℕ → List ℕ → Type 0

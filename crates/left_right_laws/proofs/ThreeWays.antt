@@ -28,9 +28,6 @@ module _ (lists : Lists) (simple : IsSimpleMap lists) (x : ℕ) (us vs : List �
   abbrev rest : Lists
   rest = without_edge lists x (first_on us y)
 
-  simple' : IsSimpleMap rest
-  simple' = IsSimpleMap-without_edge lists simple x (first_on us y) edge
-
   around : IsWay rest x vs y
   around =
       IsWay-steps lists rest x vs y two (λ v z s has. dart_new lists simple x (first_on us y) edge v z has

@@ -5,8 +5,7 @@ use Rattle.classes.specs.Classes.{count_below}
 use Rattle.map_lists.specs.Lists.{Lists}
 use Rattle.map_theory.specs.Maps.{Dart, twin_dart, HasDart, IsSimpleMap, IsPlane, follows, face_step, dart_count, vertex_count, component_count}
 use Rattle.map_theory.proofs.DartPermutations.{two_m}
-use Rattle.embed_surgery.specs.Marks.{KeepsFaces, HasMarks}
-use Rattle.embed_surgery.proofs.Marks.{genus_by_marks}
+use Rattle.embed_surgery.proofs.Marks.{genus_by_marks, KeepsFaces, HasMarks}
 use Rattle.left_right_laws.specs.Tours.{tour_step, IsTour, IsChord, AreNested}
 use Rattle.left_right_laws.proofs.Nested.{IsPaired, ArePairsNested, mark, mark_single, mark_over, mark_begin, mark_end, mark_last, mark_first, pair_count, marked, marked_count, marked-mark}
 

@@ -6,7 +6,18 @@ use Rattle.std.proofs.Math.Seq.{take-suc}
 use Rattle.map_theory.specs.Maps.{Dart}
 use Rattle.graph6_text.specs.Graphs.{EdgeGraph}
 use Rattle.left_right_maps.proofs.Inserts.{none_in_none, here, there, here_or_there}
-use Rattle.left_right_lists.specs.Groups.{Demand, IsRising, AreRising, HasLower, IsDemanded}
+use Rattle.left_right_lists.specs.Groups.{Demand, IsRising, HasLower, IsDemanded, Group}
+use Rattle.std.specs.Prelude.{eqb}
+use Rattle.left_right_check.specs.Ties.{turned}
+
+-- an entry where one group is put into another
+abbrev pub moved_group : ℕ → ℕ → Bool → Group → Group
+moved_group into from flip group = cond (eqb group.0 from) (into, turned flip group.1) group
+
+-- those from the first k vertices
+abbrev pub AreRising : EdgeGraph → List ℕ → List ℕ → ℕ → List Dart → Type 0
+AreRising graph parents depths k darts =
+    (d : Dart) → Contains darts d ↔ ((d.0 < k) × ((d.1 < graph.n) × IsRising graph parents depths d))
 
 -- new has the entries of old, and x where P holds
 abbrev pub IsMore : {X : Type 0} → List X → List X → X → Type 0 → Type 0

@@ -17,12 +17,19 @@ use Rattle.left_right_lists.specs.Trees.{joined, AreSides, IsTreeOf}
 use Rattle.left_right_lists.specs.Groups.{Group, side_in}
 use Rattle.left_right_lists.specs.Orders.{returns_in, IsFree, IsOrderOf}
 use Rattle.left_right_lists.specs.Blocks.{uppers, lefts, middle, rights, returned, block, opens_in, AreValues}
-use Rattle.left_right_lists.specs.Placing.{returned_at, block_at, AreTablesAt, HasChildren, IsReady, IsOrderAt, IsPlacedBy, entries_in, row_at, AreRows}
+use Rattle.left_right_lists.specs.Placing.{returned_at, block_at, AreTablesAt, HasChildren, IsReady, IsOrderAt, entries_in, row_at, AreRows}
 use Rattle.left_right_lists.specs.declared.tree.Tree.{Tree}
 use Rattle.left_right_lists.proofs.PlacedLemmas.{ArePlaced, parts, order}
 use Rattle.left_right_lists.proofs.Forked.{items_are, returned_same, sorted_of, order_of_sorted}
 use Rattle.left_right_lists.proofs.Stepped.{stepped}
 use Rattle.left_right_lists.proofs.Ordered.{in_free}
+
+-- the entries of v, and what waits below it, by some order
+pub record IsPlacedBy (graph : EdgeGraph) (tree : Tree) (sides : List Group) (opens : List (List Dart)) (v : ℕ) (list : List ℕ) (waiting : List Dart) : Type 0 where
+  pub us : List ℕ
+  pub order : IsOrderAt graph tree sides opens v us
+  pub list_is : list ≡ joined_lists (block_at graph.n tree opens v) us
+  pub waiting_is : waiting ≡ joined_lists (returned_at graph.n tree opens v) us
 
 -- ---- rows for some vertices, as the code hands them over
 pub rows_within : {X : Type 0} (f : ℕ → List X) (rows : List (List X)) (n : ℕ) {us' us : List ℕ} → us' ≡ us → AreValues f [] rows n → ((u : ℕ) → Contains us u → u < n) → (u : ℕ) → Contains us' u → u < length rows

@@ -1,14 +1,14 @@
 -- Groups put into one another.
-use Rattle.std.proofs.Common.{◌≡◌, ◌≢◌, ℕ, ◌+◌, ◌/◌, ◌%◌, ◌<◌, ◌≤◌, Bool, true, false, eqb, List, [], ◌∷◌, ◌++◌, length, get_or, take, Contains, refl, sym, ap, ap₂, ◌∙◌, subst, inl, inr, arith, eq-eqb, ne_eqb, length-append}
-use Rattle.std.proofs.lemmas.Bool.{cases_eq, cases_lt, cond-true, cond-false}
+use Rattle.std.proofs.Common.{◌≡◌, ◌≢◌, ℕ, ◌+◌, ◌/◌, ◌%◌, ◌<◌, ◌≤◌, Bool, true, false, eqb, List, ◌++◌, length, get_or, take, Contains, refl, sym, ap, ap₂, ◌∙◌, subst, inl, inr, arith, eq-eqb, ne_eqb}
+use Rattle.std.proofs.lemmas.Bool.{cases_eq, cond-true, cond-false}
 use Rattle.std.proofs.lemmas.Nat.{div-mul-add, mod-mul-add}
-use Rattle.std.proofs.lemmas.List.{get_or-append-add, get_or_default}
+use Rattle.std.proofs.lemmas.List.{get_or_default}
 use Rattle.std.proofs.lemmas.List.Elements.{Contains-get_or}
-use Rattle.std.proofs.Math.ListN.{get_or-append}
 use Rattle.std.proofs.Math.Seq.{take-append_seam}
 use Rattle.map_theory.specs.Maps.{Dart}
 use Rattle.left_right_check.specs.Ties.{turned}
-use Rattle.left_right_lists.specs.Groups.{Group, Demand, dart_place, group_at, group_of, IsPlaced, Fits, moved_group, AreMerged, AreMet, Meets, none_demanded}
+use Rattle.left_right_lists.specs.Groups.{Group, Demand, dart_place, group_at, group_of, IsPlaced, Fits, AreMerged, AreMet, Meets, none_demanded}
+use Rattle.left_right_lists.proofs.Collected.{moved_group}
 
 -- ---- sides turned
 pub turned_twice : (a b c : Bool) → turned (turned a b) c ≡ turned a (turned b c)
@@ -205,21 +205,6 @@ met_step old new demands k x first turn long placed l is is' e merged met new_me
 -- a table in which each edge is a group
 abbrev pub AreSingle : List Group → ℕ → Type 0
 AreSingle groups k = (length groups ≡ k) × ((p : ℕ) → p < k → group_at groups p ≡ (p, false))
-
-pub single_more : (groups new : List Group) (k : ℕ) → new ≡ groups ++ (k, false) ∷ [] → AreSingle groups k → AreSingle new (k + 1)
-single_more groups new k is h =
-    let long = h.0 in
-    let more = length-append groups ((k, false) ∷ []) in
-    let a = ap length is in (
-      omega arith,
-      λ p l. elim (cases_lt p k) [
-        | inl less ↦ ap (λ z. group_at z p) is ∙ (get_or-append groups ((k, false) ∷ []) (0, false) p (omega arith) ∙ h.1 p less)
-        | inr late ↦
-            let at_end : p ≡ length groups + 0 = omega arith in
-            let at_k : k ≡ p = omega arith in
-            ap (λ z. group_at z p) is ∙ (ap (λ i. group_at (groups ++ (k, false) ∷ []) i) at_end ∙ (get_or-append-add groups ((k, false) ∷ []) 0 (0, false) ∙ ap (λ i. (i, false)) at_k))
-      ],
-    )
 
 pub single_fits : (groups : List Group) → AreSingle groups 65536 → (left : ℕ → ℕ → Bool) → Fits left groups
 single_fits groups h left = (

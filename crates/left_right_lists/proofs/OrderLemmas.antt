@@ -23,15 +23,6 @@ pub record IsSorting (R : ℕ → ℕ → Type 0) (initial now : ℕ → Bool) (
   pub pairs : AllPairs R us
   pub across : (e f : ℕ) → Contains us e → now f ≡ true → R e f
 
-pub sorting_none : (R : ℕ → ℕ → Type 0) (free : ℕ → Bool) (none : List ℕ) → none ≡ [] → IsSorting R free free none
-sorting_none R free none is =
-    record {
-      all = λ u. ((λ t. inr t), (λ h. elim h [ inl c ↦ absurd (none_in_none u (subst (λ z. Contains z u) is c)) | inr t ↦ t ]));
-      placed = λ u c. absurd (none_in_none u (subst (λ z. Contains z u) is c));
-      pairs = subst (AllPairs R) (sym is) (pairs_none R);
-      across = λ e f c. absurd (none_in_none e (subst (λ z. Contains z e) is c));
-    }
-
 pub sorting_more : (R : ℕ → ℕ → Type 0) (initial now new : ℕ → Bool) (us us' : List ℕ) (u : ℕ) → us' ≡ us ++ u ∷ [] → now u ≡ true → new u ≡ false → ((f : ℕ) → f ≢ u → new f ≡ now f) → ((f : ℕ) → now f ≡ true → u ≢ f → R u f) → IsSorting R initial now us → IsSorting R initial new us'
 sorting_more R initial now new us us' u is at off same before h =
     let held : (w : ℕ) → Contains us' w → Contains us w ⊎ (u ≡ w) = λ w c. elim (Contains-append_cases us (u ∷ []) w (subst (λ z. Contains z w) is c)) [ inl k ↦ inl k | inr k ↦ elim (here_or_there u w [] k) [ inl e ↦ inr e | inr bad ↦ absurd (none_in_none w bad) ] ] in

@@ -19,10 +19,6 @@ module _ (lists : Lists) (order number last parents depths : List ℕ) (all : Is
   abbrev n : ℕ
   n = length lists
 
-  pub depths_none : length depths ≡ length lists → ((v : ℕ) → slice_index depths v ≡ 0) → AreDepths order parents depths 0
-  depths_none long flat =
-      record { long = omega (arith, long, all.parents); most = λ v. omega (arith, flat v); done = λ j l. absurd (omega (arith, l)) }
-
   pub depths_more : (k v x : ℕ) → k < n → v ≡ get_or order k 0 → AreDepths order parents depths k → IsDepthBy parents depths v x → AreDepths order parents (set depths v x) (k + 1)
   depths_more k v x in_k is h by =
       let f = all.forest in

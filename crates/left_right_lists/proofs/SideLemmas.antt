@@ -8,7 +8,8 @@ use Rattle.left_right_laws.specs.Forests.{up}
 use Rattle.left_right_maps.proofs.Lines.{above_same, IsBelow, branch_below}
 use Rattle.left_right_check.specs.Ties.{turned}
 use Rattle.left_right_lists.specs.Trees.{joined, AreSides, AreOfTree}
-use Rattle.left_right_lists.specs.Groups.{Group, Demand, dart_place, group_of, side_in, IsPlaced, Fits, AreMerged, AreMet, Meets, IsDemanded, Returns, IsForkMet, AreForksMet, IsStep, IsRising, AreRising}
+use Rattle.left_right_lists.specs.Groups.{Group, Demand, dart_place, group_of, side_in, IsPlaced, Fits, AreMerged, AreMet, Meets, IsDemanded, Returns, IsForkMet, AreForksMet, IsStep, IsRising}
+use Rattle.left_right_lists.proofs.Collected.{AreRising}
 use Rattle.left_right_lists.proofs.GroupLemmas.{merged_none, merged_over}
 
 module _ (graph : EdgeGraph) (root : ℕ) (order number parents depths : List ℕ) (h : AreOfTree graph root order number parents depths) where

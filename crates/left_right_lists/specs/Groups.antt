@@ -1,5 +1,5 @@
 -- Groups of edges whose sides are known of each other, as a table by edge.
-use Rattle.std.specs.Prelude.{ℕ, ◌+◌, ◌*◌, ◌<◌, ◌≡◌, ◌≢◌, Bool, true, false, not, cond, eqb, List, length, slice_index, slice_index_or, Contains, ◌⊎◌, ◌↔◌}
+use Rattle.std.specs.Prelude.{ℕ, ◌+◌, ◌*◌, ◌<◌, ◌≡◌, ◌≢◌, Bool, true, false, not, List, length, slice_index, slice_index_or, Contains, ◌⊎◌}
 use Rattle.map_theory.specs.Maps.{Dart}
 use Rattle.graph6_text.specs.Graphs.{EdgeGraph}
 use Rattle.left_right_laws.specs.Forests.{IsReturn}
@@ -39,10 +39,6 @@ IsPlaced d = (d.0 < 256) × (d.1 < 256)
 abbrev pub Fits : (ℕ → ℕ → Bool) → List Group → Type 0
 Fits left groups =
     (flip : ℕ → Bool) × ((d : Dart) → IsPlaced d → left d.0 d.1 ≡ turned (flip (group_of groups d).0) (group_of groups d).1)
-
--- an entry where one group is put into another
-abbrev pub moved_group : ℕ → ℕ → Bool → Group → Group
-moved_group into from flip group = cond (eqb group.0 from) (into, turned flip group.1) group
 
 -- each old group is part of a new one
 pub record AreMerged (old new : List Group) : Type 0 where
@@ -89,8 +85,3 @@ pub record IsStep (graph : EdgeGraph) (parents depths : List ℕ) (old new : Lis
 abbrev pub IsRising : EdgeGraph → List ℕ → List ℕ → Dart → Type 0
 IsRising graph parents depths d =
     (slice_index depths d.1 < slice_index depths d.0) × (joined graph parents depths d.0 d.1 ≡ true)
-
--- those from the first k vertices
-abbrev pub AreRising : EdgeGraph → List ℕ → List ℕ → ℕ → List Dart → Type 0
-AreRising graph parents depths k darts =
-    (d : Dart) → Contains darts d ↔ ((d.0 < k) × ((d.1 < graph.n) × IsRising graph parents depths d))

@@ -1,9 +1,9 @@
 -- A vertex placed where all vertices of a later number are, and lists of a graph from the entries of all.
-use Rattle.std.specs.Prelude.{ℕ, ◌-◌, ◌<◌, ◌≡◌, Bool, true, false, cond, not, eqb, List, [], ◌∷◌, ◌++◌, length, slice_index, slice_index_or, filter}
+use Rattle.std.specs.Prelude.{ℕ, ◌-◌, ◌<◌, ◌≡◌, Bool, true, false, cond, not, eqb, List, ◌∷◌, ◌++◌, length, slice_index, slice_index_or, filter, []}
 use Rattle.map_lists.specs.Lists.{Lists}
 use Rattle.map_theory.specs.Maps.{Dart}
 use Rattle.graph6_text.specs.Graphs.{EdgeGraph, has_edge}
-use Rattle.left_right_maps.specs.RootedMaps.{is_child, joined as joined_lists}
+use Rattle.left_right_maps.specs.RootedMaps.{is_child}
 use Rattle.left_right_lists.specs.Trees.{joined}
 use Rattle.left_right_lists.specs.Groups.{Group}
 use Rattle.left_right_lists.specs.Orders.{IsOrderOf}
@@ -43,13 +43,6 @@ pub record IsOrderAt (graph : EdgeGraph) (tree : Tree) (sides : List Group) (ope
   pub rows : List (List Dart)
   pub tables : AreTablesAt graph tree opens v marks rows
   pub order : IsOrderOf tree.depths.items sides rows marks us
-
--- the entries of v, and what waits below it, by some order
-pub record IsPlacedBy (graph : EdgeGraph) (tree : Tree) (sides : List Group) (opens : List (List Dart)) (v : ℕ) (list : List ℕ) (waiting : List Dart) : Type 0 where
-  pub us : List ℕ
-  pub order : IsOrderAt graph tree sides opens v us
-  pub list_is : list ≡ joined_lists (block_at graph.n tree opens v) us
-  pub waiting_is : waiting ≡ joined_lists (returned_at graph.n tree opens v) us
 
 -- the entries of a vertex, in a table in which those of the last vertices come first, and its whole list
 abbrev pub entries_in : ℕ → Tree → List (List ℕ) → ℕ → List ℕ

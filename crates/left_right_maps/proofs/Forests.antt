@@ -115,10 +115,6 @@ module _ (n : ℕ) (edge : ℕ → ℕ → Bool) (parent depth : ℕ → ℕ) (r
   unfolding parent'
   parent_is v = refl
 
-  pub edge_is : (u v : ℕ) → edge' u v ≡ (edge u v || (new u v || new v u))
-  unfolding edge'
-  edge_is u v = refl
-
   depth_on : (v : ℕ) → other v ≡ true → depth' v ≡ depth v + 1
   unfolding depth'
   depth_on v t = ap (λ k. depth v + k) (cond-true {A = ℕ} (other v) 1 0 t)

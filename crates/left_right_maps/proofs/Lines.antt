@@ -59,10 +59,6 @@ module _ (parent depth : ℕ → ℕ) where
         let k : depth u - depth (parent u) ≡ 1 = omega arith in
         record { depths = omega arith; line = ap (λ k. up parent k u) k }
 
-    -- the vertex below v on the way down to t
-    pub branch : ℕ → ℕ → ℕ
-    branch v t = up parent (depth t - depth v - 1) t
-
     pub record IsBelow (v t u : ℕ) : Type 0 where
       pub deep : depth u ≡ depth v + 1
       pub parent_is : parent u ≡ v

@@ -58,9 +58,6 @@ module _ (passed : ℕ → ℕ → Bool) where
         ]
       ]
 
-  abbrev Chord : List Dart → Dart → Type 0
-  Chord ds d = Contains ds d × (passed d.0 d.1 ≡ false)
-
   abbrev pub NoneCross : List Dart → Type 0
   NoneCross ds =
       (d e : Dart) → Contains ds d → Contains ds e → passed d.0 d.1 ≡ false → passed e.0 e.1 ≡ false → passed d.1 d.0 ≡ false → passed e.1 e.0 ≡ false → place_in ds d < place_in ds e → place_in ds e < place_in ds (twin_dart d) → ¬ (place_in ds (twin_dart d) < place_in ds (twin_dart e))

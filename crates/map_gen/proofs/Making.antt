@@ -4,7 +4,8 @@ use Rattle.std.proofs.lemmas.List.{get_or_append_left, get_or-append-add}
 use Rattle.map_theory.specs.Maps.{list_of}
 use Rattle.half_edges.specs.Map.{Map}
 use Rattle.map_gen.specs.Stacked.{Face, Stacking, with_vertex, face_at, next_number, chosen, stack, triangle, stacking}
-use Rattle.map_gen.specs.Faces.{IsFaceOf, IsStacked}
+use Rattle.map_gen.specs.Faces.{IsFaceOf}
+use Rattle.map_gen.proofs.VertexPut.{IsStacked}
 use Rattle.map_gen.specs.Darts.{HasDarts, IsVertexPut}
 use Rattle.map_gen.specs.declared.stack.FaceDarts.{FaceDarts}
 use Rattle.map_gen.proofs.Stackings.{IsStacked-stacking, each_face, length-with_faces}

@@ -7,10 +7,10 @@ use Rattle.map_lists.specs.Lists.{Lists}
 use Rattle.map_theory.specs.Maps.{list_of, HasDart, IsSimpleMap, IsPlane, edge_count}
 use Rattle.map_theory.proofs.DartLemmas.{HasDart-follows}
 use Rattle.map_gen.specs.Stacked.{Face, Stacking, with_vertex, with_faces, face_at, next_number, chosen, stack, triangle, stacking}
-use Rattle.map_gen.specs.Faces.{IsFaceOf, IsOn, IsOwned, IsStacked}
+use Rattle.map_gen.specs.Faces.{IsFaceOf}
 use Rattle.map_gen.specs.Laws.{StackedIsTriangulation}
 use Rattle.map_gen.proofs.Start as start
-use Rattle.map_gen.proofs.VertexPut.{third_is, length-third, edges-third, simple-third, plane-third, face_ab, face_bc, face_ca, face-third, isolated-third, third, none_in}
+use Rattle.map_gen.proofs.VertexPut.{third_is, length-third, edges-third, simple-third, plane-third, face_ab, face_bc, face_ca, face-third, isolated-third, third, none_in, IsOn, IsOwned, IsStacked}
 
 -- Owners of the darts of a face that was split: the first part keeps the number i, and the others have n and n + 1.
 abbrev separated : (ℕ → ℕ → ℕ) → Face → ℕ → ℕ → ℕ → ℕ → ℕ → ℕ

@@ -17,8 +17,30 @@ use Rattle.plane_laws.specs.WithEdge.{with_edge_at, with_edge_after, IsEdgeMore}
 use Rattle.plane_laws.proofs.InsertedEntry.{insert-distinct, insert-new, insert-kept, without-insert, entry_after-insert, entry_after-put}
 use Rattle.plane_laws.proofs.WithEdge.{edge_more, length-new, new_first, new_second, new_elsewhere, entry_at-after, edge_put_between, edge_put_in_face}
 use Rattle.plane_laws.proofs.Extended.{edge_count-edge}
-use Rattle.map_gen.specs.Stacked.{Face, with_behind, with_vertex}
-use Rattle.map_gen.specs.Faces.{IsFaceOf, IsOn}
+use Rattle.map_gen.specs.Stacked.{Face, with_behind, with_vertex, Stacking, face_at}
+use Rattle.map_gen.specs.Faces.{IsFaceOf}
+use Rattle.std.specs.Prelude.{◌*◌}
+
+-- (x, y) is one of its darts
+abbrev pub IsOn : Face → ℕ → ℕ → Type 0
+IsOn f x y = ((x ≡ f.a) × (y ≡ f.b)) ⊎ (((x ≡ f.b) × (y ≡ f.c)) ⊎ ((x ≡ f.c) × (y ≡ f.a)))
+
+-- its three darts have the owner j
+pub record IsOwned (owner : ℕ → ℕ → ℕ) (f : Face) (j : ℕ) : Type 0 where
+  pub of_ab : owner f.a f.b ≡ j
+  pub of_bc : owner f.b f.c ≡ j
+  pub of_ca : owner f.c f.a ≡ j
+
+-- Of n vertices those below k were put in, and the others are isolated. The map has genus zero, and its inner faces are triangles, no two of which share a dart.
+pub record IsStacked (n k : ℕ) (s : Stacking) : Type 0 where
+  pub vertices : length s.lists ≡ n
+  pub simple : IsSimpleMap s.lists
+  pub plane : IsPlane s.lists
+  pub edges : edge_count s.lists + 6 ≡ 3 * k
+  pub isolated : (v : ℕ) → k ≤ v → list_of s.lists v ≡ []
+  pub some_face : 0 < length s.faces
+  pub faces : (i : ℕ) → i < length s.faces → IsFaceOf s.lists (face_at s.faces i)
+  pub apart : (owner : ℕ → ℕ → ℕ) × ((i : ℕ) → i < length s.faces → IsOwned owner (face_at s.faces i) i)
 
 -- nothing stands in an empty list
 pub none_in : (us : List ℕ) (x : ℕ) → us ≡ [] → ¬ Contains us x

@@ -9,8 +9,8 @@ use Rattle.plane_drawings.specs.Drawing.{IsInGrid}
 use Rattle.canon_order.specs.Orders.{IsCanonicalOrder}
 use Rattle.order_drawings.specs.RunDrawings.{IsCounterclockwiseRun, CounterclockwiseRunDraws}
 use Rattle.contour_runs.specs.Wood.{wood_points, point_of}
-use Rattle.contour_runs.specs.WoodPointsLaws.{IsWholeRun, StandsAt}
-use Rattle.contour_runs.proofs.Corners.{in_grid, cornered, counterclockwise, outside}
+use Rattle.contour_runs.specs.WoodPointsLaws.{StandsAt}
+use Rattle.contour_runs.proofs.Corners.{in_grid, cornered, counterclockwise, outside, IsWholeRun}
 use Rattle.order_drawings.specs.SchnyderDrawings.{AreWoodPoints, IsSchnyderDrawing}
 
 module _ (lists : Lists) (base : Dart) (at : List ℕ) (points : List Point) (triangulation : IsTriangulation lists) (dart : HasDart lists base.0 base.1) (order : IsCanonicalOrder lists base at) (h : AreWoodPoints lists base at order.cycle points) where

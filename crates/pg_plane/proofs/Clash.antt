@@ -8,7 +8,8 @@ use Rattle.pg_plane.specs.Geometry.{vector, cross, area}
 use Rattle.classes.specs.Classes.{count_below}
 use Rattle.classes.proofs.Counting.{one_if}
 use Rattle.classes.proofs.Orbits.{IsPermuting, count_below-images}
-use Rattle.pg_plane.specs.Faced.{in_base, IsFaced, IsOnFace, IsHeld}
+use Rattle.pg_plane.specs.Faced.{in_base, IsFaced}
+use Rattle.pg_plane.proofs.Near.{IsOnFace, IsHeld}
 use Rattle.pg_plane.proofs.Faces.{in_base_from, face_back, face_then}
 use Rattle.pg_plane.proofs.Ring.{sums, ring}
 use Rattle.pg_plane.proofs.Triangle.{IsMet, rises, left_turn_met}

@@ -4,11 +4,11 @@ use Rattle.std.proofs.lemmas.Int.{ints}
 use Rattle.std.proofs.lemmas.Bool.{cases_Bool}
 use Rattle.pg_plane.specs.declared.point.Point.{Point}
 use Rattle.pg_plane.specs.Geometry.{vector, cross, area, DoCross}
-use Rattle.pg_plane.specs.Faced.{in_base, IsFaced, IsOnFace, IsHeld}
+use Rattle.pg_plane.specs.Faced.{in_base, IsFaced}
 use Rattle.pg_plane.proofs.Faces.{face_back, face_then}
 use Rattle.pg_plane.proofs.Ring.{sums, ring, product_positive}
 use Rattle.pg_plane.proofs.Clash.{no_clash, base_area}
-use Rattle.pg_plane.proofs.Near.{scaled, moved, same_point, IsFaced-scaled, near_held}
+use Rattle.pg_plane.proofs.Near.{scaled, moved, same_point, IsFaced-scaled, near_held, IsOnFace, IsHeld}
 
 -- the crossing of two segments, by the one and by the other
 abbrev on_first : Point → Point → Point → Point → Point

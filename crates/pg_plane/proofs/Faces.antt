@@ -1,7 +1,8 @@
 -- The three darts of a face.
 use Rattle.std.proofs.Common.{◌≡◌, ℕ, ◌<◌, ◌||◌, true, eqb, eq-eqb, refl, sym, ap, subst, ◌∙◌, inl, inr}
 use Rattle.std.proofs.Math.Bool.{or-true}
-use Rattle.pg_plane.specs.Faced.{IsOnFace, in_base}
+use Rattle.pg_plane.specs.Faced.{in_base}
+use Rattle.pg_plane.proofs.Near.{IsOnFace}
 
 -- a dart on the face of the base passes the test for it
 pub in_base_from : (step : ℕ → ℕ) (b i : ℕ) → IsOnFace step b i → in_base step b i ≡ true

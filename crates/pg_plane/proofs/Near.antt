@@ -5,9 +5,23 @@ use Rattle.std.specs.Int.RustNames.{unsigned_abs}
 use Rattle.std.proofs.lemmas.Nat.{mul-le}
 use Rattle.pg_plane.specs.declared.point.Point.{Point}
 use Rattle.pg_plane.specs.Geometry.{vector, cross, area}
-use Rattle.pg_plane.specs.Faced.{IsFaced, IsHeld}
+use Rattle.pg_plane.specs.Faced.{IsFaced, in_base}
 use Rattle.pg_plane.proofs.Identities.{cross_back}
 use Rattle.pg_plane.proofs.Ring.{sums, ring, product_positive, product_signs}
+use Rattle.std.specs.Prelude.{◌⊎◌, true, false}
+
+-- j is one of the three darts of the face of i
+abbrev pub IsOnFace : (ℕ → ℕ) → ℕ → ℕ → Type 0
+IsOnFace step i j = (j ≡ i) ⊎ ((j ≡ step i) ⊎ (j ≡ step (step i)))
+
+-- The place p is held by the face of the dart i: strictly inside its triangle, or for the face of the base strictly to the left of one of its sides.
+pub record IsHeld (step : ℕ → ℕ) (at : ℕ → Point) (base : ℕ) (p : Point) (i : ℕ) : Type 0 where
+  pub inner : in_base step base i ≡ false → (pos 0 <ℤ area p (at i) (at (step i))) × (pos 0 <ℤ area p (at (step i)) (at (step (step i)))) × (pos 0 <ℤ area p (at (step (step i))) (at i))
+  pub outer : in_base step base i ≡ true → (pos 0 <ℤ area p (at i) (at (step i))) ⊎ ((pos 0 <ℤ area p (at (step i)) (at (step (step i)))) ⊎ (pos 0 <ℤ area p (at (step (step i))) (at i)))
+
+-- no edge is level
+abbrev pub NoneLevel : ℕ → (ℕ → ℕ) → (ℕ → Point) → Type 0
+NoneLevel k step at = (i : ℕ) → i < k → (at (step i)).y ≡ (at i).y → ⊥
 
 -- a point, or a vector, made larger
 abbrev pub scaled : ℤ → Point → Point

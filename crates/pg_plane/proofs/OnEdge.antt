@@ -6,12 +6,12 @@ use Rattle.std.specs.Int.RustNames.{unsigned_abs}
 use Rattle.std.proofs.Math.IntN.{*ℤ-zero, zero-*ℤ}
 use Rattle.pg_plane.specs.declared.point.Point.{Point}
 use Rattle.pg_plane.specs.Geometry.{vector, cross, area, IsBetween, IsOnSegment}
-use Rattle.pg_plane.specs.Faced.{in_base, IsFaced, IsTailed, IsOnFace, IsHeld, turn}
+use Rattle.pg_plane.specs.Faced.{in_base, IsFaced, IsTailed, turn}
 use Rattle.pg_plane.proofs.Faces.{face_back, face_then}
 use Rattle.pg_plane.proofs.Ring.{sums, ring, mul_assoc, add_mul, product_positive, product_signs}
 use Rattle.pg_plane.proofs.Identities.{cross_back, heights}
 use Rattle.pg_plane.proofs.Clash.{no_clash, base_cases}
-use Rattle.pg_plane.proofs.Near.{scaled, moved, less, cross_less, cross_less_two, large, same_point, IsFaced-scaled, near_held}
+use Rattle.pg_plane.proofs.Near.{scaled, moved, less, cross_less, cross_less_two, large, same_point, IsFaced-scaled, near_held, IsOnFace, IsHeld}
 use Rattle.pg_plane.proofs.Crossing.{area_back, some_area, near_right, twin_place, twin_head, flat_first, flat_ends, flat_last}
 use Rattle.pg_plane.proofs.Round.{turn_place, turn_head, turn_tail}
 use Rattle.pg_plane.proofs.Tilted.{vertices_apart}

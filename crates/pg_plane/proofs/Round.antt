@@ -9,7 +9,8 @@ use borrow.Author.Differences.{true_is_lt, false_is_lt}
 use Rattle.pg_plane.specs.declared.point.Point.{Point}
 use Rattle.pg_plane.specs.Geometry.{vector, cross, area}
 use Rattle.classes.proofs.Orbits.{IsPermuting, marks_back}
-use Rattle.pg_plane.specs.Faced.{in_base, IsFaced, IsTailed, NoneLevel, turn}
+use Rattle.pg_plane.specs.Faced.{in_base, IsFaced, IsTailed, turn}
+use Rattle.pg_plane.proofs.Near.{NoneLevel}
 use Rattle.pg_plane.proofs.Ring.{sums, ring, product_signs}
 use Rattle.pg_plane.proofs.Identities.{cross_back, heights}
 use Rattle.classes.proofs.Counting.{one_if}

@@ -6,11 +6,11 @@ use Rattle.std.proofs.lemmas.Bool.{cases_Bool, cases_lt, true≢false}
 use Rattle.std.specs.Int.RustNames.{unsigned_abs}
 use Rattle.pg_plane.specs.declared.point.Point.{Point}
 use Rattle.pg_plane.specs.Geometry.{vector, cross, area, IsFirstHalf, IsClockBefore}
-use Rattle.pg_plane.specs.Faced.{in_base, IsFaced, IsTailed, NoneLevel, turn}
+use Rattle.pg_plane.specs.Faced.{in_base, IsFaced, IsTailed, turn}
 use Rattle.pg_plane.proofs.Ring.{sums, ring, product_positive, product_signs}
 use Rattle.pg_plane.proofs.Identities.{cross_back}
 use Rattle.pg_plane.proofs.Clash.{base_area, up}
-use Rattle.pg_plane.proofs.Near.{same_point}
+use Rattle.pg_plane.proofs.Near.{same_point, NoneLevel}
 use Rattle.pg_plane.proofs.Crossing.{some_area, flat_first}
 use Rattle.pg_plane.proofs.Round.{holds, holds_is, holds_once, holds_some, places_apart, turn_place, turn_head}
 

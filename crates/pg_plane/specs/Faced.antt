@@ -1,5 +1,5 @@
 -- A drawing by its darts: each has a place, that of the vertex that it leaves; the twin is the dart the other way, and the step goes on along the face on the left.
-use Rattle.std.specs.Prelude.{ℕ, ◌<◌, ◌≡◌, ◌||◌, ◌==◌, ◌⊎◌, Bool, true, false, pos, ◌<ℤ◌}
+use Rattle.std.specs.Prelude.{ℕ, ◌<◌, ◌≡◌, ◌||◌, ◌==◌, Bool, false, pos, ◌<ℤ◌}
 use Rattle.pg_plane.specs.declared.point.Point.{Point}
 use Rattle.pg_plane.specs.Geometry.{area}
 use Rattle.classes.proofs.Orbits.{IsPermuting}
@@ -20,15 +20,6 @@ pub record IsFaced (k : ℕ) (twin step : ℕ → ℕ) (at : ℕ → Point) (bas
   pub inner : (i : ℕ) → i < k → in_base step base i ≡ false → pos 0 <ℤ area (at i) (at (step i)) (at (step (step i)))
   pub outer : area (at base) (at (step base)) (at (step (step base))) <ℤ pos 0
 
--- j is one of the three darts of the face of i
-abbrev pub IsOnFace : (ℕ → ℕ) → ℕ → ℕ → Type 0
-IsOnFace step i j = (j ≡ i) ⊎ ((j ≡ step i) ⊎ (j ≡ step (step i)))
-
--- The place p is held by the face of the dart i: strictly inside its triangle, or for the face of the base strictly to the left of one of its sides.
-pub record IsHeld (step : ℕ → ℕ) (at : ℕ → Point) (base : ℕ) (p : Point) (i : ℕ) : Type 0 where
-  pub inner : in_base step base i ≡ false → (pos 0 <ℤ area p (at i) (at (step i))) × (pos 0 <ℤ area p (at (step i)) (at (step (step i)))) × (pos 0 <ℤ area p (at (step (step i))) (at i))
-  pub outer : in_base step base i ≡ true → (pos 0 <ℤ area p (at i) (at (step i))) ⊎ ((pos 0 <ℤ area p (at (step i)) (at (step (step i)))) ⊎ (pos 0 <ℤ area p (at (step (step i))) (at i)))
-
 -- the next dart round the vertex of i, counterclockwise
 abbrev pub turn : (ℕ → ℕ) → (ℕ → ℕ) → ℕ → ℕ
 turn twin step i = twin (step (step i))
@@ -37,7 +28,3 @@ turn twin step i = twin (step (step i))
 pub record IsTailed (k : ℕ) (twin step : ℕ → ℕ) (at : ℕ → Point) (tail : ℕ → ℕ) : Type 0 where
   pub tails : (i : ℕ) → i < k → tail (step i) ≡ tail (twin i)
   pub places : (i j : ℕ) → i < k → j < k → tail i ≡ tail j → at i ≡ at j
-
--- no edge is level
-abbrev pub NoneLevel : ℕ → (ℕ → ℕ) → (ℕ → Point) → Type 0
-NoneLevel k step at = (i : ℕ) → i < k → (at (step i)).y ≡ (at i).y → ⊥

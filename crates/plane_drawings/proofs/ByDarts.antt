@@ -12,7 +12,8 @@ use Rattle.map_theory.proofs.DartPermutations.{dart_of, tail_of, turned_dart, ro
 use Rattle.plane_laws.proofs.Triangles.{triangles_where_met}
 use Rattle.pg_plane.specs.declared.point.Point.{Point}
 use Rattle.pg_plane.specs.Geometry.{area}
-use Rattle.pg_plane.specs.Faced.{in_base, IsFaced, IsTailed, IsOnFace}
+use Rattle.pg_plane.specs.Faced.{in_base, IsFaced, IsTailed}
+use Rattle.pg_plane.proofs.Near.{IsOnFace}
 use Rattle.pg_plane.proofs.Faces.{in_base_from, face_back, face_then}
 use Rattle.plane_drawings.specs.Drawing.{place, IsCounterclockwise}
 use Rattle.plane_laws.specs.Triangulations.{IsTriangulation}

@@ -18,8 +18,8 @@ use Rattle.plane_laws.proofs.LoneEdge.{IsPermuting-lone_edge, GoesOver-out, off_
 use Rattle.map_theory.proofs.WithoutEdge.{back, u_not_v, length-without_edge, dart_new, IsSimpleMap-without_edge, edge_count-without}
 use Rattle.plane_laws.proofs.EdgeRemoved.{before_first, before_second, rest_counts, apart_twin, apart_twin', edge_removed_plane, in_out, twin_out, renumbering, twin_over, rotation_over, apart, apart'}
 use Rattle.map_theory.proofs.DartLemmas.{dart_number-lt, get_or-dart_number, HasDart-follows}
-use Rattle.map_theory.proofs.DartPermutations.{dart_of, tail_of, rotation, twin, IsPermuting-rotation, IsPairing-twin, two_m, vertex_count-orbits, face_count-orbits}
-use Rattle.plane_laws.proofs.DartPaths.{tail_of-number, rotation-number, numbers_apart, face_together, same_face}
+use Rattle.map_theory.proofs.DartPermutations.{dart_of, rotation, twin, IsPermuting-rotation, IsPairing-twin, two_m, vertex_count-orbits, face_count-orbits}
+use Rattle.plane_laws.proofs.DartPaths.{rotation-number, numbers_apart, face_together, same_face}
 
 module _ (lists : Lists) (simple : IsSimpleMap lists) (u v : ℕ) (edge : HasDart lists u v) where
   abbrev rest : Lists
@@ -63,9 +63,6 @@ module _ (lists : Lists) (simple : IsSimpleMap lists) (u v : ℕ) (edge : HasDar
 
   le : g d < k
   le = pair.within d ld
-
-  tail_d : tail_of lists d ≡ u
-  tail_d = tail_of-number lists u v edge
 
   d_e : d ≢ g d
   d_e e = pair.other d ld (sym e)

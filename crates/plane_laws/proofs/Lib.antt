@@ -1,6 +1,5 @@
 -- The laws of maps of genus zero.
 pub mod PlaneCuts
-mod PairCases
 mod LawCases
 pub mod ArcLemmas
 pub mod RoundOrder

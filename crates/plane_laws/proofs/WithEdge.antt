@@ -14,7 +14,7 @@ use Rattle.map_theory.specs.Paths.{SameFace}
 use Rattle.map_theory.proofs.DartLemmas.{entry_after-injective, place_of-lt-length, HasDart-follows}
 use Rattle.map_theory.proofs.WithoutEdge.{length-without_edge, list_at_first, list_at_second, list_elsewhere, follows_same}
 use Rattle.plane_laws.specs.Added.{IsSplitFace, IsJoinedFaces}
-use Rattle.plane_laws.specs.WithEdge.{with_edge_at, entry_at, IsEdgeMore, WithEdge, WithEdgeAfter, EdgePutInFace, EdgePutBetween}
+use Rattle.plane_laws.specs.WithEdge.{with_edge_at, entry_at, IsEdgeMore, WithEdge, WithEdgeAfter, with_edge_after}
 use Rattle.plane_laws.proofs.InsertedEntry.{insert-new, insert-kept, insert-old, insert-distinct, without-insert, entry_after-insert, entry_after-put}
 use Rattle.plane_laws.proofs.EdgeAdded.{edge_in_face, edge_between}
 
@@ -194,8 +194,8 @@ with_edge_after_law lists u a v c simple has_a has_c u_v far =
       },
     )
 
--- THE LAW: an edge between two corners of one face
-pub edge_put_in_face : EdgePutInFace
+-- An edge put between two corners of one face, in the words of the map before.
+pub edge_put_in_face : (lists : Lists) (u a v c : ℕ) → IsSimpleMap lists → IsPlane lists → HasDart lists u a → HasDart lists v c → u ≢ v → ¬ HasDart lists u v → SameFace lists (u, follows lists u a) (v, follows lists v c) → IsSimpleMap (with_edge_after lists u a v c) × IsSplitFace lists (with_edge_after lists u a v c) u v
 edge_put_in_face lists u a v c simple plane has_a has_c u_v far face =
     let us = list_of lists u in
     let vs = list_of lists v in
@@ -215,8 +215,8 @@ edge_put_in_face lists u a v c simple plane has_a has_c u_v far face =
     let split = edge_in_face new u v more.simple more.edge not_v not_u plane' face' in
     (more.simple, subst (λ old. IsSplitFace old new u v) more.without split)
 
--- THE LAW: an edge between two components
-pub edge_put_between : EdgePutBetween
+-- An edge put between two components, at any places, in the words of the map before.
+pub edge_put_between : (lists : Lists) (u i v j : ℕ) → IsSimpleMap lists → IsPlane lists → u < length lists → v < length lists → ¬ SameComponent lists u v → i ≤ length (list_of lists u) → j ≤ length (list_of lists v) → IsSimpleMap (with_edge_at lists u i v j) × IsJoinedFaces lists (with_edge_at lists u i v j) u v
 edge_put_between lists u i v j simple plane in_u in_v far at_u at_v =
     let together = same_class-from (component_classes lists) u v in
     let u_v : u ≢ v = λ e. far (together (ap (label (component_classes lists)) e)) in

@@ -1,11 +1,8 @@
 -- Lists with an edge more.
 use Rattle.std.specs.Prelude.{ℕ, ◌+◌, ◌<◌, ◌≤◌, ◌≡◌, ◌≢◌, ◌⊎◌, List, length, slice_set, slice_index_or, insert}
 use Rattle.map_lists.specs.Lists.{Lists}
-use Rattle.map_theory.specs.Maps.{HasDart, IsSimpleMap, IsPlane, list_of, follows, place_of}
+use Rattle.map_theory.specs.Maps.{HasDart, IsSimpleMap, list_of, follows, place_of}
 use Rattle.map_theory.specs.Edges.{without_edge}
-use Rattle.map_theory.specs.Paths.{SameFace}
-use Rattle.plane_laws.specs.Laws.{SameComponent}
-use Rattle.plane_laws.specs.Added.{IsSplitFace, IsJoinedFaces}
 
 -- the lists with an edge between u and v more: v is put in at place i of u's list, and u at place j of v's
 abbrev pub with_edge_at : Lists → ℕ → ℕ → ℕ → ℕ → Lists
@@ -48,13 +45,3 @@ pub record IsPutAfter (old new : Lists) (u a v c : ℕ) : Type 0 where
 abbrev pub WithEdgeAfter : Type 0
 WithEdgeAfter =
     (lists : Lists) (u a v c : ℕ) → IsSimpleMap lists → HasDart lists u a → HasDart lists v c → u ≢ v → ¬ HasDart lists u v → IsEdgeMore lists (with_edge_after lists u a v c) u (place_of a (list_of lists u) + 1) v (place_of c (list_of lists v) + 1) × IsPutAfter lists (with_edge_after lists u a v c) u a v c
-
--- An edge put between two corners of one face, in the words of the map before.
-abbrev pub EdgePutInFace : Type 0
-EdgePutInFace =
-    (lists : Lists) (u a v c : ℕ) → IsSimpleMap lists → IsPlane lists → HasDart lists u a → HasDart lists v c → u ≢ v → ¬ HasDart lists u v → SameFace lists (u, follows lists u a) (v, follows lists v c) → IsSimpleMap (with_edge_after lists u a v c) × IsSplitFace lists (with_edge_after lists u a v c) u v
-
--- An edge put between two components, at any places, in the words of the map before.
-abbrev pub EdgePutBetween : Type 0
-EdgePutBetween =
-    (lists : Lists) (u i v j : ℕ) → IsSimpleMap lists → IsPlane lists → u < length lists → v < length lists → ¬ SameComponent lists u v → i ≤ length (list_of lists u) → j ≤ length (list_of lists v) → IsSimpleMap (with_edge_at lists u i v j) × IsJoinedFaces lists (with_edge_at lists u i v j) u v

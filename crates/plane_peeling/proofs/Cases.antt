@@ -4,9 +4,11 @@ use Rattle.std.proofs.lemmas.Bool.{true≢false}
 use Rattle.map_lists.specs.Lists.{Lists}
 use Rattle.map_theory.specs.Maps.{HasDart, follows, entry_after}
 use Rattle.plane_peeling.specs.Restricted.{restricted, kept_but, IsFaceOfThree}
-use Rattle.plane_peeling.specs.NearTriangulations.{IsOuterCycle, IsRemovable, IsRemovableStretch}
+use Rattle.plane_peeling.specs.NearTriangulations.{IsOuterCycle, IsRemovable}
+use Rattle.plane_peeling.proofs.RemovableVertices.{IsRemovableStretch}
 use Rattle.plane_peeling.specs.Peeled.{IsFan}
-use Rattle.plane_peeling.specs.TwoGone.{IsOpenOutside, IsRemovableOfTwo}
+use Rattle.plane_peeling.specs.TwoGone.{IsOpenOutside}
+use Rattle.plane_peeling.proofs.TwoGone.{IsRemovableOfTwo}
 use Rattle.plane_peeling.proofs.Rings.{AllPairs-put, each_of_one, each_of_two, each_of_three, each_of_four}
 
 -- ---- the tetrahedron

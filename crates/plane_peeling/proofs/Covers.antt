@@ -9,12 +9,12 @@ use Rattle.std.proofs.lemmas.List.Elements.{Contains-append_left, Contains-appen
 use Rattle.plane_peeling.specs.Restricted.{restricted, kept_but, IsFaceOfThree, IsDartOfThree}
 use Rattle.plane_peeling.specs.NearTriangulations.{IsOuterDart}
 use Rattle.plane_peeling.specs.Peeled.{IsPeeled, IsTakenOff}
-use Rattle.plane_peeling.specs.Laws.{CycleAfter, FanCovers}
 use Rattle.plane_peeling.proofs.Rings.{separated_at, last-entry, entry_after-inside, entry_after-last}
 use Rattle.plane_peeling.proofs.RestrictedMaps.{cases_Contains, restricted-old, restricted-new, kept_but-new}
 use Rattle.plane_peeling.proofs.OuterCycles.{cases_outer, IsFaceOfThree-turned}
 use Rattle.map_theory.proofs.DartLemmas.{Contains-entry_after}
 use Rattle.plane_peeling.proofs.CycleAfter.{after_is, after_has, count-run, not_counted}
+use Rattle.std.specs.Prelude.{slice_index}
 
 -- ---- lists
 -- lists without repeats that hold the same hold each number as often
@@ -238,9 +238,10 @@ module _ (lists : Lists) (kept : ℕ → Bool) (s t : ℕ) (ws : List ℕ) (v : 
             ]
       ]
 
--- THE LAWS: the cycle and the faces after
-pub cycle_after : CycleAfter
+-- After a vertex is taken off, those on the outer cycle are those that were on it, without the vertex, and its neighbours.
+pub cycle_after : (lists : Lists) (kept : ℕ → Bool) (s t : ℕ) (ws : List ℕ) (v : ℕ) (front : List ℕ) (p : ℕ) (mid : List ℕ) (q : ℕ) (back : List ℕ) → IsPeeled lists kept s t ws → IsTakenOff lists kept s t ws v front p mid q back → (u : ℕ) → Contains (front ++ (p ∷ mid ++ q ∷ back)) u ↔ ((Contains ws u × (u ≢ v)) ⊎ HasDart (restricted kept lists) v u)
 cycle_after lists kept s t ws v front p mid q back peeled off u = cycle_here lists kept s t ws v front p mid q back peeled off u
 
-pub fan_covers : FanCovers
+-- A dart of what was left that is not on the outer cycle is one of what is left after a vertex is taken off, and not on its outer cycle, or lies on a face of the vertex taken off and two of its neighbours that follow one another.
+pub fan_covers : (lists : Lists) (kept : ℕ → Bool) (s t : ℕ) (ws : List ℕ) (v : ℕ) (front : List ℕ) (p : ℕ) (mid : List ℕ) (q : ℕ) (back : List ℕ) → IsPeeled lists kept s t ws → IsTakenOff lists kept s t ws v front p mid q back → (x y : ℕ) → HasDart (restricted kept lists) x y → ¬ IsOuterDart ws x y → (HasDart (restricted (kept_but kept v) lists) x y × ¬ IsOuterDart (front ++ (p ∷ mid ++ q ∷ back)) x y) ⊎ ((i : ℕ) × (i < length mid + 1) × IsDartOfThree v (slice_index (p ∷ mid ++ q ∷ []) i) (slice_index (p ∷ mid ++ q ∷ []) (i + 1)) x y)
 fan_covers lists kept s t ws v front p mid q back peeled off x y d n = covers_here lists kept s t ws v front p mid q back peeled off x y d n

@@ -13,7 +13,7 @@ use Rattle.plane_laws.proofs.Triangles.{triangles_where_met}
 use Rattle.plane_peeling.specs.Restricted.{restricted, IsFaceOfThree}
 use Rattle.plane_peeling.specs.NearTriangulations.{IsOuterCycle, IsOuterDart, IsNearTriangulation}
 use Rattle.plane_peeling.specs.Peeled.{IsPeeled}
-use Rattle.plane_peeling.specs.Laws.{NothingTakenOff, ThreeLeft, WholeIsPeeled}
+use Rattle.plane_peeling.specs.Laws.{NothingTakenOff}
 use Rattle.plane_peeling.proofs.Rings.{entry_after-inside, entry_after-last, AllPairs-put, each_of_one, each_of_two, each_of_three}
 use Rattle.plane_peeling.proofs.RestrictedMaps.{restricted_all, restricted-old}
 use Rattle.plane_peeling.proofs.OuterCycles.{IsFaceOfThree-turned, IsFaceOfThree-triangle, inner_face}
@@ -83,8 +83,8 @@ module _ (lists : Lists) (s t : ℕ) (triangulation : IsTriangulation lists) (ba
   pub near_whole : IsNearTriangulation lists s t ws
   near_whole = record { simple = simple; plane = triangulation.plane; cycle = base_cycle; inner = λ x y d n. triangle x y d }
 
--- THE LAWS: nothing taken off
-pub whole_is_peeled : WholeIsPeeled
+-- A near triangulation of which nothing is taken off.
+pub whole_is_peeled : (lists : Lists) (kept : ℕ → Bool) (s t : ℕ) (ws : List ℕ) → IsNearTriangulation lists s t ws → ((v : ℕ) → v < length lists → kept v ≡ true) → IsPeeled lists kept s t ws
 whole_is_peeled lists kept s t ws near all =
     let simple = near.simple in
     let e = restricted_all lists kept simple all in
@@ -164,6 +164,6 @@ module _ (lists : Lists) (kept : ℕ → Bool) (s t : ℕ) (ws : List ℕ) (peel
         counts.1,
       )
 
--- THE LAW: three left
-pub three_left : ThreeLeft
+-- Where three vertices are left they are the two of the base and one more, all on the outer cycle, and a face of the whole map on the other side of the base.
+pub three_left : (lists : Lists) (kept : ℕ → Bool) (s t : ℕ) (ws : List ℕ) → IsPeeled lists kept s t ws → count_below kept (length lists) ≡ 3 → (x : ℕ) × (ws ≡ s ∷ x ∷ t ∷ []) × IsFaceOfThree lists x s t × ((u : ℕ) → u < length lists → kept u ≡ true → Contains ws u)
 three_left lists kept s t ws peeled three = three_here lists kept s t ws peeled three

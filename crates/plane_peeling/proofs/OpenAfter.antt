@@ -7,7 +7,7 @@ use Rattle.map_theory.specs.Maps.{HasDart, IsSimpleMap, follows, entry_after}
 use Rattle.map_theory.proofs.EntryLemmas.{Contains-here, head_apart, AllPairs-right}
 use Rattle.plane_peeling.specs.Restricted.{restricted, kept_but, IsFaceOfThree}
 use Rattle.plane_peeling.specs.Peeled.{IsPeeled, IsTakenOff}
-use Rattle.plane_peeling.specs.TwoGone.{IsOpenOutside, OpenAfter}
+use Rattle.plane_peeling.specs.TwoGone.{IsOpenOutside}
 use Rattle.plane_peeling.proofs.Rings.{Leads, Leads-part, Leads-in, entry_after-inside}
 use Rattle.plane_peeling.proofs.RestrictedMaps.{kept_but-new, kept_but-itself}
 use Rattle.plane_peeling.proofs.OuterCycles.{IsFaceOfThree-turned, round}
@@ -69,6 +69,6 @@ module _ (lists : Lists) (kept : ℕ → Bool) (s t : ℕ) (ws : List ℕ) (v : 
             ];
       }
 
--- THE LAW: the outside stays open
-pub open_after : OpenAfter
+-- And the outside stays open when a vertex is taken off.
+pub open_after : (lists : Lists) (kept : ℕ → Bool) (s t : ℕ) (ws : List ℕ) (v : ℕ) (front : List ℕ) (p : ℕ) (mid : List ℕ) (q : ℕ) (back : List ℕ) → IsSimpleMap lists → IsPeeled lists kept s t ws → IsOpenOutside lists kept t ws → IsTakenOff lists kept s t ws v front p mid q back → IsOpenOutside lists (kept_but kept v) t (front ++ (p ∷ mid ++ q ∷ back))
 open_after lists kept s t ws v front p mid q back whole peeled outside off = open_here lists kept s t ws v front p mid q back whole peeled outside off

@@ -90,10 +90,6 @@ module _ (lists : Lists) (s t : ℕ) (ws : List ℕ) (simple : IsSimpleMap lists
   pub two_steps_on : (x : ℕ) → Contains ws x → next (next x) ≢ x
   two_steps_on x c e = let l = cycle.long in let two = two_entries ws x (next x) cycle.distinct c refl e in absurd (omega arith)
 
-  -- round a vertex of the cycle, the vertex after it follows the one before it
-  pub corner : (p : ℕ) → Contains ws p → follows lists (next p) p ≡ next (next p)
-  corner = cycle.turns
-
 module _ (lists : Lists) (s t : ℕ) (ws : List ℕ) (near : IsNearTriangulation lists s t ws) where
   -- each dart but those of the cycle is of a face of three
   pub inner_face : (x y : ℕ) → HasDart lists x y → ¬ IsOuterDart ws x y → IsFaceOfThree lists x y (follows lists y x)

@@ -12,7 +12,7 @@ use Rattle.plane_peeling.specs.Restricted.{restricted, kept_but, IsFaceOfThree}
 use Rattle.plane_peeling.specs.NearTriangulations.{IsOuterCycle, IsNearTriangulation, IsRemovable}
 use Rattle.plane_peeling.specs.Peeled.{IsPeeled, IsTakenOff}
 use Rattle.plane_peeling.specs.Laws.{CanBeTakenOff}
-use Rattle.plane_peeling.specs.TwoGone.{HasNoSeparatingTriangle, IsOpenOutside, QuadrangleOpened}
+use Rattle.plane_peeling.specs.TwoGone.{HasNoSeparatingTriangle, IsOpenOutside}
 use Rattle.plane_peeling.proofs.Rings.{entry_after-inside, entry_after-last, each_of_two, each_of_three, each_of_four, entries_closed, separated_once, rest_of, ends_with, last-entry}
 use Rattle.plane_peeling.proofs.RestrictedMaps.{restricted-old, kept_but-new, kept_but-itself}
 use Rattle.plane_peeling.proofs.OuterCycles.{next-last}
@@ -90,9 +90,6 @@ module _ (lists : Lists) (kept : ℕ → Bool) (s d p t : ℕ) (connected : comp
 
   s_not_d : s ≢ d
   s_not_d = distinct 0 1 0 (omega arith) (omega arith)
-
-  s_not_t : s ≢ t
-  s_not_t = distinct 0 3 0 (omega arith) (omega arith)
 
   s_not_p : s ≢ p
   s_not_p = distinct 0 2 0 (omega arith) (omega arith)
@@ -317,6 +314,6 @@ module _ (lists : Lists) (kept : ℕ → Bool) (s d p t : ℕ) (connected : comp
       let two = (off_p mid off off_d.1).0 in
       (two.0 ++ (two.1 ∷ two.2 ++ two.3 ∷ two.4), two.5.left, opened mid off two.0 two.1 two.2 two.3 two.4 two.5)
 
--- THE LAW: a quadrangle opened
-pub quadrangle_opened : QuadrangleOpened
+-- A connected near triangulation with a quadrangle as its outer cycle and at least one vertex inside, in which no triangle separates: without the two vertices that are not of the base it is peeled, and open outside.
+pub quadrangle_opened : (lists : Lists) (kept : ℕ → Bool) (s d p t : ℕ) → component_count lists ≡ 1 → 4 < length lists → IsNearTriangulation lists s t (s ∷ d ∷ p ∷ t ∷ []) → HasNoSeparatingTriangle lists → ((v : ℕ) → v < length lists → kept v ≡ true) → (ws : List ℕ) × IsPeeled lists (kept_but (kept_but kept d) p) s t ws × IsOpenOutside lists (kept_but (kept_but kept d) p) t ws
 quadrangle_opened lists kept s d p t connected large near none all = quadrangle_here lists kept s d p t connected large near none all

@@ -14,7 +14,6 @@ use Rattle.plane_laws.proofs.Extended.{filter-filter}
 use Rattle.plane_peeling.specs.Restricted.{restricted}
 use Rattle.plane_peeling.specs.NearTriangulations.{IsOuterCycle, IsRemovable}
 use Rattle.plane_peeling.specs.Peeled.{IsPeeled}
-use Rattle.plane_peeling.specs.Laws.{RemovableByCount}
 use Rattle.plane_peeling.proofs.RestrictedMaps.{both, restricted-old}
 use Rattle.plane_peeling.proofs.OuterCycles.{entry_before, next-on, next-apart, two_steps_on}
 
@@ -118,6 +117,6 @@ module _ (lists : Lists) (kept marked : ℕ → Bool) (s t : ℕ) (ws : List ℕ
         },
       )
 
--- THE LAW: without a chord by its count
-pub removable_by_count : RemovableByCount
+-- A vertex of the outer cycle that is not an end of the base has no chord exactly where two of its neighbours are on the cycle.
+pub removable_by_count : (lists : Lists) (kept marked : ℕ → Bool) (s t : ℕ) (ws : List ℕ) (v : ℕ) → IsPeeled lists kept s t ws → ((u : ℕ) → (marked u ≡ true) ↔ Contains ws u) → Contains ws v → v ≢ s → v ≢ t → IsRemovable (restricted kept lists) s t ws v ↔ (count_by marked (list_of lists v) ≡ 2)
 removable_by_count lists kept marked s t ws v peeled marks on_v not_s not_t = by_count lists kept marked s t ws v peeled marks on_v not_s not_t

@@ -10,13 +10,20 @@ use Rattle.map_theory.proofs.DartLemmas.{HasDart-follows}
 use Rattle.plane_laws.proofs.DartPaths.{same_face, same_face-step}
 use Rattle.plane_laws.specs.OuterFaces.{IsOuterLeaf}
 use Rattle.plane_laws.proofs.OuterFaces.{outer_leaf_law}
-use Rattle.plane_peeling.specs.NearTriangulations.{IsOuterCycle, IsRemovable, IsRemovableStretch}
-use Rattle.plane_peeling.specs.Laws.{SomeRemovable, SomeRemovableStretch}
+use Rattle.plane_peeling.specs.NearTriangulations.{IsOuterCycle, IsRemovable}
+use Rattle.plane_peeling.specs.Laws.{SomeRemovable}
 use Rattle.plane_peeling.proofs.Rings.{Leads, Leads-part, Leads-join, Leads-front, Contains-counts, AllPairs-counts, separated_at, only_two, ring_from}
 use Rattle.plane_peeling.proofs.Ways.{place, place_first, place_last, place_next, place_apart, place_is}
 use Rattle.plane_peeling.proofs.RestrictedMaps.{restricted-map, restricted-old}
 use Rattle.plane_peeling.proofs.OuterCycles.{next-apart, last_on, next-last, round}
 use Rattle.plane_peeling.proofs.OnCycle.{on, rest, simple', kept_dart, old, stays_on, cycle_dart, cycle_turn, outer_face}
+
+-- A stretch of the outer cycle, from u to w, whose vertices between the two have no chord; u and w are adjacent, by a chord or the base.
+pub record IsRemovableStretch (lists : Lists) (s t : ℕ) (ws front : List ℕ) (u : ℕ) (between : List ℕ) (w : ℕ) (back : List ℕ) : Type 0 where
+  pub parts : ws ≡ front ++ (u ∷ between ++ w ∷ back)
+  pub some : 0 < length between
+  pub chord : HasDart lists u w
+  pub removable : (v : ℕ) → Contains between v → IsRemovable lists s t ws v
 
 module _ (lists : Lists) (s t : ℕ) (ws : List ℕ) (simple : IsSimpleMap lists) (plane : IsPlane lists) (cycle : IsOuterCycle lists s t ws) where
   abbrev R : Lists
@@ -171,8 +178,8 @@ module _ (lists : Lists) (s t : ℕ) (ws : List ℕ) (simple : IsSimpleMap lists
       let is = stretch_here u w leaf parts.0 way row_distinct in
       (is.0, u, parts.0, w, is.1, is.2)
 
--- THE LAWS: a stretch of vertices without chords, and so one such vertex
-pub some_removable_stretch : SomeRemovableStretch
+-- And a chord, or else the base, cuts off a stretch of such vertices.
+pub some_removable_stretch : (lists : Lists) (s t : ℕ) (ws : List ℕ) → IsSimpleMap lists → IsPlane lists → IsOuterCycle lists s t ws → (front : List ℕ) × (u : ℕ) × (between : List ℕ) × (w : ℕ) × (back : List ℕ) × IsRemovableStretch lists s t ws front u between w back
 some_removable_stretch lists s t ws simple plane cycle = stretch lists s t ws simple plane cycle
 
 pub some_removable : SomeRemovable

@@ -12,7 +12,7 @@ use Rattle.plane_laws.proofs.EdgeBound.{met_connected}
 use Rattle.plane_peeling.specs.Restricted.{restricted, IsFaceOfThree}
 use Rattle.plane_peeling.specs.NearTriangulations.{IsOuterCycle, IsRemovable}
 use Rattle.plane_peeling.specs.Peeled.{IsPeeled, IsFan, IsTakenOff}
-use Rattle.plane_peeling.specs.Laws.{RemovableTakenOff, ConnectedTakenOff}
+use Rattle.plane_peeling.specs.Laws.{RemovableTakenOff, CanBeTakenOff}
 use Rattle.plane_peeling.proofs.Rings.{Leads, Leads-part, Leads-join, Leads-in, Leads-same, Leads-at, Contains-counts, AllPairs-counts, last-entry, separated_round, only_two, each_of_two, each_of_three}
 use Rattle.plane_peeling.proofs.RestrictedMaps.{restricted-old, restricted-new, count-kept_but}
 use Rattle.plane_peeling.proofs.OuterCycles.{round, last_on, first_on, next-on}
@@ -216,8 +216,8 @@ module _ (lists : Lists) (kept : ℕ → Bool) (s t : ℕ) (ws : List ℕ) (v : 
         taken_off p on_p leads_p r.0 r.1 r.2 parts.0 parts.1 parts.2 parts.3 parts.4 (long_after p on_p leads_p r.0 r.1 r.2 parts.0 parts.1 parts.2 parts.3 parts.4 connected many),
       )
 
--- THE LAWS: a vertex without a chord taken off
-pub connected_taken_off : ConnectedTakenOff
+-- So it can where the whole map is any connected one.
+pub connected_taken_off : (lists : Lists) (kept : ℕ → Bool) (s t : ℕ) (ws : List ℕ) (v : ℕ) → IsSimpleMap lists → component_count lists ≡ 1 → IsPeeled lists kept s t ws → 3 < count_below kept (length lists) → IsRemovable (restricted kept lists) s t ws v → CanBeTakenOff lists kept s t ws v
 connected_taken_off lists kept s t ws v whole connected peeled many removable =
     let d = peeled.near.cycle.darts v removable.on in
     let old = restricted-old lists kept v (entry_after v ws) d in

@@ -9,14 +9,21 @@ use Rattle.map_theory.proofs.EntryLemmas.{Contains-here, AllPairs-left, AllPairs
 use Rattle.map_theory.proofs.DartLemmas.{HasDart-follows}
 use Rattle.plane_laws.proofs.KeptEdges.{all_or_some}
 use Rattle.plane_peeling.specs.Restricted.{restricted, IsFaceOfThree}
-use Rattle.plane_peeling.specs.NearTriangulations.{IsOuterCycle, IsRemovable, IsRemovableStretch}
+use Rattle.plane_peeling.specs.NearTriangulations.{IsOuterCycle, IsRemovable}
 use Rattle.plane_peeling.specs.Peeled.{IsPeeled}
-use Rattle.plane_peeling.specs.TwoGone.{HasNoSeparatingTriangle, IsOpenOutside, IsRemovableOfTwo, SomeRemovableOfTwo}
+use Rattle.plane_peeling.specs.TwoGone.{HasNoSeparatingTriangle, IsOpenOutside}
 use Rattle.plane_peeling.proofs.Rings.{Leads, Leads-part, Leads-join, entries_closed}
 use Rattle.plane_peeling.proofs.Ways.{place, place_first, place_last, place_next, place_apart, place_in}
 use Rattle.plane_peeling.proofs.RestrictedMaps.{restricted-old}
 use Rattle.plane_peeling.proofs.OuterCycles.{cases_outer, IsFaceOfThree-turned, next-on, next-last, round}
-use Rattle.plane_peeling.proofs.RemovableVertices.{some_removable_stretch}
+use Rattle.plane_peeling.proofs.RemovableVertices.{some_removable_stretch, IsRemovableStretch}
+
+-- A vertex without a chord beyond whose two darts of the outer cycle, that from x and the next, stand two vertices: so two of its neighbours are taken off.
+pub record IsRemovableOfTwo (lists : Lists) (kept : ℕ → Bool) (s t : ℕ) (ws : List ℕ) (x v : ℕ) : Type 0 where
+  pub removable : IsRemovable (restricted kept lists) s t ws v
+  pub on : Contains ws x
+  pub next : entry_after x ws ≡ v
+  pub two : follows lists v x ≢ follows lists (entry_after v ws) v
 
 module _ (lists : Lists) (kept : ℕ → Bool) (s t : ℕ) (ws : List ℕ) (whole : IsSimpleMap lists) (none : HasNoSeparatingTriangle lists) (peeled : IsPeeled lists kept s t ws) (outside : IsOpenOutside lists kept t ws) where
   abbrev M : Lists
@@ -167,8 +174,8 @@ module _ (lists : Lists) (kept : ℕ → Bool) (s t : ℕ) (ws : List ℕ) (whol
           | inl all ↦ absurd (no_one_beyond (λ i l. eqb-true (beyond i) (beyond (suc i)) (all i (omega arith))))
         ]
 
--- THE LAW: a vertex with two neighbours taken off
-pub some_removable_of_two : SomeRemovableOfTwo
+-- Where no triangle separates, and the outside is open, there is such a vertex.
+pub some_removable_of_two : (lists : Lists) (kept : ℕ → Bool) (s t : ℕ) (ws : List ℕ) → IsSimpleMap lists → HasNoSeparatingTriangle lists → IsPeeled lists kept s t ws → IsOpenOutside lists kept t ws → (x : ℕ) × (v : ℕ) × IsRemovableOfTwo lists kept s t ws x v
 some_removable_of_two lists kept s t ws whole none peeled outside =
     let found = some_removable_stretch (restricted kept lists) s t ws peeled.near.simple peeled.near.plane peeled.near.cycle in
     here lists kept s t ws whole none peeled outside found.0 found.1 found.2 found.3 found.4 found.5

@@ -1,5 +1,5 @@
 -- Outer cycles, near triangulations, and vertices of an outer cycle that have no chord.
-use Rattle.std.specs.Prelude.{ℕ, ◌-◌, ◌<◌, ◌≤◌, ◌≡◌, ◌≢◌, ◌⊎◌, List, ◌∷◌, ◌++◌, length, slice_index, AllPairs, Contains}
+use Rattle.std.specs.Prelude.{ℕ, ◌-◌, ◌≤◌, ◌≡◌, ◌≢◌, ◌⊎◌, List, length, slice_index, AllPairs, Contains}
 use Rattle.map_lists.specs.Lists.{Lists}
 use Rattle.map_theory.specs.Maps.{HasDart, IsSimpleMap, IsPlane, follows, entry_after}
 use Rattle.plane_laws.specs.Laws.{IsTriangle}
@@ -30,10 +30,3 @@ pub record IsRemovable (lists : Lists) (s t : ℕ) (ws : List ℕ) (v : ℕ) : T
   pub not_first : v ≢ s
   pub not_last : v ≢ t
   pub chordless : (u : ℕ) → HasDart lists v u → Contains ws u → (entry_after u ws ≡ v) ⊎ (entry_after v ws ≡ u)
-
--- A stretch of the outer cycle, from u to w, whose vertices between the two have no chord; u and w are adjacent, by a chord or the base.
-pub record IsRemovableStretch (lists : Lists) (s t : ℕ) (ws front : List ℕ) (u : ℕ) (between : List ℕ) (w : ℕ) (back : List ℕ) : Type 0 where
-  pub parts : ws ≡ front ++ (u ∷ between ++ w ∷ back)
-  pub some : 0 < length between
-  pub chord : HasDart lists u w
-  pub removable : (v : ℕ) → Contains between v → IsRemovable lists s t ws v

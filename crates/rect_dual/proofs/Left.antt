@@ -6,17 +6,23 @@ use Rattle.contour_runs.specs.Laws.{IsStage}
 use Rattle.contour_runs.proofs.Stages.{IsStage-run, IsRun-less, count-stage_after}
 use Rattle.rect_runs.specs.Labels.{labels, IsLabelledRun}
 use Rattle.rect_runs.specs.Numbers.{shifted, with_new, numbers, new_x, x_after, turn_of, turns_at_run, rise_turns}
-use Rattle.rect_runs.specs.Laws.{IsNumbered, IsPut}
 use Rattle.rect_runs.proofs.Edges.{IsTurn}
 use Rattle.rect_runs.proofs.Steps.{with_new-older, with_new-new, x_after-run-older, x_after-run-new, x_after-rise-older, x_after-rise-new, turn-step, numbers_fit, steps_fit}
 use Rattle.rect_dual.specs.Lines.{AreLines}
 use Rattle.rect_dual.proofs.Lines.{AreLines-same}
-use Rattle.rect_runs.specs.Leads.{AreLeftAfter}
-use Rattle.rect_runs.proofs.Left.{left_after, left_is_greatest}
+use Rattle.rect_runs.proofs.Left.{left_after, left_is_greatest, IsNumbered, IsPut, AreLeftAfter}
 use Rattle.rect_runs.proofs.Room.{left_room, new_left}
 use Rattle.rect_dual.specs.Ways.{is_marked, IsWay, IsFirstAlong}
-use Rattle.rect_dual.specs.States.{IsAt, IsLeftState}
+use Rattle.rect_dual.specs.States.{IsLeftState}
 use Rattle.rect_dual.proofs.Links.{same_place, IsLinkedBack-more}
+
+-- The step k puts z over a row of the contour from `first` to `last`, and `at` stands at this place of the contour.
+pub record IsAt (steps : ℕ → Step) (k place first at last z : ℕ) (run : Bool) : Type 0 where
+  pub first_is : first ≡ (stage_after steps k).vertex (steps k).first
+  pub at_is : at ≡ (stage_after steps k).vertex place
+  pub last_is : last ≡ (stage_after steps k).vertex (steps k).last
+  pub new_is : z ≡ k + 2
+  pub run_is : run ≡ turns_at_run steps k
 
 -- lines by other names of their numbers
 pub AreLines-named : (f f' : ℕ → ℕ) (m m' q q' first : ℕ) (lines next : List ℕ) → m ≡ m' → q ≡ q' → ((v : ℕ) → v < m → f v ≡ f' v) → AreLines f m q first lines next → AreLines f' m' q' first lines next

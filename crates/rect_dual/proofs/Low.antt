@@ -6,13 +6,13 @@ use Rattle.rect_runs.specs.Labels.{labels, IsLabelledRun}
 use Rattle.rect_runs.specs.Numbers.{shifted, with_new, numbers, new_y, y_after, turn_of, turns_at_run, run_turns}
 use Rattle.rect_runs.proofs.Steps.{with_new-older, with_new-new, y_after-run-older, y_after-run-new, y_after-rise-older, y_after-rise-new}
 use Rattle.rect_dual.specs.Lines.{AreLines}
-use Rattle.rect_runs.specs.Leads.{AreLowerAfter}
+use Rattle.rect_runs.proofs.Left.{AreLowerAfter}
 use Rattle.rect_runs.proofs.Lower.{lower_after, lower_is_greatest}
 use Rattle.rect_runs.proofs.Room.{lower_room, new_lower}
 use Rattle.rect_dual.specs.Ways.{is_marked, IsWay, IsFirstAlong}
-use Rattle.rect_dual.specs.States.{IsAt, IsLowState}
+use Rattle.rect_dual.specs.States.{IsLowState}
 use Rattle.rect_dual.proofs.Links.{same_place, IsLinked-more}
-use Rattle.rect_dual.proofs.Left.{AreLines-named, stage, step, count, numbered, put, wide}
+use Rattle.rect_dual.proofs.Left.{AreLines-named, stage, step, count, numbered, put, wide, IsAt}
 
 module _ (steps : ℕ → Step) (n k : ℕ) (h : IsLabelledRun steps n) (l : k < n) where
   abbrev g : Stage

@@ -5,10 +5,15 @@ use Rattle.std.proofs.lemmas.Bool.{cases_Bool, cond-true, cond-false}
 use Rattle.contour_runs.specs.Runs.{Step, stage_after}
 use Rattle.rect_runs.specs.Numbers.{turns_at_run, rise_turns, run_turns}
 use Rattle.order_drawings.specs.Rows.{IsRow}
-use Rattle.rect_dual.specs.States.{IsAt}
-use Rattle.rect_dual.specs.SidesOfBoxes.{gets_line, second_line, line_count}
+use Rattle.rect_dual.proofs.Left.{IsAt}
+use Rattle.rect_dual.specs.SidesOfBoxes.{gets_line, second_line}
 use Rattle.rect_dual.specs.declared.side.Side.{Side}
 use Rattle.rect_dual.specs.declared.side.Side.TheVariants.{Left, Low}
+
+-- how many lines there are after k steps
+abbrev pub line_count : Side → (ℕ → Step) → ℕ → ℕ
+line_count Left steps k = suc (rise_turns steps k)
+line_count Low steps k = suc (suc (run_turns steps k))
 
 -- the vertices of a row at which a step looks, of which one is that behind the turn, or that at it
 pub IsAt-row : (steps : ℕ → Step) (k : ℕ) (row : List ℕ) → IsRow (stage_after steps k) (steps k) row → (i place : ℕ) → (steps k).first + i ≡ place → i < length row → (z : ℕ) → z ≡ k + 2 → (run : Bool) → run ≡ turns_at_run steps k → IsAt steps k place (get_or row 0 0) (get_or row i 0) (get_or row (length row - 1) 0) z run

@@ -8,11 +8,12 @@ use Rattle.rect_runs.specs.Numbers.{numbers, turn_of, turns_at_run, rise_turns, 
 use Rattle.order_drawings.specs.Rows.{IsRow}
 use Rattle.rect_dual.specs.Lines.{AreLines}
 use Rattle.rect_dual.specs.Ways.{is_marked}
-use Rattle.rect_dual.specs.States.{IsAt, IsPutOver, IsLeftState, IsLowState}
-use Rattle.rect_dual.specs.SidesOfBoxes.{gets_line, place_in, second_line, line_count, number_of, IsSideState}
+use Rattle.rect_dual.specs.States.{IsPutOver, IsLeftState, IsLowState}
+use Rattle.rect_dual.proofs.Left.{IsAt}
+use Rattle.rect_dual.specs.SidesOfBoxes.{gets_line, place_in, second_line, number_of, IsSideState}
 use Rattle.rect_dual.specs.declared.side.Side.{Side}
 use Rattle.rect_dual.specs.declared.side.Side.TheVariants.{Left, Low}
-use Rattle.rect_dual.proofs.RectNumbersRows.{IsAt-row}
+use Rattle.rect_dual.proofs.RectNumbersRows.{IsAt-row, line_count}
 use Rattle.rect_dual.proofs.Begin.{IsLeftState-begin, IsLowState-begin}
 use Rattle.rect_dual.proofs.Left as left
 use Rattle.rect_dual.proofs.Low as low

@@ -14,7 +14,13 @@ use Rattle.rect_runs.proofs.Edges.{IsFirstRun, IsFirstRun-first_run, cases_edge}
 use Rattle.canon_order.specs.Marks.{is_set}
 use Rattle.canon_order.proofs.Marks.{is_set-here, is_set-other}
 use Rattle.order_drawings.specs.Rows.{IsRow, AreRows}
-use Rattle.rect_dual.specs.Turns.{IsTurnIn, IsTurned}
+use Rattle.rect_dual.specs.Turns.{IsTurnIn, AreTurns}
+
+-- The turns of the first k steps are known, and for each vertex of the contour but the last whether the edge behind it is a run.
+pub record IsTurned (steps : ℕ → Step) (k : ℕ) (runs : List Bool) (places : List ℕ) (at_runs : List Bool) : Type 0 where
+  pub turns : AreTurns steps k places at_runs
+  pub labels_are : (i : ℕ) → suc i < (stage_after steps k).width → is_set runs ((stage_after steps k).vertex i) ≡ labels steps k i
+  pub fresh : (v : ℕ) → k + 2 ≤ v → is_set runs v ≡ false
 
 -- there is one first run
 one_first_run : (label : ℕ → Bool) (i d c c' : ℕ) → IsFirstRun label i d c → IsFirstRun label i d c' → c ≡ c'

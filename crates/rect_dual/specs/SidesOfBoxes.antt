@@ -1,7 +1,7 @@
 -- The left and the lower sides of the boxes of a run, by one name each.
-use Rattle.std.specs.Prelude.{ℕ, suc, Bool, not, ◌+◌, ◌<◌, ◌≡◌, List, slice_index}
+use Rattle.std.specs.Prelude.{ℕ, Bool, not, ◌+◌, ◌<◌, ◌≡◌, List, slice_index}
 use Rattle.contour_runs.specs.Runs.{Step}
-use Rattle.rect_runs.specs.Numbers.{Numbers, numbers, rise_turns, run_turns}
+use Rattle.rect_runs.specs.Numbers.{Numbers, numbers}
 use Rattle.rect_dual.specs.States.{IsLeftState, IsLowState}
 use Rattle.rect_dual.specs.declared.side.Side.{Side}
 use Rattle.rect_dual.specs.declared.side.Side.TheVariants.{Left, Low}
@@ -25,11 +25,6 @@ place_in Low c = c
 abbrev pub second_line : Side → ℕ
 second_line Left = 0
 second_line Low = 1
-
--- how many lines there are after k steps
-abbrev pub line_count : Side → (ℕ → Step) → ℕ → ℕ
-line_count Left steps k = suc (rise_turns steps k)
-line_count Low steps k = suc (suc (run_turns steps k))
 
 -- what is kept after k of n steps
 abbrev pub IsSideState : Side → (ℕ → Step) → ℕ → ℕ → (lines next links : List ℕ) → (leads : List Bool) → Type 0

@@ -1,7 +1,7 @@
 -- What is kept of a rectangular run while its vertices get lines.
 use Rattle.std.specs.Prelude.{ℕ, suc, ◌+◌, ◌<◌, ◌≤◌, ◌≡◌, ◌≢◌, ◌⊎◌, Bool, true, false, List, length, slice_index, slice_set}
 use Rattle.contour_runs.specs.Runs.{Step, Stage, stage_after}
-use Rattle.rect_runs.specs.Numbers.{shifted, with_new, numbers, turns_at_run, rise_turns, run_turns}
+use Rattle.rect_runs.specs.Numbers.{shifted, with_new, numbers, rise_turns, run_turns}
 use Rattle.rect_dual.specs.Lines.{AreLines}
 use Rattle.rect_runs.specs.Leads.{AreLeft, AreLower}
 use Rattle.rect_dual.specs.Ways.{is_marked, IsWay, IsFirstAlong}
@@ -13,14 +13,6 @@ IsLinked g behind = (i : ℕ) → suc i < g.width → slice_index behind (g.vert
 -- each but the first names the one before it
 abbrev pub IsLinkedBack : Stage → List ℕ → Type 0
 IsLinkedBack g before = (i : ℕ) → suc i < g.width → slice_index before (g.vertex (suc i)) ≡ g.vertex i
-
--- The step k puts z over a row of the contour from `first` to `last`, and `at` stands at this place of the contour.
-pub record IsAt (steps : ℕ → Step) (k place first at last z : ℕ) (run : Bool) : Type 0 where
-  pub first_is : first ≡ (stage_after steps k).vertex (steps k).first
-  pub at_is : at ≡ (stage_after steps k).vertex place
-  pub last_is : last ≡ (stage_after steps k).vertex (steps k).last
-  pub new_is : z ≡ k + 2
-  pub run_is : run ≡ turns_at_run steps k
 
 -- After k of n steps: the left sides have these lines, the contour is linked backwards, and of its vertices those are marked that lead by the numbers after all n steps.
 pub record IsLeftState (steps : ℕ → Step) (n k : ℕ) (lines next before : List ℕ) (leads : List Bool) : Type 0 where

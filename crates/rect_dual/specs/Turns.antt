@@ -1,7 +1,6 @@
 -- The turns of a run as tables, and what is kept while they are filled.
-use Rattle.std.specs.Prelude.{ℕ, suc, ◌+◌, ◌<◌, ◌≤◌, ◌≡◌, ◌⊎◌, Bool, true, false, List, length, slice_index}
-use Rattle.contour_runs.specs.Runs.{Step, stage_after}
-use Rattle.rect_runs.specs.Labels.{labels}
+use Rattle.std.specs.Prelude.{ℕ, ◌+◌, ◌<◌, ◌≤◌, ◌≡◌, ◌⊎◌, Bool, true, false, List, length, slice_index}
+use Rattle.contour_runs.specs.Runs.{Step}
 use Rattle.rect_runs.specs.Numbers.{turn_of, turns_at_run}
 use Rattle.canon_order.specs.Marks.{is_set}
 
@@ -17,9 +16,3 @@ pub record AreTurns (steps : ℕ → Step) (n : ℕ) (places : List ℕ) (at_run
   pub count_runs : length at_runs ≡ n
   pub place : (k : ℕ) → k < n → (steps k).first + slice_index places k ≡ turn_of steps k
   pub run : (k : ℕ) → k < n → is_set at_runs k ≡ turns_at_run steps k
-
--- The turns of the first k steps are known, and for each vertex of the contour but the last whether the edge behind it is a run.
-pub record IsTurned (steps : ℕ → Step) (k : ℕ) (runs : List Bool) (places : List ℕ) (at_runs : List Bool) : Type 0 where
-  pub turns : AreTurns steps k places at_runs
-  pub labels_are : (i : ℕ) → suc i < (stage_after steps k).width → is_set runs ((stage_after steps k).vertex i) ≡ labels steps k i
-  pub fresh : (v : ℕ) → k + 2 ≤ v → is_set runs v ≡ false

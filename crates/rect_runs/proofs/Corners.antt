@@ -4,11 +4,39 @@ use Rattle.std.proofs.lemmas.Bool.{cases_lt, cases_eq, cases_Bool, cond-true, co
 use Rattle.contour_runs.specs.Runs.{Step, stage_after, IsCovered}
 use Rattle.rect_runs.specs.Labels.{labels, IsLabelledRun}
 use Rattle.rect_runs.specs.Numbers.{turn_of}
-use Rattle.rect_runs.specs.Corners.{End, run_in, rise_out, run_out, rise_in, next, Follows, at_earlier, at_later, at_older, at_new, AreCorners, HasRight, HasUpper}
+use Rattle.rect_runs.specs.Corners.{End, run_in, rise_out, run_out, rise_in, next, Follows, at_earlier, at_later, at_older, at_new, AreCorners}
 use Rattle.contour_runs.proofs.Stages.{IsStage-run, IsRun-less}
 use Rattle.rect_runs.proofs.Edges.{IsTurn}
 use Rattle.rect_runs.proofs.Parents.{parents}
 use Rattle.rect_runs.proofs.Steps.{turn-step}
+use Rattle.std.specs.Prelude.{◌+◌}
+
+-- One of the first n steps puts a vertex to the right of v, so that a run leaves v.
+pub record HasRight (steps : ℕ → Step) (n v : ℕ) : Type 0 where
+  pub step : ℕ
+  pub earlier : step < n
+  pub place : ℕ
+  pub low : (steps step).first ≤ place
+  pub high : place ≤ turn_of steps step
+  pub vertex : (stage_after steps step).vertex place ≡ v
+
+-- One of them puts a vertex above v, so that a rise leaves v.
+pub record HasUpper (steps : ℕ → Step) (n v : ℕ) : Type 0 where
+  pub step : ℕ
+  pub earlier : step < n
+  pub place : ℕ
+  pub low : turn_of steps step < place
+  pub high : place ≤ (steps step).last
+  pub vertex : (stage_after steps step).vertex place ≡ v
+
+-- Each new vertex has a neighbour to the left and one below. Each inner vertex has one to the right and one above as well. The right vertex lies above the second of the base alone, and to the right of its other earlier neighbours; the top lies to the right of the first alone. The first vertex has no earlier place than the first, the second no other than the last, so that only runs leave the one, and only rises the other.
+pub record IsFrameLabelling (steps : ℕ → Step) (n : ℕ) : Type 0 where
+  pub entering : (k : ℕ) → k < suc n → ((steps k).first ≤ turn_of steps k) × (turn_of steps k < (steps k).last)
+  pub inner : (v : ℕ) → 2 ≤ v → v < n + 1 → HasRight steps (suc n) v × HasUpper steps (suc n) v
+  pub right : (k : ℕ) → suc k ≡ n → suc (turn_of steps k) ≡ (steps k).last
+  pub top : turn_of steps n ≡ 0
+  pub first : (k i : ℕ) → k ≤ n → i < (stage_after steps k).width → (stage_after steps k).vertex i ≡ 0 → i ≡ 0
+  pub second : (k i : ℕ) → k ≤ n → i < (stage_after steps k).width → (stage_after steps k).vertex i ≡ 1 → suc i ≡ (stage_after steps k).width
 
 earlier-run : (b : Bool) → b ≡ true → at_earlier b ≡ run_out
 unfolding at_earlier

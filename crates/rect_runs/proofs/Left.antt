@@ -4,11 +4,44 @@ use Rattle.std.proofs.lemmas.Bool.{cases_eq, cases_lt, cases_Bool, both_ways}
 use Rattle.contour_runs.specs.Runs.{Step, Stage, IsStep, after, vertex_after}
 use Rattle.contour_runs.specs.Laws.{IsStage}
 use Rattle.contour_runs.proofs.Places.{cases_place, vertex_after-low, vertex_after-new, vertex_after-high}
-use Rattle.rect_runs.specs.Labels.{turn}
+use Rattle.rect_runs.specs.Labels.{turn, IsSorted}
 use Rattle.rect_runs.specs.Numbers.{Numbers}
-use Rattle.rect_runs.specs.Laws.{IsNumbered, IsPut}
 use Rattle.rect_runs.proofs.Edges.{IsTurn, IsTurn-within, IsTurn-turn}
-use Rattle.rect_runs.specs.Leads.{AreLeft, AreLeftAfter, MakesRoom, LeftAfter, LeftIsGreatest}
+use Rattle.rect_runs.specs.Leads.{AreLeft}
+
+-- the marks after a step with its turn at c: the new vertex leads, and the last one of the row no more where it stands directly behind the turn
+pub record AreLeftAfter (g : Stage) (s : Step) (c : ℕ) (lead lead' : ℕ → Bool) : Type 0 where
+  pub new : lead' g.count ≡ true
+  pub end : suc c ≡ s.last → lead' (g.vertex s.last) ≡ false
+  pub others : (j : ℕ) → j < g.width → (suc c ≢ s.last) ⊎ (j ≢ s.last) → lead' (g.vertex j) ≡ lead (g.vertex j)
+
+-- what has a greater x than all up to the place behind the turn has a greater one than the new vertex too
+abbrev pub MakesRoom : Stage → ℕ → (ℕ → ℕ) → Type 0
+MakesRoom g c x = (v : ℕ) → v < g.count → ((j : ℕ) → j ≤ suc c → x (g.vertex j) < x v) → x g.count < x v
+
+-- the new vertex leads, and the first one of the row no more where it stands at the turn
+pub record AreLowerAfter (g : Stage) (s : Step) (c : ℕ) (lead lead' : ℕ → Bool) : Type 0 where
+  pub new : lead' g.count ≡ true
+  pub end : c ≡ s.first → lead' (g.vertex s.first) ≡ false
+  pub others : (j : ℕ) → j < g.width → (c ≢ s.first) ⊎ (j ≢ s.first) → lead' (g.vertex j) ≡ lead (g.vertex j)
+
+-- what has a greater y than all from the turn on has a greater one than the new vertex too
+abbrev pub MakesRoomBelow : Stage → ℕ → (ℕ → ℕ) → Type 0
+MakesRoomBelow g c y = (v : ℕ) → v < g.count → ((j : ℕ) → c ≤ j → j < g.width → y (g.vertex j) < y v) → y g.count < y v
+
+-- What is behind a run has a greater x than all up to the run; what is before a rise has a greater y than all behind it.
+pub record IsNumbered (g : Stage) (label : ℕ → Bool) (at : Numbers) : Type 0 where
+  pub run : (i j : ℕ) → suc i < g.width → label i ≡ true → j ≤ i → at.x (g.vertex j) < at.x (g.vertex (suc i))
+  pub rise : (i j : ℕ) → j < g.width → label i ≡ false → i < j → at.y (g.vertex j) < at.y (g.vertex i)
+
+-- Where a step with its turn at c puts a vertex z. All up to the turn lie to the left of its left side, all behind the turn below its lower side. What is before a rise up to the turn begins above that lower side, what is behind a run past the turn begins to the right of that left side. At a rise z stands level with the vertex at the turn, and that behind it begins to the left; at a run z begins with the vertex behind the turn, and that at the turn begins below.
+pub record IsPut (g : Stage) (label : ℕ → Bool) (c z : ℕ) (at : Numbers) : Type 0 where
+  pub left : (j : ℕ) → j ≤ c → at.x (g.vertex j) < at.x z
+  pub below : (j : ℕ) → c < j → j < g.width → at.y (g.vertex j) < at.y z
+  pub under : (j : ℕ) → j < c → label j ≡ false → at.y z < at.y (g.vertex j)
+  pub before : (i : ℕ) → c < i → suc i < g.width → label i ≡ true → at.x z < at.x (g.vertex (suc i))
+  pub at_rise : label c ≡ false → (at.x (g.vertex (suc c)) < at.x z) × (at.y z ≡ at.y (g.vertex c))
+  pub at_run : label c ≡ true → (at.y (g.vertex c) < at.y z) × (at.x z ≡ at.x (g.vertex (suc c)))
 
 module _ (g : Stage) (s : Step) (label : ℕ → Bool) (c : ℕ) (at : Numbers) (lead lead' : ℕ → Bool) (stage : IsStage g) (step : IsStep g s) (turns : IsTurn label s c) (numbered : IsNumbered g label at) (put : IsPut g label c g.count at) (room : label c ≡ false → MakesRoom g c at.x) (marks : AreLeftAfter g s c lead lead') (h : AreLeft g at.x lead) where
   abbrev x : ℕ → ℕ
@@ -129,7 +162,7 @@ module _ (g : Stage) (s : Step) (label : ℕ → Bool) (c : ℕ) (at : Numbers) 
   pub AreLeft-after : AreLeft (after g s) at.x lead'
   AreLeft-after = record { yes = yes; no = no }
 
-pub left_after : LeftAfter
+pub left_after : (g : Stage) (s : Step) (label : ℕ → Bool) (at : Numbers) (lead lead' : ℕ → Bool) → IsStage g → IsStep g s → IsSorted label s → IsNumbered g label at → IsPut g label (turn label s) g.count at → (label (turn label s) ≡ false → MakesRoom g (turn label s) at.x) → AreLeftAfter g s (turn label s) lead lead' → AreLeft g at.x lead → AreLeft (after g s) at.x lead'
 left_after g s label at lead lead' stage step sorted numbered put room marks h =
     AreLeft-after g s label (turn label s) at lead lead' stage step (IsTurn-turn label s step.order sorted) numbered put room marks h
 
@@ -147,7 +180,8 @@ greatest g x lead h j (suc d) w t none k l = elim (cases_lt k (j + suc d)) [
       omega (arith, q.2, p)
 ]
 
-pub left_is_greatest : LeftIsGreatest
+-- The nearest marked vertex at or before a place has the greatest number up to there.
+pub left_is_greatest : (g : Stage) (x : ℕ → ℕ) (lead : ℕ → Bool) (i : ℕ) → AreLeft g x lead → (j : ℕ) → i < g.width → j ≤ i → lead (g.vertex j) ≡ true → ((k : ℕ) → j < k → k ≤ i → lead (g.vertex k) ≡ false) → (k : ℕ) → k ≤ i → x (g.vertex k) ≤ x (g.vertex j)
 left_is_greatest g x lead i h j w l t none k m =
     let e : j + (i - j) ≡ i = omega arith in
     greatest g x lead h j (i - j) (omega arith) t (λ k a b. none k a (omega arith)) k (omega arith)

@@ -4,11 +4,11 @@ use Rattle.std.proofs.lemmas.Bool.{cases_eq, cases_lt, cases_Bool, both_ways}
 use Rattle.contour_runs.specs.Runs.{Step, Stage, IsStep, after, vertex_after}
 use Rattle.contour_runs.specs.Laws.{IsStage}
 use Rattle.contour_runs.proofs.Places.{cases_place, vertex_after-low, vertex_after-new, vertex_after-high}
-use Rattle.rect_runs.specs.Labels.{turn}
+use Rattle.rect_runs.specs.Labels.{turn, IsSorted}
 use Rattle.rect_runs.specs.Numbers.{Numbers}
-use Rattle.rect_runs.specs.Laws.{IsNumbered, IsPut}
+use Rattle.rect_runs.proofs.Left.{IsNumbered, IsPut, AreLowerAfter, MakesRoomBelow}
 use Rattle.rect_runs.proofs.Edges.{IsTurn, IsTurn-within, IsTurn-turn}
-use Rattle.rect_runs.specs.Leads.{AreLower, AreLowerAfter, MakesRoomBelow, LowerAfter, LowerIsGreatest}
+use Rattle.rect_runs.specs.Leads.{AreLower}
 
 module _ (g : Stage) (s : Step) (label : ℕ → Bool) (c : ℕ) (at : Numbers) (lead lead' : ℕ → Bool) (stage : IsStage g) (step : IsStep g s) (turns : IsTurn label s c) (numbered : IsNumbered g label at) (put : IsPut g label c g.count at) (room : label c ≡ true → MakesRoomBelow g c at.y) (marks : AreLowerAfter g s c lead lead') (h : AreLower g at.y lead) where
   abbrev y : ℕ → ℕ
@@ -137,7 +137,7 @@ module _ (g : Stage) (s : Step) (label : ℕ → Bool) (c : ℕ) (at : Numbers) 
   pub AreLower-after : AreLower (after g s) at.y lead'
   AreLower-after = record { yes = yes; no = no }
 
-pub lower_after : LowerAfter
+pub lower_after : (g : Stage) (s : Step) (label : ℕ → Bool) (at : Numbers) (lead lead' : ℕ → Bool) → IsStage g → IsStep g s → IsSorted label s → IsNumbered g label at → IsPut g label (turn label s) g.count at → (label (turn label s) ≡ true → MakesRoomBelow g (turn label s) at.y) → AreLowerAfter g s (turn label s) lead lead' → AreLower g at.y lead → AreLower (after g s) at.y lead'
 lower_after g s label at lead lead' stage step sorted numbered put room marks h =
     AreLower-after g s label (turn label s) at lead lead' stage step (IsTurn-turn label s step.order sorted) numbered put room marks h
 
@@ -155,6 +155,7 @@ greatest g y lead h i j (suc d) e w t none k l m = elim (cases_lt i k) [
       omega (arith, q.3, p)
 ]
 
-pub lower_is_greatest : LowerIsGreatest
+-- The nearest marked vertex at or behind a place has the greatest number from there on.
+pub lower_is_greatest : (g : Stage) (y : ℕ → ℕ) (lead : ℕ → Bool) (i : ℕ) → AreLower g y lead → (j : ℕ) → j < g.width → i ≤ j → lead (g.vertex j) ≡ true → ((k : ℕ) → i ≤ k → k < j → lead (g.vertex k) ≡ false) → (k : ℕ) → i ≤ k → k < g.width → y (g.vertex k) ≤ y (g.vertex j)
 lower_is_greatest g y lead i h j w l t none k m b =
     let e : i + (j - i) ≡ j = omega arith in greatest g y lead h i j (j - i) e w t none k m b

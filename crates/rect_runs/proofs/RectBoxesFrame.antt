@@ -6,11 +6,9 @@ use Rattle.contour_runs.specs.Laws.{IsStage}
 use Rattle.contour_runs.proofs.Places.{vertex_after-new, vertex_after-high}
 use Rattle.contour_runs.proofs.Stages.{IsStage-run, IsRun-less, count-stage_after, stands_or_covered}
 use Rattle.rect_runs.specs.Numbers.{turn_of}
-use Rattle.rect_runs.specs.Corners.{HasRight, HasUpper}
 use Rattle.rect_runs.proofs.Steps.{turn-step}
-use Rattle.rect_runs.proofs.Corners.{covered_leaves}
+use Rattle.rect_runs.proofs.Corners.{covered_leaves, IsFrameLabelling, HasRight, HasUpper}
 use Rattle.rect_runs.specs.Boxes.{IsRectRun}
-use Rattle.rect_runs.specs.Frame.{IsFrameLabelling}
 use Rattle.rect_runs.proofs.RectBoxesEnds.{closed, last_turn}
 
 module _ (steps : ℕ → Step) (n : ℕ) (h : IsRectRun steps n) where

@@ -7,9 +7,8 @@ use Rattle.rect_runs.specs.Labels.{labels, IsLabelledRun}
 use Rattle.rect_runs.specs.Numbers.{turn_of}
 use Rattle.rect_runs.specs.Corners.{End, run_in, rise_out, run_out, rise_in, at_earlier, at_later, at_older, at_new, AreCorners}
 use Rattle.rect_runs.specs.Later.{StandsOver}
-use Rattle.rect_runs.specs.Parents.{IsFirstUnder, IsLastUnder, AreParents}
 use Rattle.rect_runs.proofs.Corners.{corners_follow}
-use Rattle.rect_runs.proofs.Parents.{parents}
+use Rattle.rect_runs.proofs.Parents.{parents, IsFirstUnder, IsLastUnder, AreParents}
 use Rattle.rect_runs.proofs.Steps.{turn-step}
 use Rattle.rect_runs.specs.Ends.{IsEndAt, IsCorner, CornersOfFaces, OneEnd, EndsAgree, other_end}
 

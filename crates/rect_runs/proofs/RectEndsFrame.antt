@@ -8,7 +8,7 @@ use Rattle.rect_runs.specs.Numbers.{turn_of}
 use Rattle.rect_runs.specs.Corners.{End, run_in, rise_out, run_out, rise_in, at_older, at_new}
 use Rattle.rect_runs.specs.Later.{StandsOver}
 use Rattle.rect_runs.specs.Boxes.{IsRectRun}
-use Rattle.rect_runs.specs.Frame.{IsFrameLabelling}
+use Rattle.rect_runs.proofs.Corners.{IsFrameLabelling}
 use Rattle.rect_runs.proofs.RectBoxesFrame.{labelling}
 use Rattle.rect_runs.specs.Ends.{IsEndAt, FrameEnds}
 

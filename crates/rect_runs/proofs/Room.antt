@@ -7,7 +7,7 @@ use Rattle.contour_runs.proofs.Stages.{IsStage-run, IsRun-less, count-stage_afte
 use Rattle.rect_runs.specs.Labels.{IsLabelledRun}
 use Rattle.rect_runs.specs.Numbers.{numbers, new_x, new_y, turn_of, turns_at_run}
 use Rattle.rect_runs.proofs.Steps.{past-lt, past-le, shifted-high, KeepsOrder, kept, turn-step, x_after-rise-older, x_after-rise-new, y_after-run-older, y_after-run-new}
-use Rattle.rect_runs.specs.Leads.{MakesRoom, MakesRoomBelow, LeftRoom, NewLeft, LowerRoom, NewLower}
+use Rattle.rect_runs.proofs.Left.{MakesRoom, MakesRoomBelow}
 
 -- what keeps order is read back
 back : (m : ℕ) (f h : ℕ → ℕ) → KeepsOrder m f h → (u v : ℕ) → u < m → v < m → h u < h v → f u < f v
@@ -83,14 +83,16 @@ module _ (steps : ℕ → Step) (k n : ℕ) (h : IsLabelledRun steps n) (l : k <
       ]) in
       omega (arith, low, high, ap (λ i. y (g.vertex i)) z)
 
-pub left_room : LeftRoom
+-- The final numbers make room at each turn at a rise, and the number of the new line is one more than that of a vertex which is the greatest in final numbers.
+pub left_room : (steps : ℕ → Step) (k n : ℕ) → IsLabelledRun steps n → k < n → turns_at_run steps k ≡ false → MakesRoom (stage_after steps k) (turn_of steps k) (numbers steps n).x
 left_room steps k n h l e = room_x steps k n h l e
 
-pub new_left : NewLeft
+pub new_left : (steps : ℕ → Step) (k n j : ℕ) → IsLabelledRun steps n → k < n → j ≤ suc (turn_of steps k) → ((i : ℕ) → i ≤ suc (turn_of steps k) → (numbers steps n).x ((stage_after steps k).vertex i) ≤ (numbers steps n).x ((stage_after steps k).vertex j)) → new_x (stage_after steps k) (turn_of steps k) (numbers steps k).x ≡ suc ((numbers steps k).x ((stage_after steps k).vertex j))
 new_left steps k n j h l m all = new_x_is steps k n h l j m all
 
-pub lower_room : LowerRoom
+-- the same of lower sides, at each turn at a run
+pub lower_room : (steps : ℕ → Step) (k n : ℕ) → IsLabelledRun steps n → k < n → turns_at_run steps k ≡ true → MakesRoomBelow (stage_after steps k) (turn_of steps k) (numbers steps n).y
 lower_room steps k n h l e = room_y steps k n h l e
 
-pub new_lower : NewLower
+pub new_lower : (steps : ℕ → Step) (k n j : ℕ) → IsLabelledRun steps n → k < n → turn_of steps k ≤ j → j < (stage_after steps k).width → ((i : ℕ) → turn_of steps k ≤ i → i < (stage_after steps k).width → (numbers steps n).y ((stage_after steps k).vertex i) ≤ (numbers steps n).y ((stage_after steps k).vertex j)) → new_y (stage_after steps k) (turn_of steps k) (numbers steps k).y ≡ suc ((numbers steps k).y ((stage_after steps k).vertex j))
 new_lower steps k n j h l m b all = new_y_is steps k n h l j m b all

@@ -7,7 +7,7 @@ use Rattle.contour_runs.proofs.Places.{cases_place, vertex_after-low, vertex_aft
 use Rattle.contour_runs.proofs.Stages.{IsStage-run, IsRun-less, count-stage_after}
 use Rattle.rect_runs.specs.Labels.{labels, IsLabelledRun}
 use Rattle.rect_runs.specs.Numbers.{Numbers, turn_of}
-use Rattle.rect_runs.specs.Laws.{IsPut}
+use Rattle.rect_runs.proofs.Left.{IsPut}
 use Rattle.rect_runs.proofs.Edges.{IsTurn-within, cases_edge, labels_after-high, labels_after-low, labels_after-run}
 use Rattle.rect_runs.proofs.Steps.{turn-step}
 use Rattle.rect_runs.specs.Boxes.{stands_between, side_after, rights, highs}

@@ -7,7 +7,7 @@ use Rattle.contour_runs.proofs.Places.{vertex_after-low, vertex_after-new, verte
 use Rattle.contour_runs.proofs.Stages.{IsStage-run, IsRun-less, count-stage_after}
 use Rattle.rect_runs.specs.Labels.{labels_after, labels, IsLabelledRun}
 use Rattle.rect_runs.specs.Numbers.{Numbers, turn_of}
-use Rattle.rect_runs.specs.Laws.{IsNumbered, IsPut}
+use Rattle.rect_runs.proofs.Left.{IsNumbered, IsPut}
 use Rattle.rect_runs.proofs.Edges.{IsTurn, cases_edge, labels_after-low, labels_after-run, labels_after-rise, labels_after-high}
 use Rattle.rect_runs.proofs.Steps.{turn-step}
 use Rattle.rect_runs.specs.Boxes.{Boxes}

@@ -8,7 +8,7 @@ use Rattle.contour_runs.proofs.Upward.{upward}
 use Rattle.contour_runs.proofs.Stages.{IsStage-run, IsRun-less, count-stage_after}
 use Rattle.rect_runs.specs.Labels.{labels_after, labels, turn, IsSorted, IsLabelledRun}
 use Rattle.rect_runs.specs.Numbers.{past, shifted, with_new, Numbers, new_x, new_y, x_after, y_after, numbers_after, base_numbers, numbers, turn_of, turns_at_run, rise_turns, run_turns}
-use Rattle.rect_runs.specs.Laws.{IsNumbered, IsPut}
+use Rattle.rect_runs.proofs.Left.{IsNumbered, IsPut}
 use Rattle.rect_runs.proofs.Edges.{IsTurn, IsTurn-turn, cases_edge}
 
 -- one more than the greatest

@@ -6,7 +6,7 @@ use Rattle.contour_runs.specs.Runs.{Step, Stage, stage_after}
 use Rattle.contour_runs.proofs.Stages.{IsStage-run, IsRun-less, count-stage_after}
 use Rattle.rect_runs.specs.Labels.{labels, IsLabelledRun}
 use Rattle.rect_runs.specs.Numbers.{Numbers, numbers, turn_of}
-use Rattle.rect_runs.specs.Laws.{IsPut}
+use Rattle.rect_runs.proofs.Left.{IsPut}
 use Rattle.rect_runs.proofs.Steps.{numbers_fit, steps_fit, bounded, turn-step, with_new-older, with_new-new}
 use Rattle.rect_runs.specs.Boxes.{Boxes, lower_boxes, boxes, grid_width, ceiling, grid_height, IsRectRun}
 use Rattle.rect_runs.specs.Later.{StandsOver}

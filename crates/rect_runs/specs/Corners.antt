@@ -1,6 +1,6 @@
 -- How labels follow one another round a vertex.
 use Rattle.std.specs.Prelude.{ℕ, suc, ◌<◌, ◌≤◌, ◌≡◌, ◌⊎◌, nat_le, if◌then◌else◌, Bool}
-use Rattle.contour_runs.specs.Runs.{Step, stage_after}
+use Rattle.contour_runs.specs.Runs.{Step}
 use Rattle.rect_runs.specs.Labels.{labels, IsLabelledRun}
 use Rattle.rect_runs.specs.Numbers.{turn_of}
 
@@ -44,21 +44,3 @@ pub record AreCorners (run : Bool) (turn j : ℕ) : Type 0 where
 
 abbrev pub CornersFollow : Type 0
 CornersFollow = (steps : ℕ → Step) (k n j : ℕ) → IsLabelledRun steps n → k < n → (steps k).first ≤ j → j < (steps k).last → AreCorners (labels steps k j) (turn_of steps k) j
-
--- One of the first n steps puts a vertex to the right of v, so that a run leaves v.
-pub record HasRight (steps : ℕ → Step) (n v : ℕ) : Type 0 where
-  pub step : ℕ
-  pub earlier : step < n
-  pub place : ℕ
-  pub low : (steps step).first ≤ place
-  pub high : place ≤ turn_of steps step
-  pub vertex : (stage_after steps step).vertex place ≡ v
-
--- One of them puts a vertex above v, so that a rise leaves v.
-pub record HasUpper (steps : ℕ → Step) (n v : ℕ) : Type 0 where
-  pub step : ℕ
-  pub earlier : step < n
-  pub place : ℕ
-  pub low : turn_of steps step < place
-  pub high : place ≤ (steps step).last
-  pub vertex : (stage_after steps step).vertex place ≡ v

@@ -2,12 +2,9 @@
 pub mod Labels
 pub mod Numbers
 pub mod Corners
-pub mod Parents
 pub mod Later
-pub mod Laws
 -- Boxes over a run.
 pub mod Boxes
-pub mod Frame
 pub mod RectBoxesLaws
 -- Leading vertices of the contour.
 pub mod Leads

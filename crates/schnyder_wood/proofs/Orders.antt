@@ -9,8 +9,7 @@ use Rattle.contour_runs.specs.Runs.{Step}
 use Rattle.contour_runs.proofs.Stages.{IsCovered-own}
 use Rattle.order_drawings.specs.OrderRuns.{IsOrderRun}
 use Rattle.wood_runs.specs.Parents.{Colour, one, two, three, IsParent}
-use Rattle.wood_runs.specs.Rules.{LeadsAway}
-use Rattle.wood_runs.proofs.ParentLemmas.{leads_away, three_parents}
+use Rattle.wood_runs.proofs.ParentLemmas.{leads_away, three_parents, LeadsAway}
 use Rattle.wood_laws.specs.Woods.{root, IsInner, IsWood, AreParentsOf, WoodOfOrder}
 use Rattle.order_drawings.proofs.OrderLemmas.{ranks_within}
 use Rattle.schnyder_wood.specs.Parents.{by_colour, Parents, count_in, root_in, parent_in, IsInnerIn, IsRooted, IsWoodOf}

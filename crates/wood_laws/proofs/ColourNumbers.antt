@@ -1,7 +1,8 @@
 -- Colours, their numbers and their roots.
 use Rattle.std.proofs.Common.{◌≡◌, ◌≢◌, ◌⊎◌, ℕ, ◌<◌, false, not, eqb, refl, sym, ap, ◌∙◌, inl, inr, arith, ne_eqb}
 use Rattle.wood_runs.specs.Parents.{Colour, one, two, three, next, previous}
-use Rattle.wood_runs.specs.Edges.{number, IsOuter}
+use Rattle.wood_runs.specs.Edges.{number}
+use Rattle.wood_runs.proofs.Crossing.{IsOuter}
 
 pub number_some : (c : Colour) → 0 < number c
 number_some one = omega arith

@@ -16,8 +16,9 @@ use Rattle.order_drawings.specs.OrderRuns.{IsOrderRun}
 use Rattle.wood_runs.specs.Parents.{Colour, one, two, three, previous}
 use Rattle.wood_laws.specs.Woods.{root, LeadsBy, AreParentsOf}
 use Rattle.wood_laws.proofs.WoodLemmas.{size, some, once, wood_of_order}
-use Rattle.wood_runs.specs.Sides.{paths, sides}
-use Rattle.wood_runs.specs.Edges.{number, root_at, IsInside}
+use Rattle.wood_runs.proofs.Sides.{paths, sides}
+use Rattle.wood_runs.specs.Edges.{number}
+use Rattle.wood_runs.proofs.Crossing.{root_at, IsInside}
 use Rattle.wood_runs.proofs.Walks.{goes_on, root_alone}
 use Rattle.wood_runs.proofs.Sided.{IsSided-run}
 use Rattle.wood_runs.proofs.Counts.{counts_run, counts_all}

@@ -4,8 +4,9 @@ use Rattle.contour_runs.specs.Runs.{Step, Stage, stage_after, IsRun}
 use Rattle.contour_runs.proofs.Stages.{IsStage-run, IsRun-less, IsCovered-own}
 use Rattle.wood_runs.specs.Parents.{Colour, one, two, three, next, previous, IsParent, IsParentOne, IsParentTwo, IsParentThree}
 use Rattle.wood_runs.proofs.ParentLemmas.{leads_away, differ}
-use Rattle.wood_runs.specs.Sides.{paths}
-use Rattle.wood_runs.specs.Edges.{number, root_at, Crosses, IsOuter, IsInside, IsCrossing, out, into, around, within}
+use Rattle.wood_runs.proofs.Sides.{paths}
+use Rattle.wood_runs.specs.Edges.{number}
+use Rattle.wood_runs.proofs.Crossing.{root_at, Crosses, IsOuter, IsInside, IsCrossing, out, into, around, within}
 use Rattle.wood_laws.proofs.ColourNumbers.{cases_colour, outer_same, outer_one_way}
 
 module _ (steps : ℕ → Step) (n : ℕ) (run : IsRun steps n) (end : (stage_after steps n).width ≡ 3) (v : ℕ) where

@@ -15,13 +15,13 @@ use Rattle.contour_runs.specs.Runs.{Step, IsFaceOf, IsDartOf}
 use Rattle.contour_runs.proofs.Stages.{IsStage-run, IsRun-less, count-stage_after}
 use Rattle.order_drawings.specs.OrderRuns.{IsOrderRun}
 use Rattle.wood_runs.specs.Parents.{Colour, one, two, three, next, previous, IsParent}
-use Rattle.wood_runs.specs.Rules.{HasOneParent, LeadsAway}
-use Rattle.wood_runs.proofs.ParentLemmas.{leads_away, own_root}
+use Rattle.wood_runs.proofs.ParentLemmas.{leads_away, own_root, HasOneParent, LeadsAway}
 use Rattle.wood_laws.specs.Woods.{root, IsInner, LeadsBy, AreParentsOf}
 use Rattle.wood_laws.proofs.WoodLemmas.{size, some, root_one, root_two, root_three, edges, once, ranked, inner_at, has_one, parent_is, rank_small, face_at, to_top, from_top}
 use Rattle.wood_runs.specs.Fronts.{shades, IsOn}
-use Rattle.wood_runs.specs.Sides.{paths}
-use Rattle.wood_runs.specs.Edges.{number, root_at, Crosses, IsOuter, HasShade, made, outer, IsInside, IsCrossing, out, into, around, within}
+use Rattle.wood_runs.proofs.Sides.{paths}
+use Rattle.wood_runs.specs.Edges.{number}
+use Rattle.wood_runs.proofs.Crossing.{root_at, Crosses, IsOuter, HasShade, IsInside, IsCrossing, made, outer, out, into, around, within}
 use Rattle.wood_runs.specs.Laws.{IsInShade}
 use Rattle.wood_runs.proofs.Darts.{HasTwin, has_twin, one_shade, on_dart, all_made}
 use Rattle.wood_runs.proofs.Edges.{corners_on}

@@ -14,8 +14,8 @@ use Rattle.contour_runs.specs.Laws.{IsStage}
 use Rattle.contour_runs.proofs.Stages.{IsStage-run, IsRun-less, count-stage_after, IsCovered-own}
 use Rattle.order_drawings.specs.OrderRuns.{IsOrderRun}
 use Rattle.wood_runs.specs.Parents.{Colour, one, two, three, IsParent, End, out, into, IsEnd}
-use Rattle.wood_runs.specs.Rules.{HasOneParent, LeadsAway, IsOwnRoot, IsOrdered}
-use Rattle.wood_runs.proofs.ParentLemmas.{leads_away, own_root, differ, three_parents}
+use Rattle.wood_runs.specs.Rules.{IsOrdered}
+use Rattle.wood_runs.proofs.ParentLemmas.{leads_away, own_root, differ, three_parents, HasOneParent, LeadsAway, IsOwnRoot}
 use Rattle.wood_runs.proofs.Corners.{corners_ordered}
 use Rattle.wood_laws.specs.Woods.{root, IsInner, LeadsBy, IsEndAt, IsInOrder, IsWood, AreParentsOf}
 

@@ -9,12 +9,11 @@ use Rattle.contour_runs.proofs.Faces.{face_made_once}
 use Rattle.contour_runs.proofs.Steps.{IsFalling-run}
 use Rattle.wood_runs.specs.Parents.{Colour, one, two, three}
 use Rattle.wood_runs.specs.Fronts.{old_front, fronts, shades, IsOn}
-use Rattle.wood_runs.specs.Edges.{IsLeft, IsOuter, HasShade, made, outer, IsInside, IsCrossing, out, into, around}
-use Rattle.wood_runs.specs.Edges.IsCrossing.{within as along_outer}
+use Rattle.wood_runs.proofs.Crossing.IsCrossing.{within as along_outer}
 use Rattle.wood_runs.proofs.Steps.{front_after-first, front_after-last, shade_after-older}
 use Rattle.wood_runs.proofs.Shades.{IsShaded-run, older_old}
 use Rattle.wood_runs.proofs.Nested.{IsNested-run, old_on, new_on}
-use Rattle.wood_runs.proofs.Crossing.{crosses}
+use Rattle.wood_runs.proofs.Crossing.{crosses, IsLeft, IsOuter, HasShade, IsInside, IsCrossing, made, outer, out, into, around}
 use Rattle.wood_runs.proofs.Edges.{Along, base, leftward, rightward, along, IsMadeLater, is_later, face_of, before, corner, stands, base_seen, second_alone}
 
 -- a run whose last step covers all but the base

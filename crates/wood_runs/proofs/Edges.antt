@@ -2,12 +2,11 @@
 use Rattle.std.proofs.Common.{◌≡◌, ◌≢◌, ◌⊎◌, ℕ, zero, suc, ◌+◌, ◌-◌, ◌*◌, ◌<◌, ◌≤◌, refl, sym, ap, ◌∙◌, subst, inl, inr, arith}
 use Rattle.std.proofs.lemmas.Bool.{cases_eq, cases_lt}
 use Rattle.contour_runs.specs.Runs.{Step, Stage, stage_after, IsStep, IsRun, IsFaceOf, IsDartOf}
-use Rattle.contour_runs.specs.Laws.{IsStage}
 use Rattle.contour_runs.proofs.Places.{vertex_after-low, vertex_after-new, vertex_after-high, place_after-new}
 use Rattle.contour_runs.proofs.Upward.{upward}
 use Rattle.contour_runs.proofs.Stages.{IsStage-run, IsRun-less, count-stage_after}
 use Rattle.wood_runs.specs.Fronts.{fronts, shades, IsNewOn, at_first, at_last, under, new_first, new_last, IsOn}
-use Rattle.wood_runs.specs.Sides.{paths, sides}
+use Rattle.wood_runs.proofs.Sides.{paths, sides}
 use Rattle.wood_runs.proofs.Steps.{front_after-low, front_after-first, front_after-last, front_after-high, stays, behind, goes}
 use Rattle.wood_runs.proofs.Steps.Goes.{under as goes_under}
 use Rattle.wood_runs.proofs.Shades.{IsShaded-run, wp_is, wq_is, older_old, base_shade}
@@ -107,12 +106,6 @@ module _ (steps : ℕ → Step) where
   module _ (n : ℕ) (run : IsRun steps n) where
     less : (m : ℕ) → m ≤ n → IsRun steps m
     less m l = IsRun-less steps m n l run
-
-    sound : (m : ℕ) → m ≤ n → IsStage (at m)
-    sound m l = IsStage-run steps m (less m l)
-
-    one_place : (m i j : ℕ) → m ≤ n → i < (at m).width → j < (at m).width → (at m).vertex i ≡ (at m).vertex j → i ≡ j
-    one_place m i j l a b e = sym ((sound m l).own i a) ∙ ap (at m).place e ∙ (sound m l).own j b
 
     pub is_later : (m j : ℕ) → m ≤ n → suc j < (at m).width → IsMadeLater m j n ⊎ IsStill m j n
     is_later m j l w =

@@ -1,4 +1,5 @@
 -- The lemmas on woods of runs.
+pub mod Sides
 pub mod ParentLemmas
 pub mod Corners
 mod RunWoodsCases

@@ -5,7 +5,7 @@ use Rattle.contour_runs.specs.Runs.{Step, stage_after, IsRun}
 use Rattle.contour_runs.proofs.Stages.{count-stage_after}
 use Rattle.wood_runs.specs.Parents.{Colour, one, two, three, previous}
 use Rattle.wood_runs.specs.Fronts.{shades, IsOn}
-use Rattle.wood_runs.specs.Sides.{paths, sides}
+use Rattle.wood_runs.proofs.Sides.{paths, sides}
 use Rattle.wood_runs.specs.Edges.{number}
 use Rattle.wood_runs.specs.Laws.{IsInShade}
 use Rattle.wood_runs.proofs.Sided.{IsSided, IsSided-run, Known, beside, on_one, on_two, on_three}

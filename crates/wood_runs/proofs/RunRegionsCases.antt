@@ -5,7 +5,7 @@ use Rattle.contour_runs.specs.Runs.{moved, vertex_after, place_after}
 use Rattle.contour_runs.proofs.Cases.{tetrahedron, octahedron}
 use Rattle.wood_runs.specs.Parents.{three}
 use Rattle.wood_runs.specs.Fronts.{front_after, old_front, shade_after, shades}
-use Rattle.wood_runs.specs.Sides.{on_upper_after, paths, side_after, sides}
+use Rattle.wood_runs.proofs.Sides.{on_upper_after, paths, side_after, sides}
 
 -- the third vertex of the tetrahedron: each face at it has a shade, and each of the others is on a path and on a side
 tetrahedron_shades : map (shades tetrahedron 2 2) (range_with_len 0 3) ≡ 3 ∷ 2 ∷ 1 ∷ []

@@ -210,9 +210,6 @@ module _ (g : Stage) (s : Step) (new : ℕ) (front : ℕ → ℕ) (shade : ℕ �
   pub r_is : suc r ≡ s.last
   r_is = let o = step.order in omega arith
 
-  pub last_two : (v : ℕ) → v < g.count → s.last ≤ g.place v → shade v (front r) ≡ 2
-  last_two v l a = let w = step.within in h.low v r l (omega (arith, r_is)) (omega (arith, r_is))
-
   pub last_one : (v : ℕ) → v < g.count → g.place v < s.last → shade v (front r) ≡ 1
   last_one v l a = let w = step.within in h.high v r l (omega (arith, r_is)) (omega (arith, r_is))
 

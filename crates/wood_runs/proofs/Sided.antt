@@ -8,7 +8,7 @@ use Rattle.contour_runs.proofs.Places.{vertex_after-low, vertex_after-new, verte
 use Rattle.contour_runs.proofs.Stages.{IsStage-run, IsRun-less}
 use Rattle.wood_runs.specs.Parents.{Colour, one, two, three}
 use Rattle.wood_runs.specs.Fronts.{old_front, shade_after, fronts, shades, IsNewOn, at_first, at_last, under, new_first, new_last, IsOn}
-use Rattle.wood_runs.specs.Sides.{on_after, paths, side_after, sides}
+use Rattle.wood_runs.proofs.Sides.{on_after, paths, side_after, sides}
 use Rattle.wood_runs.proofs.Steps.{old_front-old, shade_after-older, stays, behind, goes, SidesOf, as_two, as_parent, as_three, side_after-older, side_after-one, side_after-two, side_after-self, side_after-new, on_lower-older, on_lower-new, on_lower-not, on_lower-self, on_upper-older, on_upper-over, on_upper-not, on_upper-new, on_upper-self}
 use Rattle.wood_runs.proofs.Steps.SidesOf.{as_one as side_one}
 use Rattle.wood_runs.proofs.Steps.Goes.{under as goes_under}

@@ -5,7 +5,7 @@ use Rattle.std.proofs.lemmas.Bool.Decides.{nat_tests}
 use Rattle.contour_runs.specs.Runs.{Step, Stage, place_after}
 use Rattle.contour_runs.proofs.Places.{moved-low, moved-between, moved-high, place_after-older}
 use Rattle.wood_runs.specs.Fronts.{front_after, old_front, shade_after}
-use Rattle.wood_runs.specs.Sides.{on_lower_after, on_upper_after, side_after}
+use Rattle.wood_runs.proofs.Sides.{on_lower_after, on_upper_after, side_after}
 
 module _ (s : Step) (new : ℕ) (front : ℕ → ℕ) where
   pub front_after-low : (i : ℕ) → i < s.first → front_after s new front i ≡ front i

@@ -5,8 +5,8 @@ use Rattle.contour_runs.specs.Runs.{Step, Stage, stage_after, IsRun}
 use Rattle.contour_runs.proofs.Upward.{upward}
 use Rattle.contour_runs.proofs.Stages.{IsStage-run, IsRun-less, count-stage_after, covered_together, IsCovered-own}
 use Rattle.wood_runs.specs.Parents.{Colour, one, two, three, IsParent}
-use Rattle.wood_runs.specs.Sides.{paths}
-use Rattle.wood_runs.specs.Edges.{root_at}
+use Rattle.wood_runs.proofs.Sides.{paths}
+use Rattle.wood_runs.proofs.Crossing.{root_at}
 use Rattle.wood_runs.proofs.Steps.{on_lower-older, on_lower-new, on_lower-not, on_lower-self, on_upper-older, on_upper-over, on_upper-new, on_upper-self, on_upper-together}
 use Rattle.wood_runs.proofs.Sided.{IsSided-run, base_one, base_two}
 

@@ -3,6 +3,5 @@ pub mod Parents
 pub mod Rules
 -- The regions of runs.
 pub mod Fronts
-pub mod Sides
 pub mod Edges
 pub mod Laws

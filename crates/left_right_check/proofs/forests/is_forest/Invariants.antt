@@ -1,5 +1,5 @@
 use Rattle.std.proofs.Common.{ℕ, ◌<◌}
-use Rattle.left_right_check.specs.Ties.{IsPlaced}
+use Rattle.left_right_check.proofs.TieLemmas.{IsPlaced}
 use Rattle.left_right_check.proofs.forests.is_forest.Given as goal
 
 abbrev pub invariant-loop-v : goal.invariant-loop-v

@@ -1,6 +1,5 @@
 use Rattle.std.proofs.Common.{◌≡◌, subst, arith}
-use Rattle.left_right_lists.specs.Groups.{AreRising}
-use Rattle.left_right_lists.proofs.Collected.{AreRisingTo, more_if, rising_more, all_rising_more}
+use Rattle.left_right_lists.proofs.Collected.{AreRisingTo, more_if, rising_more, all_rising_more, AreRising}
 use Rattle.left_right_lists.proofs.SideLemmas.{upward_is}
 use Rattle.left_right_lists.proofs.returns.upward_of.Goals as goal
 

@@ -1,5 +1,4 @@
-use Rattle.left_right_lists.specs.Groups.{AreRising}
-use Rattle.left_right_lists.proofs.Collected.{AreRisingTo}
+use Rattle.left_right_lists.proofs.Collected.{AreRisingTo, AreRising}
 use Rattle.left_right_lists.proofs.returns.upward_of.Given as goal
 
 abbrev pub invariant-loop-v : goal.invariant-loop-v

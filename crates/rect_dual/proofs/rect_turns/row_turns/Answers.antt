@@ -3,8 +3,8 @@ use Rattle.std.proofs.lemmas.Bool.{cases_lt}
 use Rattle.std.proofs.lemmas.List.{get_or_read, get_or_past, get_or-replicate, length-replicate}
 use Rattle.map_theory.specs.Maps.{list_of}
 use Rattle.canon_order.specs.Marks.{is_set}
-use Rattle.rect_dual.specs.Turns.{IsTurnIn, AreTurns, IsTurned}
-use Rattle.rect_dual.proofs.Turns.{row_long, row_within, IsTurned-none, IsTurned-more}
+use Rattle.rect_dual.specs.Turns.{IsTurnIn, AreTurns}
+use Rattle.rect_dual.proofs.Turns.{row_long, row_within, IsTurned-none, IsTurned-more, IsTurned}
 use Rattle.rect_dual.proofs.rect_turns.row_turns.Goals as goal
 
 none_set : (n v : ℕ) → is_set (replicate n false) v ≡ false

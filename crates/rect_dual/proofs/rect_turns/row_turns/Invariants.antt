@@ -1,7 +1,7 @@
 use Rattle.std.proofs.Common.{◌≡◌, ◌+◌, ℕ, length}
 use Rattle.contour_runs.specs.Runs.{Step}
 use Rattle.order_drawings.specs.Rows.{AreRows}
-use Rattle.rect_dual.specs.Turns.{IsTurned}
+use Rattle.rect_dual.proofs.Turns.{IsTurned}
 use Rattle.rect_dual.proofs.rect_turns.row_turns.Given as goal
 
 abbrev pub invariant-loop-k : goal.invariant-loop-k

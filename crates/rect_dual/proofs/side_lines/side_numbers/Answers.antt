@@ -1,7 +1,7 @@
 use Rattle.std.proofs.Common.{◌≡◌, ◌+◌, ℕ, suc, length, sym, subst, ap, ◌∙◌, arith}
-use Rattle.rect_dual.specs.SidesOfBoxes.{number_of, second_line, line_count, IsSideState}
+use Rattle.rect_dual.specs.SidesOfBoxes.{number_of, second_line, IsSideState}
 use Rattle.rect_runs.specs.Numbers.{numbers}
-use Rattle.rect_dual.proofs.RectNumbersRows.{lines_begin, lines_more, from_bool-le}
+use Rattle.rect_dual.proofs.RectNumbersRows.{lines_begin, lines_more, from_bool-le, line_count}
 use Rattle.rect_dual.proofs.SideLemmas.{AreLines-done, AreLines-at}
 use Rattle.rect_dual.proofs.side_lines.side_numbers.Goals as goal
 

@@ -3,7 +3,8 @@ use Rattle.contour_runs.specs.Runs.{Step}
 use Rattle.rect_runs.specs.Labels.{IsLabelledRun}
 use Rattle.order_drawings.specs.Rows.{AreRows}
 use Rattle.rect_dual.specs.Turns.{AreTurns}
-use Rattle.rect_dual.specs.SidesOfBoxes.{line_count, IsSideState}
+use Rattle.rect_dual.specs.SidesOfBoxes.{IsSideState}
+use Rattle.rect_dual.proofs.RectNumbersRows.{line_count}
 use Rattle.rect_dual.proofs.side_lines.side_numbers.Given as goal
 
 abbrev pub invariant-loop-k : goal.invariant-loop-k

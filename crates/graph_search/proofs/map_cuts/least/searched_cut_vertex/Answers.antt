@@ -1,4 +1,4 @@
-use Rattle.std.proofs.Common.{◌≡◌, ℕ, subst, inl, inr, arith}
+use Rattle.std.proofs.Common.{◌≡◌, subst, inl, inr, arith}
 use Rattle.std.proofs.lemmas.Bool.{cases_lt}
 use Rattle.map_theory.specs.Maps.{list_of}
 use Rattle.graph_search.specs.Flags.{HasSeparatedChild}

@@ -4,8 +4,8 @@ use Rattle.std.proofs.lemmas.List.{get_or_default}
 use Rattle.map_lists.specs.Lists.{Lists}
 use Rattle.map_theory.specs.Maps.{list_of}
 use Rattle.graph_search.specs.Forests.{IsForestOf}
-use Rattle.graph_search.specs.Lows.{IsLeastNumber, IsLowered}
-use Rattle.graph_search.proofs.LowLemmas.{entries_within, IsLeastNumber-more, AreLowsFrom-more}
+use Rattle.graph_search.specs.Lows.{IsLowered}
+use Rattle.graph_search.proofs.LowLemmas.{entries_within, IsLeastNumber-more, AreLowsFrom-more, IsLeastNumber}
 use Rattle.graph_search.proofs.search_forests.lows.fill_lows.Goals as goal
 
 -- the vertex that is i places before the last in the order

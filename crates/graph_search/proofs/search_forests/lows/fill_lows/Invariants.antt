@@ -1,6 +1,5 @@
 use Rattle.std.proofs.Common.{take}
-use Rattle.graph_search.specs.Lows.{IsLeastNumber}
-use Rattle.graph_search.proofs.LowLemmas.{AreLowsFrom}
+use Rattle.graph_search.proofs.LowLemmas.{AreLowsFrom, IsLeastNumber}
 use Rattle.graph_search.proofs.search_forests.lows.fill_lows.Given as goal
 
 abbrev pub invariant-loop-i : goal.invariant-loop-i
