@@ -16,7 +16,7 @@ use half_edges::{DartId, VertexId};
 use pg_plane::{Point, Points, area2};
 use vertex_rounds::first_dart;
 
-// The place of a vertex.
+// Returns the place of a vertex.
 pub(crate) fn place_at(points: &Points, v: VertexId) -> Point
     requires { v.0 < length points.now }
     ensures { result ≡ place points.now v.0 }
@@ -25,7 +25,7 @@ pub(crate) fn place_at(points: &Points, v: VertexId) -> Point
 }
 
 impl Drawing<'_> {
-    // Whether the way from `a` over `b` to `c` turns to the right.
+    // Says whether the way from `a` over `b` to `c` turns to the right.
     fn turns_right(&self, a: VertexId, b: VertexId, c: VertexId) -> bool
         requires a { a.0 < length self.now.map.now.lists }
         requires b { b.0 < length self.now.map.now.lists }
@@ -41,7 +41,7 @@ impl Drawing<'_> {
         double < 0
     }
 
-    // Whether the face of a dart is another than the base's, and bends behind the dart.
+    // Says whether the face of a dart is another than the base's, and bends behind the dart.
     fn is_bent(&self, faces: &Faces, d: DartId) -> bool
         requires faces { AreFaces self.now.map.now faces.now }
         requires live { IsLive self.now.map.now d.0 }
@@ -57,7 +57,7 @@ impl Drawing<'_> {
         face.0 != outer.0 && self.turns_right(a, b, c)
     }
 
-    // The least three consecutive vertices at which a face bends.
+    // Returns the least three consecutive vertices at which a face bends.
     pub(crate) fn first_bent(&self, faces: &Faces) -> Option<(VertexId, VertexId, VertexId)>
         requires faces { AreFaces self.now.map.now faces.now }
         ensures { MatchOption result (NoneBent self.now.map.now.lists self.now.points.now (dart_of self.now.map.now self.now.base.0))

@@ -16,7 +16,7 @@ use pg_plane::Point;
 use std::alloc::{AllocError, Global};
 
 impl Drawing<'_> {
-    // The places of the vertices of a walk.
+    // Returns the places of the vertices of a walk.
     fn walk_points(&self, alloc: Global, walk: &[DartId]) -> Result<Vec<Point>, AllocError>
         requires { All (λ d. IsLive self.now.map.now d.0) walk.now }
         ensures { IfOk result (λ places. AreWalkPlaces self.now.map.now self.now.points.now (ids_of walk.now) places.items) }
@@ -30,7 +30,7 @@ impl Drawing<'_> {
         Ok(places)
     }
 
-    // Whether three vertices of the base's face have an area other than 0, and each of its vertices is on one
+    // Says whether three vertices of the base's face have an area other than 0, and each of its vertices is on one
     // of the segments between these three.
     pub(crate) fn is_outer_convex(&self, alloc: Global, faces: &Faces) -> Result<bool, AllocError>
         requires faces { AreFaces self.now.map.now faces.now }

@@ -11,14 +11,14 @@ ghost use Rattle.convex_check.specs.Corners.{IsOnTriangle, AreCorners, HasCorner
 
 use pg_plane::{Point, area2, on_segment};
 
-// Whether p comes before q from left to right, and upwards.
+// Says whether `p` comes before `q` from left to right, and upwards.
 fn is_before(p: Point, q: Point) -> bool
     ensures { IsTrue result ↔ IsBefore p q }
 {
     p.x < q.x || (p.x == q.x && p.y < q.y)
 }
 
-// The first of two points.
+// Returns the first of two points.
 fn earlier(p: Point, q: Point) -> Point
     ensures one { (result ≡ p) ⊎ (result ≡ q) }
     ensures before_p { ¬ IsBefore p result }
@@ -27,7 +27,7 @@ fn earlier(p: Point, q: Point) -> Point
     if is_before(p, q) { p } else { q }
 }
 
-// The last of two points.
+// Returns the last of two points.
 fn later(p: Point, q: Point) -> Point
     ensures one { (result ≡ p) ⊎ (result ≡ q) }
     ensures after_p { ¬ IsBefore result p }
@@ -36,33 +36,24 @@ fn later(p: Point, q: Point) -> Point
     if is_before(q, p) { p } else { q }
 }
 
-// The first of some points.
-fn first_of(points: &[Point]) -> Point
+// Returns the first and the last of some points.
+fn ends_of(points: &[Point]) -> (Point, Point)
     requires { 0 < length points.now }
-    ensures on { Contains points.now result }
-    ensures first { (p : Point) → Contains points.now p → ¬ IsBefore p result }
+    ensures on_first { Contains points.now result.0 }
+    ensures on_last { Contains points.now result.1 }
+    ensures first { (p : Point) → Contains points.now p → ¬ IsBefore p result.0 }
+    ensures last { (p : Point) → Contains points.now p → ¬ IsBefore result.1 p }
 {
-    let mut best = points[0];
+    let mut first = points[0];
+    let mut last = points[0];
     for p in points {
-        best = earlier(*p, best);
+        first = earlier(*p, first);
+        last = later(*p, last);
     }
-    best
+    (first, last)
 }
 
-// The last of some points.
-fn last_of(points: &[Point]) -> Point
-    requires { 0 < length points.now }
-    ensures on { Contains points.now result }
-    ensures last { (p : Point) → Contains points.now p → ¬ IsBefore result p }
-{
-    let mut best = points[0];
-    for p in points {
-        best = later(*p, best);
-    }
-    best
-}
-
-// Which of two points lies farther to the left of the way from `a` to `b`.
+// Returns which of two points lies farther to the left of the way from `a` to `b`.
 fn farther(a: Point, b: Point, p: Point, q: Point) -> Point
     requires a { IsInRange a }
     requires b { IsInRange b }
@@ -79,7 +70,7 @@ fn farther(a: Point, b: Point, p: Point, q: Point) -> Point
     }
 }
 
-// The one of some points that lies farthest to the left of the way from `a` to `b`.
+// Returns the one of some points that lies farthest to the left of the way from `a` to `b`.
 fn farthest(points: &[Point], a: Point, b: Point) -> Point
     requires some { 0 < length points.now }
     requires in_range { All IsInRange points.now }
@@ -117,20 +108,6 @@ impl Triangle {
             || on_segment(p, self.c, self.a)
     }
 
-    // Says whether all points do.
-    fn has_all_on_sides(&self, points: &[Point]) -> bool
-        requires { All IsInRange points.now }
-        ensures { IsTrue result ↔ ((p : Point) → Contains points.now p → IsOnTriangle p self.now.a self.now.b self.now.c) }
-    {
-        let triangle = *self;
-        for p in points {
-            if !triangle.has_on_sides(*p) {
-                return false;
-            }
-        }
-        true
-    }
-
     // Says whether the third corner lies to the left of the way from the first to the second.
     fn is_left(&self) -> bool
         ensures { IsTrue result ↔ (pos 0 <ℤ area self.now.a self.now.b self.now.c) }
@@ -139,7 +116,7 @@ impl Triangle {
     }
 }
 
-// Whether two of the points are corners, with a third to the left of the way from the one to the other.
+// Says whether two of the points are corners, with a third to the left of the way from the one to the other.
 fn has_third(points: &[Point], a: Point, b: Point) -> bool
     requires in_range { All IsInRange points.now }
     requires a { Contains points.now a }
@@ -147,16 +124,20 @@ fn has_third(points: &[Point], a: Point, b: Point) -> bool
     ensures yes { result ≡ true → HasCorners points.now }
     ensures no { (c : Point) → AreCorners points.now a b c → pos 0 <ℤ area a b c → result ≡ true }
 {
-    let c = farthest(points, a, b);
-    let triangle = Triangle { a, b, c };
-    if triangle.is_left() {
-        triangle.has_all_on_sides(points)
-    } else {
-        false
+    let far = farthest(points, a, b);
+    let triangle = Triangle { a, b, c: far };
+    if !triangle.is_left() {
+        return false;
     }
+    for p in points {
+        if !triangle.has_on_sides(*p) {
+            return false;
+        }
+    }
+    true
 }
 
-/// Whether three of the points have an area other than 0, and each of the points is on one of the segments
+/// Says whether three of the points have an area other than 0, and each of the points is on one of the segments
 /// between these three.
 ///
 /// No coordinate is beyond 2^20 in size. The time is linear in the points, and it takes no memory.
@@ -167,8 +148,7 @@ pub fn has_corners(points: &[Point]) -> bool
     if points.is_empty() {
         return false;
     }
-    let a = first_of(points);
-    let b = last_of(points);
+    let (a, b) = ends_of(points);
     if has_third(points, a, b) {
         true
     } else {
