@@ -1,8 +1,9 @@
 -- The rows of neighbours of no lower degree: how they are put one behind another, and who is adjacent by them.
 use Rattle.std.specs.List.{filter}
-use Rattle.std.proofs.Common.{◌↔◌, ◌≡◌, ◌∙◌, ℕ, ◌<◌, ◌≤◌, ◌+◌, ◌++◌, ◌∷◌, [], List, length, Contains, inl, inr, refl, ap, sym, subst, arith}
+use Rattle.std.proofs.Common.{◌↔◌, ◌≡◌, ◌∙◌, ℕ, Bool, ◌<◌, ◌≤◌, ◌+◌, ◌++◌, ◌∷◌, [], List, length, take, get_or, cond, append_assoc, Contains, inl, inr, refl, ap, sym, subst, arith}
 use Rattle.std.proofs.lemmas.Bool.{le-leb, cases_lt}
-use Rattle.std.proofs.lemmas.List.{length-append, get_or_append_left, get_or_push}
+use Rattle.std.proofs.lemmas.List.{length-append, get_or_append_left, get_or_push, take_more}
+use Rattle.std.proofs.lemmas.List.Elements.{filter-append}
 use Rattle.map_lists.specs.Lists.{Lists}
 use Rattle.map_lists.specs.Cuts.{cut, AreCuts}
 use Rattle.map_lists.proofs.CutLemmas.{pushed, IsStored-cuts, IsStored-cut}
@@ -18,6 +19,13 @@ Contains-upper lists rows u v upper l le =
       (λ c. (l, (Contains-from_filter test (list_of lists u) v (subst (λ (us : List ℕ). Contains us v) is c)).0)),
       (λ d. subst (λ (us : List ℕ). Contains us v) (sym is) (Contains-filter test (list_of lists u) v d.1 (le-leb (length (list_of lists u)) (length (list_of lists v)) le))),
     )
+
+-- one neighbour more is put behind others, if it passes the test
+pub put-more : (test : ℕ → Bool) (us : List ℕ) (k : ℕ) (old now new : List ℕ) → k < length us → now ≡ old ++ filter test (take k us) → new ≡ now ++ cond (test (get_or us k 0)) (get_or us k 0 ∷ []) [] → new ≡ old ++ filter test (take (k + 1) us)
+put-more test us k old now new l was is =
+    let u = get_or us k 0 in
+    is ∙ ap (λ (xs : List ℕ). xs ++ cond (test u) (u ∷ []) []) was ∙ append_assoc old (filter test (take k us)) (cond (test u) (u ∷ []) [])
+    ∙ ap (λ (xs : List ℕ). old ++ xs) (sym (filter-append test (take k us) (u ∷ [])) ∙ ap (filter test) (sym (take_more us k 0 l)))
 
 -- the row of u, as its list says
 abbrev pub upper_of : Lists → ℕ → List ℕ

@@ -5,4 +5,3 @@ pub mod Laws
 pub mod Loops
 pub mod Upper
 pub mod Corners
-pub mod Counts

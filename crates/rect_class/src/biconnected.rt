@@ -1,18 +1,16 @@
 //! A record as a map of the class.
 ghost use Rattle.std.specs.Prelude.{◌≡◌, ◌<◌, length, MatchOption, IfOk, IfErr};
-ghost use Rattle.vertex_rounds.specs.Least.{IsLeastPair};
 ghost use Rattle.refusals.specs.Conditions.{IfRefused};
 ghost use Rattle.conn_parts.specs.BiconnectedMaps.{IsBiconnectedMap};
-ghost use Rattle.rect_check.specs.Duals.{HasFrame};
 ghost use Rattle.rect_check.specs.Loops.{IsFrame};
-ghost use Rattle.rect_class.specs.RectMaps.{HasLargeFace, HasTriangles, NoneSeparating, IsRectMap};
+ghost use Rattle.rect_class.specs.RectMaps.{HasTriangles, NoneSeparating, IsRectMap};
 ghost use Rattle.rect_class.specs.Refusals.{BreaksRect};
 
 use crate::corners::none_separates;
 use crate::faces::first_large;
 use crate::upper::{Upper, upper_rows};
 use conn_parts::biconnected_maps::biconnected_map;
-use half_edges::{HalfMap, Rotations, VertexId};
+use half_edges::{HalfMap, Rotations};
 use rect_check::{OuterFour, outer_four};
 use refusals::{Refusal, Unserved};
 use std::alloc::{AllocError, Global};
@@ -20,17 +18,8 @@ use std::alloc::{AllocError, Global};
 // How many vertices the outer face has.
 const OUTER_COUNT: u16 = 4;
 
-// The least dart whose face is neither the outer one nor a triangle.
-fn first_large_face(map: &HalfMap, four: OuterFour) -> Option<(VertexId, VertexId)>
-    requires { IsFrame map.now.lists four.top.0 four.right.0 four.bottom.0 }
-    ensures { MatchOption result (HasTriangles map.now.lists)
-        (λ p. IsLeastPair (HasLargeFace map.now.lists) p.0.0 p.1.0) }
-{
-    map.facts();
-    first_large(map, four)
-}
-
-// Says the first condition on triangles that a map breaks.
+// Returns the first condition on triangles of edges that a map breaks; `lists` are the lists of `map`, and `four` is its
+// outer face.
 fn first_of_triangles(
     alloc: Global,
     map: &HalfMap,
@@ -55,33 +44,8 @@ fn first_of_triangles(
     }
 }
 
-// Says the first condition behind that on the outer face.
-fn first_of_faces(
-    alloc: Global,
-    map: &HalfMap,
-    lists: &Rotations,
-    four: OuterFour,
-) -> Result<Option<Refusal>, AllocError>
-    requires lists { lists.now ≡ map.now.lists }
-    requires biconnected { IsBiconnectedMap 3 map.now.lists }
-    requires frame { IsFrame map.now.lists four.top.0 four.right.0 four.bottom.0 }
-    ensures { IfOk result (λ found. MatchOption found (IsRectMap map.now.lists) (BreaksRect map.now.lists)) }
-{
-    map.facts();
-    if let Some((v, u)) = first_large_face(map, four) {
-        return Ok(Some(Refusal::NotTriangle(v, u)));
-    }
-    if let Some(refusal) = first_of_triangles(alloc, map, lists, four)? {
-        return Ok(Some(refusal));
-    }
-    if map.n() <= OUTER_COUNT {
-        Ok(Some(Refusal::NoInner))
-    } else {
-        Ok(None)
-    }
-}
-
-// Says the first condition that a biconnected map breaks.
+// Returns the first condition that a biconnected map breaks: on the outer face, the other faces, the triangles of edges,
+// and the vertices inside. `lists` are the lists of `map`.
 fn first_broken(
     alloc: Global,
     map: &HalfMap,
@@ -92,9 +56,19 @@ fn first_broken(
     ensures { IfOk result (λ found. MatchOption found (IsRectMap map.now.lists) (BreaksRect map.now.lists)) }
 {
     map.facts();
-    match outer_four(map) {
-        Some(four) => first_of_faces(alloc, map, lists, four),
-        None => Ok(Some(Refusal::OuterNotQuad)),
+    let Some(four) = outer_four(map) else {
+        return Ok(Some(Refusal::OuterNotQuad));
+    };
+    if let Some((v, u)) = first_large(map, four) {
+        return Ok(Some(Refusal::NotTriangle(v, u)));
+    }
+    if let Some(refusal) = first_of_triangles(alloc, map, lists, four)? {
+        return Ok(Some(refusal));
+    }
+    if map.n() <= OUTER_COUNT {
+        Ok(Some(Refusal::NoInner))
+    } else {
+        Ok(None)
     }
 }
 

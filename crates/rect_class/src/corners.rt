@@ -24,19 +24,6 @@ fn stamp_all(marks: &mut Vec<u16>, us: &[u16], stamp: u16)
     }
 }
 
-// Says whether each vertex of `ws` that has the stamp is `last` or `next`.
-fn are_sides(marks: &[u16], stamp: u16, ws: &[u16], last: u16, next: u16) -> bool
-    requires { All (λ w. w < length marks.now) ws.now }
-    ensures { OnTrue result ((k : ℕ) → k < length ws.now → IsSide marks.now stamp last next (slice_index ws.now k)) }
-{
-    for w in ws {
-        if marks[usize::from(*w)] == stamp && *w != last && *w != next {
-            return false;
-        }
-    }
-    true
-}
-
 // A vertex whose neighbours have its stamp, with the lists, the degrees and the marks of all vertices.
 #[derive(Clone, Copy)]
 struct Star<'a> {
@@ -54,7 +41,7 @@ struct Star<'a> {
 }
 
 impl Star<'_> {
-    // Says whether `u` comes before the vertex by its degree, or by its number where they have one degree.
+    // Says whether the vertex comes after `u`: `u` is before it by its degree, or by its number where they have one degree.
     fn comes_after(&self, u: u16) -> bool
         requires { u < length self.now.lists.now }
         ensures { IsTrue result ↔ ComesBefore self.now.degrees.now u self.now.v }
@@ -64,30 +51,35 @@ impl Star<'_> {
         first < second || (first == second && u < self.v)
     }
 
-    // Says whether each common neighbour of the vertex and of number `k` of its list stands next to that in the list.
-    fn is_closed_over(&self, k: usize) -> bool
-        requires { k < length (list_of self.now.lists.now self.now.v) }
-        ensures { OnTrue result (IsClosedOver self.now.lists.now self.now.v (slice_index (list_of self.now.lists.now self.now.v) k)) }
+    // Says whether each entry of `ws` that is a neighbour of the vertex, by its stamp, is `last` or `next`.
+    fn are_sides(&self, ws: &[u16], last: u16, next: u16) -> bool
+        requires { All (λ w. w < length self.now.marks.now) ws.now }
+        ensures { OnTrue result ((k : ℕ) → k < length ws.now → IsSide self.now.marks.now (self.now.v + 1) last next (slice_index ws.now k)) }
     {
-        let us = self.lists.list(usize::from(self.v));
-        let ring = Ring { us };
-        let (last, next) = (ring.ahead(k), ring.behind(k));
-        are_sides(
-            self.marks,
-            self.v + 1,
-            self.lists.list(usize::from(us[k])),
-            last,
-            next,
-        )
+        let marks = self.marks;
+        let stamp = self.v + 1;
+        for w in ws {
+            if marks[usize::from(*w)] == stamp && *w != last && *w != next {
+                return false;
+            }
+        }
+        true
     }
 
-    // Says whether that is so of number `k` of its list, or that does not come before the vertex.
-    fn is_closed_before(&self, k: usize) -> bool
+    // Says whether number `k` of its list comes after the vertex, or stands there next to each common neighbour of both.
+    fn is_closed_over(&self, k: usize) -> bool
         requires { k < length (list_of self.now.lists.now self.now.v) }
         ensures { OnTrue result (ComesBefore self.now.degrees.now (slice_index (list_of self.now.lists.now self.now.v) k) self.now.v
             → IsClosedOver self.now.lists.now self.now.v (slice_index (list_of self.now.lists.now self.now.v) k)) }
     {
-        !self.comes_after(self.lists.list(usize::from(self.v))[k]) || self.is_closed_over(k)
+        let us = self.lists.list(usize::from(self.v));
+        let u = us[k];
+        if !self.comes_after(u) {
+            return true;
+        }
+        let ring = Ring { us };
+        let (last, next) = (ring.ahead(k), ring.behind(k));
+        self.are_sides(self.lists.list(usize::from(u)), last, next)
     }
 
     // Says whether each common neighbour of the vertex and of one of its neighbours that come before it stands next to
@@ -98,7 +90,7 @@ impl Star<'_> {
     {
         let star = *self;
         for k in 0..star.lists.list(usize::from(star.v)).len() {
-            if !star.is_closed_before(k) {
+            if !star.is_closed_over(k) {
                 return false;
             }
         }

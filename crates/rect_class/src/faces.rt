@@ -4,20 +4,22 @@ ghost use Rattle.plane_laws.specs.Laws.{IsTriangle};
 ghost use Rattle.half_edges.specs.Map.{IsLive, dart_at, first_dart};
 ghost use Rattle.vertex_rounds.specs.Least.{IsLeast, IsLeastPair};
 ghost use Rattle.vertex_rounds.specs.Rounds.{HoldsAt, dart_of};
+ghost use Rattle.rect_check.specs.Loops.{IsFrame};
+ghost use Rattle.rect_class.specs.RectMaps.{HasLargeFace, HasTriangles};
 ghost use Rattle.rect_class.specs.Loops.{IsDart as IsOneDart, IsFrameDart, IsLargeDart};
 
 use half_edges::{DartId, HalfMap, VertexId};
 use rect_check::OuterFour;
 use vertex_rounds::first_dart;
 
-// Whether the dart from `v` to `u` is that from `x` to `y`.
+// Says whether the dart from `v` to `u` is that from `x` to `y`.
 fn is_dart(v: VertexId, u: VertexId, x: VertexId, y: VertexId) -> bool
     ensures { IsTrue result ↔ IsOneDart v.0 u.0 x.0 y.0 }
 {
     v.0 == x.0 && u.0 == y.0
 }
 
-// Whether the dart from `v` to `u` is one of the outer face.
+// Says whether the dart from `v` to `u` is one of the outer face, over `four`.
 fn is_frame_dart(four: OuterFour, v: VertexId, u: VertexId) -> bool
     ensures { IsTrue result ↔ IsFrameDart four.top.0 four.right.0 four.bottom.0 v.0 u.0 }
 {
@@ -27,7 +29,7 @@ fn is_frame_dart(four: OuterFour, v: VertexId, u: VertexId) -> bool
         || is_dart(v, u, four.bottom, VertexId(0))
 }
 
-// Whether the face of a dart is a triangle.
+// Says whether the face of dart `d` is a triangle.
 fn is_triangle(map: &HalfMap, d: DartId) -> bool
     requires { IsLive map.now d.0 }
     ensures { IsTrue result ↔ IsTriangle map.now.lists (dart_of map.now d.0) }
@@ -39,7 +41,8 @@ fn is_triangle(map: &HalfMap, d: DartId) -> bool
     fourth.0 == d.0
 }
 
-// Whether the face of a dart is no triangle, and the dart is off the outer face: nearly every face is a triangle.
+// Says whether the face of dart `d` is no triangle, and the dart is off the outer face, over `four`: nearly every face
+// is a triangle.
 fn is_large(map: &HalfMap, four: OuterFour, d: DartId) -> bool
     requires { IsLive map.now d.0 }
     ensures { IsTrue result ↔ HoldsAt map.now (IsLargeDart map.now.lists four.top.0 four.right.0 four.bottom.0) d.0 }
@@ -48,10 +51,11 @@ fn is_large(map: &HalfMap, four: OuterFour, d: DartId) -> bool
     !is_triangle(map, d) && !is_frame_dart(four, map.tail(d), map.head(d))
 }
 
-// The least dart off the outer face whose face is no triangle.
+// Returns the least dart whose face is neither the outer one, over `four`, nor a triangle.
 pub(crate) fn first_large(map: &HalfMap, four: OuterFour) -> Option<(VertexId, VertexId)>
-    ensures { MatchOption result ((v u : ℕ) → ¬ IsLargeDart map.now.lists four.top.0 four.right.0 four.bottom.0 v u)
-        (λ p. IsLeastPair (IsLargeDart map.now.lists four.top.0 four.right.0 four.bottom.0) p.0.0 p.1.0) }
+    requires { IsFrame map.now.lists four.top.0 four.right.0 four.bottom.0 }
+    ensures { MatchOption result (HasTriangles map.now.lists)
+        (λ p. IsLeastPair (HasLargeFace map.now.lists) p.0.0 p.1.0) }
 {
     map.facts();
     first_dart(map, |d| is_large(map, four, d))

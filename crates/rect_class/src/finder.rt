@@ -3,8 +3,6 @@ ghost use Rattle.std.specs.Prelude.{◌≡◌, ◌≤◌, ◌<◌, ◌+◌, ◌*
 ghost use Rattle.map_theory.specs.Maps.{IsSimpleMap, HasDart, follows, list_of};
 ghost use Rattle.rect_check.specs.Loops.{IsFrame};
 ghost use Rattle.rect_class.specs.RectMaps.{IsRectMap};
-ghost use Rattle.rect_class.specs.Corners.{IsRound};
-ghost use Rattle.rect_class.specs.Counts.{HasCounts};
 
 use crate::corners::{are_closed, has_diagonal};
 use crate::ring::Ring;
@@ -35,14 +33,7 @@ pub fn next_on_face(lists: &Rotations, u: VertexId, v: VertexId) -> VertexId
     VertexId(ring.next(u.0))
 }
 
-// Says whether a walk from 0 past `four` to `s` and `e` is at 0 and the top again, past four vertices.
-fn is_round(four: OuterFour, s: VertexId, e: VertexId) -> bool
-    ensures { IsTrue result → IsRound four.top.0 four.right.0 four.bottom.0 s.0 e.0 }
-{
-    s.0 == 0 && e.0 == four.top.0 && four.right.0 != 0 && four.bottom.0 != four.top.0
-}
-
-// Returns the outer face, if it is walked by four darts over four vertices.
+// Returns the outer face, if it is walked by four darts over four vertices: the walk is then at 0 and the top again.
 fn outer_face(lists: &Rotations) -> Option<OuterFour>
     requires simple { IsSimpleMap lists.now }
     requires some { 0 < length lists.now }
@@ -57,33 +48,10 @@ fn outer_face(lists: &Rotations) -> Option<OuterFour>
     let bottom = next_on_face(lists, top, right);
     let s = next_on_face(lists, right, bottom);
     let e = next_on_face(lists, bottom, s);
-    let four = OuterFour { top, right, bottom };
-    if is_round(four, s, e) {
-        Some(four)
-    } else {
-        None
+    if s.0 == 0 && e.0 == top.0 && right.0 != 0 && bottom.0 != top.0 {
+        return Some(OuterFour { top, right, bottom });
     }
-}
-
-// Returns the outer face of a map with the counts of one of the class, where no edge joins two of it across, and the
-// corners show that no triangle separates.
-fn confirmed(
-    alloc: Global,
-    lists: &Rotations,
-    four: OuterFour,
-) -> Result<Option<OuterFour>, AllocError>
-    requires counts { HasCounts lists.now }
-    requires frame { IsFrame lists.now four.top.0 four.right.0 four.bottom.0 }
-    ensures { IfOk result (λ found. MatchOption found ⊤ (λ f. IsRectMap lists.now × IsFrame lists.now f.top.0 f.right.0 f.bottom.0)) }
-{
-    if has_diagonal(lists, four) {
-        return Ok(None);
-    }
-    let closed = are_closed(alloc, lists)?;
-    if closed {
-        return Ok(Some(four));
-    }
-    Ok(None)
+    None
 }
 
 /// Finds the outer faces of maps of the class, one map after another, and keeps its tables for the next.
@@ -108,7 +76,9 @@ impl FrameFinder {
     /// is of the class. `None` leaves it open.
     ///
     /// A connected map of genus zero with 3n - 7 edges, of which the outer face is a quadrangle, has no other face but
-    /// triangles. After a call that ran out of memory the finder serves as before. The time is linear in the entries.
+    /// triangles; where no edge joins two vertices of the outer face across it, the corners may then show that no
+    /// triangle of edges separates. After a call that ran out of memory the finder serves as before. The time is linear in
+    /// the entries.
     pub fn frame(&mut self, lists: &Rotations) -> Result<Option<OuterFour>, AllocError>
         requires some_list { 0 < length lists.now }
         ensures { IfOk result (λ found. MatchOption found ⊤ (λ f. IsRectMap lists.now × IsFrame lists.now f.top.0 f.right.0 f.bottom.0)) }
@@ -117,17 +87,22 @@ impl FrameFinder {
         if !is_full(lists) {
             return Ok(None);
         }
-        match plane_count(&mut self.counter, lists, 3) {
-            Ok(count) => {
-                if count.c != 1 {
-                    return Ok(None);
-                }
-                match outer_face(lists) {
-                    Some(four) => confirmed(self.alloc, lists, four),
-                    None => Ok(None),
-                }
-            }
-            Err(_) => Ok(None),
+        let Ok(count) = plane_count(&mut self.counter, lists, 3) else {
+            return Ok(None);
+        };
+        if count.c != 1 {
+            return Ok(None);
         }
+        let Some(four) = outer_face(lists) else {
+            return Ok(None);
+        };
+        if has_diagonal(lists, four) {
+            return Ok(None);
+        }
+        let closed = are_closed(self.alloc, lists)?;
+        if closed {
+            return Ok(Some(four));
+        }
+        Ok(None)
     }
 }

@@ -42,25 +42,19 @@ impl Wings<'_> {
             || (self.right.0 == c.0 && self.edge.is_turned_face(c))
     }
 
-    // Says whether `a`, `b` and `c`, which rise, are a separating triangle.
-    fn is_separating_rising(&self, c: VertexId) -> bool
-        requires third { c.0 < length self.now.edge.near.map.now.lists }
-        requires rising { self.now.edge.a.0 < self.now.edge.b.0 }
-        requires rising_on { self.now.edge.b.0 < c.0 }
-        ensures { IsTrue result ↔ IsSeparating self.now.edge.near.map.now.lists self.now.edge.a.0 self.now.edge.b.0 c.0 }
-    {
-        self.edge.near.map.facts();
-        !self.is_bounding(c)
-            && self.edge.near.are_adjacent(self.edge.b, c)
-            && self.edge.near.are_adjacent(self.edge.a, c)
-    }
-
-    // Says whether `a`, `b` and `c` are a separating triangle.
+    // Says whether `a`, `b` and `c` rise and are a separating triangle.
     fn is_separating(&self, c: VertexId) -> bool
         requires { c.0 < length self.now.edge.near.map.now.lists }
         ensures { IsTrue result ↔ IsSeparating self.now.edge.near.map.now.lists self.now.edge.a.0 self.now.edge.b.0 c.0 }
     {
-        self.edge.a.0 < self.edge.b.0 && self.edge.b.0 < c.0 && self.is_separating_rising(c)
+        let near = self.edge.near;
+        let (a, b) = (self.edge.a, self.edge.b);
+        near.map.facts();
+        a.0 < b.0
+            && b.0 < c.0
+            && !self.is_bounding(c)
+            && near.are_adjacent(b, c)
+            && near.are_adjacent(a, c)
     }
 }
 
@@ -123,16 +117,6 @@ impl Edge<'_> {
         wings.is_separating(self.near.map.head(e))
     }
 
-    // Returns the least third vertex of `a` and `b`, by the list of `w`, which is one of them.
-    fn least_third_at(&self, w: VertexId) -> Option<VertexId>
-        requires { (w.0 ≡ self.now.a.0) ⊎ (w.0 ≡ self.now.b.0) }
-        ensures { MatchOption result ((c : ℕ) → ¬ IsSeparating self.now.near.map.now.lists self.now.a.0 self.now.b.0 c)
-            (λ c. IsLeast (IsSeparating self.now.near.map.now.lists self.now.a.0 self.now.b.0) c.0) }
-    {
-        self.near.map.facts();
-        least_head(self.near.map, w, |e| self.leads_to_third(e))
-    }
-
     // Returns the end whose list is the shorter of the two.
     fn shorter_end(&self) -> VertexId
         ensures { (result.0 ≡ self.now.a.0) ⊎ (result.0 ≡ self.now.b.0) }
@@ -145,28 +129,20 @@ impl Edge<'_> {
         }
     }
 
-    // Returns the least third vertex of the edge. It goes over the shorter of the two lists.
+    // Returns the least third vertex of the edge. It goes over the shorter of the lists of `a` and `b`: a third vertex
+    // stands in both.
     fn least_third(&self) -> Option<VertexId>
         ensures { MatchOption result ((c : ℕ) → ¬ IsSeparating self.now.near.map.now.lists self.now.a.0 self.now.b.0 c)
             (λ c. IsLeast (IsSeparating self.now.near.map.now.lists self.now.a.0 self.now.b.0) c.0) }
     {
-        self.least_third_at(self.shorter_end())
-    }
-
-    // Returns the least third vertex of the edge, which has one.
-    fn third(&self) -> VertexId
-        requires { HasThird self.now.near.map.now.lists self.now.a.0 self.now.b.0 }
-        ensures { IsLeast (IsSeparating self.now.near.map.now.lists self.now.a.0 self.now.b.0) result.0 }
-    {
-        match self.least_third() {
-            Some(c) => c,
-            None => self.a,
-        }
+        self.near.map.facts();
+        let w = self.shorter_end();
+        least_head(self.near.map, w, |e| self.leads_to_third(e))
     }
 }
 
 impl Upper<'_> {
-    // Says whether the edge of a dart has a third vertex, and the tail is its lesser end.
+    // Says whether the edge of dart `d` has a third vertex, and the tail is its lesser end.
     fn is_second(&self, d: DartId) -> bool
         requires { IsLive self.now.map.now d.0 }
         ensures { IsTrue result ↔ HoldsAt self.now.map.now (HasThird self.now.map.now.lists) d.0 }
@@ -186,7 +162,13 @@ impl Upper<'_> {
         self.map.facts();
         let near = *self;
         match self.map.dart_of(a, b) {
-            Some(d) => Edge { near, d, a, b }.third(),
+            Some(d) => {
+                let edge = Edge { near, d, a, b };
+                match edge.least_third() {
+                    Some(c) => c,
+                    None => a,
+                }
+            }
             None => a,
         }
     }

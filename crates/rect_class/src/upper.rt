@@ -1,6 +1,6 @@
 //! For each vertex its neighbours of no lower degree. In a plane map such a row is short, also at a hub, so that
 //! two vertices are soon seen to be adjacent or not.
-ghost use Rattle.std.specs.Prelude.{◌≡◌, ◌<◌, ◌↔◌, ◌++◌, ◌∷◌, [], length, IsTrue, IfOk, Contains, All};
+ghost use Rattle.std.specs.Prelude.{◌≡◌, ◌<◌, ◌↔◌, ◌++◌, length, IsTrue, IfOk, Contains, All};
 ghost use Rattle.std.specs.List.{filter};
 ghost use Rattle.map_theory.specs.Maps.{HasDart, IsSimpleMap, list_of};
 ghost use Rattle.rect_class.specs.Upper.{has_degree as the_test, AreUpperRows};
@@ -8,7 +8,7 @@ ghost use Rattle.rect_class.specs.Upper.{has_degree as the_test, AreUpperRows};
 use half_edges::{HalfMap, Rotations, VertexId};
 use std::alloc::{AllocError, Global};
 
-// Whether a vertex has this many neighbours, or more.
+// Says whether vertex `u` has `degree` neighbours or more.
 fn has_degree(lists: &Rotations, degree: usize, u: u16) -> bool
     requires { u < length lists.now }
     ensures { result ≡ the_test lists.now degree u }
@@ -16,34 +16,20 @@ fn has_degree(lists: &Rotations, degree: usize, u: u16) -> bool
     degree <= lists.list(usize::from(u)).len()
 }
 
-// Puts a vertex behind others, if it has this many neighbours, or more.
-fn put_vertex(
-    entries: &mut Vec<u16>,
-    lists: &Rotations,
-    degree: usize,
-    u: u16,
-) -> Result<(), AllocError>
-    requires { u < length lists.now }
-    ensures { IfOk result (λ _. entries.new.items ≡ entries.old.items ++ filter (the_test lists.now degree) (u ∷ [])) }
-{
-    if has_degree(lists, degree, u) {
-        entries.push(u)?;
-    }
-    Ok(())
-}
-
-// Puts the row of a vertex with these neighbours behind others.
+// Puts the row of a vertex with the neighbours `us` behind `entries`: those that have as many neighbours or more.
 fn put_row(entries: &mut Vec<u16>, lists: &Rotations, us: &[u16]) -> Result<(), AllocError>
     requires { All (λ u. u < length lists.now) us.now }
     ensures { IfOk result (λ _. entries.new.items ≡ entries.old.items ++ filter (the_test lists.now (length us.now)) us.now) }
 {
     for u in us {
-        put_vertex(entries, lists, us.len(), *u)?;
+        if has_degree(lists, us.len(), *u) {
+            entries.push(*u)?;
+        }
     }
     Ok(())
 }
 
-/// For each vertex of a simple map its neighbours of no lower degree. It fails only when out of memory.
+/// Lists for each vertex of a simple map its neighbours of no lower degree. It fails only when out of memory.
 pub(crate) fn upper_rows(alloc: Global, lists: &Rotations) -> Result<Rotations, AllocError>
     requires { IsSimpleMap lists.now }
     ensures { IfOk result (AreUpperRows lists.now) }
@@ -57,19 +43,12 @@ pub(crate) fn upper_rows(alloc: Global, lists: &Rotations) -> Result<Rotations, 
     Ok(Rotations::from_parts(entries, ends))
 }
 
-// Whether a row has a vertex.
-fn is_in_row(row: &[u16], v: u16) -> bool
-    ensures { IsTrue result ↔ Contains row.now v }
-{
-    row.contains(&v)
-}
-
 /// Says whether row `u` has `v`.
 pub(crate) fn has_upper(rows: &Rotations, u: VertexId, v: VertexId) -> bool
     requires { u.0 < length rows.now }
     ensures { IsTrue result ↔ Contains (list_of rows.now u.0) v.0 }
 {
-    is_in_row(rows.list(usize::from(u.0)), v.0)
+    rows.list(usize::from(u.0)).contains(&v.0)
 }
 
 /// A map, and a row for each of its vertices with the neighbours of no lower degree.

@@ -7,4 +7,4 @@ pub loop-k-preserved : goal.loop-k-preserved
 loop-k-preserved c =
     let lists = c.args.self.now.lists.now in
     let v = c.args.self.now.v in
-    below_more (λ k. ComesBefore c.args.self.now.degrees.now (get_or (list_of lists v) k 0) v → IsClosedOver lists v (get_or (list_of lists v) k 0)) c.loop-k.k c.loop-k.invariant c.if-not-is_closed_before.ensures
+    below_more (λ k. ComesBefore c.args.self.now.degrees.now (get_or (list_of lists v) k 0) v → IsClosedOver lists v (get_or (list_of lists v) k 0)) c.loop-k.k c.loop-k.invariant c.if-not-is_closed_over.ensures

@@ -1,7 +1,0 @@
--- Each vertex before this place with the stamp is one of the two.
-use Rattle.std.proofs.Common.{ℕ, ◌<◌, get_or}
-use Rattle.rect_class.specs.Corners.{IsSide}
-use Rattle.rect_class.proofs.corners.are_sides.Given as goal
-
-abbrev pub invariant-loop-w : goal.invariant-loop-w
-invariant-loop-w l = (k : ℕ) → k < l.w-index → IsSide l.marks l.stamp l.last l.next (get_or l.ws k 0)
