@@ -21,8 +21,3 @@ HasEdges lists base parent c v path = (x y : ℕ) → HasDart lists x y → IsEd
 abbrev pub AreReached : Map → Dart → (Colour → ℕ → ℕ) → Colour → ℕ → List Bool → Type 0
 AreReached map base parent c v met =
     (d : ℕ) (odd : Bool) (x y : ℕ) → dart_at map d ≡ Some (x, y) → IsMet met d odd ↔ Reaches map.lists base parent c v x y odd
-
--- the marks are those of the region of which the tables are
-abbrev pub AreMarked : Map → ClosedPath → ℕ → List Bool → Type 0
-AreMarked map path start met =
-    (base : Dart) (parent : Colour → ℕ → ℕ) (c : Colour) (v : ℕ) → dart_at map start ≡ Some base → HasEdges map.lists base parent c v path → AreReached map base parent c v met

@@ -5,11 +5,10 @@ ghost use Rattle.plane_laws.specs.Triangulations.{IsTriangulation};
 ghost use Rattle.canon_order.specs.Orders.{IsCanonicalOrder, vertices_of};
 ghost use Rattle.contour_runs.specs.Runs.{Step};
 ghost use Rattle.order_drawings.specs.OrderRuns.{IsOrderRun};
-ghost use Rattle.wood_runs.specs.Parents.{Colour as TreeColour};
 ghost use Rattle.wood_laws.specs.Woods.{AreParentsOf};
 ghost use Rattle.order_drawings.specs.Rows.{AreRows};
-ghost use Rattle.schnyder_wood.specs.Parents.{by_colour, parent_in, IsWoodOf};
-ghost use Rattle.schnyder_wood.specs.Tables.{AreNamed, AreParentsAt};
+ghost use Rattle.schnyder_wood.specs.Parents.{parent_in, IsWoodOf};
+ghost use Rattle.schnyder_wood.specs.Tables.{AreParentsAt};
 
 use crate::tables::{find_parents, name_of, named};
 use crate::woods::Wood;
@@ -24,27 +23,6 @@ struct Tables {
     ones: Vec<u16>,
     twos: Vec<u16>,
     threes: Vec<u16>,
-}
-
-// Three tables by ranks, with vertices in place of their ranks.
-fn named_all(
-    alloc: Global,
-    firsts: &[u16],
-    lasts: &[u16],
-    covers: &[u16],
-    order: &Order,
-) -> Result<Tables, AllocError>
-    requires lasts { length lasts.now ≡ length firsts.now }
-    requires covers { length covers.now ≡ length firsts.now }
-    requires ranks { All (λ k. k < length firsts.now) order.now.rank }
-    requires within { (c : TreeColour) (k : ℕ) → slice_index (by_colour firsts.now lasts.now covers.now c) k < length (vertices_of order.now) }
-    ensures { IfOk result (λ tables. (c : TreeColour)
-        → AreNamed (by_colour firsts.now lasts.now covers.now c) order.now.rank (vertices_of order.now) (by_colour tables.ones.items tables.twos.items tables.threes.items c)) }
-{
-    let ones = named(alloc, firsts, order)?;
-    let twos = named(alloc, lasts, order)?;
-    let threes = named(alloc, covers, order)?;
-    Ok(Tables { ones, twos, threes })
 }
 
 // The parents of the vertices of an order, by the rows of its run.
@@ -62,7 +40,10 @@ fn parent_tables(alloc: Global, rows: &Rotations, order: &Order) -> Result<Table
     let mut lasts = vec![in alloc; 0; n]?;
     let mut covers = vec![in alloc; 0; n]?;
     find_parents(&mut firsts, &mut lasts, &mut covers, rows);
-    named_all(alloc, &firsts, &lasts, &covers, order)
+    let ones = named(alloc, &firsts, order)?;
+    let twos = named(alloc, &lasts, order)?;
+    let threes = named(alloc, &covers, order)?;
+    Ok(Tables { ones, twos, threes })
 }
 
 /// Schnyder's wood of a canonical order of a triangulation: a simple map of genus zero with n >= 3 vertices and

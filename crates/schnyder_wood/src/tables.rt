@@ -2,44 +2,18 @@
 //!
 //! The first vertex of a row is the parent of colour one of the vertex that is put over it, the last one that of
 //! colour two; and that vertex is the parent of colour three of all between them.
-ghost use Rattle.std.specs.Prelude.{◌≡◌, ◌<◌, ◌≤◌, ◌+◌, ◌-◌, ℕ, length, slice_index, slice_set, All, IfOk};
+ghost use Rattle.std.specs.Prelude.{◌≡◌, ◌<◌, ◌+◌, ℕ, length, slice_index, All, IfOk};
 ghost use Rattle.contour_runs.specs.Runs.{Step};
 ghost use Rattle.canon_order.specs.Orders.{vertices_of};
 ghost use Rattle.order_drawings.specs.Rows.{AreRows};
-ghost use Rattle.schnyder_wood.specs.Tables.{AreCovered, AreParentTables, AreNamed};
+ghost use Rattle.schnyder_wood.specs.Tables.{AreParentTables, AreNamed};
 
 use canon_order::Order;
 use half_edges::Rotations;
 use std::alloc::{AllocError, Global};
 
-// Notes that all vertices of a row but its ends are covered by v.
-fn cover(covers: &mut [u16], row: &[u16], v: u16)
-    requires ends { 2 ≤ length row.now }
-    requires within { All (λ u. u < length covers.old) row.now }
-    ensures { AreCovered v row.now (length row.now - 1) covers.old covers.new }
-{
-    for i in 1..row.len() - 1 {
-        covers[row[i] as usize] = v;
-    }
-}
-
-// Notes the parents that come with the vertex v, which is put over a row.
-fn put_over(firsts: &mut [u16], lasts: &mut [u16], covers: &mut [u16], row: &[u16], v: u16)
-    requires lasts { length lasts.old ≡ length firsts.old }
-    requires covers { length covers.old ≡ length firsts.old }
-    requires vertex { v < length firsts.old }
-    requires ends { 2 ≤ length row.now }
-    requires within { All (λ u. u < length firsts.old) row.now }
-    ensures first { firsts.new ≡ slice_set firsts.old v (slice_index row.now 0) }
-    ensures last { lasts.new ≡ slice_set lasts.old v (slice_index row.now (length row.now - 1)) }
-    ensures covered { AreCovered v row.now (length row.now - 1) covers.old covers.new }
-{
-    firsts[v as usize] = row[0];
-    lasts[v as usize] = row[row.len() - 1];
-    cover(covers, row, v);
-}
-
-// The parents of the vertices of a run, by its rows: for each rank that of the parent.
+// The parents of the vertices of a run, by its rows: for each rank that of the parent. The vertex that is put over a row
+// covers all of it but its ends.
 pub(crate) fn find_parents(
     firsts: &mut [u16],
     lasts: &mut [u16],
@@ -56,7 +30,15 @@ pub(crate) fn find_parents(
         → AreParentTables steps (length rows.now) (length firsts.old) firsts.new lasts.new covers.new }
 {
     for k in 0..rows.len() {
-        put_over(firsts, lasts, covers, rows.list(k), (k + 2) as u16);
+        let row = rows.list(k);
+        let v = k + 2;
+        let end = row.len() - 1;
+        firsts[v] = row[0];
+        lasts[v] = row[end];
+        for i in 1..end {
+            let u = row[i] as usize;
+            covers[u] = v as u16;
+        }
     }
 }
 

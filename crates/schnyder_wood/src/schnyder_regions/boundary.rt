@@ -1,5 +1,5 @@
 //! The closed path of a region.
-ghost use Rattle.std.specs.Prelude.{◌≡◌, ◌≢◌, ◌<◌, ◌⊎◌, ◌↔◌, ℕ, IsTrue, IfOk, length, slice_index};
+ghost use Rattle.std.specs.Prelude.{◌≡◌, ◌<◌, ◌⊎◌, ◌↔◌, ℕ, IsTrue, IfOk, length, slice_index};
 ghost use Rattle.wood_runs.specs.Parents.{next, previous};
 ghost use Rattle.schnyder_wood.specs.Parents.{kind, count_in, parent_in, IsInnerIn};
 ghost use Rattle.schnyder_wood.specs.Boundaries.{NotesPath};
@@ -64,19 +64,7 @@ fn previous_colour(colour: Colour) -> Colour
     }
 }
 
-// All vertices, each at its own place.
-fn own_vertices(alloc: Global, n: u16) -> Result<Vec<u16>, AllocError>
-    ensures count { IfOk result (λ ups. length ups.items ≡ n) }
-    ensures own { IfOk result (λ ups. (u : ℕ) → u < length ups.items → slice_index ups.items u ≡ u) }
-{
-    let mut ups = Vec::new(alloc);
-    for v in 0..n {
-        ups.push(v)?;
-    }
-    Ok(ups)
-}
-
-// The path of a colour, noted for each vertex.
+// The path of a colour, noted for each vertex: where it leads from those on it, and all others at their own place.
 fn noted_path(
     alloc: Global,
     wood: &Wood,
@@ -86,7 +74,10 @@ fn noted_path(
     requires inner { IsInnerIn wood.now v.0 }
     ensures { IfOk result (λ ups. NotesPath wood.now (kind colour) v.0 ups.items) }
 {
-    let mut ups = own_vertices(alloc, wood.n())?;
+    let mut ups = Vec::new(alloc);
+    for u in 0..wood.n() {
+        ups.push(u)?;
+    }
     note_path(&mut ups, wood, v, colour);
     Ok(ups)
 }

@@ -1,6 +1,5 @@
 //! How many vertices a region has.
-ghost use Rattle.std.specs.Prelude.{◌≡◌, ◌<◌, ◌*◌, ℕ, false, true, Some, length, OnOk, IfOk};
-ghost use Rattle.classes.specs.Classes.{count_below};
+ghost use Rattle.std.specs.Prelude.{◌≡◌, ◌<◌, ◌*◌, ℕ, false, true, Some, length, IfOk};
 ghost use Rattle.map_theory.specs.Maps.{Dart, HasDart};
 ghost use Rattle.half_edges.specs.Map.{IsLive, dart_at, id_bound};
 ghost use Rattle.wood_runs.specs.Parents.{Colour as TreeColour, one, two};
@@ -9,8 +8,7 @@ ghost use Rattle.wood_laws.specs.Regions.{IsRegionCount};
 ghost use Rattle.schnyder_wood.specs.Parents.{kind, root_in, parent_in, IsInnerIn, IsWoodOf};
 ghost use Rattle.schnyder_wood.specs.Boundaries.{base_in};
 ghost use Rattle.schnyder_wood.specs.ClosedPaths.{IsVertexOf};
-ghost use Rattle.euler_faces.specs.ChainSearch.{IsMet};
-ghost use Rattle.schnyder_wood.specs.Search.{IsCrossed, HasEdges, AreMarked};
+ghost use Rattle.schnyder_wood.specs.Search.{IsCrossed, HasEdges};
 ghost use Rattle.schnyder_wood.specs.Counting.{HasOdd, MarksMore, HasVertices};
 
 use crate::schnyder_regions::boundary::closed_path;
@@ -21,24 +19,14 @@ use half_edges::{DartId, HalfMap};
 use map_lists::VertexId;
 use std::alloc::{AllocError, Global};
 
-// The region of a closed path of a map, which notes all vertices.
+// The region of a closed path of a map, which notes all vertices, and the dart at which chains of faces start.
 #[derive(Clone, Copy)]
 struct Region<'a> {
     map: &'a HalfMap,
     path: &'a ClosedPath,
+    start: DartId,
     ghost all: { length path.now.nexts.items ≡ length map.now.lists },
-}
-
-// How many are marked.
-fn marked_count(inside: &[bool], n: u16) -> u32
-    requires { length inside.now ≡ n }
-    ensures { result ≡ count_below (mark_at inside.now) n }
-{
-    let mut count = 0;
-    for u in 0..n {
-        count += inside[u as usize] as u32;
-    }
-    count
+    ghost live: { IsLive map.now start.0 },
 }
 
 impl Region<'_> {
@@ -57,38 +45,7 @@ impl Region<'_> {
         self.path.has_edge(self.map.tail(d).0, self.map.head(d).0)
     }
 
-    // Marks all that chains of faces from the start come to, with an even or an odd number of crossings each.
-    fn mark_met(&self, alloc: Global, met: &mut [bool], start: DartId) -> Result<(), AllocError>
-        requires live { IsLive self.now.map.now start.0 }
-        requires marks { length met.old ≡ 2 * id_bound self.now.map.now }
-        requires unset { (i : ℕ) → mark_at met.old i ≡ false }
-        ensures { OnOk result (AreMarked self.now.map.now self.now.path.now start.0 met.new) }
-    {
-        self.map.facts();
-        let region = *self;
-        mark_reached(alloc, self.map, met, start, |d| region.crosses(d))?;
-        Ok(())
-    }
-
-    // Marks the vertex that a dart leaves, where its face is met with an odd number.
-    fn mark_tail(&self, met: &[bool], inside: &mut [bool], d: DartId)
-        requires marks { length met.now ≡ 2 * id_bound self.now.map.now }
-        requires id { d.0 < id_bound self.now.map.now }
-        requires count { length inside.old ≡ length self.now.map.now.lists }
-        ensures { MarksMore (λ w. (y : ℕ) × (dart_at self.now.map.now d.0 ≡ Some (w, y)) × IsMet met.now d.0 true) inside.old inside.new }
-    {
-        self.map.facts();
-        if !self.map.is_live(d) {
-            return;
-        }
-        if !met[2 * (d.0 as usize) + 1] {
-            return;
-        }
-        let v = self.map.tail(d);
-        inside[v.0 as usize] = true;
-    }
-
-    // Marks all such vertices.
+    // Marks the vertices that a dart leaves whose face is met with an odd number.
     fn mark_tails(&self, met: &[bool], inside: &mut [bool])
         requires marks { length met.now ≡ 2 * id_bound self.now.map.now }
         requires count { length inside.old ≡ length self.now.map.now.lists }
@@ -98,19 +55,15 @@ impl Region<'_> {
         let ids = 2 * (self.map.m() + self.map.spare());
         let region = *self;
         for d in 0..ids {
-            region.mark_tail(met, inside, DartId(d));
-        }
-    }
-
-    // Marks a vertex that is on the closed path.
-    fn mark_vertex(&self, inside: &mut [bool], u: u16)
-        requires vertex { u < length self.now.map.now.lists }
-        requires count { length inside.old ≡ length self.now.map.now.lists }
-        ensures { MarksMore (λ w. (w ≡ u) × IsVertexOf self.now.path.now w) inside.old inside.new }
-    {
-        self.facts();
-        if self.path.has_vertex(u) {
-            inside[u as usize] = true;
+            let odd = met[2 * (d as usize) + 1];
+            if !odd {
+                continue;
+            }
+            if !region.map.is_live(DartId(d)) {
+                continue;
+            }
+            let v = region.map.tail(DartId(d));
+            inside[v.0 as usize] = true;
         }
     }
 
@@ -119,34 +72,37 @@ impl Region<'_> {
         requires { length inside.old ≡ length self.now.map.now.lists }
         ensures { MarksMore (IsVertexOf self.now.path.now) inside.old inside.new }
     {
+        self.facts();
         self.map.facts();
         let region = *self;
         for u in 0..self.map.n() {
-            region.mark_vertex(inside, u);
+            if !region.path.has_vertex(u) {
+                continue;
+            }
+            inside[u as usize] = true;
         }
     }
 
-    // How many vertices the region has, on the side of the closed path that is not met from `start`, given no marks.
-    fn count(
-        &self,
-        alloc: Global,
-        met: &mut [bool],
-        inside: &mut [bool],
-        start: DartId,
-    ) -> Result<u32, AllocError>
-        requires live { IsLive self.now.map.now start.0 }
+    // How many vertices the region has, on the side of the closed path that is not met from the start, given no marks: first
+    // all faces are met to which chains from the start come, with an even or an odd number of crossings each.
+    fn count(&self, alloc: Global, met: &mut [bool], inside: &mut [bool]) -> Result<u32, AllocError>
         requires marks { length met.old ≡ 2 * id_bound self.now.map.now }
         requires unset { (i : ℕ) → mark_at met.old i ≡ false }
         requires count { length inside.old ≡ length self.now.map.now.lists }
         requires none { (i : ℕ) → mark_at inside.old i ≡ false }
-        ensures { IfOk result (λ k. (base : Dart) (parent : TreeColour → ℕ → ℕ) (c : TreeColour) (v : ℕ) → dart_at self.now.map.now start.0 ≡ Some base → HasEdges self.now.map.now.lists base parent c v self.now.path.now → HasVertices self.now.map.now.lists base parent c v self.now.path.now
+        ensures { IfOk result (λ k. (base : Dart) (parent : TreeColour → ℕ → ℕ) (c : TreeColour) (v : ℕ) → dart_at self.now.map.now self.now.start.0 ≡ Some base → HasEdges self.now.map.now.lists base parent c v self.now.path.now → HasVertices self.now.map.now.lists base parent c v self.now.path.now
             → IsRegionCount self.now.map.now.lists base parent c v k) }
     {
         self.map.facts();
-        self.mark_met(alloc, met, start)?;
+        let region = *self;
+        mark_reached(alloc, self.map, met, self.start, |d| region.crosses(d))?;
         self.mark_tails(met, inside);
         self.mark_boundary(inside);
-        Ok(marked_count(inside, self.map.n()))
+        let mut count = 0;
+        for u in 0..self.map.n() {
+            count += inside[u as usize] as u32;
+        }
+        Ok(count)
     }
 }
 
@@ -187,12 +143,14 @@ pub fn region_count(
     tri.facts();
     wood.facts();
     let path = closed_path(alloc, wood, v, colour)?;
+    let start = base_dart(tri, wood);
     let region = Region {
         map: tri,
         path: &path,
+        start,
     };
     let ids = 2 * (tri.m() as usize + tri.spare() as usize);
     let mut met = vec![in alloc; false; 2 * ids]?;
     let mut inside = vec![in alloc; false; tri.n() as usize]?;
-    region.count(alloc, &mut met, &mut inside, base_dart(tri, wood))
+    region.count(alloc, &mut met, &mut inside)
 }

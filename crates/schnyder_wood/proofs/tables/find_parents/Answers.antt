@@ -1,25 +1,81 @@
-use Rattle.std.proofs.Common.{◌≡◌, ◌+◌, ◌-◌, ◌<◌, ◌≤◌, ℕ, suc, length, slice_index, slice_set, All, sym, ap, ◌∙◌, subst, arith}
+use Rattle.std.proofs.Common.{◌≡◌, ◌+◌, ◌-◌, ◌<◌, ◌≤◌, ℕ, suc, List, length, slice_index, slice_set, All, sym, ap, subst, arith}
+use Rattle.map_theory.specs.Maps.{list_of}
 use Rattle.schnyder_wood.specs.Tables.{AreCovered, AreParentTables}
+use Rattle.schnyder_wood.proofs.Covers.{AreCovered-more}
 use Rattle.schnyder_wood.proofs.Rows.{AreParentTables-begin, AreParentTables-more, two_ends, row_within}
 use Rattle.schnyder_wood.proofs.tables.find_parents.Goals as goal
 
-pub put_over-requires-clause-ends : goal.put_over-requires-clause-ends
-put_over-requires-clause-ends c =
+pub overflow_sub-end : goal.overflow_sub-end
+overflow_sub-end c =
     let run = c.requires.run in
+    let rows = c.args.rows.now in
+    let k : ℕ = c.loop-k.k in
     let test = c.loop-k-test.true in
     let len = c.len-k-end.ensures in
-    let ends = two_ends run.0 c.args.rows.now c.loop-k.k run.1 (omega arith) in
-    subst (λ row. 2 ≤ length row) (sym c.list.ensures) ends
+    let ends : 2 ≤ length c.list-row.result.now = subst (λ (row : List ℕ). 2 ≤ length row) (sym c.list-row.ensures) (two_ends run.0 rows k run.1 (omega arith)) in
+    omega (arith, ends)
 
-pub put_over-requires-clause-within : goal.put_over-requires-clause-within
-put_over-requires-clause-within c =
+pub bounds-row-0 : goal.bounds-row-0
+bounds-row-0 c =
     let run = c.requires.run in
+    let rows = c.args.rows.now in
+    let k : ℕ = c.loop-k.k in
     let test = c.loop-k-test.true in
     let len = c.len-k-end.ensures in
-    let same = c.loop-k.auto.firsts in
+    let ends : 2 ≤ length c.list-row.result.now = subst (λ (row : List ℕ). 2 ≤ length row) (sym c.list-row.ensures) (two_ends run.0 rows k run.1 (omega arith)) in
+    omega (arith, ends)
+
+pub bounds-row-end : goal.bounds-row-end
+bounds-row-end c =
+    let run = c.requires.run in
+    let rows = c.args.rows.now in
+    let k : ℕ = c.loop-k.k in
+    let test = c.loop-k-test.true in
+    let len = c.len-k-end.ensures in
+    let ends : 2 ≤ length c.list-row.result.now = subst (λ (row : List ℕ). 2 ≤ length row) (sym c.list-row.ensures) (two_ends run.0 rows k run.1 (omega arith)) in
+    omega (arith, ends)
+
+pub bounds-covers-u : goal.bounds-covers-u
+bounds-covers-u c =
+    let run = c.requires.run in
+    let rows = c.args.rows.now in
+    let k : ℕ = c.loop-k.k in
+    let test = c.loop-k-test.true in
+    let len = c.len-k-end.ensures in
+    let ends : 2 ≤ length c.list-row.result.now = subst (λ (row : List ℕ). 2 ≤ length row) (sym c.list-row.ensures) (two_ends run.0 rows k run.1 (omega arith)) in
     let size = c.requires.rows in
-    subst (λ row. All (λ u. u < length c.loop-k.firsts) row) (sym c.list.ensures)
-    (row_within run.0 c.args.rows.now c.loop-k.k run.1 (omega arith) (length c.loop-k.firsts) (omega arith))
+    let same = c.loop-k.auto.firsts in
+    let same' = c.loop-k.auto.covers in
+    let long = c.requires.covers in
+    let within : All (λ u. u < length c.loop-k.firsts) c.list-row.result.now = subst (λ (row : List ℕ). All (λ u. u < length c.loop-k.firsts) row) (sym c.list-row.ensures) (row_within run.0 rows k run.1 (omega arith) (length c.loop-k.firsts) (omega arith)) in
+    let i : ℕ = c.loop-i.i in
+    let before = c.loop-i-test.true in
+    let kept = c.loop-i.auto.covers in
+    let l = within i 0 (omega (arith, before)) in
+    omega (arith, l, kept, same, same', long)
+
+pub loop-i-preserved : goal.loop-i-preserved
+loop-i-preserved c =
+    let run = c.requires.run in
+    let rows = c.args.rows.now in
+    let k : ℕ = c.loop-k.k in
+    let test = c.loop-k-test.true in
+    let len = c.len-k-end.ensures in
+    let ends : 2 ≤ length c.list-row.result.now = subst (λ (row : List ℕ). 2 ≤ length row) (sym c.list-row.ensures) (two_ends run.0 rows k run.1 (omega arith)) in
+    let size = c.requires.rows in
+    let same = c.loop-k.auto.firsts in
+    let same' = c.loop-k.auto.covers in
+    let long = c.requires.covers in
+    let within : All (λ u. u < length c.loop-k.firsts) c.list-row.result.now = subst (λ (row : List ℕ). All (λ u. u < length c.loop-k.firsts) row) (sym c.list-row.ensures) (row_within run.0 rows k run.1 (omega arith) (length c.loop-k.firsts) (omega arith)) in
+    let i : ℕ = c.loop-i.i in
+    let before = c.loop-i-test.true in
+    let kept = c.loop-i.auto.covers in
+    let l = within i 0 (omega (arith, before)) in
+    let row = list_of rows k in
+    let there : slice_index c.list-row.result.now i ≡ slice_index row i = ap (λ (us : List ℕ). slice_index us i) c.list-row.ensures in
+    let e : suc i ≡ i + 1 = omega arith in
+    subst (λ j. AreCovered (k + 2) row j c.loop-k.covers (slice_set c.loop-i.covers (slice_index c.list-row.result.now i) (k + 2))) e
+    (subst (λ u. AreCovered (k + 2) row (suc i) c.loop-k.covers (slice_set c.loop-i.covers u (k + 2))) (sym there) (AreCovered-more (k + 2) row i c.loop-k.covers c.loop-i.covers c.loop-i.invariant (omega (arith, l, there)) (omega arith)))
 
 pub loop-k-init : goal.loop-k-init
 loop-k-init c = λ steps h.
@@ -28,21 +84,30 @@ loop-k-init c = λ steps h.
 
 pub loop-k-preserved : goal.loop-k-preserved
 loop-k-preserved c = λ steps h.
+    let run = c.requires.run in
+    let rows = c.args.rows.now in
     let k : ℕ = c.loop-k.k in
     let test = c.loop-k-test.true in
     let len = c.len-k-end.ensures in
+    let ends : 2 ≤ length c.list-row.result.now = subst (λ (row : List ℕ). 2 ≤ length row) (sym c.list-row.ensures) (two_ends run.0 rows k run.1 (omega arith)) in
     let size = c.requires.rows in
     let same = c.loop-k.auto.firsts in
     let same' = c.loop-k.auto.lasts in
     let lasts = c.requires.lasts in
     let n : ℕ = length c.args.firsts.now in
-    let row = c.list.ensures in
+    let list = c.list-row.result.now in
+    let row = list_of rows k in
+    let made = slice_set c.loop-k.firsts (k + 2) (slice_index list 0) in
+    let made' = slice_set c.loop-k.lasts (k + 2) (slice_index list (length list - 1)) in
+    let past = c.loop-i-test.false in
+    let stop = c.loop-i.auto.i-end in
+    let all : c.loop-i.i ≡ length row - 1 = omega (arith, ap (λ (us : List ℕ). length us) c.list-row.ensures) in
     let e : suc k ≡ k + 1 = omega arith in
-    subst (λ j. AreParentTables steps j n c.put_over.new.firsts c.put_over.new.lasts c.put_over.new.covers) e
-    (AreParentTables-more steps c.args.rows.now k h (omega arith) n size c.loop-k.firsts c.loop-k.lasts c.loop-k.covers c.put_over.new.firsts c.put_over.new.lasts c.put_over.new.covers (omega arith) (omega arith) (c.loop-k.invariant steps h)
-    (c.put_over.ensures.first ∙ ap (λ row. slice_set c.loop-k.firsts (k + 2) (slice_index row 0)) row)
-    (c.put_over.ensures.last ∙ ap (λ row. slice_set c.loop-k.lasts (k + 2) (slice_index row (length row - 1))) row)
-    (subst (λ row. AreCovered (k + 2) row (length row - 1) c.loop-k.covers c.put_over.new.covers) row c.put_over.ensures.covered))
+    subst (λ j. AreParentTables steps j n made made' c.loop-i.covers) e
+    (AreParentTables-more steps rows k h (omega arith) n size c.loop-k.firsts c.loop-k.lasts c.loop-k.covers made made' c.loop-i.covers (omega arith) (omega arith) (c.loop-k.invariant steps h)
+    (ap (λ (us : List ℕ). slice_set c.loop-k.firsts (k + 2) (slice_index us 0)) c.list-row.ensures)
+    (ap (λ (us : List ℕ). slice_set c.loop-k.lasts (k + 2) (slice_index us (length us - 1))) c.list-row.ensures)
+    (subst (λ j. AreCovered (k + 2) row j c.loop-k.covers c.loop-i.covers) all c.loop-i.invariant))
 
 pub returns : goal.returns
 returns c = λ steps h.

@@ -1,7 +1,7 @@
 use Rattle.std.proofs.Common.{◌≡◌, ◌≤◌}
 use Rattle.classes.specs.Classes.{count_below}
 use Rattle.euler_faces.specs.Numbers.{mark_at}
-use Rattle.schnyder_wood.proofs.schnyder_regions.count.marked_count.Given as goal
+use Rattle.schnyder_wood.proofs.schnyder_regions.count.Region.count.Given as goal
 
 abbrev pub invariant-loop-u : goal.invariant-loop-u
 invariant-loop-u l = record {
