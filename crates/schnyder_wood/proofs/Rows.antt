@@ -138,3 +138,7 @@ module _ (steps : ℕ → Step) (rows : Lists) (k : ℕ) (h : AreRows steps rows
     -- one step more
     pub AreParentTables-more : AreParentTables steps (suc k) n firsts' lasts' covers'
     AreParentTables-more = record { each = each; within = within }
+
+-- the list of a row has an entry for each end, and its entries are vertices
+pub row_known : (rows : Lists) (k n : ℕ) (list : List ℕ) → ((steps : ℕ → Step) × AreRows steps rows) → list ≡ list_of rows k → k < length rows → length rows + 2 ≡ n → (2 ≤ length list) × All (λ u. u < n) list
+row_known rows k n list run is l size = (subst (λ (us : List ℕ). 2 ≤ length us) (sym is) (two_ends run.0 rows k run.1 l), subst (λ (us : List ℕ). All (λ u. u < n) us) (sym is) (row_within run.0 rows k run.1 l n size))

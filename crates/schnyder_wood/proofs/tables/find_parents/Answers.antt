@@ -1,77 +1,40 @@
-use Rattle.std.proofs.Common.{◌≡◌, ◌+◌, ◌-◌, ◌<◌, ◌≤◌, ℕ, suc, List, length, slice_index, slice_set, All, sym, ap, subst, arith}
+use Rattle.std.proofs.Common.{◌≡◌, ◌+◌, ◌-◌, ℕ, suc, List, length, slice_index, slice_set, sym, ap, subst, arith}
 use Rattle.map_theory.specs.Maps.{list_of}
 use Rattle.schnyder_wood.specs.Tables.{AreCovered, AreParentTables}
 use Rattle.schnyder_wood.proofs.Covers.{AreCovered-more}
-use Rattle.schnyder_wood.proofs.Rows.{AreParentTables-begin, AreParentTables-more, two_ends, row_within}
+use Rattle.schnyder_wood.proofs.Rows.{AreParentTables-begin, AreParentTables-more, row_known}
 use Rattle.schnyder_wood.proofs.tables.find_parents.Goals as goal
 
 pub overflow_sub-end : goal.overflow_sub-end
-overflow_sub-end c =
-    let run = c.requires.run in
-    let rows = c.args.rows.now in
-    let k : ℕ = c.loop-k.k in
-    let test = c.loop-k-test.true in
-    let len = c.len-k-end.ensures in
-    let ends : 2 ≤ length c.list-row.result.now = subst (λ (row : List ℕ). 2 ≤ length row) (sym c.list-row.ensures) (two_ends run.0 rows k run.1 (omega arith)) in
-    omega (arith, ends)
+overflow_sub-end c = let known = row_known c.args.rows.now c.loop-k.k (length c.args.firsts.now) c.list-row.result.now c.requires.run c.list-row.ensures (omega (arith, c.len-k-end.ensures, c.loop-k-test.true)) c.requires.rows in omega (arith, known.0)
 
 pub bounds-row-0 : goal.bounds-row-0
-bounds-row-0 c =
-    let run = c.requires.run in
-    let rows = c.args.rows.now in
-    let k : ℕ = c.loop-k.k in
-    let test = c.loop-k-test.true in
-    let len = c.len-k-end.ensures in
-    let ends : 2 ≤ length c.list-row.result.now = subst (λ (row : List ℕ). 2 ≤ length row) (sym c.list-row.ensures) (two_ends run.0 rows k run.1 (omega arith)) in
-    omega (arith, ends)
+bounds-row-0 c = let known = row_known c.args.rows.now c.loop-k.k (length c.args.firsts.now) c.list-row.result.now c.requires.run c.list-row.ensures (omega (arith, c.len-k-end.ensures, c.loop-k-test.true)) c.requires.rows in omega (arith, known.0)
 
 pub bounds-row-end : goal.bounds-row-end
-bounds-row-end c =
-    let run = c.requires.run in
-    let rows = c.args.rows.now in
-    let k : ℕ = c.loop-k.k in
-    let test = c.loop-k-test.true in
-    let len = c.len-k-end.ensures in
-    let ends : 2 ≤ length c.list-row.result.now = subst (λ (row : List ℕ). 2 ≤ length row) (sym c.list-row.ensures) (two_ends run.0 rows k run.1 (omega arith)) in
-    omega (arith, ends)
+bounds-row-end c = let known = row_known c.args.rows.now c.loop-k.k (length c.args.firsts.now) c.list-row.result.now c.requires.run c.list-row.ensures (omega (arith, c.len-k-end.ensures, c.loop-k-test.true)) c.requires.rows in omega (arith, known.0)
 
 pub bounds-covers-u : goal.bounds-covers-u
 bounds-covers-u c =
-    let run = c.requires.run in
-    let rows = c.args.rows.now in
-    let k : ℕ = c.loop-k.k in
-    let test = c.loop-k-test.true in
-    let len = c.len-k-end.ensures in
-    let ends : 2 ≤ length c.list-row.result.now = subst (λ (row : List ℕ). 2 ≤ length row) (sym c.list-row.ensures) (two_ends run.0 rows k run.1 (omega arith)) in
-    let size = c.requires.rows in
-    let same = c.loop-k.auto.firsts in
-    let same' = c.loop-k.auto.covers in
-    let long = c.requires.covers in
-    let within : All (λ u. u < length c.loop-k.firsts) c.list-row.result.now = subst (λ (row : List ℕ). All (λ u. u < length c.loop-k.firsts) row) (sym c.list-row.ensures) (row_within run.0 rows k run.1 (omega arith) (length c.loop-k.firsts) (omega arith)) in
-    let i : ℕ = c.loop-i.i in
-    let before = c.loop-i-test.true in
+    let known = row_known c.args.rows.now c.loop-k.k (length c.args.firsts.now) c.list-row.result.now c.requires.run c.list-row.ensures (omega (arith, c.len-k-end.ensures, c.loop-k-test.true)) c.requires.rows in
+    let end = known.0 in
+    let same = c.loop-k.auto.covers in
     let kept = c.loop-i.auto.covers in
-    let l = within i 0 (omega (arith, before)) in
-    omega (arith, l, kept, same, same', long)
+    let l = known.1 c.loop-i.i 0 (omega (arith, c.loop-i-test.true)) in
+    omega (arith, l, kept, same, c.requires.covers)
 
 pub loop-i-preserved : goal.loop-i-preserved
 loop-i-preserved c =
-    let run = c.requires.run in
-    let rows = c.args.rows.now in
+    let known = row_known c.args.rows.now c.loop-k.k (length c.args.firsts.now) c.list-row.result.now c.requires.run c.list-row.ensures (omega (arith, c.len-k-end.ensures, c.loop-k-test.true)) c.requires.rows in
     let k : ℕ = c.loop-k.k in
-    let test = c.loop-k-test.true in
-    let len = c.len-k-end.ensures in
-    let ends : 2 ≤ length c.list-row.result.now = subst (λ (row : List ℕ). 2 ≤ length row) (sym c.list-row.ensures) (two_ends run.0 rows k run.1 (omega arith)) in
-    let size = c.requires.rows in
-    let same = c.loop-k.auto.firsts in
-    let same' = c.loop-k.auto.covers in
-    let long = c.requires.covers in
-    let within : All (λ u. u < length c.loop-k.firsts) c.list-row.result.now = subst (λ (row : List ℕ). All (λ u. u < length c.loop-k.firsts) row) (sym c.list-row.ensures) (row_within run.0 rows k run.1 (omega arith) (length c.loop-k.firsts) (omega arith)) in
     let i : ℕ = c.loop-i.i in
+    let end = known.0 in
     let before = c.loop-i-test.true in
+    let same = c.loop-k.auto.covers in
+    let long = c.requires.covers in
     let kept = c.loop-i.auto.covers in
-    let l = within i 0 (omega (arith, before)) in
-    let row = list_of rows k in
+    let l = known.1 i 0 (omega (arith, before)) in
+    let row = list_of c.args.rows.now k in
     let there : slice_index c.list-row.result.now i ≡ slice_index row i = ap (λ (us : List ℕ). slice_index us i) c.list-row.ensures in
     let e : suc i ≡ i + 1 = omega arith in
     subst (λ j. AreCovered (k + 2) row j c.loop-k.covers (slice_set c.loop-i.covers (slice_index c.list-row.result.now i) (k + 2))) e
@@ -84,12 +47,12 @@ loop-k-init c = λ steps h.
 
 pub loop-k-preserved : goal.loop-k-preserved
 loop-k-preserved c = λ steps h.
-    let run = c.requires.run in
     let rows = c.args.rows.now in
     let k : ℕ = c.loop-k.k in
     let test = c.loop-k-test.true in
     let len = c.len-k-end.ensures in
-    let ends : 2 ≤ length c.list-row.result.now = subst (λ (row : List ℕ). 2 ≤ length row) (sym c.list-row.ensures) (two_ends run.0 rows k run.1 (omega arith)) in
+    let known = row_known c.args.rows.now c.loop-k.k (length c.args.firsts.now) c.list-row.result.now c.requires.run c.list-row.ensures (omega (arith, c.len-k-end.ensures, c.loop-k-test.true)) c.requires.rows in
+    let ends = known.0 in
     let size = c.requires.rows in
     let same = c.loop-k.auto.firsts in
     let same' = c.loop-k.auto.lasts in
