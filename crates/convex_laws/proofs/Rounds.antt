@@ -10,6 +10,7 @@ use Rattle.pg_plane.specs.declared.point.Point.{Point}
 use Rattle.pg_plane.specs.Geometry.{vector, IsClockBefore}
 use Rattle.pg_plane.specs.Law.{direction}
 use Rattle.plane_drawings.specs.Drawing.{place, IsPlaneDrawing, IsBreak, KeepsRotations}
+use Rattle.plane_drawings.proofs.OneBreak.{one_of_lists}
 use Rattle.convex_laws.specs.Middles.{next, IsPlaneRound}
 use Rattle.convex_laws.proofs.Inverse.{inverse, inverse-is}
 
@@ -143,16 +144,5 @@ module _ (lists : Lists) (simple : IsSimpleMap lists) where
             subst (λ (x : ℕ). HasDart lists x (dart_of lists before).1) tail_is (has_dart before lb),
             subst (λ (x : ℕ). IsBreak lists points x (dart_of lists before).1) tail_is broken,
           );
-      one = λ u w has has' bu bw.
-          let i = number v u in
-          let j = number v w in
-          let li = number_in v u has in
-          let lj = number_in v w has' in
-          let di = number_dart v u has in
-          let dj = number_dart v w has' in
-          let tails : tail_of lists (rotation lists i) ≡ tail_of lists (rotation lists j) = tail_of-rotation lists simple i li ∙ number_tail v u has ∙ sym (number_tail v w has') ∙ sym (tail_of-rotation lists simple j lj) in
-          let same = p.one_break (rotation lists i) (rotation lists j) (rotations.within i li) (rotations.within j lj) (ap rank tails)
-          (break_to i li (subst (λ (d : Dart). IsBreak lists points d.0 d.1) (sym di) bu))
-          (break_to j lj (subst (λ (d : Dart). IsBreak lists points d.0 d.1) (sym dj) bw)) in
-          ap (λ (d : Dart). d.1) (sym di ∙ ap (dart_of lists) (rotations.apart i j li lj same) ∙ dj);
+      one = one_of_lists lists simple points (λ i j li lj tails bi bj. p.one_break (rotation lists i) (rotation lists j) (rotations.within i li) (rotations.within j lj) (ap rank tails) (break_to i li bi) (break_to j lj bj)) v;
     }

@@ -1,6 +1,7 @@
 -- The lemmas on drawings.
 mod DrawingsCases
 pub mod ByDarts
+pub mod OneBreak
 pub mod OfLists
 -- The lemmas on sweeps.
 mod PlaneSweepCases

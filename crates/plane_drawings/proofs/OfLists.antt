@@ -13,6 +13,7 @@ use Rattle.pg_plane.specs.Law.{IsPlaneByDarts, direction}
 use Rattle.pg_plane.proofs.Counts.{count_one}
 use Rattle.plane_drawings.specs.Drawing.{place, IsPlaneDrawing, IsBreak, KeepsRotations}
 use Rattle.plane_laws.specs.Triangulations.{IsTriangulation}
+use Rattle.plane_drawings.proofs.OneBreak.{one_of_lists}
 
 module _ (lists : Lists) (points : List Point) (c : IsTriangulation lists) (thrice : (i : ℕ) → i < dart_count lists → rotation lists (twin lists (rotation lists (twin lists (rotation lists (twin lists i))))) ≡ i) (p : IsPlaneByDarts (dart_count lists) (twin lists) (λ i. rotation lists (twin lists i)) (λ i. place points (tail_of lists i)) (tail_of lists)) where
   abbrev h' : ℕ → ℕ
@@ -131,17 +132,5 @@ module _ (lists : Lists) (points : List Point) (c : IsTriangulation lists) (thri
           subst (λ (x : ℕ). HasDart lists x (dart_of lists before).1) tail_is is_dart,
           subst (λ (x : ℕ). IsBreak lists points x (dart_of lists before).1) tail_is broken,
         );
-    one = λ u w has has' bu bw.
-        let i = number v u in
-        let j = number v w in
-        let li = number_in v u has in
-        let lj = number_in v w has' in
-        let di = number_dart v u has in
-        let dj = number_dart v w has' in
-        let tails : tail_of lists (rotation lists i) ≡ tail_of lists (rotation lists j) =
-        tail_of-rotation lists c.simple i li ∙ number_tail v u has ∙ sym (number_tail v w has') ∙ sym (tail_of-rotation lists c.simple j lj) in
-        let same = p.one_break (rotation lists i) (rotation lists j) (rotations.within i li) (rotations.within j lj) tails
-        (break_to i li (subst (λ (d : Dart). IsBreak lists points d.0 d.1) (sym di) bu))
-        (break_to j lj (subst (λ (d : Dart). IsBreak lists points d.0 d.1) (sym dj) bw)) in
-        ap (λ (d : Dart). d.1) (sym di ∙ ap (dart_of lists) (rotations.apart i j li lj same) ∙ dj);
+    one = one_of_lists lists c.simple points (λ i j li lj tails bi bj. p.one_break (rotation lists i) (rotation lists j) (rotations.within i li) (rotations.within j lj) tails (break_to i li bi) (break_to j lj bj)) v;
   }
