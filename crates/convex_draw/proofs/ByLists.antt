@@ -1,5 +1,5 @@
 -- The drawing of rows, by the lists of a map.
-use Rattle.std.proofs.Common.{◌≡◌, ℕ, ◌+◌, ◌<◌, ◌≤◌, List, length, get_or, pos, sym, subst, arith}
+use Rattle.std.proofs.Common.{◌≡◌, ℕ, ◌+◌, ◌-◌, ◌<◌, ◌≤◌, List, length, get_or, pos, sym, subst, arith}
 use Rattle.map_lists.specs.Lists.{Lists}
 use Rattle.map_theory.specs.Maps.{IsPlane, HasDart, list_of, face_count}
 use Rattle.convex_peeling.proofs.Neighbours.{three_neighbours}
@@ -7,7 +7,6 @@ use Rattle.convex_orders.specs.declared.tables.Tables.{Tables}
 use Rattle.std.proofs.lemmas.List.Elements.{Contains-get_or}
 use Rattle.pg_plane.specs.declared.point.Point.{Point}
 use Rattle.pg_plane.specs.declared.figure.GridFigure.{GridFigure}
-use Rattle.contour_runs.specs.FaceRuns.{Step}
 use Rattle.convex_counts.specs.Counts.{face_counts}
 use Rattle.convex_counts.specs.Turns.{well_turned}
 use Rattle.convex_peeling.specs.Polyhedral.{IsThreeConnected}
@@ -24,6 +23,10 @@ module _ (lists : Lists) (few : length lists < 4096) (s d : ℕ) (rows : ConvexR
 
   pub two_faces : 2 ≤ face_count lists
   two_faces = faces_two lists s d rows run
+
+  -- the side of the grid
+  pub one_less : (count : ℕ) → count ≡ face_count lists → (count - 1) + 1 ≡ face_count lists
+  one_less count e = omega (arith, two_faces, e)
 
   pub small_side : (side : ℕ) → side + 1 ≡ face_count lists → side < 1048576
   small_side side e = side_small lists s d rows run side e few

@@ -1,8 +1,8 @@
 -- A triangulation has no cut vertex and no separating pair: neighbours one behind the other are adjacent, and a face at a vertex has just two of them.
-use Rattle.std.proofs.Common.{◌≡◌, ◌≢◌, ◌⊎◌, ℕ, ◌<◌, ◌≤◌, Bool, true, false, [], ◌∷◌, length, Contains, refl, sym, ap, ap₂, ◌∙◌, subst, inl, inr, arith}
+use Rattle.std.proofs.Common.{◌≡◌, ◌≢◌, ◌⊎◌, ℕ, ◌≤◌, Bool, true, [], ◌∷◌, length, Contains, refl, sym, ap, ap₂, ◌∙◌, subst, inl, inr, arith}
 use Rattle.std.proofs.lemmas.Bool.{cases_Bool, cases_eq, true≢false}
 use Rattle.map_lists.specs.Lists.{Lists}
-use Rattle.map_theory.specs.Maps.{Dart, HasDart, IsSimpleMap, list_of, entry_after, follows, face_step}
+use Rattle.map_theory.specs.Maps.{Dart, HasDart, IsSimpleMap, list_of, follows, face_step}
 use Rattle.map_theory.specs.Paths.{SameFace}
 use Rattle.map_theory.proofs.EntryLemmas.{Contains-here}
 use Rattle.map_theory.proofs.DartLemmas.{HasDart-face_step}

@@ -5,5 +5,6 @@ mod points;
 mod run;
 mod spots;
 
+pub(crate) use points::coordinate;
 pub use points::{SpotTable, count_points, count_points_again};
 pub use run::FaceRun;

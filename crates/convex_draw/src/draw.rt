@@ -7,14 +7,14 @@ ghost use Rattle.half_edges.specs.Map.{IsLive, dart_at};
 ghost use Rattle.convex_draw.specs.Grids.{IsConvexGrid};
 ghost use Rattle.convex_draw.specs.RunPoints.{AreRunPoints};
 
-use crate::convex_points::{FaceRun, count_points};
+use crate::convex_points::{FaceRun, coordinate, count_points};
 use convex_orders::rows_by_faces;
 use euler_faces::{Faces, faces};
 use half_edges::{DartId, HalfMap, Rotations};
 use pg_plane::{GridFigure, Points};
 use std::alloc::{AllocError, Global};
 
-// How many faces there are besides one.
+// Counts the faces besides one.
 fn side_of(map: &HalfMap) -> u32
     requires plane { IsPlane map.now.lists }
     requires connected { component_count map.now.lists ≡ 1 }
@@ -25,15 +25,7 @@ fn side_of(map: &HalfMap) -> u32
     map.m() - map.n() as u32 + 1
 }
 
-// A number as a coordinate.
-fn coordinate(number: u32) -> i32
-    requires { number < 1048576 }
-    ensures { result ≡ pos number }
-{
-    number as i32
-}
-
-// Points in a square grid.
+// Puts points into a square grid.
 pub(crate) fn in_square(points: Points, side: u32) -> GridFigure
     requires { side < 1048576 }
     ensures points { result.points ≡ points }

@@ -1,6 +1,6 @@
 //! Figures of records, one after another, by a drawer that keeps its tables from one to the next.
 ghost use Rattle.std.specs.Prelude.{◌≡◌, ◌+◌, ◌*◌, ◌<◌, ◌≤◌, length, slice_index, sum_by, Some, IsTrue, IfOk, IfErr, OnOk};
-ghost use Rattle.map_theory.specs.Maps.{IsSimpleMap, IsPlane, darts, list_of, component_count, face_count};
+ghost use Rattle.map_theory.specs.Maps.{IsSimpleMap, IsPlane, darts, list_of, face_count};
 ghost use Rattle.simple_maps.specs.Tables.{AreTwins};
 ghost use Rattle.refusals.specs.Conditions.{IfRefused};
 ghost use Rattle.pg_plane.specs.declared.figure.GridFigure.{GridFigure as Figure};
@@ -13,22 +13,14 @@ use crate::convex_figures::draw::convex_figure;
 use crate::convex_figures::numbers::{NumberTables, numbers_again};
 use crate::convex_points::{FaceRun, SpotTable, count_points_again};
 use crate::draw::in_square;
-use convex_orders::face_numbers::FaceNumbers;
+use conn_parts::{Parts, numbered_parts};
 use convex_orders::{RowTables, Tables, rows_again, tables_of};
-use euler_faces::{UNMET, number_components};
 use half_edges::{Rotations, VertexId};
 use pg_plane::GridFigure;
 use refusals::Unserved;
 use simple_maps::fill_twins;
 use std::alloc::{AllocError, Global};
 use std::mem;
-
-// The tables by which components are counted.
-#[derive(Drop)]
-struct PartTables {
-    numbers: Vec<u16>,
-    queue: Vec<u16>,
-}
 
 // The tables from numbers of faces to points.
 #[derive(Drop)]
@@ -41,19 +33,19 @@ struct RunTables {
 // All tables. What they hold before a record says nothing.
 #[derive(Drop)]
 struct DrawTables {
-    parts: PartTables,
+    parts: Parts,
+    // room for the search of components
+    queue: Vec<u16>,
     faces: NumberTables,
     run: RunTables,
 }
 
 impl DrawTables {
-    // Tables of no record. They take no memory.
+    // Makes tables of no record. They take no memory.
     fn new(alloc: Global) -> DrawTables {
         DrawTables {
-            parts: PartTables {
-                numbers: Vec::new(alloc),
-                queue: Vec::new(alloc),
-            },
+            parts: Parts::new(alloc),
+            queue: Vec::new(alloc),
             faces: NumberTables::new(alloc),
             run: RunTables {
                 lists: Rotations::new(alloc),
@@ -64,55 +56,40 @@ impl DrawTables {
     }
 }
 
-// Whether a map is connected, in the memory of other tables.
-fn is_connected(lists: &Rotations, parts: PartTables) -> Result<(bool, PartTables), AllocError>
-    requires simple { IsSimpleMap lists.now }
-    ensures { IfOk result (λ made. IsTrue made.0 → component_count lists.now ≡ 1) }
-{
-    let mut numbers = parts.numbers;
-    let mut queue = parts.queue;
-    numbers.clear();
-    numbers.resize(lists.len(), UNMET)?;
-    queue.resize(lists.len(), 0)?;
-    let count = number_components(lists.entries(), lists.ends(), &mut numbers, &mut queue);
-    Ok((count == 1, PartTables { numbers, queue }))
-}
-
-// One less than a number.
-fn less_one(number: u32) -> u32
-    requires { 0 < number }
-    ensures { result + 1 ≡ number }
-{
-    number - 1
-}
-
-// How many lists there are.
+// Returns how many lists there are.
 fn count_of(lists: &Rotations) -> u16
     ensures { length lists.now ≡ result }
 {
     lists.len() as u16
 }
 
-// The figure of a three-connected map of genus zero by the numbers of its faces, over the dart from vertex 0 to `t`.
-// The tables come back.
+// Returns the figure of a three-connected map of genus zero over the dart from vertex 0 to `t`, by the numbers of its faces,
+// which the tables have. The tables come back.
 fn run_again(
     alloc: Global,
-    spent: RunTables,
     lists: &Rotations,
-    faces: FaceNumbers,
     t: u16,
-) -> Result<(GridFigure, RunTables, FaceNumbers), AllocError>
+    spent: DrawTables,
+) -> Result<(GridFigure, DrawTables), AllocError>
     requires plane { IsPlane lists.now }
     requires three { IsThreeConnected lists.now }
-    requires numbers { AreFaceNumbers lists.now faces.own faces.other faces.count }
-    requires count { faces.count ≡ face_count lists.now }
+    requires numbers { AreFaceNumbers lists.now spent.faces.numbers.own spent.faces.numbers.other spent.faces.numbers.count }
+    requires count { spent.faces.numbers.count ≡ face_count lists.now }
     requires first { slice_index (list_of lists.now 0) 0 ≡ t }
     ensures { IfOk result (λ made. IsConvexFigure lists.now made.0) }
 {
     lists.facts();
-    let tables = tables_of(spent.lists, lists, faces, 0, t)?;
-    let rows = rows_again(spent.rows, &tables)?;
-    let side = less_one(tables.faces.count);
+    let parts = spent.parts;
+    let queue = spent.queue;
+    let run = spent.run;
+    let NumberTables {
+        numbers,
+        rank,
+        arcs,
+    } = spent.faces;
+    let tables = tables_of(run.lists, lists, numbers, 0, t)?;
+    let rows = rows_again(run.rows, &tables)?;
+    let side = tables.faces.count - 1;
     let made = FaceRun {
         rows: &rows.rows,
         d: VertexId(t),
@@ -120,23 +97,34 @@ fn run_again(
         count: count_of(lists),
         faces: side,
     };
-    let (points, spots) = count_points_again(alloc, spent.spots, &made)?;
+    let (points, spots) = count_points_again(alloc, run.spots, &made)?;
     let figure = in_square(points, side);
     let Tables {
         lists: kept,
-        faces,
+        faces: numbers,
         tail: _tail,
         head: _head,
     } = tables;
+    let faces = NumberTables {
+        numbers,
+        rank,
+        arcs,
+    };
     let run = RunTables {
         lists: kept,
         rows,
         spots,
     };
-    Ok((figure, run, faces))
+    let tables = DrawTables {
+        parts,
+        queue,
+        faces,
+        run,
+    };
+    Ok((figure, tables))
 }
 
-// Whether lists have as many entries as those of a triangulation with four vertices or more.
+// Says whether lists have as many entries as those of a triangulation with four vertices or more.
 fn is_full(lists: &Rotations) -> bool
     ensures some { IsTrue result → 4 ≤ length lists.now }
     ensures full { IsTrue result → sum_by length lists.now + 12 ≡ 6 * length lists.now }
@@ -144,15 +132,15 @@ fn is_full(lists: &Rotations) -> bool
     lists.len() >= 4 && lists.total() == 6 * lists.len() - 12
 }
 
-// Whether lists are connected, and have as many faces as a triangulation.
-fn has_all(connected: bool, faces: u32, lists: &Rotations) -> bool
-    ensures connected { IsTrue result → IsTrue connected }
+// Says whether lists have one component, and as many faces as a triangulation.
+fn has_all(parts: &Parts, faces: u32, lists: &Rotations) -> bool
+    ensures connected { IsTrue result → parts.now.count ≡ 1 }
     ensures faces { IsTrue result → faces + 4 ≡ 2 * length lists.now }
 {
-    connected && faces as usize + 4 == 2 * lists.len()
+    parts.count() == 1 && faces as usize + 4 == 2 * lists.len()
 }
 
-// The figure of a record with as many entries as a triangulation, by the twins of its darts, where it is one. The tables
+// Returns the figure of a record with as many entries as a triangulation, by the twins of its darts, where it is one. The tables
 // come back.
 fn drawn(
     alloc: Global,
@@ -170,24 +158,29 @@ fn drawn(
         return Ok((None, tables));
     }
     let t = lists.list(0)[0];
-    let (connected, parts) = is_connected(lists, tables.parts)?;
+    let mut queue = tables.queue;
+    let parts = numbered_parts(lists, tables.parts, &mut queue)?;
     let faces = numbers_again(tables.faces, lists, twins)?;
-    if !has_all(connected, faces.numbers.count, lists) {
-        let run = tables.run;
-        return Ok((None, DrawTables { parts, faces, run }));
+    let run = tables.run;
+    if !has_all(&parts, faces.numbers.count, lists) {
+        return Ok((
+            None,
+            DrawTables {
+                parts,
+                queue,
+                faces,
+                run,
+            },
+        ));
     }
-    let NumberTables {
-        numbers,
-        rank,
-        arcs,
-    } = faces;
-    let (figure, run, numbers) = run_again(alloc, tables.run, lists, numbers, t)?;
-    let faces = NumberTables {
-        numbers,
-        rank,
-        arcs,
+    let spent = DrawTables {
+        parts,
+        queue,
+        faces,
+        run,
     };
-    Ok((Some(figure), DrawTables { parts, faces, run }))
+    let (figure, tables) = run_again(alloc, lists, t, spent)?;
+    Ok((Some(figure), tables))
 }
 
 /// Draws records, one after another, and keeps its tables for the next.

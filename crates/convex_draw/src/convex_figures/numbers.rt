@@ -36,7 +36,7 @@ impl NumberTables {
     }
 }
 
-// The numbers at the twins, in the memory of others.
+// Returns the numbers at the twins, in the memory of others.
 fn at_twins(spent: Vec<u32>, of: &[u32], twins: &[u32]) -> Result<Vec<u32>, AllocError>
     requires within { (i : ℕ) → i < length twins.now → slice_index twins.now i < length of.now }
     ensures { IfOk result (λ made. made.items ≡ map (λ t. slice_index of.now t) twins.now) }
@@ -50,7 +50,7 @@ fn at_twins(spent: Vec<u32>, of: &[u32], twins: &[u32]) -> Result<Vec<u32>, Allo
     Ok(made)
 }
 
-// The ends of the lists, in the memory of others.
+// Returns the ends of the lists, in the memory of others.
 fn ends_of(spent: Vec<usize>, lists: &Rotations) -> Result<Vec<usize>, AllocError>
     ensures { IfOk result (λ made. made.items ≡ ends_from 0 lists.now) }
 {

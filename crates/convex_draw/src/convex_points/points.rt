@@ -12,15 +12,15 @@ use crate::convex_points::spots::Spot;
 use pg_plane::{Point, Points};
 use std::alloc::{AllocError, Global};
 
-// A number as a coordinate.
-fn coordinate(number: u32) -> i32
+/// Returns a number as a coordinate.
+pub(crate) fn coordinate(number: u32) -> i32
     requires { number < 1048576 }
     ensures { result ≡ pos number }
 {
     number as i32
 }
 
-// The points of all vertices.
+// Returns the points of all vertices.
 fn points_of(alloc: Global, spots: &[Spot]) -> Result<Points, AllocError>
     requires small { (u : ℕ) → u < length spots.now → ((spot_of spots.now u).one < 1048576) × ((spot_of spots.now u).two < 1048576) }
     ensures { IfOk result (λ points. ArePlaced spots.now (length spots.now) points) }

@@ -20,7 +20,7 @@ pub(crate) struct Spot {
     pub(crate) over: u16,
 }
 
-// How far coordinate one falls along a row.
+// Tells how far coordinate one falls along a row.
 fn total_fall(spots: &[Spot], row: &[u16]) -> u32
     requires over { (z : Setting) × IsRowOver z spots.now row.now }
     ensures { (z : Setting) → IsRowOver z spots.now row.now → result + z.at.one (z.stage.vertex z.step.last) ≡ z.at.one (z.stage.vertex z.step.first) }
@@ -71,7 +71,7 @@ impl Cover {
     }
 }
 
-// One more where this holds.
+// Adds one to a face where the test holds.
 fn more_if(test: bool, face: u16) -> u16
     requires { face < 65535 }
     ensures { result ≡ (if test then face + 1 else face) }
@@ -79,7 +79,7 @@ fn more_if(test: bool, face: u16) -> u16
     if test { face + 1 } else { face }
 }
 
-// How many faces turn before the next place: one more than before this face, but for an edge that goes left and
+// Counts the faces that turn before the next place: one more than before this face, but for an edge that goes left and
 // comes before its last place.
 fn gain_at(at_cut: bool, left: bool, face: u16, gain: u16) -> u16
     requires { face < 65535 }
@@ -94,37 +94,49 @@ fn gain_at(at_cut: bool, left: bool, face: u16, gain: u16) -> u16
     }
 }
 
-// Whether the edge of the contour to a vertex goes left.
+// Says whether the edge of the contour to a vertex goes left.
 fn is_left(spot: Spot) -> bool
     ensures { result ≡ (spot.one == 0) && nat_lt 0 spot.two }
 {
     spot.one == 0 && 0 < spot.two
 }
 
-// Lets the vertices strictly within a row go under others. The rise is that up to the last of them.
-fn settle(spots: &mut [Spot], row: &[u16], cuts: &[u16], z: u16, fall: u32) -> u32
-    requires put { (w : Setting) × (news : List ℕ) × IsPut w spots.old row.now cuts.now news × (w.name w.stage.count ≡ z) × (fall + w.at.one (w.stage.vertex w.step.last) ≡ w.at.one (w.stage.vertex w.step.first)) }
-    ensures { (w : Setting) (news : List ℕ) → IsPut w spots.old row.now cuts.now news → w.name w.stage.count ≡ z → fall + w.at.one (w.stage.vertex w.step.last) ≡ w.at.one (w.stage.vertex w.step.first)
-        → IsRowSettled w result spots.old spots.new }
-{
-    let (p, q) = (row[0], row[row.len() - 1]);
-    let faces = (cuts.len() - 1) as u16;
-    let cover = Cover { p, q, z, faces };
-    let mut far = fall;
-    let mut rise = 0;
-    let mut face = 0;
-    let mut gain = 0;
-    for j in 1..row.len() - 1 {
-        let u = row[j] as usize;
-        let old = spots[u];
-        let at_cut = j == cuts[face as usize + 1] as usize;
-        far -= old.one;
-        rise += old.two;
-        gain = gain_at(at_cut, is_left(old), face, gain);
-        face = more_if(at_cut, face);
-        spots[u] = cover.spot(gain, far, rise);
+// A row of the contour that a step covers, and the places in it behind which its faces end.
+#[derive(Clone, Copy)]
+struct CoveredRow<'a> {
+    row: &'a [u16],
+    cuts: &'a [u16],
+}
+
+impl CoveredRow<'_> {
+    // Lets the vertices strictly within the row go under others, of which `z` is the first new one; along the row coordinate
+    // one falls by `fall`. The answer is how far coordinate two rises up to the last of them.
+    #[inline(always)]
+    fn settle(&self, spots: &mut [Spot], z: u16, fall: u32) -> u32
+        requires put { (w : Setting) × (news : List ℕ) × IsPut w spots.old self.now.row.now self.now.cuts.now news × (w.name w.stage.count ≡ z) × (fall + w.at.one (w.stage.vertex w.step.last) ≡ w.at.one (w.stage.vertex w.step.first)) }
+        ensures { (w : Setting) (news : List ℕ) → IsPut w spots.old self.now.row.now self.now.cuts.now news → w.name w.stage.count ≡ z → fall + w.at.one (w.stage.vertex w.step.last) ≡ w.at.one (w.stage.vertex w.step.first)
+            → IsRowSettled w result spots.old spots.new }
+    {
+        let CoveredRow { row, cuts } = *self;
+        let (p, q) = (row[0], row[row.len() - 1]);
+        let faces = (cuts.len() - 1) as u16;
+        let cover = Cover { p, q, z, faces };
+        let mut far = fall;
+        let mut rise = 0;
+        let mut face = 0;
+        let mut gain = 0;
+        for j in 1..row.len() - 1 {
+            let u = row[j] as usize;
+            let old = spots[u];
+            let at_cut = j == cuts[face as usize + 1] as usize;
+            far -= old.one;
+            rise += old.two;
+            gain = gain_at(at_cut, is_left(old), face, gain);
+            face = more_if(at_cut, face);
+            spots[u] = cover.spot(gain, far, rise);
+        }
+        rise
     }
-    rise
 }
 
 // Links new vertices to one another, each but the first to the one before it, with no difference.
@@ -152,7 +164,7 @@ fn put_over(spots: &mut [Spot], row: &[u16], cuts: &[u16], news: &[u16])
     let (z, y) = (news[0], news[news.len() - 1]);
     let faces = (cuts.len() - 1) as u32;
     let fall = total_fall(spots, row);
-    let rise = settle(spots, row, cuts, z, fall) + spots[q as usize].two;
+    let rise = CoveredRow { row, cuts }.settle(spots, z, fall) + spots[q as usize].two;
     link(spots, news);
     spots[z as usize] = Spot {
         one: fall + faces,
