@@ -1,13 +1,12 @@
 -- Numbers of darts, one behind another, as numbers list by list.
-use Rattle.std.proofs.Common.{◌≡◌, ◌↔◌, ℕ, ◌+◌, ◌*◌, ◌/◌, ◌<◌, ◌≤◌, List, ◌∷◌, ◌++◌, [], length, map, take, get_or, slice_get, Some, refl, sym, ap, ◌∙◌, subst, arith}
-use Rattle.std.proofs.lemmas.Option.{slice_get_within, get_or_from_slice_get}
+use Rattle.std.proofs.Common.{◌≡◌, ℕ, ◌+◌, ◌*◌, ◌<◌, ◌≤◌, List, length, map, get_or, refl, sym, ap, ◌∙◌, subst, arith}
 use Rattle.std.proofs.lemmas.List.{length-map, get_or-map}
 use Rattle.classes.specs.Classes.{class_count}
 use Rattle.map_lists.specs.Lists.{Lists}
 use Rattle.map_lists.specs.Cuts.{cut, joined, ends_from, AreCuts}
 use Rattle.map_lists.proofs.CutLemmas.{IsStored, IsStored-cuts, IsStored-cut, IsStored-total, length-cut}
-use Rattle.map_theory.specs.Maps.{Dart, HasDart, IsSimpleMap, IsPlane, list_of, place_of, darts, darts_before, dart_number, dart_count, twin_dart, face_classes, face_count, component_count}
-use Rattle.map_theory.proofs.DartLemmas.{length-darts, IsDartNumber-darts, dart_number-lt, get_or-dart_number, darts_before_end, place_of-lt-length}
+use Rattle.map_theory.specs.Maps.{HasDart, IsSimpleMap, IsPlane, list_of, place_of, darts, darts_before, dart_number, dart_count, face_classes, face_count, component_count}
+use Rattle.map_theory.proofs.DartLemmas.{length-darts, dart_number-lt, darts_before_end, place_of-lt-length}
 use Rattle.simple_maps.specs.Tables.{AreTwins}
 use Rattle.simple_maps.proofs.FlatLemmas.{start-is, length-list, entry-is}
 use Rattle.plane_laws.proofs.EdgeBound.{none_isolated}
@@ -16,6 +15,7 @@ use Rattle.convex_peeling.specs.Polyhedral.{IsThreeConnected}
 use Rattle.convex_draw.proofs.Triangulated.{triangulation_is_three_connected}
 use Rattle.convex_orders.specs.FaceNumbers.{entry, IsTable, AreFaceNumbers}
 use Rattle.bipolar.specs.FaceNumbers.{AreFaceNumbers as NumberFaces}
+use Rattle.bipolar.proofs.TwinNumbers.{twin_in, twin_number}
 
 module _ (lists : Lists) where
   abbrev ends : List ℕ
@@ -59,25 +59,6 @@ module _ (lists : Lists) where
           subst (λ z. z < count) (sym (row_at v i l (omega (arith, m, n)))) (below (darts_before lists v + i) (omega (arith, darts_before_end lists v, m, n)));
     }
 
--- the number of a dart's twin
-twin_number : (lists : Lists) → IsSimpleMap lists → (twins : List ℕ) → AreTwins (darts lists) twins (length (darts lists)) → (v u : ℕ) → HasDart lists v u → get_or twins (dart_number lists (v, u)) 0 ≡ dart_number lists (u, v)
-twin_number lists simple twins w v u has =
-    let d = dart_number lists (v, u) in
-    let d_in = dart_number-lt lists v u has in
-    let n = length-darts lists in
-    let at = get_or-dart_number lists v u (0, 0) has in
-    let r = get_or twins d 0 in
-    let dart : Dart = get_or (darts lists) d (0, 0) in
-    let found : slice_get (darts lists) r ≡ Some (twin_dart dart) = w.at d (omega (arith, d_in, n)) in
-    let r_in : r < dart_count lists = omega (arith, slice_get_within (darts lists) r (twin_dart dart) found, n) in
-    let is = get_or_from_slice_get (darts lists) r (twin_dart dart) (0, 0) found in
-    sym (IsDartNumber-darts lists r (0, 0) simple.no_repeat r_in).number ∙ ap (λ (x : Dart). dart_number lists x) (is ∙ ap twin_dart at)
-
-pub twin_in : (lists : Lists) (twins : List ℕ) → AreTwins (darts lists) twins (length (darts lists)) → (d : ℕ) → d < length twins → get_or twins d 0 < dart_count lists
-twin_in lists twins w d l =
-    let dart : Dart = get_or (darts lists) d (0, 0) in
-    omega (arith, slice_get_within (darts lists) (get_or twins d 0) (twin_dart dart) (w.at d (omega (arith, l, w.count))), length-darts lists)
-
 module _ (lists : Lists) (simple : IsSimpleMap lists) (of : List ℕ) (count : ℕ) (faces : NumberFaces lists of count) (twins : List ℕ) (w : AreTwins (darts lists) twins (length (darts lists))) where
   abbrev pub at_twins : List ℕ
   at_twins = map (λ t. get_or of t 0) twins
@@ -91,7 +72,7 @@ module _ (lists : Lists) (simple : IsSimpleMap lists) (of : List ℕ) (count : �
   pub numbers_by_lists : AreFaceNumbers lists (cut 0 (ends_from 0 lists) of) (cut 0 (ends_from 0 lists) at_twins) count
   numbers_by_lists = record {
     own_table = table_of lists of faces.size count faces.below;
-    other_table = table_of lists at_twins long_at_twins count (λ i l. subst (λ z. z < count) (sym (at_twin i l)) (faces.below (get_or twins i 0) (twin_in lists twins w i (omega (arith, l, w.count, length-darts lists)))));
+    other_table = table_of lists at_twins long_at_twins count (λ i l. subst (λ z. z < count) (sym (at_twin i l)) (faces.below (get_or twins i 0) (twin_in lists twins w i l)));
     alike = λ x y u v has has'.
         let i = dart_number lists (x, y) in
         let j = dart_number lists (u, v) in
@@ -105,7 +86,7 @@ module _ (lists : Lists) (simple : IsSimpleMap lists) (of : List ℕ) (count : �
     back = λ x y has.
         entry_of lists at_twins long_at_twins x y has
         ∙ (at_twin (dart_number lists (x, y)) (dart_number-lt lists x y has)
-        ∙ (ap (λ k. get_or of k 0) (twin_number lists simple twins w x y has) ∙ sym (entry_of lists of faces.size y x (simple.both_ways x y has))));
+        ∙ (ap (λ k. get_or of k 0) (twin_number lists twins w simple x y has) ∙ sym (entry_of lists of faces.size y x (simple.both_ways x y has))));
   }
 
 -- connected lists with as many entries and faces as those of a triangulation

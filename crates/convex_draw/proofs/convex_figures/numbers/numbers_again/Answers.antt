@@ -3,9 +3,11 @@ use Rattle.map_lists.specs.Lists.{Lists}
 use Rattle.map_lists.specs.Cuts.{cut, AreCuts, ends_from}
 use Rattle.map_lists.proofs.CutLemmas.{IsStored, IsStored-cuts, IsStored-cut, length-cut}
 use Rattle.map_theory.specs.Maps.{dart_count}
+use Rattle.map_theory.proofs.DartLemmas.{length-darts}
 use Rattle.bipolar.specs.FaceNumbers.{AreFaceNumbers as NumberFaces}
 use Rattle.convex_orders.specs.FaceNumbers.{AreFaceNumbers}
-use Rattle.convex_draw.proofs.FlatNumbers.{twin_in, row_cuts, long_at_twins, numbers_by_lists}
+use Rattle.bipolar.proofs.TwinNumbers.{twin_in}
+use Rattle.convex_draw.proofs.FlatNumbers.{row_cuts, long_at_twins, numbers_by_lists}
 use Rattle.convex_draw.proofs.convex_figures.numbers.numbers_again.Goals as goal
 
 pub number_faces-requires-clause-darts : goal.number_faces-requires-clause-darts
@@ -35,7 +37,7 @@ at_twins-requires c =
       within = λ i l.
           let n = faces.size in
           let m = ap (λ (xs : List ℕ). length xs) c.deref-2.ensures.value in
-          omega (arith, twin_in c.args.lists.now c.args.twins.now c.requires.twins i l, n, m);
+          omega (arith, twin_in c.args.lists.now c.args.twins.now c.requires.twins i (omega (arith, l, c.requires.twins.count, length-darts c.args.lists.now)), n, m);
     }
 
 pub from_parts-requires : goal.from_parts-requires
