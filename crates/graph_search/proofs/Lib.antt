@@ -1,5 +1,4 @@
 -- Lemmas on searches.
-pub mod Known
 pub mod StepLemmas
 pub mod TableLemmas
 pub mod ForestLemmas

@@ -7,7 +7,7 @@ use Rattle.map_lists.specs.Lists.{Lists}
 use Rattle.map_theory.specs.Maps.{HasDart}
 use Rattle.graph_search.specs.Forests.{Holds, IsForest}
 use Rattle.graph_search.specs.UnderWay.{work_left, MayHold, IsUnderWay}
-use Rattle.graph_search.proofs.Known.{HasDart-known}
+use Rattle.map_theory.proofs.Known.{HasDart-known}
 
 -- f with another value at one place
 pub record IsPut (old new : ℕ → ℕ) (place value : ℕ) : Type 0 where
