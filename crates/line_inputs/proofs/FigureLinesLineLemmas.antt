@@ -37,7 +37,8 @@ use Rattle.line_inputs.specs.declared.figure_lines.head.Head.{Head}
 use Rattle.line_inputs.specs.declared.figure_lines.head.Head.TheVariants.{Grid as GridHead, Bars as BarsHead, Rects as RectsHead, Witness as WitnessHead}
 use Rattle.line_inputs.specs.Given.{AreDrawn}
 use Rattle.line_inputs.specs.FigureLinesProgress.{IsBegun, IsDue, Progress, Makes, Closes}
-use Rattle.line_inputs.specs.Steps.{no_lines, IsFresh, GoesOn, IsMadeOf, IsGrown}
+use Rattle.line_inputs.specs.declared.figure_lines.rows.Rows.{Rows as Content}
+use Rattle.line_inputs.specs.Steps.{no_lines, GoesOn, IsMadeOf, IsGrown}
 use Rattle.line_inputs.specs.declared.figure_lines.step.After.{After}
 use Rattle.line_inputs.specs.declared.figure_lines.step.After.TheVariants.{Goes, Whole, Bad}
 use Rattle.line_inputs.specs.declared.figure_lines.ending.Ending.{Ending}
@@ -142,8 +143,8 @@ module _ (number : ℕ) (line : List ℕ) (plain : IsPlain line) where
       (line, subst (λ (x : List ℕ). IsLine (line ++ 10 ∷ []) line x) (sym (drop-length (line ++ 10 ∷ []))) (IsLine-here line [] plain), note, le, refl)
 
   -- it begins a figure
-  pub makes-head : (head : Head) (n : ℕ) (begun : Begun) → begun.first ≡ number → IsFresh head n begun.due → IsFalse (is_note line) → IsHead (head_kind head) n line → HasGraph head line → Makes number number (line ++ 10 ∷ []) (Goes (Some begun))
-  makes-head head n begun first fresh other says graph =
+  pub makes-head : (head : Head) (n : ℕ) (held : Content) → held ≡ record { head = head; n = n; draft = no_lines } → IsFalse (is_note line) → IsHead (head_kind head) n line → HasGraph head line → (number ≡ number) × IsBegun held.head held.n number (number + 1) held.draft (line ++ 10 ∷ []) []
+  makes-head head n held fresh other says graph =
       let begins : IsBegun head n number (number + 1) no_lines (line ++ 10 ∷ []) [] = record {
         body = [];
         begins = record { line = line; is = IsLine-here line [] plain; other = other; head = says };
@@ -153,17 +154,14 @@ module _ (number : ℕ) (line : List ℕ) (plain : IsPlain line) where
         counted = omega arith;
         gives = none-drafted (head_kind head);
       } in
-      (first, is-due begun.due fresh begins)
+      let P : Content → Type 0 = λ rows. IsBegun rows.head rows.n number (number + 1) rows.draft (line ++ 10 ∷ []) [] in
+      (refl, subst P (sym fresh) begins)
     where
       none-drafted : (kind : Kind) → no_lines ≡ drafted kind []
       none-drafted (Grid job) = refl
       none-drafted Bars = refl
       none-drafted Rects = refl
       none-drafted (Witness kind) = refl
-
-      is-due : (due : Due) → IsFresh head n due → IsBegun head n number (number + 1) no_lines (line ++ 10 ∷ []) [] → IsDue due number (number + 1) (line ++ 10 ∷ []) []
-      is-due (Row rows) (same_head, same_n, same_draft) b = rw (same_head, same_n, same_draft) b
-      is-due (Columns bars) none b = absurd none
 
 -- the line of a figure that is due
 module _ (text : List ℕ) (first number : ℕ) (line : List ℕ) (plain : IsPlain line) where

@@ -104,7 +104,7 @@ module _ (number : ℕ) (line : List ℕ) (plain : IsPlain line) where
           let said = head-said kind line tail in
           let begun : Begun = fresh said.0 n number few.0 (omega (arith, few.1)) in
           let says = IsHead-of kind n line (record { shape = shape; job = job }) range refl in
-          (Goes (Some begun), makes-head number line plain said.0 n begun refl (refl, refl, refl) other (subst (λ (k : Kind). IsHead k n line) (sym said.1) says) said.2)
+          (Goes (Some begun), makes-head number line plain said.0 n (record { head = said.0; n = n; draft = no_lines }) refl other (subst (λ (k : Kind). IsHead k n line) (sym said.1) says) said.2)
 
       by_range : IsFalse (is_note line) → IsFirstLine line → Told (FirstInRange line) → Closed number line
       by_range other shape (inl range) = in-range other shape range (kind-said (kind_of (words_of line)) line shape.tail)

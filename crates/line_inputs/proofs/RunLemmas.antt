@@ -1,5 +1,5 @@
 -- Lines of vertices that stand one behind another in a part.
-use Rattle.std.proofs.Common.{◌≡◌, ◌≢◌, ℕ, ◌+◌, ◌<◌, ◌≤◌, List, [], ◌∷◌, ◌++◌, length, drop, take, get_or, refl, sym, ap, ◌∙◌, subst, arith, append_assoc, length-append}
+use Rattle.std.proofs.Common.{◌≡◌, ◌≢◌, ℕ, ◌+◌, ◌<◌, ◌≤◌, List, [], ◌++◌, length, drop, take, get_or, refl, sym, ap, ◌∙◌, subst, arith, append_assoc}
 use Rattle.std.proofs.lemmas.List.{append-nil}
 use Rattle.std.proofs.Math.Seq.{take-add}
 use Rattle.std.specs.Prelude.{Some}
@@ -10,7 +10,7 @@ use Rattle.figure_text.specs.Words.{words_of}
 use Rattle.figure_text.specs.Drafts.{with_row}
 use Rattle.figure_text.specs.Reading.{IsRow, RowInRange}
 use Rattle.line_inputs.specs.Heads.{head_kind}
-use Rattle.line_inputs.specs.FigureLinesProgress.{IsDue, Progress}
+use Rattle.line_inputs.specs.FigureLinesProgress.{Progress}
 use Rattle.line_inputs.specs.FigureLinesState.{TakesRun}
 use Rattle.line_inputs.specs.declared.figure_lines.begun.Begun.{Begun}
 use Rattle.line_inputs.specs.declared.figure_lines.begun.SomeRows.{SomeRows}

@@ -15,11 +15,6 @@ use Rattle.line_inputs.specs.declared.figure_lines.step.After.TheVariants.{Goes,
 abbrev pub no_lines : Draft
 no_lines = record { lists = []; points = []; y = []; x1 = []; x2 = []; y2 = [] }
 
--- the first line behind that of a figure is due
-abbrev pub IsFresh : Head → ℕ → Due → Type 0
-IsFresh head n (Row rows) = (rows.held.head ≡ head) × (rows.held.n ≡ n) × (rows.held.draft ≡ no_lines)
-IsFresh head n (Columns bars) = ⊥
-
 -- which line is due behind those that gave a draft
 abbrev pub GoesOn : Head → ℕ → Draft → Due → Type 0
 GoesOn head n draft (Row rows) = (length draft.lists < n) × (rows.held.head ≡ head) × (rows.held.n ≡ n) × (rows.held.draft ≡ draft)

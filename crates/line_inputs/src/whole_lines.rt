@@ -14,7 +14,7 @@ pub(crate) fn join(alone: bool, front: &mut Vec<u8>, end: &[u8]) -> Result<(), A
     Ok(())
 }
 
-/// The whole line: its end where that is the whole, or else what was joined.
+/// Chooses the whole line: its end where that is the whole, or else what was joined.
 pub(crate) fn chosen<'a>(alone: bool, end: &'a [u8], joined: &'a [u8]) -> &'a [u8]
     ensures { result.now ≡ (if alone then end.now else joined.now) }
 {

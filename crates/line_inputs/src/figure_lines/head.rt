@@ -22,7 +22,7 @@ pub enum Head {
 }
 
 impl Head {
-    /// The kind of the figure.
+    /// Returns the kind of the figure.
     pub fn kind(&self) -> Kind
         ensures { result ≡ head_kind self.now }
     {

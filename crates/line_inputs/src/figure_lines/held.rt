@@ -17,7 +17,7 @@ impl<T: Drop> Model for Held<T> {
 }
 
 impl<T: Drop> Held<T> {
-    /// This value.
+    /// Puts a value at its place in memory.
     pub fn new(alloc: Global, value: T) -> Result<Held<T>, AllocError>
         ensures { IfOk result (λ held. held ≡ value) }
     {
@@ -27,7 +27,7 @@ impl<T: Drop> Held<T> {
         }
     }
 
-    /// The value, moved out.
+    /// Moves the value out.
     pub fn into_inner(self) -> T
         ensures { result ≡ self }
     {

@@ -23,38 +23,8 @@ pub enum Line {
     Ran(Run),
 }
 
-// Takes a part to the end of the open line, which is then judged, or to its own end. A line that stands whole in the
-// part is judged where it stands.
-fn take_line(
-    alloc: Global,
-    found: &mut Vec<Word>,
-    pending: &mut Vec<u8>,
-    before: Option<Begun>,
-    line: u32,
-    part: &[u8],
-) -> Result<Line, AllocError>
-    ensures part { IfOk result (IsLinePart part.now) }
-    ensures takes { (consumed : List ℕ) (figures : List AFigure) → Progress consumed figures line pending.old.items before
-        → length consumed + length part.now ≤ input_limit → IfOk result (TakesLine consumed figures line part.now pending.new.items) }
-{
-    let len = line_length(part);
-    if len == part.len() {
-        pending.extend_from_slice(&part[..len])?;
-        return Ok(Line::Open(before));
-    }
-    let alone = pending.is_empty();
-    join(alone, pending, &part[..len])?;
-    let closed = ClosedLine {
-        alloc,
-        number: line,
-        text: chosen(alone, &part[..len], pending),
-    };
-    let after = closed.after(found, before)?;
-    pending.clear();
-    Ok(Line::Closed(len + 1, after))
-}
-
-/// Takes lines of a figure at the front of a part, or else a part to the end of the open line, or to its own end.
+/// Takes lines of a figure at the front of a part, or else a part to the end of the open line, which is then judged, or to
+/// its own end. A line that stands whole in the part is judged where it stands.
 pub fn take_part(
     alloc: Global,
     found: &mut Vec<Word>,
@@ -69,9 +39,22 @@ pub fn take_part(
 {
     match first_lines(found, pending, before, part)? {
         Front::Lines(run) => Ok(Line::Ran(run)),
-        Front::NoLine(begun) => {
-            let taken = take_line(alloc, found, pending, begun, line, part)?;
-            Ok(taken)
+        Front::NoLine(before) => {
+            let len = line_length(part);
+            if len == part.len() {
+                pending.extend_from_slice(&part[..len])?;
+                return Ok(Line::Open(before));
+            }
+            let alone = pending.is_empty();
+            join(alone, pending, &part[..len])?;
+            let closed = ClosedLine {
+                alloc,
+                number: line,
+                text: chosen(alone, &part[..len], pending),
+            };
+            let after = closed.after(found, before)?;
+            pending.clear();
+            Ok(Line::Closed(len + 1, after))
         }
     }
 }

@@ -9,7 +9,7 @@ use crate::figure_lines::step::{After, ClosedLine};
 use figure_text::{Item, TextFault, next_line};
 use std::alloc::Global;
 
-// The fault of a line that is closed.
+// Returns the fault of a line that is closed.
 fn fault_of(ending: Ending) -> TextFault
     requires { IsAtLine ending }
     ensures { result ≡ fault_at ending }
@@ -23,7 +23,7 @@ fn fault_of(ending: Ending) -> TextFault
     }
 }
 
-// The fault of a text that ends in this figure, or in the line `line` outside one.
+// Returns the fault of a text that ends in this figure, or in the line `line` outside one.
 fn end_fault(begun: Option<Begun>, line: u32) -> TextFault
     ensures { result ≡ end_fault_by begun line }
 {
@@ -33,7 +33,7 @@ fn end_fault(begun: Option<Begun>, line: u32) -> TextFault
     }
 }
 
-/// The item at the offset `at` of a text, which is at most its length and begins line number `line`, counted
+/// Reads the item at the offset `at` of a text, which is at most its length and begins line number `line`, counted
 /// from 1.
 ///
 /// Each line is judged as it is closed. A closed line of another shape than the one that is due is a

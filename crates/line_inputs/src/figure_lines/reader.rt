@@ -45,7 +45,7 @@ impl Model for FigureReader {
 impl FigureReader {
     ghost use Rattle.line_inputs.specs.FigureLinesState.{IsAt};
 
-    /// A reader before the first byte. It takes no memory.
+    /// Makes a reader before the first byte. It takes no memory.
     pub fn new(alloc: Global) -> FigureReader
         ensures { IsAt result [] [] }
     {

@@ -26,7 +26,7 @@ pub struct Rows {
 }
 
 impl Rows {
-    /// A figure of which the first line alone has come.
+    /// Makes a figure of which the first line alone has come.
     pub fn new(alloc: Global, head: Head, n: usize) -> Rows
         ensures { result ≡ record { head = head; n = n; draft = no_lines } }
     {

@@ -121,38 +121,6 @@ fn rows_run(
     Ok(run_to(first, rows, bytes, lines))
 }
 
-// Tells a run of lines from one with no line.
-fn front_of(run: Run) -> Front
-    ensures front { (part : List ℕ) → run.bytes ≤ length part → run.lines ≤ run.bytes → IsFrontPart part result }
-    ensures takes { (consumed : List ℕ) (figures : List AFigure) (number : ℕ) (part : List ℕ) → run.lines ≤ run.bytes
-        → TakesRun consumed figures number part [] run.bytes run.lines run.begun → TakesFront consumed figures number part [] result }
-{
-    if run.bytes == 0 {
-        Front::NoLine(Some(run.begun))
-    } else {
-        Front::Lines(run)
-    }
-}
-
-// Takes lines of a figure that has begun so.
-fn begun_lines(found: &mut Vec<Word>, begun: Begun, part: &[u8]) -> Result<Front, AllocError>
-    ensures front { IfOk result (IsFrontPart part.now) }
-    ensures takes { (consumed : List ℕ) (figures : List AFigure) (number : ℕ) → length consumed + length part.now ≤ input_limit
-        → Progress consumed figures number [] (Some begun) → IfOk result (TakesFront consumed figures number part.now []) }
-{
-    let Begun { first, due } = begun;
-    match due {
-        Due::Row(rows) => {
-            let run = rows_run(found, first, rows, part)?;
-            Ok(front_of(run))
-        }
-        Due::Columns(bars) => Ok(Front::NoLine(Some(Begun {
-            first,
-            due: Due::Columns(bars),
-        }))),
-    }
-}
-
 /// Takes lines of vertices at the front of a part, where a figure has begun and nothing has come of the line that is due: as
 /// long as they are whole, are found good at sight, and are not the last that is due.
 pub fn first_lines(
@@ -165,14 +133,25 @@ pub fn first_lines(
     ensures takes { (consumed : List ℕ) (figures : List AFigure) (number : ℕ) → length consumed + length part.now ≤ input_limit
         → Progress consumed figures number pending.now before → IfOk result (TakesFront consumed figures number part.now pending.now) }
 {
-    match before {
-        Some(begun) => {
-            if pending.is_empty() {
-                begun_lines(found, begun, part)
+    let Some(begun) = before else {
+        return Ok(Front::NoLine(None));
+    };
+    if !pending.is_empty() {
+        return Ok(Front::NoLine(Some(begun)));
+    }
+    let Begun { first, due } = begun;
+    match due {
+        Due::Row(rows) => {
+            let run = rows_run(found, first, rows, part)?;
+            if run.bytes == 0 {
+                Ok(Front::NoLine(Some(run.begun)))
             } else {
-                Ok(Front::NoLine(Some(begun)))
+                Ok(Front::Lines(run))
             }
         }
-        None => Ok(Front::NoLine(None)),
+        Due::Columns(bars) => Ok(Front::NoLine(Some(Begun {
+            first,
+            due: Due::Columns(bars),
+        }))),
     }
 }

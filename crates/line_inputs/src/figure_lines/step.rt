@@ -2,7 +2,7 @@
 ghost use Rattle.std.specs.Prelude.{◌≡◌, ◌+◌, ◌<◌, ◌≤◌, ◌++◌, ◌∷◌, [], List, ℕ, length, IfOk};
 ghost use Rattle.figure_text.specs.Reading.{IsPlain};
 ghost use Rattle.line_inputs.specs.Given.{IsGiven, AreDrawn};
-ghost use Rattle.line_inputs.specs.Steps.{IsFresh, IsGrown};
+ghost use Rattle.line_inputs.specs.Steps.{IsGrown};
 ghost use Rattle.line_inputs.specs.FigureLinesProgress.{IsDue, IsOpen, Makes, IsWhole};
 
 use crate::figure_lines::begun::{AllBars, Begun, Due, SomeRows};
@@ -38,20 +38,6 @@ pub enum After {
     Whole(Held<Figure>),
     /// The input ends badly with the line.
     Bad(Ending),
-}
-
-// A figure of which the first line has come.
-fn begun_figure(alloc: Global, head: Head, n: usize, first: u32) -> Result<Begun, AllocError>
-    requires some { 0 < n }
-    requires few { n < 4096 }
-    ensures first { IfOk result (λ begun. begun.first ≡ first) }
-    ensures due { IfOk result (λ begun. IsFresh head n begun.due) }
-{
-    let held = Held::new(alloc, Rows::new(alloc, head, n))?;
-    Ok(Begun {
-        first,
-        due: Due::Row(SomeRows { held }),
-    })
 }
 
 // Ends a figure of which all lines of vertices, or of branches and paths, are there.
@@ -109,25 +95,6 @@ fn grown(alloc: Global, first: u32, held: Held<Rows>) -> Result<After, AllocErro
     }
 }
 
-// Bars with these columns.
-fn with_columns(bars: AllBars, column: Ints) -> Figure
-    ensures whole { IsGiven result }
-    ensures is { result ≡ Figure.Bars bars.draft.lists (record { y = bars.draft.y; x1 = bars.draft.x1; x2 = bars.draft.x2; column = column }) }
-{
-    let AllBars { draft } = bars;
-    let Draft {
-        lists,
-        y,
-        x1,
-        x2,
-        ..
-    } = draft.into_inner();
-    Figure::Bars {
-        lists: Rotations::from_lists(lists),
-        bars: BarFigure { y, x1, x2, column },
-    }
-}
-
 impl ClosedLine<'_> {
     // Takes it as a line outside a figure.
     fn after_front(&self) -> Result<After, AllocError>
@@ -138,8 +105,11 @@ impl ClosedLine<'_> {
             Front::Note => Ok(After::Goes(None)),
             Front::Begins(kind, n) => {
                 let head = head_of(self.alloc, kind, self.text)?;
-                let begun = begun_figure(self.alloc, head, n, self.number)?;
-                Ok(After::Goes(Some(begun)))
+                let held = Held::new(self.alloc, Rows::new(self.alloc, head, n))?;
+                Ok(After::Goes(Some(Begun {
+                    first: self.number,
+                    due: Due::Row(SomeRows { held }),
+                })))
             }
             Front::Limit(_) => Ok(After::Bad(Ending::Limit(self.number))),
             Front::Bad => Ok(After::Bad(Ending::BadLine(self.number))),
@@ -178,26 +148,22 @@ impl ClosedLine<'_> {
     {
         match columns_line(self.alloc, self.text) {
             Columns::Good(column) => {
-                let held = Held::new(self.alloc, with_columns(bars, column))?;
+                let AllBars { draft } = bars;
+                let Draft {
+                    lists,
+                    y,
+                    x1,
+                    x2,
+                    ..
+                } = draft.into_inner();
+                let lists = Rotations::from_lists(lists);
+                let bars = BarFigure { y, x1, x2, column };
+                let held = Held::new(self.alloc, Figure::Bars { lists, bars })?;
                 Ok(After::Whole(held))
             }
             Columns::Bad => Ok(After::Bad(Ending::BadLine(self.number))),
             Columns::Limit => Ok(After::Bad(Ending::Limit(self.number))),
             Columns::NoMemory => Err(AllocError),
-        }
-    }
-
-    // Takes it as the line of a figure that is due.
-    #[inline(always)]
-    fn after_due(&self, found: &mut Vec<Word>, begun: Begun) -> Result<After, AllocError>
-        ensures whole { IfOk result IsWhole }
-        ensures makes { (text : List ℕ) (start : ℕ) → IsPlain self.now.text.now → begun.first ≡ start → IsDue begun.due start self.now.number text self.now.text.now
-            → IfOk result (Makes start self.now.number (text ++ 10 ∷ [])) }
-    {
-        let Begun { first, due } = begun;
-        match due {
-            Due::Row(rows) => self.after_row(found, first, rows),
-            Due::Columns(bars) => self.after_columns(bars),
         }
     }
 
@@ -209,7 +175,13 @@ impl ClosedLine<'_> {
             → IfOk result (Makes start self.now.number (text ++ 10 ∷ [])) }
     {
         match before {
-            Some(begun) => self.after_due(found, begun),
+            Some(begun) => {
+                let Begun { first, due } = begun;
+                match due {
+                    Due::Row(rows) => self.after_row(found, first, rows),
+                    Due::Columns(bars) => self.after_columns(bars),
+                }
+            }
             None => self.after_front(),
         }
     }

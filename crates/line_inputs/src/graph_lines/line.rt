@@ -4,7 +4,7 @@ ghost use Rattle.record_runs.specs.Texts.{input_limit};
 ghost use Rattle.graph6_text.specs.Graphs.{EdgeGraph};
 ghost use Rattle.graph6_text.specs.Header.{graph_header};
 ghost use Rattle.graph6_text.specs.Faults.{NamesFault, line_fault};
-ghost use Rattle.line_inputs.specs.GraphLinesProgress.{Progress, Closes, Judges, IsJudged, behind_header as line_behind};
+ghost use Rattle.line_inputs.specs.GraphLinesProgress.{Progress, Closes, Judges, behind_header as line_behind};
 ghost use Rattle.line_inputs.specs.GraphLinesState.{IsLinePart, TakesLine};
 
 use crate::graph_lines::ending::Ending;
@@ -42,14 +42,14 @@ pub enum Line {
     Closed(usize, Judged),
 }
 
-// Whether a line is the header.
-fn is_header(line: &[u8]) -> bool
-    ensures { IsTrue result ↔ (line.now ≡ graph_header) }
+// Says whether a line is the header, which only the first one may be.
+fn is_header(first: bool, line: &[u8]) -> bool
+    ensures { IsTrue result ↔ (IsTrue first × (line.now ≡ graph_header)) }
 {
-    line == b">>graph6<<".as_slice()
+    first && line == b">>graph6<<".as_slice()
 }
 
-/// A line without the header, where it is the first one.
+/// Returns a line without the header, where it is the first one.
 pub fn behind_header(first: bool, line: &[u8]) -> &[u8]
     ensures { result.now ≡ line_behind first line.now }
 {
@@ -60,7 +60,7 @@ pub fn behind_header(first: bool, line: &[u8]) -> &[u8]
     }
 }
 
-// How an input ends with a line that has this fault; without memory there is no answer.
+// Returns how an input ends with a line that has this fault; without memory there is no answer.
 fn fault_ending(fault: G6Fault, number: u32) -> Option<Ending>
     ensures { (line : List ℕ) → NamesFault line fault → Judges number line fault result }
 {
@@ -71,28 +71,21 @@ fn fault_ending(fault: G6Fault, number: u32) -> Option<Ending>
     }
 }
 
-// Judges a line, which is given without the header and the byte 10 that closes it.
-fn judged_graph(alloc: Global, line: &[u8], number: u32) -> Result<Judged, AllocError>
-    ensures { IfOk result (IsJudged number line.now) }
+// Judges a closed line, which is given without the byte 10 that closes it.
+fn judged_line(alloc: Global, line: &[u8], first: bool, number: u32) -> Result<Judged, AllocError>
+    ensures { (consumed : List ℕ) (graphs : List EdgeGraph) → Progress consumed graphs number first line.now
+        → length consumed < input_limit → IfOk result (Closes (consumed ++ 10 ∷ []) graphs number) }
 {
-    match read_line(alloc, line) {
+    if is_header(first, line) {
+        return Ok(Judged::Header);
+    }
+    match read_line(alloc, behind_header(first, line)) {
         Ok(graph) => Ok(Judged::Graph(graph)),
         Err(fault) => match fault_ending(fault, number) {
             Some(ending) => Ok(Judged::Bad(ending)),
             None => Err(AllocError),
         },
     }
-}
-
-// Judges a closed line, which is given without the byte 10 that closes it.
-fn judged_line(alloc: Global, line: &[u8], first: bool, number: u32) -> Result<Judged, AllocError>
-    ensures { (consumed : List ℕ) (graphs : List EdgeGraph) → Progress consumed graphs number first line.now
-        → length consumed < input_limit → IfOk result (Closes (consumed ++ 10 ∷ []) graphs number) }
-{
-    if first && is_header(line) {
-        return Ok(Judged::Header);
-    }
-    judged_graph(alloc, behind_header(first, line), number)
 }
 
 /// Takes a part to the end of the open line, which is then judged, or to its own end. A line that stands whole in the

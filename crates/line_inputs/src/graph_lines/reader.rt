@@ -1,7 +1,5 @@
 //! A reader of lines, piece by piece.
 ghost use Rattle.std.specs.Prelude.{◌≡◌, ◌+◌, ◌≤◌, []};
-ghost use Rattle.line_inputs.specs.GraphLinesProgress.{behind_header as line_behind};
-ghost use Rattle.line_inputs.specs.GraphLinesState.{ending_of};
 
 use crate::graph_lines::ending::Ending;
 use crate::graph_lines::line::{Judged, Line, OpenLine, behind_header, take_line};
@@ -37,21 +35,10 @@ impl Model for GraphReader {
     ghost invariant = { λ r. r.line ≤ r.place + 1 };
 }
 
-// How an input ends with this open line.
-fn open_ending(first: bool, pending: &[u8], line: u32) -> Ending
-    ensures { result ≡ ending_of (line_behind first pending.now) line }
-{
-    if behind_header(first, pending).is_empty() {
-        Ending::Well
-    } else {
-        Ending::BadLine(line)
-    }
-}
-
 impl GraphReader {
     ghost use Rattle.line_inputs.specs.GraphLinesState.{IsAt};
 
-    /// A reader before the first byte. It takes no memory.
+    /// Makes a reader before the first byte. It takes no memory.
     pub fn new(alloc: Global) -> GraphReader
         ensures { IsAt result [] [] }
     {
@@ -117,7 +104,11 @@ impl Format for GraphReader {
     }
 
     fn end(&self) -> Ending {
-        open_ending(self.first, &self.pending, self.line)
+        if behind_header(self.first, &self.pending).is_empty() {
+            Ending::Well
+        } else {
+            Ending::BadLine(self.line)
+        }
     }
 
     fn too_long(&self) -> Ending {

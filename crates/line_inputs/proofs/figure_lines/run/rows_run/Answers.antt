@@ -1,5 +1,5 @@
 -- One line more, until none is taken.
-use Rattle.std.proofs.Common.{◌≡◌, ◌≤◌, ◌+◌, ◌++◌, ℕ, List, length, take, drop, arith, length-append}
+use Rattle.std.proofs.Common.{◌≤◌, ◌+◌, ◌++◌, ℕ, List, length, take, drop, arith, length-append}
 use Rattle.std.proofs.lemmas.List.{take_rest, length-drop, length-take-le}
 use Rattle.record_runs.specs.Texts.{input_limit}
 use Rattle.line_inputs.proofs.RunLemmas.{begun_by, run-none, run-more}

@@ -1,17 +1,17 @@
--- The header, or what the rest of the line is.
-use Rattle.std.proofs.Common.{◌≡◌, ◌≢◌, ◌++◌, ◌∷◌, [], true, true≢false, sym, ◌∙◌}
-use Rattle.std.proofs.lemmas.Result.{IfOk-weaker}
-use Rattle.graph6_text.specs.Header.{graph_header}
-use Rattle.line_inputs.specs.GraphLinesProgress.{IsJudged, Closes}
+-- The graph of the line, or how the input ends by the fault that it has.
+use Rattle.std.proofs.Common.{true≢false, List, ℕ, sym, ◌∙◌, subst}
+use Rattle.line_inputs.specs.GraphLinesProgress.{IsJudged}
+use Rattle.line_inputs.specs.declared.graph_lines.line.Judged.TheVariants.{Graph, Bad}
 use Rattle.line_inputs.proofs.GraphLinesLineLemmas.{closes-judged}
 use Rattle.line_inputs.proofs.graph_lines.line.judged_line.Goals as goal
-use Rattle.line_inputs.proofs.graph_lines.line.judged_line.Goals.{else-first-via-then-first+else-is_header, else-first-via-else-first}
 
-pub returns : goal.returns
-returns c = λ consumed graphs p short.
-    let other : c.args.first ≡ true → c.args.line.now ≢ graph_header = elim c.else-first.branch [
-      | else-first-via-then-first+else-is_header w ↦ λ t e. true≢false (sym (w.is_header.ensures.1 e) ∙ w.if-is_header.false)
-      | else-first-via-else-first w ↦ λ t. absurd (true≢false (sym t ∙ w.if-first.false))
-    ] in
-    IfOk-weaker c.judged_graph.result (IsJudged c.args.number c.behind_header.result.now) (Closes (consumed ++ 10 ∷ []) graphs c.args.number)
-    (λ judged is. closes-judged consumed graphs c.args.number c.args.first c.args.line.now judged short p other (rw (← c.behind_header.ensures) is)) c.judged_graph.ensures
+pub returns-in-Ok : goal.returns-in-Ok
+returns-in-Ok c = λ consumed graphs p short.
+    closes-judged consumed graphs c.args.number c.args.first c.args.line.now (Graph c.in-Ok.graph) short p (λ t e. true≢false (sym (c.is_header.ensures.1 (t, e)) ∙ c.if-is_header.false))
+    (rw (← c.behind_header.ensures) c.in-Ok.ensures.ok)
+
+pub returns-in-Some : goal.returns-in-Some
+returns-in-Some c = λ consumed graphs p short.
+    let judged = rw c.in-Some.is at (c.fault_ending.ensures c.behind_header.result.now c.in-Err.ensures.fault) in
+    closes-judged consumed graphs c.args.number c.args.first c.args.line.now (Bad c.in-Some.ending) short p (λ t e. true≢false (sym (c.is_header.ensures.1 (t, e)) ∙ c.if-is_header.false))
+    (subst (λ (x : List ℕ). IsJudged c.args.number x (Bad c.in-Some.ending)) c.behind_header.ensures (c.in-Err.fault, judged))

@@ -4,8 +4,11 @@ use Rattle.std.specs.Prelude.{IfOk}
 use Rattle.line_inputs.specs.FigureLinesProgress.{Makes}
 use Rattle.line_inputs.proofs.figure_lines.step.ClosedLine.after.Goals as goal
 
-pub returns-in-Some-clause-makes : goal.returns-in-Some-clause-makes
-returns-in-Some-clause-makes c = λ text start plain stands. let due = rw c.in-Some.is at stands in c.after_due.ensures.makes text start plain due.0 due.1
+pub returns-in-Row-clause-makes : goal.returns-in-Row-clause-makes
+returns-in-Row-clause-makes c = λ text start plain stands. let due = rw c.in-Some.is at stands in c.after_row.ensures.makes text start plain due.0 (rw c.in-Row.is at due.1)
+
+pub returns-in-Columns-clause-makes : goal.returns-in-Columns-clause-makes
+returns-in-Columns-clause-makes c = λ text start plain stands. let due = rw c.in-Some.is at stands in c.after_columns.ensures.makes text start plain (rw c.in-Columns.is at due.1)
 
 pub returns-in-None-clause-makes : goal.returns-in-None-clause-makes
 returns-in-None-clause-makes c = λ text start plain stands.

@@ -1,5 +1,5 @@
 -- What the line is decides.
-use Rattle.std.proofs.Common.{sym, subst}
+use Rattle.std.proofs.Common.{sym, ◌∙◌, subst}
 use Rattle.std.specs.Prelude.{Option}
 use Rattle.figure_text.specs.declared.judge.Kind.{Kind}
 use Rattle.figure_text.specs.Figures.{IsHead}
@@ -17,12 +17,13 @@ head_of-requires c =
     let is = rw c.in-Begins.is at c.in_ok-front_line.ensures in
     subst (λ (k : Option Kind). TailInRange k c.args.self.now.text.now) is.1.0.job is.1.1.tail
 
-pub returns-in_ok-begun-in-Begins-clause-makes : goal.returns-in_ok-begun-in-Begins-clause-makes
-returns-in_ok-begun-in-Begins-clause-makes c = λ plain.
+pub returns-in_ok-held-in-Begins-clause-makes : goal.returns-in_ok-held-in-Begins-clause-makes
+returns-in_ok-held-in-Begins-clause-makes c = λ plain.
     let is = rw c.in-Begins.is at c.in_ok-front_line.ensures in
     let line = c.args.self.now.text.now in
     let says = IsHead-of c.in-Begins.kind c.in-Begins.n line is.1.0 is.1.1 is.1.2 in
-    makes-head c.args.self.now.number line plain c.in_ok-head-in-Begins.head c.in-Begins.n c.in_ok-begun-in-Begins.begun c.in_ok-begun-in-Begins.ensures.first c.in_ok-begun-in-Begins.ensures.due is.0 (subst (λ (k : Kind). IsHead k c.in-Begins.n line) (sym c.in_ok-head-in-Begins.ensures.kind) says) c.in_ok-head-in-Begins.ensures.graph
+    makes-head c.args.self.now.number line plain c.in_ok-head-in-Begins.head c.in-Begins.n c.in_ok-held-in-Begins.held (c.in_ok-held-in-Begins.ensures ∙ c.new.ensures) is.0
+    (subst (λ (k : Kind). IsHead k c.in-Begins.n line) (sym c.in_ok-head-in-Begins.ensures.kind) says) c.in_ok-head-in-Begins.ensures.graph
 
 pub returns-in-Limit-clause-makes : goal.returns-in-Limit-clause-makes
 returns-in-Limit-clause-makes c = λ plain.
