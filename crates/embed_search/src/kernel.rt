@@ -50,7 +50,7 @@ impl Kernel {
 
     /// Says whether the part, of vertices of degree three and more, is K5 or K3,3 if it is nonplanar.
     pub fn is_least(&self) -> bool {
-        self.edges.count == 9 || self.edges.are_of_k5()
+        self.edges.count == 9 || self.edges.vertices == 5 && self.edges.count == 10
     }
 
     /// Returns the first edge that is not known to be needed; or none.

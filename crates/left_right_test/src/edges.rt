@@ -1,4 +1,5 @@
 //! The edges of a graph, read out of its bits.
+use crate::few::{FEW, Few};
 use crate::links::Links;
 use crate::row::{ByEdge, minus, plus, twice};
 use graph6_text::Graph;
@@ -8,8 +9,10 @@ use graph6_text::Graph;
 pub struct Edges {
     /// How many vertices there are.
     pub vertices: u32,
-    /// How many edges there are.
+    /// How many edges there are, or below which number theirs are.
     pub count: u32,
+    /// How many edges of a graph there are.
+    pub size: u32,
     /// For each edge its lesser end.
     pub one: ByEdge,
     /// For each edge its greater end.
@@ -23,6 +26,7 @@ impl Edges {
         Edges {
             vertices: 0,
             count: 0,
+            size: 0,
             one: ByEdge::new(),
             other: ByEdge::new(),
         }
@@ -42,8 +46,7 @@ impl Edges {
         self.vertices = u32::from(graph.n());
         links.begin_chains(self.vertices);
         links.degree.fill(self.vertices, 0);
-        // of a plane map on as many vertices, or on three
-        let most = minus(self.vertices.max(3).wrapping_mul(3), 6);
+        let most = most_edges(self.vertices);
         let mut place = Place {
             v: 1,
             last: 5,
@@ -59,7 +62,20 @@ impl Edges {
             place.last = plus(place.last, 6);
         }
         self.count = place.count;
+        self.size = place.count;
         links.darts = twice(place.count);
+    }
+
+    /// Reads the edges of a graph as bits. Says whether it has few vertices, and no more edges than a plane map; else they are
+    /// to be read as lists.
+    pub fn read_few(&mut self, graph: &Graph, links: &mut Links, few: &mut Few) -> bool {
+        if u32::from(graph.n()) > FEW {
+            return false;
+        }
+        self.size = few.read(graph, links);
+        self.vertices = links.vertices;
+        self.count = links.darts / 2;
+        self.size <= most_edges(self.vertices)
     }
 
     /// Takes the ends of an edge, which its darts have.
@@ -71,7 +87,7 @@ impl Edges {
 
     /// Whether the graph is K5, if it has no loops and no parallels.
     pub fn are_of_k5(&self) -> bool {
-        self.vertices == 5 && self.count == 10
+        self.vertices == 5 && self.size == 10
     }
 }
 
@@ -109,4 +125,9 @@ fn chain_byte(links: &mut Links, bits: u32, place: Place, enough: u32) -> Place 
         bits = bits ^ (1 << (bit & 31));
     }
     place
+}
+
+// Returns how many edges a plane map has at most, on as many vertices, or on three.
+fn most_edges(vertices: u32) -> u32 {
+    minus(vertices.max(3).wrapping_mul(3), 6)
 }

@@ -7,6 +7,7 @@
 
 mod conflicts;
 mod edges;
+mod few;
 mod links;
 mod orient;
 mod placing;

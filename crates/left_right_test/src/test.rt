@@ -4,6 +4,7 @@ ghost use Rattle.left_right_check.specs.Ties.{HasNoMap};
 
 use crate::conflicts::agrees;
 use crate::edges::Edges;
+use crate::few::Few;
 use crate::links::Links;
 use crate::orient::orient_all;
 use crate::placing::Places;
@@ -26,6 +27,9 @@ pub struct LeftRightTest {
     /// The ring of ties that shows its conflict, if it met one.
     pub ring: OddRing,
     places: Places,
+    few: Few,
+    // whether the graph was read as bits
+    is_few: bool,
     pub(crate) forest: Forest,
 }
 
@@ -38,13 +42,18 @@ impl LeftRightTest {
             search: Search::new(),
             ring: OddRing::new(),
             places: Places::new(),
+            few: Few::new(),
+            is_few: false,
             forest: Forest::new(),
         }
     }
 
     /// Takes a graph, and forgets the conflict of an earlier one.
     pub fn begin(&mut self, edges: &mut Edges, graph: &Graph) {
-        edges.read(graph, &mut self.links);
+        self.is_few = edges.read_few(graph, &mut self.links, &mut self.few);
+        if !self.is_few {
+            edges.read(graph, &mut self.links);
+        }
         self.search.failed = NONE;
     }
 
@@ -56,12 +65,22 @@ impl LeftRightTest {
     /// Whether the chained edges are planar, by a search from the first vertex on; else it shows where it met its conflict.
     pub fn passes_all(&mut self) -> bool {
         self.search.root = 0;
-        self.passes()
+        if self.is_few {
+            self.few.orient_all(&self.links, &mut self.search);
+        } else {
+            orient_all(&self.links, &mut self.search);
+        }
+        self.agrees()
     }
 
     /// Whether the chained edges are planar; else it shows where it met its conflict.
     pub fn passes(&mut self) -> bool {
         orient_all(&self.links, &mut self.search);
+        self.agrees()
+    }
+
+    // Whether the oriented edges can be put on two sides; else it shows where it met its conflict.
+    fn agrees(&mut self) -> bool {
         if agrees(&self.links, &mut self.search) {
             return true;
         }
