@@ -1,12 +1,13 @@
 -- What the records of an arena say of its darts, its lists and their ids.
-use Rattle.std.proofs.Common.{ℕ, zero, suc, ◌+◌, ◌<◌, ◌≤◌, ◌≡◌, ◌≢◌, true, false, cond, ltb, List, [], ◌∷◌, ◌++◌, map, length, get_or, take, AllPairs, Contains, Option, Some, None, is_some, option_map, refl, sym, ap, ap₂, ◌∙◌, subst, inl, inr, arith}
-use Rattle.std.proofs.lemmas.List.{length-append, map-append, length-map, get_or-map, get_or_past, get_or_default, take_more, take_all, ext_get_or}
+use Rattle.std.proofs.Common.{ℕ, zero, suc, ◌+◌, ◌*◌, ◌<◌, ◌≤◌, ◌≡◌, ◌≢◌, true, false, cond, ltb, List, [], ◌∷◌, ◌++◌, map, length, get_or, take, AllPairs, Contains, Option, Some, None, is_some, option_map, refl, sym, ap, ap₂, ◌∙◌, subst, inl, inr, arith}
+use Rattle.std.proofs.lemmas.List.{length-append, length_push, map-append, length-map, get_or-map, get_or_past, get_or_default, take_more, take_all, ext_get_or}
 use Rattle.std.proofs.lemmas.Option.{cond_some}
 use Rattle.std.proofs.lemmas.Bool.{cases_lt, cases_Bool, true≢false, cond-true, lt-ltb}
 use Rattle.map_lists.specs.Lists.{Lists}
 use Rattle.map_lists.proofs.CutLemmas.{IsStored, IsStored-push}
-use Rattle.map_theory.specs.Maps.{Dart, list_of, HasDart, place_of, follows, entry_after, twin_dart}
-use Rattle.map_theory.proofs.DartLemmas.{place_of-lt-length, get_or-place_of, place_of-get_or, place_after, place_before, place_before-lt, place_after-before, entry_after-place}
+use Rattle.map_theory.specs.Maps.{Dart, list_of, HasDart, darts_before, place_of, follows, entry_after, twin_dart}
+use Rattle.map_theory.proofs.DartLemmas.{darts_before_more, darts_before_end, place_of-lt-length, get_or-place_of, place_of-get_or, place_after, place_before, place_before-lt, place_after-before, entry_after-place}
+use Rattle.map_theory.proofs.DartCounts.{dart_count-edge_count}
 use Rattle.half_edges.specs.Map.{Map, dart_at, IsLive, IsHalfMap, next_dart}
 use Rattle.half_edges.specs.Arena.{no_record, no_vertex, vertex_at, twin_of, next_of, prev_of, tail_of, live_of, head_of, dart_of_record, dart_in, steps, walk, IsWalkable, arena_lists, arena_map, IsLinked, IsArena}
 use Rattle.half_edges.specs.declared.arena.DartRecord.{DartRecord}
@@ -242,6 +243,24 @@ walkable_here darts vertices edges free spare a v l =
 pub walkable_read : (darts read : List DartRecord) (vertex other : VertexRecord) → read ≡ darts → other ≡ vertex → IsWalkable darts vertex.first vertex.degree → IsWalkable read other.first other.degree
 walkable_read darts read vertex other e i h =
     subst (λ (v : VertexRecord). IsWalkable read v.first v.degree) (sym i) (subst (λ ds. IsWalkable ds vertex.first vertex.degree) (sym e) h)
+
+length-walk : (darts : List DartRecord) (d n : ℕ) → length (walk darts d n) ≡ n
+length-walk darts d zero = refl
+length-walk darts d (suc n) = length_push (walk darts d n) (head_of darts (steps darts d n)) ∙ omega (arith, length-walk darts d n)
+
+-- where there is room for all darts, there is room for those of a vertex behind those of the vertices before it
+pub walk_room : (darts : List DartRecord) (vertices others : List VertexRecord) (edges free spare v len room : ℕ) → IsArena (arena_lists darts vertices) darts vertices edges free spare → others ≡ vertices → v < length vertices → len ≡ darts_before (arena_lists darts vertices) v → 2 * edges ≤ room → len + (vertex_at others v).degree ≤ room
+walk_room darts vertices others edges free spare v len room a same l met space =
+    let lists = arena_lists darts vertices in
+    let degree = a.linked.degree_at v (omega (arith, l, a.linked.vertex_count)) in
+    omega (arith, ap (λ vs. (vertex_at vs v).degree) same, degree, met, space, darts_before_end lists v, dart_count-edge_count lists a.simple, a.edges_are)
+
+pub walk_met : (darts read : List DartRecord) (vertices others : List VertexRecord) (edges free spare v : ℕ) (entries new_entries : List ℕ) → IsArena (arena_lists darts vertices) darts vertices edges free spare → read ≡ darts → others ≡ vertices → v < length vertices → length entries ≡ darts_before (arena_lists darts vertices) v → new_entries ≡ entries ++ walk read (vertex_at others v).first (vertex_at others v).degree → length new_entries ≡ darts_before (arena_lists darts vertices) (v + 1)
+walk_met darts read vertices others edges free spare v entries new_entries a same_darts same l met grown =
+    let lists = arena_lists darts vertices in
+    let degree = a.linked.degree_at v (omega (arith, l, a.linked.vertex_count)) in
+    let us = walk read (vertex_at others v).first (vertex_at others v).degree in
+    omega (arith, ap length grown, length-append entries us, length-walk read (vertex_at others v).first (vertex_at others v).degree, ap (λ vs. (vertex_at vs v).degree) same, degree, met, darts_before_more lists v)
 
 -- a list more: the entries and ends of the lists of the first vertices, and then those with the next list
 pub IsStored-walk : (darts read : List DartRecord) (vertices others : List VertexRecord) (v : ℕ) (entries new_entries ends new_ends : List ℕ) (end : ℕ) → read ≡ darts → others ≡ vertices → v < length vertices → IsStored (arena_lists darts (take v vertices)) entries ends → new_entries ≡ entries ++ walk read (vertex_at others v).first (vertex_at others v).degree → new_ends ≡ ends ++ end ∷ [] → end ≡ length new_entries → IsStored (arena_lists darts (take (v + 1) vertices)) new_entries new_ends

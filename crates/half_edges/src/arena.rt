@@ -1,5 +1,5 @@
 //! The records of the arena, and walks along them.
-ghost use Rattle.std.specs.Prelude.{◌≡◌, ◌+◌, ◌-◌, ◌<◌, ◌≤◌, ◌==◌, nat_lt, if◌then◌else◌, ◌∷◌, ◌++◌, ◌⊎◌, ℕ, length, map, slice_index, slice_index_or, OnOk, IfOk, MatchOption};
+ghost use Rattle.std.specs.Prelude.{vec_len, vec_capacity, ◌≡◌, ◌+◌, ◌-◌, ◌<◌, ◌≤◌, ◌==◌, nat_lt, if◌then◌else◌, ◌∷◌, ◌++◌, ◌⊎◌, ℕ, length, map, slice_index, slice_index_or, OnOk, IfOk, MatchOption};
 ghost use Rattle.map_lists.specs.Cuts.{AreCuts};
 ghost use Rattle.half_edges.specs.Arena.{IsWalkable, record_at, steps, head_of, walk, next_of, prev_of};
 ghost use Rattle.half_edges.specs.Links.{IsSpliced, IsUnspliced, IsThreaded};
@@ -49,24 +49,19 @@ pub(crate) struct VertexRecord {
     pub(crate) degree: u16,
 }
 
-// Appends the heads of the darts that are met in `degree` steps from `first`.
-pub(crate) fn push_heads(
-    entries: &mut Vec<u16>,
-    darts: &[DartRecord],
-    first: u32,
-    degree: u16,
-) -> Result<(), AllocError>
-    requires { IsWalkable darts.now first degree }
-    ensures { OnOk result (entries.new.items ≡ entries.old.items ++ walk darts.now first degree) }
+// Appends the heads of the darts that are met in `degree` steps from `first`, for which there is room.
+pub(crate) fn push_heads(entries: &mut Vec<u16>, darts: &[DartRecord], first: u32, degree: u16)
+    requires walkable { IsWalkable darts.now first degree }
+    requires room { vec_len entries.old + degree ≤ vec_capacity entries.old }
+    ensures heads { entries.new.items ≡ entries.old.items ++ walk darts.now first degree }
+    ensures capacity { vec_capacity entries.old ≤ vec_capacity entries.new }
 {
-    entries.reserve(degree as usize)?;
     let mut d = first;
     for k in 0..degree {
         let record = darts[d as usize];
         entries.push_reserved(darts[record.twin as usize].tail);
         d = record.next;
     }
-    Ok(())
 }
 
 // The first dart with this head that is met in `degree` steps from `first`.

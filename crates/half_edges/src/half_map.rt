@@ -304,7 +304,7 @@ impl HalfMap {
         ends.clear();
         ends.reserve(self.vertices.len())?;
         for vertex in &self.vertices {
-            push_heads(&mut entries, &self.darts, vertex.first, vertex.degree)?;
+            push_heads(&mut entries, &self.darts, vertex.first, vertex.degree);
             ends.push_reserved(entries.len());
         }
         Ok(Rotations::from_parts(entries, ends))
