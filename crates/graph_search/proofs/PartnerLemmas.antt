@@ -1,6 +1,7 @@
 -- Least cut vertices and least separating pairs, from flags.
 use Rattle.std.proofs.Common.{◌≡◌, ◌≢◌, ℕ, ◌+◌, ◌<◌, ◌≤◌, Bool, true, false, MatchBool, List, [], ◌∷◌, length, get_or, refl, sym, subst, inl, inr, arith}
 use Rattle.std.proofs.lemmas.Bool.{cases_eq, cases_lt}
+use Rattle.std.proofs.lemmas.List.{get_or_read}
 use Rattle.map_lists.specs.Lists.{Lists}
 use Rattle.graph_search.specs.Forests.{IsAdjacency}
 use Rattle.graph_search.specs.Cuts.{IsSeparatingPair, IsLeastPair}
@@ -55,6 +56,12 @@ module _ (lists : Lists) (adjacency : IsAdjacency lists) where
           is_partner_by false e = λ pair.
               let m = w.count in
               not_AreSeparated lists rest v w adjacency u (u ∷ v ∷ []) (AreBoth-turned u v (u ∷ v ∷ []) (AreBoth-pair u v)) (h.no v v_in other) (k.no u (omega arith) e) pair.2 pair.3 pair.4
+
+      -- as that flag is read
+      pub is_partner-read : (u v : ℕ) (b : Bool) → IsWithoutVertex lists rest v → u < v → v < length lists → get_or flags v false ≡ false → b ≡ get_or cuts u b → MatchBool b (IsSeparatingPair lists u v) (¬ IsSeparatingPair lists u v)
+      is_partner-read u v b w order v_in other read =
+          let is = get_or_read cuts u b (omega (arith, order, v_in, k.count, w.count)) read false in
+          rw is (is_partner u v w order v_in other)
 
     -- two cut vertices are a pair
     pub cut_partners : (u v : ℕ) → u < v → v < length lists → get_or flags u false ≡ true → get_or flags v false ≡ true → IsSeparatingPair lists u v

@@ -1,10 +1,9 @@
 use Rattle.std.proofs.Common.{◌<◌, ◌≤◌, ℕ, false, length, MatchBool, subst, inl, inr, arith}
 use Rattle.std.proofs.lemmas.Bool.{cases_eq, cases_lt}
-use Rattle.std.proofs.lemmas.List.{get_or_read}
 use Rattle.map_lists.specs.Lists.{Lists}
 use Rattle.graph_search.specs.Cuts.{IsSeparatingPair}
 use Rattle.graph_search.proofs.PairLemmas.{IsAdjacency-without}
-use Rattle.graph_search.proofs.PartnerLemmas.{cut_partners, is_partner}
+use Rattle.graph_search.proofs.PartnerLemmas.{cut_partners, is_partner-read}
 use Rattle.graph_search.proofs.map_cuts.pairs.partner_of_cut.Goals as goal
 
 -- a partner of u is the least, where no vertex before it is one
@@ -24,25 +23,16 @@ returns-then-index c =
     let lists = c.args.lists.now in
     let r = c.requires in
     let v = c.loop-v.v in
-    let order : c.args.u < v = omega (arith, c.loop-v.auto.v) in
-    let vertex : v < length lists = omega (arith, c.loop-v-test.true, c.len-v-end.ensures.is) in
-    let read = get_or_read c.in_ok-cuts.cuts.items c.args.u c.index.result.now (omega (arith, order, vertex, c.in_ok-cuts.ensures.count, c.in_ok-rest.ensures.count)) c.index.ensures false in
-    let told : MatchBool c.index.result.now (IsSeparatingPair lists c.args.u v) (¬ IsSeparatingPair lists c.args.u v) =
-    rw read (is_partner lists r.adjacency c.args.flags.now r.flags c.in_ok-rest.rest c.in_ok-cuts.cuts.items c.in_ok-cuts.ensures c.args.u v c.in_ok-rest.ensures order vertex c.if-flags-v.false) in
+    let told = is_partner-read lists r.adjacency c.args.flags.now r.flags c.in_ok-rest.rest c.in_ok-cuts.cuts.items c.in_ok-cuts.ensures c.args.u v c.index.result.now c.in_ok-rest.ensures (omega (arith, c.loop-v.auto.v)) (omega (arith, c.loop-v-test.true, c.len-v-end.ensures.is)) c.if-flags-v.false c.index.ensures in
     least lists c.args.u v c.loop-v.invariant (rw c.if-index.true at told)
 
 pub loop-v-preserved : goal.loop-v-preserved
 loop-v-preserved c = λ w below pair.
     let lists = c.args.lists.now in
     let r = c.requires in
-    let v = c.loop-v.v in
-    let order : c.args.u < v = omega (arith, c.loop-v.auto.v) in
-    let vertex : v < length lists = omega (arith, c.loop-v-test.true, c.len-v-end.ensures.is) in
-    let read = get_or_read c.in_ok-cuts.cuts.items c.args.u c.index.result.now (omega (arith, order, vertex, c.in_ok-cuts.ensures.count, c.in_ok-rest.ensures.count)) c.index.ensures false in
-    let told : MatchBool c.index.result.now (IsSeparatingPair lists c.args.u v) (¬ IsSeparatingPair lists c.args.u v) =
-    rw read (is_partner lists r.adjacency c.args.flags.now r.flags c.in_ok-rest.rest c.in_ok-cuts.cuts.items c.in_ok-cuts.ensures c.args.u v c.in_ok-rest.ensures order vertex c.if-flags-v.false) in
+    let told = is_partner-read lists r.adjacency c.args.flags.now r.flags c.in_ok-rest.rest c.in_ok-cuts.cuts.items c.in_ok-cuts.ensures c.args.u c.loop-v.v c.index.result.now c.in_ok-rest.ensures (omega (arith, c.loop-v.auto.v)) (omega (arith, c.loop-v-test.true, c.len-v-end.ensures.is)) c.if-flags-v.false c.index.ensures in
     let none = rw c.if-index.false at told in
-    elim (cases_eq w v) [
+    elim (cases_eq w c.loop-v.v) [
       | inl e ↦ none (subst (λ x. IsSeparatingPair lists c.args.u x) e pair)
       | inr ne ↦ c.loop-v.invariant w (omega arith) pair
     ]
