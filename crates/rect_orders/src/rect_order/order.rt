@@ -1,8 +1,8 @@
 //! Rectangular orders.
-ghost use Rattle.std.specs.Prelude.{◌≡◌, ◌<◌, ℕ, false, true, [], ◌∷◌, length, reverse, All, IfOk};
+ghost use Rattle.std.specs.Prelude.{◌≡◌, ◌<◌, ℕ, false, true, [], ◌∷◌, length, reverse, IfOk};
 ghost use Rattle.map_lists.specs.Lists.{Lists};
 ghost use Rattle.map_theory.specs.Maps.{IsSimpleMap};
-ghost use Rattle.canon_order.specs.Marks.{is_set, IsTally, IsTaken};
+ghost use Rattle.canon_order.specs.Marks.{is_set, IsTaken};
 ghost use Rattle.canon_order.specs.Orders.{vertices_of};
 ghost use Rattle.rect_orders.specs.Orders.{IsRectOrder};
 ghost use Rattle.rect_orders.specs.Contours.{IsFresh, IsPrepared, IsClosedOf, IsClosedAt, IsOrderAt};
@@ -39,13 +39,10 @@ impl Closed<'_> {
         stack: &mut Vec<u16>,
         v: u16,
     ) -> Result<(), AllocError>
-        requires near { IsTally self.now.lists.now marked.old near.old }
-        requires away { IsTally self.now.lists.now gone.old away.old }
-        requires vertices { All (λ u. u < length self.now.lists.now) stack.old.items }
+        requires prepared { IsPrepared self.now.lists.now self.now.frame.bottom.0 self.now.frame.left.0 marked.old near.old gone.old away.old stack.old.items }
         requires marked { is_set marked.old v ≡ true }
         requires left { is_set gone.old v ≡ false }
-        ensures prepared { IfOk result (λ _. (t s : ℕ) → IsPrepared self.now.lists.now t s marked.old near.old gone.old away.old stack.old.items
-            → IsPrepared self.now.lists.now t s marked.new near.new gone.new away.new stack.new.items) }
+        ensures prepared { IfOk result (λ _. IsPrepared self.now.lists.now self.now.frame.bottom.0 self.now.frame.left.0 marked.new near.new gone.new away.new stack.new.items) }
         ensures taken { IfOk result (λ _. IsTaken self.now.lists.now v marked.old gone.old marked.new gone.new) }
     {
         self.facts();

@@ -1,8 +1,6 @@
-use Rattle.std.proofs.Common.{◌<◌, ℕ, List, [], ◌∷◌, length, reverse, All, subst, sym, ap, ◌∙◌, refl, arith}
+use Rattle.std.proofs.Common.{ℕ, List, [], ◌∷◌, length, reverse, subst, sym, ap, ◌∙◌, refl, arith}
 use Rattle.std.proofs.lemmas.List.{reverse-append, length-append, length-reverse}
-use Rattle.std.proofs.lemmas.List.Elements.{All-nil}
 use Rattle.std.proofs.lemmas.Result.{IfOk-weaker}
-use Rattle.canon_order.proofs.Marks.{IsTally-none}
 use Rattle.rect_orders.specs.Orders.{IsRectOrder}
 use Rattle.rect_orders.specs.Contours.{IsContour, IsOrderAt}
 use Rattle.rect_orders.proofs.Notes.{IsPrepared-begin, IsStacked-prepared, IsPrepared-stacked}
@@ -10,62 +8,21 @@ use Rattle.rect_orders.proofs.Beginning.{IsFramedIn-class}
 use Rattle.rect_orders.proofs.Contours.{same_length, on_left, some_removable, right_marked, IsContour-begin, IsContour-taken, IsContour-three}
 use Rattle.rect_orders.proofs.rect_order.order.Closed.take_all.Goals as goal
 
-pub invariant_of-three-clause-first_in : goal.invariant_of-three-clause-first_in
-invariant_of-three-clause-first_in c =
+pub invariant_of-three : goal.invariant_of-three
+invariant_of-three c =
     let f = c.args.self.now.frame in
-    (IsFramedIn-class c.args.self.now.lists.now c.requires.class.0 f.left.0 f.top.0 f.right.0 f.bottom.0 f.inner.0 c.requires.class.1).s_in
+    let (map, k) = c.requires.class in
+    let four = IsFramedIn-class c.args.self.now.lists.now map f.left.0 f.top.0 f.right.0 f.bottom.0 f.inner.0 k in
+    record { first_in = four.s_in; second_in = four.d_in; third_in = four.t_in; first_second = four.s_d; first_third = four.s_t; second_third = four.d_t }
 
-pub invariant_of-three-clause-second_in : goal.invariant_of-three-clause-second_in
-invariant_of-three-clause-second_in c =
-    let f = c.args.self.now.frame in
-    (IsFramedIn-class c.args.self.now.lists.now c.requires.class.0 f.left.0 f.top.0 f.right.0 f.bottom.0 f.inner.0 c.requires.class.1).d_in
-
-pub invariant_of-three-clause-third_in : goal.invariant_of-three-clause-third_in
-invariant_of-three-clause-third_in c =
-    let f = c.args.self.now.frame in
-    (IsFramedIn-class c.args.self.now.lists.now c.requires.class.0 f.left.0 f.top.0 f.right.0 f.bottom.0 f.inner.0 c.requires.class.1).t_in
-
-pub invariant_of-three-clause-first_second : goal.invariant_of-three-clause-first_second
-invariant_of-three-clause-first_second c =
-    let f = c.args.self.now.frame in
-    (IsFramedIn-class c.args.self.now.lists.now c.requires.class.0 f.left.0 f.top.0 f.right.0 f.bottom.0 f.inner.0 c.requires.class.1).s_d
-
-pub invariant_of-three-clause-first_third : goal.invariant_of-three-clause-first_third
-invariant_of-three-clause-first_third c =
-    let f = c.args.self.now.frame in
-    (IsFramedIn-class c.args.self.now.lists.now c.requires.class.0 f.left.0 f.top.0 f.right.0 f.bottom.0 f.inner.0 c.requires.class.1).s_t
-
-pub invariant_of-three-clause-second_third : goal.invariant_of-three-clause-second_third
-invariant_of-three-clause-second_third c =
-    let f = c.args.self.now.frame in
-    (IsFramedIn-class c.args.self.now.lists.now c.requires.class.0 f.left.0 f.top.0 f.right.0 f.bottom.0 f.inner.0 c.requires.class.1).d_t
-
-pub take_off-requires-clause-away : goal.take_off-requires-clause-away
-take_off-requires-clause-away c = IsTally-none c.args.self.now.lists.now c.args.gone.now c.args.away.now c.requires.fresh.all_left
-
-pub take_off-requires-clause-vertices : goal.take_off-requires-clause-vertices
-take_off-requires-clause-vertices c = subst (λ (us : List ℕ). All (λ v. v < length c.args.self.now.lists.now) us) (sym c.requires.fresh.empty) (All-nil (λ v. v < length c.args.self.now.lists.now))
+pub take_off-requires-clause-prepared : goal.take_off-requires-clause-prepared
+take_off-requires-clause-prepared c = IsPrepared-begin c.args.self.now.lists.now c.args.self.now.frame.bottom.0 c.args.self.now.frame.left.0 c.mark_all.new.marks c.mark_all.new.counts c.args.gone.now c.args.away.now c.args.stack.now.items c.mark_all.ensures.tally c.requires.fresh.all_left c.requires.fresh.empty
 
 pub take_off-requires-clause-marked : goal.take_off-requires-clause-marked
 take_off-requires-clause-marked c = (c.mark_all.ensures.marks c.args.self.now.frame.top.0).1 (1, omega arith, refl)
 
 pub take_off-requires-clause-left : goal.take_off-requires-clause-left
 take_off-requires-clause-left c = c.requires.fresh.all_left.none c.args.self.now.frame.top.0
-
-pub take_off-requires-2-clause-near : goal.take_off-requires-2-clause-near
-take_off-requires-2-clause-near c =
-    let f = c.args.self.now.frame in
-    (c.in_ok-take_off.ensures.prepared f.bottom.0 f.left.0 (IsPrepared-begin c.args.self.now.lists.now f.bottom.0 f.left.0 c.mark_all.new.marks c.mark_all.new.counts c.args.gone.now c.args.away.now c.args.stack.now.items c.mark_all.ensures.tally c.requires.fresh.all_left c.requires.fresh.empty)).tally
-
-pub take_off-requires-2-clause-away : goal.take_off-requires-2-clause-away
-take_off-requires-2-clause-away c =
-    let f = c.args.self.now.frame in
-    (c.in_ok-take_off.ensures.prepared f.bottom.0 f.left.0 (IsPrepared-begin c.args.self.now.lists.now f.bottom.0 f.left.0 c.mark_all.new.marks c.mark_all.new.counts c.args.gone.now c.args.away.now c.args.stack.now.items c.mark_all.ensures.tally c.requires.fresh.all_left c.requires.fresh.empty)).tally_gone
-
-pub take_off-requires-2-clause-vertices : goal.take_off-requires-2-clause-vertices
-take_off-requires-2-clause-vertices c =
-    let f = c.args.self.now.frame in
-    (c.in_ok-take_off.ensures.prepared f.bottom.0 f.left.0 (IsPrepared-begin c.args.self.now.lists.now f.bottom.0 f.left.0 c.mark_all.new.marks c.mark_all.new.counts c.args.gone.now c.args.away.now c.args.stack.now.items c.mark_all.ensures.tally c.requires.fresh.all_left c.requires.fresh.empty)).vertices
 
 pub take_off-requires-2-clause-marked : goal.take_off-requires-2-clause-marked
 take_off-requires-2-clause-marked c =
@@ -82,11 +39,10 @@ loop-init c =
     let f = c.args.self.now.frame in
     let lists = c.args.self.now.lists.now in
     let left = c.requires.fresh.all_left in
-    let one = c.in_ok-take_off.ensures.prepared f.bottom.0 f.left.0 (IsPrepared-begin lists f.bottom.0 f.left.0 c.mark_all.new.marks c.mark_all.new.counts c.args.gone.now c.args.away.now c.args.stack.now.items c.mark_all.ensures.tally left c.requires.fresh.empty) in
     record {
-      prepared = c.in_ok-take_off-2.ensures.prepared f.bottom.0 f.left.0 one;
+      prepared = c.in_ok-take_off-2.ensures.prepared;
       contour = λ map k. subst (λ (us : List ℕ). IsContour map f.left.0 f.top.0 f.right.0 f.bottom.0 c.take_off-2.new.gone c.take_off-2.new.marked (reverse us)) (sym c.requires.begun)
-          (IsContour-begin map f.left.0 f.top.0 f.right.0 f.bottom.0 f.inner.0 lists k c.mark_all.new.marks c.args.gone.now c.take_off.new.marked c.take_off.new.gone c.take_off-2.new.marked c.take_off-2.new.gone c.mark_all.ensures.tally.marks_of_all left.marks_of_all left.none c.mark_all.ensures.marks c.in_ok-take_off.ensures.taken one.tally.marks_of_all c.in_ok-take_off-2.ensures.taken);
+          (IsContour-begin map f.left.0 f.top.0 f.right.0 f.bottom.0 f.inner.0 lists k c.mark_all.new.marks c.args.gone.now c.take_off.new.marked c.take_off.new.gone c.take_off-2.new.marked c.take_off-2.new.gone c.mark_all.ensures.tally.marks_of_all left.marks_of_all left.none c.mark_all.ensures.marks c.in_ok-take_off.ensures.taken c.in_ok-take_off.ensures.prepared.tally.marks_of_all c.in_ok-take_off-2.ensures.taken);
       place = let two = ap length c.requires.begun in omega arith;
     }
 
@@ -100,14 +56,10 @@ removable_vertex-v-requires-clause-some c =
     let f = c.args.self.now.frame in
     some_removable c.requires.class.0 f.left.0 f.top.0 f.right.0 f.bottom.0 f.inner.0 c.args.self.now.lists.now c.requires.class.1 c.loop.gone c.loop.marked (reverse c.loop.taken.items) (c.loop.invariant.contour c.requires.class.0 c.requires.class.1) c.loop.near c.loop.away c.loop.stack.items c.loop.invariant.prepared
 
-pub take_off-requires-in-loop-clause-near : goal.take_off-requires-in-loop-clause-near
-take_off-requires-in-loop-clause-near c = c.loop.invariant.prepared.tally
-
-pub take_off-requires-in-loop-clause-away : goal.take_off-requires-in-loop-clause-away
-take_off-requires-in-loop-clause-away c = c.loop.invariant.prepared.tally_gone
-
-pub take_off-requires-in-loop-clause-vertices : goal.take_off-requires-in-loop-clause-vertices
-take_off-requires-in-loop-clause-vertices c = (IsPrepared-stacked c.args.self.now.lists.now c.args.self.now.frame.bottom.0 c.args.self.now.frame.left.0 c.loop.marked c.loop.near c.loop.gone c.loop.away c.loop.stack.items c.removable_vertex-v.new.stack.items c.loop.invariant.prepared c.removable_vertex-v.ensures.stacked).vertices
+pub take_off-requires-in-loop-clause-prepared : goal.take_off-requires-in-loop-clause-prepared
+take_off-requires-in-loop-clause-prepared c =
+    let f = c.args.self.now.frame in
+    IsPrepared-stacked c.args.self.now.lists.now f.bottom.0 f.left.0 c.loop.marked c.loop.near c.loop.gone c.loop.away c.loop.stack.items c.removable_vertex-v.new.stack.items c.loop.invariant.prepared c.removable_vertex-v.ensures.stacked
 
 pub take_off-requires-in-loop-clause-marked : goal.take_off-requires-in-loop-clause-marked
 take_off-requires-in-loop-clause-marked c = c.removable_vertex-v.ensures.removable.marked_is
@@ -126,9 +78,9 @@ loop-preserved c =
     let items = c.in_ok-push.ensures.items in
     let len = length-reverse us in
     record {
-      prepared = c.in_ok-take_off-3.ensures.prepared f.bottom.0 f.left.0 (IsPrepared-stacked c.args.self.now.lists.now c.args.self.now.frame.bottom.0 c.args.self.now.frame.left.0 c.loop.marked c.loop.near c.loop.gone c.loop.away c.loop.stack.items c.removable_vertex-v.new.stack.items c.loop.invariant.prepared c.removable_vertex-v.ensures.stacked);
+      prepared = c.in_ok-take_off-3.ensures.prepared;
       contour = λ map k.
-          let taken = IsContour-taken map f.left.0 f.top.0 f.right.0 f.bottom.0 f.inner.0 c.args.self.now.lists.now k c.loop.gone c.loop.marked (reverse us) (h.contour map k) c.loop.near c.loop.away c.removable_vertex-v.new.stack.items (IsPrepared-stacked c.args.self.now.lists.now c.args.self.now.frame.bottom.0 c.args.self.now.frame.left.0 c.loop.marked c.loop.near c.loop.gone c.loop.away c.loop.stack.items c.removable_vertex-v.new.stack.items c.loop.invariant.prepared c.removable_vertex-v.ensures.stacked) v c.removable_vertex-v.ensures.removable
+          let taken = IsContour-taken map f.left.0 f.top.0 f.right.0 f.bottom.0 f.inner.0 c.args.self.now.lists.now k c.loop.gone c.loop.marked (reverse us) (h.contour map k) c.loop.near c.loop.away c.removable_vertex-v.new.stack.items (IsPrepared-stacked c.args.self.now.lists.now f.bottom.0 f.left.0 c.loop.marked c.loop.near c.loop.gone c.loop.away c.loop.stack.items c.removable_vertex-v.new.stack.items h.prepared c.removable_vertex-v.ensures.stacked) v c.removable_vertex-v.ensures.removable
           (omega (arith, c.len-end.ensures.is, c.loop-test.true, h.place)) c.take_off-in-loop.new.marked c.take_off-in-loop.new.gone c.in_ok-take_off-3.ensures.taken in
           subst (λ (r : List ℕ). IsContour map f.left.0 f.top.0 f.right.0 f.bottom.0 c.take_off-in-loop.new.gone c.take_off-in-loop.new.marked r) (sym (ap reverse items ∙ reverse-append us (v ∷ []))) taken;
       place = let more = ap length items in let push = length-append us (v ∷ []) in let place = h.place in omega arith;
