@@ -108,8 +108,7 @@ fn find_points<L: Ledger>(
     requires points { length points.old ≡ length tree.now }
     requires tree { IsTree tree.now root.0 }
     ensures points { ArePointsOf tree.now root.0 points.new }
-    ensures steps { steps.new ≤ steps.old + 8 * length tree.now }
-    ensures never_falls { steps.old ≤ steps.new }
+    ensures uses { (steps.old ≤ steps.new) × (steps.new ≤ steps.old + 8 * length tree.now) }
 {
     meet(met, 0, root.0);
     let first = tree.get(root, steps);
@@ -136,7 +135,7 @@ pub(crate) struct SumMemory {
 }
 
 impl SumMemory {
-    // No memory yet.
+    // Makes tables that have no memory yet.
     pub(crate) fn new(alloc: Global) -> SumMemory {
         SumMemory {
             alloc,
@@ -145,7 +144,7 @@ impl SumMemory {
         }
     }
 
-    // The points to which a tree adds up, as `sum_offsets` has them.
+    // Finds the points to which a tree adds up, in the memory kept.
     pub(crate) fn sum_offsets<L: Ledger>(
         &mut self,
         tree: &Offsets<L>,
@@ -154,8 +153,7 @@ impl SumMemory {
     ) -> Result<Points, AllocError>
         requires { IsTree tree.now root.0 }
         ensures points { IfOk result (ArePointsOf tree.now root.0) }
-        ensures steps { steps.new ≤ steps.old + 8 * length tree.now }
-        ensures never_falls { steps.old ≤ steps.new }
+        ensures uses { (steps.old ≤ steps.new) × (steps.new ≤ steps.old + 8 * length tree.now) }
     {
         self.met.resize(tree.len() as usize, 0)?;
         let spent = mem::replace(&mut self.spent, Points::new(self.alloc));

@@ -81,7 +81,7 @@ returns-clause-points g c =
     let all : c.loop-i.i ≡ length c.args.tree.now = omega (arith, c.loop-i.auto.i-end, c.loop-i-test.false, c.len-i-end.ensures) in
     ArePointsOf-all c.args.tree.now root c.requires.tree (take c.loop-i.filled c.loop-i.met) c.loop-i.points (subst (λ (i : ℕ). AreMet c.args.tree.now root (take c.loop-i.filled c.loop-i.met) c.loop-i.points (2 * i)) all h.met) h.points_count
 
-pub returns-clause-steps : goal.returns-clause-steps
-returns-clause-steps g c =
+pub returns-clause-uses : goal.returns-clause-uses
+returns-clause-uses g c =
     let inside = c.requires.tree.inside in
-    omega (arith, inside, c.loop-i.invariant.most, c.loop-i.auto.i-end, c.loop-i-test.false, c.len-i-end.ensures)
+    (c.loop-i.invariant.least, omega (arith, inside, c.loop-i.invariant.most, c.loop-i.auto.i-end, c.loop-i-test.false, c.len-i-end.ensures))
