@@ -1,5 +1,5 @@
 -- Each id of a live dart has a number, each number an id, and the steps along a map are steps of numbers.
-use Rattle.std.proofs.Common.{◌≡◌, ◌≢◌, ℕ, zero, suc, ◌+◌, ◌*◌, ◌<◌, ◌≤◌, Bool, true, false, List, [], ◌∷◌, length, get_or, set, Option, Some, None, refl, sym, ap, ◌∙◌, inl, inr, arith, IsSome, option_map, unwrap_or, get_or-set_same, get_or-set_other}
+use Rattle.std.proofs.Common.{◌≡◌, ◌≢◌, ℕ, zero, suc, ◌+◌, ◌-◌, ◌*◌, ◌<◌, ◌≤◌, Bool, true, false, List, [], ◌∷◌, length, get_or, set, Option, Some, None, refl, sym, ap, ◌∙◌, inl, inr, arith, IsSome, option_map, unwrap_or, get_or-set_same, get_or-set_other}
 use Rattle.std.proofs.lemmas.Bool.{cases_lt, eq-eqb}
 use Rattle.std.proofs.lemmas.List.{get_or_past}
 use Rattle.std.proofs.lemmas.Bool.Decides.{nat_tests}
@@ -160,6 +160,27 @@ module _ (map : Map) (h : IsHalfMap map) (d e first v : ℕ) (live : IsLive map 
             absurd (other (h.one_id e first v (follows map.lists v u) next-to
             (begins ∙ ap (λ (x : ℕ). Some (v, x)) (sym (entry_after-place u (list_of map.lists v) 0 within ∙ ap (λ (k : ℕ). get_or (list_of map.lists v) k 0) (place_after-end (length (list_of map.lists v)) (place_of u (list_of map.lists v)) l))))))
       ]
+
+-- a step of a round: the next dart is one of the vertex too, and the darts before it are those before this one and itself
+module _ (map : Map) (h : IsHalfMap map) (d e first v : ℕ) (dart : (u : ℕ) × (dart_at map d ≡ Some (v, u))) (step : dart_at map e ≡ option_map (next_dart map.lists) (dart_at map d)) (begins : dart_at map first ≡ Some (v, get_or (list_of map.lists v) 0 0)) where
+  live_here : IsLive map d
+  live_here = live_from (dart_at map d) (v, dart.0) dart.1
+
+  pub round-dart : (u : ℕ) × (dart_at map e ≡ Some (v, u))
+  round-dart = (follows map.lists v dart.0, next-dart map h d e first v live_here step dart.0 dart.1 begins)
+
+  pub round-ends : e ≡ first → number_at map d + 1 ≡ darts_before map.lists (v + 1)
+  round-ends = next-back map h d e first v live_here step dart.0 dart.1 begins
+
+  pub round-number : e ≢ first → number_at map e ≡ number_at map d + 1
+  round-number = next-number map h d e first v live_here step dart.0 dart.1 begins
+
+  pub round-less : e ≢ first → dart_count map.lists - number_at map e < dart_count map.lists - number_at map d
+  round-less other = omega (arith, round-number other, number_at-lt map h d live_here)
+
+-- there are no darts at a vertex without neighbours
+pub none_at : (map : Map) (v : ℕ) → list_of map.lists v ≡ [] → darts_before map.lists (v + 1) ≡ darts_before map.lists v
+none_at map v none = omega (arith, darts_before_more map.lists v, ap length none)
 
 -- there are at most 4095 * 4095 darts
 pub few_darts : (map : Map) → IsHalfMap map → dart_count map.lists ≤ 16769025
