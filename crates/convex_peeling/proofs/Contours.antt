@@ -1,4 +1,4 @@
--- Notions that proofs alone speak of, and no contract.
+-- Gaps of a contour that a face leaves open, stretches that are ears, and the contour with an ear taken off.
 use Rattle.std.specs.Prelude.{ℕ, suc, ◌+◌, ◌-◌, ◌<◌, ◌≤◌, ◌≡◌, ◌≢◌, ◌⊎◌, Bool, true, nat_le, if◌then◌else◌}
 use Rattle.map_lists.specs.Lists.{Lists}
 use Rattle.map_theory.specs.Maps.{HasDart}

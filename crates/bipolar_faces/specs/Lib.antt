@@ -1,1 +1,0 @@
--- Darts that go upwards or downwards, by the ranks of their vertices.

@@ -1,2 +1,0 @@
--- Faces told apart by marks; vertices taken out of maps, and put into faces.
--- Maps glued side by side, at a vertex and along an edge.
