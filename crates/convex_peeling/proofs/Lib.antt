@@ -3,6 +3,7 @@ pub mod Contours
 pub mod Corners
 pub mod TwoFaces
 pub mod Sides
+pub mod Uncut
 pub mod Meetings
 pub mod PolyhedralLemmas
 pub mod Neighbours

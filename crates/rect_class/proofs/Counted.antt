@@ -1,10 +1,9 @@
 -- Lists with the counts and the outer face of a map of the class: with one edge more they are a triangulation, so that each other face is a triangle, and no vertex cuts.
-use Rattle.std.proofs.Common.{◌≡◌, ◌≢◌, ◌+◌, ◌*◌, ℕ, ◌≤◌, Bool, true, [], ◌∷◌, length, sum_by, Contains, refl, sym, ap, ap₂, ◌∙◌, subst, inl, inr, arith}
-use Rattle.std.proofs.lemmas.Bool.{cases_Bool, cases_eq, eqb-true, eq-eqb, true≢false}
+use Rattle.std.proofs.Common.{◌≡◌, ◌≢◌, ◌+◌, ◌*◌, ℕ, ◌≤◌, Bool, length, sum_by, refl, sym, ap, ap₂, ◌∙◌, subst, inl, inr, arith}
+use Rattle.std.proofs.lemmas.Bool.{cases_eq, eqb-true, eq-eqb}
 use Rattle.classes.specs.Classes.{label}
 use Rattle.map_lists.specs.Lists.{Lists}
-use Rattle.map_theory.specs.Maps.{Dart, HasDart, IsSimpleMap, IsPlane, list_of, follows, face_step, face_classes, dart_number, place_of, edge_count, vertex_count, component_count}
-use Rattle.map_theory.proofs.EntryLemmas.{Contains-here}
+use Rattle.map_theory.specs.Maps.{HasDart, IsSimpleMap, IsPlane, list_of, follows, face_step, face_classes, dart_number, place_of, edge_count, vertex_count, component_count}
 use Rattle.map_theory.proofs.DartLemmas.{HasDart-face_step, place_of-lt-length}
 use Rattle.plane_laws.specs.Laws.{IsTriangle}
 use Rattle.plane_laws.specs.Chords.{IsEarCut}
@@ -13,13 +12,9 @@ use Rattle.plane_laws.proofs.Triangles.{edge_bound_met}
 use Rattle.plane_laws.proofs.Chords.{ear_cut}
 use Rattle.plane_laws.proofs.DartPaths.{same_face-step}
 use Rattle.plane_laws.proofs.WithEdge.{with_edge_after_law, length-new}
-use Rattle.plane_laws.proofs.ComponentPaths.{JoinsAvoiding-fewer}
-use Rattle.graph_search.specs.Cuts.{AreSeparated, IsCutVertex}
-use Rattle.graph_search.proofs.ForestLemmas.{IsAdjacency-simple}
-use Rattle.graph_search.proofs.WalkLemmas.{Off, linked_path, walks_keep}
-use Rattle.graph_search.proofs.CutLemmas.{ne_off, off_one}
-use Rattle.graph_search.proofs.PairLemmas.{AreBoth-pair}
-use Rattle.convex_peeling.proofs.Sides.{IsSide, ring_changes, side_of}
+use Rattle.graph_search.specs.Cuts.{IsCutVertex}
+use Rattle.convex_peeling.proofs.Sides.{IsSide}
+use Rattle.convex_peeling.proofs.Uncut.{uncut_within}
 use Rattle.rect_check.specs.Duals.{HasFrame, IsQuadrangle, top_vertex, right_vertex, bottom_vertex}
 use Rattle.rect_check.specs.Loops.{IsFrame}
 use Rattle.rect_class.specs.RectMaps.{IsOuter, HasTriangles, IsRectMap}
@@ -27,35 +22,6 @@ use Rattle.rect_class.specs.Corners.{AreClosed, HasDiagonal, IsRound}
 use Rattle.rect_class.proofs.FrameDarts.{IsQuadrangle-turned, distinct_four}
 use Rattle.rect_class.proofs.CornerLemmas.{NoneSeparating-closed}
 use Rattle.rect_class.proofs.InnerLemmas.{HasInner-more}
-
--- Where all faces are triangles, a colour that goes along all darts off a vertex is that of all neighbours of the vertex, or of none.
-module _ (lists : Lists) (simple : IsSimpleMap lists) (triangles : (u v : ℕ) → HasDart lists u v → IsTriangle lists (u, v)) where
-  -- a neighbour and the one behind it are adjacent
-  ring_dart : (v z : ℕ) → HasDart lists v z → HasDart lists (follows lists v z) z
-  ring_dart v z has =
-      let d : Dart = (z, v) in
-      let in_ = simple.both_ways v z has in
-      let one = HasDart-face_step lists d simple in_ in
-      let two = HasDart-face_step lists (face_step lists d) simple one in
-      subst (HasDart lists (follows lists v z)) (ap (λ (d : Dart). d.0) (triangles z v in_)) two
-
-  apart : (v z : ℕ) → HasDart lists v z → z ≢ v
-  apart v z has = simple.no_loop v z has
-
-  all_alike : (v : ℕ) (side : ℕ → Bool) → IsSide lists v v side → (a b : ℕ) → HasDart lists v a → HasDart lists v b → side a ≡ true → side b ≡ true
-  all_alike v side h a b has_a has_b at_a =
-      elim (cases_Bool (side b)) [
-        | inl t ↦ t
-        | inr f ↦
-            let found = ring_changes side (list_of lists v) a b (simple.no_repeat v has_a.0) has_a.1 has_b.1 at_a f in
-            let z = found.0 in
-            let has : HasDart lists v z = (has_a.0, found.1) in
-            let next = follows lists v z in
-            let edge = ring_dart v z has in
-            let next_has = HasDart-face_step lists (z, v) simple (simple.both_ways v z has) in
-            let same = h.along next z edge (apart v next next_has) (apart v next next_has) (apart v z has) (apart v z has) in
-            absurd (true≢false (sym found.2 ∙ (sym same ∙ found.3)))
-      ]
 
 module _ (lists : Lists) (simple : IsSimpleMap lists) (plane : IsPlane lists) (one : component_count lists ≡ 1) (some : 3 ≤ length lists) (full : edge_count lists + 7 ≡ 3 * vertex_count lists) (frame : HasFrame lists) (far : ¬ HasDart lists (top_vertex lists) (bottom_vertex lists)) where
   abbrev d : ℕ
@@ -177,39 +143,7 @@ module _ (lists : Lists) (simple : IsSimpleMap lists) (plane : IsPlane lists) (o
   }
 
   pub uncut-counted : (v : ℕ) → ¬ IsCutVertex lists v
-  uncut-counted v cut =
-      let a = cut.0 in
-      let b = cut.1 in
-      let parted : AreSeparated lists (v ∷ []) a b = cut.2 in
-      let twice : (x : ℕ) → Contains (v ∷ v ∷ []) x → Contains (v ∷ []) x = λ x c.
-      elim ((AreBoth-pair v v).cases x c) [ inl e ↦ subst (Contains (v ∷ [])) (sym e) (Contains-here v []) | inr e ↦ subst (Contains (v ∷ [])) (sym e) (Contains-here v []) ] in
-      let once : (x : ℕ) → Contains (v ∷ []) x → Contains (v ∷ v ∷ []) x = λ x c.
-      elim (cases_eq x v) [ inl e ↦ subst (Contains (v ∷ v ∷ [])) (sym e) (AreBoth-pair v v).one | inr ne ↦ absurd (off_one v x ne c) ] in
-      let both : AreSeparated lists (v ∷ v ∷ []) a b = record {
-        s_off = λ c. parted.s_off (twice a c);
-        t_off = λ c. parted.t_off (twice b c);
-        path = parted.path;
-        joined = parted.joined;
-        apart = λ other j. parted.apart other (JoinsAvoiding-fewer lists (v ∷ v ∷ []) (v ∷ []) a b other once j);
-      } in
-      let found = side_of lists simple v v a b both in
-      let side = found.0 in
-      let h : IsSide C v v side = IsSide-more v side found.1 in
-      let P : ℕ → Type 0 = λ x. (x ≢ v → side x ≡ true) × (x ≡ v → (z : ℕ) → HasDart C v z → side z ≡ true) in
-      let adjacency = IsAdjacency-simple lists simple in
-      let walk = linked_path lists adjacency [] a b parted.path parted.joined in
-      let step : (x y : ℕ) → HasDart lists x y → Off [] y → P x → P y = λ x y has off q.
-      elim (cases_eq x v) [
-        | inl e ↦
-            let from : HasDart C v y = subst (λ z. HasDart C z y) e (more.kept x y has) in
-            ((λ ne. q.1 e y from), (λ at. absurd (apart C more.simple triangles v y from at)))
-        | inr ne ↦ (
-          (λ ne'. sym (h.along x y (more.kept x y has) ne ne ne' ne') ∙ q.0 ne),
-          λ at z to. all_alike C more.simple triangles v side h x z (more.simple.both_ways x v (subst (HasDart C x) at (more.kept x y has))) to (q.0 ne),
-        )
-      ] in
-      let end = walks_keep lists adjacency (Off []) P step walk.0 a b walk.1 ((λ ne. found.2), λ e. absurd (ne_off v a parted.s_off e)) in
-      true≢false (sym (end.0 (ne_off v b parted.t_off)) ∙ found.3)
+  uncut-counted v = uncut_within C more.simple triangles lists simple more.kept v (IsSide-more v)
 
 -- So it is a map of the class, where the corners show that no triangle separates.
 pub IsRectMap-counted : (lists : Lists) → IsSimpleMap lists → IsPlane lists → component_count lists ≡ 1 → 5 ≤ length lists → sum_by length lists + 14 ≡ 6 * length lists → HasFrame lists → ¬ HasDiagonal lists 0 (top_vertex lists) (right_vertex lists) (bottom_vertex lists) → AreClosed lists → IsRectMap lists
