@@ -11,10 +11,10 @@ use Rattle.map_theory.specs.Maps.{Dart, same_dart, HasDart, IsSimpleMap, IsPlane
 use Rattle.map_theory.proofs.DartLemmas.{dart_number-lt, dart_number-injective, HasDart-follows}
 use Rattle.map_theory.proofs.EntryLemmas.{AllPairs-append}
 use Rattle.map_theory.proofs.DartPermutations.{tail_of, dart_classes, IsLabels-dart_classes, components, face_count-orbits, component_count-classes, two_m}
-use Rattle.plane_laws.proofs.DartPaths.{tail_of-number, face_step_together}
+use Rattle.plane_laws.proofs.DartPaths.{tail_of-number}
 use Rattle.embed_surgery.proofs.Marks.{face_orbits, IsLabels-face_orbits, components_by_marks, genus_by_marks, KeepsFaces}
 use Rattle.embed_surgery.proofs.Labels.{counted_joined}
-use Rattle.embed_surgery.proofs.Unions.{length-face_orbits, length-dart_classes, joined_more, isolated-below, count_below-both, count_below-one, count_below-or, face_one, face_other, face_mark, face_mark-one, face_mark-joined, face_mark-same, face_test, AreMet, face_marks, part_mark, part_test, part_marks, darts_few}
+use Rattle.embed_surgery.proofs.Unions.{length-face_orbits, length-dart_classes, joined_more, isolated-below, count_below-both, count_below-one, count_below-or, face_one, face_other, face_mark, face_mark-one, face_mark-joined, face_mark-same, face_test, AreMet, face_marks, part_mark, part_test, part_marks, darts_few, face_one-step, face_other-step}
 use Rattle.embed_surgery.proofs.Entries.{head_of, glued-distinct, glued-old, glued-all, glued-first, glued-second, lists_by, glued_at, edge_glued_lists, IsUnion}
 use Rattle.embed_surgery.proofs.UnionLists.{length-lists_by, list_of-lists_by, has_dart, has_dart-is, HasDart-from, union-old, union-new, IsSimpleMap-union}
 use Rattle.embed_surgery.proofs.AtVertex.{cases_empty, is_empty_one, is_empty_append}
@@ -222,12 +222,10 @@ module _ (one other : Lists) (u v : ℕ) (s1 : IsSimpleMap one) (s2 : IsSimpleMa
   F2 = face_other one other new s1 s2 s' drawn in_one in_other
 
   step_one : (x y : ℕ) → HasDart one x y → F1 (y, follows one y x) ≡ F1 (x, y)
-  unfolding face_one
-  step_one x y d = sym (face_step_together one s1 (x, y) d)
+  step_one = face_one-step one other new s1 s2 s' drawn in_one in_other
 
   step_other : (x y : ℕ) → HasDart other x y → F2 (y, follows other y x) ≡ F2 (x, y)
-  unfolding face_other
-  step_other x y d = sym (face_step_together other s2 (x, y) d)
+  step_other = face_other-step one other new s1 s2 s' drawn in_one in_other
 
   abbrev za : ℕ
   za = F1 (u, v)

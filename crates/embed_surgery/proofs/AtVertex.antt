@@ -11,10 +11,10 @@ use Rattle.map_theory.specs.Maps.{Dart, HasDart, IsSimpleMap, IsPlane, list_of, 
 use Rattle.map_theory.proofs.DartLemmas.{dart_number-lt, HasDart-follows}
 use Rattle.map_theory.proofs.EntryLemmas.{AllPairs-append}
 use Rattle.map_theory.proofs.DartPermutations.{tail_of, dart_classes, IsLabels-dart_classes, components, face_count-orbits, component_count-classes, two_m}
-use Rattle.plane_laws.proofs.DartPaths.{tail_of-number, face_step_together}
+use Rattle.plane_laws.proofs.DartPaths.{tail_of-number}
 use Rattle.embed_surgery.proofs.Marks.{face_orbits, IsLabels-face_orbits, components_by_marks, genus_by_marks, KeepsFaces}
 use Rattle.embed_surgery.proofs.Labels.{counted_joined, counted_apart}
-use Rattle.embed_surgery.proofs.Unions.{length-face_orbits, length-dart_classes, joined_more, isolated-below, count_below-both, count_below-one, face_one, face_other, face_mark, face_mark-one, face_mark-joined, face_mark-same, face_test, AreMet, face_marks, part_mark, part_test, part_marks, darts_few}
+use Rattle.embed_surgery.proofs.Unions.{length-face_orbits, length-dart_classes, joined_more, isolated-below, count_below-both, count_below-one, face_one, face_other, face_mark, face_mark-one, face_mark-joined, face_mark-same, face_test, AreMet, face_marks, part_mark, part_test, part_marks, darts_few, face_one-step, face_other-step}
 use Rattle.embed_surgery.proofs.Entries.{head_of, entry_after-left, entry_after-right, glued_lists, IsUnion}
 use Rattle.embed_surgery.proofs.UnionLists.{length-lists_by, list_of-lists_by, has_dart, has_dart-is, HasDart-from, has_dart-not, union-old, union-new, IsSimpleMap-union}
 
@@ -78,14 +78,6 @@ module _ (one other : Lists) (s : ℕ) (s1 : IsSimpleMap one) (s2 : IsSimpleMap 
   abbrev F2 : Dart → ℕ
   F2 = face_other one other new s1 s2 s' drawn in_one in_other
 
-  step_one : (x y : ℕ) → HasDart one x y → F1 (y, follows one y x) ≡ F1 (x, y)
-  unfolding face_one
-  step_one x y d = sym (face_step_together one s1 (x, y) d)
-
-  step_other : (x y : ℕ) → HasDart other x y → F2 (y, follows other y x) ≡ F2 (x, y)
-  unfolding face_other
-  step_other x y d = sym (face_step_together other s2 (x, y) d)
-
   -- ---- what follows what
   list_new : (v : ℕ) → v < length one → list_of new v ≡ list_of one v ++ list_of other v
   list_new v l = list_of-lists_by f (length one) v l
@@ -143,7 +135,7 @@ module _ (one other : Lists) (s : ℕ) (s1 : IsSimpleMap one) (s2 : IsSimpleMap 
               | inl e ↦
                   ap (λ w. M za zb (y, w)) e
                   ∙ (face_mark-one one other new s1 s2 s' drawn in_one in_other za zb (y, follows one y x) (has_dart-is one y (follows one y x) next)
-                  ∙ (step_one x y h ∙ sym (face_mark-one one other new s1 s2 s' drawn in_one in_other za zb (x, y) t)))
+                  ∙ (face_one-step one other new s1 s2 s' drawn in_one in_other x y h ∙ sym (face_mark-one one other new s1 s2 s' drawn in_one in_other za zb (x, y) t)))
               | inr r ↦
                   let z = at r.0 r.1 in
                   let b = head_of (list_of other s) in
@@ -151,20 +143,20 @@ module _ (one other : Lists) (s : ℕ) (s1 : IsSimpleMap one) (s2 : IsSimpleMap 
                   let dart_b : HasDart other s b = (l, Contains-get_or (list_of other s) 0 0 r.1) in
                   ap₂ (λ y' w. M za zb (y', w)) r.2 r.4
                   ∙ (face_mark-joined one other new s1 s2 s' drawn in_one in_other za zb (s, b) (off s b dart_b) z.1
-                  ∙ (sym z.0 ∙ (ap₂ (λ y' w. F1 (y', w)) (sym r.2) (sym r.3) ∙ (step_one x y h ∙ sym (face_mark-one one other new s1 s2 s' drawn in_one in_other za zb (x, y) t)))))
+                  ∙ (sym z.0 ∙ (ap₂ (λ y' w. F1 (y', w)) (sym r.2) (sym r.3) ∙ (face_one-step one other new s1 s2 s' drawn in_one in_other x y h ∙ sym (face_mark-one one other new s1 s2 s' drawn in_one in_other za zb (x, y) t)))))
             ]
         | inr t ↦
             let h = in_other x y d t in
             let next = HasDart-follows other y x (s2.both_ways x y h) in
             elim (turn_other x y h) [
               | inl e ↦
-                  ap (λ w. M za zb (y, w)) e ∙ face_mark-same one other new s1 s2 s' drawn in_one in_other za zb (y, follows other y x) (x, y) (off y (follows other y x) next) t (step_other x y h)
+                  ap (λ w. M za zb (y, w)) e ∙ face_mark-same one other new s1 s2 s' drawn in_one in_other za zb (y, follows other y x) (x, y) (off y (follows other y x) next) t (face_other-step one other new s1 s2 s' drawn in_one in_other x y h)
               | inr r ↦
                   let z = at r.0 r.1 in
                   let a = head_of (list_of one s) in
                   let l : s < length one = let m = (s2.both_ways x y h).0 in let q = r.2 in omega arith in
                   let dart_a : HasDart one s a = (l, Contains-get_or (list_of one s) 0 0 r.0) in
-                  let here : F2 (x, y) ≡ zb = sym (step_other x y h) ∙ (ap₂ (λ y' w. F2 (y', w)) r.2 r.3 ∙ z.1) in
+                  let here : F2 (x, y) ≡ zb = sym (face_other-step one other new s1 s2 s' drawn in_one in_other x y h) ∙ (ap₂ (λ y' w. F2 (y', w)) r.2 r.3 ∙ z.1) in
                   ap₂ (λ y' w. M za zb (y', w)) r.2 r.4
                   ∙ (face_mark-one one other new s1 s2 s' drawn in_one in_other za zb (s, a) (has_dart-is one s a dart_a) ∙ (z.0 ∙ sym (face_mark-joined one other new s1 s2 s' drawn in_one in_other za zb (x, y) t here)))
             ]

@@ -7,10 +7,10 @@ use Rattle.classes.proofs.Classes.{Together, label-lt, same_class-from}
 use Rattle.classes.proofs.Orbits.{length-orbits_of}
 use Rattle.classes.proofs.Bound.{after, length-joint}
 use Rattle.map_lists.specs.Lists.{Lists}
-use Rattle.map_theory.specs.Maps.{Dart, HasDart, IsSimpleMap, list_of, dart_number, dart_count, is_empty_list, isolated_count, component_classes}
+use Rattle.map_theory.specs.Maps.{Dart, HasDart, IsSimpleMap, list_of, follows, dart_number, dart_count, is_empty_list, isolated_count, component_classes}
 use Rattle.map_theory.proofs.DartLemmas.{dart_number-lt, dart_number-injective}
 use Rattle.map_theory.proofs.DartPermutations.{dart_of, tail_of, dart_of-number, rotation, twin, IsPermuting-rotation, IsPairing-twin, dart_classes, IsLabels-dart_classes, component_of_class, components, components-marked, edge_together, dart_of-twin, count_by-count_below}
-use Rattle.plane_laws.proofs.DartPaths.{tail_of-number}
+use Rattle.plane_laws.proofs.DartPaths.{tail_of-number, face_step_together}
 use Rattle.embed_surgery.proofs.Marks.{face_orbits, IsLabels-face_orbits, HasMarks, JoinsMarked}
 use Rattle.embed_surgery.proofs.Labels.{test, value, value_zb, value_else, test_first, test_second, first_passes, second_passes}
 
@@ -70,6 +70,15 @@ module _ (one other new : Lists) (s1 : IsSimpleMap one) (s2 : IsSimpleMap other)
 
   unfoldable pub face_other : Dart → ℕ
   face_other d = label (face_orbits other s2) (dart_number other d)
+
+  -- a step along a face of either map stays in it
+  pub face_one-step : (x y : ℕ) → HasDart one x y → face_one (y, follows one y x) ≡ face_one (x, y)
+  unfolding face_one
+  face_one-step x y d = sym (face_step_together one s1 (x, y) d)
+
+  pub face_other-step : (x y : ℕ) → HasDart other x y → face_other (y, follows other y x) ≡ face_other (x, y)
+  unfolding face_other
+  face_other-step x y d = sym (face_step_together other s2 (x, y) d)
 
   -- the face that a dart is drawn into, of the one map or the other
   pub face_mark : ℕ → ℕ → Dart → ℕ
