@@ -360,7 +360,7 @@ module _ (nodes : List Node) (root : ℕ) (tree : IsTree nodes root) (met : List
 
 -- ---- the links of the vertex at place i
 
-pub next-left : (nodes : List Node) (met : List ℕ) (i v : ℕ) (node : Node) → i < length met → get_or met i 0 ≡ v → node ≡ node_at nodes v → IsNext nodes met (2 * i) v (option_map (λ u. u.0) node.left)
+next-left : (nodes : List Node) (met : List ℕ) (i v : ℕ) (node : Node) → i < length met → get_or met i 0 ≡ v → node ≡ node_at nodes v → IsNext nodes met (2 * i) v (option_map (λ u. u.0) node.left)
 next-left nodes met i v node l at is = record {
   place = i;
   is_right = false;
@@ -370,7 +370,7 @@ next-left nodes met i v node l at is = record {
   link_is = ap (λ (n : Node). option_map (λ u. u.0) n.left) (sym is);
 }
 
-pub next-right : (nodes : List Node) (met : List ℕ) (i v : ℕ) (node : Node) → i < length met → get_or met i 0 ≡ v → node ≡ node_at nodes v → IsNext nodes met (2 * i + 1) v (option_map (λ u. u.0) node.right)
+next-right : (nodes : List Node) (met : List ℕ) (i v : ℕ) (node : Node) → i < length met → get_or met i 0 ≡ v → node ≡ node_at nodes v → IsNext nodes met (2 * i + 1) v (option_map (λ u. u.0) node.right)
 next-right nodes met i v node l at is = record {
   place = i;
   is_right = true;
@@ -379,6 +379,10 @@ next-right nodes met i v node l at is = record {
   number = refl;
   link_is = ap (λ (n : Node). option_map (λ u. u.0) n.right) (sym is);
 }
+
+-- the left link of one of those met so far
+pub next-left-met : (nodes : List Node) (met : List ℕ) (i filled : ℕ) (node : Node) → i < filled → filled ≤ length met → node ≡ node_at nodes (get_or met i 0) → IsNext nodes (take filled met) (2 * i) (get_or met i 0) (option_map (λ u. u.0) node.left)
+next-left-met nodes met i filled node l within is = let n = length-take-le filled met within in next-left nodes (take filled met) i (get_or met i 0) node (omega (arith, n)) (get_or-take filled met i 0 l) is
 
 -- the right link, where more may be met since the left one, and those met before are kept
 pub next-right-kept : (nodes : List Node) (met met' : List ℕ) (i filled filled' : ℕ) (node : Node) → i < filled → filled ≤ filled' → filled' ≤ length met' → ((j : ℕ) → j < filled → get_or met' j 0 ≡ get_or met j 0) → node ≡ node_at nodes (get_or met i 0) → IsNext nodes (take filled' met') (2 * i + 1) (get_or met i 0) (option_map (λ u. u.0) node.right)

@@ -1,7 +1,7 @@
-use Rattle.std.proofs.Common.{◌≡◌, ◌+◌, ◌*◌, ◌<◌, ◌≤◌, ℕ, length, take, get_or, ap, subst, ◌∙◌, arith, rules}
+use Rattle.std.proofs.Common.{◌≡◌, ◌+◌, ◌*◌, ◌<◌, ◌≤◌, ℕ, length, take, ap, subst, ◌∙◌, arith, rules}
 use Rattle.std.proofs.lemmas.List.{get_or-take, length-take-le}
 use Rattle.fpp_shift.specs.Sums.{AreMet, own_point}
-use Rattle.fpp_shift.proofs.MetLemmas.{AreMet-first, AreMet-beyond, AreMet-both, ArePointsOf-all, next-left, next-right-kept}
+use Rattle.fpp_shift.proofs.MetLemmas.{AreMet-first, AreMet-beyond, AreMet-both, ArePointsOf-all, next-left-met, next-right-kept}
 use Rattle.fpp_shift.proofs.offset_trees.sums.find_points.Goals as goal
 
 pub loop-i-init : goal.loop-i-init
@@ -43,16 +43,14 @@ pub follow-left-requires-clause-next : goal.follow-left-requires-clause-next
 follow-left-requires-clause-next g c =
     let h = c.loop-i.invariant in
     let test : c.loop-i.i < c.loop-i.filled = search rules in
-    let n = length-take-le c.loop-i.filled c.loop-i.met (omega (arith, h.within, h.met_count)) in
-    (c.args.root.0, 2 * c.loop-i.i, c.requires.tree, h.met, next-left c.args.tree.now (take c.loop-i.filled c.loop-i.met) c.loop-i.i (get_or c.loop-i.met c.loop-i.i 0) c.get-node.result (omega (arith, n, test)) (get_or-take c.loop-i.filled c.loop-i.met c.loop-i.i 0 test) c.get-node.ensures.node)
+    (c.args.root.0, 2 * c.loop-i.i, c.requires.tree, h.met, next-left-met c.args.tree.now c.loop-i.met c.loop-i.i c.loop-i.filled c.get-node.result test (omega (arith, h.within, h.met_count)) c.get-node.ensures.node)
 
 pub follow-filled-requires-clause-next : goal.follow-filled-requires-clause-next
 follow-filled-requires-clause-next g c =
     let h = c.loop-i.invariant in
     let root = c.args.root.0 in
     let test : c.loop-i.i < c.loop-i.filled = search rules in
-    let n = length-take-le c.loop-i.filled c.loop-i.met (omega (arith, h.within, h.met_count)) in
-    let one = next-left c.args.tree.now (take c.loop-i.filled c.loop-i.met) c.loop-i.i (get_or c.loop-i.met c.loop-i.i 0) c.get-node.result (omega (arith, n, test)) (get_or-take c.loop-i.filled c.loop-i.met c.loop-i.i 0 test) c.get-node.ensures.node in
+    let one = next-left-met c.args.tree.now c.loop-i.met c.loop-i.i c.loop-i.filled c.get-node.result test (omega (arith, h.within, h.met_count)) c.get-node.ensures.node in
     let m = c.follow-left.ensures.met root (2 * c.loop-i.i) c.requires.tree h.met one in
     (root, 2 * c.loop-i.i + 1, c.requires.tree, m, next-right-kept c.args.tree.now c.loop-i.met c.follow-left.new.met c.loop-i.i c.loop-i.filled c.follow-left.result c.get-node.result test c.follow-left.ensures.grows (omega (arith, c.follow-left.ensures.within, c.follow-left.ensures.met_count, h.met_count)) c.follow-left.ensures.kept c.get-node.ensures.node)
 
@@ -61,8 +59,7 @@ loop-i-preserved g c =
     let h = c.loop-i.invariant in
     let root = c.args.root.0 in
     let test : c.loop-i.i < c.loop-i.filled = search rules in
-    let n = length-take-le c.loop-i.filled c.loop-i.met (omega (arith, h.within, h.met_count)) in
-    let one = next-left c.args.tree.now (take c.loop-i.filled c.loop-i.met) c.loop-i.i (get_or c.loop-i.met c.loop-i.i 0) c.get-node.result (omega (arith, n, test)) (get_or-take c.loop-i.filled c.loop-i.met c.loop-i.i 0 test) c.get-node.ensures.node in
+    let one = next-left-met c.args.tree.now c.loop-i.met c.loop-i.i c.loop-i.filled c.get-node.result test (omega (arith, h.within, h.met_count)) c.get-node.ensures.node in
     let m = c.follow-left.ensures.met root (2 * c.loop-i.i) c.requires.tree h.met one in
     let two = next-right-kept c.args.tree.now c.loop-i.met c.follow-left.new.met c.loop-i.i c.loop-i.filled c.follow-left.result c.get-node.result test c.follow-left.ensures.grows (omega (arith, c.follow-left.ensures.within, c.follow-left.ensures.met_count, h.met_count)) c.follow-left.ensures.kept c.get-node.ensures.node in
     record {
