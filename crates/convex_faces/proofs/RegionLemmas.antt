@@ -1,11 +1,10 @@
 -- The closed path of a region.
 use Rattle.std.proofs.Common.{◌≡◌, ℕ, Bool, false, List, ◌++◌, Some, refl, sym, ap, ap₂, ◌∙◌, subst}
 use Rattle.map_lists.specs.Lists.{Lists}
-use Rattle.map_theory.specs.Maps.{Dart, HasDart, follows}
+use Rattle.map_theory.specs.Maps.{Dart, HasDart}
 use Rattle.map_theory.proofs.DartLemmas.{HasDart-follows}
 use Rattle.half_edges.specs.Map.{Map, IsHalfMap, dart_at}
 use Rattle.euler_faces.specs.Numbers.{mark_at}
-use Rattle.euler_faces.proofs.NumberLemmas.{live_from}
 use Rattle.vertex_rounds.specs.Rounds.{dart_of}
 use Rattle.vertex_rounds.proofs.DartIds.{dart_of-is}
 use Rattle.convex_counts.specs.declared.face_woods.axis.Axis.{Axis}
@@ -17,7 +16,7 @@ use Rattle.convex_laws.specs.Walks.{turned, flipped, is_odd_on}
 use Rattle.convex_laws.proofs.Flips.{flipped_false}
 use Rattle.convex_laws.proofs.WalkLemmas.{is_odd_on-append, is_odd_on-turned_walk}
 use Rattle.convex_laws.specs.Regions.{IsOuterWay}
-use Rattle.convex_faces.specs.Passing.{PassesAxis, PassesOuter, IsOuterCorner, corner, MarksRegion}
+use Rattle.convex_faces.specs.Passing.{PassesAxis, PassesOuter, corner, MarksRegion}
 use Rattle.convex_faces.proofs.PassLemmas.{Passes-append}
 
 -- the turned parts are passed as often

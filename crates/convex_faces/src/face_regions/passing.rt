@@ -23,73 +23,84 @@ fn pass(map: &HalfMap, marked: &mut [bool], d: DartId)
     marked[twin.0 as usize] = !marked[twin.0 as usize];
 }
 
-// Passes the darts from a vertex along an axis to its root.
-pub(crate) fn pass_axis(
-    map: &HalfMap,
-    wood: &ConvexWood,
-    marked: &mut [bool],
-    v: VertexId,
-    axis: Axis,
-)
-    requires wood { (base : Dart) × IsWoodIn map.now base wood.now }
-    requires vertex { v.0 < length map.now.lists }
-    requires marks { length marked.old ≡ id_bound map.now }
-    ensures { (base : Dart) (w : IsWoodIn map.now base wood.now) → PassesAxis map.now (root_in wood.now) w.head axis v.0 (root_in wood.now axis) marked.old marked.new }
-{
-    map.facts();
-    let mut at = v;
-    for passed in 0..1048576u32 {
-        match wood.out(axis, at) {
-            Some(d) => {
-                pass(map, marked, d);
-                at = map.head(d);
+/// A wood of a map, and a vertex from which its darts lead to the roots.
+#[derive(Clone, Copy)]
+pub(crate) struct WoodVertex<'a> {
+    pub(crate) map: &'a HalfMap,
+    pub(crate) wood: &'a ConvexWood,
+    pub(crate) v: VertexId,
+}
+
+impl WoodVertex<'_> {
+    // Passes the darts from the vertex along an axis to its root.
+    pub(crate) fn pass_axis(&self, marked: &mut [bool], axis: Axis)
+        requires wood { (base : Dart) × IsWoodIn self.now.map.now base self.now.wood.now }
+        requires vertex { self.now.v.0 < length self.now.map.now.lists }
+        requires marks { length marked.old ≡ id_bound self.now.map.now }
+        ensures { (base : Dart) (w : IsWoodIn self.now.map.now base self.now.wood.now) → PassesAxis self.now.map.now (root_in self.now.wood.now) w.head axis self.now.v.0 (root_in self.now.wood.now axis) marked.old marked.new }
+    {
+        let WoodVertex { map, wood, v } = *self;
+        map.facts();
+        let mut at = v;
+        for passed in 0..1048576u32 {
+            match wood.out(axis, at) {
+                Some(d) => {
+                    pass(map, marked, d);
+                    at = map.head(d);
+                }
+                None => return,
             }
-            None => return,
         }
+        unreachable!()
     }
-    unreachable!()
 }
 
-// Passes the darts of the outer face from the head of the base to the tail of the dart before the base.
-fn pass_rest(map: &HalfMap, marked: &mut [bool], base: DartId, before: DartId)
-    requires plane { IsPlane map.now.lists }
-    requires three { IsThreeConnected map.now.lists }
-    requires corner { IsOuterCorner map.now base.0 before.0 }
-    requires marks { length marked.old ≡ id_bound map.now }
-    ensures { PassesRest map.now base.0 before.0 marked.old marked.new }
-{
-    map.facts();
-    let ids = 2 * (map.m() + map.spare());
-    let mut d = map.face_step(base);
-    for passed in 0..ids {
-        if d.0 == before.0 {
-            return;
-        }
-        pass(map, marked, d);
-        d = map.face_step(d);
-    }
-    unreachable!()
+/// Two darts of the outer face of a map: the base, and the dart before it.
+#[derive(Clone, Copy)]
+pub(crate) struct OuterCorner<'a> {
+    pub(crate) map: &'a HalfMap,
+    pub(crate) base: DartId,
+    pub(crate) before: DartId,
 }
 
-// Passes the darts of the outer face from the root of the axis before to that of the next one, without passing the
-// root of the axis itself.
-pub(crate) fn pass_outer(
-    map: &HalfMap,
-    marked: &mut [bool],
-    base: DartId,
-    before: DartId,
-    axis: Axis,
-)
-    requires plane { IsPlane map.now.lists }
-    requires three { IsThreeConnected map.now.lists }
-    requires corner { IsOuterCorner map.now base.0 before.0 }
-    requires marks { length marked.old ≡ id_bound map.now }
-    ensures { PassesOuter map.now base.0 before.0 axis marked.old marked.new }
-{
-    map.facts();
-    match axis {
-        Axis::One => pass(map, marked, before),
-        Axis::Two => pass_rest(map, marked, base, before),
-        Axis::Three => pass(map, marked, base),
+impl OuterCorner<'_> {
+    // Passes the darts of the outer face from the head of the base to the tail of the dart before the base.
+    fn pass_rest(&self, marked: &mut [bool])
+        requires plane { IsPlane self.now.map.now.lists }
+        requires three { IsThreeConnected self.now.map.now.lists }
+        requires corner { IsOuterCorner self.now.map.now self.now.base.0 self.now.before.0 }
+        requires marks { length marked.old ≡ id_bound self.now.map.now }
+        ensures { PassesRest self.now.map.now self.now.base.0 self.now.before.0 marked.old marked.new }
+    {
+        let OuterCorner { map, base, before } = *self;
+        map.facts();
+        let ids = 2 * (map.m() + map.spare());
+        let mut d = map.face_step(base);
+        for passed in 0..ids {
+            if d.0 == before.0 {
+                return;
+            }
+            pass(map, marked, d);
+            d = map.face_step(d);
+        }
+        unreachable!()
+    }
+
+    // Passes the darts of the outer face from the root of the axis before to that of the next one, without passing the
+    // root of the axis itself.
+    pub(crate) fn pass_outer(&self, marked: &mut [bool], axis: Axis)
+        requires plane { IsPlane self.now.map.now.lists }
+        requires three { IsThreeConnected self.now.map.now.lists }
+        requires corner { IsOuterCorner self.now.map.now self.now.base.0 self.now.before.0 }
+        requires marks { length marked.old ≡ id_bound self.now.map.now }
+        ensures { PassesOuter self.now.map.now self.now.base.0 self.now.before.0 axis marked.old marked.new }
+    {
+        let OuterCorner { map, base, before } = *self;
+        map.facts();
+        match axis {
+            Axis::One => pass(map, marked, before),
+            Axis::Two => self.pass_rest(marked),
+            Axis::Three => pass(map, marked, base),
+        }
     }
 }

@@ -8,71 +8,59 @@ ghost use Rattle.convex_counts.specs.Axes.{next, previous};
 ghost use Rattle.convex_faces.specs.Directions.{root_in, IsWoodIn};
 ghost use Rattle.convex_laws.specs.Regions.{IsFaceRegion};
 
-use crate::face_regions::passing::{pass_axis, pass_outer};
+use crate::face_regions::passing::{OuterCorner, WoodVertex};
 use crate::walk_sides::inside_count;
 use crate::wood::{Axis, ConvexWood};
 use half_edges::{DartId, HalfMap, VertexId};
 use std::alloc::{AllocError, Global};
 
-// Returns the axis after another.
-fn next_axis(axis: Axis) -> Axis
-    ensures { result ≡ next axis }
+// Returns the axis after another, and the one before it.
+fn axes_beside(axis: Axis) -> (Axis, Axis)
+    ensures behind { result.0 ≡ next axis }
+    ensures before { result.1 ≡ previous axis }
 {
     match axis {
-        Axis::One => Axis::Two,
-        Axis::Two => Axis::Three,
-        Axis::Three => Axis::One,
+        Axis::One => (Axis::Two, Axis::Three),
+        Axis::Two => (Axis::Three, Axis::One),
+        Axis::Three => (Axis::One, Axis::Two),
     }
 }
 
-// Returns the axis before another.
-fn previous_axis(axis: Axis) -> Axis
-    ensures { result ≡ previous axis }
-{
-    match axis {
-        Axis::One => Axis::Three,
-        Axis::Two => Axis::One,
-        Axis::Three => Axis::Two,
+impl WoodVertex<'_> {
+    // Returns the dart from the root of one axis to that of another.
+    fn dart_between(&self, from: Axis, to: Axis) -> DartId
+        requires { HasDart self.now.map.now.lists (root_in self.now.wood.now from) (root_in self.now.wood.now to) }
+        ensures { dart_at self.now.map.now result.0 ≡ Some (root_in self.now.wood.now from, root_in self.now.wood.now to) }
+    {
+        self.map.facts();
+        match self.map.dart_of(self.wood.root(from), self.wood.root(to)) {
+            Some(d) => d,
+            None => unreachable!(),
+        }
     }
-}
 
-// Returns the dart from the root of one axis to that of another.
-fn dart_between(map: &HalfMap, wood: &ConvexWood, from: Axis, to: Axis) -> DartId
-    requires { HasDart map.now.lists (root_in wood.now from) (root_in wood.now to) }
-    ensures { dart_at map.now result.0 ≡ Some (root_in wood.now from, root_in wood.now to) }
-{
-    map.facts();
-    match map.dart_of(wood.root(from), wood.root(to)) {
-        Some(d) => d,
-        None => unreachable!(),
+    // Returns how many faces a region of the vertex has: marks, where none were, the edges that its closed path passes an odd
+    // number of times, and counts the faces inside.
+    fn count_with(&self, alloc: Global, marked: &mut [bool], axis: Axis) -> Result<u32, AllocError>
+        requires plane { IsPlane self.now.map.now.lists }
+        requires three { IsThreeConnected self.now.map.now.lists }
+        requires wood { (base : Dart) × IsWoodIn self.now.map.now base self.now.wood.now }
+        requires vertex { self.now.v.0 < length self.now.map.now.lists }
+        requires marks { length marked.old ≡ id_bound self.now.map.now }
+        requires unset { (i : ℕ) → mark_at marked.old i ≡ false }
+        ensures { IfOk result (λ k. (start : Dart) (w : IsWoodIn self.now.map.now start self.now.wood.now) → IsFaceRegion self.now.map.now.lists start (root_in self.now.wood.now) w.head axis self.now.v.0 k) }
+    {
+        let map = self.map;
+        map.facts();
+        let base = self.dart_between(Axis::Two, Axis::One);
+        let before = self.dart_between(Axis::Three, Axis::Two);
+        let corner = OuterCorner { map, base, before };
+        let (ahead, back) = axes_beside(axis);
+        self.pass_axis(marked, ahead);
+        corner.pass_outer(marked, axis);
+        self.pass_axis(marked, back);
+        inside_count(alloc, map, marked, base)
     }
-}
-
-// Returns how many faces a region has: marks, where none were, the edges that its closed path passes an odd number of
-// times, and counts the faces inside.
-fn count_with(
-    alloc: Global,
-    map: &HalfMap,
-    wood: &ConvexWood,
-    marked: &mut [bool],
-    v: VertexId,
-    axis: Axis,
-) -> Result<u32, AllocError>
-    requires plane { IsPlane map.now.lists }
-    requires three { IsThreeConnected map.now.lists }
-    requires wood { (base : Dart) × IsWoodIn map.now base wood.now }
-    requires vertex { v.0 < length map.now.lists }
-    requires marks { length marked.old ≡ id_bound map.now }
-    requires unset { (i : ℕ) → mark_at marked.old i ≡ false }
-    ensures { IfOk result (λ k. (start : Dart) (w : IsWoodIn map.now start wood.now) → IsFaceRegion map.now.lists start (root_in wood.now) w.head axis v.0 k) }
-{
-    map.facts();
-    let base = dart_between(map, wood, Axis::Two, Axis::One);
-    let before = dart_between(map, wood, Axis::Three, Axis::Two);
-    pass_axis(map, wood, marked, v, next_axis(axis));
-    pass_outer(map, marked, base, before, axis);
-    pass_axis(map, wood, marked, v, previous_axis(axis));
-    inside_count(alloc, map, marked, base)
 }
 
 /// Returns the number of faces in the region of a vertex for an axis of a convex wood.
@@ -102,5 +90,5 @@ pub fn face_region(
     map.facts();
     let ids = 2 * (map.m() as usize + map.spare() as usize);
     let mut marked = vec![in alloc; false; ids]?;
-    count_with(alloc, map, wood, &mut marked, v, axis)
+    WoodVertex { map, wood, v }.count_with(alloc, &mut marked, axis)
 }

@@ -2,7 +2,7 @@
 ghost use Rattle.std.specs.Prelude.{◌≡◌, ◌<◌, length, IfOk};
 ghost use Rattle.plane_drawings.specs.Drawing.{place};
 ghost use Rattle.half_edges.specs.Map.{id_bound};
-ghost use Rattle.convex_faces.specs.Notes.{Notes, AreNoted};
+ghost use Rattle.convex_faces.specs.Notes.{AreNoted};
 
 use crate::wood::signs::rises;
 use convex_counts::face_woods::Axis;
@@ -18,25 +18,7 @@ fn place_at(points: &Points, v: VertexId) -> Point
     points.get(v.0 as usize)
 }
 
-// Notes a dart at its vertex, where it leads along the axis.
-fn note(map: &HalfMap, points: &Points, axis: Axis, outs: &mut [u32], d: DartId)
-    requires points { length points.now ≡ length map.now.lists }
-    requires outs { length outs.old ≡ length map.now.lists }
-    ensures { Notes map.now points.now axis d.0 outs.old outs.new }
-{
-    map.facts();
-    if !map.is_live(d) {
-        return;
-    }
-    let v = map.tail(d);
-    let u = map.head(d);
-    if !rises(axis, place_at(points, v), place_at(points, u)) {
-        return;
-    }
-    outs[v.0 as usize] = d.0;
-}
-
-// Notes all darts.
+// Notes at its vertex each dart that leads along the axis.
 fn note_all(map: &HalfMap, points: &Points, axis: Axis, outs: &mut [u32])
     requires points { length points.now ≡ length map.now.lists }
     requires outs { length outs.old ≡ length map.now.lists }
@@ -44,8 +26,17 @@ fn note_all(map: &HalfMap, points: &Points, axis: Axis, outs: &mut [u32])
 {
     map.facts();
     let ids = 2 * (map.m() + map.spare());
-    for d in 0..ids {
-        note(map, points, axis, outs, DartId(d));
+    for id in 0..ids {
+        let d = DartId(id);
+        if !map.is_live(d) {
+            continue;
+        }
+        let v = map.tail(d);
+        let u = map.head(d);
+        if !rises(axis, place_at(points, v), place_at(points, u)) {
+            continue;
+        }
+        outs[v.0 as usize] = id;
     }
 }
 

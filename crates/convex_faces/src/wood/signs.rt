@@ -1,5 +1,5 @@
 //! Along which axis a point lies from another.
-ghost use Rattle.std.specs.Prelude.{◌≡◌, ◌↔◌, ◌<ℤ◌, ◌≤ℤ◌, ◌+ℤ◌, IsTrue};
+ghost use Rattle.std.specs.Prelude.{◌≡◌, ◌↔◌, ◌≤ℤ◌, ◌+ℤ◌, IsTrue};
 ghost use Rattle.convex_laws.specs.Signs.{IsRisingBy};
 
 use convex_counts::face_woods::Axis;
@@ -33,34 +33,13 @@ fn sum_stays(p: Point, q: Point) -> bool
     sum_of(p) <= sum_of(q)
 }
 
-// Says whether x alone rises.
-fn rises_one(p: Point, q: Point) -> bool
-    ensures { IsTrue result ↔ ((p.x <ℤ q.x) × (q.y ≤ℤ p.y) × ((p.x +ℤ p.y) ≤ℤ (q.x +ℤ q.y))) }
-{
-    p.x < q.x && y_stays(q, p) && sum_stays(p, q)
-}
-
-// Says whether y alone rises.
-fn rises_two(p: Point, q: Point) -> bool
-    ensures { IsTrue result ↔ ((p.y <ℤ q.y) × (q.x ≤ℤ p.x) × ((p.x +ℤ p.y) ≤ℤ (q.x +ℤ q.y))) }
-{
-    p.y < q.y && x_stays(q, p) && sum_stays(p, q)
-}
-
-// Says whether what both lack of a constant sum alone rises.
-fn rises_three(p: Point, q: Point) -> bool
-    ensures { IsTrue result ↔ (((q.x +ℤ q.y) <ℤ (p.x +ℤ p.y)) × (q.x ≤ℤ p.x) × (q.y ≤ℤ p.y)) }
-{
-    sum_of(q) < sum_of(p) && x_stays(q, p) && y_stays(q, p)
-}
-
-// Says whether the coordinate of an axis alone rises from `p` to `q`.
+// Says whether the coordinate of an axis alone rises from `p` to `q`: x, y, or what both lack of a constant sum.
 pub(crate) fn rises(axis: Axis, p: Point, q: Point) -> bool
     ensures { IsTrue result ↔ IsRisingBy axis p q }
 {
     match axis {
-        Axis::One => rises_one(p, q),
-        Axis::Two => rises_two(p, q),
-        Axis::Three => rises_three(p, q),
+        Axis::One => p.x < q.x && y_stays(q, p) && sum_stays(p, q),
+        Axis::Two => p.y < q.y && x_stays(q, p) && sum_stays(p, q),
+        Axis::Three => sum_of(q) < sum_of(p) && x_stays(q, p) && y_stays(q, p),
     }
 }

@@ -51,7 +51,7 @@ impl ConvexWood {
         }
     }
 
-    // The entry of a vertex in the table of an axis.
+    // Returns the entry of a vertex in the table of an axis.
     fn entry(&self, axis: Axis, v: VertexId) -> DartId
         requires { v.0 < count_in self.now }
         ensures { result.0 ≡ out_in self.now axis v.0 }
