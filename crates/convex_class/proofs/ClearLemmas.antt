@@ -1,5 +1,5 @@
 -- What marks at a vertex and along a face tell of it.
-use Rattle.std.proofs.Common.{◌≡◌, ◌≢◌, ℕ, ◌+◌, ◌<◌, ◌≤◌, List, length, get_or, set, Contains, Option, Some, unwrap_or, sym, ap, ◌∙◌, subst, inl, inr, arith, get_or-set_other, get_or-set_same}
+use Rattle.std.proofs.Common.{◌≡◌, ◌≢◌, ◌⊎◌, ℕ, ◌+◌, ◌<◌, ◌≤◌, List, length, get_or, set, Contains, Option, Some, unwrap_or, sym, ap, ◌∙◌, subst, inl, inr, arith, get_or-set_other, get_or-set_same}
 use Rattle.std.specs.Option.{option_map}
 use Rattle.std.proofs.lemmas.Bool.{cases_eq, cases_lt}
 use Rattle.std.proofs.lemmas.List.{get_or_default}
@@ -12,11 +12,11 @@ use Rattle.vertex_rounds.specs.Rounds.{dart_of}
 use Rattle.vertex_rounds.proofs.DartIds.{dart_of-live}
 use Rattle.convex_class.specs.Stamps.{IsStamped, AreStamped}
 use Rattle.convex_class.specs.declared.face_pairs.meetings.Meeting.{Meeting}
-use Rattle.convex_class.specs.Meetings.{IsMet}
+use Rattle.convex_class.specs.Meetings.{IsHere, IsMet}
 use Rattle.convex_class.specs.Clear.{IsRing, IsNumber, IsOffAt, IsOff, IsClearVertex, IsAcross, IsSide, IsCorner, IsOffPlace, MeetsAt, IsClearFace, after_place}
 use Rattle.convex_class.proofs.WalkMarks.{get_or-ids, length-ids}
-use Rattle.convex_class.proofs.StampLemmas.{IsStamped-fewer}
-use Rattle.convex_class.proofs.MeetingLemmas.{IsMet-both, IsMet-apart}
+use Rattle.convex_class.proofs.StampLemmas.{IsStamped-none, IsStamped-fewer, AreStamped-more}
+use Rattle.convex_class.proofs.MeetingLemmas.{IsMet-none, IsMet-fewer, IsMet-more, IsMet-both, IsMet-apart}
 
 -- what calls of `head` and `tail` answer
 pub head_is : (o : Option Dart) (v w z : ℕ) → o ≡ Some (v, w) → option_map (λ (e : Dart). e.1) o ≡ Some z → w ≡ z
@@ -93,6 +93,31 @@ heads_all u k us marks whole all z c =
     let p = place_in us z c in
     let l = p.1 in
     ap (λ y. get_or marks y 0) (sym p.2) ∙ all p.0 (omega arith)
+
+-- The dart at place p of a walk leads from z to h, as the calls answer. What is marked are vertices other than u and a, by darts that do not lead to u.
+module _ (map : Map) (u a : ℕ) (ds : List DartId) (p z h : ℕ) (l : p < length ds) (tail : option_map (λ (e : Dart). e.0) (dart_at map (get_or ds p (record { 0 = 0 })).0) ≡ Some z) (head : option_map (λ (e : Dart). e.1) (dart_at map (get_or ds p (record { 0 = 0 })).0) ≡ Some h) where
+  abbrev OffAt : ℕ → ℕ → Type 0
+  OffAt i y = IsOffAt map u a (get_or (ids_of ds) i 0) y
+
+  same_id : (get_or ds p (record { 0 = 0 })).0 ≡ get_or (ids_of ds) p 0
+  same_id = sym (get_or-ids ds p l)
+
+  tail_there : (y : ℕ) → OffAt p y → y ≡ z
+  tail_there y q = tail_is (dart_at map (get_or (ids_of ds) p 0)) y q.0 z q.1 (subst (λ d. option_map (λ (e : Dart). e.0) (dart_at map d) ≡ Some z) same_id tail)
+
+  head_there : (y : ℕ) (q : OffAt p y) → q.0 ≡ h
+  head_there y q = head_is (dart_at map (get_or (ids_of ds) p 0)) y q.0 h q.1 (subst (λ d. option_map (λ (e : Dart). e.1) (dart_at map d) ≡ Some h) same_id head)
+
+  -- the tail is not marked
+  pub marked_none : (old : List ℕ) (first : ℕ) (marks : List ℕ) (best : ℕ) → ((z ≡ u) ⊎ (z ≡ a)) ⊎ (h ≡ u) → AreStamped u p OffAt old first marks best → AreStamped u (p + 1) OffAt old first marks best
+  marked_none old first marks best skip s =
+      AreStamped-more u p OffAt old first marks best marks best s (IsStamped-none u (OffAt p) marks best (λ y q.
+      elim skip [ inl o ↦ elim o [ inl r ↦ q.2 (tail_there y q ∙ r) | inr r ↦ q.4 (tail_there y q ∙ r) ] | inr r ↦ q.3 (head_there y q ∙ r) ]))
+
+  -- or is
+  pub marked_one : (old : List ℕ) (first : ℕ) (marks : List ℕ) (best : ℕ) (new : List ℕ) (result : ℕ) → IsStamped u (λ y. y ≡ z) marks best new result → AreStamped u p OffAt old first marks best → AreStamped u (p + 1) OffAt old first new result
+  marked_one old first marks best new result here s =
+      AreStamped-more u p OffAt old first marks best new result s (IsStamped-fewer u (λ y. y ≡ z) (OffAt p) marks best new result (λ y q. tail_there y q) here)
 
 module _ (map : Map) (known : IsHalfMap map) (walks : List (List ℕ)) (faces : AreFaces map walks) where
   -- the walk of a dart is one
@@ -174,13 +199,42 @@ large_corner map walks most f d e v z x y tail large h =
     let small : length (list_of map.lists v) ≤ most = subst (λ u. length (list_of map.lists u) ≤ most) same h.0.small in
     omega arith
 
--- the meetings of a call at place i of walk f, by the numbers that the call names
-pub off_place : (map : Map) (walks : List (List ℕ)) (f i n d e : ℕ) (old : List Meeting) (best : ℕ) (new : List Meeting) (result : ℕ) → n ≡ length (walk_at walks f) → d ≡ get_or (walk_at walks f) i 0 → e ≡ after_place (walk_at walks f) i → IsMet f (IsCorner map walks n f d e) old best new result → IsMet f (IsOffPlace map walks f i) old best new result
-off_place map walks f i n d e old best new result long at behind s =
+-- the meetings of a call at place i of the darts of face f, with the dart behind that the call names
+pub off_place : (map : Map) (walks : List (List ℕ)) (f i e : ℕ) (ds : List DartId) (old : List Meeting) (best : ℕ) (new : List Meeting) (result : ℕ) → ids_of ds ≡ walk_at walks f → i < length ds → e ≡ after_place (ids_of ds) i → IsMet f (IsCorner map walks (length ds) f (get_or ds i (record { 0 = 0 })).0 e) old best new result → IsMet f (IsOffPlace map walks f i) old best new result
+off_place map walks f i e ds old best new result is l behind s =
     let w = walk_at walks f in
-    subst (λ x. IsMet f (IsCorner map walks (length w) f (get_or w i 0) x) old best new result) behind
+    let d = (get_or ds i (record { 0 = 0 })).0 in
+    let long : length ds ≡ length w = sym (length-ids ds) ∙ ap (λ (xs : List ℕ). length xs) is in
+    let at : d ≡ get_or w i 0 = sym (get_or-ids ds i l) ∙ ap (λ (xs : List ℕ). get_or xs i 0) is in
+    let next : e ≡ after_place w i = behind ∙ ap (λ (xs : List ℕ). after_place xs i) is in
+    subst (λ x. IsMet f (IsCorner map walks (length w) f (get_or w i 0) x) old best new result) next
     (subst (λ x. IsMet f (IsCorner map walks (length w) f x e) old best new result) at
     (subst (λ x. IsMet f (IsCorner map walks x f d e) old best new result) long s))
+
+-- The dart at place p of a row stands in face z, by the number that the call names. What is noted are faces other than f, x and y.
+module _ (map : Map) (walks : List (List ℕ)) (faces : AreFaces map walks) (ds : List DartId) (place : Meeting) (x y p z : ℕ) (l : p < length ds) (is : IsNumber walks (get_or ds p (record { 0 = 0 })).0 z) where
+  abbrev OffFaces : ℕ → ℕ → ℕ → ℕ → Type 0
+  OffFaces i w s t = IsNumber walks (get_or (ids_of ds) i 0) w × (w ≢ place.face) × (w ≢ x) × (w ≢ y) × (s ≡ place.tail) × (t ≡ place.head)
+
+  abbrev AreMet : ℕ → List Meeting → ℕ → List Meeting → ℕ → Type 0
+  AreMet k old best new result = IsMet place.face (λ w s t. (i : ℕ) × (i < k) × OffFaces i w s t) old best new result
+
+  one_there : (w s t : ℕ) → OffFaces p w s t → w ≡ z
+  one_there w s t q =
+      let here : IsNumber walks (get_or (ids_of ds) p 0) z = subst (λ d. IsNumber walks d z) (sym (get_or-ids ds p l)) is in
+      faces.apart w z (get_or (ids_of ds) p 0) q.0.0 here.0 q.0.1 here.1
+
+  -- the face is one of the three
+  pub met_none : (old : List Meeting) (first : ℕ) (met : List Meeting) (best : ℕ) → (z ≡ place.face) ⊎ ((z ≡ x) ⊎ (z ≡ y)) → AreMet p old first met best → AreMet (p + 1) old first met best
+  met_none old first met best skip h =
+      IsMet-more place.face old first met best p OffFaces met best h (IsMet-none place.face (OffFaces p) met best (λ w s t q.
+      let e = one_there w s t q in
+      elim skip [ inl r ↦ q.1 (e ∙ r) | inr o ↦ elim o [ inl r ↦ q.2 (e ∙ r) | inr r ↦ q.3 (e ∙ r) ] ]))
+
+  -- or is noted
+  pub met_one : (old : List Meeting) (first : ℕ) (met : List Meeting) (best : ℕ) (new : List Meeting) (result : ℕ) → IsMet place.face (IsHere place z) met best new result → AreMet p old first met best → AreMet (p + 1) old first new result
+  met_one old first met best new result here h =
+      IsMet-more place.face old first new result p OffFaces met best h (IsMet-fewer place.face met best new result (IsHere place z) (OffFaces p) (λ w s t q. (one_there w s t q, q.4, q.5)) here)
 
 -- the sides of a walk
 abbrev Sides : Map → List (List ℕ) → List ℕ → ℕ → ℕ → ℕ → Type 0

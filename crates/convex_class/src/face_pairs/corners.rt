@@ -3,7 +3,7 @@ ghost use Rattle.std.specs.Prelude.{◌≡◌, ◌≢◌, ◌<◌, ◌≤◌, �
 ghost use Rattle.half_edges.specs.Map.{IsLive};
 ghost use Rattle.euler_faces.specs.FaceWalks.{ids_of, walk_at};
 ghost use Rattle.convex_class.specs.Clear.{IsNumber, IsAcross, IsOffPlace, IsClearFace, after_place};
-ghost use Rattle.convex_class.specs.Meetings.{IsHere, IsMet};
+ghost use Rattle.convex_class.specs.Meetings.{IsMet};
 
 use crate::face_pairs::meetings::{Meeting, meet};
 use crate::face_pairs::uncut::UncutMap;
@@ -56,28 +56,24 @@ impl UncutMap<'_> {
 }
 
 impl Spot<'_> {
-    // Notes that z meets the face of the spot there, where it is neither that one nor across its darts.
-    fn meet_number(&self, z: u32, met: &mut [Meeting], best: u16) -> u16
-        requires { z < length met.old }
-        ensures { IsMet self.now.place.face (λ w t h. IsHere self.now.place z w t h × (z ≢ self.now.place.face) × (z ≢ self.now.x) × (z ≢ self.now.y)) met.old best met.new result }
-    {
-        if z == self.place.face || z == self.x || z == self.y {
-            return best;
-        }
-        meet(met, z, self.place, best)
-    }
-
-    // Notes the faces of the darts of a row in this way.
+    // Notes that the faces of the darts of a row meet the face of the spot there, where they are neither that one nor across
+    // its darts.
     fn meet_round(&self, ring: &[DartId], met: &mut [Meeting], mut best: u16) -> u16
         requires ring { (i : ℕ) → i < length (ids_of ring.now) → IsLive self.now.uncut.map.now (slice_index (ids_of ring.now) i) }
         requires met { length met.old ≡ length self.now.uncut.faces.now }
         ensures { IsMet self.now.place.face (λ z t h. (c : ℕ) × Contains (ids_of ring.now) c × IsNumber self.now.uncut.faces.now c z × (z ≢ self.now.place.face) × (z ≢ self.now.x) × (z ≢ self.now.y) × (t ≡ self.now.place.tail) × (h ≡ self.now.place.head)) met.old best met.new result }
     {
-        let spot = *self;
-        spot.uncut.facts();
+        let Spot { uncut, place, x, y } = *self;
+        uncut.facts();
         for c in ring {
-            let z = spot.uncut.faces.of_dart(*c).0;
-            best = spot.meet_number(z, met, best);
+            let z = uncut.faces.of_dart(*c).0;
+            if z == place.face {
+                continue;
+            }
+            if z == x || z == y {
+                continue;
+            }
+            best = meet(met, z, place, best);
         }
         best
     }

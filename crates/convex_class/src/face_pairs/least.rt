@@ -11,7 +11,7 @@ use half_edges::{DartId, FaceId, VertexId};
 use std::alloc::{AllocError, Global};
 
 impl UncutMap<'_> {
-    // Returns the least answer over all vertices.
+    // Returns the least answer over all vertices. `ring` and `marks` are memory for the darts of a vertex, and for its marks.
     fn least_at_vertices(
         &self,
         ring: &mut Vec<DartId>,
@@ -34,7 +34,8 @@ impl UncutMap<'_> {
         Ok(best)
     }
 
-    // And all faces.
+    // Returns the least of `best` and the answers over all faces. `ring` is memory for the darts of a vertex, and `met` for
+    // where faces meet.
     fn least_at_faces(
         &self,
         ring: &mut Vec<DartId>,
@@ -57,7 +58,7 @@ impl UncutMap<'_> {
         Ok(best)
     }
 
-    // A vertex before which none is in a separating pair: the least one of two vertices that have two faces in common, but
+    // Finds a vertex before which none is in a separating pair: the least one of two vertices that have two faces in common, but
     // along an edge, or else the number of vertices. Each vertex looks at the faces that have no more darts, and each face
     // at the vertices, so that the time is linear.
     pub(crate) fn least_paired(&self, alloc: Global) -> Result<u16, AllocError>

@@ -13,7 +13,7 @@ pub(crate) struct Meeting {
     pub(crate) head: u16,
 }
 
-// The least of `best` and two vertices, which count where they differ.
+// Returns the least of `best` and two vertices, which count where they differ.
 fn least_of_two(best: u16, x: u16, y: u16) -> u16
     ensures lower { result ≤ best }
     ensures two { x ≢ y → (result ≤ x) × (result ≤ y) }

@@ -41,7 +41,7 @@ impl UncutMap<'_> {
         }
     }
 
-    // The least separating pair, given marks that are no vertices, where no pair has a vertex before `from`.
+    // Returns the least separating pair, given marks that are no vertices, where no pair has a vertex before `from`.
     fn first_pair(&self, from: u16, marks: &mut [u16]) -> Option<(VertexId, VertexId)>
         requires from { (u v : ℕ) → IsSeparatingPair self.now.map.now.lists u v → from ≤ u }
         requires marks { length marks.old ≡ length self.now.map.now.lists }
@@ -59,7 +59,7 @@ impl UncutMap<'_> {
     }
 }
 
-// Whether no face has more than three darts.
+// Says whether no face has more than three darts.
 fn has_short_faces(faces: &Faces) -> bool
     ensures { IsTrue result → (f : ℕ) → f < length faces.now → length (walk_at faces.now f) ≤ 3 }
 {

@@ -1,6 +1,5 @@
 //! Where two faces at a vertex have another vertex in common, from the vertex.
 ghost use Rattle.std.specs.Prelude.{◌≡◌, ◌≤◌, ℕ, length, slice_index, Contains};
-ghost use Rattle.half_edges.specs.Map.{IsLive};
 ghost use Rattle.euler_faces.specs.FaceWalks.{IsFaceWalk, ids_of};
 ghost use Rattle.convex_class.specs.Clear.{IsRing, IsOffAt, IsOff, IsClearVertex};
 ghost use Rattle.convex_class.specs.Stamps.{IsStamped, AreStamped};
@@ -27,31 +26,25 @@ struct FaceOf<'a> {
 }
 
 impl FaceOf<'_> {
-    // Gives the tail of a dart the mark u, where it is neither u nor a, and the dart does not lead to u. The answer is the
-    // least of `best` and the two where it had that mark.
-    fn mark_dart(&self, d: DartId, marks: &mut [u16], best: u16) -> u16
-        requires live { IsLive self.now.uncut.map.now d.0 }
-        requires marks { length marks.old ≡ length self.now.uncut.map.now.lists }
-        ensures { IsStamped self.now.u (IsOffAt self.now.uncut.map.now self.now.u self.now.a d.0) marks.old best marks.new result }
-    {
-        self.uncut.facts();
-        let z = self.uncut.map.tail(d).0;
-        let h = self.uncut.map.head(d).0;
-        if z == self.u || h == self.u || z == self.a {
-            return best;
-        }
-        stamp(marks, self.u, z, best)
-    }
-
-    // Gives the tails of the darts of a walk the mark u.
+    // Gives the tails of the darts of a walk the mark u, where they are neither u nor a, and the dart does not lead to u. The
+    // answer is the least of `best`, u, and those that had the mark.
     fn mark_passed(&self, walk: &[DartId], marks: &mut [u16], mut best: u16) -> u16
         requires walk { IsFaceWalk self.now.uncut.map.now (ids_of walk.now) }
         requires marks { length marks.old ≡ length self.now.uncut.map.now.lists }
         ensures { IsStamped self.now.u (λ z. (d : ℕ) × Contains (ids_of walk.now) d × IsOffAt self.now.uncut.map.now self.now.u self.now.a d z) marks.old best marks.new result }
     {
-        let face = *self;
+        let FaceOf { uncut, u, a } = *self;
+        uncut.facts();
         for d in walk {
-            best = face.mark_dart(*d, marks, best);
+            let z = uncut.map.tail(*d).0;
+            let h = uncut.map.head(*d).0;
+            if z == u || z == a {
+                continue;
+            }
+            if h == u {
+                continue;
+            }
+            best = stamp(marks, u, z, best);
         }
         best
     }

@@ -1,9 +1,9 @@
-use Rattle.std.proofs.Common.{◌≡◌, ◌≢◌, ◌<◌, ℕ, List, length, get_or, Contains, sym, ap, ◌∙◌, subst, arith}
+use Rattle.std.proofs.Common.{◌≡◌, ◌≢◌, ◌<◌, ℕ, List, length, get_or, Contains, sym, ap, subst, arith}
 use Rattle.map_lists.specs.declared.ids.DartId.{DartId}
 use Rattle.euler_faces.specs.FaceWalks.{ids_of, walk_at}
-use Rattle.convex_class.specs.Clear.{IsRing, IsNumber, IsCorner, IsOffPlace, after_place}
+use Rattle.convex_class.specs.Clear.{IsRing, IsNumber, IsCorner, IsOffPlace}
 use Rattle.convex_class.specs.Meetings.{IsMet}
-use Rattle.convex_class.proofs.WalkMarks.{get_or-ids, length-ids}
+use Rattle.convex_class.proofs.WalkMarks.{length-ids}
 use Rattle.convex_class.proofs.MeetingLemmas.{IsMet-none, IsMet-fewer, IsMet-more}
 use Rattle.convex_class.proofs.ClearLemmas.{off_in_ring, off_place, corner_below, large_corner}
 use Rattle.convex_class.proofs.face_pairs.corners.WalkedFace.meet_corners.Goals as goal
@@ -21,17 +21,12 @@ loop-i-preserved-then-degree-walk c =
     let f = c.args.self.now.f in
     let i = c.loop-i.i in
     let ds = c.args.self.now.walk.now in
-    let is = c.args.self.now.walked in
     let d = (get_or ds i (record { 0 = 0 })).0 in
     let e = c.behind-next.result.0 in
     let met = c.loop-i.met in
     let best = c.loop-i.best in
-    let long = sym (length-ids ds) ∙ ap (λ (w : List ℕ). length w) is in
-    let l : i < length ds = omega (arith, c.loop-i-test.true) in
-    let at = sym (get_or-ids ds i l) ∙ ap (λ (w : List ℕ). get_or w i 0) is in
-    let behind = c.behind-next.ensures ∙ ap (λ (w : List ℕ). after_place w i) is in
     let none = IsMet-none f (IsCorner map walks (length ds) f d e) met best (λ z x y. large_corner map walks (length ds) f d e c.tail-v.result.0 z x y c.tail-v.ensures (omega (arith, c.degree.ensures, c.if-degree-walk.true))) in
-    IsMet-more f c.args.met.now c.args.best met best i (IsOffPlace map walks f) met best c.loop-i.invariant (off_place map walks f i (length ds) d e met best met best long at behind none)
+    IsMet-more f c.args.met.now c.args.best met best i (IsOffPlace map walks f) met best c.loop-i.invariant (off_place map walks f i e ds met best met best c.args.self.now.walked (omega (arith, c.loop-i-test.true)) c.behind-next.ensures none)
 
 pub loop-i-preserved : goal.loop-i-preserved
 loop-i-preserved c =
@@ -39,16 +34,11 @@ loop-i-preserved c =
     let walks = c.args.self.now.uncut.faces.now in
     let f = c.args.self.now.f in
     let i = c.loop-i.i in
-    let ds = c.args.self.now.walk.now in
-    let is = c.args.self.now.walked in
-    let d = (get_or ds i (record { 0 = 0 })).0 in
-    let e = c.behind-next.result.0 in
     let now = c.meet_round-best.new.met in
     let least = c.meet_round-best.result in
-    let long = sym (length-ids ds) ∙ ap (λ (w : List ℕ). length w) is in
-    let l : i < length ds = omega (arith, c.loop-i-test.true) in
-    let at = sym (get_or-ids ds i l) ∙ ap (λ (w : List ℕ). get_or w i 0) is in
-    let behind = c.behind-next.ensures ∙ ap (λ (w : List ℕ). after_place w i) is in
+    let ds = c.args.self.now.walk.now in
+    let d = (get_or ds i (record { 0 = 0 })).0 in
+    let e = c.behind-next.result.0 in
     let v = c.tail-v.result.0 in
     let x = c.across-x.result in
     let y = c.across-y.result in
@@ -57,7 +47,7 @@ loop-i-preserved c =
     let here = IsMet-fewer f c.loop-i.met c.loop-i.best now least
     (λ z t h. (b : ℕ) × Contains ring b × IsNumber walks b z × (z ≢ f) × (z ≢ x) × (z ≢ y) × (t ≡ v) × (h ≡ v)) (IsCorner map walks (length ds) f d e)
     (λ z t h p. off_in_ring map c.facts.ensures.known walks c.facts.ensures.faces (length ds) f d e v x y z t h ring c.tail-v.ensures c.across-x.ensures.is c.across-y.ensures.is r p) c.meet_round-best.ensures in
-    IsMet-more f c.args.met.now c.args.best now least i (IsOffPlace map walks f) c.loop-i.met c.loop-i.best c.loop-i.invariant (off_place map walks f i (length ds) d e c.loop-i.met c.loop-i.best now least long at behind here)
+    IsMet-more f c.args.met.now c.args.best now least i (IsOffPlace map walks f) c.loop-i.met c.loop-i.best c.loop-i.invariant (off_place map walks f i e ds c.loop-i.met c.loop-i.best now least c.args.self.now.walked (omega (arith, c.loop-i-test.true)) c.behind-next.ensures here)
 
 pub returns : goal.returns
 returns c =

@@ -1,25 +1,35 @@
-use Rattle.std.proofs.Common.{◌≡◌, ℕ, length, get_or, sym, subst, arith}
+use Rattle.std.proofs.Common.{◌≡◌, length, inl, inr, arith}
 use Rattle.half_edges.specs.Map.{IsLive}
 use Rattle.euler_faces.specs.FaceWalks.{ids_of}
 use Rattle.convex_class.specs.Clear.{IsOffAt}
-use Rattle.convex_class.specs.Stamps.{IsStamped}
-use Rattle.convex_class.proofs.WalkMarks.{get_or-ids, length-ids}
-use Rattle.convex_class.proofs.StampLemmas.{AreStamped-more}
-use Rattle.convex_class.proofs.ClearLemmas.{each_dart, stamped_each}
+use Rattle.convex_class.proofs.WalkMarks.{length-ids}
+use Rattle.convex_class.proofs.ClearLemmas.{each_dart, tail_below, stamped_each, marked_none, marked_one}
 use Rattle.convex_class.proofs.face_pairs.vertices.FaceOf.mark_passed.Goals as goal
+use Rattle.convex_class.proofs.face_pairs.vertices.FaceOf.mark_passed.Goals.{then-z-u-via-then-z-u, then-z-u-via-else-z-u+then-z-a}
 
-pub mark_dart-best-requires-clause-live : goal.mark_dart-best-requires-clause-live
-mark_dart-best-requires-clause-live c = each_dart c.args.walk.now (IsLive c.args.self.now.uncut.map.now) c.requires.walk.live c.loop-d.d-index c.loop-d-test.true
+pub tail-z-requires : goal.tail-z-requires
+tail-z-requires c = each_dart c.args.walk.now (IsLive c.args.self.now.uncut.map.now) c.requires.walk.live c.loop-d.d-index c.loop-d-test.true
+
+pub head-h-requires : goal.head-h-requires
+head-h-requires c = each_dart c.args.walk.now (IsLive c.args.self.now.uncut.map.now) c.requires.walk.live c.loop-d.d-index c.loop-d-test.true
+
+pub stamp-best-requires : goal.stamp-best-requires
+stamp-best-requires c =
+    let map = c.args.self.now.uncut.map.now in
+    let live = each_dart c.args.walk.now (IsLive map) c.requires.walk.live c.loop-d.d-index c.loop-d-test.true in
+    omega (arith, tail_below map c.facts.ensures.known _ c.tail-z.result.0 live c.tail-z.ensures, c.loop-d.auto.marks, c.requires.marks)
+
+pub loop-d-preserved-then-z-u : goal.loop-d-preserved-then-z-u
+loop-d-preserved-then-z-u c =
+    marked_none c.args.self.now.uncut.map.now c.args.self.now.u c.args.self.now.a c.args.walk.now c.loop-d.d-index c.tail-z.result.0 c.head-h.result.0 c.loop-d-test.true c.tail-z.ensures c.head-h.ensures c.args.marks.now c.args.best c.loop-d.marks c.loop-d.best (inl (elim c.then-z-u.branch [ then-z-u-via-then-z-u w ↦ inl w.if-z-u.true | then-z-u-via-else-z-u+then-z-a w ↦ inr w.if-z-a.true ])) c.loop-d.invariant
+
+pub loop-d-preserved-then-h-u : goal.loop-d-preserved-then-h-u
+loop-d-preserved-then-h-u c =
+    marked_none c.args.self.now.uncut.map.now c.args.self.now.u c.args.self.now.a c.args.walk.now c.loop-d.d-index c.tail-z.result.0 c.head-h.result.0 c.loop-d-test.true c.tail-z.ensures c.head-h.ensures c.args.marks.now c.args.best c.loop-d.marks c.loop-d.best (inr c.if-h-u.true) c.loop-d.invariant
 
 pub loop-d-preserved : goal.loop-d-preserved
 loop-d-preserved c =
-    let u = c.args.self.now.u in
-    let p = c.loop-d.d-index in
-    let off : ℕ → ℕ → Type 0 = λ d. IsOffAt c.args.self.now.uncut.map.now u c.args.self.now.a d in
-    let now = c.mark_dart-best.new.marks in
-    let least = c.mark_dart-best.result in
-    let step = subst (λ d. IsStamped u (off d) c.loop-d.marks c.loop-d.best now least) (sym (get_or-ids c.args.walk.now p c.loop-d-test.true)) c.mark_dart-best.ensures in
-    AreStamped-more u p (λ i. off (get_or (ids_of c.args.walk.now) i 0)) c.args.marks.now c.args.best c.loop-d.marks c.loop-d.best now least c.loop-d.invariant step
+    marked_one c.args.self.now.uncut.map.now c.args.self.now.u c.args.self.now.a c.args.walk.now c.loop-d.d-index c.tail-z.result.0 c.head-h.result.0 c.loop-d-test.true c.tail-z.ensures c.head-h.ensures c.args.marks.now c.args.best c.loop-d.marks c.loop-d.best c.stamp-best.new.marks c.stamp-best.result c.stamp-best.ensures c.loop-d.invariant
 
 pub returns : goal.returns
 returns c =
