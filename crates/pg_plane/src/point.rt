@@ -33,6 +33,17 @@ fn product(u: i64, v: i64) -> i64
     u * v
 }
 
+// Returns the product of `u` and `v` less that of `s` and `t`, all of them differences of coordinates.
+fn minor(u: i64, v: i64, s: i64, t: i64) -> i64
+    requires u { IsWithin (pos 2097152) u }
+    requires v { IsWithin (pos 2097152) v }
+    requires s { IsWithin (pos 2097152) s }
+    requires t { IsWithin (pos 2097152) t }
+    ensures { result ≡ (u *ℤ v) -ℤ (s *ℤ t) }
+{
+    product(u, v) - product(s, t)
+}
+
 /// Twice the area of the triangle `a`, `b`, `c`: positive where `c` lies to the left of the way from `a`
 /// to `b`, and zero where the three are in line.
 pub fn area2(a: Point, b: Point, c: Point) -> i64
@@ -41,8 +52,12 @@ pub fn area2(a: Point, b: Point, c: Point) -> i64
     requires c { IsInRange c }
     ensures { result ≡ area a b c }
 {
-    product(difference(a.x, b.x), difference(a.y, c.y))
-        - product(difference(a.x, c.x), difference(a.y, b.y))
+    minor(
+        difference(a.x, b.x),
+        difference(a.y, c.y),
+        difference(a.x, c.x),
+        difference(a.y, b.y),
+    )
 }
 
 // Whether a number is between two others, or one of them.
@@ -101,7 +116,12 @@ fn cross2(d: Point, e: Point) -> i64
     requires e { IsDirection e }
     ensures { result ≡ cross d e }
 {
-    product(i64::from(d.x), i64::from(e.y)) - product(i64::from(e.x), i64::from(d.y))
+    minor(
+        i64::from(d.x),
+        i64::from(e.y),
+        i64::from(e.x),
+        i64::from(d.y),
+    )
 }
 
 /// Whether direction `d` comes strictly before direction `e` in the clockwise order that starts at west.

@@ -1,24 +1,13 @@
-use Rattle.std.proofs.Common.{◌-ℤ◌, arith, rules, w32, w64, FitsSigned}
+use Rattle.std.proofs.Common.{arith, rules, w32, w64, FitsSigned}
 use Rattle.std.proofs.lemmas.Int.{ints, to_z-of_z}
 use Rattle.pg_plane.proofs.point.area2.Goals as goal
 
-pub overflow_sub-result : goal.overflow_sub-result
-overflow_sub-result c =
-    let p = c.product.ensures.range in
-    let q = c.product-2.ensures.range in
-    omega (arith, ints)
-
 pub returns : goal.returns
 returns c =
-    let p = c.product.ensures.range in
-    let q = c.product-2.ensures.range in
     let d = c.difference.ensures.range in
     let e = c.difference-2.ensures.range in
     let f = c.difference-3.ensures.range in
     let g = c.difference-4.ensures.range in
-    let fp : FitsSigned w64 c.product.result = omega (arith, ints) in
-    let fq : FitsSigned w64 c.product-2.result = omega (arith, ints) in
-    let fpq : FitsSigned w64 (c.product.result -ℤ c.product-2.result) = omega (arith, ints) in
     let fd : FitsSigned w64 c.difference.result = omega (arith, ints) in
     let fe : FitsSigned w64 c.difference-2.result = omega (arith, ints) in
     let ff : FitsSigned w64 c.difference-3.result = omega (arith, ints) in
@@ -33,6 +22,6 @@ returns c =
     let ev = simp to_z-of_z at c.difference-2.ensures.value in
     let fv = simp to_z-of_z at c.difference-3.ensures.value in
     let gv = simp to_z-of_z at c.difference-4.ensures.value in
-    let pv = simp to_z-of_z at c.product.ensures.value in
-    let qv = simp to_z-of_z at c.product-2.ensures.value in
+    let mv = simp to_z-of_z at c.minor.ensures in
+    let fm : FitsSigned w64 c.minor.result = search rules in
     simp to_z-of_z (cc)
