@@ -18,32 +18,30 @@ use order_drawings::order_tables::points_at;
 use pg_plane::Points;
 use std::alloc::AllocError;
 
-// Goes along the vertices of a row, and returns the sum of their gaps. Each one gets as its gap the sum up to it, and 1
-// more.
-fn pass(gaps: &mut [u32], row: &[u16]) -> u32
-    requires gaps { All (λ u. u < length gaps.old) row.now }
-    requires distinct { AllPairs ◌≢◌ row.now }
-    requires room { gap_sum gaps.old row.now + 1 < 2 ^ 32 }
-    ensures far { result ≡ gap_sum gaps.old row.now }
-    ensures passed { ArePassed row.now (length row.now) gaps.old gaps.new }
-{
-    let mut far = 0;
-    for u in row {
-        far += gaps[*u as usize];
-        gaps[*u as usize] = far + 1;
-    }
-    far
-}
-
-// Notes the vertices of a row as covered by `v`.
-fn cover(covers: &mut [u16], row: &[u16], v: u16)
+// Goes along the vertices of a row, which `v` covers now, and returns the sum of their drops. Each one gets as its drop
+// the sum up to it, and 1 more, and so as its rise.
+fn pass(drops: &mut [u32], rises: &mut [u32], covers: &mut [u16], row: &[u16], v: u16) -> u32
+    requires drops { All (λ u. u < length drops.old) row.now }
+    requires rises { All (λ u. u < length rises.old) row.now }
     requires covers { All (λ u. u < length covers.old) row.now }
     requires distinct { AllPairs ◌≢◌ row.now }
-    ensures { AreCovered v row.now (length row.now) covers.old covers.new }
+    requires drops_room { gap_sum drops.old row.now + 1 < 2 ^ 32 }
+    requires rises_room { gap_sum rises.old row.now + 1 < 2 ^ 32 }
+    ensures far { result ≡ gap_sum drops.old row.now }
+    ensures drops { ArePassed row.now (length row.now) drops.old drops.new }
+    ensures rises { ArePassed row.now (length row.now) rises.old rises.new }
+    ensures covered { AreCovered v row.now (length row.now) covers.old covers.new }
 {
+    let mut far = 0;
+    let mut high = 0;
     for u in row {
+        far += drops[*u as usize];
+        drops[*u as usize] = far + 1;
+        high += rises[*u as usize];
+        rises[*u as usize] = high + 1;
         covers[*u as usize] = v;
     }
+    far
 }
 
 // Puts `v` over a row of the contour: all but the first of its vertices are passed, and the last is no longer covered.
@@ -62,10 +60,7 @@ fn put_over(
         → AreGaps (after g s) (coordinates_after g s at) drops.new rises.new spans.new covers.new }
 {
     let q = row[row.len() - 1];
-    let passed = &row[1..];
-    let span = pass(drops, passed);
-    pass(rises, passed);
-    cover(covers, passed, v);
+    let span = pass(drops, rises, covers, &row[1..], v);
     drops[v as usize] = span;
     rises[v as usize] = 0;
     spans[v as usize] = span;
