@@ -11,33 +11,6 @@ use half_edges::HalfMap;
 use map_lists::{Rotations, VertexId};
 use std::alloc::{AllocError, Global};
 
-// Returns the least greater vertex with which `u`, which is a cut vertex, is a separating pair: the flags tell the cut
-// vertices. All but two vertices are such, so few are tried.
-fn partner_of_cut(
-    alloc: Global,
-    lists: &Rotations,
-    flags: &[bool],
-    u: u16,
-) -> Result<Option<u16>, AllocError>
-    requires adjacency { IsAdjacency lists.now }
-    requires flags { AreCutFlags lists.now flags.now }
-    requires vertex { u < length lists.now }
-    requires cut { slice_index_or flags.now u false ≡ true }
-    ensures { IfOk result (λ found. MatchOption found ((v : ℕ) → ¬ IsSeparatingPair lists.now u v) (λ v. IsSeparatingPair lists.now u v × ((w : ℕ) → IsSeparatingPair lists.now u w → v ≤ w))) }
-{
-    for v in u as usize + 1..lists.len() {
-        if flags[v] {
-            return Ok(Some(v as u16));
-        }
-        let rest = lists_without(alloc, lists, v as u16)?;
-        let cuts = cut_flags(alloc, &rest)?;
-        if cuts[u as usize] {
-            return Ok(Some(v as u16));
-        }
-    }
-    Ok(None)
-}
-
 // Returns the least greater vertex with which `u` is a separating pair: the flags tell the cut vertices.
 fn partner(
     alloc: Global,
@@ -51,7 +24,18 @@ fn partner(
     ensures { IfOk result (λ found. MatchOption found ((v : ℕ) → ¬ IsSeparatingPair lists.now u v) (λ v. IsSeparatingPair lists.now u v × ((w : ℕ) → IsSeparatingPair lists.now u w → v ≤ w))) }
 {
     if flags[u as usize] {
-        return partner_of_cut(alloc, lists, flags, u);
+        // all but two vertices are partners of a cut vertex, so few are tried
+        for v in u as usize + 1..lists.len() {
+            if flags[v] {
+                return Ok(Some(v as u16));
+            }
+            let rest = lists_without(alloc, lists, v as u16)?;
+            let cuts = cut_flags(alloc, &rest)?;
+            if cuts[u as usize] {
+                return Ok(Some(v as u16));
+            }
+        }
+        return Ok(None);
     }
     let rest = lists_without(alloc, lists, u)?;
     let cuts = cut_flags(alloc, &rest)?;
