@@ -90,8 +90,7 @@ pub fn euler_by_twins(lists: &Rotations, twins: &mut [u32], components: u16) -> 
     ensures f { result.f ≡ face_count lists.now }
     ensures c { result.c ≡ component_count lists.now }
 {
-    let map = stored(lists);
-    map.counts(twins, components)
+    stored(lists).counts(twins, components)
 }
 
 /// Counts lists, one after another, and keeps its memory for the next.
@@ -162,7 +161,7 @@ impl Counter {
             &mut self.numbers,
             &mut self.queue[..lists.len()],
         );
-        Ok(map.counts(&mut self.twins, components))
+        Ok(euler_by_twins(lists, &mut self.twins, components))
     }
 }
 
