@@ -11,5 +11,6 @@ pub mod PassLemmas
 mod TableLemmas
 mod ClearLemmas
 mod ReachLemmas
+mod Rounds
 mod HeightLemmas
 mod Refused

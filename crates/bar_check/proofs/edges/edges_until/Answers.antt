@@ -2,6 +2,7 @@ use Rattle.std.proofs.Common.{◌+◌, ◌≤◌, ◌≡◌, inl, inr, ◌&&◌,
 use Rattle.map_theory.specs.Maps.{list_of}
 use Rattle.vertex_rounds.proofs.RoundLemmas.{head_at, place_at, at_place, place_at-later, LeavesFrom-later, head_at-result}
 use Rattle.bar_check.proofs.EdgeLemmas.{edges_until-all, edges_until-none, count_more}
+use Rattle.bar_check.proofs.Rounds.{fewer_left}
 use Rattle.bar_check.proofs.edges.edges_until.Goals as goal
 use Rattle.bar_check.proofs.edges.edges_until.Goals.{then-v-u+then-u-end, else-v-u, else-v-u-via-then-v-u+else-u-end, else-v-u-via-else-v-u}
 
@@ -13,13 +14,7 @@ overflow_add-count c =
     omega arith
 
 pub round-smaller : goal.round-smaller
-round-smaller c =
-    let map = c.args.map.now in
-    let v = c.args.v.0 in
-    let d = c.round.d.0 in
-    let within = (at_place map c.facts.ensures v d c.round.invariant.dart).0 in
-    let later = place_at-later map v d c.in-Some-later_dart.next.0 (c.in-Some-later_dart.ensures v (head_at map d) c.round.invariant.dart) in
-    omega arith
+round-smaller c = fewer_left c.args.map.now c.facts.ensures c.args.v.0 c.round.d.0 c.in-Some-later_dart.next.0 c.round.invariant.dart c.in-Some-later_dart.ensures
 
 pub round-preserved : goal.round-preserved
 round-preserved c =

@@ -1,6 +1,7 @@
-use Rattle.std.proofs.Common.{ℕ, sym, subst, arith}
-use Rattle.vertex_rounds.proofs.RoundLemmas.{head_at, at_place, place_at-first, place_at-later, LeavesFrom-is}
+use Rattle.std.proofs.Common.{ℕ, sym, subst}
+use Rattle.vertex_rounds.proofs.RoundLemmas.{place_at-first, LeavesFrom-is}
 use Rattle.bar_check.specs.Reach.{HasReach, IsBegun}
+use Rattle.bar_check.proofs.Rounds.{fewer_left}
 use Rattle.bar_check.proofs.drawing.Bar.begin_edges.Goals as goal
 
 pub round-init : goal.round-init
@@ -13,10 +14,4 @@ round-init c =
     }
 
 pub round-smaller : goal.round-smaller
-round-smaller c =
-    let map = c.args.self.now.drawing.map.now in
-    let v = c.args.self.now.v.0 in
-    let d = c.round.d.0 in
-    let within = (at_place map c.facts.ensures v d c.round.invariant.dart).0 in
-    let later = place_at-later map v d c.in-Some-later_dart.later.0 (c.in-Some-later_dart.ensures v (head_at map d) c.round.invariant.dart) in
-    omega arith
+round-smaller c = fewer_left c.args.self.now.drawing.map.now c.facts.ensures c.args.self.now.v.0 c.round.d.0 c.in-Some-later_dart.later.0 c.round.invariant.dart c.in-Some-later_dart.ensures

@@ -1,7 +1,8 @@
-use Rattle.std.proofs.Common.{ℕ, ◌+◌, length, sym, ap, subst, arith}
-use Rattle.vertex_rounds.proofs.RoundLemmas.{head_at, place_at, at_place, place_at-first, place_at-later, LeavesFrom-is, LeavesFrom-later}
+use Rattle.std.proofs.Common.{ℕ, ◌+◌, length, sym, ap, subst}
+use Rattle.vertex_rounds.proofs.RoundLemmas.{head_at, place_at, place_at-first, place_at-later, LeavesFrom-is, LeavesFrom-later}
 use Rattle.bar_check.specs.Tables.{AreFilled, IsFirstMetBad}
 use Rattle.bar_check.proofs.TableLemmas.{AreFilled-next, first-next}
+use Rattle.bar_check.proofs.Rounds.{fewer_left}
 use Rattle.bar_check.proofs.drawing.GreaterEnd.put_list.Goals as goal
 
 pub round-init : goal.round-init
@@ -15,13 +16,7 @@ round-init c =
     }
 
 pub round-smaller : goal.round-smaller
-round-smaller c =
-    let map = c.args.self.now.bars.map.now in
-    let b = c.args.self.now.b.0 in
-    let d = c.round.d.0 in
-    let within = (at_place map c.facts.ensures b d c.round.invariant.dart).0 in
-    let later = place_at-later map b d c.in-Some-later_dart.later.0 (c.in-Some-later_dart.ensures b (head_at map d) c.round.invariant.dart) in
-    omega arith
+round-smaller c = fewer_left c.args.self.now.bars.map.now c.facts.ensures c.args.self.now.b.0 c.round.d.0 c.in-Some-later_dart.later.0 c.round.invariant.dart c.in-Some-later_dart.ensures
 
 pub round-preserved : goal.round-preserved
 round-preserved c =
