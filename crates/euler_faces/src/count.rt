@@ -56,29 +56,6 @@ fn stored(lists: &Rotations) -> StoredMap<'_>
     }
 }
 
-impl StoredMap<'_> {
-    // Counts the map by the twins of its darts, which are lost, where it has `c` components.
-    #[inline(always)]
-    fn counts(&self, twins: &mut [u32], c: u16) -> EulerCount
-        requires twins { AreTwins (darts (lists_of self.now)) twins.old (length (darts (lists_of self.now))) }
-        requires components { c ≡ component_count (lists_of self.now) }
-        ensures n { result.n ≡ vertex_count (lists_of self.now) }
-        ensures m { result.m ≡ edge_count (lists_of self.now) }
-        ensures f { result.f ≡ face_count (lists_of self.now) }
-        ensures c { result.c ≡ component_count (lists_of self.now) }
-    {
-        self.facts();
-        let orbits = self.count_orbits(twins);
-        let isolated = self.count_isolated(c);
-        EulerCount {
-            n: self.ends.len() as u32,
-            m: (self.entries.len() / 2) as u32,
-            f: orbits + isolated,
-            c: c as u32,
-        }
-    }
-}
-
 /// Counts `lists`, which are a simple map, by the twins of their darts. The components are counted already. The faces are walked over the twins, which are lost. The time is linear in the entries, and no memory is
 /// taken.
 pub fn euler_by_twins(lists: &Rotations, twins: &mut [u32], components: u16) -> EulerCount
@@ -90,7 +67,16 @@ pub fn euler_by_twins(lists: &Rotations, twins: &mut [u32], components: u16) -> 
     ensures f { result.f ≡ face_count lists.now }
     ensures c { result.c ≡ component_count lists.now }
 {
-    stored(lists).counts(twins, components)
+    let map = stored(lists);
+    map.facts();
+    let orbits = map.count_orbits(twins);
+    let isolated = map.count_isolated(components);
+    EulerCount {
+        n: map.ends.len() as u32,
+        m: (map.entries.len() / 2) as u32,
+        f: orbits + isolated,
+        c: components as u32,
+    }
 }
 
 /// Counts lists, one after another, and keeps its memory for the next.
