@@ -125,6 +125,7 @@ impl AtVertex<'_> {
 
     /// Takes the vertex off the outer cycle, of which `marked` has the marks and `near` counts each vertex's neighbours:
     /// its own neighbours that are left are on the cycle now. What may be taken off next for that goes on `stack`.
+    #[inline(always)]
     pub fn leave_cycle(
         &self,
         marked: &mut [bool],

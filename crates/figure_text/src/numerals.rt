@@ -95,8 +95,20 @@ pub struct Texts<'a> {
     pub ghost known: { AreNumerals texts.now },
 }
 
+// Writes a space and a number, digit by digit, before `end`, and returns where the space stands.
+#[inline(never)]
+fn write_digit_by_digit(number: u64, bytes: &mut [u8], end: usize) -> usize
+    requires { (length (decimal number) < end) × (end ≤ length bytes.old) }
+    ensures start { result + 1 + length (decimal number) ≡ end }
+    ensures written { drop result bytes.new ≡ 32 ∷ decimal number ++ drop end bytes.old }
+{
+    let start = write_digits(number, bytes, end);
+    write_byte(b' ', bytes, start)
+}
+
 impl Texts<'_> {
     /// Writes a space and a number before `end`, and returns where the space stands. Up to seven bytes before it are lost.
+    #[inline(always)]
     pub fn write(&self, number: u64, bytes: &mut [u8], end: usize) -> usize
         requires { (length (decimal number) < end) × (8 ≤ end) × (end ≤ length bytes.old) }
         ensures start { result + 1 + length (decimal number) ≡ end }
@@ -104,10 +116,7 @@ impl Texts<'_> {
     {
         match self.texts.get(number as usize) {
             Some(text) => write_numeral(*text, bytes, end),
-            None => {
-                let start = write_digits(number, bytes, end);
-                write_byte(b' ', bytes, start)
-            }
+            None => write_digit_by_digit(number, bytes, end),
         }
     }
 }

@@ -54,16 +54,16 @@ impl Graph {
         Ok(Graph { vertices: n, body })
     }
 
-    /// The graph whose bits are these.
-    pub(crate) fn of_body(alloc: Global, n: u16, bytes: &[u8]) -> Result<Graph, AllocError>
+    /// The graph whose bits are these, in the memory of `spent`.
+    pub(crate) fn of_body(spent: Graph, n: u16, bytes: &[u8]) -> Result<Graph, AllocError>
         requires few { n ≤ 255 }
         requires bits { IsBody n bytes.now }
         ensures { IfOk result (λ g. g ≡ record { n = n; edges = edges_of n bytes.now }) }
     {
-        Ok(Graph {
-            vertices: n,
-            body: Vec::from_slice(alloc, bytes)?,
-        })
+        let mut body = spent.body;
+        body.clear();
+        body.extend_from_slice(bytes)?;
+        Ok(Graph { vertices: n, body })
     }
 
     /// The number of vertices.

@@ -13,4 +13,4 @@ mod line;
 pub use graph::Graph;
 pub use header::after_graph_header;
 pub use laws::{lines_are_graphs, one_graph, one_line};
-pub use line::{G6Fault, read_line, write_line};
+pub use line::{G6Fault, read_line, read_line_into, write_line};

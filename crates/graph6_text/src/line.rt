@@ -32,10 +32,18 @@ pub fn read_line(alloc: Global, line: &[u8]) -> Result<Graph, G6Fault>
     ensures ok { IfOk result (IsLine line.now) }
     ensures fault { IfErr result (NamesFault line.now) }
 {
+    read_line_into(Graph::new(alloc), line)
+}
+
+/// Reads a line as [`read_line`] does, in the memory of a graph that is done with.
+pub fn read_line_into(spent: Graph, line: &[u8]) -> Result<Graph, G6Fault>
+    ensures ok { IfOk result (IsLine line.now) }
+    ensures fault { IfErr result (NamesFault line.now) }
+{
     match bad_place(line) {
         Some(place) => Err(G6Fault::BadByte(place)),
         None => match line_start(line) {
-            Ok((n, start)) => read_body(alloc, line, n, start),
+            Ok((n, start)) => read_body(spent, line, n, start),
             Err(fault) => Err(fault),
         },
     }
@@ -133,8 +141,8 @@ fn is_padded(line: &[u8], n: u16) -> bool
     }
 }
 
-// The graph of a line whose first bytes are its number of vertices.
-fn read_body(alloc: Global, line: &[u8], n: u16, start: usize) -> Result<Graph, G6Fault>
+// The graph of a line whose first bytes are its number of vertices, in the memory of `spent`.
+fn read_body(spent: Graph, line: &[u8], n: u16, start: usize) -> Result<Graph, G6Fault>
     requires bytes { position is_bad_byte line.now ≡ None }
     requires start { start_of line.now ≡ Ok (n, start) }
     ensures ok { IfOk result (IsLine line.now) }
@@ -142,7 +150,7 @@ fn read_body(alloc: Global, line: &[u8], n: u16, start: usize) -> Result<Graph, 
 {
     match body_fault(line, n, start) {
         Some(fault) => Err(fault),
-        None => match Graph::of_body(alloc, n, &line[start..]) {
+        None => match Graph::of_body(spent, n, &line[start..]) {
             Ok(graph) => Ok(graph),
             Err(_) => Err(G6Fault::NoMemory),
         },

@@ -6,6 +6,7 @@ pub mod FigureLemmas
 mod FigureCases
 mod FiguresRefused
 -- Lemmas on drawings by Schnyder's coordinates.
+mod ZeroParts
 mod Passes
 mod Puts
 mod Writes

@@ -295,6 +295,7 @@ impl HalfMap {
     }
 
     /// The lists, as `rotations` has them, in the memory of others that are done with.
+    #[inline(always)]
     pub fn read_into(&self, spent: Rotations) -> Result<Rotations, AllocError>
         ensures { IfOk result (λ lists. lists ≡ self.now.lists) }
     {

@@ -48,6 +48,14 @@ pub fn read_line(alloc: Global, line: &[u8]) -> Result<Graph, G6Fault>
     graph6_text::read_line(alloc, line)
 }
 
+/// Reads `line` as a graph, or names the first rule that it breaks, in the memory of `spent`.
+pub fn read_line_into(spent: Graph, line: &[u8]) -> Result<Graph, G6Fault>
+    ensures ok { IfOk result (IsLine line.now) }
+    ensures fault { IfErr result (NamesFault line.now) }
+{
+    graph6_text::read_line_into(spent, line)
+}
+
 /// Appends the line of `graph` to `out`.
 pub fn write_line(graph: &Graph, out: &mut Vec<u8>) -> Result<(), AllocError>
     ensures ok { IfOk result (λ _. (line : List ℕ) × (out.new.items ≡ out.old.items ++ line) × IsLine line graph.now) }

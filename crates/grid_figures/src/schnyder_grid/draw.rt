@@ -1,5 +1,5 @@
 //! Drawings by Schnyder's coordinates.
-ghost use Rattle.std.specs.Prelude.{◌≡◌, ◌<◌, ◌+◌, ◌-◌, ℕ, length, replicate, All, OnOk, IfOk};
+ghost use Rattle.std.specs.Prelude.{◌≡◌, ◌<◌, ◌+◌, ◌*◌, ◌-◌, ℕ, length, replicate, All, OnOk, IfOk};
 ghost use Rattle.map_theory.specs.Maps.{Dart};
 ghost use Rattle.plane_laws.specs.Triangulations.{IsTriangulation};
 ghost use Rattle.canon_order.specs.Orders.{IsCanonicalOrder, vertices_of};
@@ -21,9 +21,8 @@ use std::mem;
 #[derive(Drop)]
 pub struct WoodDrawer {
     alloc: Global,
-    drops: Vec<u32>,
-    rises: Vec<u32>,
-    spans: Vec<u32>,
+    // the drops of all vertices, their rises behind these, and then their spans
+    gaps: Vec<u32>,
     covers: Vec<u16>,
     rows: Rotations,
     spent: Points,
@@ -34,9 +33,7 @@ impl WoodDrawer {
     pub fn new(alloc: Global) -> WoodDrawer {
         WoodDrawer {
             alloc,
-            drops: Vec::new(alloc),
-            rises: Vec::new(alloc),
-            spans: Vec::new(alloc),
+            gaps: Vec::new(alloc),
             covers: Vec::new(alloc),
             rows: Rotations::new(alloc),
             spent: Points::new(alloc),
@@ -45,17 +42,12 @@ impl WoodDrawer {
 
     // Zeros for `n` vertices.
     fn clear(&mut self, n: usize) -> Result<(), AllocError>
-        ensures drops { OnOk result (self.new.drops.items ≡ replicate n 0) }
-        ensures rises { OnOk result (self.new.rises.items ≡ replicate n 0) }
-        ensures spans { OnOk result (self.new.spans.items ≡ replicate n 0) }
+        requires { n < 4096 }
+        ensures gaps { OnOk result (self.new.gaps.items ≡ replicate (3 * n) 0) }
         ensures covers { OnOk result (length self.new.covers.items ≡ n) }
     {
-        self.drops.clear();
-        self.drops.resize(n, 0)?;
-        self.rises.clear();
-        self.rises.resize(n, 0)?;
-        self.spans.clear();
-        self.spans.resize(n, 0)?;
+        self.gaps.clear();
+        self.gaps.resize(3 * n, 0)?;
         self.covers.resize(n, 0)?;
         Ok(())
     }
@@ -68,17 +60,12 @@ impl WoodDrawer {
         requires run { (steps : ℕ → Step) × AreAllRows steps rows.now }
         ensures { IfOk result (λ points. (steps : ℕ → Step) → AreAllRows steps rows.now → ArePoints steps (length rows.now) ranks.now points) }
     {
-        self.clear(ranks.len())?;
+        let n = ranks.len();
+        self.clear(n)?;
         let spent = mem::replace(&mut self.spent, Points::new(self.alloc));
-        let points = wood_points(
-            spent,
-            &mut self.drops,
-            &mut self.rises,
-            &mut self.spans,
-            &mut self.covers,
-            rows,
-            ranks,
-        )?;
+        let (drops, others) = self.gaps.split_at_mut(n);
+        let (rises, spans) = others.split_at_mut(n);
+        let points = wood_points(spent, drops, rises, spans, &mut self.covers, rows, ranks)?;
         Ok(points)
     }
 

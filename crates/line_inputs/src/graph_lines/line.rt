@@ -10,8 +10,8 @@ ghost use Rattle.line_inputs.specs.GraphLinesState.{IsLinePart, TakesLine};
 use crate::graph_lines::ending::Ending;
 use crate::whole_lines::{chosen, join};
 use figure_text::line_length;
-use graph6_text::{G6Fault, Graph, after_graph_header, read_line};
-use std::alloc::{AllocError, Global};
+use graph6_text::{G6Fault, Graph, after_graph_header, read_line_into};
+use std::alloc::AllocError;
 
 /// A closed line, judged.
 #[derive(Drop)]
@@ -71,17 +71,17 @@ fn fault_ending(fault: G6Fault, number: u32) -> Option<Ending>
     }
 }
 
-// Judges a closed line, which is given without the byte 10 that closes it.
-fn judged_line(alloc: Global, line: &[u8], first: bool, number: u32) -> Result<Judged, AllocError>
-    ensures { (consumed : List ℕ) (graphs : List EdgeGraph) → Progress consumed graphs number first line.now
-        → length consumed < input_limit → IfOk result (Closes (consumed ++ 10 ∷ []) graphs number) }
+// Judges a closed line, which is given without the byte 10 that closes it; its graph in the memory of `spent`.
+fn judged_line(spent: Graph, line: &[u8], at: OpenLine) -> Result<Judged, AllocError>
+    ensures { (consumed : List ℕ) (graphs : List EdgeGraph) → Progress consumed graphs at.number at.first line.now
+        → length consumed < input_limit → IfOk result (Closes (consumed ++ 10 ∷ []) graphs at.number) }
 {
-    if is_header(first, line) {
+    if is_header(at.first, line) {
         return Ok(Judged::Header);
     }
-    match read_line(alloc, behind_header(first, line)) {
+    match read_line_into(spent, behind_header(at.first, line)) {
         Ok(graph) => Ok(Judged::Graph(graph)),
-        Err(fault) => match fault_ending(fault, number) {
+        Err(fault) => match fault_ending(fault, at.number) {
             Some(ending) => Ok(Judged::Bad(ending)),
             None => Err(AllocError),
         },
@@ -89,9 +89,9 @@ fn judged_line(alloc: Global, line: &[u8], first: bool, number: u32) -> Result<J
 }
 
 /// Takes a part to the end of the open line, which is then judged, or to its own end. A line that stands whole in the
-/// part is judged where it stands.
+/// part is judged where it stands. Its graph is in the memory of `spent`.
 pub fn take_line(
-    alloc: Global,
+    spent: Graph,
     pending: &mut Vec<u8>,
     at: OpenLine,
     part: &[u8],
@@ -108,7 +108,7 @@ pub fn take_line(
     let alone = pending.is_empty();
     join(alone, pending, &part[..len])?;
     let line = chosen(alone, &part[..len], pending);
-    let judged = judged_line(alloc, line, at.first, at.number)?;
+    let judged = judged_line(spent, line, at)?;
     pending.clear();
     Ok(Line::Closed(len + 1, judged))
 }

@@ -7,6 +7,7 @@ use graph6_text::Graph;
 use record_runs::{Format, Taken};
 use std::alloc::{AllocError, Global};
 use std::marker::Model;
+use std::mem;
 
 /// A reader of the graphs of one input.
 #[derive(Drop)]
@@ -78,7 +79,8 @@ impl Format for GraphReader {
             number: self.line,
             first: self.first,
         };
-        match take_line(self.alloc, &mut self.pending, line, piece)? {
+        let spent = mem::replace(&mut self.graph, Graph::new(self.alloc));
+        match take_line(spent, &mut self.pending, line, piece)? {
             Line::Open => {
                 self.place += piece.len();
                 Ok(Taken::Goes(piece.len()))

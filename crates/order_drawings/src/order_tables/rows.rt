@@ -1,5 +1,5 @@
 //! The rows of the contour over which the vertices of an order are put, by their lists.
-ghost use Rattle.std.specs.Prelude.{◌≡◌, ◌<◌, ◌≤◌, ◌+◌, ◌^◌, ◌↔◌, ◌⊎◌, ℕ, List, length, map, slice_index, All, IsTrue, IfOk};
+ghost use Rattle.std.specs.Prelude.{vec_len, vec_capacity, ◌≡◌, ◌<◌, ◌≤◌, ◌+◌, ◌^◌, ◌↔◌, ◌⊎◌, ℕ, List, length, map, slice_index, All, IsTrue, IfOk};
 ghost use Rattle.map_theory.specs.Maps.{Dart, list_of};
 ghost use Rattle.plane_laws.specs.Triangulations.{IsTriangulation};
 ghost use Rattle.canon_order.specs.Orders.{IsCanonicalOrder, vertices_of};
@@ -74,31 +74,32 @@ impl RankedList<'_> {
         0
     }
 
-    // Appends the ranks of the row, which goes backwards in the list from place `start` on.
+    // Appends the ranks of the row, which goes backwards in the list from place `start` on, and for which there is room.
     #[inline(always)]
-    fn put_row(&self, entries: &mut Vec<u16>, start: usize) -> Result<(), AllocError>
+    fn put_row(&self, entries: &mut Vec<u16>, start: usize)
         requires start { start < length self.now.list.now }
         requires few { (u : ℕ) → slice_index self.now.ranks.now u < 2 ^ 16 }
-        ensures { IfOk result (λ _. IsRowPut self.now.list.now self.now.ranks.now self.now.k start entries.old.items entries.new.items) }
+        requires room { vec_len entries.old + length self.now.list.now ≤ vec_capacity entries.old }
+        ensures { IsRowPut self.now.list.now self.now.ranks.now self.now.k start entries.old.items entries.new.items }
     {
         let ranked = *self;
         let mut i = start;
         let mut rank = ranked.rank(start);
         for _count in 0..ranked.list.len() {
-            entries.push(rank as u16)?;
+            entries.push_reserved(rank as u16);
             let place = before(ranked.list.len(), i);
             let next = ranked.rank(place);
             if is_last(rank, next, ranked.k) {
-                return Ok(());
+                return;
             }
             i = place;
             rank = next;
         }
-        Ok(())
     }
 }
 
 // The rows in lists, from that of the third vertex of an order on, in the memory of `spent`.
+#[inline(always)]
 fn listed_rows(
     spent: Rotations,
     lists: &Rotations,
@@ -116,7 +117,7 @@ fn listed_rows(
 {
     let (mut entries, mut ends) = spent.into_parts();
     entries.clear();
-    entries.reserve(lists.total() / 2)?;
+    entries.reserve(lists.total())?;
     ends.clear();
     ends.reserve(at.len())?;
     for k in 2..at.len() {
@@ -127,8 +128,9 @@ fn listed_rows(
             k: k as u32,
         };
         let start = row.first_place();
-        row.put_row(&mut entries, start)?;
-        ends.push(entries.len())?;
+        entries.reserve(list.len())?;
+        row.put_row(&mut entries, start);
+        ends.push_reserved(entries.len());
     }
     Ok(Rotations::from_parts(entries, ends))
 }
@@ -161,6 +163,7 @@ pub fn list_rows(alloc: Global, lists: &Rotations, order: &Order) -> Result<Rota
 }
 
 /// Like [`list_rows`], but makes the rows in the memory of `spent`.
+#[inline(always)]
 pub fn rows_into(
     spent: Rotations,
     lists: &Rotations,

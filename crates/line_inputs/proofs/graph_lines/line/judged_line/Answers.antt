@@ -7,11 +7,11 @@ use Rattle.line_inputs.proofs.graph_lines.line.judged_line.Goals as goal
 
 pub returns-in-Ok : goal.returns-in-Ok
 returns-in-Ok c = λ consumed graphs p short.
-    closes-judged consumed graphs c.args.number c.args.first c.args.line.now (Graph c.in-Ok.graph) short p (λ t e. true≢false (sym (c.is_header.ensures.1 (t, e)) ∙ c.if-is_header.false))
+    closes-judged consumed graphs c.args.at.number c.args.at.first c.args.line.now (Graph c.in-Ok.graph) short p (λ t e. true≢false (sym (c.is_header.ensures.1 (t, e)) ∙ c.if-is_header.false))
     (rw (← c.behind_header.ensures) c.in-Ok.ensures.ok)
 
 pub returns-in-Some : goal.returns-in-Some
 returns-in-Some c = λ consumed graphs p short.
     let judged = rw c.in-Some.is at (c.fault_ending.ensures c.behind_header.result.now c.in-Err.ensures.fault) in
-    closes-judged consumed graphs c.args.number c.args.first c.args.line.now (Bad c.in-Some.ending) short p (λ t e. true≢false (sym (c.is_header.ensures.1 (t, e)) ∙ c.if-is_header.false))
-    (subst (λ (x : List ℕ). IsJudged c.args.number x (Bad c.in-Some.ending)) c.behind_header.ensures (c.in-Err.fault, judged))
+    closes-judged consumed graphs c.args.at.number c.args.at.first c.args.line.now (Bad c.in-Some.ending) short p (λ t e. true≢false (sym (c.is_header.ensures.1 (t, e)) ∙ c.if-is_header.false))
+    (subst (λ (x : List ℕ). IsJudged c.args.at.number x (Bad c.in-Some.ending)) c.behind_header.ensures (c.in-Err.fault, judged))
