@@ -19,7 +19,7 @@ pub(crate) struct Edges<'a> {
     ghost numbered: { ∥ AreInner tables.now.lists tables.now.faces.own (vertices_of contour.now) inner.now ∥₁ },
 }
 
-/// Takes the marks of the numbers of a row away.
+/// Takes from `marks` the marks of the faces whose numbers `row` lists, since these faces are no longer left.
 pub(crate) fn clear_row(marks: &mut [bool], row: &[u32])
     requires within { (k : ℕ) → k < length row.now → slice_index row.now k < length marks.old }
     ensures long { length marks.new ≡ length marks.old }
@@ -30,7 +30,7 @@ pub(crate) fn clear_row(marks: &mut [bool], row: &[u32])
     }
 }
 
-// Takes the mark of a number away.
+// Takes from `marks` the mark of the face with number `f`.
 fn clear_one(marks: &mut [bool], f: u32)
     requires within { f < length marks.old }
     ensures { marks.new ≡ slice_set marks.old f false }

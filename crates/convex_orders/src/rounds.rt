@@ -54,7 +54,7 @@ fn push_row(rows: &mut ConvexRows, row: &[u16], cuts: &[u16]) -> Result<(), Allo
 }
 
 impl RowTables {
-    /// Returns tables of no run. They take no memory.
+    /// Makes tables for the rows of a run of a three-connected plane map, with no rows yet. They take no memory.
     pub fn new(alloc: Global) -> RowTables {
         RowTables {
             rows: ConvexRows {

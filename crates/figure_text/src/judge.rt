@@ -136,7 +136,8 @@ fn is_columns_line(words: &[Word]) -> bool
         && behind(words, 1).iter().all(|word| is_number_word(*word))
 }
 
-// Returns the kind of a figure by the word of its job, and that of a witness by the next word too.
+// Returns the kind of figure that `words`, those of a first line from `figure` on, announce: the third is the job's.
+// Of a witness the fourth tells K5 or K33; other words announce none.
 pub fn job_kind(words: &[Word]) -> Option<Kind>
     ensures { result ≡ kind_of words.now }
 {

@@ -41,7 +41,7 @@ pub(crate) fn push_number(out: &mut Vec<u8>, number: u64) -> Result<(), AllocErr
     out.extend_from_slice(buffer.format(number).as_bytes())
 }
 
-// Appends a space and a number.
+// Appends to `out` a space and the decimal digits of `number`, as the printed lines of a witness have them.
 #[inline(always)]
 #[tactic(auto, using(std::proofs::lemmas::Fmt::decimal_digit))]
 pub(crate) fn push_next(out: &mut Vec<u8>, number: u64) -> Result<(), AllocError>

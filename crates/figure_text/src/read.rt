@@ -88,7 +88,8 @@ pub fn columns_line(alloc: Global, line: &[u8]) -> Columns
     }
 }
 
-/// Returns the rectangular dual of a draft.
+/// Makes a figure of rectangles from `made`, a draft filled line by line: its lists, and the four sides of each
+/// rectangle. It computes and checks nothing.
 pub fn draft_rects(made: Draft) -> Figure
     requires { length made.lists < 4096 }
     ensures { result ≡ Figure.Rects made.lists (record { x1 = made.x1; x2 = made.x2; y1 = made.y; y2 = made.y2 }) }

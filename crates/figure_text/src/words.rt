@@ -112,7 +112,8 @@ fn is_text(word: &[u8], text: &[u8]) -> bool
     word == text
 }
 
-// Reads a word of letters, or of other bytes.
+// Returns the word that `bytes` are: one of the words of figures, or else a number, a number before a colon, or
+// `Other`.
 fn named(bytes: &[u8]) -> Word
     ensures { result ≡ word_meant bytes.now }
 {

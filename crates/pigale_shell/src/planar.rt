@@ -57,6 +57,8 @@ impl Format for PlanarReader {
 
     ghost IsGiven = { IsGiven };
 
+    // Passes `piece` to the reader of planar_code, and answers a bad count by the ending `BadCount` with the offset
+    // of its record.
     fn take(&mut self, piece: &[u8]) -> Result<Taken<Ending>, AllocError> {
         match self.reader.take(piece)? {
             Found::More => Ok(Taken::Goes(piece.len())),

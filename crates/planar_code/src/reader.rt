@@ -218,8 +218,8 @@ impl RecordReader {
         self.scanner.lists()
     }
 
-    /// Takes bytes of a piece, to the end of a record within it or to its own end. When memory runs out
-    /// nothing has changed.
+    /// Takes bytes of `piece` up to the end of a record, to a bad count, or to its own end, whichever is first. Where
+    /// a record ended, `lists` lends its lists. When memory runs out nothing has changed.
     pub fn take(&mut self, piece: &[u8]) -> Result<Taken, AllocError>
         requires { self.old.start + length self.old.pending + length piece.now ≤ input_limit }
         ensures taken { IfOk result (λ taken. Takes self.old piece.now taken self.new) }

@@ -33,7 +33,7 @@ impl NumberedMap<'_> {
         self.numbers[self.faces.of_dart(d).0 as usize]
     }
 
-    // Returns the number of the face on the left of a dart's edge.
+    // Returns the number of the face on the left of the edge of `d`, directed to its end of greater rank.
     fn left_number(&self, d: DartId) -> u32
         requires faces { AreFaces self.now.map.now self.now.faces.now }
         requires live { IsLive self.now.map.now d.0 }
@@ -69,8 +69,8 @@ impl NumberedMap<'_> {
         Ok(())
     }
 
-    /// Returns for each vertex the numbers of the faces on the left of its edges, in the order of its list. It fails
-    /// only when out of memory.
+    /// Returns for each vertex the dual numbers of its edges, in the order of its list: the numbers of the faces on
+    /// their left. Each edge is directed to its end of greater rank. It fails only when out of memory.
     pub(crate) fn number_rows(&self, alloc: Global) -> Result<ItemLists<u32>, AllocError>
         requires faces { AreFaces self.now.map.now self.now.faces.now }
         ensures { IfOk result (AreNumberRows self.now.map.now self.now.faces.now self.now.rank.now self.now.numbers.now) }

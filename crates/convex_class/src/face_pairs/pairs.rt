@@ -59,7 +59,8 @@ impl UncutMap<'_> {
     }
 }
 
-// Says whether no face has more than three darts.
+// Says whether no face of `faces` has more than three darts: a plane map without cut vertex has then no separating
+// pair.
 fn has_short_faces(faces: &Faces) -> bool
     ensures { IsTrue result → (f : ℕ) → f < length faces.now → length (walk_at faces.now f) ≤ 3 }
 {

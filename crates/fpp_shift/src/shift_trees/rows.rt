@@ -14,7 +14,7 @@ pub(crate) fn order_has_rows()
     canon_order::row_ends();
 }
 
-/// A map with ranks of its vertices.
+/// Holds a map, and for each vertex its rank in a canonical order: its place there, from 0.
 #[derive(Clone, Copy)]
 pub(crate) struct RankedMap<'a> {
     pub(crate) map: &'a HalfMap,
@@ -43,7 +43,7 @@ fn some_dart(map: &HalfMap, v: VertexId) -> DartId
 }
 
 impl RankedMap<'_> {
-    // The rank of the vertex to which a dart leads.
+    // Returns the rank, in the canonical order, of the vertex to which `d` leads.
     fn head_rank(&self, d: DartId) -> u32
         requires { IsLive self.now.map.now d.0 }
         ensures { (v u : ℕ) → dart_at self.now.map.now d.0 ≡ Some (v, u) → result ≡ slice_index self.now.ranks.now u }

@@ -93,6 +93,8 @@ impl Format for FigureReader {
 
     ghost IsGiven = { IsGiven };
 
+    // Consumes of `piece` a run of whole lines of vertices, or else the rest of the open line, or all where no line
+    // ends. Where that ends a figure, `record` lends it.
     fn take(&mut self, piece: &[u8]) -> Result<Taken<Ending>, AllocError> {
         let before = self.begun.take();
         match take_part(
