@@ -5,6 +5,7 @@ pub mod MarkLemmas
 pub mod LineLemmas
 pub mod PassLemmas
 pub mod PassedLemmas
+pub mod PairLemmas
 pub mod TableLemmas
 pub mod TwinLemmas
 pub mod FirstFaults

@@ -3,7 +3,7 @@ use Rattle.std.proofs.Common.{◌≡◌, ℕ, List, [], ◌∷◌, None, refl, a
 use Rattle.simple_maps.specs.Faults.{first_fault}
 use Rattle.simple_maps.specs.MapFault.{Names}
 use Rattle.simple_maps.specs.Tables.{AreSlots}
-use Rattle.simple_maps.specs.Pass.{AreMutual}
+use Rattle.simple_maps.specs.Pass.{AreMutual, ArePairedTo}
 use Rattle.simple_maps.specs.declared.fault.MapFault.TheVariants.{Loop}
 
 -- a loop named before a number that is no vertex
@@ -25,3 +25,7 @@ marks_of_the_lists_before tails twins s =
 -- a twin taken without a look at where it leads
 twin_not_tried : AreMutual (1 ∷ 2 ∷ []) (0 ∷ 1 ∷ []) (1 ∷ 0 ∷ []) 2 → ⊥
 twin_not_tried m = omega (arith, (m 0 (omega arith) (omega arith)).1)
+
+-- a dart taken for the twin of two darts
+twin_taken_twice : (cells : List ℕ) → ArePairedTo (1 ∷ 0 ∷ 0 ∷ []) (0 ∷ 1 ∷ 1 ∷ []) (2 ∷ 0 ∷ 0 ∷ []) cells 2 3 → ⊥
+twin_taken_twice cells p = omega (arith, p.back 1 (omega arith) (omega arith))

@@ -1,5 +1,5 @@
 -- The lists of a map as one row of entries, as a pass over it sees them: entry d is the head of dart number d.
-use Rattle.std.specs.Prelude.{ℕ, ◌<◌, ◌≤◌, ◌≡◌, ◌≢◌, List, length, slice_index, slice_index_or}
+use Rattle.std.specs.Prelude.{ℕ, ◌+◌, ◌*◌, ◌<◌, ◌≤◌, ◌≡◌, ◌≢◌, List, length, slice_index, slice_index_or}
 
 -- the entries from start on and before end hold no number twice, and not v
 pub record IsSimpleList (entries : List ℕ) (start end v : ℕ) : Type 0 where
@@ -22,3 +22,17 @@ AreMutual entries tails twins n =
 -- each of the first n slots is made for its place
 pub record AreInLine {P : Type 0} (IsInLine : P → ℕ → Type 0) (slots : List P) (n : ℕ) : Type 0 where
   pub at : (d : ℕ) (none : P) → d < n → d < length slots → IsInLine (slice_index_or slots d none) d
+
+-- the darts from start on and before end leave v; those before are as they were
+pub record AreTailsPut (tails tails' : List ℕ) (start end v : ℕ) : Type 0 where
+  pub kept : (d : ℕ) → d < start → slice_index tails' d ≡ slice_index tails d
+  pub here : (d : ℕ) → start ≤ d → d < end → slice_index tails' d ≡ v
+
+-- The first k darts lead from one of n vertices to another. Each of them has, where its twin is known, one of them for a twin,
+-- of which it is the twin itself. The cells of a vertex are 64 in a row; a dart to a greater one has its place in that of its ends.
+pub record ArePairedTo (entries tails twins cells : List ℕ) (n k : ℕ) : Type 0 where
+  pub in_range : (d : ℕ) → d < k → slice_index entries d < n
+  pub no_loop : (d : ℕ) → d < k → slice_index entries d ≢ slice_index tails d
+  pub pairs : AreMutual entries tails twins k
+  pub back : (d : ℕ) → d < k → slice_index twins d < 16777216 → slice_index twins (slice_index twins d) ≡ d
+  pub cell : (d : ℕ) → d < k → slice_index tails d < slice_index entries d → slice_index twins d < 16777216 → slice_index cells (64 * slice_index tails d + slice_index entries d) ≡ d

@@ -5,6 +5,7 @@ mod fault;
 mod faults;
 mod laws;
 mod one_sided;
+mod pairs;
 mod pass;
 mod searched;
 mod slots;

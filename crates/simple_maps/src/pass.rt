@@ -51,7 +51,7 @@ fn are_below(entries: &[u16], n: usize) -> bool
 }
 
 // Says whether all darts have a twin.
-fn are_paired(twins: &[u32]) -> bool
+pub(crate) fn are_paired(twins: &[u32]) -> bool
     ensures { OnTrue result (All (λ t. t < 16777216) twins.now) }
 {
     let mut joined = 0;
@@ -135,8 +135,16 @@ impl ListPart<'_> {
     }
 }
 
-// Says whether lists are found to be a simple map, and then finds the tails and the twins of their darts. No thread is
-// known before: each of `newest` is `NO_PLACE`.
+// Takes off the threads of all heads.
+fn unthread(newest: &mut [u32])
+    ensures { All (λ m. 16777216 ≤ m) newest.new }
+{
+    for v in 0..newest.len() {
+        newest[v] = NO_PLACE;
+    }
+}
+
+// Says whether lists are found to be a simple map, and then finds the tails and the twins of their darts.
 #[inline(never)]
 pub(crate) fn finds_twins(
     lists: &Rotations,
@@ -149,7 +157,6 @@ pub(crate) fn finds_twins(
     requires tails { length tails.old ≡ length (joined lists.now) }
     requires twins { length twins.old ≡ length (joined lists.now) }
     requires newest { length newest.old ≡ length lists.now }
-    requires unset { All (λ m. 16777216 ≤ m) newest.old }
     ensures { OnTrue result (AreSlots lists.now tails.new twins.new) }
 {
     lists.facts();
@@ -158,6 +165,7 @@ pub(crate) fn finds_twins(
     if !are_below(entries, ends.len()) {
         return false;
     }
+    unthread(newest);
     let mut start = 0;
     for v in 0..ends.len() {
         let end = ends[v];

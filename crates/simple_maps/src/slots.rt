@@ -1,11 +1,14 @@
 //! The tails and twins of the darts of a simple map, as tables or as slots, or the first fault of other lists.
-ghost use Rattle.std.specs.Prelude.{◌≡◌, ◌<◌, ℕ, length, map, slice_index, OnOk, IfErr};
+ghost use Rattle.std.specs.Prelude.{◌≡◌, ◌<◌, ◌≤◌, ℕ, length, map, slice_index, OnOk, IfOk, IfErr};
+ghost use Rattle.std.specs.Bool.{OnTrue};
+ghost use Rattle.map_lists.specs.Cuts.{joined};
 ghost use Rattle.simple_maps.specs.Faults.{first_fault};
 ghost use Rattle.simple_maps.specs.MapFault.{Names};
 ghost use Rattle.simple_maps.specs.Tables.{AreSlots};
 ghost use Rattle.simple_maps.specs.Pass.{AreInLine};
 
 use crate::MapFault;
+use crate::pairs::{FEW, pairs_twins};
 use crate::pass::{DartSlot, NO_PLACE, finds_twins};
 use crate::searched::searched_twins;
 use map_lists::Rotations;
@@ -27,6 +30,40 @@ fn has_long_list(lists: &Rotations) -> bool {
         start = *end;
     }
     false
+}
+
+// Makes room for so many entries.
+fn grow(threads: &mut Vec<u32>, count: usize) -> Result<(), AllocError>
+    ensures { OnOk result (count ≤ length threads.new.items) }
+{
+    if threads.len() < count {
+        threads.resize(count, 0)?;
+    }
+    Ok(())
+}
+
+// Says whether lists are found to be a simple map by one pass over them, and then finds the tails and the twins of their
+// darts.
+#[inline(always)]
+fn passes(
+    lists: &Rotations,
+    tails: &mut [u16],
+    twins: &mut [u32],
+    threads: &mut Vec<u32>,
+) -> Result<bool, AllocError>
+    requires some_list { 0 < length lists.now }
+    requires few { length (joined lists.now) < 16777216 }
+    requires tails { length tails.old ≡ length (joined lists.now) }
+    requires twins { length twins.old ≡ length (joined lists.now) }
+    ensures { IfOk result (λ found. OnTrue found (AreSlots lists.now tails.new twins.new)) }
+{
+    let n = lists.len();
+    if n <= FEW {
+        grow(threads, FEW * n)?;
+        return Ok(pairs_twins(lists, tails, twins, threads));
+    }
+    grow(threads, n)?;
+    Ok(finds_twins(lists, tails, twins, &mut threads[..n]))
 }
 
 /// Makes `tails` and `twins` those of the darts of lists, which are from 1 to 4095, or returns the first
@@ -51,9 +88,7 @@ pub fn fill_twins(
     if count < NO_PLACE as usize && !has_long_list(lists) {
         tails.resize(count, 0)?;
         twins.resize(count, 0)?;
-        threads.clear();
-        threads.resize(lists.len(), NO_PLACE)?;
-        if finds_twins(lists, tails, twins, threads) {
+        if passes(lists, tails, twins, threads)? {
             return Ok(());
         }
     }
