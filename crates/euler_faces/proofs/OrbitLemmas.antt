@@ -1,10 +1,11 @@
 -- A walk along a face by the numbers of darts, which overwrites the twins that it has read.
-use Rattle.std.proofs.Common.{◌≡◌, ◌≢◌, ℕ, ◌+◌, ◌<◌, false, cond, eqb, List, ◌∷◌, length, get_or, set, slice_get, Some, sym, ap, ap₂, ◌∙◌, subst, inl, inr, arith, get_or-set_same, get_or-set_other}
+use Rattle.std.proofs.Common.{◌≡◌, ◌≢◌, ℕ, zero, suc, ◌+◌, ◌<◌, ◌≤◌, Bool, false, ◌||◌, refl, cond, eqb, List, ◌∷◌, length, get_or, set, slice_get, Some, sym, ap, ap₂, ◌∙◌, subst, inl, inr, arith, get_or-set_same, get_or-set_other}
 use Rattle.std.proofs.lemmas.Bool.{cases_eq, eq-eqb, ne_eqb}
 use Rattle.std.proofs.lemmas.Bool.Decides.{nat_tests}
 use Rattle.std.proofs.lemmas.Option.{slice_get_within, get_or_from_slice_get}
-use Rattle.classes.specs.Classes.{image}
-use Rattle.classes.proofs.Marks.{SetsMark}
+use Rattle.classes.specs.Classes.{image, label, count_below, class_count, same_class}
+use Rattle.classes.proofs.Classes.{IsLabels}
+use Rattle.classes.proofs.Marks.{SetsMark, IsCounting, IsCounting-new}
 use Rattle.map_lists.specs.Lists.{Lists}
 use Rattle.map_lists.specs.Cuts.{cut, AreCuts}
 use Rattle.map_lists.proofs.CutLemmas.{length-cut}
@@ -100,3 +101,18 @@ module _ (ends entries : List ℕ) (cuts : AreCuts 0 ends (length entries)) (sim
       → (get_or entries d 0 < length ends) × (get_or twins d 0 < length entries) × (cond (eqb (get_or twins d 0 + 1) (get_or ends (get_or entries d 0) 0)) (get_or (0 ∷ ends) (get_or entries d 0) 0) (get_or twins d 0 + 1) ≡ image (face_images (cut 0 ends entries)) d)
   twin_step twins are d l =
       step-is d (get_or twins d 0) l (are.at d (omega (arith, l, length-darts (cut 0 ends entries), count-is ends entries cuts)))
+
+-- a count of numbers grows with the numbers
+count_below-grows : (p : ℕ → Bool) (i n : ℕ) → i ≤ n → count_below p i ≤ count_below p n
+count_below-grows p i zero l = let e : i ≡ 0 = omega arith in rw e (omega arith)
+count_below-grows p i (suc n) l =
+    elim (cases_eq i (suc n)) [
+      | inl e ↦ rw e (omega arith)
+      | inr ne ↦ omega (arith, count_below-grows p i n (omega arith))
+    ]
+
+-- where the least number of a class that is not counted would be the last that there can be, it is the last
+pub IsCounting-last : (labels : List ℕ) (marked : ℕ → Bool) (count i most : ℕ) → IsLabels labels → IsCounting labels marked count i → i < length labels → marked i ≡ false → class_count labels ≤ most → count + 1 ≡ most → count + 1 ≡ class_count labels
+IsCounting-last labels marked count i most w h l off bound e =
+    let next = IsCounting-new labels marked (λ y. marked y || same_class labels i y) count i (i + 1) w h l off (λ y m. refl) refl in
+    omega (arith, next.counted, count_below-grows (λ j. eqb (label labels j) j) (i + 1) (length labels) (omega arith))

@@ -69,8 +69,9 @@ pub fn euler_by_twins(lists: &Rotations, twins: &mut [u32], components: u16) -> 
 {
     let map = stored(lists);
     map.facts();
-    let orbits = map.count_orbits(twins);
     let isolated = map.count_isolated(components);
+    let most = map.most_orbits(components, isolated);
+    let orbits = map.count_orbits(twins, most);
     EulerCount {
         n: map.ends.len() as u32,
         m: (map.entries.len() / 2) as u32,

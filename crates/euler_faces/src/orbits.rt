@@ -64,11 +64,26 @@ impl StoredMap<'_> {
         true
     }
 
-    // Counts the orbits of the face step by the twins of the darts: a third of the darts where all faces are found to be
-    // triangles, and else by a walk along each, which overwrites the twins.
+    // Returns how many orbits of the face step there are at most, by the Euler bound. The components and the isolated vertices
+    // are counted.
     #[inline(always)]
-    pub(crate) fn count_orbits(&self, twins: &mut [u32]) -> u32
-        requires { AreTwins (darts (lists_of self.now)) twins.old (length (darts (lists_of self.now))) }
+    pub(crate) fn most_orbits(&self, components: u16, isolated: u32) -> u32
+        requires components { components ≡ component_count (lists_of self.now) }
+        requires isolated { isolated ≡ isolated_count (lists_of self.now) }
+        ensures { class_count (face_classes (lists_of self.now)) ≤ result }
+    {
+        self.facts();
+        let edges = (self.entries.len() / 2) as u32;
+        2 * components as u32 + edges - (self.ends.len() as u32 + isolated)
+    }
+
+    // Counts the orbits of the face step, which are at most `most`, by the twins of the darts: a third of the darts where all
+    // faces are found to be triangles, and else by a walk along each, which overwrites the twins. The last of so many is not
+    // walked.
+    #[inline(always)]
+    pub(crate) fn count_orbits(&self, twins: &mut [u32], most: u32) -> u32
+        requires twins { AreTwins (darts (lists_of self.now)) twins.old (length (darts (lists_of self.now))) }
+        requires most { class_count (face_classes (lists_of self.now)) ≤ most }
         ensures count { result ≡ class_count (face_classes (lists_of self.now)) }
         ensures few { result ≤ length self.now.entries.now }
     {
@@ -79,8 +94,11 @@ impl StoredMap<'_> {
         let mut count = 0;
         for d in 0..self.entries.len() {
             if twins[d] != WALKED {
-                self.walk_face(twins, d);
                 count += 1;
+                if count == most {
+                    return count;
+                }
+                self.walk_face(twins, d);
             }
         }
         count

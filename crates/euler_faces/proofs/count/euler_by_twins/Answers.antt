@@ -31,8 +31,8 @@ invariant_of-result c =
       even = omega (arith, bound.1);
     }
 
-pub count_orbits-orbits-requires : goal.count_orbits-orbits-requires
-count_orbits-orbits-requires c = rw c.stored-map.ensures c.requires.twins
+pub count_orbits-orbits-requires-clause-twins : goal.count_orbits-orbits-requires-clause-twins
+count_orbits-orbits-requires-clause-twins c = rw c.stored-map.ensures c.requires.twins
 
 pub count_isolated-isolated-requires : goal.count_isolated-isolated-requires
 count_isolated-isolated-requires c = rw c.stored-map.ensures c.requires.components
