@@ -5,8 +5,8 @@ pub mod MarkLemmas
 pub mod LineLemmas
 pub mod PassLemmas
 pub mod PassedLemmas
-pub mod PairLemmas
 pub mod TableLemmas
 pub mod TwinLemmas
 pub mod FirstFaults
+mod PairLemmas
 mod Refused

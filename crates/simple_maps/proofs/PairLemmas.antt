@@ -10,7 +10,7 @@ use Rattle.simple_maps.proofs.FlatLemmas.{last-is}
 use Rattle.simple_maps.proofs.PassedLemmas.{HasPassed, AreSlots-passed}
 
 -- dart d leaves v, and the tails before are as they were
-module _ (entries tails twins cells tails' : List ℕ) (n start d v : ℕ) (h : ArePairedTo entries tails twins cells n d) (below : (y : ℕ) → y < start → get_or tails y 0 < v) (here : (y : ℕ) → start ≤ y → y < d → get_or tails y 0 ≡ v) (own : get_or tails' d 0 ≡ v) (kept : (y : ℕ) → y ≢ d → get_or tails' y 0 ≡ get_or tails y 0) where
+module _ (entries tails twins cells tails' : List ℕ) (n start d v : ℕ) (h : ArePairedTo entries tails twins cells n d) (below : (y : ℕ) → y < start → get_or tails y 0 < v) (own : get_or tails' d 0 ≡ v) (kept : (y : ℕ) → y ≢ d → get_or tails' y 0 ≡ get_or tails y 0) where
   -- it leads back, along dart t, whose place was left
   module _ (twins' : List ℕ) (t : ℕ) (before : t < start) (start_le : start ≤ d) (tail : get_or tails' t 0 ≡ get_or entries d 0) (head : get_or entries t 0 ≡ v) (unset : get_or twins t 0 ≡ 16777216) (left : get_or cells (64 * get_or entries d 0 + v) 0 ≡ t) (at_d : get_or twins' d 0 ≡ t) (at_t : get_or twins' t 0 ≡ d) (twins_kept : (y : ℕ) → y ≢ d → y ≢ t → get_or twins' y 0 ≡ get_or twins y 0) (few : d < 16777216) (in_range : v < n) where
     IsTwin : ℕ → Type 0
@@ -80,7 +80,7 @@ module _ (entries old tails twins cells : List ℕ) (n start d v : ℕ) (h : Are
   ArePairedTo-back t before tail head unset left few =
       let ne : d ≢ t = omega arith in
       let in_set : t < length (set twins d t) = omega (arith, length-set twins d t) in
-      ArePairedTo-pair entries tails twins cells (set tails d v) n start d v h before_start put.here (get_or-set_same tails d v 0 in_tails) (λ y ne. get_or-set_other tails d y v 0 ne)
+      ArePairedTo-pair entries tails twins cells (set tails d v) n start d v h before_start (get_or-set_same tails d v 0 in_tails) (λ y ne. get_or-set_other tails d y v 0 ne)
       (set (set twins d t) t d) t before start_le tail head unset left (get_or-set_other (set twins d t) t d d 0 ne ∙ get_or-set_same twins d t 0 in_twins) (get_or-set_same (set twins d t) t d 0 in_set) (λ y a b. get_or-set_other (set twins d t) t y d 0 b ∙ get_or-set_other twins d y t 0 a) few in_range
 
 -- The lists before v were gone over, and the next one begins at start.
