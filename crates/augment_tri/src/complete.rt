@@ -1,4 +1,5 @@
-//! Maps with edges put in until all faces are triangles.
+//! The public calls that complete a map to a triangulation: its components are joined, then faces are cut into
+//! triangles.
 ghost use Rattle.std.specs.Prelude.{◌≡◌, ◌≤◌, ℕ, Some, IfOk, IfErr, OnOk, OnErr};
 ghost use Rattle.map_theory.specs.Maps.{IsPlane, vertex_count};
 ghost use Rattle.plane_laws.specs.Triangulations.{IsTriangulation};
@@ -12,8 +13,8 @@ use conn_parts::{Parts, components};
 use half_edges::HalfMap;
 use std::alloc::{AllocError, Global};
 
-/// The map, which has genus zero and at least three vertices, with edges put in until there are 3n - 6:
-/// its components are joined, and then ears of faces that are no triangles are cut.
+/// Returns `map`, of genus zero with at least three vertices, with edges added until there are 3n - 6. Its components
+/// are joined first, and then ears of faces that are no triangles are cut.
 ///
 /// Each old list is the new one without what is new in it, and all old darts keep their ids. When memory
 /// runs out the map is handed back as it was. The time is linear in the vertices and edges: whether two
@@ -33,7 +34,7 @@ pub fn triangulate(alloc: Global, map: HalfMap) -> Result<HalfMap, (HalfMap, All
     }
 }
 
-/// Like [`triangulate`], but takes the components of `map` as `parts` instead of finding them.
+/// Completes `map` as [`triangulate`] does, by its components `parts` instead of finding them.
 pub fn triangulate_parts(map: HalfMap, parts: &Parts) -> Result<HalfMap, (HalfMap, AllocError)>
     requires plane { IsPlane map.lists }
     requires some { 3 ≤ vertex_count map.lists }
@@ -51,7 +52,7 @@ pub fn triangulate_parts(map: HalfMap, parts: &Parts) -> Result<HalfMap, (HalfMa
     }
 }
 
-/// Completes a map as [`triangulate_parts`] does, where it stands.
+/// Completes `map` in place as [`triangulate_parts`] does, by its components `parts`. It fails only when out of memory.
 #[inline(always)]
 pub fn complete_parts(map: &mut HalfMap, parts: &Parts) -> Result<(), AllocError>
     requires plane { IsPlane map.old.lists }

@@ -1,4 +1,4 @@
-//! Ears of faces, found and cut.
+//! Ears of faces: finds a corner of a face that is no triangle where an edge may be added, and cuts it off.
 ghost use Rattle.std.specs.Prelude.{◌≡◌, ◌+◌, ◌<◌, ◌≤◌, ◌⊎◌, ◌↔◌, ◌==◌, if◌then◌else◌, ℕ, Some, IsTrue, MatchBool};
 ghost use Rattle.map_theory.specs.Maps.{IsPlane, vertex_count, follows};
 ghost use Rattle.plane_laws.specs.Laws.{IsTriangle};
@@ -8,7 +8,7 @@ ghost use Rattle.augment_tri.specs.Growing.{IsCovered, IsCutEar, IsFillable, IsG
 
 use half_edges::{Corner, DartId, HalfMap, VertexId};
 
-// Whether the face of a dart is a triangle: three steps lead back.
+// Says whether the face of dart `d` is a triangle: three face steps from `d` lead back to it.
 pub(crate) fn is_triangle(map: &HalfMap, d: DartId) -> bool
     requires { IsLive map.now d.0 }
     ensures { (a b : ℕ) → dart_at map.now d.0 ≡ Some (a, b) → IsTrue result ↔ IsTriangle map.now.lists (a, b) }
@@ -18,7 +18,7 @@ pub(crate) fn is_triangle(map: &HalfMap, d: DartId) -> bool
     third.0 == d.0
 }
 
-// Whether an edge may be put between two vertices. It goes over the list of `u`.
+// Says whether `u` and `v` are distinct and not adjacent, so that an edge may join them. It searches the list of `u`.
 fn can_join(map: &HalfMap, u: VertexId, v: VertexId) -> bool
     requires u_in { u.0 < vertex_count map.now.lists }
     requires v_in { v.0 < vertex_count map.now.lists }
@@ -34,7 +34,7 @@ fn can_join(map: &HalfMap, u: VertexId, v: VertexId) -> bool
     }
 }
 
-// Names the vertices of three darts in a row along a face of a map: from a to b, on to c, and on to x.
+// Four consecutive vertices along a face of `map`, from `a` over `b` and `c` to `x`.
 #[derive(Clone, Copy)]
 struct Row<'a> {
     map: &'a HalfMap,
@@ -49,8 +49,8 @@ struct Row<'a> {
 }
 
 impl Row<'_> {
-    // Says whether an edge may be put between a and c, where one may be between these or between b and x. It goes over
-    // the shorter one of the lists of b and c.
+    // Says whether an edge may join `a` and `c`, given that one may join these or `b` and `x`. It searches the shorter
+    // one of the lists of `b` and `c`.
     fn is_first(&self) -> bool
         requires { CanJoin self.now.map.now.lists self.now.a.0 self.now.c.0 ⊎ CanJoin self.now.map.now.lists self.now.b.0 self.now.x.0 }
         ensures { MatchBool result (CanJoin self.now.map.now.lists self.now.a.0 self.now.c.0) (CanJoin self.now.map.now.lists self.now.b.0 self.now.x.0) }
@@ -65,7 +65,7 @@ impl Row<'_> {
     }
 }
 
-// A dart with an ear: d, whose face is no triangle, or one of the next two along it.
+// Returns the first dart of an ear of the face of `d`, which is no triangle: `d` itself or one of the next two darts.
 fn ear_near(map: &HalfMap, d: DartId) -> DartId
     requires fillable { IsFillable map.now }
     requires live { IsLive map.now d.0 }
@@ -88,7 +88,8 @@ fn ear_near(map: &HalfMap, d: DartId) -> DartId
     }
 }
 
-// Cuts the ear at a dart, from a to b and on to c: answers the new dart, from a to c.
+// Cuts off the ear that begins at dart `d`, from a to b and on to c, by an edge added to `map`. Returns the new dart
+// from a to c.
 fn cut_ear(map: &mut HalfMap, d: DartId) -> DartId
     requires spare { 1 ≤ map.old.spare }
     requires live { IsLive map.old d.0 }
@@ -106,15 +107,15 @@ fn cut_ear(map: &mut HalfMap, d: DartId) -> DartId
     map.add_edge(Corner::After(before), Corner::After(back))
 }
 
-// The dart at which to go on, where the ear near `d` was at `ear` and `new` was put in.
+// Returns the dart at which to continue with the face of `d` after its ear at dart `ear` was cut by dart `new`.
 fn next_at(d: DartId, ear: DartId, new: DartId) -> DartId
     ensures { result.0 ≡ (if ear.0 == d.0 then new.0 else d.0) }
 {
     if ear.0 == d.0 { new } else { d }
 }
 
-// Cuts an ear near a dart whose face is no triangle, and answers the dart at which to go on: the new one,
-// where the ear was at the dart itself.
+// Cuts an ear off the face of `d`, which is no triangle, by an edge added to `map`. Returns the dart at which to
+// continue: the new one, where the ear began at `d` itself.
 pub(crate) fn cut_near(map: &mut HalfMap, d: DartId) -> DartId
     requires fillable { IsFillable map.old }
     requires live { IsLive map.old d.0 }

@@ -1,4 +1,4 @@
-//! Faces filled with triangles.
+//! Fills all faces of a connected map with triangles, by cutting ears.
 ghost use Rattle.std.specs.Prelude.{◌≡◌, ◌+◌, ◌*◌, ℕ, Some};
 ghost use Rattle.map_theory.specs.Maps.{edge_count, vertex_count};
 ghost use Rattle.half_edges.specs.Map.{Map, IsLive, dart_at};
@@ -7,7 +7,7 @@ ghost use Rattle.augment_tri.specs.Growing.{IsCovered, IsFillable, IsFilled, IsG
 use crate::ears::{cut_near, is_triangle};
 use half_edges::{DartId, HalfMap};
 
-// Cuts ears until the face of a dart is a triangle, and so is all that was cut from it.
+// Cuts ears off the face of dart `d`, by edges added to `map`, until all its parts are triangles.
 fn fill_face(map: &mut HalfMap, d: DartId)
     requires fillable { IsFillable map.old }
     requires live { IsLive map.old d.0 }
@@ -22,7 +22,7 @@ fn fill_face(map: &mut HalfMap, d: DartId)
     }
 }
 
-// Fills all faces of a connected map, until it has as many edges as a triangulation.
+// Adds edges to the connected `map`, face by face, until it has 3n - 6 of them and all faces are triangles.
 pub(crate) fn fill(map: &mut HalfMap)
     requires { IsFillable map.old }
     ensures fillable { IsFillable map.new }

@@ -1,4 +1,4 @@
-//! Components joined by edges.
+//! Joins the components of a map by edges, so that it becomes connected.
 ghost use Rattle.std.specs.Prelude.{◌≡◌, ◌≢◌, ◌+◌, ◌<◌, ◌≤◌, ℕ, length};
 ghost use Rattle.map_theory.specs.Maps.{HasDart, vertex_count, component_count};
 ghost use Rattle.half_edges.specs.Map.{IsHalfMap, dart_at};
@@ -8,7 +8,8 @@ ghost use Rattle.augment_tri.specs.Growing.{IsCornerOf, IsPutIn, IsRoomy, IsGrow
 use conn_parts::Parts;
 use half_edges::{Corner, HalfMap, VertexId};
 
-// A corner of a vertex: the one after its first entry, if it has any.
+// Returns a corner of `v` at which an edge may be added: the one after its first dart, or the only one where it has no
+// dart.
 fn corner_of(map: &HalfMap, v: VertexId) -> Corner
     requires { v.0 < vertex_count map.now.lists }
     ensures { IsCornerOf map.now result v.0 }
@@ -19,7 +20,7 @@ fn corner_of(map: &HalfMap, v: VertexId) -> Corner
     }
 }
 
-// Puts an edge between two vertices that are not adjacent.
+// Adds an edge between `u` and `v`, which are not adjacent, to `map`.
 fn join(map: &mut HalfMap, u: VertexId, v: VertexId)
     requires spare { 1 ≤ map.old.spare }
     requires u_in { u.0 < vertex_count map.old.lists }
@@ -36,7 +37,7 @@ fn join(map: &mut HalfMap, u: VertexId, v: VertexId)
     map.add_edge(at_u, at_v);
 }
 
-// Joins vertex 0 to the least vertex of each other component.
+// Adds to `map` an edge from vertex 0 to the least vertex of each other component; `parts` has the components of `map`.
 pub(crate) fn join_parts(map: &mut HalfMap, parts: &Parts)
     requires roomy { IsRoomy map.old }
     requires parts { ArePartsOf map.old.lists parts.now }

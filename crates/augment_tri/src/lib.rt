@@ -1,4 +1,4 @@
-//! Maps of genus zero completed to triangulations, by edges that are put in.
+//! Completes maps of genus zero to triangulations by adding edges.
 #![tactic(auto)]
 
 mod complete;

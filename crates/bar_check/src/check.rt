@@ -1,4 +1,5 @@
-//! The check of a visibility drawing.
+//! The public call `check_bars`, which finds the first fault of a visibility drawing, and its stages with tables of
+//! fixed size.
 ghost use Rattle.std.specs.Prelude.{◌≡◌, ◌<◌, ◌≤◌, length, MatchOption};
 ghost use Rattle.map_theory.specs.Maps.{edge_count};
 ghost use Rattle.bar_check.specs.Bars.{HasBars, IsValidBars};
@@ -12,7 +13,7 @@ use half_edges::HalfMap;
 use pg_plane::BarFigure;
 
 impl Drawing<'_> {
-    // Returns the first fault of a list.
+    // Returns `Turned` for the least vertex whose list is not in the order of its edges, or `Yes` where there is none.
     fn first_of_turns(&self) -> BarVerdict
         requires through { NoneThrough self.now.map.now.lists self.now.fig.now }
         ensures { IsBarVerdict self.now.map.now.lists self.now.fig.now self.now.width result }
@@ -24,8 +25,8 @@ impl Drawing<'_> {
         }
     }
 
-    // Finds the first fault of an edge with a bar in its way or of a list, in tables of `MOST` vertices and of `COLUMNS`
-    // columns, which are `BLOCKS` blocks of 16 and `SUPERBLOCKS` superblocks of 256.
+    // Returns the first fault of an edge with a bar in its way or of a list, for `n` vertices. The tables have room for
+    // `MOST` vertices, `COLUMNS` columns, `BLOCKS` blocks of 16 columns and `SUPERBLOCKS` superblocks of 256.
     fn first_fault_of<
         const MOST: usize,
         const COLUMNS: usize,
@@ -51,8 +52,8 @@ impl Drawing<'_> {
 }
 
 impl Ordered<'_> {
-    // Finds the first fault of an edge with a bar in its way or of a list, in tables of `COLUMNS` columns and `DARTS`
-    // darts.
+    // Returns the first edge with a bar in its way, found by the exact sweep, or else the first fault of a list. The
+    // tables have room for `COLUMNS` columns and `DARTS` darts.
     fn first_struck_of<const COLUMNS: usize, const DARTS: usize>(&self) -> BarVerdict
         requires room { (COLUMNS < 65536) × (DARTS < 65536) }
         ensures { IsBarVerdict self.now.drawing.map.now.lists self.now.drawing.fig.now self.now.drawing.width result }
@@ -66,8 +67,8 @@ impl Ordered<'_> {
         }
     }
 
-    // Returns the first fault of an edge with a bar in its way or of a list, with room for a number at each column, each
-    // block and each superblock. The exact search comes only where the quick sweep does not pass.
+    // Returns the first fault of an edge with a bar in its way or of a list. The tables `peaks`, `blocks` and
+    // `superblocks` are room for the quick sweep; only where that does not pass, the exact one follows.
     fn first_fault(
         &self,
         peaks: &mut [i32],
@@ -92,8 +93,9 @@ impl Ordered<'_> {
 }
 
 impl Bars<'_> {
-    // Finds the first fault of an edge or of a list, in tables of `MOST` vertices, `COLUMNS` columns, which are
-    // `BLOCKS` blocks of 16 and `SUPERBLOCKS` superblocks of 256, and `DARTS` darts.
+    // Returns the first fault of a column, of an edge with a bar in its way or of a list, for `n` vertices. The tables
+    // have room for `MOST` vertices, `COLUMNS` columns, `BLOCKS` blocks of 16, `SUPERBLOCKS` superblocks of 256 and
+    // `DARTS` darts.
     fn first_fault_of<
         const MOST: usize,
         const COLUMNS: usize,
@@ -121,7 +123,8 @@ impl Bars<'_> {
         }
     }
 
-    // Returns the first fault of an edge or of a list.
+    // Returns the first fault of a column, of an edge with a bar in its way or of a list. The tables are sized for 63,
+    // 255 or 4095 vertices.
     fn first_fault(&self) -> BarVerdict
         ensures { IsBarVerdict self.now.map.now.lists self.now.fig.now self.now.width result }
     {

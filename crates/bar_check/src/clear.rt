@@ -1,5 +1,5 @@
-//! A sweep over the bars from below, that marks edges with no bar in their way. It keeps for each column the
-//! highest bar so far that holds it: an edge whose column shows its lower end is clear.
+//! The exact sweep over the bars from below, which marks the edges that have no bar in their way. It keeps for each
+//! column the highest bar so far that holds it: an edge whose column shows its lower end is clear.
 ghost use Rattle.std.specs.Prelude.{◌≡◌, ◌⊎◌, ◌+◌, ◌<◌, ◌≤◌, ◌≤ℤ◌, ℕ, true, false, length, slice_index, slice_index_or, pos, Some, IsTrue};
 ghost use Rattle.std.specs.Bool.{OnTrue};
 ghost use Rattle.half_edges.specs.Map.{IsLive, dart_at, first_dart};
@@ -14,7 +14,7 @@ use half_edges::{DartId, HalfMap, VertexId};
 use pg_plane::BarFigure;
 use vertex_rounds::later_dart;
 
-// Writes the vertices in the order of their heights, as far as these are numbers of vertices.
+// Writes into `order` at index h the vertex of height h in `fig`, where h is such an index.
 pub(crate) fn fill_order(fig: &BarFigure, order: &mut [u16])
     requires { length order.old < 4096 }
     ensures { length order.new ≡ length order.old }
@@ -27,7 +27,7 @@ pub(crate) fn fill_order(fig: &BarFigure, order: &mut [u16])
     }
 }
 
-// Marks a dart, where the table reaches so far.
+// Marks dart `d` in `clear`, if the table has an entry for it.
 fn mark(clear: &mut [bool], d: DartId)
     ensures { (e : ℕ) → slice_index_or clear.new e false ≡ true → (e ≡ d.0) ⊎ (slice_index_or clear.old e false ≡ true) }
 {
@@ -36,7 +36,7 @@ fn mark(clear: &mut [bool], d: DartId)
     }
 }
 
-// Writes `top` at the columns from `left` to `right`, where the table reaches so far.
+// Writes `top` into `tops` at the columns from `left` to `right`, both included, as far as the table reaches.
 fn fill_between(tops: &mut [u16], left: usize, right: usize, top: u16)
     requires few { right < 4294967296 }
     ensures size { length tops.new ≡ length tops.old }
@@ -52,7 +52,7 @@ fn fill_between(tops: &mut [u16], left: usize, right: usize, top: u16)
     }
 }
 
-// Returns a number that is not below 0.
+// Converts `z`, which is not negative, to an unsigned number.
 pub(crate) fn natural(z: i32) -> usize
     requires { pos 0 ≤ℤ z }
     ensures value { pos result ≡ z }
@@ -61,21 +61,21 @@ pub(crate) fn natural(z: i32) -> usize
     z as usize
 }
 
-// Says whether `v` is the vertex at height `h`.
+// Says whether `v` is below `n` and has height `h` in `fig`.
 pub(crate) fn stands_at(fig: &BarFigure, n: u16, h: u16, v: VertexId) -> bool
     ensures { OnTrue result (StandsAt n fig.now h v.0) }
 {
     v.0 < n && number(&fig.y, v.0 as usize) == i32::from(h)
 }
 
-// Says whether a dart is marked.
+// Says whether `clear` has an entry for dart `d` that is marked.
 fn is_marked(clear: &[bool], d: DartId) -> bool
     ensures { IsTrue result → slice_index_or clear.now d.0 false ≡ true }
 {
     (d.0 as usize) < clear.len() && clear[d.0 as usize]
 }
 
-// Says whether the edge of a dart is known to have no bar in its way.
+// Says whether `clear` has a mark at a dart of the edge of `d`: that edge is known to have no bar in its way.
 pub(crate) fn is_clear(map: &HalfMap, clear: &[bool], d: DartId) -> bool
     requires live { IsLive map.now d.0 }
     ensures { (fig : Bars) (a b : ℕ) → AreClear map.now fig clear.now → dart_at map.now d.0 ≡ Some (a, b) → HasEdge map.now.lists a b
@@ -86,7 +86,7 @@ pub(crate) fn is_clear(map: &HalfMap, clear: &[bool], d: DartId) -> bool
 }
 
 impl Bar<'_> {
-    // Says whether the bar of `u` is below this one, and the highest of those that hold column `x`.
+    // Says whether the bar of `u` is below this one and, by `tops`, the highest so far that holds column `x`.
     fn is_seen(&self, tops: &[u16], u: VertexId, x: i32) -> bool
         ensures { OnTrue result (IsSeen self.now.drawing.fig.now self.now.h tops.now x u.0) }
     {
@@ -97,8 +97,8 @@ impl Bar<'_> {
             && i32::from(tops[x as usize]) <= height + 1
     }
 
-    // Marks a dart of the vertex, where its edge leads down and no bar is in the way. A dart beyond the tables gets no
-    // mark, so its column is not looked for.
+    // Marks dart `d` of this vertex in `clear`, where its edge leads down and `tops` shows no bar in its way. Darts
+    // beyond the tables get no mark, so their columns are not looked for.
     fn mark_if_seen(&self, tops: &[u16], clear: &mut [bool], d: DartId)
         requires tops { HasTops (length self.now.drawing.map.now.lists) self.now.drawing.fig.now self.now.h tops.now }
         requires live { IsLive self.now.drawing.map.now d.0 }
@@ -115,7 +115,8 @@ impl Bar<'_> {
         }
     }
 
-    // Marks the clear edges that lead down from the vertex.
+    // Marks in `clear` the darts of this vertex whose edges lead down with no bar in their way, by the highest bars
+    // `tops`.
     fn mark_list(&self, tops: &[u16], clear: &mut [bool])
         requires tops { HasTops (length self.now.drawing.map.now.lists) self.now.drawing.fig.now self.now.h tops.now }
         requires clear { AreClear self.now.drawing.map.now self.now.drawing.fig.now clear.old }
@@ -136,7 +137,7 @@ impl Bar<'_> {
         }
     }
 
-    // Makes the bar the highest of the columns that it holds.
+    // Writes this bar into `tops` as the highest one of each column that it holds.
     fn put_top(&self, tops: &mut [u16])
         requires few { self.now.h < 65535 }
         requires tops { HasTops (length self.now.drawing.map.now.lists) self.now.drawing.fig.now self.now.h tops.old }
@@ -150,8 +151,8 @@ impl Bar<'_> {
 }
 
 impl Ordered<'_> {
-    // Marks edges with no bar in their way, by a sweep over the bars in this order as long as it is that of their
-    // heights, with room for the highest bars of columns and no mark yet.
+    // Sweeps over the bars in this order, as long as it is that of their heights, and marks in `clear` the darts of
+    // unblocked edges. `tops` is room for the highest bar of each column; neither table has a mark at first.
     pub(crate) fn fill_clear(&self, tops: &mut [u16], clear: &mut [bool])
         requires none { (d : ℕ) → slice_index_or clear.old d false ≡ false }
         ensures { AreClear self.now.drawing.map.now self.now.drawing.fig.now clear.new }

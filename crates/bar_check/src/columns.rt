@@ -1,4 +1,4 @@
-//! Bars in the way of edges.
+//! Edges that a bar blocks: finds the first edge with a bar in its way, and the least vertex of such a bar.
 ghost use Rattle.std.specs.Prelude.{◌*◌, ◌<◌, ◌≤◌, ◌↔◌, ℕ, length, IsTrue, Some, MatchOption};
 ghost use Rattle.half_edges.specs.Map.{IsLive};
 ghost use Rattle.vertex_rounds.specs.Least.{IsLeast, IsLeastPair, IsLeastTriple};
@@ -17,7 +17,7 @@ use half_edges::{DartId, Ends, VertexId};
 use pg_plane::BarFigure;
 use vertex_rounds::least_head;
 
-// Says whether `v` stands strictly between the heights of `a` and `b`.
+// Says whether the height of `v` lies strictly between those of `a` and `b`.
 fn is_between(fig: &BarFigure, a: VertexId, b: VertexId, v: VertexId) -> bool
     ensures { IsTrue result ↔ IsBetween (number_at fig.now.y a.0) (number_at fig.now.y b.0) (number_at fig.now.y v.0) }
 {
@@ -27,14 +27,14 @@ fn is_between(fig: &BarFigure, a: VertexId, b: VertexId, v: VertexId) -> bool
     (p < z && z < q) || (q < z && z < p)
 }
 
-// Says whether the bar of `v` is in the way of an edge, in column `x`.
+// Says whether the bar of `v` is in the way of edge `e`, which stands in column `x`.
 fn is_struck(fig: &BarFigure, e: Ends, x: i32, v: VertexId) -> bool
     ensures { IsTrue result ↔ IsStruck fig.now e.a.0 e.b.0 x v.0 }
 {
     is_between(fig, e.a, e.b, v) && holds(fig, v, x)
 }
 
-// Returns the least vertex below `n` whose bar is in the way of an edge, in column `x`.
+// Returns the least vertex below `n` whose bar is in the way of edge `e`, which stands in column `x`.
 fn first_struck(fig: &BarFigure, n: u16, e: Ends, x: i32) -> Option<VertexId>
     ensures { MatchOption result ((v : ℕ) → ¬ IsStruckBelow n fig.now e.a.0 e.b.0 x v)
         (λ v. IsLeast (IsStruckBelow n fig.now e.a.0 e.b.0 x) v.0) }
@@ -48,7 +48,7 @@ fn first_struck(fig: &BarFigure, n: u16, e: Ends, x: i32) -> Option<VertexId>
 }
 
 impl LesserEnd<'_> {
-    // Says whether a dart leads from the lesser end to a greater vertex, and a bar is in the way of the edge.
+    // Says whether dart `d` leads from the lesser end to a greater vertex, and some bar is in the way of its edge.
     fn leads_to_blocked(&self, d: DartId) -> bool
         requires live { IsLive self.now.drawing.map.now d.0 }
         ensures { IsTrue result ↔ HoldsAt self.now.drawing.map.now (IsBlockedFrom self.now.drawing.map.now.lists self.now.drawing.fig.now self.now.a.0) d.0 }
@@ -71,7 +71,7 @@ impl LesserEnd<'_> {
 }
 
 impl Drawing<'_> {
-    // Returns the first edge with a bar in its way.
+    // Returns the first edge with a bar in its way; edges marked in `clear` have none.
     fn first_blocked(&self, clear: &[bool]) -> Option<Ends>
         requires clear { AreClear self.now.map.now self.now.fig.now clear.now }
         ensures { MatchOption result ((a b : ℕ) → ¬ IsBlockedEdge self.now.map.now.lists self.now.fig.now a b)
@@ -96,7 +96,8 @@ impl Drawing<'_> {
         None
     }
 
-    // Returns the first edge that goes through a bar, with the least such bar.
+    // Returns the first edge with a bar in its way, and the least vertex of such a bar. Edges marked in `clear` have
+    // none.
     pub(crate) fn first_through(&self, clear: &[bool]) -> Option<(Ends, VertexId)>
         requires clear { AreClear self.now.map.now self.now.fig.now clear.now }
         ensures { MatchOption result (NoneThrough self.now.map.now.lists self.now.fig.now)

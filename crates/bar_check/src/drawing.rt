@@ -1,4 +1,5 @@
-//! The bars of a figure that passed the first tests, and with them the columns of its edges.
+//! The types that the check passes on: the bars of a figure that passed the first tests, and with them the columns of
+//! its edges.
 ghost use Rattle.std.specs.Prelude.{◌≡◌, ◌*◌, ◌<◌, ◌≤◌, length};
 ghost use Rattle.bar_check.specs.Bars.{edges_before};
 ghost use Rattle.bar_check.specs.Verdicts.{HasShape, HasHeights, AreBars, NoBadColumn};
@@ -59,8 +60,8 @@ pub(crate) struct Bar<'a> {
     ghost stands: { StandsAt (length drawing.map.now.lists) drawing.fig.now h v.0 },
 }
 
-/// A vertex as the lesser end of edges, with how many edges have a lesser first end, and marks at darts whose edges have
-/// no bar in their way.
+/// A vertex as the lesser end of edges. It has the number of edges with a lesser first end, and marks at darts whose
+/// edges have no bar in their way.
 #[derive(Clone, Copy)]
 pub(crate) struct LesserEnd<'a> {
     pub(crate) drawing: Drawing<'a>,

@@ -1,4 +1,4 @@
-//! The numbers of edges, by the lesser end and then by the greater.
+//! The index of an edge, by its lesser end and then its greater one, and the column of an edge by that index.
 ghost use Rattle.std.specs.Prelude.{◌≡◌, ◌+◌, ◌*◌, ◌<◌, ◌≤◌, ◌&&◌, nat_lt, ℕ, List, length, take, count_by, slice_index, Some};
 ghost use Rattle.map_theory.specs.Maps.{list_of};
 ghost use Rattle.half_edges.specs.Map.{dart_at, first_dart};
@@ -34,7 +34,7 @@ fn edges_until(map: &HalfMap, v: VertexId, end: u16) -> u32
     }
 }
 
-// Returns how many edges there are with their lesser end below `end`, where `before` have it below `v`.
+// Returns how many edges have a lesser end up to `v`, where `before` of them have it below `v`.
 pub(crate) fn edges_with(map: &HalfMap, v: VertexId, before: u32) -> u32
     requires vertex { v.0 < length map.now.lists }
     requires before { before ≡ the_edges_before map.now.lists v.0 }
@@ -71,7 +71,7 @@ impl Drawing<'_> {
         number(&self.fig.column, edge as usize)
     }
 
-    // Returns the column of the edge from `a` to `b`, its greater end.
+    // Returns the column of the edge from `a` to `b`, its greater end, by counting all edges before it.
     pub(crate) fn column_of(&self, a: VertexId, b: VertexId) -> i32
         requires vertex { a.0 < length self.now.map.now.lists }
         ensures { result ≡ the_column self.now.map.now.lists self.now.fig.now a.0 b.0 }

@@ -1,4 +1,4 @@
-//! Heights and bars, vertex by vertex, and the columns that bars hold.
+//! Tests of heights and bars, vertex by vertex, and whether bars hold a column.
 ghost use Rattle.std.specs.Prelude.{◌≡◌, ◌≢◌, ◌<◌, ◌≤◌, ◌↔◌, ℕ, true, false, length, slice_index_or, pos, IsTrue, MatchOption};
 ghost use Rattle.vertex_rounds.specs.Least.{IsLeast};
 ghost use Rattle.bar_check.specs.Bars.{number_at, Holds, IsBar, IsColumn};
@@ -10,21 +10,21 @@ use crate::drawing::Bars;
 use half_edges::{HalfMap, VertexId};
 use pg_plane::{BarFigure, Ints};
 
-// Returns number `i` of a list, or 0 behind its end.
+// Returns entry `i` of `list`, or 0 behind its end.
 pub(crate) fn number(list: &Ints, i: usize) -> i32
     ensures { result ≡ number_at list.now i }
 {
     if i < list.len() { list.get(i) } else { 0 }
 }
 
-// Says whether `z` is the number of an entry that is not marked.
+// Says whether `z` is the index of an entry of `seen` that is not marked.
 fn is_free(seen: &[bool], z: i32) -> bool
     ensures { IsTrue result ↔ IsFree seen.now z }
 {
     0 <= z && (z as usize) < seen.len() && !seen[z as usize]
 }
 
-// Marks entry `z`.
+// Marks entry `z` of `seen`.
 fn mark(seen: &mut [bool], z: i32)
     requires { IsFree seen.old z }
     ensures size { length seen.new ≡ length seen.old }
@@ -34,7 +34,8 @@ fn mark(seen: &mut [bool], z: i32)
     seen[z as usize] = true;
 }
 
-// Returns the least vertex with a wrong height, with room for a mark at each height.
+// Returns the least vertex whose height in `fig` is out of range or that of a lesser vertex. `seen` has one unset mark
+// for each height.
 fn first_bad_height_in(map: &HalfMap, fig: &BarFigure, seen: &mut [bool]) -> Option<VertexId>
     requires size { length seen.old ≡ length map.now.lists }
     requires none { (k : ℕ) → slice_index_or seen.old k false ≡ false }
@@ -51,7 +52,7 @@ fn first_bad_height_in(map: &HalfMap, fig: &BarFigure, seen: &mut [bool]) -> Opt
     None
 }
 
-// Finds the least vertex with a wrong height, with a mark for each of `MOST` heights.
+// Returns the least of `n` vertices whose height in `fig` is wrong, with marks on the stack for `MOST` heights.
 fn first_bad_height_of<const MOST: usize>(
     map: &HalfMap,
     fig: &BarFigure,
@@ -67,7 +68,7 @@ fn first_bad_height_of<const MOST: usize>(
     first_bad_height_in(map, fig, &mut seen[..n])
 }
 
-// Returns the least vertex with a wrong height.
+// Returns the least vertex whose height in `fig` is not from 0 to n - 1, or is that of a lesser vertex.
 pub(crate) fn first_bad_height(map: &HalfMap, fig: &BarFigure) -> Option<VertexId>
     ensures { MatchOption result (HasHeights map.now.lists fig.now)
         (λ v. IsLeast (HasBadHeight map.now.lists fig.now) v.0) }
@@ -81,7 +82,7 @@ pub(crate) fn first_bad_height(map: &HalfMap, fig: &BarFigure) -> Option<VertexI
     }
 }
 
-// Says whether a bar goes from left to right within the width.
+// Says whether the bar of `v` goes from left to right within the columns 0 to `width`.
 fn is_bar(fig: &BarFigure, width: i32, v: VertexId) -> bool
     ensures { IsTrue result ↔ IsBar fig.now width v.0 }
 {
@@ -90,7 +91,7 @@ fn is_bar(fig: &BarFigure, width: i32, v: VertexId) -> bool
     0 <= left && left <= right && right <= width
 }
 
-// Returns the least vertex with a wrong bar.
+// Returns the least vertex whose bar in `fig` does not go from left to right within the columns 0 to `width`.
 pub(crate) fn first_bad_bar(map: &HalfMap, fig: &BarFigure, width: i32) -> Option<VertexId>
     ensures { MatchOption result (AreBars map.now.lists fig.now width)
         (λ v. IsLeast (HasBadBar map.now.lists fig.now width) v.0) }

@@ -19,23 +19,24 @@ mod verdict;
 pub use check::check_bars;
 pub use verdict::BarVerdict;
 
-/// A verdict is `Yes` exactly where the bars are valid.
+/// States the law that a verdict is `Yes` exactly where the bars are valid.
 pub fn yes_is_valid()
     ensures { YesIsValid }
 {}
 
-/// No verdict on a drawing of a simple map is `Overlap`.
+/// States the law that no verdict on a drawing of a simple map is `Overlap`.
 pub fn overlap_is_never()
     ensures { OverlapIsNever }
 {}
 
-/// The number of an edge, by which its column is found, is its place among the edges of a simple map.
+/// States the law that the number of an edge, by which its column is found, is its index among the edges of a simple
+/// map.
 pub fn edge_numbers()
     ensures { EdgeNumbers }
 {}
 
-/// A list goes once round exactly where, from one of its entries on, it is the upward edges by rising column
-/// and then the downward ones by falling column.
+/// States the law of rotations of bars. A list goes once round exactly where it has a certain order from one of its
+/// entries on. First stand the upward edges by rising column, and then the downward ones by falling column.
 pub fn once_is_in_order()
     ensures { OnceIsInOrder }
 {}

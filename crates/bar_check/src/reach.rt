@@ -1,6 +1,8 @@
-//! A quick sweep over the bars from below. It keeps the peak of each column: how high its edges reach that have begun.
-//! A bar is in the way of no edge where no peak of a column that it holds is above it. The peaks of blocks of 16
-//! columns and of superblocks of 256 are kept too, so that a long bar takes few steps.
+//! The quick sweep over the bars from below, which shows for valid drawings that no bar is in the way of an edge.
+//! It keeps the peak of each column: how high its edges reach that have begun. It keeps the peak of each column: how
+//! high its edges reach that have begun. A bar is in the way of no edge where no peak of a column that it holds is
+//! above it. The peaks of blocks of 16 columns and of superblocks of 256 are kept too, so that a long bar takes few
+//! steps.
 ghost use Rattle.std.specs.Prelude.{◌≡◌, ◌+◌, ◌/◌, ◌<◌, ◌≤◌, ◌≤ℤ◌, ◌<ℤ◌, ◌↔◌, ℕ, length, pos, Some, IsTrue};
 ghost use Rattle.std.specs.Bool.{OnTrue};
 ghost use Rattle.map_theory.specs.Maps.{list_of, place_of};
@@ -17,7 +19,7 @@ use crate::heights::number;
 use half_edges::{DartId, VertexId};
 use vertex_rounds::later_dart;
 
-// Returns the greater of two.
+// Returns the greater of `a` and `b`.
 fn greater(a: i32, b: i32) -> i32
     ensures left { a ≤ℤ result }
     ensures right { b ≤ℤ result }
@@ -25,7 +27,7 @@ fn greater(a: i32, b: i32) -> i32
     if a < b { b } else { a }
 }
 
-// Makes number `i` of a table `y` at least, and says whether the table reaches so far.
+// Raises entry `i` of `table` to at least `y`, and says whether the table has that entry.
 fn raise(table: &mut [i32], i: usize, y: i32) -> bool
     ensures { OnTrue result (IsRaised i y table.old table.new) }
 {
@@ -37,14 +39,14 @@ fn raise(table: &mut [i32], i: usize, y: i32) -> bool
     }
 }
 
-// Says whether number `i` of a table is there and not above `h`.
+// Says whether `table` has an entry `i`, and it is not above `h`.
 fn is_low(table: &[i32], i: usize, h: u16) -> bool
     ensures { OnTrue result (number_at table.now i ≤ℤ pos h) }
 {
     i < table.len() && table[i] <= i32::from(h)
 }
 
-// Returns the first place from `k` on and before `end` where a number of a table is above `h`; or `end`.
+// Returns the first index from `k` on and before `end` whose entry of `table` is above `h` or missing; or `end`.
 fn low_until(table: &[i32], h: u16, k: usize, end: usize) -> usize
     ensures low { (x : ℕ) → k ≤ x → x < result → number_at table.now x ≤ℤ pos h }
     ensures few { (most : ℕ) → k ≤ most → end ≤ most → result ≤ most }
@@ -56,7 +58,8 @@ fn low_until(table: &[i32], h: u16, k: usize, end: usize) -> usize
     at
 }
 
-// The peaks of columns, of blocks and of superblocks, as a bar meets them.
+// The peaks of columns, of blocks of 16 columns and of superblocks of 256: the greatest heights that edges begun there
+// reach.
 #[derive(Clone, Copy)]
 struct Peaks<'a> {
     columns: &'a [i32],
@@ -65,8 +68,7 @@ struct Peaks<'a> {
 }
 
 impl Peaks<'_> {
-    // Returns a place up to which no edge of the columns from `k` on reaches above `h`, in steps of whole blocks where
-    // these begin at `k`, and else up to the end of its block of 16 at most.
+    // Returns a column up to which no edge of the columns from `k` on reaches above `h`.
     fn passed_to(&self, h: u16, k: usize, right: usize) -> usize
         requires k { k < 4294967296 }
         requires right { right < 4294967296 }
@@ -88,7 +90,8 @@ impl Peaks<'_> {
 }
 
 impl Bar<'_> {
-    // Notes the edge of a dart of the vertex, where it leads up, and says whether the tables reach so far.
+    // Raises the peaks at the column of the edge of dart `d`, where it leads up from this vertex. Returns false where a
+    // table has no entry for it.
     fn begin_if_up(
         &self,
         peaks: &mut [i32],
@@ -117,7 +120,8 @@ impl Bar<'_> {
         raise(peaks, k, y) && raise(blocks, k / 16, y) && raise(superblocks, k / 256, y)
     }
 
-    // Notes the edges that lead up from the vertex, and says whether the tables reach so far.
+    // Raises the peaks at the columns of the edges that lead up from this vertex. Returns false where a table has no
+    // entry for one.
     fn begin_edges(&self, peaks: &mut [i32], blocks: &mut [i32], superblocks: &mut [i32]) -> bool
         requires reach { HasReach self.now.drawing.map.now.lists self.now.drawing.fig.now (IsBegun self.now.drawing.map.now.lists self.now.drawing.fig.now self.now.h self.now.v.0 0) peaks.old blocks.old superblocks.old }
         ensures { OnTrue result (HasReach self.now.drawing.map.now.lists self.now.drawing.fig.now (IsBegun self.now.drawing.map.now.lists self.now.drawing.fig.now self.now.h self.now.v.0 (length (list_of self.now.drawing.map.now.lists self.now.v.0))) peaks.new blocks.new superblocks.new) }
@@ -139,7 +143,8 @@ impl Bar<'_> {
         }
     }
 
-    // Meets the bar, and says whether it is in the way of no edge: none of a column that it holds reaches above it.
+    // Says whether this bar is in the way of no edge, by the peaks of the columns that it holds. Then it adds its own
+    // upward edges to the peaks; false is returned too where a table is too short.
     fn meets(&self, peaks: &mut [i32], blocks: &mut [i32], superblocks: &mut [i32]) -> bool
         requires swept { IsSwept self.now.drawing.map.now.lists self.now.drawing.fig.now self.now.h peaks.old blocks.old superblocks.old }
         ensures { OnTrue result (IsSwept self.now.drawing.map.now.lists self.now.drawing.fig.now (self.now.h + 1) peaks.new blocks.new superblocks.new) }
@@ -164,8 +169,8 @@ impl Bar<'_> {
 }
 
 impl Ordered<'_> {
-    // Says whether a sweep over the bars in this order shows that none is in the way of an edge, with room for a number
-    // at each column, each block of 16 columns and each superblock of 256, which are 0.
+    // Says whether a sweep over the bars in this order shows that none is in the way of an edge. The tables `peaks`,
+    // `blocks` and `superblocks` are 0 at first; they have an entry for each column, 16 columns and 256 columns.
     pub(crate) fn passes_all(
         &self,
         peaks: &mut [i32],

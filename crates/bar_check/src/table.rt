@@ -1,4 +1,4 @@
-//! The column of each edge, at the ids of its darts, and the first that stands wrong.
+//! A table of the column of each edge, at the ids of its darts, and the first edge whose column is out of range.
 ghost use Rattle.std.specs.Prelude.{◌≡◌, ◌≢◌, ◌⊎◌, ◌+◌, ◌*◌, ◌<◌, ◌≤◌, ℕ, length, slice_set, Some, MatchOption};
 ghost use Rattle.map_theory.specs.Maps.{list_of, place_of};
 ghost use Rattle.half_edges.specs.Map.{IsLive, dart_at, first_dart};
@@ -15,7 +15,7 @@ use crate::heights::number;
 use half_edges::{DartId, Ends, VertexId};
 use vertex_rounds::later_dart;
 
-// Writes a column at a dart, where the table reaches so far.
+// Writes column `x` into `columns` at dart `d`, if the table has an entry for it.
 fn put(columns: &mut [i32], d: DartId, x: i32)
     ensures size { length columns.new ≡ length columns.old }
     ensures here { d.0 < length columns.new → number_at columns.new d.0 ≡ x }
@@ -27,7 +27,8 @@ fn put(columns: &mut [i32], d: DartId, x: i32)
 }
 
 impl GreaterEnd<'_> {
-    // Writes the column of the edge of dart `d` at its darts, where it leads down.
+    // Writes the column of the edge of `d` into `columns` at both its darts, where `d` leads to a lesser vertex. `next`
+    // has for each vertex the index of its next edge to a greater one, and is advanced.
     fn put_edge(&self, next: &mut [u32], columns: &mut [i32], d: DartId)
         requires live { IsLive self.now.bars.map.now d.0 }
         requires tail { (dart_of self.now.bars.map.now d.0).0 ≡ self.now.b.0 }
@@ -46,8 +47,8 @@ impl GreaterEnd<'_> {
         }
     }
 
-    // Returns the first edge with a bad column of those met and that of a dart `d`, which is met next; `found` is the
-    // first of those met.
+    // Returns the first edge with a bad column among those met so far, of which it is `found`, and the edge of dart
+    // `d`. `next` has for each vertex the index of its next edge to a greater one.
     fn with_next(&self, next: &[u32], found: Option<Ends>, d: DartId) -> Option<Ends>
         requires live { IsLive self.now.bars.map.now d.0 }
         requires tail { (dart_of self.now.bars.map.now d.0).0 ≡ self.now.b.0 }
@@ -72,8 +73,8 @@ impl GreaterEnd<'_> {
         }
     }
 
-    // Writes the columns of the edges to lesser vertices, and returns the first edge with a bad column; `found` is the
-    // first of those of lesser vertices.
+    // Writes into `columns` the columns of this vertex's edges to lesser ones, advancing `next`, and returns the first
+    // edge with a bad column. `found` is the first one of lesser vertices.
     fn put_list(&self, next: &mut [u32], columns: &mut [i32], found: Option<Ends>) -> Option<Ends>
         requires filled { AreFilled self.now.bars.map.now self.now.bars.fig.now self.now.b.0 0 next.old columns.old }
         requires found { IsFirstMetBad self.now.bars.map.now.lists self.now.bars.fig.now self.now.bars.width self.now.b.0 0 found }
@@ -99,8 +100,8 @@ impl GreaterEnd<'_> {
 }
 
 impl Bars<'_> {
-    // Writes the columns of all edges, with room for a number at each vertex, at first that of edges with a lesser first
-    // end; and returns the first edge whose column leaves the width or the bar of an end.
+    // Writes the column of each edge into `columns` at both its darts. Returns the first edge whose column leaves the
+    // width or the bar of an end. `next` is room for an edge index for each vertex.
     pub(crate) fn fill_columns(&self, next: &mut [u32], columns: &mut [i32]) -> Option<Ends>
         requires vertices { length next.old ≡ length self.now.map.now.lists }
         ensures size { length columns.new ≡ length columns.old }
@@ -128,7 +129,7 @@ impl Bars<'_> {
 }
 
 impl LesserEnd<'_> {
-    // Returns the column of the edge of a dart to `b`, its greater end.
+    // Returns the column of the edge of dart `d` to `b`, its greater end, from the table or by its index.
     pub(crate) fn column_to(&self, b: VertexId, d: DartId) -> i32
         requires dart { dart_at self.now.drawing.map.now d.0 ≡ Some (self.now.a.0, b.0) }
         requires order { self.now.a.0 < b.0 }
@@ -145,7 +146,7 @@ impl LesserEnd<'_> {
 }
 
 impl Drawing<'_> {
-    // Returns the column of the edge of a dart.
+    // Returns the column of the edge of dart `d`, from the table or by its index.
     pub(crate) fn column_at(&self, d: DartId) -> i32
         requires live { IsLive self.now.map.now d.0 }
         ensures { result ≡ the_column_between self.now.map.now.lists self.now.fig.now (dart_of self.now.map.now d.0).0 (dart_of self.now.map.now d.0).1 }

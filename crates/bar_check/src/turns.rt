@@ -1,4 +1,5 @@
-//! The edges of a vertex, in the order of its list.
+//! Rotations: whether the edges of each vertex stand in the order of its list, upwards by rising column and then
+//! downwards.
 ghost use Rattle.std.specs.Prelude.{◌≡◌, ◌<◌, ◌↔◌, ◌||◌, ℕ, IsTrue, Some, MatchOption};
 ghost use Rattle.map_lists.specs.Lists.{Lists};
 ghost use Rattle.half_edges.specs.Map.{IsLive};
@@ -22,7 +23,7 @@ fn is_above(fig: &BarFigure, v: VertexId, u: VertexId) -> bool
     number(&fig.y, v.0 as usize) < number(&fig.y, u.0 as usize)
 }
 
-// A vertex, and two of its neighbours.
+// A vertex `v`, and two of its neighbours, `u` and `w`.
 #[derive(Clone, Copy)]
 struct Corner {
     v: VertexId,
@@ -45,7 +46,7 @@ fn is_earlier(fig: &BarFigure, corner: Corner, x: i32, z: i32) -> bool
 }
 
 impl Drawing<'_> {
-    // Says whether the edge of a dart does not come before that of the entry behind it.
+    // Says whether the edge of dart `d` does not come before that of the next entry of the list.
     fn is_break(&self, d: DartId) -> bool
         requires live { IsLive self.now.map.now d.0 }
         ensures { IsTrue result ↔ HoldsAt self.now.map.now (Breaks self.now.map.now.lists self.now.fig.now) d.0 }

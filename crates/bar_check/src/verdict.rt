@@ -1,9 +1,9 @@
-//! Verdicts on a drawing by bars.
+//! The verdicts of the check of a visibility drawing, as the type `BarVerdict`.
 
 use half_edges::{Ends, VertexId};
 
-/// The first fault of a visibility drawing with the least ids, in the order in which the kinds of fault
-/// stand here, or `Yes` where it has none.
+/// The first fault of a visibility drawing, with the least ids, or `Yes` where it has none. Kinds of fault come in the
+/// order in which they stand here.
 #[derive(Clone, Copy, PartialEq, Eq)]
 pub enum BarVerdict {
     /// There are not as many columns as edges.

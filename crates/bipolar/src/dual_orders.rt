@@ -1,4 +1,4 @@
-//! The dual numbers of an st-order.
+//! Dual numbers of an st-order: longest-path numbers of the faces, for each edge that of the face on its left.
 
 mod arcs;
 mod columns;

@@ -1,4 +1,4 @@
-//! Numbers of the dual of an st-order, by which bars are drawn, and the order itself.
+//! Dual numbers of an st-order, by which visibility drawings are made, and the st-order itself.
 #![tactic(auto)]
 
 pub mod bar_laws;

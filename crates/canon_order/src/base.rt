@@ -1,4 +1,4 @@
-//! A triangulation with a base, as a peel reads it.
+//! A triangulation with a base edge and the third vertices of its two faces, as the peeling reads it.
 ghost use Rattle.std.specs.Prelude.{◌≡◌, ◌<◌, length};
 ghost use Rattle.map_theory.specs.Maps.{HasDart, follows};
 ghost use Rattle.plane_laws.specs.Triangulations.{IsTriangulation};

@@ -1,4 +1,4 @@
-//! The outer cycle of what is left, while vertices that look removable are taken off it.
+//! The next vertex to peel off a triangulation: one of the outer cycle with just two neighbours on that cycle.
 ghost use Rattle.std.specs.Prelude.{◌≡◌, ◌≢◌, ◌<◌, ◌↔◌, ℕ, true, [], ◌∷◌, length, Contains, IsTrue, IfOk};
 ghost use Rattle.canon_order.specs.Marks.{is_set, IsUnmarked};
 ghost use Rattle.canon_order.specs.Contours.{LooksRemovable, IsPrepared};
@@ -7,7 +7,8 @@ use crate::base::Base;
 use crate::cycle_marks::Three;
 use std::alloc::AllocError;
 
-// Whether a vertex looks removable.
+// Says whether `v` may be peeled off: it is on the outer cycle, is no end of the base, and has two neighbours there.
+// `marked` has the marks of the cycle, `near` for each vertex how many neighbours are on it.
 fn is_removable(marked: &[bool], near: &[u16], base: &Base<'_>, v: u16) -> bool
     requires { (v < length marked.now) × (v < length near.now) }
     ensures { IsTrue result ↔ LooksRemovable base.now.t base.now.s marked.now near.now v }
@@ -15,7 +16,8 @@ fn is_removable(marked: &[bool], near: &[u16], base: &Base<'_>, v: u16) -> bool
     marked[v as usize] && v != base.t && v != base.s && near[v as usize] == 2
 }
 
-// A vertex that looks removable, where there is one.
+// Returns a vertex that may be peeled off, after dropping from `stack` those that may not, or `base.t` where there is
+// none.
 pub(crate) fn removable_vertex(
     marked: &[bool],
     near: &[u16],
@@ -38,7 +40,8 @@ pub(crate) fn removable_vertex(
     base.t
 }
 
-// Marks the three vertices of the base's face, of which just one may look removable.
+// Marks the three vertices of the base's face in `marked`, counts marked neighbours in `near`, and pushes the third one
+// on `stack`. Just that one may be peeled off.
 pub(crate) fn mark_base(
     marked: &mut [bool],
     near: &mut [u16],

@@ -1,5 +1,5 @@
-//! Marks of a map's vertices, and for each vertex how many of its neighbours are marked; and the marks of the outer
-//! cycle of what is left of a map, while vertices are taken off it one by one.
+//! Marks of the outer cycle while vertices are peeled off a map, and for each vertex the number of its marked
+//! neighbours.
 //!
 //! `marked` says of each vertex whether it is on that cycle, `gone` whether it was taken off, and `near` counts its
 //! neighbours that are marked. What is marked and comes to have two marked neighbours is put on `stack`.
@@ -12,7 +12,7 @@ use crate::lists::{lower_noting, note, raise, raise_noting};
 use half_edges::Rotations;
 use std::alloc::AllocError;
 
-/// Marks a vertex: its neighbours have one marked neighbour more, and all others as many as before.
+/// Marks `v` in `marks`, and adds one in `counts` for each of its neighbours, which have one marked neighbour more.
 pub fn mark(marks: &mut [bool], counts: &mut [u16], lists: &Rotations, v: u16)
     requires simple { IsSimpleMap lists.now }
     requires vertex { v < length lists.now }
@@ -83,7 +83,8 @@ impl AtVertex<'_> {
         ensures { IsSimpleMap self.now.lists.now }
     {}
 
-    // Marks the vertex, which is not marked, and notes it and its marked neighbours.
+    // Marks the vertex in `marked`, which has no mark there. Counts it in `near`, and pushes it and its marked
+    // neighbours on `stack` where they have two marked neighbours.
     #[inline(always)]
     fn mark_new(
         &self,
@@ -103,7 +104,7 @@ impl AtVertex<'_> {
         raise_noting(near, stack, marked, self.lists.list(self.v as usize))
     }
 
-    // Marks the vertex, if it is left and not marked.
+    // Marks the vertex as `mark_new` does, if it is neither taken off nor marked.
     #[inline(always)]
     fn mark_left(
         &self,

@@ -1,4 +1,4 @@
-//! Why there is no order.
+//! Why a triangulation got no canonical order, as the type `OrderFault`.
 
 use std::alloc::AllocError;
 
@@ -15,6 +15,7 @@ impl From<AllocError> for OrderFault {
 
     ghost from_gives = { λ _ fault. fault ≡ NoMemory };
 
+    // Converts a lack of memory.
     fn from(_refused: AllocError) -> OrderFault {
         OrderFault::NoMemory
     }

@@ -17,19 +17,20 @@ pub use lists::push_three;
 pub use numbered::Order;
 pub use order::{Peeler, canon_order, turned_order};
 
-/// Each triangulation has a canonical order for each base dart.
+/// States the law that each triangulation has a canonical order for each base dart.
 pub fn some_order()
     ensures { SomeOrder }
 {}
 
-/// The last cycle of a canonical order has three vertices, those of the base's face: so the last vertex is
-/// put over all of the cycle before it.
+/// States the law that the last cycle of a canonical order has three vertices, those of the base's face. So the last
+/// vertex is put over all of the cycle before it.
 pub fn last_cycle()
     ensures { LastCycle }
 {}
 
-/// In the list of a vertex of a canonical order that is neither of the base nor the last one, clockwise,
-/// the vertices of its row stand from q back to p, and after p and before q stands a later vertex.
+/// States the law that a round of a vertex shows its attachment interval from p to q. The vertex is neither of the base
+/// nor the last one. In its list, clockwise, the vertices of the interval stand from q back to p, and after p and
+/// before q stands a later vertex.
 pub fn row_ends()
     ensures { RowEnds }
 {}

@@ -1,4 +1,4 @@
-//! Counters of entries, and lists made of vectors.
+//! Tools on lists of vertices: counters by vertex, the successor of a list entry, and positions in an order.
 ghost use Rattle.std.specs.Prelude.{◌≡◌, ◌+◌, ◌<◌, ◌≤◌, ◌==◌, ◌↔◌, ℕ, true, [], ◌∷◌, ◌++◌, map, reverse, length, slice_index, count_by, All, AllPairs, Contains, ◌≢◌, IsTrue, IfOk};
 ghost use Rattle.map_theory.specs.Maps.{entry_after};
 ghost use Rattle.canon_order.specs.Marks.{is_set};
@@ -7,7 +7,7 @@ ghost use Rattle.canon_order.specs.Ranks.{IsRankOf};
 use half_edges::{Counts, VertexId};
 use std::alloc::{AllocError, Global};
 
-// Adds one for each entry of a list.
+// Adds one in `counts` for each vertex of `entries`.
 pub(crate) fn raise(counts: &mut [u16], entries: &[u16])
     requires within { All (λ u. u < length counts.old) entries.now }
     requires room { (w : ℕ) → slice_index counts.old w + count_by (λ u. u == w) entries.now < 65536 }
@@ -18,7 +18,7 @@ pub(crate) fn raise(counts: &mut [u16], entries: &[u16])
     }
 }
 
-// Whether a vertex is marked and counts two.
+// Says whether `u` is marked in `marked` and its count in `counts` is two.
 fn counts_two(counts: &[u16], marked: &[bool], u: u16) -> bool
     requires counts { u < length counts.now }
     requires marks { u < length marked.now }
@@ -27,7 +27,7 @@ fn counts_two(counts: &[u16], marked: &[bool], u: u16) -> bool
     counts[u as usize] == 2 && marked[u as usize]
 }
 
-// Puts a vertex on a stack, if it is marked and counts two.
+// Pushes `u` on `stack`, if it is marked and its count is two.
 pub(crate) fn note(
     counts: &[u16],
     stack: &mut Vec<u16>,
@@ -47,7 +47,7 @@ pub(crate) fn note(
     Ok(())
 }
 
-// Adds one for each entry of a list, and puts those entries on a stack that are marked and count two then.
+// Adds one in `counts` for each vertex of `entries`, and pushes on `stack` those that are marked and count two then.
 pub(crate) fn raise_noting(
     counts: &mut [u16],
     stack: &mut Vec<u16>,
@@ -70,7 +70,8 @@ pub(crate) fn raise_noting(
     Ok(())
 }
 
-// Takes one away for each entry of a list, and puts those entries on a stack that are marked and count two then.
+// Subtracts one in `counts` for each vertex of `entries`, and pushes on `stack` those that are marked and count two
+// then.
 pub(crate) fn lower_noting(
     counts: &mut [u16],
     stack: &mut Vec<u16>,
@@ -93,7 +94,7 @@ pub(crate) fn lower_noting(
     Ok(())
 }
 
-// The entry after one, cyclically, in a list without repeats.
+// Returns the entry after `u`, cyclically, in `list`, which has no repeats.
 pub(crate) fn entry_behind(list: &[u16], u: u16) -> u16
     requires distinct { AllPairs ◌≢◌ list.now }
     requires some { Contains list.now u }
@@ -107,7 +108,7 @@ pub(crate) fn entry_behind(list: &[u16], u: u16) -> u16
     list[0]
 }
 
-// The vertices of these numbers, from the last to the first.
+// Returns the vertices of `taken` in reversed order.
 pub(crate) fn turned_vertices(alloc: Global, taken: &[u16]) -> Result<Vec<VertexId>, AllocError>
     ensures { IfOk result (λ at. map (λ v. v.0) at.items ≡ reverse taken.now) }
 {
@@ -118,7 +119,7 @@ pub(crate) fn turned_vertices(alloc: Global, taken: &[u16]) -> Result<Vec<Vertex
     Ok(at)
 }
 
-// A table of `n` items, whatever they are, in the memory of another. What it lacks is `item`.
+// Returns `table` with `n` items, whatever they are, in its old memory. Those that it lacks become `item`.
 pub(crate) fn resized<T: Copy>(table: Vec<T>, n: usize, item: T) -> Result<Vec<T>, AllocError>
     ensures { IfOk result (λ made. length made.items ≡ n) }
 {
@@ -127,7 +128,7 @@ pub(crate) fn resized<T: Copy>(table: Vec<T>, n: usize, item: T) -> Result<Vec<T
     Ok(table)
 }
 
-// Writes into `ranks` the inverse of `at`: for each vertex its place in the order, as `Order::rank` has it.
+// Writes into `ranks` the inverse of `at`: for each vertex its index in the order, as `Order::rank` has it.
 fn write_places(ranks: &mut [u32], at: &[VertexId])
     requires count { length ranks.old ≡ length at.now }
     requires few { length at.now < 4096 }
@@ -140,7 +141,7 @@ fn write_places(ranks: &mut [u32], at: &[VertexId])
     }
 }
 
-// For each vertex of an order its place, in the memory of `spent`.
+// Returns for each vertex its index in `at`, in the memory of `spent`.
 #[inline(always)]
 pub(crate) fn ranks_of(spent: Counts, at: &[VertexId]) -> Result<Counts, AllocError>
     requires few { length at.now < 4096 }
@@ -153,7 +154,7 @@ pub(crate) fn ranks_of(spent: Counts, at: &[VertexId]) -> Result<Counts, AllocEr
     Ok(Counts::from_vec(ranks))
 }
 
-/// Appends three vertices.
+/// Appends three vertices to `taken`. It fails only when out of memory.
 pub fn push_three(
     taken: &mut Vec<u16>,
     first: u16,

@@ -1,4 +1,4 @@
-//! An order of vertices, with the place of each.
+//! An order of all vertices, as the type `Order`: a list of the vertices and its inverse, the rank of each.
 ghost use Rattle.std.specs.Prelude.{◌≡◌, ◌≢◌, ◌<◌, map, length, All, AllPairs, IfOk};
 ghost use Rattle.canon_order.specs.Ranks.{IsRankOf};
 
@@ -17,7 +17,7 @@ pub struct Order {
 }
 
 impl Order {
-    // The order of no vertices. It takes no memory.
+    // Returns the order of no vertices. It takes no memory.
     pub(crate) fn new(alloc: Global) -> Order {
         Order {
             at: VertexList::new(alloc),
@@ -25,7 +25,7 @@ impl Order {
         }
     }
 
-    // The order of these vertices, with their places in the memory of `spent`.
+    // Returns the order of the vertices `at`, with their ranks in the memory of `spent`.
     #[inline(always)]
     pub(crate) fn of(at: Vec<VertexId>, spent: Counts) -> Result<Order, AllocError>
         requires few { length at.items < 4096 }

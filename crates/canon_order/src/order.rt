@@ -1,4 +1,5 @@
-//! Canonical orders.
+//! The public calls that find a canonical order: vertices are peeled off the outer cycle, from the last of the order to
+//! the first.
 ghost use Rattle.std.specs.Prelude.{◌≡◌, ◌≢◌, ◌<◌, ℕ, false, [], reverse, length, All, AllPairs, Some, replicate, OnOk, IfOk, ◌≤◌, ◌∷◌, map, drop, ◌*◌};
 ghost use Rattle.map_theory.specs.Maps.{HasDart};
 ghost use Rattle.plane_laws.specs.Triangulations.{IsTriangulation};
@@ -16,7 +17,7 @@ use half_edges::{Counts, DartId, HalfMap, Rotations, VertexId, VertexList};
 use std::alloc::{AllocError, Global};
 use std::mem;
 
-// Puts the last three vertices that are left at their places: the first three of an order.
+// Writes the three vertices that are left last into `at`, as the first three of the order.
 fn put_first(at: &mut [VertexId], base: &Base<'_>)
     requires { 3 ≤ length at.old }
     ensures { map (λ v. v.0) at.new ≡ base.now.s ∷ base.now.t ∷ base.now.under ∷ drop 3 (map (λ v. v.0) at.old) }
@@ -26,8 +27,8 @@ fn put_first(at: &mut [VertexId], base: &Base<'_>)
     at[2] = VertexId(base.under);
 }
 
-// Takes vertices off until three are left, and puts each, and then those three, at its place in `at`: from the last one
-// of an order to the first. At first all vertices are left, and none is marked.
+// Peels vertices off until three are left, and writes each at its index of the order in `at`, from the last index down.
+// At first `marked` and `gone` have no mark, and `near` and `stack` count and hold nothing.
 fn peel(
     marked: &mut [bool],
     near: &mut [u16],
@@ -60,7 +61,8 @@ fn peel(
     Ok(())
 }
 
-/// The order of these vertices, which are given from the last one to the first. It fails only when out of memory.
+/// Returns the order of the vertices `taken`, which are given from the last one to the first. It fails only when out of
+/// memory.
 pub fn turned_order(alloc: Global, taken: &[u16]) -> Result<Order, AllocError>
     requires few { length taken.now < 4096 }
     requires within { All (λ v. v < length taken.now) taken.now }
@@ -85,7 +87,7 @@ pub struct Peeler {
 }
 
 impl Peeler {
-    /// A peeler that has ordered nothing yet. It takes no memory.
+    /// Returns a peeler that has ordered nothing yet. It takes no memory.
     pub fn new(alloc: Global) -> Peeler {
         Peeler {
             marks: Vec::new(alloc),
@@ -95,7 +97,8 @@ impl Peeler {
         }
     }
 
-    // All `n` vertices left and none marked, none taken off, and nothing on the stack.
+    // Resets the tables for `n` vertices with `entries` list entries: none is marked, none is taken off, and nothing is
+    // on the stack.
     fn clear(&mut self, n: usize, entries: usize) -> Result<(), AllocError>
         requires { n < 4096 }
         ensures marks { OnOk result (self.new.marks.items ≡ replicate (2 * n) false) }
@@ -111,7 +114,7 @@ impl Peeler {
         Ok(())
     }
 
-    // Takes the vertices off, and puts them at their places in an order, in the memory of `spent`.
+    // Returns the vertices in canonical order for `base`, in the memory of `spent`.
     fn take(&mut self, base: &Base<'_>, spent: VertexList) -> Result<Vec<VertexId>, AllocError>
         ensures { IfOk result (λ at. IsCanonicalOrder base.now.lists.now (base.now.t, base.now.s) (map (λ v. v.0) at.items)) }
     {
@@ -123,7 +126,7 @@ impl Peeler {
         Ok(at)
     }
 
-    // Makes `order` that of a triangulation for its base.
+    // Finds the canonical order of the triangulation of `base`, and leaves it in `order`.
     fn peel(&mut self, alloc: Global, base: &Base<'_>) -> Result<(), AllocError>
         ensures order { OnOk result (IsCanonicalOrder base.now.lists.now (base.now.t, base.now.s) (vertices_of self.new.order)) }
     {
@@ -194,8 +197,8 @@ impl Peeler {
     }
 }
 
-/// A canonical order of a triangulation, a simple map of genus zero with n >= 3 and m = 3n - 6, for a base
-/// dart, from t to s.
+/// Returns a canonical order of the triangulation `tri` for the dart `base`, from t to s. `tri` is a simple map of
+/// genus zero with n >= 3 and m = 3n - 6.
 ///
 /// `at` has all vertices once: s is the first, t the second, and the third vertex of the face on the left
 /// of the base is the last. Each vertex from the third place on is put on the outer cycle of the map of

@@ -5,14 +5,14 @@
 
 ghost use Rattle.classes.specs.Laws.{ClassesAreLeast, OrbitsAreSteps};
 
-/// The classes into which pairs join the numbers below k hold the two numbers of each pair together,
-/// and lie in every equivalence that does.
+/// States the law that the classes into which pairs join the numbers below k hold the two numbers of each pair
+/// together. They lie in every equivalence that does.
 pub fn classes_are_least()
     ensures { ClassesAreLeast }
 {}
 
-/// Two numbers are in one orbit of a permutation exactly where steps from a number to its image lead
-/// from the one to the other.
+/// States the law that two numbers are in one orbit of a permutation exactly where steps to images lead from one to the
+/// other.
 pub fn orbits_are_steps()
     ensures { OrbitsAreSteps }
 {}

@@ -1,5 +1,5 @@
-//! A record as a connected map of genus zero without cut vertex, or the first condition that it breaks: what
-//! jobs on blocks begin with.
+//! Makes the biconnected map of a record: connected, of genus zero and without cut vertex; or returns the first
+//! condition that it breaks.
 
 ghost use Rattle.conn_parts.specs.Laws.{BiconnectedBreakNothing};
 
@@ -7,7 +7,7 @@ mod biconnected;
 
 pub use biconnected::{SearchedMap, biconnected_map, searched_map};
 
-/// A biconnected map breaks no condition.
+/// States the law that a biconnected map breaks no condition.
 pub fn biconnected_break_nothing()
     ensures { BiconnectedBreakNothing }
 {

@@ -1,4 +1,4 @@
-//! The map of a record, made once, with what is counted of it.
+//! A record as a half-edge map with its components and its Euler count, and the refusal of lists by their counts.
 ghost use Rattle.std.specs.Prelude.{◌≡◌, ◌<◌, ◌≤◌, length, Some, None, IfOk, IfErr, OnOk};
 ghost use Rattle.map_theory.specs.Maps.{IsSimpleMap, IsPlane, darts, vertex_count};
 ghost use Rattle.simple_maps.specs.Faults.{first_fault};
@@ -28,8 +28,8 @@ pub struct CountedMap {
     pub count: EulerCount,
 }
 
-/// The map with these lists, which are from 1 to 4095, its components and its counts, or the first fault of the lists.
-/// The time is linear in the entries, and so is the memory.
+/// Returns the map with these `lists`, which are from 1 to 4095, its components and its counts, or the first fault of
+/// the lists. The time is linear in the entries, and so is the memory.
 pub fn counted_map(alloc: Global, lists: &Rotations) -> Result<CountedMap, MapFault>
     requires some_list { 0 < length lists.now }
     ensures counted { IfOk result (IsCountedMap lists.now) }
@@ -54,7 +54,7 @@ pub struct CountedMaker {
 }
 
 impl CountedMaker {
-    /// A maker that has made nothing yet. It takes no memory.
+    /// Returns a maker that has made nothing yet. It takes no memory.
     pub fn new(alloc: Global) -> CountedMaker {
         CountedMaker {
             alloc,
@@ -67,8 +67,8 @@ impl CountedMaker {
         }
     }
 
-    /// The map with these lists, its components and its counts, as `counted_map` has them. After `NoMemory` the maker
-    /// serves as before.
+    /// Returns the map with these `lists`, its components and its counts, as `counted_map` has them. After `NoMemory`
+    /// the maker serves as before.
     pub fn counted_map(&mut self, lists: &Rotations) -> Result<CountedMap, MapFault>
         requires some_list { 0 < length lists.now }
         ensures counted { IfOk result (IsCountedMap lists.now) }
@@ -81,7 +81,7 @@ impl CountedMaker {
         Ok(CountedMap { map, parts, count })
     }
 
-    // The map with these lists, of which the components are `parts` then, and the twins of its darts are known.
+    // Returns the map with these `lists`, and leaves its components in `parts` and the twins of its darts in `twins`.
     #[inline(always)]
     fn half_map(&mut self, lists: &Rotations) -> Result<HalfMap, MapFault>
         requires some_list { 0 < length lists.now }
@@ -106,8 +106,8 @@ impl CountedMaker {
         Ok(map)
     }
 
-    /// The map of a record with these lists, which are from 1 to 4095, where it has genus zero and at least `least`
-    /// vertices, with its components in `parts`.
+    /// Returns the map of a record with these lists, which are from 1 to 4095, and leaves its components in `parts`.
+    /// The map has genus zero and at least `least` vertices.
     ///
     /// `Err` names the first condition that the lists break, of these in this order: the four faults of a map, each with
     /// the least vertices; too few vertices; a genus above zero. Or there was not enough memory: after that the maker
@@ -136,7 +136,8 @@ impl CountedMaker {
     }
 }
 
-// Refuses lists that are a simple map by its counts: for too few vertices, or for its genus.
+// Refuses a simple map of these `lists` by its counts `count`: for fewer than `least` vertices, or for a genus above
+// zero.
 fn refuse_counted(lists: &Rotations, count: EulerCount, least: u16) -> Result<(), Unserved>
     requires simple { first_fault lists.now ≡ None }
     requires count { IsCountOf lists.now count }
@@ -155,8 +156,9 @@ fn refuse_counted(lists: &Rotations, count: EulerCount, least: u16) -> Result<()
     Ok(())
 }
 
-/// The counts of a record with these lists, which are from 1 to 4095, where it is a map of genus zero with at least
-/// `least` vertices, by a counter that may have counted other records before. No map is made of the lists.
+/// Returns the counts of a record that is a map of genus zero with at least `least` vertices; `lists` are from 1 to
+/// 4095. The `counter` may have counted other records before, and no map is made of the lists. The `counter` may have
+/// counted other records before, and no map is made of the lists. No map is made of the lists.
 ///
 /// `Err` is as for `CountedMaker::plane_half_map`. The time is linear in the entries.
 pub fn plane_count(
@@ -178,7 +180,7 @@ pub fn plane_count(
     Ok(count)
 }
 
-// Refuses lists of more entries than a plane map has, by counts alone: no map is made of them.
+// Refuses lists with more entries than a plane map has, by their fault or their counts: no map is made of them.
 fn refuse_dense(alloc: Global, lists: &Rotations, least: u16) -> Result<(), Unserved>
     requires some_list { 0 < length lists.now }
     ensures { IfErr result (IfRefused (λ refusal. first_refusal least lists.now ≡ Some refusal)) }

@@ -1,4 +1,4 @@
-//! Components, cut vertices and separating pairs of graphs, by their lists.
+//! Components, cut vertices and separating pairs of bare graphs, by lists of their neighbours.
 
 mod cuts;
 mod lists;

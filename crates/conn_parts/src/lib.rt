@@ -1,4 +1,4 @@
-//! The components of a map, numbered.
+//! Components of maps and graphs, and records made into maps with their components, counts and cut vertices.
 #![tactic(auto)]
 
 pub mod biconnected_maps;

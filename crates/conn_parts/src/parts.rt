@@ -1,4 +1,4 @@
-//! Numbered components.
+//! The components of a map or of lists, numbered, as the type `Parts`.
 ghost use Rattle.std.specs.Prelude.{◌≡◌, ◌<◌, length, slice_index, IfOk};
 ghost use Rattle.map_lists.specs.Cuts.{cut};
 ghost use Rattle.map_theory.specs.Maps.{IsSimpleMap};
@@ -36,14 +36,14 @@ impl Parts {
         }
     }
 
-    /// The number of components.
+    /// Returns the number of components.
     pub fn count(&self) -> u16
         ensures { result ≡ self.now.count }
     {
         self.count
     }
 
-    /// The number of the component of a vertex.
+    /// Returns the number of the component of `v`.
     pub fn of(&self, v: VertexId) -> u16
         requires { v.0 < length self.now.numbers }
         ensures { result ≡ slice_index self.now.numbers v.0 }
@@ -52,7 +52,7 @@ impl Parts {
     }
 }
 
-/// The components of a map, in time linear in its darts. It fails only when out of memory.
+/// Returns the components of `map`, in time linear in its darts. It fails only when out of memory.
 pub fn components(alloc: Global, map: &HalfMap) -> Result<Parts, AllocError>
     ensures { IfOk result (ArePartsOf map.now.lists) }
 {
@@ -61,7 +61,7 @@ pub fn components(alloc: Global, map: &HalfMap) -> Result<Parts, AllocError>
     list_components(alloc, &lists)
 }
 
-/// The components of lists that are a simple map of at most 4095 vertices, in time linear in the entries. It
+/// Returns the components of lists that are a simple map of at most 4095 vertices, in time linear in the entries. It
 /// fails only when out of memory.
 pub fn list_components(alloc: Global, lists: &Rotations) -> Result<Parts, AllocError>
     requires simple { IsSimpleMap lists.now }
@@ -72,8 +72,8 @@ pub fn list_components(alloc: Global, lists: &Rotations) -> Result<Parts, AllocE
     Ok(parts)
 }
 
-/// Returns the components of lists, as [`list_components`] has them, in the memory of others that are done with: `spent`, and
-/// the row `queue`, whose entries say nothing before or after.
+/// Returns the components of `lists`, as [`list_components`] has them, in the memory of others that are done with:
+/// `spent` and `queue`. What these hold says nothing before or after.
 #[inline(always)]
 pub fn numbered_parts(
     lists: &Rotations,

@@ -1,17 +1,17 @@
-//! Schnyder's coordinates (1990), over a run of insertions. Each law is the contract of a function that does
-//! nothing, and speaks of all runs. Vertices are numbered in the order in which the run places them; all
-//! coordinates are naturals. Coordinates one and two of a vertex are x and y of the drawing, in which the
-//! first vertex alone stands one to the left and one up.
+//! Laws of Schnyder's coordinates (1990) over a construction sequence.
+//! Each law is the contract of a function that does nothing, and speaks of all runs. Vertices are numbered in the order
+//! in which the run adds them; all coordinates are naturals. Coordinates one and two of a vertex are x and y of the
+//! drawing, in which the first vertex alone stands one to the left and one up.
 
 ghost use Rattle.contour_runs.specs.WoodPointsLaws.{SpreadArea};
 ghost use Rattle.contour_runs.specs.Gaps.{DifferencesKept};
 
-/// Three vertices that are spread stand counterclockwise.
+/// States the law that three vertices that are spread stand counterclockwise.
 pub fn spread_area()
     ensures { SpreadArea }
 {}
 
-/// Vertices of one place keep their differences: so what has gone under a vertex moves with it.
+/// States the law that vertices of one place keep their differences: so what has gone under a vertex moves with it.
 pub fn differences_kept()
     ensures { DifferencesKept }
 {}

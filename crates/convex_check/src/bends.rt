@@ -1,4 +1,4 @@
-//! Faces that bend inwards.
+//! Inner faces that bend inwards: the first three consecutive vertices of a face that turn to the right.
 ghost use Rattle.std.specs.Prelude.{◌≡◌, ◌+◌, ◌<◌, ◌↔◌, ◌<ℤ◌, pos, ℕ, List, length, slice_index, IsTrue, Some, MatchOption};
 ghost use Rattle.map_theory.specs.Maps.{HasDart, follows};
 ghost use Rattle.half_edges.specs.Map.{IsLive, dart_at, first_dart};
@@ -16,7 +16,7 @@ use half_edges::{DartId, VertexId};
 use pg_plane::{Point, Points, area2};
 use vertex_rounds::first_dart;
 
-// Returns the place of a vertex.
+// Returns the point of `v`.
 pub(crate) fn place_at(points: &Points, v: VertexId) -> Point
     requires { v.0 < length points.now }
     ensures { result ≡ place points.now v.0 }
@@ -25,7 +25,7 @@ pub(crate) fn place_at(points: &Points, v: VertexId) -> Point
 }
 
 impl Drawing<'_> {
-    // Says whether the way from `a` over `b` to `c` turns to the right.
+    // Says whether the path from `a` over `b` to `c` turns to the right at `b`.
     fn turns_right(&self, a: VertexId, b: VertexId, c: VertexId) -> bool
         requires a { a.0 < length self.now.map.now.lists }
         requires b { b.0 < length self.now.map.now.lists }
@@ -41,7 +41,7 @@ impl Drawing<'_> {
         double < 0
     }
 
-    // Says whether the face of a dart is another than the base's, and bends behind the dart.
+    // Says whether the face of dart `d` is another than the base's, and turns to the right at the head of `d`.
     fn is_bent(&self, faces: &Faces, d: DartId) -> bool
         requires faces { AreFaces self.now.map.now faces.now }
         requires live { IsLive self.now.map.now d.0 }
@@ -57,7 +57,7 @@ impl Drawing<'_> {
         face.0 != outer.0 && self.turns_right(a, b, c)
     }
 
-    // Returns the least three consecutive vertices at which a face bends.
+    // Returns the least three consecutive vertices at which an inner face turns to the right.
     pub(crate) fn first_bent(&self, faces: &Faces) -> Option<(VertexId, VertexId, VertexId)>
         requires faces { AreFaces self.now.map.now faces.now }
         ensures { MatchOption result (NoneBent self.now.map.now.lists self.now.points.now (dart_of self.now.map.now self.now.base.0))

@@ -1,4 +1,4 @@
-//! The check.
+//! The public calls that check whether a drawing is convex over a base dart.
 ghost use Rattle.std.specs.Prelude.{IfOk};
 ghost use Rattle.half_edges.specs.Map.{IsLive};
 ghost use Rattle.draw_check.specs.Faults.{HasPlaces};
@@ -12,9 +12,10 @@ use half_edges::{DartId, HalfMap};
 use pg_plane::{GridFigure, Points};
 use std::alloc::{AllocError, Global};
 
-/// The least three consecutive vertices of the walk of a face other than that of `base` that turn to the
-/// right; or else `OuterBent`, where no three vertices of the base's face are the corners of a triangle on
-/// whose sides all its vertices lie; or `Yes`.
+/// Checks whether the drawing of `map` at `points` is convex over `base`. It returns the least three consecutive
+/// vertices of the walk of a face other than that of `base` that turn to the right. Otherwise it returns `OuterBent`,
+/// where no three vertices of the base's face are the corners of a triangle on whose sides all its vertices lie; or
+/// `Yes`.
 ///
 /// `base` is live, there is one point for each vertex, and no coordinate is beyond 2^20 in size; whether the drawing is
 /// plane is not looked at. It fails only when out of memory. The time and the memory
@@ -42,7 +43,7 @@ pub fn check_convex_points(
     }
 }
 
-/// Like [`check_convex_points`], but takes a figure, whose grid it ignores.
+/// Checks a figure as [`check_convex_points`] does its points; the grid of `fig` is ignored.
 pub fn check_convex(
     alloc: Global,
     map: &HalfMap,

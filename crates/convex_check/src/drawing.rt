@@ -1,4 +1,4 @@
-//! A drawing of a map over a base dart, as its checks read it.
+//! A map over a base dart with a point for each vertex, as the type that the checks of convexity read.
 ghost use Rattle.half_edges.specs.Map.{IsLive};
 ghost use Rattle.draw_check.specs.Faults.{HasPlaces};
 

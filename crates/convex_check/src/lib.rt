@@ -1,5 +1,5 @@
-//! The check that a drawing is convex over a base dart: no face but the base's bends inwards, and the base's
-//! face is a triangle, with flat angles.
+//! Checks whether a drawing is convex over a base dart: no inner face bends inwards, and the outer face is a triangle,
+//! with flat angles allowed.
 #![tactic(auto)]
 
 pub mod triangle_corners;
@@ -15,7 +15,7 @@ mod verdict;
 pub use check::{check_convex, check_convex_points};
 pub use verdict::ConvexVerdict;
 
-/// The verdict is `Yes` exactly where the drawing is convex.
+/// States the law that the verdict is `Yes` exactly where the drawing is convex.
 pub fn yes_is_convex()
     ensures { YesIsConvex }
 {}

@@ -1,4 +1,4 @@
-//! The face of the base.
+//! The outer face, that of the base: whether its vertices lie on the sides of a triangle.
 ghost use Rattle.std.specs.Prelude.{◌≡◌, ◌↔◌, ℕ, ◌<◌, length, All, IsTrue, IfOk, slice_index};
 ghost use Rattle.half_edges.specs.Map.{IsLive};
 ghost use Rattle.euler_faces.specs.FaceWalks.{AreFaces, ids_of};
@@ -16,7 +16,7 @@ use pg_plane::Point;
 use std::alloc::{AllocError, Global};
 
 impl Drawing<'_> {
-    // Returns the places of the vertices of a walk.
+    // Returns the points of the tails of the darts of `walk`.
     fn walk_points(&self, alloc: Global, walk: &[DartId]) -> Result<Vec<Point>, AllocError>
         requires { All (λ d. IsLive self.now.map.now d.0) walk.now }
         ensures { IfOk result (λ places. AreWalkPlaces self.now.map.now self.now.points.now (ids_of walk.now) places.items) }
@@ -30,8 +30,8 @@ impl Drawing<'_> {
         Ok(places)
     }
 
-    // Says whether three vertices of the base's face have an area other than 0, and each of its vertices is on one
-    // of the segments between these three.
+    // Says whether the base's face is a triangle with flat angles. Three of its vertices have an area other than 0, and
+    // each vertex is on one of the segments between these three.
     pub(crate) fn is_outer_convex(&self, alloc: Global, faces: &Faces) -> Result<bool, AllocError>
         requires faces { AreFaces self.now.map.now faces.now }
         ensures { IfOk result (λ found. IsTrue found ↔ HasOuterCorners self.now.map.now.lists self.now.points.now (dart_of self.now.map.now self.now.base.0)) }

@@ -11,14 +11,14 @@ ghost use Rattle.convex_check.specs.Corners.{IsOnTriangle, AreCorners, HasCorner
 
 use pg_plane::{Point, area2, on_segment};
 
-// Says whether `p` comes before `q` from left to right, and upwards.
+// Says whether `p` is left of `q`, or straight below it.
 fn is_before(p: Point, q: Point) -> bool
     ensures { IsTrue result ↔ IsBefore p q }
 {
     p.x < q.x || (p.x == q.x && p.y < q.y)
 }
 
-// Returns the first of two points.
+// Returns the one of `p` and `q` that comes first from left to right, and then upwards.
 fn earlier(p: Point, q: Point) -> Point
     ensures one { (result ≡ p) ⊎ (result ≡ q) }
     ensures before_p { ¬ IsBefore p result }
@@ -27,7 +27,7 @@ fn earlier(p: Point, q: Point) -> Point
     if is_before(p, q) { p } else { q }
 }
 
-// Returns the last of two points.
+// Returns the one of `p` and `q` that comes last from left to right, and then upwards.
 fn later(p: Point, q: Point) -> Point
     ensures one { (result ≡ p) ⊎ (result ≡ q) }
     ensures after_p { ¬ IsBefore result p }
@@ -36,7 +36,7 @@ fn later(p: Point, q: Point) -> Point
     if is_before(q, p) { p } else { q }
 }
 
-// Returns the first and the last of some points.
+// Returns the first and the last of `points` from left to right, and then upwards.
 fn ends_of(points: &[Point]) -> (Point, Point)
     requires { 0 < length points.now }
     ensures on_first { Contains points.now result.0 }
@@ -53,7 +53,7 @@ fn ends_of(points: &[Point]) -> (Point, Point)
     (first, last)
 }
 
-// Returns which of two points lies farther to the left of the way from `a` to `b`.
+// Returns which of `p` and `q` lies farther to the left of the line from `a` to `b`.
 fn farther(a: Point, b: Point, p: Point, q: Point) -> Point
     requires a { IsInRange a }
     requires b { IsInRange b }
@@ -70,7 +70,7 @@ fn farther(a: Point, b: Point, p: Point, q: Point) -> Point
     }
 }
 
-// Returns the one of some points that lies farthest to the left of the way from `a` to `b`.
+// Returns the one of `points` that lies farthest to the left of the line from `a` to `b`.
 fn farthest(points: &[Point], a: Point, b: Point) -> Point
     requires some { 0 < length points.now }
     requires in_range { All IsInRange points.now }
@@ -116,7 +116,8 @@ impl Triangle {
     }
 }
 
-// Says whether two of the points are corners, with a third to the left of the way from the one to the other.
+// Says whether `points` lie on the sides of a triangle with corners `a` and `b`. Its third corner is the point farthest
+// to the left of the line from `a` to `b`.
 fn has_third(points: &[Point], a: Point, b: Point) -> bool
     requires in_range { All IsInRange points.now }
     requires a { Contains points.now a }

@@ -1,4 +1,4 @@
-//! Verdicts on the faces of a drawing.
+//! The verdicts of the check of convexity, as the type `ConvexVerdict`.
 
 use half_edges::VertexId;
 

@@ -1,5 +1,4 @@
-//! A record as a three-connected map of genus zero, or the first condition that it breaks: what convex
-//! drawings begin with.
+//! Makes the three-connected map of a record, of genus zero, or returns the first condition that it breaks.
 
 ghost use Rattle.convex_class.specs.Laws.{ThreeConnectedBreakNothing};
 
@@ -7,7 +6,7 @@ mod biconnected;
 
 pub use biconnected::{ConvexMap, convex_map, convex_map_with_faces};
 
-/// A three-connected map of genus zero breaks no condition.
+/// States the law that a three-connected map of genus zero breaks no condition.
 pub fn three_connected_break_nothing()
     ensures { ThreeConnectedBreakNothing }
 {

@@ -1,4 +1,4 @@
-//! The least separating pair of a map of genus zero without cut vertices, by its faces.
+//! Finds the least separating pair of a map of genus zero without cut vertices, by its faces.
 //!
 //! Two vertices are one where the faces of two darts of the lesser pass the greater, and not along the edge
 //! between them. The search begins at the least vertex in any pair, which is found in linear time: of two vertices and

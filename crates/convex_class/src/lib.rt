@@ -1,4 +1,4 @@
-//! Which maps the job convex serves, and the first broken condition of the others.
+//! Recognizes the maps that the job convex serves, and finds the first broken condition of the others.
 #![tactic(auto)]
 
 pub mod convex_maps;

@@ -1,4 +1,4 @@
-//! Counts of faces over runs that make faces of any size: the points, and the woods.
+//! Theory of counts of faces over construction sequences with faces of any size: the points, and the realizers.
 #![tactic(auto)]
 
 pub mod face_woods;

@@ -1,4 +1,5 @@
-//! The points of vertices by counts of faces over a run that makes faces of any size (Felsner, 2001), in linear time.
+//! The points of vertices by counts of faces over a construction sequence with faces of any size (Felsner, 2001), in
+//! linear time.
 
 mod down;
 mod points;

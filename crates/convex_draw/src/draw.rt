@@ -1,4 +1,4 @@
-//! The drawing of a map.
+//! The public calls that draw a three-connected map: its construction sequence, the points, and the square grid.
 ghost use Rattle.std.specs.Prelude.{◌≡◌, ◌<◌, ◌≤◌, ◌+◌, ◌-◌, ℕ, length, pos, Some, IfOk};
 ghost use Rattle.map_theory.specs.Maps.{IsPlane, vertex_count, face_count, component_count};
 ghost use Rattle.convex_peeling.specs.Polyhedral.{IsThreeConnected};
@@ -14,7 +14,7 @@ use half_edges::{DartId, HalfMap, Rotations};
 use pg_plane::{GridFigure, Points};
 use std::alloc::{AllocError, Global};
 
-// Counts the faces besides one.
+// Returns the number of faces of `map` without the outer one, which is the side of the grid.
 fn side_of(map: &HalfMap) -> u32
     requires plane { IsPlane map.now.lists }
     requires connected { component_count map.now.lists ≡ 1 }
@@ -25,7 +25,7 @@ fn side_of(map: &HalfMap) -> u32
     map.m() - map.n() as u32 + 1
 }
 
-// Puts points into a square grid.
+// Returns the figure with these `points` in a grid of width and height `side`.
 pub(crate) fn in_square(points: Points, side: u32) -> GridFigure
     requires { side < 1048576 }
     ensures points { result.points ≡ points }
@@ -40,7 +40,8 @@ pub(crate) fn in_square(points: Points, side: u32) -> GridFigure
     }
 }
 
-/// The figure that [`run_figure`] gives, by the lists of the map and its faces.
+/// Returns the figure that [`run_figure`] gives for `map` over `base`, by the map's `lists` and `faces`. It fails only
+/// when out of memory.
 pub fn figure_by_faces(
     alloc: Global,
     map: &HalfMap,
@@ -69,7 +70,8 @@ pub fn figure_by_faces(
     Ok(in_square(points, side))
 }
 
-/// The figure that `convex_draw` gives, whose points are the counts of faces over a run of the map.
+/// Returns the figure that `convex_draw` gives for `map` over `base`, whose points are the counts of faces over a
+/// construction sequence.
 ///
 /// It fails only when out of memory. The map stays as it is.
 pub fn run_figure(alloc: Global, map: &HalfMap, base: DartId) -> Result<GridFigure, AllocError>
@@ -85,9 +87,9 @@ pub fn run_figure(alloc: Global, map: &HalfMap, base: DartId) -> Result<GridFigu
     Ok(figure)
 }
 
-/// The convex drawing of a three-connected map of genus zero over a base: a dart, which is drawn from the upper
-/// left corner of the grid to the lower right one, and whose face is the outer one. The grid is f - 1 by f - 1, for
-/// f faces. No inner face bends inwards, and the outer one is a triangle with flat angles.
+/// Draws `map`, three-connected and of genus zero, convexly over `base`. That dart is drawn from the upper left corner
+/// of the grid to the lower right one, and its face is the outer one. The grid is f - 1 by f - 1, for f faces. No inner
+/// face bends inwards, and the outer one is a triangle with flat angles.
 ///
 /// It fails only when out of memory. The map stays as it is.
 ///

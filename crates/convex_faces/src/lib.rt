@@ -1,4 +1,5 @@
-//! Convex drawings by counts of faces (Felsner 2001): the wood of a map, its regions, the drawing, and the check.
+//! Convex drawings by counts of faces (Felsner 2001): the convex realizer of a map, the regions of its vertices, the
+//! drawing, and the check.
 #![tactic(auto)]
 
 pub mod face_regions;

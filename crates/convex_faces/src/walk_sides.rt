@@ -1,4 +1,4 @@
-//! The faces inside a closed walk, counted by a search of the faces.
+//! Counts the faces inside a closed walk, by a search of the faces.
 
 mod count;
 

@@ -1,4 +1,4 @@
-//! Convex woods of three-connected plane maps (Felsner, 2001), from any base, in linear time.
+//! Convex realizers of three-connected plane maps (Felsner, 2001), from any base, in linear time.
 
 mod of_run;
 mod outs;

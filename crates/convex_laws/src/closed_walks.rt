@@ -1,10 +1,11 @@
-//! Closed walks in plane maps: on which side of one a face lies, by how often chains of faces step over it.
+//! Law on closed walks in plane maps: on which side of one a face lies is known by how often chains of faces step over
+//! it.
 
 ghost use Rattle.convex_laws.specs.ClosedWalksLaws.{SidesAreKnown};
 
-/// In a connected map of genus zero all chains of faces from one dart to another step over a closed walk an odd
-/// number of times, or all an even one, where an edge that the walk passes twice counts twice; and some chain
-/// leads there.
+/// States the law that sides of a closed walk are known, in a connected map of genus zero. All chains of faces from one
+/// dart to another step over the walk an odd number of times, or all an even one; and some chain leads there. An edge
+/// that the walk passes twice counts twice.
 pub fn sides_are_known()
     ensures { SidesAreKnown }
 {}

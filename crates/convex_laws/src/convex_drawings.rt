@@ -1,16 +1,15 @@
-//! Convex drawings: what a run has to show of a map, for its counts of faces to be a convex plane drawing
-//! of it.
+//! Laws: when the face counts of a construction sequence are a convex plane drawing of a map.
 
 ghost use Rattle.convex_laws.specs.ConvexDrawings.{ConvexRunDraws, TouchedRunDraws};
 
-/// Where each dart of a map is on a face of a whole run, or on the outer one, the counts of the run are a
-/// plane drawing of the map that keeps the rotations, in the grid m by m for m inner faces. No inner face
-/// bends inwards, and the outer one is a triangle with flat angles.
+/// States the law that the counts of a whole run draw a map. Each dart of the map is on a face of the run or on the
+/// outer one. The drawing is plane and keeps the rotations, in the grid m by m for m inner faces. No inner face bends
+/// inwards, and the outer one is a triangle with flat angles.
 pub fn convex_run_draws()
     ensures { ConvexRunDraws }
 {}
 
-/// It is the same for a run whose turns are read off, if its vertices are touched in time.
+/// States the law of [`convex_run_draws`] for a run whose turns are read off, if its vertices are touched in time.
 pub fn touched_run_draws()
     ensures { TouchedRunDraws }
 {}

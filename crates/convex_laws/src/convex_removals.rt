@@ -1,4 +1,5 @@
-//! The rows of removals: read from the last removal to the first they are the rows of a run.
+//! Theory of removals of faces: their rows, read from the last removal to the first, are those of a construction
+//! sequence.
 //!
 //! Faces are taken off a map from its contour, by removals; each has a row: the vertices of the new contour along
 //! it, the cuts there, and the vertices that go. `specs/` says what the row of a removal is, and `proofs/` has the

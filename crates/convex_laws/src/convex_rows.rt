@@ -1,4 +1,5 @@
-//! Rows of numbers for the steps of a run: the vertices that each puts on, and those of the contour under them.
+//! The steps of a construction sequence as lists of numbers: the vertices that each adds, and the interval of the
+//! contour under them.
 
 mod rows;
 

@@ -1,17 +1,17 @@
-//! Runs of maps in which two faces have at most a vertex or an edge in common.
+//! Laws: a three-connected plane map has a construction sequence from any dart, so face counts draw it convexly.
 
 ghost use Rattle.convex_laws.specs.ConvexMaps.{SomeConvexDrawing};
 ghost use Rattle.convex_laws.specs.RunsOfMaps.{RunOfMap};
 
-/// Each connected map of genus zero in which two faces have at most a vertex or an edge in common, and each
-/// vertex has three neighbours or more, is that of a run from any of its darts. So the counts of faces over
-/// that run draw it.
+/// States the law that certain connected maps of genus zero have a run from any of their darts. Two faces have at most
+/// a vertex or an edge in common, and each vertex has three neighbours or more. So the counts of faces over that run
+/// draw the map.
 pub fn run_of_map()
     ensures { RunOfMap }
 {}
 
-/// So the counts of faces over such a run are a convex plane drawing of the map, in the grid m by m where the
-/// map has m faces beside that of the base.
+/// States the law that the counts of faces over such a run are a convex plane drawing of the map. It is in the grid m
+/// by m where the map has m faces beside that of the base.
 pub fn some_convex_drawing()
     ensures { SomeConvexDrawing }
 {}

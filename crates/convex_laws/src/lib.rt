@@ -1,4 +1,4 @@
-//! Laws of convex drawings: the runs of a three-connected map, the rows, the drawing, and the wood.
+//! Laws of convex drawings of three-connected maps: construction sequences, their rows, the drawing, and the realizer.
 #![tactic(auto)]
 
 pub mod closed_walks;

@@ -1,4 +1,4 @@
-//! Which vertex of a contour goes next.
+//! Chooses the vertex of the contour that is removed next, with its faces.
 ghost use Rattle.std.specs.Prelude.{◌≡◌, ◌+◌, ◌<◌, ◌≤◌, ◌↔◌, ℕ, suc, true, false, length, slice_index, IsTrue, IfOk};
 ghost use Rattle.map_theory.specs.Maps.{list_of};
 ghost use Rattle.convex_orders.specs.Contours.{vertices_of, AreWithin};
@@ -10,7 +10,8 @@ use crate::counts::Counts;
 use crate::marked::Marked;
 use std::alloc::AllocError;
 
-// Returns whether two numbers at one place have no mark.
+// Says whether some edge of a vertex has no marked face: `own` and `other` have the face numbers on both sides of each
+// edge.
 fn is_open(own: &[u32], other: &[u32], marks: &[bool]) -> bool
     requires rows { AreRowsBelow own.now other.now (length marks.now) }
     ensures { IsTrue result ↔ ((k : ℕ) × IsOpenAt own.now other.now marks.now k) }
@@ -23,7 +24,8 @@ fn is_open(own: &[u32], other: &[u32], marks: &[bool]) -> bool
     false
 }
 
-// Returns whether each marked number of a row is met at one vertex more than it has edges.
+// Says whether each marked face of `own` meets the contour in one interval: at one vertex more than it has edges there.
+// `places` and `edges` have these counts by face number.
 fn none_split(own: &[u32], marks: &[bool], places: &[u16], edges: &[u16]) -> bool
     requires own_in { (k : ℕ) → k < length own.now → slice_index own.now k < length marks.now }
     requires places { length places.now ≡ length marks.now }
@@ -39,7 +41,7 @@ fn none_split(own: &[u32], marks: &[bool], places: &[u16], edges: &[u16]) -> boo
     true
 }
 
-/// What tells which vertices of a contour may go: the faces that are left, and two counts for each of them.
+/// What decides which vertices of a contour may be removed: the faces that are left, and two counts for each of them.
 #[derive(Clone, Copy)]
 pub(crate) struct Choice<'a> {
     pub(crate) map: Marked<'a>,
@@ -48,7 +50,7 @@ pub(crate) struct Choice<'a> {
 }
 
 impl Choice<'_> {
-    // Says whether vertex `v` of a contour may go.
+    // Says whether vertex `v` of the contour may be removed.
     fn is_removable(&self, v: usize) -> bool
         requires vertex { v < length self.now.map.tables.now.lists }
         ensures { IsTrue result ↔ IsRemovableRow (list_of self.now.map.tables.now.faces.own v) (list_of self.now.map.tables.now.faces.other v) self.now.map.marks.now self.now.counts.now.places.items self.now.counts.now.edges.items }
@@ -60,7 +62,7 @@ impl Choice<'_> {
             && is_open(own, other, marks)
     }
 
-    // Goes back along the contour to a vertex that may go, and says whether there is one.
+    // Moves back along `contour` to a vertex that may be removed, and says whether there is one.
     fn seek(&self, contour: &mut Contour) -> Result<bool, AllocError>
         requires some { 0 < length contour.old.left.items }
         requires behind { 0 < length contour.old.right.items }
@@ -81,7 +83,8 @@ impl Choice<'_> {
         Ok(false)
     }
 
-    /// Goes to a vertex that may go, where there is one: from the place back, or else from the end of the contour.
+    /// Moves along `contour` to a vertex that may be removed, where there is one: back from the current position, or
+    /// else from the end.
     pub(crate) fn find(&self, contour: &mut Contour) -> Result<(), AllocError>
         requires vertices { AreWithin (vertices_of contour.old) (length self.now.map.tables.now.lists) }
         requires removable { (j : ℕ) × IsRemovablePlace self.now.map.tables.now.faces.own self.now.map.tables.now.faces.other self.now.map.marks.now self.now.counts.now.places.items self.now.counts.now.edges.items (vertices_of contour.old) j }

@@ -1,4 +1,4 @@
-//! A contour as two stacks.
+//! The contour as a list of vertices with a current position, kept as two stacks.
 //!
 //! A contour is a list of vertices. What stands before a place of it and what stands behind that are two stacks, so that
 //! a part at the place goes, and another comes, in as many steps as the parts have vertices.
@@ -7,7 +7,7 @@ ghost use Rattle.convex_orders.specs.Contours.{vertices_of};
 
 use std::alloc::{AllocError, Global};
 
-/// A list of vertices with a place in it.
+/// A list of vertices with a current position in it.
 #[derive(Drop)]
 pub(crate) struct Contour {
     /// The vertices before the place.
@@ -41,7 +41,7 @@ impl Contour {
         self.left.len() + self.right.len()
     }
 
-    /// Returns the vertex at place `i`.
+    /// Returns the vertex at index `i`.
     pub(crate) fn vertex(&self, i: usize) -> u16
         requires { i < length (vertices_of self.now) }
         ensures { result ≡ slice_index (vertices_of self.now) i }
@@ -53,7 +53,7 @@ impl Contour {
         }
     }
 
-    /// Takes the last vertex before the place behind it.
+    /// Moves the current position back by one vertex.
     pub(crate) fn step_back(&mut self) -> Result<(), AllocError>
         requires { 0 < length self.old.left.items }
         ensures same { IfOk result (λ _. vertices_of self.new ≡ vertices_of self.old) }
@@ -67,7 +67,7 @@ impl Contour {
         Ok(())
     }
 
-    // Takes the first vertex behind the place before it.
+    // Moves the current position on by one vertex.
     fn step_on(&mut self) -> Result<(), AllocError>
         requires { 0 < length self.old.right.items }
         ensures same { IfOk result (λ _. vertices_of self.new ≡ vertices_of self.old) }
@@ -81,7 +81,7 @@ impl Contour {
         Ok(())
     }
 
-    /// Moves the place so that `count` vertices stand before it.
+    /// Moves the current position so that `count` vertices stand before it.
     pub(crate) fn move_to(&mut self, count: usize) -> Result<(), AllocError>
         requires { count ≤ length self.old.left.items + length self.old.right.items }
         ensures same { IfOk result (λ _. vertices_of self.new ≡ vertices_of self.old) }

@@ -1,4 +1,4 @@
-//! How often a contour meets each number of a face, as parts of it come and go.
+//! How often each face meets the contour, at vertices and along edges, updated as intervals of the contour come and go.
 ghost use Rattle.std.specs.Prelude.{◌-◌, ◌<◌, ◌==◌, ℕ, suc, length, slice_index, count_by, All, IfOk};
 ghost use Rattle.map_theory.specs.Maps.{list_of};
 ghost use Rattle.convex_orders.specs.Contours.{number_at, AreInner};
@@ -13,14 +13,15 @@ use crate::way::Way;
 use map_lists::ItemLists;
 use std::alloc::{AllocError, Global};
 
-/// For each number of a face how often the rows of the vertices of a contour have it, and how many of its edges.
+/// For each face number how often it occurs round the vertices of the contour, and how many edges of the contour it
+/// has.
 #[derive(Drop)]
 pub(crate) struct Counts {
     pub(crate) places: Vec<u16>,
     pub(crate) edges: Vec<u16>,
 }
 
-// Counts each entry of a row.
+// Adds or subtracts one in `counts`, by `way`, for each face number of `row`.
 fn move_row(counts: &mut [u16], way: Way, row: &[u32])
     requires within { All (λ u. u < length counts.old) row.now }
     requires can { (f : ℕ) → f < length counts.old → CanMove way (slice_index counts.old f) (count_by (λ u. u == f) row.now) }
@@ -32,7 +33,7 @@ fn move_row(counts: &mut [u16], way: Way, row: &[u32])
     }
 }
 
-// Counts the rows of vertices.
+// Adds or subtracts, by `way`, the face numbers that `own` lists round each of the vertices `vs` in `counts`.
 fn move_rows(counts: &mut [u16], way: Way, own: &ItemLists<u32>, vs: &[u16])
     requires vertices { (i : ℕ) → i < length vs.now → slice_index vs.now i < length own.now }
     requires below { (v : ℕ) → v < length own.now → All (λ f. f < length counts.old) (list_of own.now v) }
@@ -44,7 +45,8 @@ fn move_rows(counts: &mut [u16], way: Way, own: &ItemLists<u32>, vs: &[u16])
     }
 }
 
-// Counts the edges along vertices; `inner` has the number of that from each one on.
+// Adds or subtracts, by `way`, in `counts` the faces inside of the edges between consecutive vertices of `vs`. `inner`
+// has for each vertex the face inside of its edge to the next.
 fn move_edges(counts: &mut [u16], way: Way, inner: &[u32], vs: &[u16])
     requires some { 0 < length vs.now }
     requires vertices { (i : ℕ) → suc i < length vs.now → slice_index vs.now i < length inner.now }
@@ -59,7 +61,7 @@ fn move_edges(counts: &mut [u16], way: Way, inner: &[u32], vs: &[u16])
 }
 
 impl Counts {
-    /// Returns counts of no number. They take no memory.
+    /// Returns counts of no faces. They take no memory.
     pub(crate) fn new(alloc: Global) -> Counts {
         Counts {
             places: Vec::new(alloc),
@@ -67,7 +69,7 @@ impl Counts {
         }
     }
 
-    /// Makes room for `count` numbers, with nothing counted yet.
+    /// Makes room for `count` faces, with nothing counted yet.
     pub(crate) fn clear(&mut self, count: usize) -> Result<(), AllocError>
         ensures size { IfOk result (λ _. HaveSize self.new count) }
         ensures none { IfOk result (λ _. AreNone self.new) }
@@ -77,7 +79,8 @@ impl Counts {
         Ok(())
     }
 
-    /// Counts a stretch of a contour: the rows of the vertices strictly between its ends, and all its edges.
+    /// Adds or subtracts, by `way`, an interval of the contour: the faces round the vertices strictly within it, and
+    /// those of all its edges.
     pub(crate) fn move_part(&mut self, way: Way, stretch: &Stretch<'_>)
         requires size { HaveSize self.old stretch.now.tables.now.faces.count }
         requires can { CanMoveAll stretch.now.tables.now.lists stretch.now.tables.now.faces.own stretch.now.tables.now.faces.count way stretch.now.ws.now stretch.now.first stretch.now.last self.old }
@@ -99,7 +102,8 @@ impl Counts {
         move_edges(&mut self.edges, way, inner, part(ws, first, last + 1));
     }
 
-    /// Counts a whole contour, where there are no counts yet.
+    /// Counts the whole contour `ws`, where there are no counts yet. `inner` has for each vertex the face inside of its
+    /// edge to the next.
     pub(crate) fn count_all(&mut self, tables: &Tables, inner: &[u32], ws: &[u16])
         requires size { HaveSize self.old tables.now.faces.count }
         requires inner { AreInner tables.now.lists tables.now.faces.own ws.now inner.now }

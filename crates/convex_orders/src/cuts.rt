@@ -1,4 +1,4 @@
-//! The cuts of a row.
+//! The cuts of an interval of the contour: the positions in it at which the face outside changes.
 ghost use Rattle.std.specs.Prelude.{◌≡◌, ◌+◌, ◌<◌, ℕ, if◌then◌else◌, [], ◌∷◌, ◌++◌, length, slice_index, IfOk};
 ghost use Rattle.convex_orders.specs.Contours.{number_at};
 ghost use Rattle.convex_orders.specs.Cuts.{AreCutPlaces, IsCutRow};
@@ -6,7 +6,7 @@ ghost use Rattle.convex_orders.specs.Cuts.{AreCutPlaces, IsCutRow};
 use crate::stretch::Stretch;
 use std::alloc::AllocError;
 
-// Appends a number, unless the test holds.
+// Appends `x` to `row`, unless `test` holds.
 fn push_unless(row: &mut Vec<u16>, test: bool, x: u16) -> Result<(), AllocError>
     ensures { IfOk result (λ _. row.new.items ≡ (if test then row.old.items else (row.old.items ++ x ∷ []))) }
 {
@@ -16,8 +16,7 @@ fn push_unless(row: &mut Vec<u16>, test: bool, x: u16) -> Result<(), AllocError>
     Ok(())
 }
 
-/// Fills a row with the cuts of a stretch, as places behind its first; `outer` has the number of the face outside of the
-/// edge from each vertex on.
+/// Fills `row` with the cuts of an interval, as offsets from its first vertex.
 pub(crate) fn put_cuts(
     row: &mut Vec<u16>,
     outer: &[u32],

@@ -1,4 +1,4 @@
-//! Which faces go with a vertex, and where along the contour they stand.
+//! Removes faces at the chosen vertex of the contour, and finds the interval of the contour that disappears with them.
 ghost use Rattle.std.specs.Prelude.{◌≡◌, ◌<◌, ◌≤◌, ◌↔◌, ℕ, suc, Bool, true, false, length, slice_index, slice_set, Contains, IsTrue};
 ghost use Rattle.convex_orders.specs.Contours.{vertices_of, number_at, AreInner};
 ghost use Rattle.convex_orders.specs.Shown.{is_set, IsChoice, GoesOffNear, GoesOffAt};
@@ -30,7 +30,7 @@ pub(crate) fn clear_row(marks: &mut [bool], row: &[u32])
     }
 }
 
-// Takes from `marks` the mark of the face with number `f`.
+// Takes from `marks` the mark of the face with number `f`, since it is no longer left.
 fn clear_one(marks: &mut [bool], f: u32)
     requires within { f < length marks.old }
     ensures { marks.new ≡ slice_set marks.old f false }
@@ -39,7 +39,7 @@ fn clear_one(marks: &mut [bool], f: u32)
 }
 
 impl Edges<'_> {
-    // Returns the number of the edge from place `i` on.
+    // Returns the number of the face inside of the contour edge from index `i` on.
     fn number(&self, i: usize) -> u32
         requires within { i < length (vertices_of self.now.contour.now) }
         ensures { result ≡ number_at self.now.inner.now (vertices_of self.now.contour.now) i }
@@ -47,7 +47,7 @@ impl Edges<'_> {
         self.inner[self.contour.vertex(i) as usize]
     }
 
-    // Says whether there are edges from place `i` and from the next place on, and they have one number.
+    // Says whether there are contour edges from index `i` and from the next one, and one face is inside of both.
     fn is_same(&self, i: usize) -> bool
         requires { i < length (vertices_of self.now.contour.now) }
         ensures { IsTrue result ↔ ((suc (suc i) < length (vertices_of self.now.contour.now)) × (number_at self.now.inner.now (vertices_of self.now.contour.now) i ≡ number_at self.now.inner.now (vertices_of self.now.contour.now) (suc i))) }
@@ -58,7 +58,7 @@ impl Edges<'_> {
         self.number(i) == self.number(i + 1)
     }
 
-    // Says whether the edges before place `j` have one number.
+    // Says whether one face is inside of both contour edges before index `j`.
     fn has_left(&self, j: usize) -> bool
         requires within { j < length (vertices_of self.now.contour.now) }
         ensures yes { IsTrue result → (h : ℕ) × (suc (suc h) ≡ j) × (number_at self.now.inner.now (vertices_of self.now.contour.now) h ≡ number_at self.now.inner.now (vertices_of self.now.contour.now) (suc h)) }
@@ -67,7 +67,8 @@ impl Edges<'_> {
         j >= 2 && self.is_same(j - 2)
     }
 
-    // Takes the marks away of what goes with the vertex before the place.
+    // Takes from `marks` the faces that are removed with the vertex before the current position: one face, where that
+    // covers an interval there, or else all faces at the vertex.
     fn take_at(&self, marks: &mut [bool])
         requires place { (j : ℕ) → suc j ≡ length self.now.contour.now.left.items → CanGo self.now.tables.now marks.old (vertices_of self.now.contour.now) j }
         ensures long { length marks.new ≡ length marks.old }
@@ -84,7 +85,7 @@ impl Edges<'_> {
         }
     }
 
-    // Says whether the edge from place `i` on has a number with a mark.
+    // Says whether the face inside of the contour edge from index `i` on is marked.
     fn is_kept(&self, marks: &[bool], i: usize) -> bool
         requires within { suc i < length (vertices_of self.now.contour.now) }
         requires long { length marks.now ≡ self.now.tables.now.faces.count }
@@ -93,7 +94,7 @@ impl Edges<'_> {
         marks[self.number(i) as usize]
     }
 
-    // Returns where the edges without marks end, from the vertex before the place on.
+    // Returns the index at which the edges without marked faces end, from the vertex before the current position on.
     fn end_of(&self, marks: &[bool]) -> usize
         requires long { length marks.now ≡ self.now.tables.now.faces.count }
         ensures { (first end j : ℕ) → suc j ≡ length self.now.contour.now.left.items → first ≤ j → j ≤ end → IsGoneRun (number_at self.now.inner.now (vertices_of self.now.contour.now)) marks.now (length (vertices_of self.now.contour.now)) first end → result ≡ end }
@@ -108,7 +109,8 @@ impl Edges<'_> {
         last
     }
 
-    // Returns where they begin, from the vertex before the place back.
+    // Returns the index at which the edges without marked faces begin, from the vertex before the current position
+    // back.
     fn first_of(&self, marks: &[bool]) -> usize
         requires long { length marks.now ≡ self.now.tables.now.faces.count }
         ensures { (first end j : ℕ) → suc j ≡ length self.now.contour.now.left.items → first ≤ j → j ≤ end → IsGoneRun (number_at self.now.inner.now (vertices_of self.now.contour.now)) marks.now (length (vertices_of self.now.contour.now)) first end → result ≡ first }
@@ -123,7 +125,8 @@ impl Edges<'_> {
         0
     }
 
-    /// Takes the marks away of what goes with the vertex before the place, and returns the places between which it stands.
+    /// Takes from `marks` the faces that are removed with the vertex before the current position. Returns the first and
+    /// the last index of the contour interval along which they stood.
     pub(crate) fn take_run(&self, marks: &mut [bool]) -> (usize, usize)
         requires place { (j : ℕ) → suc j ≡ length self.now.contour.now.left.items → CanGo self.now.tables.now marks.old (vertices_of self.now.contour.now) j }
         ensures long { length marks.new ≡ length marks.old }

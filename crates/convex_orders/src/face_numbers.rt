@@ -1,5 +1,5 @@
-//! The numbers of faces, for each entry of the lists of a map: that of the face of its dart, and that of the
-//! face of the dart back. With them code goes round a vertex by slices alone.
+//! The face numbers of a half-edge map for each entry of its lists: of the face of the dart, and of the face of the
+//! dart back. With them code goes round a vertex by slices alone.
 
 ghost use Rattle.std.specs.Prelude.{◌≡◌, ◌<◌, ℕ, length, Some, IfOk};
 ghost use Rattle.map_theory.specs.Maps.{list_of};
@@ -12,7 +12,7 @@ use half_edges::{DartId, HalfMap, VertexId};
 use map_lists::ItemLists;
 use std::alloc::{AllocError, Global};
 
-/// For each entry of a map's lists the numbers of two faces.
+/// For each entry of a map's lists the numbers of the two faces at that edge.
 #[derive(Drop)]
 pub struct FaceNumbers {
     /// The number of the face of the dart to the entry.
@@ -41,7 +41,7 @@ impl WalkedMap<'_> {
         self.faces.of_dart(d).0
     }
 
-    // Appends the numbers of the edges of `v` to two rows.
+    // Appends the face numbers at the edges of `v`: of their darts to `own`, and of the darts back to `other`.
     fn put_vertex(
         &self,
         v: VertexId,

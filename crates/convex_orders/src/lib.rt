@@ -1,4 +1,4 @@
-//! The rows of a run of a three-connected plane map, found by taking faces off from outside.
+//! The construction sequence (run) of a three-connected plane map, as rows, found by removing faces from outside.
 //!
 //! Marks say which faces are left, by numbers, and two stacks are their contour, with a place between them. A vertex that
 //! may go next is looked for from that place backwards, and what goes and what comes is told there; so all rows take

@@ -1,4 +1,4 @@
-//! A map some of whose faces are left.
+//! A map some of whose faces are left, as the type that searches of the contour read.
 ghost use Rattle.std.specs.Prelude.{◌≡◌, length};
 
 use crate::tables::Tables;

@@ -1,4 +1,4 @@
-//! The rows of a run of a map.
+//! The public calls that make the rows of a construction sequence, from lists and faces of a map.
 ghost use Rattle.std.specs.Prelude.{◌≡◌, ◌<◌, ℕ, Some, IfOk};
 ghost use Rattle.map_theory.specs.Maps.{IsPlane, HasDart};
 ghost use Rattle.convex_peeling.specs.Polyhedral.{IsThreeConnected};
@@ -18,7 +18,7 @@ use half_edges::{DartId, HalfMap};
 use map_lists::Rotations;
 use std::alloc::{AllocError, Global};
 
-// Returns lists as they are, in the memory of others.
+// Returns a copy of `lists` in the memory of `spent`.
 fn copied(spent: Rotations, lists: &Rotations) -> Result<Rotations, AllocError>
     ensures { IfOk result (λ copy. copy ≡ lists.now) }
 {
@@ -31,8 +31,8 @@ fn copied(spent: Rotations, lists: &Rotations) -> Result<Rotations, AllocError>
     Ok(Rotations::from_parts(entries, ends))
 }
 
-/// Returns tables of a map for the dart from `tail` to `head` as its base: its lists, in the memory of others, and the
-/// numbers of its faces.
+/// Returns tables of a map for the dart from `tail` to `head` as its base: its `lists`, copied into the memory of
+/// `spent`, and the numbers of its faces.
 pub fn tables_of(
     spent: Rotations,
     lists: &Rotations,
@@ -58,8 +58,8 @@ pub fn tables_of(
     })
 }
 
-/// Returns the rows of a run of a three-connected map of genus zero by its tables, in the memory of other rows. It fails
-/// only when out of memory.
+/// Returns the rows of a construction sequence of a three-connected map of genus zero by its `tables`, in the memory of
+/// `spent`. It fails only when out of memory.
 ///
 /// The run makes all faces but that of the base. Its first two ranks stand for the base's head and its tail, and the
 /// last one for the vertex before the base on the base's face.
@@ -72,8 +72,8 @@ pub fn rows_again(spent: RowTables, tables: &Tables) -> Result<RowTables, AllocE
     Ok(made)
 }
 
-/// Returns the rows of a run of a three-connected map of genus zero from the dart `base`, from s to d, by the map's
-/// `lists` and its `faces`. It fails only when out of memory, and the map stays as it is.
+/// Returns the rows of a construction sequence of `map`, three-connected and of genus zero, from the dart `base`, from
+/// s to d. It takes the map's `lists` and its `faces`. It fails only when out of memory, and the map stays as it is.
 ///
 /// The run makes all faces but that of the base. Its first two ranks stand for d and s, and the last one for the
 /// vertex before the base on the base's face.

@@ -1,4 +1,4 @@
-//! The contour, traced along the darts of the rim.
+//! Traces the contour along the edges between removed and remaining faces, and notes the faces on both sides.
 ghost use Rattle.std.specs.Prelude.{◌<◌, ◌≤◌, ℕ, Bool, length, IfOk, MatchOption};
 ghost use Rattle.convex_orders.specs.Shown.{IsListOf, IsTrace, SomeTrace, IsRimIn};
 ghost use Rattle.convex_orders.specs.Splits.{IsRimAt, AreRowsBelow, HasRim};
@@ -8,7 +8,7 @@ use crate::marked::Marked;
 use crate::vectors::refill;
 use std::alloc::{AllocError, Global};
 
-/// Numbers of faces along a contour, one for each vertex.
+/// The faces on both sides of the contour, by face number, one entry for each vertex.
 #[derive(Drop)]
 pub(crate) struct Rims {
     /// Where the dart along the contour was in the list of the vertex; whatever this holds, all answers are the same.
@@ -19,7 +19,8 @@ pub(crate) struct Rims {
     pub(crate) outer: Vec<u32>,
 }
 
-// Returns a place from `from` on where the one number has no mark, and the other one has, if there is one.
+// Returns the first index from `from` on at which the face of `own` has no mark and that of `other` has one, if there
+// is one.
 fn rim_from(own: &[u32], other: &[u32], marks: &[bool], from: usize) -> Option<usize>
     requires rows { AreRowsBelow own.now other.now (length marks.now) }
     ensures { MatchOption result ((k : ℕ) → from ≤ k → ¬ IsRimAt own.now other.now marks.now k) (λ k. IsRimAt own.now other.now marks.now k) }
@@ -32,7 +33,8 @@ fn rim_from(own: &[u32], other: &[u32], marks: &[bool], from: usize) -> Option<u
     None
 }
 
-// Returns such a place, which is looked for from `from` on first.
+// Returns an index at which the face of `own` has no mark and that of `other` has one, looked for from `from` on first;
+// or 0.
 fn rim_near(own: &[u32], other: &[u32], marks: &[bool], from: usize) -> usize
     requires { HasRim own.now other.now marks.now }
     ensures { IsRimAt own.now other.now marks.now result }
@@ -47,7 +49,7 @@ fn rim_near(own: &[u32], other: &[u32], marks: &[bool], from: usize) -> usize
 }
 
 impl Rims {
-    /// Returns room for no vertex. It takes no memory.
+    /// Returns room for no vertices. It takes no memory.
     pub(crate) fn new(alloc: Global) -> Rims {
         Rims {
             hints: Vec::new(alloc),
@@ -66,8 +68,9 @@ impl Rims {
         Ok(())
     }
 
-    // Notes the edge at place `k` of the list of a vertex, which is looked for where it was last seen: at a hub it goes
-    // on in one direction. Returns the vertex to which it leads.
+    // Finds the contour edge that leaves vertex `x`, notes the faces on its two sides, and returns its other end. The
+    // search begins where that edge was last seen in the list: at a hub it goes on in one direction. Returns the vertex
+    // to which it leads.
     fn see(&mut self, map: &Marked<'_>, x: u16) -> u16
         requires size { AreRims self.old (length map.now.tables.now.lists) }
         requires some { (y : ℕ) × IsRimIn map.now.tables.now.lists map.now.tables.now.faces.own map.now.tables.now.faces.other map.now.marks.now x y }
@@ -84,7 +87,8 @@ impl Rims {
         map.tables.lists.list(v)[k]
     }
 
-    /// Goes along the contour from the last vertex of the list on, and appends what it meets, up to the vertex `stop`.
+    /// Appends to `left` the vertices along the contour of `map`, from the last one of `left` on, up to the vertex
+    /// `stop`.
     pub(crate) fn trace(
         &mut self,
         left: &mut Vec<u16>,

@@ -1,4 +1,4 @@
-//! One removal after another.
+//! Removes vertices and faces from the contour, one removal after another, and appends the row of each.
 ghost use Rattle.std.specs.Prelude.{◌≡◌, ◌+◌, ◌-◌, ◌<◌, ℕ, suc, Bool, true, false, [], ◌∷◌, ◌++◌, length, IsTrue, IfOk};
 ghost use Rattle.map_theory.specs.Maps.{dart_count};
 ghost use Rattle.convex_peeling.specs.Contours.{IsFirst};
@@ -44,7 +44,7 @@ pub struct RowTables {
     pub(crate) cuts: Vec<u16>,
 }
 
-// Appends a row with its cuts.
+// Appends `row`, an interval of the contour, with its `cuts` to `rows`.
 fn push_row(rows: &mut ConvexRows, row: &[u16], cuts: &[u16]) -> Result<(), AllocError>
     ensures { IfOk result (λ _. (rows.new.rows ≡ rows.old.rows ++ row.now ∷ []) × (rows.new.cuts ≡ rows.old.cuts ++ cuts.now ∷ []) × (rows.new.news ≡ rows.old.news)) }
 {
@@ -70,7 +70,7 @@ impl RowTables {
         }
     }
 
-    /// Leaves no row, and each face of the map with a mark, with nothing noted and nothing counted.
+    /// Resets the tables for a map: there is no row, each face has a mark, and nothing is noted or counted.
     pub(crate) fn clear(&mut self, tables: &Tables) -> Result<(), AllocError>
         ensures { IfOk result (λ _. IsBlank tables.now self.new) }
     {
@@ -85,8 +85,8 @@ impl RowTables {
         Ok(())
     }
 
-    // Takes out what stands strictly between two places of the contour, and appends it to the rows of what goes. Returns
-    // the vertex at the second place.
+    // Removes the vertices strictly between indices `first` and `end` of the contour, uncounts them, and appends them
+    // to the rows of new vertices. Returns the vertex at `end`.
     fn take_out(&mut self, tables: &Tables, first: usize, end: usize) -> Result<u16, AllocError>
         requires kept { IsKept tables.now self.old }
         requires order { first < end }
@@ -113,7 +113,8 @@ impl RowTables {
         Ok(x)
     }
 
-    // Counts what came behind place `first` of the contour and before its place, and appends its row.
+    // Counts the vertices that were traced after index `first` of the contour, and appends that interval with its cuts
+    // as a row.
     fn put_in(&mut self, tables: &Tables, first: usize) -> Result<(), AllocError>
         requires rims { AreRims self.old.rims (length tables.now.lists) }
         requires inner { AreInner tables.now.lists tables.now.faces.own self.old.contour.left.items self.old.rims.inner.items }
@@ -142,7 +143,8 @@ impl RowTables {
         Ok(())
     }
 
-    // Takes out what stands strictly between two places, goes along what comes there, and appends the row.
+    // Removes the vertices strictly between indices `first` and `end` of the contour, traces the new contour there, and
+    // appends the row of this removal.
     fn advance(&mut self, tables: &Tables, first: usize, end: usize) -> Result<(), AllocError>
         requires kept { IsKept tables.now self.old }
         requires some { SomeOff tables.now.lists tables.now.faces.own self.old.marks.items tables.now.tail tables.now.head (vertices_of self.old.contour) first end }
@@ -161,7 +163,7 @@ impl RowTables {
         Ok(())
     }
 
-    // Takes off what goes next, and appends its row.
+    // Makes the next removal: chooses a vertex, unmarks its faces, and appends the row.
     fn round(&mut self, tables: &Tables) -> Result<(), AllocError>
         requires kept { IsKept tables.now self.old }
         requires stands { (bound : ℕ) × StandsBy tables.now self.old bound }
@@ -187,7 +189,8 @@ impl RowTables {
         Ok(())
     }
 
-    // Returns whether all edges along the contour have the number `base`, that of the face inside of the base.
+    // Says whether `base`, the face inside of the base edge, is inside of all edges of the contour: just the last
+    // removal remains.
     fn is_last(&self, tables: &Tables, base: u32) -> bool
         requires kept { IsKept tables.now self.now }
         requires base { base ≡ entry tables.now.lists tables.now.faces.own tables.now.head tables.now.tail }
@@ -199,7 +202,7 @@ impl RowTables {
         usize::from(self.counts.edges[base as usize]) + 1 == self.contour.len()
     }
 
-    // Takes one removal after another, to the last one: over the base go all other vertices of the contour.
+    // Makes one removal after another, to the last one, which removes all other vertices of the contour over the base.
     fn peel(&mut self, tables: &Tables) -> Result<(), AllocError>
         requires kept { IsKept tables.now self.old }
         requires stands { StandsBy tables.now self.old (suc (dart_count tables.now.lists)) }
@@ -219,7 +222,7 @@ impl RowTables {
         Ok(())
     }
 
-    // Goes along the contour where just the face of the base is taken off, and counts it.
+    // Removes the face of the base alone, traces its contour, and counts it.
     fn first_contour(&mut self, tables: &Tables) -> Result<(), AllocError>
         requires blank { IsBlank tables.now self.old }
         ensures kept { IfOk result (λ _. IsKept tables.now self.new) }
@@ -241,8 +244,8 @@ impl RowTables {
         Ok(())
     }
 
-    /// Takes all removals: the face of the base, then the vertex before the base with all its faces, and then one after
-    /// another.
+    /// Makes all removals: of the base's face, then of the vertex before the base with all its faces, and then one
+    /// after another.
     pub(crate) fn put_all(&mut self, tables: &Tables) -> Result<(), AllocError>
         requires blank { IsBlank tables.now self.old }
         ensures { IfOk result (λ _. AreRowsOfRun tables.now.lists tables.now.tail tables.now.head self.new.rows) }

@@ -1,4 +1,4 @@
-//! A stretch of a contour.
+//! An interval of the contour, as the type `Stretch`, with the face inside of each edge.
 ghost use Rattle.std.specs.Prelude.{◌<◌, length};
 ghost use Rattle.convex_orders.specs.Contours.{AreInner};
 

@@ -1,4 +1,4 @@
-//! Tables of a map that the removals of a run read.
+//! The tables of a map that removals read: its lists, face numbers and base, with a lookup of a dart's face.
 ghost use Rattle.std.specs.Prelude.{◌≡◌, ◌<◌, ℕ, length};
 ghost use Rattle.map_theory.specs.Maps.{HasDart, IsSimpleMap};
 ghost use Rattle.convex_orders.specs.FaceNumbers.{entry, IsTable, AreFaceNumbers};
@@ -24,7 +24,7 @@ pub struct Tables {
     pub ghost numbers: { AreFaceNumbers lists faces.own faces.other faces.count },
 }
 
-// Returns the entry of `table` for the dart from `x` to `y`.
+// Returns the entry of `table` for the dart from `x` to `y`, or 0 where `lists` have no such dart.
 fn number_in(lists: &Rotations, table: &ItemLists<u32>, x: u16, y: u16) -> u32
     requires simple { IsSimpleMap lists.now }
     requires table { (count : ℕ) × IsTable lists.now table.now count }

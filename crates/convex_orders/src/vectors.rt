@@ -1,9 +1,9 @@
-//! Parts of slices, and vectors that are filled anew.
+//! Tools on slices and vectors: a part of a slice, and a vector refilled in its memory.
 ghost use Rattle.std.specs.Prelude.{◌≡◌, ◌≤◌, length, replicate, slice_range, IfOk};
 
 use std::alloc::AllocError;
 
-/// Returns the vertices of a list from place `start` on and before place `end`.
+/// Returns the entries of `ws` from index `start` on and before index `end`.
 pub(crate) fn part(ws: &[u16], start: usize, end: usize) -> &[u16]
     requires order { start ≤ end }
     requires within { end ≤ length ws.now }
@@ -12,7 +12,7 @@ pub(crate) fn part(ws: &[u16], start: usize, end: usize) -> &[u16]
     &ws[start..end]
 }
 
-/// Makes a vector hold `item` alone, `count` times, in the memory that it has.
+/// Makes `row` hold `count` copies of `item` alone, in the memory that it has.
 pub(crate) fn refill<T: Copy>(row: &mut Vec<T>, item: T, count: usize) -> Result<(), AllocError>
     ensures { IfOk result (λ _. row.new.items ≡ replicate count item) }
 {

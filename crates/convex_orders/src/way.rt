@@ -1,4 +1,4 @@
-//! Whether a part of a contour comes or goes.
+//! The direction of a change of counts: whether an interval of the contour comes or goes.
 ghost use Rattle.convex_orders.specs.Ways.{CanMove, IsMoved};
 
 /// Whether a part of a contour comes or goes.
@@ -11,7 +11,7 @@ pub(crate) enum Way {
 }
 
 impl Way {
-    /// Returns a count that is one more, or one less.
+    /// Returns `count` plus one where the interval comes, or minus one where it goes.
     pub(crate) fn moved(self, count: u16) -> u16
         requires { CanMove self count 1 }
         ensures { IsMoved self count 1 result }

@@ -1,5 +1,4 @@
-//! Blocks of 16 stars each, by the numbers of their vertices: a box of all that their edges reach, by which a star is
-//! compared with a whole block.
+//! Bounding boxes of blocks of 16 stars each: what the edges of 16 consecutive vertices reach.
 ghost use Rattle.std.specs.Prelude.{◌≡◌, ◌+◌, ◌*◌, ◌<◌, ◌≤◌, ℕ, length};
 ghost use Rattle.draw_check.specs.Spans.{IsBoxInRange};
 ghost use Rattle.draw_check.specs.Stars.{Reaches, AreBlocks};
@@ -10,8 +9,8 @@ use crate::spans::{NO_SPAN, Span, joined, widened};
 use half_edges::VertexId;
 
 impl Drawing<'_> {
-    // Returns a box of the vertices from number `begin` on and before `end`, and of their greater neighbours; `heads` is
-    // room.
+    // Returns a box of the vertices from number `begin` on and before `end`, and of their greater neighbours. `heads`
+    // is room for neighbours.
     fn block_of(&self, heads: &mut [u16], begin: u16, end: u16) -> Span
         requires end { end ≤ length self.now.map.now.lists }
         requires room { length heads.old ≡ 4095 }
@@ -28,7 +27,7 @@ impl Drawing<'_> {
         span
     }
 
-    // Writes the boxes of the blocks; `heads` is room.
+    // Writes the box of each block of 16 vertices into `blocks`. `heads` is room for neighbours.
     pub(crate) fn fill_blocks(&self, heads: &mut [u16], blocks: &mut [Span])
         requires room { length heads.old ≡ 4095 }
         requires few { length blocks.old ≤ 256 }

@@ -1,4 +1,5 @@
-//! The check of a drawing of a triangulation by the corners of its lists: no map is made of them.
+//! The check of a drawing of a triangulation by the angles between consecutive list entries, with no map made of the
+//! lists.
 ghost use Rattle.std.specs.Prelude.{◌<◌, length};
 ghost use Rattle.std.specs.Bool.{OnTrue};
 ghost use Rattle.half_edges.specs.Map.{first_dart};
@@ -26,8 +27,8 @@ struct Corners<'a> {
 }
 
 impl Corners<'_> {
-    // Says whether the corner at `a` from `c` to `b` opens to the left, or to the right where the face is the outer one.
-    // Of a triangle, one corner alone is looked at: that at the least vertex, where `b` and `c` are vertices at all.
+    // Says whether the corner at `a` from `c` to `b` opens to the left, or to the right where the face is the outer
+    // one. Of a triangle just the corner at its least vertex is tested; `b` and `c` must be vertices.
     #[inline(always)]
     fn is_well(&self, is_outer: bool, a: u16, b: u16, c: u16) -> bool
         requires { a < length self.now.points.now }
@@ -45,7 +46,7 @@ impl Corners<'_> {
             && placed.turns_well(is_outer, VertexId(a), VertexId(b), VertexId(c))
     }
 
-    // Says whether all corners at `v` are drawn well.
+    // Says whether all corners at `v` open to the right side.
     fn is_round_well(&self, v: u16) -> bool
         requires { v < length self.now.lists.now }
         ensures { OnTrue result (IsRoundWell self.now.lists.now self.now.points.now v) }
@@ -63,9 +64,9 @@ impl Corners<'_> {
     }
 }
 
-/// Says whether a drawing of lists is seen to have no fault, where they are a triangulation: `check_points` answers `Yes`, and
-/// so does `check_outer` for the first vertex's first dart. Of other lists nothing is promised. It takes no memory, and
-/// linear time.
+/// Says whether a drawing of `lists` at `points` is seen to have no fault, in the grid up to `corner`. Where the lists
+/// are a triangulation, `check_points` answers `Yes` then, and so does `check_outer` for the first vertex's first dart.
+/// Of other lists nothing is promised. It takes no memory, and linear time.
 pub fn is_drawn_well(lists: &Rotations, points: &Points, corner: Point) -> bool
     requires places { HasPlaces lists.now points.now }
     ensures { OnTrue result (IsTriangulation lists.now → IsVerdict lists.now points.now corner.x corner.y NoFault

@@ -1,4 +1,4 @@
-//! The first two edges that cross.
+//! The first two edges that cross, by comparing edges with those of the excluded vertices or star by star.
 ghost use Rattle.std.specs.Prelude.{◌≡◌, ◌+◌, ◌<◌, ◌↔◌, ℕ, IsTrue, Some, IfSome, MatchOption};
 ghost use Rattle.half_edges.specs.Map.{IsLive};
 ghost use Rattle.plane_drawings.specs.Drawing.{IsPlaneDrawing};
@@ -14,7 +14,7 @@ use crate::edges::Probe;
 use half_edges::{DartId, Ends, HalfMap, VertexId};
 use vertex_rounds::first_dart;
 
-// Says whether some loose vertices have few edges, so that it is quick to compare each edge with all of these.
+// Says whether the vertices `loose` have at most 256 edges, so that it is quick to compare each edge with all of these.
 fn have_few_edges(map: &HalfMap, loose: &[u16]) -> bool {
     let mut count: u16 = 0;
     for i in 0..loose.len() {
@@ -27,7 +27,7 @@ fn have_few_edges(map: &HalfMap, loose: &[u16]) -> bool {
 }
 
 impl Drawing<'_> {
-    // Returns the first later edge that crosses the edge from `a` to `b`.
+    // Returns the first edge with a greater lesser end that crosses the edge from `a` to `b`.
     fn crossing_of(&self, a: VertexId, b: VertexId) -> Option<Ends>
         requires edge { HasEdge self.now.map.now.lists a.0 b.0 }
         ensures { MatchOption result ((c d : ℕ) → ¬ EdgesCross self.now.map.now.lists self.now.points.now a.0 b.0 c d)
@@ -37,8 +37,8 @@ impl Drawing<'_> {
         self.first_met(Probe::Edge(a, b), a.0 + 1)
     }
 
-    // Says whether a later edge crosses that of a dart, of which the tail is the lesser end. Without the edges of the
-    // loose vertices the drawing is plane.
+    // Says whether a later edge crosses that of dart `d`, of which the tail is the lesser end. Without the edges of the
+    // vertices `loose` the drawing is plane.
     fn is_dart_crossed(&self, loose: &[u16], d: DartId) -> bool
         requires plane { IsPlaneDrawing (firm_lists loose.now self.now.map.now.lists) self.now.points.now }
         requires live { IsLive self.now.map.now d.0 }
@@ -59,8 +59,8 @@ impl Drawing<'_> {
         }
     }
 
-    // Returns the first edge that a later one crosses. Without the edges of the loose vertices the drawing is plane,
-    // where they are known; where they are not, or have many edges, it is found star by star.
+    // Returns the first edge that a later one crosses. Where `loose` is known, the drawing is plane without the edges
+    // of these vertices; where it is not, or they have many edges, the search goes star by star.
     fn first_crossed_edge(&self, loose: Option<&[u16]>) -> Option<Ends>
         requires plane { IfSome loose (λ l. IsPlaneDrawing (firm_lists l.now self.now.map.now.lists) self.now.points.now) }
         ensures { MatchOption result ((a b : ℕ) → ¬ IsCrossed self.now.map.now.lists self.now.points.now a b)
@@ -78,7 +78,8 @@ impl Drawing<'_> {
         }
     }
 
-    // Returns the first two edges that cross and have no end in common.
+    // Returns the first two edges that cross and have no end in common. Where `loose` is known, the drawing is plane
+    // without the edges of these vertices.
     pub(crate) fn first_crossing(&self, loose: Option<&[u16]>) -> Option<(Ends, Ends)>
         requires plane { IfSome loose (λ l. IsPlaneDrawing (firm_lists l.now self.now.map.now.lists) self.now.points.now) }
         ensures { MatchOption result (NoneCross self.now.map.now.lists self.now.points.now)

@@ -1,4 +1,4 @@
-//! A map with a point for each of its vertices.
+//! A map with a point for each of its vertices, as the types that the checks read, and the turn at three points.
 ghost use Rattle.std.specs.Prelude.{◌<◌, ◌↔◌, ℕ, length, IsTrue, MatchBool, pos, ◌<ℤ◌};
 ghost use Rattle.pg_plane.specs.Geometry.{area};
 ghost use Rattle.pg_plane.specs.Range.{IsInRange};
@@ -25,7 +25,7 @@ pub(crate) struct Placed<'a> {
 }
 
 impl Placed<'_> {
-    // Says whether the way from `a` over `b` to `c` turns to the left, or to the right where the face is the outer
+    // Says whether the path from `a` over `b` to `c` turns to the left, or to the right where the face is the outer
     // one.
     #[inline(always)]
     pub(crate) fn turns_well(&self, is_outer: bool, a: VertexId, b: VertexId, c: VertexId) -> bool

@@ -1,4 +1,4 @@
-//! Vertices on edges, and edges that cross.
+//! What an edge meets: a vertex that lies on it, or another edge that crosses it; and the first edge that is met.
 ghost use Rattle.std.specs.Prelude.{◌≡◌, ◌+◌, ◌<◌, ◌≤◌, ◌↔◌, ℕ, length, IsTrue, Some, MatchOption};
 ghost use Rattle.half_edges.specs.Map.{IsLive};
 ghost use Rattle.vertex_rounds.specs.Least.{IsLeastPair, IsLeastTriple};
@@ -14,7 +14,7 @@ use half_edges::{DartId, Ends, VertexId};
 use pg_plane::{crosses, on_segment};
 use vertex_rounds::first_dart_from;
 
-// Names something that may meet an edge.
+// Something that may meet an edge.
 #[derive(Clone, Copy)]
 pub(crate) enum Probe {
     // A vertex, which may lie on it.
@@ -24,7 +24,7 @@ pub(crate) enum Probe {
 }
 
 impl Drawing<'_> {
-    // Says whether the edge from `a` to `b` is met.
+    // Says whether `probe` meets the edge from `a` to `b`.
     pub(crate) fn meets(&self, probe: Probe, a: VertexId, b: VertexId) -> bool
         requires probe { IsProbeBelow (length self.now.points.now) probe }
         requires a { a.0 < length self.now.points.now }
@@ -46,7 +46,7 @@ impl Drawing<'_> {
         }
     }
 
-    // Says whether the edge of a dart is met, of which the tail is the lesser end.
+    // Says whether `probe` meets the edge of dart `d`, of which the tail is the lesser end.
     fn is_met(&self, probe: Probe, d: DartId) -> bool
         requires probe { IsProbeBelow (length self.now.map.now.lists) probe }
         requires live { IsLive self.now.map.now d.0 }
@@ -58,7 +58,7 @@ impl Drawing<'_> {
         a.0 < b.0 && self.meets(probe, a, b)
     }
 
-    // Returns the first edge that is met, of those whose lesser end is at least `from`.
+    // Returns the first edge that `probe` meets, of those whose lesser end is at least `from`.
     pub(crate) fn first_met(&self, probe: Probe, from: u16) -> Option<Ends>
         requires probe { IsProbeBelow (length self.now.map.now.lists) probe }
         ensures { MatchOption result ((a b : ℕ) → ¬ IsMetFrom self.now.map.now.lists self.now.points.now probe from a b)
@@ -71,8 +71,8 @@ impl Drawing<'_> {
         }
     }
 
-    // Returns the least vertex that lies on an edge of which it is no end, with the first such edge. None below `from`
-    // does.
+    // Returns the least vertex that lies on an edge of which it is no end, with the first such edge. No vertex below
+    // `from` does.
     pub(crate) fn first_on_edge(&self, from: u16) -> Option<(VertexId, Ends)>
         requires none { BoundsAll self.now.map.now.lists self.now.points.now from }
         ensures { MatchOption result (NoneOnEdge self.now.map.now.lists self.now.points.now)

@@ -1,4 +1,4 @@
-//! The check of a drawing of a triangulation by its faces.
+//! The check of a drawing of a triangulation by the orientation of its faces.
 ghost use Rattle.std.specs.Prelude.{◌⊎◌, ◌≡◌, ◌+◌, ◌*◌, ◌<◌, ◌≤◌, ◌↔◌, IsTrue};
 ghost use Rattle.map_theory.specs.Maps.{IsPlane, vertex_count, edge_count};
 ghost use Rattle.map_theory.specs.Paths.{SameFace};
@@ -16,7 +16,7 @@ use half_edges::{DartId, HalfMap};
 use pg_plane::{GridFigure, Point, Points};
 use vertex_rounds::first_dart;
 
-// Says whether an id is one of three.
+// Says whether `d` is one of three darts.
 fn is_one_of(d: DartId, one: DartId, two: DartId, three: DartId) -> bool
     ensures { IsTrue result ↔ ((d.0 ≡ one.0) ⊎ ((d.0 ≡ two.0) ⊎ (d.0 ≡ three.0))) }
 {
@@ -55,7 +55,7 @@ pub fn check_points_by_faces(
     }
 }
 
-/// Like [`check_points_by_faces`], but takes a figure: its points, in its grid.
+/// Checks a figure as [`check_points_by_faces`] does its points, in its grid.
 pub fn check_by_faces(tri: &HalfMap, base: DartId, fig: &GridFigure) -> FaceVerdict
     requires triangulation { IsTriangulation tri.now.lists }
     requires base { IsLive tri.now base.0 }
@@ -77,7 +77,7 @@ struct Framed<'a> {
 }
 
 impl Framed<'_> {
-    // Says whether a dart lies on the face left of the base, which is a triangle.
+    // Says whether `d` lies on the face left of the base, which is a triangle.
     fn is_on_base(&self, d: DartId) -> bool
         requires { IsLive self.now.drawing.map.now d.0 }
         ensures { IsTrue result ↔ SameFace self.now.drawing.map.now.lists (dart_of self.now.drawing.map.now self.now.base.0) (dart_of self.now.drawing.map.now d.0) }
@@ -89,7 +89,8 @@ impl Framed<'_> {
         is_one_of(d, self.base, second, third)
     }
 
-    // Says whether the face of a dart is drawn wrong and the tail is its least vertex.
+    // Says whether the face of `d` is drawn with the wrong orientation and the tail of `d` is its least vertex. The
+    // face left of the base is to be clockwise, and each other one counterclockwise.
     fn is_wrong(&self, d: DartId) -> bool
         requires { IsLive self.now.drawing.map.now d.0 }
         ensures { IsTrue result ↔ HoldsAt self.now.drawing.map.now (IsWrongFrom self.now.drawing.map.now self.now.drawing.points.now self.now.base.0) d.0 }

@@ -31,27 +31,27 @@ pub use pairs::{check, check_points};
 use plane_drawings::drawings::counterclockwise_is_plane;
 pub use verdict::{FaceVerdict, OuterVerdict, Verdict};
 
-/// The verdict is `Yes` exactly where all points lie in the grid, the drawing is plane and the rotations
-/// are kept.
+/// States the law that the verdict is `Yes` exactly where all points lie in the grid, the drawing is plane and the
+/// rotations are kept.
 pub fn yes_is_valid()
     ensures { YesIsValid }
 {}
 
-/// A drawing that is valid for a map with more edges, as for a completion, is valid for the map itself: it
-/// stays in the grid and plane, and keeps the rotations.
+/// States the law that a drawing that is valid for a map with more edges, as for a completion, is valid for the map
+/// itself. It stays in the grid and plane, and keeps the rotations.
 pub fn valid_with_fewer()
     ensures { ValidWithFewer }
 {}
 
-/// Where `check_by_faces` answers `Yes`, `check` does.
+/// States the law that where `check_by_faces` answers `Yes`, `check` does.
 pub fn faces_yes_is_yes()
     ensures { FacesYesIsYes }
 {
     counterclockwise_is_plane();
 }
 
-/// Where `check_by_faces` answers `Yes` for a completion of a map, `check` does for the map itself, and the
-/// face of the base is the outer one: `check_outer` answers `Yes` too.
+/// States the law that where `check_by_faces` answers `Yes` for a completion of a map, `check` does for the map itself.
+/// The face of the base is then the outer one: `check_outer` answers `Yes` too.
 pub fn faces_yes_for_fewer()
     ensures { FacesYesForFewer }
 {

@@ -1,4 +1,4 @@
-//! Where crossings may be: at the edges of a few loose vertices, where a drawing is plane without these edges.
+//! Which edges may be crossed, where a drawing is plane without the edges of a few excluded (loose) vertices.
 ghost use Rattle.std.specs.Prelude.{◌≡◌, ◌↔◌, ℕ, length, false, IsTrue};
 ghost use Rattle.half_edges.specs.Map.{IsLive};
 ghost use Rattle.plane_drawings.specs.Drawing.{IsPlaneDrawing};
@@ -14,7 +14,7 @@ use plane_drawings::sweep_check::is_among;
 use vertex_rounds::least_head;
 
 impl Drawing<'_> {
-    // Says whether the edge of a dart is met.
+    // Says whether `probe` meets the edge of dart `d`.
     fn touches(&self, probe: Probe, d: DartId) -> bool
         requires probe { IsProbeBelow (length self.now.map.now.lists) probe }
         requires live { IsLive self.now.map.now d.0 }
@@ -26,7 +26,8 @@ impl Drawing<'_> {
         self.meets(probe, a, b)
     }
 
-    // Says whether a later edge may cross that from `a` to `b`: one of the two has a loose end then.
+    // Says whether a later edge may cross that from `a` to `b`: it has an end in `loose`, or an edge of such a vertex
+    // meets it.
     pub(crate) fn may_be_crossed(&self, loose: &[u16], a: VertexId, b: VertexId) -> bool
         requires plane { IsPlaneDrawing (firm_lists loose.now self.now.map.now.lists) self.now.points.now }
         requires edge { HasEdge self.now.map.now.lists a.0 b.0 }

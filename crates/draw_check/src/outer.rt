@@ -1,4 +1,4 @@
-//! The check that the face of a base is the outer one.
+//! The check that the face of a base dart is the outer face of a drawing, by the signed areas of the faces.
 ghost use Rattle.std.specs.Prelude.{◌≡◌, ◌↔◌, length, IsTrue, Some, IfOk};
 ghost use Rattle.map_theory.specs.Maps.{component_count};
 ghost use Rattle.half_edges.specs.Map.{IsLive, first_dart};
@@ -17,7 +17,7 @@ use pg_plane::{GridFigure, Points};
 use std::alloc::{AllocError, Global};
 use vertex_rounds::first_dart;
 
-/// A map with its faces, a number for each of them, and a base dart.
+/// A map with its faces, twice the signed area of each, and a base dart.
 #[derive(Clone, Copy)]
 struct Summed<'a> {
     map: &'a HalfMap,
@@ -29,7 +29,7 @@ struct Summed<'a> {
 }
 
 impl Summed<'_> {
-    // Says whether a dart lies on another face than the base's, whose sum is not positive.
+    // Says whether dart `d` lies on another face than the base's, whose area is not positive.
     fn has_low_sum(&self, d: DartId) -> bool
         requires faces { AreFaces self.now.map.now self.now.faces.now }
         requires live { IsLive self.now.map.now d.0 }
@@ -42,7 +42,8 @@ impl Summed<'_> {
     }
 }
 
-/// Returns the verdict of `check_outer` where the map is connected, of which it needs no count.
+/// Returns the verdict of `check_outer` for a connected `map` with these `points`, without counting its components. It
+/// fails only when out of memory.
 pub fn check_outer_connected(
     alloc: Global,
     map: &HalfMap,

@@ -1,4 +1,4 @@
-//! The check of a drawing.
+//! The public calls `check` and `check_points`, which find the first fault of a straight-line drawing.
 ghost use Rattle.std.specs.Prelude.{IfSome, MatchOption, ℤ};
 ghost use Rattle.plane_drawings.specs.Drawing.{IsPlaneDrawing};
 ghost use Rattle.plane_drawings.specs.SweepCheckLines.{firm_lists};
@@ -12,8 +12,8 @@ use half_edges::HalfMap;
 use pg_plane::{GridFigure, Point, Points};
 use plane_drawings::sweep_check::loose_vertices;
 
-/// Returns the first fault of a drawing in the order of the variants of `Verdict`, with the least ids, or `Yes`
-/// where all points lie in the grid, the drawing is plane and the rotations are kept.
+/// Returns the first fault of the drawing of `map` at `points`, in the order of the variants of `Verdict`, with the
+/// least ids. `Yes` is returned where all points lie in the grid, the drawing is plane and the rotations are kept.
 ///
 /// The grid goes from (0, 0) to `corner`. There is one point for each vertex, and no coordinate is beyond
 /// 2^20 in size. It takes no memory from the heap. Where a sweep finds the drawing plane, or plane without
@@ -40,7 +40,7 @@ pub fn check_points(map: &HalfMap, points: &Points, corner: Point) -> Verdict
     }
 }
 
-/// Like [`check_points`], but takes a figure: its points, in its grid.
+/// Checks a figure as [`check_points`] does its points, in its grid.
 pub fn check(map: &HalfMap, fig: &GridFigure) -> Verdict
     requires { HasPlaces map.now.lists fig.now.points }
     ensures { IsVerdict map.now.lists fig.now.points fig.now.width fig.now.height result }
@@ -49,8 +49,8 @@ pub fn check(map: &HalfMap, fig: &GridFigure) -> Verdict
 }
 
 impl Drawing<'_> {
-    // Returns the first vertex on an edge or the first two edges that cross, in this order, where no two vertices stand
-    // at one place. Without the edges of the loose vertices the drawing is plane, where they are known.
+    // Returns the first vertex on an edge or else the first two edges that cross, where all vertices have different
+    // points. Where `loose` is known, the drawing is plane without the edges of these vertices.
     fn first_meeting(&self, loose: Option<&[u16]>) -> Option<Verdict>
         requires apart { NoneShareAPlace self.now.map.now.lists self.now.points.now }
         requires plane { IfSome loose (λ l. IsPlaneDrawing (firm_lists l.now self.now.map.now.lists) self.now.points.now) }
@@ -67,7 +67,7 @@ impl Drawing<'_> {
         }
     }
 
-    // Returns the first two vertices at one place, the first vertex on an edge or the first two edges that cross, in
+    // Returns the first two vertices at one point, the first vertex on an edge or the first two edges that cross, in
     // this order. A sweep that finds the drawing plane, or plane without the edges of a few vertices, spares the search
     // over all pairs.
     fn first_pair(&self) -> Option<Verdict>

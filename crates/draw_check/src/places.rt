@@ -1,4 +1,4 @@
-//! Where the vertices stand.
+//! The points of the vertices: whether they lie in the grid, and whether two are the same.
 ghost use Rattle.std.specs.Prelude.{◌≡◌, ◌<◌, ◌↔◌, length, IsTrue, MatchOption};
 ghost use Rattle.pg_plane.specs.Range.{IsInRange};
 ghost use Rattle.plane_drawings.specs.Drawing.{place, IsInGrid};
@@ -17,7 +17,7 @@ pub(crate) struct Spot {
     ghost range: { IsInRange point },
 }
 
-// Returns the place of a vertex.
+// Returns the point of `v`.
 pub(crate) fn place_at(points: &Points, v: VertexId) -> Point
     requires { v.0 < length points.now }
     ensures { result ≡ place points.now v.0 }
@@ -25,7 +25,7 @@ pub(crate) fn place_at(points: &Points, v: VertexId) -> Point
     points.get(v.0 as usize)
 }
 
-// Returns where the grid of a figure ends.
+// Returns the upper right corner of the grid of `fig`.
 pub(crate) fn corner_of(fig: &GridFigure) -> Point
     ensures x { result.x ≡ fig.now.width }
     ensures y { result.y ≡ fig.now.height }
@@ -36,7 +36,7 @@ pub(crate) fn corner_of(fig: &GridFigure) -> Point
     }
 }
 
-// Says whether a point lies in the grid.
+// Says whether `p` lies in the grid from (0, 0) to `corner`.
 pub(crate) fn is_in_grid(p: Point, corner: Point) -> bool
     ensures { IsTrue result ↔ IsInGrid corner.x corner.y p }
 {
@@ -44,7 +44,7 @@ pub(crate) fn is_in_grid(p: Point, corner: Point) -> bool
 }
 
 impl Drawing<'_> {
-    // Returns the place of a vertex, which is within the range of coordinates.
+    // Returns the point of `v`, which is within the range of coordinates.
     pub(crate) fn spot(&self, v: VertexId) -> Spot
         requires { v.0 < length self.now.points.now }
         ensures { result.point ≡ place self.now.points.now v.0 }
@@ -54,7 +54,7 @@ impl Drawing<'_> {
         }
     }
 
-    // Returns the least vertex outside the grid.
+    // Returns the least vertex outside the grid from (0, 0) to `corner`.
     pub(crate) fn first_outside(&self, corner: Point) -> Option<VertexId>
         ensures { MatchOption result (AllInGrid self.now.map.now.lists self.now.points.now corner.x corner.y)
             (λ v. IsLeast (LeavesGrid self.now.map.now.lists self.now.points.now corner.x corner.y) v.0) }
@@ -67,7 +67,7 @@ impl Drawing<'_> {
         None
     }
 
-    // Returns the least two vertices that stand at one place.
+    // Returns the least two vertices that have the same point.
     pub(crate) fn first_shared(&self) -> Option<(VertexId, VertexId)>
         ensures { MatchOption result (NoneShareAPlace self.now.map.now.lists self.now.points.now)
             (λ p. IsLeastPair (ShareAPlace self.now.map.now.lists self.now.points.now) p.0.0 p.1.0) }

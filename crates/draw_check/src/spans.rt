@@ -1,4 +1,4 @@
-//! Boxes, and lines that part a segment from those between a point and a box.
+//! Bounding boxes, and tests that a segment misses a box or the segments from a point into a box.
 ghost use Rattle.std.specs.Prelude.{◌≡◌, ◌⊎◌, if◌then◌else◌, ◌↔◌, ◌<ℤ◌, ◌≤ℤ◌, pos, IsTrue};
 ghost use Rattle.std.specs.Bool.{OnTrue};
 ghost use Rattle.pg_plane.specs.Geometry.{area, IsOnSegment};
@@ -8,7 +8,7 @@ ghost use Rattle.draw_check.specs.Spans.{IsIn, IsBoxInRange, IsApart, IsLeftOf, 
 use crate::places::Spot;
 use pg_plane::{Point, area2};
 
-// A box of points. It has none where its right side is to the left of its left one.
+// A bounding box. It has no points where its right side is to the left of its left one.
 #[derive(Clone, Copy)]
 pub(crate) struct Span {
     pub(crate) left: i32,
@@ -17,7 +17,7 @@ pub(crate) struct Span {
     pub(crate) top: i32,
 }
 
-// A box within the range of coordinates.
+// A bounding box within the range of coordinates.
 #[derive(Clone, Copy)]
 pub(crate) struct Extent {
     pub(crate) span: Span,
@@ -35,7 +35,7 @@ pub(crate) const NO_SPAN: Span = Span {
     top: -GREATEST,
 };
 
-// Returns the box with one point more.
+// Returns `span` extended to hold `p` too.
 pub(crate) fn widened(span: Span, p: Spot) -> Span
     requires { IsBoxInRange span }
     ensures range { IsBoxInRange result }
@@ -50,21 +50,21 @@ pub(crate) fn widened(span: Span, p: Spot) -> Span
     }
 }
 
-// Says whether two numbers are less than a third.
+// Says whether `s` and `t` are both less than `bound`.
 fn are_less(s: i32, t: i32, bound: i32) -> bool
     ensures { IsTrue result ↔ ((s <ℤ bound) × (t <ℤ bound)) }
 {
     s < bound && t < bound
 }
 
-// Says whether two numbers are greater than a third.
+// Says whether `s` and `t` are both greater than `bound`.
 fn are_greater(s: i32, t: i32, bound: i32) -> bool
     ensures { IsTrue result ↔ ((bound <ℤ s) × (bound <ℤ t)) }
 {
     bound < s && bound < t
 }
 
-// Says whether two points lie on one side of a box.
+// Says whether `p` and `q` both lie beyond one side of the box `span`.
 fn is_apart(span: Span, p: Spot, q: Spot) -> bool
     ensures { OnTrue result (IsApart span p.point q.point) }
 {
@@ -83,7 +83,7 @@ fn is_apart(span: Span, p: Spot, q: Spot) -> bool
     false
 }
 
-// Returns the bottom or the top of a box, whichever is farther to the right of the way from `p` to `q`.
+// Returns the bottom or the top of the box, whichever is farther to the right of the line from `p` to `q`.
 fn far_level(extent: Extent, p: Point, q: Point) -> i32
     ensures range { IsWithin (pos 1048576) result }
     ensures far { (u : Point) → IsIn extent.span u → ((p.x ≤ℤ q.x) × (result ≤ℤ u.y)) ⊎ ((q.x ≤ℤ p.x) × (u.y ≤ℤ result)) }
@@ -95,7 +95,7 @@ fn far_level(extent: Extent, p: Point, q: Point) -> i32
     }
 }
 
-// Returns the corner of a box that is farthest to the right of the way from `p` to `q`.
+// Returns the corner of the box that is farthest to the right of the line from `p` to `q`.
 fn far_corner(extent: Extent, p: Point, q: Point) -> Point
     ensures range { IsInRange result }
     ensures least { (u : Point) → IsIn extent.span u → area p q result ≤ℤ area p q u }
@@ -114,29 +114,29 @@ fn far_corner(extent: Extent, p: Point, q: Point) -> Point
     }
 }
 
-// Says whether a number is not negative.
+// Says whether `z` is not negative.
 fn is_not_negative(z: i64) -> bool
     ensures { IsTrue result ↔ (pos 0 ≤ℤ z) }
 {
     0 <= z
 }
 
-// Says whether no point of a box is to the right of the way from `p` to `q`.
+// Says whether no point of the box is to the right of the line from `p` to `q`.
 fn is_left_of(extent: Extent, p: Spot, q: Spot) -> bool
     ensures { OnTrue result (IsLeftOf extent.span p.point q.point) }
 {
     is_not_negative(area2(p.point, q.point, far_corner(extent, p.point, q.point)))
 }
 
-// Says whether neither the box nor `r` is to the right of the way from `p` to `q`.
+// Says whether neither the box nor `r` is to the right of the line from `p` to `q`.
 fn is_past(extent: Extent, r: Spot, p: Spot, q: Spot) -> bool
     ensures { OnTrue result (MissesStar extent.span r.point p.point q.point) }
 {
     is_not_negative(area2(p.point, q.point, r.point)) && is_left_of(extent, p, q)
 }
 
-// Says whether a line surely parts the segment from `p` to `q` from the segments from `r` into a box: so it is where
-// both points are on one side of the box, seen from `r`, or the box and `r` are on one side of the segment.
+// Says whether the segment from `p` to `q` surely crosses no segment from `r` into the box. Both points are on one side
+// of the box, seen from `r`, or the box and `r` are on one side of the segment.
 pub(crate) fn misses_star(extent: Extent, r: Spot, p: Spot, q: Spot) -> bool
     ensures { OnTrue result (MissesStar extent.span r.point p.point q.point) }
 {
@@ -155,14 +155,14 @@ pub(crate) fn misses_star(extent: Extent, r: Spot, p: Spot, q: Spot) -> bool
     is_past(extent, r, q, p)
 }
 
-// Says whether all points of a box are to the left of the way from `p` to `q`.
+// Says whether all points of the box are strictly to the left of the line from `p` to `q`.
 fn is_strictly_left_of(extent: Extent, p: Spot, q: Spot) -> bool
     ensures { OnTrue result (IsStrictlyLeftOf extent.span p.point q.point) }
 {
     0 < area2(p.point, q.point, far_corner(extent, p.point, q.point))
 }
 
-// Says whether surely no point of a box lies on the segment from `p` to `q`.
+// Says whether surely no point of the box lies on the segment from `p` to `q`.
 pub(crate) fn misses_segment(extent: Extent, p: Spot, q: Spot) -> bool
     ensures { OnTrue result ((u : Point) → IsIn extent.span u → ¬ IsOnSegment u p.point q.point) }
 {
@@ -175,7 +175,7 @@ pub(crate) fn misses_segment(extent: Extent, p: Spot, q: Spot) -> bool
     is_strictly_left_of(extent, q, p)
 }
 
-// Returns a corner of a box: on its left or its right side, at its bottom or its top.
+// Returns a corner of the box: on its left or its right side, at its bottom or its top.
 fn corner(extent: Extent, right: bool, top: bool) -> Spot
     ensures x { result.point.x ≡ (if right then extent.span.right else extent.span.left) }
     ensures y { result.point.y ≡ (if top then extent.span.top else extent.span.bottom) }
@@ -196,7 +196,7 @@ fn corner(extent: Extent, right: bool, top: bool) -> Spot
     }
 }
 
-// Returns a box of two boxes.
+// Returns the bounding box of two boxes.
 pub(crate) fn joined(span: Span, other: Span) -> Span
     requires span { IsBoxInRange span }
     requires other { IsBoxInRange other }
@@ -209,7 +209,7 @@ pub(crate) fn joined(span: Span, other: Span) -> Span
     widened(wide, corner(extent, true, true))
 }
 
-// Says whether a box lies on one side of another.
+// Says whether the box `other` lies beyond one side of the box `span`.
 fn are_boxes_apart(span: Span, other: Span) -> bool
     ensures { OnTrue result ((p q : Point) → IsIn other p → IsIn other q → IsApart span p q) }
 {
@@ -228,8 +228,8 @@ fn are_boxes_apart(span: Span, other: Span) -> bool
     false
 }
 
-// Says whether surely no segment in a block crosses one from `r` into a box, and no point of it lies on such a one: so
-// it is where seen from `r` all corners of the block are on one side of the box.
+// Says whether surely no segment in `block` crosses one from `r` into the box, and no point of it lies on such a one.
+// So it is where, seen from `r`, all corners of the block are on one side of the box.
 pub(crate) fn misses_block(extent: Extent, r: Spot, block: Extent) -> bool
     ensures star { OnTrue result ((p q : Point) → IsIn block.span p → IsIn block.span q → MissesStar extent.span r.point p q) }
     ensures fan { OnTrue result ((p : Point) → IsIn block.span p → MissesFan extent.span r.point p) }

@@ -1,4 +1,4 @@
-//! Twice the areas of all faces, each as a sum over the darts of the face.
+//! Twice the signed areas of all faces, each as a sum over the darts of the face.
 ghost use Rattle.std.specs.Prelude.{◌<◌, ◌+◌, length, Some, IfOk};
 ghost use Rattle.map_theory.specs.Maps.{darts_before, dart_count};
 ghost use Rattle.half_edges.specs.Map.{IsLive, dart_at, first_dart};
@@ -13,7 +13,8 @@ use pg_plane::{Point, area2};
 use std::alloc::{AllocError, Global};
 
 impl Drawing<'_> {
-    // Adds what a dart sweeps to the sum of its face: twice the signed area of the triangle that it makes with (0, 0).
+    // Adds to the entry of the face of `d` in `sums` twice the signed area of the triangle that the dart makes with (0,
+    // 0).
     fn add_dart(&self, faces: &Faces, sums: &mut [i128], d: DartId)
         requires faces { AreFaces self.now.map.now faces.now }
         requires live { IsLive self.now.map.now d.0 }
@@ -28,7 +29,7 @@ impl Drawing<'_> {
         sums[face.0 as usize] += i128::from(area);
     }
 
-    // Adds what the darts from `v` sweep.
+    // Adds the areas of all darts from `v` to the entries of their faces in `sums`.
     fn add_vertex(&self, faces: &Faces, sums: &mut [i128], v: VertexId)
         requires faces { AreFaces self.now.map.now faces.now }
         requires vertex { v.0 < length self.now.map.now.lists }
@@ -49,7 +50,7 @@ impl Drawing<'_> {
         }
     }
 
-    // Adds what all darts sweep, to sums of zero.
+    // Adds the areas of all darts to the entries of their faces in `sums`, which are 0 at first.
     fn add_all(&self, faces: &Faces, sums: &mut [i128])
         requires faces { AreFaces self.now.map.now faces.now }
         requires sums { AreSumsBelow self.now.map.now self.now.points.now faces.now 0 sums.old }
@@ -60,7 +61,7 @@ impl Drawing<'_> {
         }
     }
 
-    // Returns twice the area of each face, by the number of the face.
+    // Returns twice the signed area of each face, by the number of the face. It fails only when out of memory.
     pub(crate) fn face_sums(&self, alloc: Global, faces: &Faces) -> Result<Vec<i128>, AllocError>
         requires faces { AreFaces self.now.map.now faces.now }
         ensures { IfOk result (λ sums. AreSumsBelow self.now.map.now self.now.points.now faces.now (dart_count self.now.map.now.lists) sums.items) }

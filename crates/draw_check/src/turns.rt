@@ -1,4 +1,4 @@
-//! The directions from a vertex to its neighbours, in the order of its list.
+//! Rotations: whether the directions from a vertex to its neighbours go clockwise once round in the order of its list.
 ghost use Rattle.std.specs.Prelude.{◌≡◌, ◌+◌, ◌<◌, ◌↔◌, ◌||◌, IsTrue, Some, MatchOption};
 ghost use Rattle.half_edges.specs.Map.{IsLive};
 ghost use Rattle.pg_plane.specs.Geometry.{vector};
@@ -15,7 +15,7 @@ use half_edges::{DartId, VertexId};
 use pg_plane::{Point, clock_before};
 use vertex_rounds::turns_once;
 
-// Returns the direction from one point to another.
+// Returns the direction from point `a` to point `b`, as the difference of their coordinates.
 fn direction(a: Spot, b: Spot) -> Point
     ensures vector { result ≡ vector a.point b.point }
     ensures range { IsDirection result }
@@ -27,8 +27,8 @@ fn direction(a: Spot, b: Spot) -> Point
 }
 
 impl Drawing<'_> {
-    // Says whether the direction to the entry behind that of a dart does not come strictly after it, clockwise from
-    // west.
+    // Says whether the direction to the next list entry after dart `d` does not come strictly after that of `d`,
+    // clockwise from west.
     fn is_break(&self, d: DartId) -> bool
         requires live { IsLive self.now.map.now d.0 }
         ensures { IsTrue result ↔ HoldsAt self.now.map.now (Breaks self.now.map.now.lists self.now.points.now) d.0 }
@@ -40,8 +40,8 @@ impl Drawing<'_> {
         !clock_before(direction(v, u), direction(v, w))
     }
 
-    // Returns the least vertex whose neighbours do not stand round it in the order of its list: it has two of them at
-    // least, and their directions do not go clockwise just once round.
+    // Returns the least vertex whose neighbours do not stand round it in the order of its list. It has at least two of
+    // them, and their directions do not go clockwise just once round.
     pub(crate) fn first_turned(&self) -> Option<VertexId>
         ensures { MatchOption result (KeepsRotations self.now.map.now.lists self.now.points.now)
             (λ v. IsLeast (IsTurned self.now.map.now.lists self.now.points.now) v.0) }

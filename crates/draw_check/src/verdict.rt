@@ -1,4 +1,4 @@
-//! Verdicts on a drawing.
+//! The verdicts of the checks of straight-line drawings, as the types `Verdict`, `FaceVerdict` and `OuterVerdict`.
 
 use half_edges::{Ends, VertexId};
 

@@ -1,4 +1,4 @@
-//! Who answers a row.
+//! Chooses the module of this test program that answers a row, by the family of the row.
 
 use crate::{bars, convex, orders, pictures, rects, verdicts};
 use half_edges::HalfMap;

@@ -1,4 +1,4 @@
-//! St-orders and visibility drawings, and verdicts on them.
+//! Answers test rows on st-orders and visibility drawings, and on verdicts on them.
 ghost use Rattle.half_edges.specs.Map.{IsLive};
 ghost use Rattle.conn_parts.specs.BiconnectedMaps.{IsBiconnectedMap};
 
@@ -16,7 +16,8 @@ use row_texts::text::behind;
 use st_orders::st_order;
 use visibility::bars;
 
-// Writes the first vertices of the st-order for a dart, the columns of the edges for it, or the drawing.
+// Writes for the dart `st` the visibility drawing, the first vertices of the st-order, or the columns of the edges, as
+// `row` asks.
 fn of_base(row: &Row<'_>, map: &HalfMap, st: DartId, out: &mut Reply)
     requires block { IsBiconnectedMap 3 map.now.lists }
     requires live { IsLive map.now st.0 }
@@ -45,7 +46,7 @@ fn of_base(row: &Row<'_>, map: &HalfMap, st: DartId, out: &mut Reply)
     }
 }
 
-// Writes the verdict on the bars that a row gives to a map, if there is one for each vertex.
+// Writes the verdict on the bars that `row` gives to `map`, if there is one for each vertex.
 fn check(row: &Row<'_>, map: &HalfMap, out: &mut Reply) {
     let n = usize::from(map.n());
     let Some(figure) = bars_of(out.alloc, behind(row.args, 1), n) else {

@@ -1,4 +1,4 @@
-//! Maps that are completed to triangles, and what stays of their lists.
+//! Answers test rows on completions of maps to triangulations, and on what stays of their lists.
 use augment_tri::triangulate;
 use conn_parts::CountedMaker;
 use half_edges::{HalfMap, Rotations};
@@ -7,7 +7,7 @@ use row_texts::maps::put_size;
 use row_texts::refusal::tell_no_memory;
 use row_texts::reply::Reply;
 
-// Says whether the entries of each old list stand in the new one in the same order.
+// Says whether the entries of each list of `old` stand in that of `new` in the same order.
 fn are_kept(old: &Rotations, new: &Rotations) -> bool {
     for v in 0..old.len() {
         if v >= new.len() {

@@ -1,4 +1,4 @@
-//! Convex woods and the regions of their vertices.
+//! Answers test rows on convex realizers and the regions of their vertices, and on convex drawings.
 ghost use Rattle.std.specs.Prelude.{◌<◌, length, IfOk};
 ghost use Rattle.map_theory.specs.Maps.{Dart, IsPlane};
 ghost use Rattle.convex_peeling.specs.Polyhedral.{IsThreeConnected};
@@ -19,7 +19,7 @@ use row_texts::reply::Reply;
 use row_texts::rows::Row;
 use std::alloc::{AllocError, Global};
 
-// Returns the wood of a map over a base.
+// Returns the convex realizer of `map` over `base`.
 fn wood_over(alloc: Global, map: &HalfMap, base: DartId) -> Result<ConvexWood, AllocError>
     requires plane { IsPlane map.now.lists }
     requires three { IsThreeConnected map.now.lists }
@@ -30,7 +30,7 @@ fn wood_over(alloc: Global, map: &HalfMap, base: DartId) -> Result<ConvexWood, A
     Ok(wood)
 }
 
-// Returns the numbers of faces in the three regions of a vertex.
+// Returns the numbers of faces in the three regions of `v`.
 fn regions(
     alloc: Global,
     map: &HalfMap,
@@ -48,7 +48,7 @@ fn regions(
     Ok([i64::from(one), i64::from(two), i64::from(three)])
 }
 
-// Returns the coordinates of a vertex, and what both lack of the grid.
+// Returns the coordinates of `v`, and what both lack of the width of the grid.
 fn coordinates(figure: &GridFigure, v: u16) -> [i64; 3] {
     if usize::from(v) >= figure.points.len() {
         return [-1, -1, -1];
@@ -62,7 +62,7 @@ fn coordinates(figure: &GridFigure, v: u16) -> [i64; 3] {
     ]
 }
 
-// Writes how many vertices there are, and the first whose regions are not its coordinates, or that all are at theirs.
+// Writes how many vertices there are, and the first whose regions are not its coordinates, or that there is none.
 fn put_compared(map: &HalfMap, wood: &ConvexWood, figure: &GridFigure, out: &mut Reply)
     requires plane { IsPlane map.now.lists }
     requires three { IsThreeConnected map.now.lists }
@@ -78,7 +78,7 @@ fn put_compared(map: &HalfMap, wood: &ConvexWood, figure: &GridFigure, out: &mut
     out.put(" vertices, all");
 }
 
-// Writes the regions of a vertex, if it is one.
+// Writes the face counts of the three regions of `v`, if it is a vertex.
 fn put_region(map: &HalfMap, wood: &ConvexWood, v: u16, out: &mut Reply)
     requires plane { IsPlane map.now.lists }
     requires three { IsThreeConnected map.now.lists }
@@ -96,7 +96,7 @@ fn put_region(map: &HalfMap, wood: &ConvexWood, v: u16, out: &mut Reply)
     }
 }
 
-// Writes the vertices to which the edges lead along an axis, and the root.
+// Writes for each vertex the one to which its edge along `axis` leads, and the root of the axis.
 fn put_heads(map: &HalfMap, wood: &ConvexWood, axis: Axis, out: &mut Reply) {
     for v in 0..wood.n() {
         match wood.out(axis, VertexId(v)) {
@@ -109,8 +109,8 @@ fn put_heads(map: &HalfMap, wood: &ConvexWood, axis: Axis, out: &mut Reply) {
     out.put("; ");
 }
 
-// Writes the drawing of a map over a base; or of its wood all regions beside the coordinates, those of a vertex, or the
-// edges.
+// Writes for `base` the convex drawing, all regions beside the coordinates, the regions of a vertex, or the edges of
+// the realizer, as `row` asks.
 fn of_base(row: &Row<'_>, map: &HalfMap, base: DartId, out: &mut Reply)
     requires plane { IsPlane map.now.lists }
     requires three { IsThreeConnected map.now.lists }

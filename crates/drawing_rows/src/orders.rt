@@ -1,4 +1,4 @@
-//! Orders of triangulations, and the drawings by shifts and by woods that stand on them.
+//! Answers test rows on canonical orders of triangulations, and on the shift and Schnyder drawings made by them.
 ghost use Rattle.std.specs.Prelude.{◌<◌, IfOk};
 ghost use Rattle.half_edges.specs.Map.{IsLive};
 ghost use Rattle.map_theory.specs.Maps.{Dart, HasDart};
@@ -24,7 +24,7 @@ use row_texts::rows::Row;
 use row_texts::text::pair;
 use std::alloc::{AllocError, Global};
 
-// Returns the triangulation of lists, and a canonical order of it for a dart from vertex 0.
+// Returns the triangulation of the given lists, and its canonical order for a dart from vertex 0.
 fn order_of(alloc: Global, given: &SomeLists) -> Result<DrawingOrder, Unserved>
     ensures triangulation { IfOk result (λ found. IsTriangulation found.tri.lists) }
     ensures order { IfOk result (λ found. (base : Dart) × IsCanonicalOrder found.tri.lists base (vertices_of found.order)) }
@@ -34,14 +34,14 @@ fn order_of(alloc: Global, given: &SomeLists) -> Result<DrawingOrder, Unserved>
     Ok(found)
 }
 
-// Writes an order, and the place of each vertex in it.
+// Writes the vertices of `order`, and the rank of each.
 fn put_order(order: &Order, out: &mut Reply) {
     put_vertices(&order.at, usize::MAX, out);
     out.put(", places ");
     put_counts(&order.rank, out);
 }
 
-// Writes the size of the grid of a record's figure and its first points, so many; or why it has none.
+// Writes the size of the grid of `figure` and its first `most` points, or why there is no figure.
 fn put_served(figure: Result<GridFigure, Unserved>, most: u16, out: &mut Reply) {
     match figure {
         Ok(figure) => {
@@ -55,7 +55,7 @@ fn put_served(figure: Result<GridFigure, Unserved>, most: u16, out: &mut Reply) 
     }
 }
 
-// Returns a peeler with the order of a triangulation for a dart, by its lists alone.
+// Returns a peeler with the order of `tri` for `base`, found by its lists alone.
 fn order_by_lists(alloc: Global, tri: &HalfMap, base: DartId) -> Result<Peeler, AllocError>
     requires triangulation { IsTriangulation tri.now.lists }
     requires live { IsLive tri.now base.0 }
@@ -67,7 +67,8 @@ fn order_by_lists(alloc: Global, tri: &HalfMap, base: DartId) -> Result<Peeler, 
     Ok(peeler)
 }
 
-// Writes the order of a triangulation for the dart between two vertices, by the map or by its lists, if there is one.
+// Writes the order of `tri` for the dart between two vertices of `row`, by the map or by its lists, if there is such a
+// dart.
 fn order_for(row: &Row<'_>, tri: &HalfMap, out: &mut Reply)
     requires triangulation { IsTriangulation tri.now.lists }
 {
@@ -87,7 +88,7 @@ fn order_for(row: &Row<'_>, tri: &HalfMap, out: &mut Reply)
     }
 }
 
-// Writes an order, the points of a drawing by it, or the tree of offsets; or the order for another dart.
+// Writes `order`, the points of a drawing by it, its tree of offsets, or the order for another dart, as `row` asks.
 fn of_order(row: &Row<'_>, tri: &HalfMap, order: &Order, out: &mut Reply)
     requires triangulation { IsTriangulation tri.now.lists }
     requires order { (base : Dart) × IsCanonicalOrder tri.now.lists base (vertices_of order.now) }
@@ -107,7 +108,7 @@ fn of_order(row: &Row<'_>, tri: &HalfMap, order: &Order, out: &mut Reply)
     }
 }
 
-// Answers a row on a triangulation of lists and its order, where these have one.
+// Answers a row on the triangulation of the given lists and its order, where these have one.
 fn over_order(row: &Row<'_>, given: &SomeLists, out: &mut Reply) {
     match order_of(out.alloc, given) {
         Ok(found) => {

@@ -1,4 +1,4 @@
-//! Pictures of figures as SVG.
+//! Answers test rows on pictures of figures as SVG.
 ghost use Rattle.std.specs.Prelude.{IfSome};
 ghost use Rattle.svg_out.specs.Svg.{IsDrawn};
 
@@ -12,7 +12,7 @@ use row_texts::text::behind;
 use std::alloc::Global;
 use svg_out::svg;
 
-// Returns the figure of a map by the points of its vertices, if there is one for each, or by bars, if there is one for
+// Returns the figure of `map` by the points in `row`, if there is one for each vertex; or by bars, if there is one for
 // each vertex and a column for each edge.
 fn figure_of(alloc: Global, map: &HalfMap, row: &Row<'_>) -> Option<Figure>
     ensures { IfSome result IsDrawn }

@@ -1,4 +1,4 @@
-//! Edge labellings and duals of maps that have rectangular duals.
+//! Answers test rows on regular edge labellings and rectangular duals.
 ghost use Rattle.rect_class.specs.RectMaps.{IsRectMap};
 
 use half_edges::HalfMap;
@@ -40,7 +40,7 @@ fn put_edge(map: &HalfMap, labels: &Labelling, (u, v): (u16, u16), out: &mut Rep
     }
 }
 
-// Writes the labels of all edges, each at its lesser end and at its greater.
+// Writes the labels of all edges, each at its lesser end and at its greater one.
 fn put_edges(map: &HalfMap, labels: &Labelling, out: &mut Reply) {
     for u in 0..map.n() {
         for v in 0..map.n() {
@@ -51,8 +51,8 @@ fn put_edges(map: &HalfMap, labels: &Labelling, out: &mut Reply) {
     }
 }
 
-// Writes the labelling of a map, or the left, right, lower and upper sides of its rectangles, for the dart from vertex 0 to
-// the first of its list.
+// Writes for the dart from vertex 0 to the first of its list the labelling of `map`, or the four sides of its
+// rectangles.
 fn of_block(call: &str, map: &HalfMap, out: &mut Reply)
     requires { IsRectMap map.now.lists }
 {

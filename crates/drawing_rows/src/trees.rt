@@ -1,4 +1,4 @@
-//! Trees of offsets, and the points to which they add up.
+//! Answers test rows on trees of offsets, and on the points to which they add up.
 ghost use Rattle.std.specs.Prelude.{◌≡◌, ◌<◌, length};
 ghost use Rattle.map_theory.specs.Maps.{Dart, vertex_count};
 ghost use Rattle.plane_laws.specs.Triangulations.{IsTriangulation};
@@ -14,7 +14,7 @@ use row_texts::reply::Reply;
 use std::marker::Brand;
 use std::sync::ledger::{Blank, Ledger};
 
-// Writes the vertex of a link, if it leads to one.
+// Writes the vertex to which `link` leads, or a dash.
 fn put_link(link: Option<VertexId>, out: &mut Reply) {
     match link {
         Some(v) => out.put_one("", u64::from(v.0)),
@@ -22,7 +22,7 @@ fn put_link(link: Option<VertexId>, out: &mut Reply) {
     }
 }
 
-// Writes a node by its place, its height and its links.
+// Writes `node` by its offset, its height and its links.
 fn put_node(node: Node, out: &mut Reply) {
     out.put_whole(i64::from(node.x));
     out.put_letter(' ');
@@ -31,7 +31,7 @@ fn put_node(node: Node, out: &mut Reply) {
     put_link(node.right, out);
 }
 
-// Writes the points of a triangulation by a tree of its own, and before them its nodes where they are asked for.
+// Writes the points of `tri` by a tree of offsets made for them, and before them its nodes if `nodes` holds.
 fn put_sums<L: Ledger>(nodes: bool, tri: &HalfMap, order: &Order, blank: Blank, out: &mut Reply)
     requires triangulation { IsTriangulation tri.now.lists }
     requires order { (base : Dart) × IsCanonicalOrder tri.now.lists base (vertices_of order.now) }
@@ -71,7 +71,7 @@ pub fn answer(nodes: bool, tri: &HalfMap, order: &Order, out: &mut Reply)
     }
 }
 
-// Puts a node at `v` and takes it from there, in a tree of `n` nodes, by a count of its own.
+// Puts a node at `v` into a tree of `n` nodes, reads it again and writes it, with a step counter on the ledger `blank`.
 fn put_counted<L: Ledger>(n: u16, v: u16, blank: Blank, out: &mut Reply)
     requires within { v < n }
     requires name { blank.name ≡ L.name }

@@ -1,4 +1,4 @@
-//! Verdicts on drawings.
+//! Answers test rows on verdicts on straight-line and convex drawings.
 ghost use Rattle.std.specs.Prelude.{IfSome, All};
 ghost use Rattle.draw_check.specs.Faults.{HasPlaces};
 ghost use Rattle.pg_plane.specs.Range.{IsInRange};
@@ -17,7 +17,7 @@ use row_texts::rows::Row;
 use row_texts::text::{halves, pair};
 use std::alloc::Global;
 
-// Returns the figure that a row gives to a map, if it has a place for each vertex.
+// Returns the figure that `row` gives to `map`, if it has a point for each vertex.
 fn figure_of(alloc: Global, map: &HalfMap, row: &Row<'_>) -> Option<GridFigure>
     ensures places { IfSome result (λ figure. HasPlaces map.now.lists figure.points) }
     ensures range { IfSome result (λ figure. All IsInRange figure.points) }
@@ -49,7 +49,8 @@ pub fn faces(row: &Row<'_>, tri: &HalfMap, out: &mut Reply)
     }
 }
 
-// Writes the verdict on the face left of the dart that a row names, or on the bends of a drawing whose outer face it is.
+// Writes the verdict on the dart in `row`: whether its face is the outer one, or whether the drawing is convex with
+// that outer face.
 fn put_outer(row: &Row<'_>, map: &HalfMap, figure: &GridFigure, out: &mut Reply)
     requires { HasPlaces map.now.lists figure.now.points }
 {

@@ -1,4 +1,5 @@
-//! Woods of triangulations, the regions of their vertices, and the drawing that stands on them.
+//! Answers test rows on Schnyder realizers of triangulations, the regions of their vertices, and the drawing made by
+//! them.
 ghost use Rattle.std.specs.Prelude.{◌<◌, IfOk};
 ghost use Rattle.map_theory.specs.Maps.{Dart, HasDart};
 ghost use Rattle.plane_laws.specs.Triangulations.{IsTriangulation};
@@ -17,9 +18,10 @@ use schnyder_wood::schnyder_regions::region_count;
 use schnyder_wood::{Colour, Wood, path_len, wood};
 use std::alloc::{AllocError, Global};
 
+// The three colours of a realizer.
 const COLOURS: [Colour; 3] = [Colour::One, Colour::Two, Colour::Three];
 
-// Returns the wood of an order.
+// Returns the realizer that `order` makes of `tri`.
 fn wood_of(alloc: Global, tri: &HalfMap, order: &Order) -> Result<Wood, AllocError>
     requires triangulation { IsTriangulation tri.now.lists }
     requires order { (base : Dart) × IsCanonicalOrder tri.now.lists base (vertices_of order.now) }
@@ -30,7 +32,7 @@ fn wood_of(alloc: Global, tri: &HalfMap, order: &Order) -> Result<Wood, AllocErr
     Ok(found)
 }
 
-// Writes the parents of a vertex with the lengths of its paths, and the roots of the wood.
+// Writes the parents of `v` with the lengths of its paths to the roots, and the roots.
 fn put_parents(found: &Wood, v: VertexId, out: &mut Reply)
     requires { v.0 < count_in found.now }
 {
@@ -50,7 +52,7 @@ fn put_parents(found: &Wood, v: VertexId, out: &mut Reply)
     }
 }
 
-// Returns the counts of the three regions of an inner vertex.
+// Returns the counts of the three regions of an inner vertex `v`.
 fn regions(alloc: Global, tri: &HalfMap, found: &Wood, v: VertexId) -> Result<[u32; 3], AllocError>
     requires inner { IsInnerIn found.now v.0 }
     requires wood { (base : Dart) × HasDart tri.now.lists base.0 base.1 × IsWoodOf tri.now.lists base found.now }
@@ -61,7 +63,7 @@ fn regions(alloc: Global, tri: &HalfMap, found: &Wood, v: VertexId) -> Result<[u
     Ok([one, two, three])
 }
 
-// Writes the regions of a vertex, if it is an inner one.
+// Writes the counts of the three regions of `v`, if it is an inner vertex.
 fn put_regions(tri: &HalfMap, found: &Wood, v: VertexId, out: &mut Reply)
     requires vertex { v.0 < count_in found.now }
     requires wood { (base : Dart) × HasDart tri.now.lists base.0 base.1 × IsWoodOf tri.now.lists base found.now }
@@ -78,8 +80,8 @@ fn put_regions(tri: &HalfMap, found: &Wood, v: VertexId, out: &mut Reply)
     }
 }
 
-// Says whether an inner vertex stands at its coordinates: by how many vertices a region has more than the path of the
-// colour before.
+// Says whether an inner vertex `v` has the point that its regions say: each coordinate is a region's count less the
+// length of the path of the colour before.
 fn stands(alloc: Global, tri: &HalfMap, found: &Wood, v: VertexId, points: &Points) -> bool
     requires inner { IsInnerIn found.now v.0 }
     requires wood { (base : Dart) × HasDart tri.now.lists base.0 base.1 × IsWoodOf tri.now.lists base found.now }
@@ -95,7 +97,8 @@ fn stands(alloc: Global, tri: &HalfMap, found: &Wood, v: VertexId, points: &Poin
     }
 }
 
-// Writes the first points of the drawing by a wood, and how many inner vertices stand where the regions say.
+// Writes the first `most` points of the drawing by a realizer, and how many inner vertices have the points that the
+// regions say.
 fn put_drawing(tri: &HalfMap, found: &Wood, most: u16, out: &mut Reply)
     requires triangulation { IsTriangulation tri.now.lists }
     requires wood { (base : Dart) × HasDart tri.now.lists base.0 base.1 × IsWoodOf tri.now.lists base found.now }

@@ -1,9 +1,9 @@
-//! The law of contractible edges, as the contract of a function that does nothing.
+//! Law: a three-connected graph has an edge whose contraction leaves it three-connected (Thomassen's theorem).
 
 ghost use Rattle.embed_contraction.specs.Linked.{ContractibleEdge};
 
-/// A graph in which no two vertices part the others has an edge without whose two ends no vertex parts them
-/// (Thomassen's theorem).
+/// States the law that a graph in which no two vertices separate the others has a contractible edge (Thomassen's
+/// theorem). No third vertex separates the others together with the two ends of that edge.
 pub fn contractible_edge()
     ensures { ContractibleEdge }
 {}

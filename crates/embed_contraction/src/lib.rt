@@ -1,4 +1,4 @@
-//! Contraction of an edge: which edges can be contracted, and witnesses around a ring.
+//! Theory of edge contraction: which edges can be contracted, and how Kuratowski witnesses are lifted.
 #![tactic(auto)]
 
 pub mod contractible_edges;

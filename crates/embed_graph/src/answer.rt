@@ -1,4 +1,5 @@
-//! The answer.
+//! The public call `embed`: a map of a graph or a Kuratowski witness, by the fast left-right test whose answers are
+//! checked.
 ghost use Rattle.std.specs.Prelude.{◌≡◌, ◌<◌, ◌≤◌, length, IfOk, IfSome, IsTrue};
 ghost use Rattle.map_lists.specs.Lists.{Lists};
 ghost use Rattle.kuratowski.specs.Witnesses.{IsWitness};
@@ -52,7 +53,8 @@ pub enum Tested {
     NoMap,
 }
 
-// Asks the test about a graph, and checks the lists that it answers. Where they are refused, the sides of edges answer.
+// Runs the left-right test on `graph` and checks the lists that it returns. Where they are not accepted, the slow test
+// by sides of edges decides.
 pub(crate) fn test_graph(
     alloc: Global,
     tables: &mut Tables,
@@ -74,7 +76,7 @@ pub(crate) fn test_graph(
     }
 }
 
-// Returns the witness that the search of `tables` finds where it found no map of `graph`, if it is one.
+// Returns the witness that `tables` find after the test refused `graph`, if the witness check accepts it.
 pub(crate) fn found_witness(
     alloc: Global,
     tables: &mut Tables,
@@ -94,7 +96,7 @@ pub(crate) fn found_witness(
     }
 }
 
-// Returns a witness of `graph`, which the test refused: the one that its search finds, or one by contracted edges.
+// Returns a witness of `graph`, which the test refused: the one that its search finds, or else one by contracted edges.
 pub(crate) fn refuted(
     alloc: Global,
     tables: &mut Tables,

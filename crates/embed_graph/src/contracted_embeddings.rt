@@ -1,4 +1,5 @@
-//! Maps of graphs by sides of edges, and witnesses by contracted edges: always one of the two.
+//! The slow answer to a graph: a map by sides of edges, or a Kuratowski witness by contracted edges; always one of the
+//! two.
 
 mod embedding;
 mod kept;

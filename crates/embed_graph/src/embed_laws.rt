@@ -1,8 +1,9 @@
-//! Which graphs are drawn, and which are refuted, as contracts of functions that do nothing.
+//! Laws: each graph is drawn or refuted by a witness, and never both.
 
 ghost use Rattle.embed_graph.specs.Laws.{SomeEmbedFigure, DrawnExactly};
 
-/// Each graph with at least three vertices has a map that is drawn, or a witness that there is none.
+/// States the law that each graph with at least three vertices has a map that is drawn, or a witness that there is
+/// none.
 pub fn some_embed_figure()
     ensures { SomeEmbedFigure }
 {
@@ -10,8 +11,8 @@ pub fn some_embed_figure()
     grid_figures::schnyder_figures::some_schnyder_figure();
 }
 
-/// A graph with at least three vertices has a map that is drawn exactly where it has no witness: it is never answered by
-/// both.
+/// States the law that a graph with at least three vertices has a map that is drawn exactly where it has no witness. It
+/// is never answered by both.
 pub fn drawn_exactly()
     ensures { DrawnExactly }
 {

@@ -1,5 +1,4 @@
-//! The answer of the search for a map of a graph: a map of genus zero with exactly the graph's edges, or a Kuratowski
-//! witness that there is none.
+//! The answer to a planarity question: a map of genus zero with exactly the graph's edges, or a Kuratowski witness.
 
 mod embedding;
 

@@ -1,4 +1,4 @@
-//! Whether lists have just the edges of a graph: their edges as bits are those of the graph.
+//! Compares the edges of a map with those of a graph, as graph6 bits.
 ghost use Rattle.std.specs.Prelude.{◌≡◌, ◌<◌, ◌≤◌, ◌∷◌, ◌/◌, ◌≢◌, ◌==◌, ◌||◌, ℕ, false, [], length, replicate, All, AllPairs, Contains, IfOk, IsTrue};
 ghost use Rattle.map_theory.specs.Maps.{IsSimpleMap};
 ghost use Rattle.graph6_text.specs.Lines.{pair_place as place_of_pair, body_length as bytes_of_pairs, is_set as is_place_set, IsLineByte};
@@ -11,7 +11,8 @@ use map_lists::Rotations;
 use std::alloc::{AllocError, Global};
 use std::mem;
 
-// Sets the bit of `u` and `v`, which is not set, where `u` is the lesser. The bytes are those of `n` vertices.
+// Sets the bit of the edge from `u` to `v` in `body`, where `u` is the lesser. It is not set yet; `body` has the bits
+// of `n` vertices.
 fn set_pair(body: &mut [u8], n: u16, u: u16, v: u16)
     requires vertex { v < n }
     requires bytes { AreBytes n body.old }
@@ -25,7 +26,7 @@ fn set_pair(body: &mut [u8], n: u16, u: u16, v: u16)
     }
 }
 
-// Sets the bits of `v` and the lesser ones of the neighbours in `list`, where each stands once. None of them is set.
+// Sets in `body` the bits of the edges from `v` to the lesser vertices of `list`, where each stands once.
 fn set_list(body: &mut [u8], n: u16, v: u16, list: &[u16])
     requires vertex { v < n }
     requires bytes { AreBytes n body.old }
@@ -39,7 +40,7 @@ fn set_list(body: &mut [u8], n: u16, v: u16, list: &[u16])
     }
 }
 
-// Sets the bits of all edges of a simple map of `n` vertices.
+// Sets in `body` the bits of all edges of a simple map of `n` vertices, given by its `lists`.
 fn set_lists(body: &mut [u8], n: u16, lists: &Rotations)
     requires simple { IsSimpleMap lists.now }
     requires vertices { length lists.now ≡ n }

@@ -1,4 +1,5 @@
-//! The calls.
+//! The calls of the fast searches: rotation lists by the left-right test, and Kuratowski witnesses traced from its
+//! conflicts.
 ghost use Rattle.std.specs.Prelude.{◌≡◌, ◌<◌, length, IfOk, IfSome, MatchOption};
 ghost use Rattle.map_lists.specs.Lists.{Lists};
 ghost use Rattle.embed_theorem.specs.Expanded.{IsMapOf};
@@ -39,12 +40,12 @@ impl Tables {
         }
     }
 
-    // Takes a graph.
+    // Loads `graph` into the left-right test.
     fn begin(&mut self, graph: &Graph) {
         self.test.begin(&mut self.edges, graph);
     }
 
-    // Leaves edges alone that are a subdivision of K5 or K3,3, after a conflict.
+    // Reduces the links, after a conflict of the test, to edges that are a subdivision of K5 or K3,3.
     fn shrink(&mut self) {
         self.marks.mark_conflict(&self.test);
         self.kernel
@@ -54,7 +55,7 @@ impl Tables {
         self.kernel.link_paths(&mut self.test.links, &self.edges);
     }
 
-    /// Returns rotation lists for a graph, or none where it has no map of genus zero. Lists are not checked: a graph
+    /// Returns rotation lists for `graph`, or None where it has no map of genus zero. Lists are not checked: a graph
     /// without a map may have some too, though no such graph is known. It fails only when out of memory.
     pub fn planar_lists(
         &mut self,
@@ -71,7 +72,7 @@ impl Tables {
         Ok(Some(lists))
     }
 
-    /// Returns rotation lists for a graph that the test passes, or none. Neither is checked: lists may be those of no
+    /// Returns rotation lists for `graph` if the test passes it, or None. Neither is checked: lists may be those of no
     /// map, and a graph without any may have a map, though no such graph is known. It fails only when out of memory.
     pub fn found_lists(
         &mut self,
@@ -88,7 +89,7 @@ impl Tables {
         Ok(Some(lists))
     }
 
-    // Returns the lists of a graph of `n` vertices that the test passed, in kept memory.
+    // Returns the rotation lists of a graph of `n` vertices that the test passed, in kept memory.
     fn lists(&mut self, alloc: Global, n: u16) -> Result<Rotations, AllocError>
         requires { n < 4096 }
         ensures { IfOk result (λ lists. length lists ≡ n) }
@@ -110,8 +111,8 @@ impl Tables {
         self.tracer.keep(witness);
     }
 
-    /// Returns a witness that the graph whose lists were asked for last is nonplanar, or none where that is not seen to
-    /// be. It fails only when out of memory.
+    /// Returns a witness that the graph of the last call is nonplanar, or None where that is not seen to be. It fails
+    /// only when out of memory.
     pub fn witness(&mut self, alloc: Global) -> Result<Option<Witness>, AllocError> {
         if self.edges.are_of_k5() {
             for edge in 0..self.edges.count {
@@ -127,7 +128,7 @@ impl Tables {
     }
 }
 
-/// Returns rotation lists for a graph, or none where it has no map of genus zero. Lists are not checked: a graph
+/// Returns rotation lists for `graph`, or None where it has no map of genus zero. Lists are not checked: a graph
 /// without a map may have some too, though no such graph is known. It fails only when out of memory.
 pub fn planar_lists(alloc: Global, graph: &Graph) -> Result<Option<Rotations>, AllocError>
     ensures { IfOk result (λ found. MatchOption found ((lists : Lists) → ¬ IsMapOf lists graph.now) (λ lists. length lists ≡ graph.now.n)) }
@@ -135,8 +136,7 @@ pub fn planar_lists(alloc: Global, graph: &Graph) -> Result<Option<Rotations>, A
     Tables::new().planar_lists(alloc, graph)
 }
 
-/// Returns a witness that a graph is nonplanar, or none where that is not seen to be. It fails only when out of
-/// memory.
+/// Returns a witness that `graph` is nonplanar, or None where that is not seen to be. It fails only when out of memory.
 pub fn find_witness(alloc: Global, graph: &Graph) -> Result<Option<Witness>, AllocError> {
     let mut tables = Tables::new();
     tables.begin(graph);

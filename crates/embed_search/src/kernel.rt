@@ -1,8 +1,8 @@
-//! A nonplanar part of a graph, with one edge for each of its paths.
+//! A nonplanar part of a graph as a kernel: its paths through vertices of degree two are replaced by single edges.
 use crate::marks::{IN_PART, turn_of};
 use left_right_test::{ByDart, ByEdge, ByVertex, Edges, Links, NONE, minus, plus, twice};
 
-/// The part, and what its reduction works in. Its vertices are numbered anew.
+/// The kernel, and the tables for its reduction. Its vertices are numbered anew.
 #[derive(Drop)]
 pub struct Kernel {
     /// Its edges.
@@ -30,7 +30,7 @@ pub struct Kernel {
 }
 
 impl Kernel {
-    /// Returns no part.
+    /// Returns an empty kernel.
     #[inline(always)]
     pub fn new() -> Kernel {
         Kernel {
@@ -48,12 +48,12 @@ impl Kernel {
         }
     }
 
-    /// Says whether the part, of vertices of degree three and more, is K5 or K3,3 if it is nonplanar.
+    /// Says whether the kernel, of vertices of degree three and more, is K5 or K3,3 if it is nonplanar.
     pub fn is_least(&self) -> bool {
         self.edges.count == 9 || self.edges.vertices == 5 && self.edges.count == 10
     }
 
-    /// Returns the first edge that is not known to be needed; or none.
+    /// Returns the first edge that is not known to be needed, or `NONE`.
     pub fn first_loose(&self) -> u32 {
         for edge in 0..self.edges.count {
             if self.needed.get(edge) == 0 {
@@ -63,20 +63,21 @@ impl Kernel {
         NONE
     }
 
-    // Returns how many edges become one with others, if an edge of this vertex goes.
+    // Returns how many edges merge with others, if an edge at `vertex` is removed.
     #[inline(always)]
     fn smoothed_at(&self, vertex: u32) -> u32 {
         if self.degree.get(vertex) == 3 { 1 } else { 0 }
     }
 
-    /// Returns of how many paths the part without an edge is, if no two of them join the same vertices.
+    /// Returns how many edges the kernel has once `edge` is removed and paths are merged, if no two of these join the
+    /// same vertices.
     pub fn paths_without(&self, edge: u32) -> u32 {
         let one = self.smoothed_at(self.edges.one.get(edge));
         let other = self.smoothed_at(self.edges.other.get(edge));
         minus(self.edges.count, plus(1, plus(one, other)))
     }
 
-    /// Keeps all edges but one.
+    /// Removes the edge `out` from the kernel, and reduces what is left.
     pub fn drop(&mut self, links: &mut Links, out: u32) {
         for edge in 0..self.edges.count {
             self.marks.set(edge, IN_PART);
@@ -85,7 +86,8 @@ impl Kernel {
         self.keep_marked(links);
     }
 
-    /// Makes the marked edges of a graph the part, and takes their ends from the graph's darts.
+    /// Makes the edges of a graph with a mark the kernel's edges, and takes their ends from the graph's darts in
+    /// `links`.
     pub fn load(&mut self, edges: &mut Edges, links: &Links, marks: &ByEdge) {
         self.edges.vertices = edges.vertices;
         self.edges.count = 0;
@@ -103,15 +105,15 @@ impl Kernel {
         }
     }
 
-    /// Marks its edges.
+    /// Sets the marks of the kernel's edges to those in `marks`.
     pub fn mark(&mut self, marks: &ByEdge) {
         for edge in 0..self.edges.count {
             self.marks.set(edge, marks.get(edge));
         }
     }
 
-    /// Chains the edges but one. A search then goes along those first along which the last one returned, and last along
-    /// those of its tree that join two ways by which it did.
+    /// Chains the kernel's edges except `out` in `links`, for the next search. A search then goes along those first
+    /// along which the last one returned, and last along those of its tree that join two ways by which it did.
     pub fn chain_without(&self, links: &mut Links, out: u32) {
         links.begin_chains(self.edges.vertices);
         links.darts = twice(self.edges.count);
@@ -124,7 +126,7 @@ impl Kernel {
         }
     }
 
-    /// Links all edges of a graph that are in the paths.
+    /// Links in `links` all edges of the graph that are on paths of the kernel.
     pub fn link_paths(&self, links: &mut Links, edges: &Edges) {
         links.begin(edges);
         for path in 0..self.edges.count {
@@ -140,7 +142,8 @@ impl Kernel {
         }
     }
 
-    // Joins the paths of all edges that have become one: two rings become one where their successors are exchanged.
+    // Joins the paths of all edges that were merged into `edge`: two rings become one where their successors are
+    // exchanged.
     fn join_merged(&mut self, edge: u32) {
         let mut other = self.merged.get(edge);
         for _ in 0..self.edges.count {
@@ -160,7 +163,7 @@ impl Kernel {
         }
     }
 
-    // Numbers the vertices that have darts, and keeps those edges alone that are left.
+    // Numbers the vertices that have darts anew, and keeps only the edges that are left.
     fn renumber(&mut self, links: &Links) {
         let mut vertices = 0u32;
         for vertex in 0..links.vertices {
@@ -187,7 +190,7 @@ impl Kernel {
         }
     }
 
-    /// Keeps the marked edges alone, and makes one edge of each path.
+    /// Keeps only the marked edges, and replaces each path by one edge.
     pub fn keep_marked(&mut self, links: &mut Links) {
         links.begin(&self.edges);
         for edge in 0..self.edges.count {
@@ -207,7 +210,7 @@ impl Kernel {
         self.renumber(links);
     }
 
-    // Puts a vertex on the stack, if it has one or two darts.
+    // Pushes `vertex` on the stack, if it has one or two darts.
     #[inline(always)]
     fn await_few(&mut self, links: &Links, vertex: u32) {
         let degree = links.degree.get(vertex);
@@ -217,7 +220,7 @@ impl Kernel {
         }
     }
 
-    // Drops the edge of a dart that leaves a vertex.
+    // Removes the edge of `dart`, which leaves `vertex`.
     fn drop_edge(&mut self, links: &mut Links, dart: u32, vertex: u32) {
         let head = links.head.get(dart);
         links.take_out(dart, vertex);
@@ -226,7 +229,7 @@ impl Kernel {
         self.await_few(links, head);
     }
 
-    // Makes one edge of the two edges of a vertex, or drops both where their ends are joined.
+    // Merges the two edges of `vertex` into one, or removes both where their other ends are adjacent.
     fn smooth(&mut self, links: &mut Links, vertex: u32) {
         let one = links.first.get(vertex);
         let other = links.next.get(one);
@@ -248,7 +251,8 @@ impl Kernel {
         self.merged.set(other >> 1, after);
     }
 
-    // Prunes ends, smooths vertices of degree two, and drops parallels.
+    // Removes edges at vertices of degree one, merges those at vertices of degree two, and removes parallel edges,
+    // until there are none.
     fn reduce(&mut self, links: &mut Links) {
         self.waiting = 0;
         for vertex in 0..links.vertices {

@@ -1,19 +1,19 @@
-//! The edges that show a conflict: those of its ring, with what ties them, and the ways along which they return.
+//! Marks the edges that together show a conflict of the left-right test, so that they are nonplanar.
 use left_right_test::{ByEdge, ByVertex, LeftRightTest, NONE, branch_of, near_edge};
 
-/// The mark of an edge of the part.
+/// The mark of an edge of the nonplanar part.
 pub const IN_PART: u32 = 1;
 
-// A mark beside: a return edge ends at the upper end of this edge of the tree.
+// An added mark of a tree edge: a marked return edge ends at its upper end.
 const ENDS_ABOVE: u32 = 2;
 
-// A mark beside: a return edge begins at the lower end of this edge of the tree.
+// An added mark of a tree edge: a marked return edge begins at its lower end.
 const BEGINS_BELOW: u32 = 4;
 
-// The mark of a return edge of the part.
+// The mark of a return edge of the nonplanar part.
 const RETURNS: u32 = 9;
 
-/// Returns in which turn an edge with these marks is linked.
+/// Returns at which of three passes an edge with these marks is linked, from 0 to 2.
 pub fn turn_of(mark: u32) -> u32 {
     if mark & RETURNS == RETURNS {
         2
@@ -24,7 +24,7 @@ pub fn turn_of(mark: u32) -> u32 {
     }
 }
 
-/// The marks of a conflict.
+/// The marks of the edges that show a conflict.
 #[derive(Drop)]
 pub struct ConflictMarks {
     // for each vertex the least height to which the way up from it is marked, or none
@@ -46,7 +46,7 @@ impl ConflictMarks {
         }
     }
 
-    // Marks a return edge, and the way along which it returns.
+    // Marks the return edge of dart `edge`, and the tree path between its ends.
     fn mark(&mut self, test: &LeftRightTest, edge: u32) {
         let (links, search) = (&test.links, &test.search);
         let end = links.head.get(edge);
@@ -66,17 +66,17 @@ impl ConflictMarks {
         }
     }
 
-    // Marks the return edge to the lowpoint of a dart.
+    // Marks the return edge that leads to the lowpoint of `dart`.
     fn mark_lowest(&mut self, test: &LeftRightTest, dart: u32) {
         self.mark(test, test.search.lowpt_edge.get(dart));
     }
 
-    // Marks that to the lowpoint of the dart of a vertex along which an edge returns.
+    // Marks the return edge to the lowpoint of the dart of `vertex` on the branch from which `edge` returns.
     fn mark_branch(&mut self, test: &LeftRightTest, edge: u32, vertex: u32) {
         self.mark_lowest(test, branch_of(&test.links, &test.search, edge, vertex));
     }
 
-    // Marks what makes the ties of the test's ring.
+    // Marks the return edges that make the ties of the test's ring, the cycle of constraints on sides.
     fn mark_ties(&mut self, test: &LeftRightTest) {
         let ties = &test.search.ties;
         let mut edge = test.ring.other;
@@ -101,7 +101,7 @@ impl ConflictMarks {
         }
     }
 
-    // Marks what binds the ends of the ring to one side.
+    // Marks the return edges that bind the ends of the test's ring to one side.
     fn mark_bound(&mut self, test: &LeftRightTest) {
         let search = &test.search;
         let vertex = search.failed;
@@ -115,8 +115,8 @@ impl ConflictMarks {
         }
     }
 
-    /// Marks edges, together nonplanar, that show the conflict of a test; at each edge of the ways also what of the marked
-    /// return edges is at its ends.
+    /// Marks edges, together nonplanar, that show the conflict of `test`. Tree edges also get marks of the marked
+    /// return edges at their ends.
     pub fn mark_conflict(&mut self, test: &LeftRightTest) {
         let (links, search) = (&test.links, &test.search);
         self.marks.fill(links.darts / 2, 0);

@@ -1,4 +1,4 @@
-//! A nonplanar part of a graph that is planar without any path of its own.
+//! Shrinks a nonplanar part of a graph until it is planar without any path of its own.
 use crate::kernel::Kernel;
 use crate::marks::ConflictMarks;
 use crate::small::{has_few_vertices, is_planar_without};
@@ -13,7 +13,8 @@ const FEW_EDGES: u32 = 12;
 // How many roots are tried beside the first.
 const MOST_ROOTS: u32 = 2;
 
-// Tests the part without an edge, or whole. Where it is nonplanar, only what shows that stays.
+// Tests the kernel without edge `out`, or whole. If it is nonplanar, only the edges that show that stay, and true is
+// returned.
 fn fails_without(
     kernel: &mut Kernel,
     test: &mut LeftRightTest,
@@ -30,8 +31,8 @@ fn fails_without(
     true
 }
 
-// Leaves an edge out of the part, if the rest is nonplanar. It answers whether it was left out. A rest of fewer than
-// nine paths is planar; one of nine that is nonplanar is K3,3, which needs them all.
+// Removes the edge `out` from the kernel if the rest is nonplanar, and says whether it did. A rest of fewer than nine
+// paths is planar; one of nine that is nonplanar is K3,3, which needs them all.
 fn is_left_out(
     kernel: &mut Kernel,
     test: &mut LeftRightTest,
@@ -54,7 +55,7 @@ fn is_left_out(
     fails_without(kernel, test, marks, out)
 }
 
-// Tests the whole part while that makes it smaller, from another root where it does not.
+// Tests the whole kernel while that makes it smaller, from another root where it does not.
 fn narrow(kernel: &mut Kernel, test: &mut LeftRightTest, marks: &mut ConflictMarks) {
     let mut roots = 0u32;
     for _ in 0..MOST_TESTS {
@@ -72,7 +73,7 @@ fn narrow(kernel: &mut Kernel, test: &mut LeftRightTest, marks: &mut ConflictMar
     }
 }
 
-/// Leaves out of a nonplanar part all that is not needed.
+/// Removes from the nonplanar kernel all edges that are not needed for its nonplanarity.
 pub fn shrink(kernel: &mut Kernel, test: &mut LeftRightTest, marks: &mut ConflictMarks) {
     narrow(kernel, test, marks);
     for _ in 0..MOST_TESTS {

@@ -1,4 +1,4 @@
-//! Whether a graph of at most six vertices is planar, by what its neighbours are.
+//! Planarity of graphs of at most six vertices, tested by bits of neighbours.
 //!
 //! A subdivision of K3,3 in it is a K3,3, and one of K5 is a K5 in which at most one edge is subdivided.
 use left_right_test::{Edges, minus};
@@ -15,12 +15,13 @@ const ALL: u32 = 63;
 // The bits of three vertices, of which vertex 0 is one.
 const SIDES: [u32; 10] = [7, 11, 19, 35, 13, 21, 37, 25, 41, 49];
 
-// Returns the bit of a vertex.
+// Returns the bit of `vertex`.
 fn bit(vertex: u32) -> u32 {
     BITS[vertex as usize % 8]
 }
 
-// Says whether there is a K3,3: each vertex of one side has all those of the other as neighbours.
+// Says whether there is a K3,3, by the neighbours `near` as bits. Each vertex of one side has all those of the other as
+// neighbours.
 fn has_k33(near: &[u32; 8]) -> bool {
     for place in 0..SIDES.len() {
         let side = SIDES[place];
@@ -39,8 +40,7 @@ fn has_k33(near: &[u32; 8]) -> bool {
     false
 }
 
-// Says whether there is a K5, or one with one edge subdivided: all vertices but one are a K5, or lack one edge of it, and a
-// path through that one is in its place.
+// Says whether there is a K5, or one with one edge subdivided, by the neighbours `near` as bits.
 fn has_k5(near: &[u32; 8]) -> bool {
     for vertex in 0..MOST_VERTICES {
         let others = ALL ^ bit(vertex);
@@ -61,12 +61,12 @@ fn has_k5(near: &[u32; 8]) -> bool {
     false
 }
 
-/// Says whether there are at most six vertices.
+/// Says whether `edges` have at most six vertices.
 pub fn has_few_vertices(edges: &Edges) -> bool {
     edges.vertices <= MOST_VERTICES
 }
 
-/// Says whether edges without one of them are those of a planar graph, of at most six vertices.
+/// Says whether `edges` without edge `out`, of at most six vertices, are those of a planar graph.
 pub fn is_planar_without(edges: &Edges, out: u32) -> bool {
     // for each vertex the bits of its neighbours
     let mut near = [0; 8];

@@ -1,16 +1,16 @@
-//! Branches and paths of a subdivision.
+//! Traces the branch vertices and paths of a subdivision of K5 or K3,3, and returns them as a witness.
 use kuratowski::{Kind, Witness};
 use left_right_test::{ByVertex, Links, NONE, ends_of, plus};
 use map_lists::{PathList, VertexId, VertexList};
 use std::alloc::{AllocError, Global};
 use std::mem;
 
-// Returns a vertex by its number.
+// Converts `vertex` to an id.
 fn vertex_id(vertex: u32) -> VertexId {
     VertexId((vertex & 0xffff) as u16)
 }
 
-// Returns the dart that goes on from another, whose head has two darts.
+// Returns the dart that continues a path after `dart`, whose head has two darts.
 #[inline(always)]
 fn dart_on(links: &Links, dart: u32) -> u32 {
     let first = links.first.get(links.head.get(dart));
@@ -21,7 +21,7 @@ fn dart_on(links: &Links, dart: u32) -> u32 {
     }
 }
 
-// The vertices at which paths meet.
+// The branch vertices of a subdivision, at which paths meet.
 #[derive(Drop)]
 struct Branches {
     // by place
@@ -33,7 +33,7 @@ struct Branches {
 }
 
 impl Branches {
-    // Returns none.
+    // Returns a list of no branch vertices.
     #[inline(always)]
     fn new() -> Branches {
         Branches {
@@ -43,13 +43,14 @@ impl Branches {
         }
     }
 
+    // Makes `vertex` the branch vertex at index `place`.
     #[inline(always)]
     fn put(&mut self, place: u32, vertex: u32) {
         self.vertices.set(place, vertex);
         self.places.set(vertex, place);
     }
 
-    // Takes the vertices of a degree above two, in rising order.
+    // Makes the vertices of degree above two the branch vertices, in rising order.
     fn take(&mut self, links: &Links) {
         self.count = 0;
         for vertex in 0..links.vertices {
@@ -60,7 +61,8 @@ impl Branches {
         }
     }
 
-    // Returns by place, from place `from` on, the first dart of the path from a branch to the one there, or NONE.
+    // Returns for each branch index from `from` on the first dart of a path to it from the branch vertex at index
+    // `place`, or `NONE`.
     fn darts_from(&self, links: &Links, place: u32, from: u32) -> [u32; 8] {
         let mut found = [NONE; 8];
         let vertex = self.vertices.get(place);
@@ -84,7 +86,8 @@ impl Branches {
         found
     }
 
-    // Takes six others in two parts: first those that no path joins to the first one.
+    // Takes the six branch vertices of `others` sorted by the sides of K3,3: first those that no path joins to the
+    // first one.
     fn take_in_parts(&mut self, links: &Links, others: &Branches) {
         self.count = 6;
         let darts = others.darts_from(links, 0, 0);
@@ -102,7 +105,7 @@ impl Branches {
         }
     }
 
-    // Returns them as a list, in the memory of `spent`.
+    // Returns the branch vertices as a list, in the memory of `spent`.
     fn list(&self, spent: VertexList) -> Result<VertexList, AllocError> {
         let mut list = spent.emptied(self.count as usize)?;
         for place in 0..self.count {
@@ -112,7 +115,7 @@ impl Branches {
     }
 }
 
-// Paths, one behind another.
+// The paths of a subdivision, concatenated.
 #[derive(Drop)]
 struct Ways {
     // the vertices of all of them
@@ -125,7 +128,7 @@ struct Ways {
 }
 
 impl Ways {
-    // Returns none.
+    // Returns no paths.
     #[inline(always)]
     fn new() -> Ways {
         Ways {
@@ -136,12 +139,14 @@ impl Ways {
         }
     }
 
+    // Appends `vertex` to the last path.
     #[inline(always)]
     fn push(&mut self, vertex: u32) {
         self.cells[self.count % 512] = vertex_id(vertex);
         self.count = self.count % 512 + 1;
     }
 
+    // Returns the concatenated vertices of all paths.
     #[inline(always)]
     fn vertices(&self) -> &[VertexId] {
         if self.count < 512 {
@@ -151,7 +156,7 @@ impl Ways {
         }
     }
 
-    // Appends the path that begins with a dart.
+    // Appends the path that begins with `dart`.
     fn follow(&mut self, links: &Links, dart: u32) {
         self.push(links.tail(dart));
         let mut dart = dart;
@@ -167,7 +172,7 @@ impl Ways {
         self.paths = plus(self.paths, 1);
     }
 
-    // Makes them the paths of a kind between branches, in its order of pairs. Says whether all are there.
+    // Makes these the paths of a `kind` between `branches`, in its order of pairs. Says whether all are there.
     fn take(&mut self, links: &Links, branches: &Branches, kind: Kind) -> bool {
         self.count = 0;
         self.paths = 0;
@@ -192,7 +197,7 @@ impl Ways {
         true
     }
 
-    // Returns them as a list, in the memory of `spent`.
+    // Returns the paths as a list, in the memory of `spent`.
     fn list(&self, spent: PathList) -> Result<PathList, AllocError> {
         let (mut entries, spent_ends) = spent.into_parts();
         entries.clear();
@@ -225,12 +230,12 @@ impl Tracer {
         }
     }
 
-    /// Keeps the memory of a witness that is done with.
+    /// Keeps the memory of `witness`, which is done with.
     pub fn keep(&mut self, witness: Witness) {
         self.spent = Some(witness);
     }
 
-    // Returns a witness of a kind, to be filled, in that memory, if some was kept; else with room for the paths.
+    // Returns a witness of `kind`, to be filled, in kept memory if there is some, else with room for the paths.
     fn take_spent(
         &mut self,
         alloc: Global,
@@ -258,7 +263,8 @@ impl Tracer {
         }
     }
 
-    /// Returns the witness that the linked edges are, or none where they are no subdivision of K5 or K3,3.
+    /// Returns the witness that the linked edges are, or None where they are no subdivision of K5 or K3,3. It fails
+    /// only when out of memory.
     pub fn traced(&mut self, alloc: Global, links: &Links) -> Result<Option<Witness>, AllocError> {
         self.branches.take(links);
         match self.branches.count {
@@ -276,7 +282,7 @@ impl Tracer {
     }
 }
 
-// Returns the witness of these branches, if the paths are there, of the kind and in the memory of `spent`.
+// Returns the witness with these branches, of the kind and in the memory of `spent`, or None where a path is missing.
 fn filled(
     links: &Links,
     ways: &mut Ways,

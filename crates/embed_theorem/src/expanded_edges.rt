@@ -1,9 +1,9 @@
-//! The law of expanded edges, as the contract of a function that does nothing.
+//! Law of expanded edges: a map of a graph with an edge contracted gives a map of the graph, or a Kuratowski witness.
 
 ghost use Rattle.embed_theorem.specs.Expanded.{ExpandedEdge};
 
-/// Let no two vertices of a graph part the others. From a map of genus zero of the graph with an edge
-/// contracted, as some edge can be, comes a map of the graph, or a Kuratowski witness.
+/// States the law of expanded edges, for a graph in which no two vertices separate the others. A map of genus zero of
+/// the graph with a contractible edge contracted gives a map of the graph, or a Kuratowski witness.
 pub fn expanded_edge()
     ensures { ExpandedEdge }
 {}

@@ -1,4 +1,4 @@
-//! The graph that lists are of, and which of its vertices are adjacent.
+//! The graph of rotation lists: which vertices are adjacent.
 
 mod adjacent;
 

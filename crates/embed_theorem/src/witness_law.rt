@@ -1,8 +1,9 @@
-//! The law of Kuratowski witnesses, as the contract of a function that does nothing.
+//! Law of Kuratowski witnesses: a graph with a witness has no map of genus zero.
 
 ghost use Rattle.embed_theorem.specs.Refuted.{WitnessesRefute};
 
-/// Where a graph has a witness, no simple map of genus zero has all its edges; so none has just these.
+/// States the law that where a graph has a witness, no simple map of genus zero has all its edges; so none has just
+/// these.
 pub fn witnesses_refute()
     ensures { WitnessesRefute }
 {}

@@ -1,4 +1,4 @@
-//! Graphs with an edge contracted.
+//! The graph with an edge contracted, by the call `contract`.
 
 mod contracted;
 

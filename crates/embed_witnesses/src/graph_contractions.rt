@@ -1,4 +1,5 @@
-//! Edges of three-connected graphs that can be contracted.
+//! Edges of three-connected graphs that can be contracted to a three-connected graph, and the test for
+//! three-connectivity.
 
 mod connected;
 mod contractible;

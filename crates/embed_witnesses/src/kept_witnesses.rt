@@ -1,9 +1,9 @@
-//! The law of witnesses that stay when an edge is contracted, as the contract of a function that does nothing.
+//! Law: a witness has only single edges as paths, or some edge can be contracted so that a witness stays.
 
 ghost use Rattle.embed_witnesses.specs.Kept.{PlainOrKept};
 
-/// All paths of a witness of a graph are single edges, or some edge of the graph can be contracted so that a witness
-/// stays.
+/// States the law that all paths of a witness of a graph are single edges, or some edge can be contracted so that a
+/// witness stays.
 pub fn plain_or_kept()
     ensures { PlainOrKept }
 {}

@@ -1,4 +1,5 @@
-//! Kuratowski witnesses of contracted graphs, and how they are lifted to the graph.
+//! Kuratowski witnesses and edge contraction: contracted graphs, witnesses of them, and how these are lifted to the
+//! graph.
 #![tactic(auto)]
 
 pub mod contracted_graphs;

@@ -1,4 +1,4 @@
-//! Witnesses of a graph from those of the graph with an edge contracted.
+//! Lifts a Kuratowski witness of a graph with an edge contracted to one of the graph.
 
 mod changed;
 mod changes;

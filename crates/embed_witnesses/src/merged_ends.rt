@@ -1,4 +1,4 @@
-//! Graphs in which the lesser end of an edge has the neighbours of both, and the greater none.
+//! Graphs in which the lesser end of an edge has the neighbours of both ends, and the greater none.
 
 mod laws;
 mod old_numbers;

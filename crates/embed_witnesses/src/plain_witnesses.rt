@@ -1,4 +1,4 @@
-//! K5 and K3,3 as parts of graphs.
+//! Finds K5 or K3,3 as a subgraph: a witness all of whose paths are single edges.
 
 mod numbers;
 mod search;

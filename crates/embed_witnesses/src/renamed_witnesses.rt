@@ -1,4 +1,4 @@
-//! Witnesses with other numbers for their vertices.
+//! Renumbers the vertices of a witness by a table.
 
 mod laws;
 mod rename;

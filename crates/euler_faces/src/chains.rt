@@ -1,4 +1,5 @@
-//! A search of the faces of a map by chains of faces, each sharing an edge with the next.
+//! Searches the faces of a map over chains of faces, each sharing an edge with the next, by the parity of counted
+//! edges.
 ghost use Rattle.std.specs.Prelude.{◌≡◌, ◌<◌, ◌*◌, ℕ, false, not, if◌then◌else◌, length, OnOk};
 ghost use Rattle.map_lists.specs.declared.ids.DartId.{DartId as TheDart};
 ghost use Rattle.half_edges.specs.Map.{IsLive, id_bound};
@@ -8,7 +9,7 @@ ghost use Rattle.euler_faces.specs.ChainSearch.{place, Meets, GoesFrom, MarksRea
 use half_edges::{DartId, HalfMap};
 use std::alloc::{AllocError, Global};
 
-// The face left of a dart, as a chain comes to it: whether it has stepped over an odd number of edges that
+// The face left of a dart, as a chain comes to it: whether the chain has stepped over an odd number of edges that
 // count.
 #[derive(Clone, Copy)]
 pub(crate) struct Side {
@@ -17,7 +18,7 @@ pub(crate) struct Side {
 }
 
 impl Side {
-    // Returns the place of the side's mark.
+    // Returns the index of this side's mark.
     fn place(self) -> usize
         ensures { result ≡ place self.dart.0 self.odd }
     {
@@ -26,7 +27,7 @@ impl Side {
     }
 }
 
-// Marks a side, and puts it on the stack, where it has no mark.
+// Marks `side` in `met` and pushes it on the stack `sides`, where it has no mark.
 fn meet(met: &mut [bool], sides: &mut Vec<Side>, side: Side) -> Result<(), AllocError>
     requires { place side.dart.0 side.odd < length met.old }
     ensures { OnOk result (Meets met.old sides.old.items side met.new sides.new.items) }
@@ -40,14 +41,15 @@ fn meet(met: &mut [bool], sides: &mut Vec<Side>, side: Side) -> Result<(), Alloc
     Ok(())
 }
 
-// Turns a Boolean round where `turn` holds.
+// Returns `value`, negated where `turn` holds.
 fn turned_where(turn: bool, value: bool) -> bool
     ensures { result ≡ (if turn then not value else value) }
 {
     if turn { !value } else { value }
 }
 
-// Goes on from a side: along its face, and over its edge, which `counts` says whether it counts.
+// Continues from `side` along its face and over its edge, which counts where `counts` says so. What is new is marked in
+// `met` and pushed on `sides`.
 fn go_on<F: Fn(DartId) -> bool>(
     map: &HalfMap,
     counts: &F,
@@ -75,7 +77,7 @@ fn go_on<F: Fn(DartId) -> bool>(
     Ok(())
 }
 
-/// Marks the faces to which chains of faces come from that of a dart, each sharing an edge with the next.
+/// Marks the faces that chains of faces reach from that of dart `start`, each sharing an edge with the next.
 ///
 /// A test says of a dart whether its edge counts. `met` has no mark yet; in the end it has one at twice the id of
 /// a dart where a chain comes to the face on its left over an even number of edges that count, and one behind that

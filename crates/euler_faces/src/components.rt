@@ -1,4 +1,4 @@
-//! The components of a map, numbered by a search that goes from vertex to vertex along a queue.
+//! Numbers the components of a map, by a breadth-first search along a queue.
 ghost use Rattle.std.specs.Prelude.{◌≡◌, ◌<◌, ◌≤◌, ◌||◌, ℕ, List, Bool, true, false, length, slice_index};
 ghost use Rattle.classes.specs.Classes.{same_class};
 ghost use Rattle.classes.proofs.Classes.{Together};
@@ -14,8 +14,8 @@ use crate::slots::StoredMap;
 pub const UNMET: u16 = u16::MAX;
 
 impl StoredMap<'_> {
-    // Gives `number` to the neighbours of `v` that have none, and puts them behind the `filled` first entries of the
-    // queue. It returns how many entries there are then.
+    // Gives `number` to the neighbours of `v` that have none in `numbers`, and appends them to the `filled` first
+    // entries of `queue`. Returns how many entries there are then.
     fn push_neighbours(
         &self,
         v: usize,
@@ -48,8 +48,9 @@ impl StoredMap<'_> {
         filled
     }
 
-    // Gives `number` to the component of `start`, which has none. The components numbered so far are numbered whole, and
-    // their vertices are the `filled` first entries of the queue. It returns how many entries there are then.
+    // Gives `number` to the component of `start`, which has none, in `numbers`. The components numbered so far are
+    // numbered whole, and their vertices are the `filled` first entries of the queue. It returns how many entries there
+    // are then.
     fn number_component(
         &self,
         start: u16,
@@ -85,10 +86,11 @@ impl StoredMap<'_> {
     }
 }
 
-/// Numbers the components of lists that are a simple map by their least vertices, and returns how many there are. The lists stand one behind another in `entries`, each up to its end in `ends`.
+/// Numbers the components of lists that are a simple map by their least vertices, and returns how many there are. The
+/// lists are concatenated in `entries`, each up to its end in `ends`.
 ///
-/// For each vertex `numbers`, which holds `UNMET` alone, gets the number of its component, and `queue` is
-/// room for a vertex. The time is linear in the entries.
+/// For each vertex `numbers`, which holds `UNMET` alone, gets the number of its component, and `queue` is room for a
+/// vertex. The time is linear in the entries.
 pub fn number_components(
     entries: &[u16],
     ends: &[usize],

@@ -1,4 +1,4 @@
-//! Counts.
+//! The public calls that count vertices, edges, faces and components of lists or a map, and the genus.
 ghost use Rattle.std.specs.Prelude.{◌≡◌, ◌≤◌, ◌<◌, ◌+◌, ◌-◌, ◌*◌, ◌%◌, ℕ, length, false, None, OnOk, IfOk, IfErr};
 ghost use Rattle.map_theory.specs.Maps.{IsSimpleMap, darts, vertex_count, edge_count, face_count, component_count, genus_of};
 ghost use Rattle.simple_maps.specs.Faults.{first_fault};
@@ -43,7 +43,7 @@ impl EulerCount {
     }
 }
 
-// Returns a simple map by its stored lists.
+// Returns `lists`, which are a simple map, as a stored map.
 #[inline(always)]
 fn stored(lists: &Rotations) -> StoredMap<'_>
     requires { IsSimpleMap lists.now }
@@ -56,8 +56,9 @@ fn stored(lists: &Rotations) -> StoredMap<'_>
     }
 }
 
-/// Counts `lists`, which are a simple map, by the twins of their darts. The components are counted already. The faces are walked over the twins, which are lost. The time is linear in the entries, and no memory is
-/// taken.
+/// Returns the counts of `lists`, which are a simple map, by the `twins` of their darts and the number of `components`.
+/// The components are counted already. The faces are walked over the twins, which are lost. The time is linear in the
+/// entries, and no memory is taken.
 pub fn euler_by_twins(lists: &Rotations, twins: &mut [u32], components: u16) -> EulerCount
     requires simple { IsSimpleMap lists.now }
     requires twins { AreTwins (darts lists.now) twins.old (length (darts lists.now)) }
@@ -106,7 +107,7 @@ impl Counter {
         }
     }
 
-    // Takes the numbers off all of `n` vertices, and makes room for all in the queue.
+    // Resets the component numbers of `n` vertices, and makes room for all in the queue.
     fn clear(&mut self, n: usize) -> Result<(), AllocError>
         ensures marks { OnOk result (length self.new.numbers.items ≡ n) }
         ensures room { OnOk result (n ≤ length self.new.queue.items) }
@@ -121,7 +122,7 @@ impl Counter {
         Ok(())
     }
 
-    /// Returns the counts of lists, which are from 1 to 4095, or the first fault of the lists.
+    /// Returns the counts of `lists`, which are from 1 to 4095, or the first fault of the lists.
     ///
     /// After `NoMemory` the counter serves as before. The time is linear in the entries.
     pub fn count(&mut self, lists: &Rotations) -> Result<EulerCount, MapFault>
@@ -152,7 +153,7 @@ impl Counter {
     }
 }
 
-/// Returns the counts of lists, which are from 1 to 4095, or the first fault of the lists. The time is linear in the
+/// Returns the counts of `lists`, which are from 1 to 4095, or the first fault of the lists. The time is linear in the
 /// entries, and so is the memory: six bytes for a dart.
 pub fn count_lists(alloc: Global, lists: &Rotations) -> Result<EulerCount, MapFault>
     requires some_list { 0 < length lists.now }
@@ -167,7 +168,7 @@ pub fn count_lists(alloc: Global, lists: &Rotations) -> Result<EulerCount, MapFa
     counter.count(lists)
 }
 
-/// Counts a map in time linear in its darts. It fails only when out of memory.
+/// Returns the counts of `map`, in time linear in its darts. It fails only when out of memory.
 pub fn euler(alloc: Global, map: &HalfMap) -> Result<EulerCount, AllocError>
     ensures n { IfOk result (λ count. count.n ≡ vertex_count map.now.lists) }
     ensures m { IfOk result (λ count. count.m ≡ edge_count map.now.lists) }

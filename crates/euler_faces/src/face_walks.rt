@@ -1,4 +1,4 @@
-//! The faces of a map, each as a walk along the face step.
+//! Makes the faces of a half-edge map: walks along the face step, numbered by their first darts.
 ghost use Rattle.std.specs.Prelude.{◌≡◌, ◌<◌, ◌+◌, ℕ, [], length, false, IfOk, OnOk};
 ghost use Rattle.classes.specs.Classes.{class_count};
 ghost use Rattle.map_theory.specs.Maps.{darts_before, face_classes};
@@ -22,8 +22,8 @@ struct Walking<'a> {
 }
 
 impl Walking<'_> {
-    // Walks the face of `start`, if that has no face yet: then it is the least dart of its face, where the darts before it
-    // have their faces. The number of the walk is written in `of` at the ids of its darts.
+    // Appends the walk of the face of `start` to `walks`, if that has no face in `of` yet, and writes its number at its
+    // darts' ids. Where the darts before `start` have their faces, it is the least dart of its own.
     fn add_dart(
         &self,
         of: &mut [u32],
@@ -51,7 +51,8 @@ impl Walking<'_> {
         Ok(())
     }
 
-    // Walks the faces whose least dart is one of those around `v`, where the darts of the vertices before have their faces.
+    // Appends the walks of the faces whose least dart is one of those from `v` to `walks`, and numbers them in `of`.
+    // The darts of the vertices before have their faces.
     fn add_vertex(
         &self,
         of: &mut [u32],
@@ -76,7 +77,7 @@ impl Walking<'_> {
         }
     }
 
-    // Walks all faces, where `of` has an entry for each id, none of them a face, and `walks` is empty.
+    // Appends the walks of all faces to `walks`, which is empty, and numbers them in `of`, which has no face yet.
     fn add_all(&self, of: &mut [u32], walks: &mut Vec<Walk>) -> Result<(), AllocError>
         requires size { length of.old ≡ id_bound self.now.map.now }
         requires unset { (i : ℕ) → mark_at (with_face of.old) i ≡ false }

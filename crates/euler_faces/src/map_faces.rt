@@ -1,4 +1,4 @@
-//! The counts of a half-edge map whose components are counted already.
+//! Counts a half-edge map whose components are counted already, by walks of its faces.
 ghost use Rattle.std.specs.Prelude.{◌≡◌, ◌≤◌, IfOk};
 ghost use Rattle.map_theory.specs.Maps.{vertex_count, edge_count, face_count, component_count, isolated_count};
 
@@ -7,7 +7,7 @@ use crate::face_walks::faces;
 use half_edges::{HalfMap, VertexId};
 use std::alloc::{AllocError, Global};
 
-// Counts the isolated vertices.
+// Returns the number of isolated vertices of `map`.
 fn count_isolated(map: &HalfMap) -> u32
     ensures count { result ≡ isolated_count map.now.lists }
     ensures few { result ≤ vertex_count map.now.lists }
@@ -21,8 +21,8 @@ fn count_isolated(map: &HalfMap) -> u32
     count
 }
 
-/// Counts a map that has so many components, by the walks of its faces, in time and memory linear in its darts. It fails
-/// only when out of memory.
+/// Returns the counts of `map`, which has so many `components`, by the walks of its faces, in time and memory linear in
+/// its darts. It fails only when out of memory.
 pub fn euler_by_components(
     alloc: Global,
     map: &HalfMap,

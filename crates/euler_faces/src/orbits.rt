@@ -1,4 +1,4 @@
-//! The faces of a map, counted: at once where all are triangles, and else by walks that overwrite the twins of darts.
+//! Counts the faces of stored lists: at once where all are triangles, else by walks that overwrite the twins of darts.
 ghost use Rattle.std.specs.Prelude.{◌≡◌, ◌+◌, ◌≤◌, ◌<◌, ◌||◌, ℕ, length};
 ghost use Rattle.std.specs.Bool.{OnTrue};
 ghost use Rattle.classes.specs.Classes.{class_count, same_class};
@@ -12,8 +12,7 @@ ghost use Rattle.euler_faces.specs.Slots.{walked, HaveTwins};
 use crate::slots::{StoredMap, WALKED};
 
 impl StoredMap<'_> {
-    // Walks the face of the dart `start`, where the faces walked so far are walked whole: it writes `WALKED` in `twins`
-    // at each dart of the face.
+    // Writes `WALKED` into `twins` at each dart of the face of `start`. The faces walked so far are walked whole.
     fn walk_face(&self, twins: &mut [u32], start: usize)
         requires long { length twins.old ≡ length self.now.entries.now }
         requires twins { HaveTwins (lists_of self.now) twins.old }
@@ -33,9 +32,9 @@ impl StoredMap<'_> {
         }
     }
 
-    // Says whether at each entry of each list the face is found to be a triangle: the entry before it is the one that
-    // follows the list's vertex in the entry's own list. `twins` has the twins of the darts. Lists with more or fewer
-    // entries than a triangulation are not gone over.
+    // Says whether the lists have as many entries as a triangulation and all faces are found to be triangles, by the
+    // `twins` of the darts. At each entry, the entry before it is the one that follows the list's vertex in the entry's
+    // own list.
     fn are_triangles(&self, twins: &[u32]) -> bool
         requires { AreTwins (darts (lists_of self.now)) twins.now (length (darts (lists_of self.now))) }
         ensures { OnTrue result (AreCornersBelow (lists_of self.now) (length self.now.entries.now)) }
@@ -64,8 +63,8 @@ impl StoredMap<'_> {
         true
     }
 
-    // Returns how many orbits of the face step there are at most, by the Euler bound. The components and the isolated vertices
-    // are counted.
+    // Returns the greatest number of orbits of the face step that the Euler bound allows, by the numbers of `components` and of
+    // `isolated` vertices.
     #[inline(always)]
     pub(crate) fn most_orbits(&self, components: u16, isolated: u32) -> u32
         requires components { components ≡ component_count (lists_of self.now) }
@@ -77,9 +76,8 @@ impl StoredMap<'_> {
         2 * components as u32 + edges - (self.ends.len() as u32 + isolated)
     }
 
-    // Counts the orbits of the face step, which are at most `most`, by the twins of the darts: a third of the darts where all
-    // faces are found to be triangles, and else by a walk along each, which overwrites the twins. The last of so many is not
-    // walked.
+    // Returns the number of orbits of the face step, which is at most `most`, by the `twins` of the darts. It is a third of
+    // the darts where all faces are triangles. Else a walk along each face but the last of `most` overwrites the twins.
     #[inline(always)]
     pub(crate) fn count_orbits(&self, twins: &mut [u32], most: u32) -> u32
         requires twins { AreTwins (darts (lists_of self.now)) twins.old (length (darts (lists_of self.now))) }
@@ -104,8 +102,8 @@ impl StoredMap<'_> {
         count
     }
 
-    // Counts the isolated vertices, where there are so many components. Where there is one, and an edge, no list is gone
-    // over.
+    // Returns the number of isolated vertices of a map with so many `components`. Where there is one, and an edge, no
+    // list is gone over.
     pub(crate) fn count_isolated(&self, components: u16) -> u32
         requires { components ≡ component_count (lists_of self.now) }
         ensures count { result ≡ isolated_count (lists_of self.now) }

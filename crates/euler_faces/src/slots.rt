@@ -1,4 +1,4 @@
-//! A simple map by its stored lists, with the darts by their numbers, as counts go over them.
+//! A simple map by its stored lists, as the type `StoredMap`: darts are numbered by the indices of their entries.
 ghost use Rattle.std.specs.Prelude.{◌≡◌, ◌+◌, ◌<◌, ◌==◌, if◌then◌else◌, ◌∷◌, length, slice_index, slice_index_or};
 ghost use Rattle.map_lists.specs.Cuts.{cut, AreCuts};
 ghost use Rattle.map_theory.specs.Maps.{IsSimpleMap, dart_count};
@@ -6,9 +6,9 @@ ghost use Rattle.map_theory.specs.Maps.{IsSimpleMap, dart_count};
 /// Stands in place of a twin's number once a dart was walked over.
 pub(crate) const WALKED: u32 = u32::MAX;
 
-/// The lists of a simple map, one behind another in `entries`, each up to its end in `ends`.
+/// The lists of a simple map, concatenated in `entries`, each up to its end in `ends`.
 ///
-/// A dart's number is the place of its entry.
+/// A dart's number is the index of its entry.
 #[derive(Clone, Copy)]
 pub(crate) struct StoredMap<'a> {
     pub(crate) entries: &'a [u16],
@@ -37,7 +37,7 @@ impl StoredMap<'_> {
         if v == 0 { 0 } else { self.ends[v - 1] }
     }
 
-    // Returns the number of the dart after number `d` in list `v`, cyclically.
+    // Returns the number of the dart after dart `d` in list `v`, cyclically.
     #[inline(always)]
     pub(crate) fn after(&self, v: usize, d: usize) -> usize
         requires v_in { v < length self.now.ends.now }

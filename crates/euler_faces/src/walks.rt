@@ -1,4 +1,4 @@
-//! Walks along faces.
+//! The faces of a map as the type `Faces`: the walk of each face, and the face of each dart.
 ghost use Rattle.std.specs.Prelude.{◌≡◌, ◌<◌, ℕ, [], ◌∷◌, ◌++◌, length, All, Contains, OnOk};
 ghost use Rattle.euler_faces.specs.FaceWalks.{ids_of, walk_at};
 
@@ -24,7 +24,7 @@ impl Model for Walk {
 }
 
 impl Walk {
-    // No darts. It takes no memory.
+    // Returns a walk of no darts. It takes no memory.
     pub(crate) fn new(alloc: Global) -> Walk
         ensures { result ≡ [] }
     {
@@ -33,7 +33,7 @@ impl Walk {
         }
     }
 
-    // Appends a dart.
+    // Appends dart `d`.
     pub(crate) fn push(&mut self, d: DartId) -> Result<(), AllocError>
         ensures { OnOk result (self.new ≡ self.old ++ d.0 ∷ []) }
     {
@@ -41,7 +41,7 @@ impl Walk {
         Ok(())
     }
 
-    // The darts.
+    // Returns the darts in the order of the walk.
     pub(crate) fn as_slice(&self) -> &[DartId]
         ensures { ids_of result.now ≡ self.now }
     {
@@ -73,14 +73,14 @@ impl Model for Faces {
 }
 
 impl Faces {
-    /// The number of walks. Faces have the ids with the numbers below it.
+    /// Returns the number of walks. Faces have the ids with the numbers below it.
     pub fn count(&self) -> u32
         ensures { result ≡ length self.now }
     {
         self.walks.len() as u32
     }
 
-    /// The face of a dart that was live in the map.
+    /// Returns the face of dart `d`, which was live in the map.
     pub fn of_dart(&self, d: DartId) -> FaceId
         requires { (f : ℕ) × (f < length self.now) × Contains (walk_at self.now f) d.0 }
         ensures face { result.0 < length self.now }
@@ -89,7 +89,7 @@ impl Faces {
         FaceId(self.of[d.0 as usize])
     }
 
-    /// The darts of a face in the order of the face step, from the first in the order of the lists.
+    /// Returns the darts of face `f` in the order of the face step, from the first in the order of the lists.
     pub fn walk(&self, f: FaceId) -> &[DartId]
         requires { f.0 < length self.now }
         ensures walk { ids_of result.now ≡ walk_at self.now f.0 }

@@ -1,4 +1,4 @@
-//! Words and numbers written into a row of bytes from its end to its front.
+//! Writes bytes, words and numbers of a figure's text into a buffer backwards, from its end to its front.
 ghost use Rattle.std.specs.Prelude.{◌≡◌, ◌+◌, ◌*◌, ◌<◌, ◌≤◌, ◌∷◌, ◌++◌, length, drop, flat_map, decimal};
 ghost use Rattle.std.specs.Fmt.{signed_decimal};
 ghost use Rattle.figure_text.specs.Text.{spaced_signed, first_line, columns_line};
@@ -6,7 +6,7 @@ ghost use Rattle.figure_text.specs.Text.{spaced_signed, first_line, columns_line
 use crate::numerals::Texts;
 use crate::print::Heading;
 
-// Writes a byte before `end`, and returns where it stands.
+// Writes `byte` before index `end` of `bytes`, and returns the index at which it stands.
 pub(crate) fn write_byte(byte: u8, bytes: &mut [u8], end: usize) -> usize
     requires { (0 < end) × (end ≤ length bytes.old) }
     ensures start { result + 1 ≡ end }
@@ -16,7 +16,7 @@ pub(crate) fn write_byte(byte: u8, bytes: &mut [u8], end: usize) -> usize
     end - 1
 }
 
-// Writes a space and a letter before `end`, and returns where they start.
+// Writes a space and `letter` before index `end` of `bytes`, and returns the index at which they start.
 pub(crate) fn write_letter(letter: u8, bytes: &mut [u8], end: usize) -> usize
     requires { (2 ≤ end) × (end ≤ length bytes.old) }
     ensures start { result + 2 ≡ end }
@@ -26,7 +26,7 @@ pub(crate) fn write_letter(letter: u8, bytes: &mut [u8], end: usize) -> usize
     write_byte(b' ', bytes, start)
 }
 
-// Writes a space and a signed number before `end`, and returns where they start.
+// Writes a space and the signed `number` before index `end` of `bytes`, and returns the index at which they start.
 #[inline(always)]
 pub(crate) fn write_signed(texts: &Texts<'_>, number: i32, bytes: &mut [u8], end: usize) -> usize
     requires { (12 ≤ end) × (end ≤ length bytes.old) }
@@ -41,7 +41,7 @@ pub(crate) fn write_signed(texts: &Texts<'_>, number: i32, bytes: &mut [u8], end
     write_byte(b' ', bytes, sign)
 }
 
-// Writes the number of a vertex before `end`, and returns where it starts.
+// Writes `number`, that of a vertex, before index `end` of `bytes`, and returns the index at which it starts.
 pub(crate) fn write_number(texts: &Texts<'_>, number: u64, bytes: &mut [u8], end: usize) -> usize
     requires { (21 ≤ end) × (end ≤ length bytes.old) }
     ensures within { (result ≤ end) × (end ≤ result + 20) }
@@ -50,7 +50,8 @@ pub(crate) fn write_number(texts: &Texts<'_>, number: u64, bytes: &mut [u8], end
     texts.write(number, bytes, end) + 1
 }
 
-// Writes vertices, numbered from 1 and each after a space, before `end`, and returns where they start.
+// Writes the vertices of `list`, numbered from 1 and each after a space, before index `end` of `bytes`. Returns the
+// index at which they start.
 pub(crate) fn write_vertices(texts: &Texts<'_>, list: &[u16], bytes: &mut [u8], end: usize) -> usize
     requires room { 6 * length list.now + 2 ≤ end }
     requires end { end ≤ length bytes.old }
@@ -66,7 +67,7 @@ pub(crate) fn write_vertices(texts: &Texts<'_>, list: &[u16], bytes: &mut [u8], 
     start
 }
 
-// Writes a text before `end`, and returns where it starts.
+// Writes `text` before index `end` of `bytes`, and returns the index at which it starts.
 fn write_text(text: &[u8], bytes: &mut [u8], end: usize) -> usize
     requires { (length text.now ≤ end) × (end ≤ length bytes.old) }
     ensures start { result + length text.now ≡ end }
@@ -79,7 +80,7 @@ fn write_text(text: &[u8], bytes: &mut [u8], end: usize) -> usize
     start
 }
 
-// Writes the first line of a figure before `end`, and returns where it starts.
+// Writes the first line of a figure before index `end` of `bytes`, and returns the index at which it starts.
 pub(crate) fn write_first(
     texts: &Texts<'_>,
     heading: &Heading<'_>,
@@ -99,7 +100,8 @@ pub(crate) fn write_first(
     write_text(b"figure", bytes, number)
 }
 
-// Writes signed numbers, each after a space, before `end`, and returns where they start.
+// Writes the signed numbers of `list`, each after a space, before index `end` of `bytes`, and returns the index at
+// which they start.
 fn write_integers(texts: &Texts<'_>, list: &[i32], bytes: &mut [u8], end: usize) -> usize
     requires room { 12 * length list.now ≤ end }
     requires end { end ≤ length bytes.old }
@@ -115,7 +117,7 @@ fn write_integers(texts: &Texts<'_>, list: &[i32], bytes: &mut [u8], end: usize)
     start
 }
 
-// Writes the line of the columns at the end, and returns where it starts.
+// Writes the line of the `columns` of bars at the end of `bytes`, and returns the index at which it starts.
 pub(crate) fn write_columns(texts: &Texts<'_>, columns: &[i32], bytes: &mut [u8]) -> usize
     requires { 12 * length columns.now + 8 ≤ length bytes.old }
     ensures within { (result ≤ length bytes.new) × (length bytes.new ≤ result + (12 * length columns.now + 8)) }

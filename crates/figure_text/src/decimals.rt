@@ -1,15 +1,16 @@
-//! Decimal numbers, cut while their digits are read.
+//! Reads decimal numbers digit by digit, capped at a greatest value.
 ghost use Rattle.std.specs.Prelude.{◌≡◌, ◌≤◌, min, option_map, IfSome};
 ghost use Rattle.figure_text.specs.Words.{is_digit, one_more, canonical, decimal_from};
 
-/// Says whether a byte is a digit.
+/// Says whether `byte` is a decimal digit.
 pub fn is_digit_byte(byte: u8) -> bool
     ensures { result ≡ is_digit byte }
 {
     b'0' <= byte && byte <= b'9'
 }
 
-/// Returns `value` with the digit `byte` after its own, or `most` where that is less; `None` where the byte is no digit.
+/// Returns `value` with the digit `byte` after its own, or `most` where that is less. `None` is returned where the byte
+/// is no digit.
 pub fn with_digit(most: u64, value: u64, byte: u8) -> Option<u64>
     requires few { most ≤ 4294967296 }
     requires near { value ≤ most }
@@ -22,7 +23,8 @@ pub fn with_digit(most: u64, value: u64, byte: u8) -> Option<u64>
     }
 }
 
-/// Returns the number that decimal digits give, or `most` where that is less; `None` where a byte is no digit. No digits give 0.
+/// Returns the number that the decimal digits `text` give, or `most` where that is less. `None` is returned where a
+/// byte is no digit; no digits give 0.
 pub fn decimal_number(most: u64, text: &[u8]) -> Option<u64>
     requires few { most ≤ 4294967296 }
     ensures near { IfSome result (λ n. n ≤ most) }
@@ -38,7 +40,7 @@ pub fn decimal_number(most: u64, text: &[u8]) -> Option<u64>
     Some(value)
 }
 
-/// Says whether a text has a first byte, which is a 0 only where no other follows.
+/// Says whether `text` is not empty, and begins with a 0 only where nothing follows.
 pub fn is_canonical(text: &[u8]) -> bool
     ensures { result ≡ canonical text.now }
 {

@@ -1,4 +1,4 @@
-//! Why no figure is read.
+//! Faults of a text of figures, as the type `TextFault`: a bad line by its number.
 
 /// A bad place of a text, by the number of a line.
 #[derive(Clone, Copy, PartialEq, Eq)]

@@ -1,4 +1,4 @@
-//! Figures.
+//! The kinds of figure that a text may hold, as the types `Figure` and `GridJob`.
 
 use graph6_text::Graph;
 use kuratowski::Witness;

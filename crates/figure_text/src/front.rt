@@ -1,4 +1,4 @@
-//! A line outside a figure.
+//! Judges a line that stands outside a figure: a note, the first line of a figure, or neither.
 ghost use Rattle.std.specs.Prelude.{◌≡◌, ◌<◌, ◌≤◌, ℕ, List, length, [], None, Some, IsTrue, IsFalse, IfOk, MatchOption};
 ghost use Rattle.std.specs.List.{slice_split};
 ghost use Rattle.graph6_text.specs.Faults.{line_fault, NamesFault};
@@ -29,7 +29,7 @@ pub enum Front {
     Bad,
 }
 
-// Returns part number `i` of a line, which is cut at its spaces; no bytes where there are not so many.
+// Returns word `i` of `line`, which is cut at its spaces, or no bytes where there are not so many.
 fn part(line: &[u8], i: usize) -> &[u8]
     ensures { result.now ≡ part_at line.now i }
 {
@@ -39,8 +39,8 @@ fn part(line: &[u8], i: usize) -> &[u8]
     }
 }
 
-// Judges what stands after the word of the job in the first line of a figure: how many vertices it has, or for a witness the
-// line of its graph.
+// Judges what stands after the job's word in the first line of a figure of this kind: the number of vertices, or for a
+// witness the graph's line.
 fn tail_worth(alloc: Global, kind: Kind, line: &[u8], words: &[Word]) -> Result<Judged, AllocError>
     requires { words.now ≡ words_of line.now }
     ensures { IfOk result (Judges (IsTail (Some kind) line.now) (TailInRange (Some kind) line.now)) }
@@ -58,7 +58,7 @@ fn tail_worth(alloc: Global, kind: Kind, line: &[u8], words: &[Word]) -> Result<
     }
 }
 
-// Judges a first line by its head and its tail.
+// Judges a first line by its `words` and the verdict `tail` on what stands after the job's word.
 fn front_of(kind: Kind, words: &[Word], tail: Judged) -> Front
     ensures { (line : List ℕ) → words.now ≡ words_of line → kind_of words.now ≡ Some kind
         → Judges (IsTail (Some kind) line) (TailInRange (Some kind) line) tail → IsFrontBy line result }
@@ -82,7 +82,7 @@ fn front_of(kind: Kind, words: &[Word], tail: Judged) -> Front
 // The most words that the first line of a figure has.
 const MOST_WORDS: usize = 5;
 
-// Returns the words of a line, where they are no more than a first line has.
+// Returns the words of `line`, or None where they are more than a first line has.
 fn few_words(alloc: Global, line: &[u8]) -> Result<Option<Vec<Word>>, AllocError>
     ensures { IfOk result (λ found. MatchOption found (5 < length (words_of line.now)) (λ v. v.items ≡ words_of line.now)) }
 {
@@ -95,8 +95,8 @@ fn few_words(alloc: Global, line: &[u8]) -> Result<Option<Vec<Word>>, AllocError
     }
 }
 
-/// Judges a line, which is given without the byte 10 that closes it. Of a long line no more words are kept than
-/// tell that it is no first line.
+/// Judges `line`, which stands outside a figure and is given without the byte 10 that closes it. Of a long line no more
+/// words are kept than tell that it is no first line.
 pub fn front_line(alloc: Global, line: &[u8]) -> Result<Front, AllocError>
     ensures { IfOk result (IsFront line.now) }
 {
@@ -115,7 +115,7 @@ pub fn front_line(alloc: Global, line: &[u8]) -> Result<Front, AllocError>
     }
 }
 
-/// Returns the graph of a witness by its first line, which is given without the byte 10 that closes it.
+/// Returns the graph of a witness by its first `line`, which is given without the byte 10 that closes it.
 pub fn front_graph(alloc: Global, line: &[u8]) -> Result<Graph, AllocError>
     requires { line_fault (part_at line.now 4) ≡ None }
     ensures { IfOk result (IsGraphOf line.now) }

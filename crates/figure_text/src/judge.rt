@@ -1,4 +1,4 @@
-//! Which shape a line has, and whether its numbers are within their ranges.
+//! Judges the words of a line of a figure: whether they have the shape that is due, and their numbers are in range.
 ghost use Rattle.std.specs.Prelude.{ℕ, false, ◌≡◌, ◌↔◌, ◌<◌, ◌≤◌, ◌-◌, length, drop, map, slice_index_or, IsTrue, IfOk, All};
 ghost use Rattle.std.specs.Prelude.{if◌then◌else◌};
 ghost use Rattle.figure_text.specs.Reading.{Judges, IsRow, RowInRange};
@@ -36,10 +36,10 @@ pub enum Judged {
     Good,
 }
 
-// The greatest size of a coordinate.
+// The greatest absolute value of a coordinate.
 pub const MOST: u32 = 1_048_576;
 
-// Returns word number `i`, or `Other` after the last.
+// Returns word `i`, or `Other` after the last.
 #[inline(always)]
 pub fn word(words: &[Word], i: usize) -> Word
     ensures { result ≡ word_at words.now i }
@@ -51,7 +51,7 @@ pub fn word(words: &[Word], i: usize) -> Word
     }
 }
 
-// Returns the size of the number that a word is, and 0 for any other word.
+// Returns the absolute value of the number that `word` is, and 0 for any other word.
 #[inline(always)]
 pub fn size_of(word: Word) -> u32
     ensures { result ≡ size word }
@@ -63,7 +63,7 @@ pub fn size_of(word: Word) -> u32
     }
 }
 
-// Says whether a word is a number without a minus.
+// Says whether `word` is a number without a minus.
 pub fn is_natural_word(word: Word) -> bool
     ensures { result ≡ is_natural word }
 {
@@ -73,7 +73,7 @@ pub fn is_natural_word(word: Word) -> bool
     }
 }
 
-// Says whether a word is a number.
+// Says whether `word` is a number.
 pub fn is_number_word(word: Word) -> bool
     ensures { result ≡ is_number word }
 {
@@ -83,7 +83,7 @@ pub fn is_number_word(word: Word) -> bool
     }
 }
 
-// Says whether a word is a number before a colon.
+// Says whether `word` is a number before a colon.
 pub fn is_closing_word(word: Word) -> bool
     ensures { result ≡ is_closing word }
 {
@@ -93,7 +93,7 @@ pub fn is_closing_word(word: Word) -> bool
     }
 }
 
-/// Says whether a word is this one.
+/// Says whether `word` is the word `name`.
 pub fn is_name(word: Word, name: Name) -> bool
     ensures { IsTrue result ↔ (word ≡ Word.Named name) }
 {
@@ -103,7 +103,7 @@ pub fn is_name(word: Word, name: Name) -> bool
     }
 }
 
-// Returns the words from number `from` on.
+// Returns the words from index `from` on.
 pub fn behind(words: &[Word], from: usize) -> &[Word]
     ensures { result.now ≡ drop from words.now }
 {
@@ -114,21 +114,21 @@ pub fn behind(words: &[Word], from: usize) -> &[Word]
     }
 }
 
-// Says whether a number is a coordinate.
+// Says whether `word` is at most the greatest coordinate in size.
 pub fn is_inside(word: Word) -> bool
     ensures { IsTrue result ↔ IsInside word }
 {
     size_of(word) <= MOST
 }
 
-// Says whether a number numbers a vertex.
+// Says whether the number `word` may be that of a vertex: it is from 1 to 65535.
 fn is_vertex(word: Word) -> bool
     ensures { IsTrue result ↔ IsVertex word }
 {
     1 <= size_of(word) && size_of(word) <= 65535
 }
 
-// Says whether a line has the shape of that of the columns.
+// Says whether `words` have the shape of the line of the columns.
 fn is_columns_line(words: &[Word]) -> bool
     ensures { IsTrue result ↔ IsColumnsLine words.now }
 {
@@ -156,7 +156,7 @@ pub fn job_kind(words: &[Word]) -> Option<Kind>
     }
 }
 
-// Returns how many lines of vertices, or of branches and paths, a first line announces.
+// Returns how many lines of vertices, or of branches and paths, the `words` of a first line announce.
 pub fn row_count(kind: Kind, words: &[Word]) -> usize
     ensures { result ≡ rows_due kind words.now }
 {
@@ -166,14 +166,14 @@ pub fn row_count(kind: Kind, words: &[Word]) -> usize
     }
 }
 
-// Returns the word with which line `place` of a witness begins.
+// Returns the word with which line `place` of a witness begins, counted from 1: `branch` or `path`.
 pub fn row_word(place: usize) -> Name
     ensures { result ≡ row_name place }
 {
     if place == 1 { Name::Branch } else { Name::Path }
 }
 
-/// Says whether a kind is that of a witness.
+/// Says whether `kind` is that of a witness.
 pub fn is_witness(kind: Kind) -> bool
     ensures { (place len : ℕ) → result ≡ false → IsTrue (is_long_enough kind place len) }
 {
@@ -199,7 +199,7 @@ fn is_long(kind: Kind, place: usize, len: usize) -> bool
     }
 }
 
-// Says whether a line has the shape that is due at this place.
+// Says whether `words` have the shape that is due in line `place` of a figure.
 fn is_row(kind: Kind, place: usize, words: &[Word]) -> bool
     ensures { IsTrue result ↔ IsRow kind place words.now }
 {
@@ -211,7 +211,7 @@ fn is_row(kind: Kind, place: usize, words: &[Word]) -> bool
             .all(|word| is_natural_word(*word))
 }
 
-// Says whether the numbers of such a line are within their ranges.
+// Says whether the numbers of a line with a due shape are within their ranges.
 fn is_row_in_range(kind: Kind, words: &[Word]) -> bool
     ensures { IsTrue result ↔ RowInRange kind words.now }
 {
@@ -222,35 +222,35 @@ fn is_row_in_range(kind: Kind, words: &[Word]) -> bool
             .all(|word| is_vertex(*word))
 }
 
-// Says whether a figure's first line begins as one.
+// Says whether `words` begin like the first line of a figure: `figure` and a number.
 pub fn is_first_head(words: &[Word]) -> bool
     ensures { IsTrue result ↔ ((word_at words.now 0 ≡ Word.Named Name.Figure) × IsTrue (is_natural (word_at words.now 1))) }
 {
     is_name(word(words, 0), Name::Figure) && is_natural_word(word(words, 1))
 }
 
-// Says whether the number of a figure is within its range.
+// Says whether the number of a figure in its first line is from 1 to 2^24.
 pub fn is_numbered(words: &[Word]) -> bool
     ensures { IsTrue result ↔ ((1 ≤ size (word_at words.now 1)) × (size (word_at words.now 1) ≤ 16777216)) }
 {
     1 <= size_of(word(words, 1)) && size_of(word(words, 1)) <= 16_777_216
 }
 
-// Says whether a first line ends with a number, after the word of its job.
+// Says whether a first line ends with a number after the word of its job.
 pub fn is_counted(words: &[Word]) -> bool
     ensures { IsTrue result ↔ ((length words.now ≡ 4) × IsTrue (is_natural (word_at words.now 3))) }
 {
     words.len() == 4 && is_natural_word(word(words, 3))
 }
 
-// Says whether that number is within its range.
+// Says whether the number of vertices in a first line is from 1 to 4095.
 pub fn is_count_in_range(words: &[Word]) -> bool
     ensures { IsTrue result ↔ ((1 ≤ size (word_at words.now 3)) × (size (word_at words.now 3) ≤ 4095)) }
 {
     1 <= size_of(word(words, 3)) && size_of(word(words, 3)) <= 4095
 }
 
-// Judges a line by its shape and its ranges.
+// Returns the verdict on a line: by whether it has the due `shape`, and whether its numbers are in `range`.
 pub fn worth(shape: bool, range: bool) -> Judged
     ensures { result ≡ (if shape then (if range then Judged.Good else Judged.Limit) else Judged.Bad) }
 {
@@ -261,14 +261,14 @@ pub fn worth(shape: bool, range: bool) -> Judged
     }
 }
 
-/// Judges the line of a vertex.
+/// Judges the `words` of line `place` of a figure, the line of a vertex, of branches or of a path.
 pub fn judged_row(kind: Kind, place: usize, words: &[Word]) -> Judged
     ensures { Judges (IsRow kind place words.now) (RowInRange kind words.now) result }
 {
     worth(is_row(kind, place, words), is_row_in_range(kind, words))
 }
 
-/// Judges the line of the columns.
+/// Judges the `words` of the line of the columns.
 pub fn judged_columns(words: &[Word]) -> Judged
     ensures { Judges (IsColumnsLine words.now) (ColumnsInRange words.now) result }
 {

@@ -1,4 +1,4 @@
-//! The text of figures, one line for each vertex, written and read.
+//! The text of figures, one line for each vertex: printed, and judged and read line by line.
 //!
 //! `print_figure` appends the text of a figure: a first line, and a line for each vertex with its place and its
 //! neighbours in clockwise order, all numbered from 1; for bars a line of the columns comes last. The first line of

@@ -1,4 +1,4 @@
-//! The fronts of lines of vertices whose numbers are written plainly, read piece by piece: no word of them is kept.
+//! Reads the front of a vertex line, which is what stands before the neighbours, without keeping its words.
 ghost use Rattle.std.specs.Prelude.{◌≡◌, ◌+◌, ◌≤◌, ◌<◌, ◌++◌, ◌∷◌, [], List, ℕ, length, slice_index, IsTrue, IfSome};
 ghost use Rattle.figure_text.specs.Pieces.{pieces as the_pieces, grid_front as grid_pieces, bar_front as bar_pieces};
 ghost use Rattle.figure_text.specs.Plain.{IsPieceAt, IsFrontOf, plain_value};
@@ -12,7 +12,7 @@ use crate::words::{Name, Next, Signed, Word, closing_at, is_letter_at, is_word_a
 /// The most words that a front has.
 const MOST: usize = 7;
 
-/// The front of a line, or some first pieces of it.
+/// The numbers in the front of a line, or in some first pieces of it.
 #[derive(Clone, Copy, PartialEq, Eq)]
 pub struct LineFront {
     /// The size of each number, at the place of its word.
@@ -21,7 +21,7 @@ pub struct LineFront {
     pub end: usize,
 }
 
-// Returns the word `name` with this end, where it is there.
+// Returns the word `name` that ends at index `end`, where `is_there` holds.
 #[inline(always)]
 fn word_if(is_there: bool, name: Name, end: usize) -> Option<Next>
     ensures { IfSome result (λ next. IsTrue is_there × (next.word ≡ Word.Named name) × (next.end ≡ end)) }
@@ -36,8 +36,8 @@ fn word_if(is_there: bool, name: Name, end: usize) -> Option<Next>
     }
 }
 
-// Returns a piece that begins at `at`, where it is one that is told at sight, in line `place` of a figure. A word must
-// have a space behind it.
+// Returns the word of `piece` that begins at index `at` of `line`, where it is plainly written and a space follows.
+// `place` is the number of the line in its figure.
 #[inline(always)]
 fn plain_piece(piece: Piece, place: usize, line: &[u8], at: usize) -> Option<Next>
     ensures { IfSome result (IsPieceAt piece place line.now at) }
@@ -87,7 +87,7 @@ fn plain_piece(piece: Piece, place: usize, line: &[u8], at: usize) -> Option<Nex
 }
 
 impl LineFront {
-    /// Makes a front with no piece.
+    /// Returns the front of a vertex line before any piece is read: no numbers, at the beginning of the line.
     #[inline(always)]
     pub fn new() -> LineFront
         ensures { (place : ℕ) (line : List ℕ) → IsFrontOf [] place line result }
@@ -98,7 +98,7 @@ impl LineFront {
         }
     }
 
-    /// Returns the number at the place of word `i`.
+    /// Returns the number at word `i`.
     #[inline(always)]
     pub fn number(&self, i: usize) -> i32
         requires { i < length self.now.numbers }
@@ -112,7 +112,7 @@ impl LineFront {
 }
 
 impl VertexLine<'_> {
-    // Reads piece `k` of its front, behind those before it, and says whether it is there.
+    // Reads piece `k` of the front, after those before it, into `front`, and says whether it is there.
     #[inline(always)]
     fn with_piece(&self, front: &mut LineFront, k: usize, piece: Piece) -> bool
         requires { k < 7 }
@@ -129,7 +129,7 @@ impl VertexLine<'_> {
         }
     }
 
-    // Reads what stands before its neighbours, piece by piece, and says whether its words are good.
+    // Reads the `pieces` before the neighbours into `front`, one by one, and says whether all are there.
     fn any_front(&self, pieces: &[Piece], front: &mut LineFront) -> bool
         requires { length pieces.now ≤ 7 }
         ensures { IsFrontOf [] self.now.place self.now.line.now front.old → IsTrue result → IsFrontOf pieces.now self.now.place self.now.line.now front.new }
@@ -142,7 +142,8 @@ impl VertexLine<'_> {
         true
     }
 
-    // Reads the front of a line of a straight-line drawing like `any_front`, with no loop, which takes fewer instructions.
+    // Reads the front of a line of a straight-line drawing like `any_front`, with no loop, which takes fewer
+    // instructions.
     #[inline(always)]
     fn grid_front(&self, front: &mut LineFront) -> bool
         ensures { IsFrontOf [] self.now.place self.now.line.now front.old → IsTrue result → IsFrontOf grid_pieces self.now.place self.now.line.now front.new }
@@ -153,7 +154,7 @@ impl VertexLine<'_> {
             && self.with_piece(front, 3, Piece::Last)
     }
 
-    // Reads the front of a line of a visibility drawing so.
+    // Reads the front of a line of a visibility drawing like `any_front`, with no loop.
     #[inline(always)]
     fn bar_front(&self, front: &mut LineFront) -> bool
         ensures { IsFrontOf [] self.now.place self.now.line.now front.old → IsTrue result → IsFrontOf bar_pieces self.now.place self.now.line.now front.new }
@@ -166,7 +167,7 @@ impl VertexLine<'_> {
             && self.with_piece(front, 5, Piece::Last)
     }
 
-    /// Reads what stands before its neighbours, and says whether its words are good.
+    /// Reads what stands before the neighbours into `front`, and says whether all its words are good.
     #[inline(always)]
     pub fn read_front(&self, front: &mut LineFront) -> bool
         ensures { IsFrontOf [] self.now.place self.now.line.now front.old → IsTrue result → IsFrontOf (the_pieces self.now.kind) self.now.place self.now.line.now front.new }

@@ -1,10 +1,10 @@
-//! The lines of a text.
+//! Cuts a text into lines, and tells notes from other lines.
 ghost use Rattle.std.specs.Prelude.{◌≡◌, ◌≢◌, ◌<◌, ◌≤◌, ℕ, length, drop, slice_index, MatchOption};
 ghost use Rattle.figure_text.specs.Reading.{IsPlain, IsLine, begins, is_note as is_note_line};
 
 use memchr::memchr;
 
-/// Returns how many bytes stand before the first byte 10, or before the end.
+/// Returns how many bytes stand before the first byte 10 of `bytes`, or before the end.
 pub fn line_length(bytes: &[u8]) -> usize
     ensures within { result ≤ length bytes.now }
     ensures before { (k : ℕ) → k < result → slice_index bytes.now k ≢ 10 }
@@ -16,7 +16,7 @@ pub fn line_length(bytes: &[u8]) -> usize
     }
 }
 
-/// Returns the line that is closed next, and the offset after it.
+/// Returns the line from offset `at` on, if a byte 10 closes it, and the offset after that.
 pub fn next_line(bytes: &[u8], at: usize) -> Option<(&[u8], usize)>
     requires { at ≤ length bytes.now }
     ensures { MatchOption result (IsPlain (drop at bytes.now)) (λ found.
@@ -31,14 +31,14 @@ pub fn next_line(bytes: &[u8], at: usize) -> Option<(&[u8], usize)>
     }
 }
 
-// Says whether a line begins with `word`.
+// Says whether `line` begins with `word`.
 fn begins_with(line: &[u8], word: &[u8]) -> bool
     ensures { result ≡ begins line.now word.now }
 {
     line.len() >= word.len() && &line[..word.len()] == word
 }
 
-/// Says whether a line is a note.
+/// Says whether `line` is a note: a line that another job wrote.
 pub fn is_note(line: &[u8]) -> bool
     ensures { result ≡ is_note_line line.now }
 {

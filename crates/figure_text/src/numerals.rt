@@ -1,4 +1,4 @@
-//! The decimal texts of small numbers, kept in a table.
+//! A table of the decimal texts of numbers below 10,000, from which numbers are written.
 ghost use Rattle.std.specs.Prelude.{◌≡◌, ◌+◌, ◌<◌, ◌≤◌, ◌∷◌, ◌++◌, ℕ, length, drop, decimal};
 ghost use Rattle.figure_text.specs.Numerals.{IsNumeral, AreNumerals};
 
@@ -16,7 +16,7 @@ pub struct Numeral {
     bytes: [u8; 7],
 }
 
-// Returns the text of a number behind a space.
+// Returns the text of `number` after a space.
 fn text_of(number: usize) -> Numeral
     requires { number < 10000 }
     ensures { IsNumeral number result }
@@ -30,8 +30,8 @@ fn text_of(number: usize) -> Numeral
     }
 }
 
-// Writes the text of a number behind a space before `end`, and returns where it starts. All of the eight bytes before
-// `end` are written, by one store.
+// Writes the text of a number after a space before index `end` of `bytes`, and returns the index at which it starts.
+// All of the eight bytes before `end` are written, by one store.
 fn write_numeral(numeral: Numeral, bytes: &mut [u8], end: usize) -> usize
     requires room { (8 ≤ end) × (end ≤ length bytes.old) }
     requires text { (number : ℕ) × IsNumeral number numeral }
@@ -64,7 +64,7 @@ impl Numerals {
         }
     }
 
-    // Keeps the text of one number more, if it is below 10,000.
+    // Appends the text of the next number, if it is below 10,000.
     fn add(&mut self) -> Result<(), AllocError> {
         let number = self.texts.len();
         if number < MOST {
@@ -73,7 +73,7 @@ impl Numerals {
         Ok(())
     }
 
-    /// Keeps the texts of the numbers below `count`, as far as they are below 10,000.
+    /// Appends the texts of the numbers below `count`, as far as they are below 10,000.
     pub fn keep(&mut self, count: usize) -> Result<(), AllocError> {
         for _ in self.texts.len()..count {
             self.add()?;
@@ -95,7 +95,7 @@ pub struct Texts<'a> {
     pub ghost known: { AreNumerals texts.now },
 }
 
-// Writes a space and a number, digit by digit, before `end`, and returns where the space stands.
+// Writes a space and `number`, digit by digit, before index `end` of `bytes`, and returns the index of the space.
 #[inline(never)]
 fn write_digit_by_digit(number: u64, bytes: &mut [u8], end: usize) -> usize
     requires { (length (decimal number) < end) × (end ≤ length bytes.old) }
@@ -107,7 +107,8 @@ fn write_digit_by_digit(number: u64, bytes: &mut [u8], end: usize) -> usize
 }
 
 impl Texts<'_> {
-    /// Writes a space and a number before `end`, and returns where the space stands. Up to seven bytes before it are lost.
+    /// Writes a space and `number` before index `end` of `bytes`, and returns the index of the space. Up to seven bytes
+    /// before it are lost.
     #[inline(always)]
     pub fn write(&self, number: u64, bytes: &mut [u8], end: usize) -> usize
         requires { (length (decimal number) < end) × (8 ≤ end) × (end ≤ length bytes.old) }

@@ -1,5 +1,4 @@
-//! Pieces of the line of a vertex: a description for each kind of figure of the words before the neighbours, by which a line
-//! is judged and read.
+//! The pieces of the front of a vertex line: for each kind of figure the words that stand before the neighbours.
 ghost use Rattle.std.specs.Prelude.{◌≡◌, ◌↔◌, ◌<◌, ◌≤◌, length, IsTrue};
 ghost use Rattle.std.specs.Bool.{OnTrue};
 ghost use Rattle.figure_text.specs.Lines.{size, is_natural, row_name};
@@ -28,15 +27,19 @@ pub enum Piece {
     Last,
 }
 
+// The pieces for a straight-line drawing.
 const GRID: [Piece; 4] = [Place, Literal(At), Value, Last];
 
+// The pieces for a visibility drawing.
 const BARS: [Piece; 6] = [Place, Literal(Y), Value, Literal(X), Value, Last];
 
+// The pieces for a rectangular dual.
 const RECTS: [Piece; 7] = [Place, Literal(X), Value, Value, Literal(Y), Value, Last];
 
+// The pieces for a witness.
 const WITNESS: [Piece; 1] = [Row];
 
-/// Returns the pieces before the vertices of a line.
+/// Returns the pieces that stand before the vertices in a line of a figure of this kind.
 pub fn pieces(kind: Kind) -> &'static [Piece]
     ensures pieces { result.now ≡ the_pieces kind }
     ensures few { length result.now ≤ 7 }
@@ -49,7 +52,7 @@ pub fn pieces(kind: Kind) -> &'static [Piece]
     }
 }
 
-/// Says whether a word of the line at this place has the shape of a piece.
+/// Says whether `word`, in line `place` of its figure, has the shape of `piece`.
 #[inline(always)]
 pub fn fits(piece: Piece, place: usize, word: Word) -> bool
     ensures { IsTrue result ↔ Fits place piece word }
@@ -63,7 +66,7 @@ pub fn fits(piece: Piece, place: usize, word: Word) -> bool
     }
 }
 
-/// Says whether a number of a vertex is within its range.
+/// Says whether `word`, that of `piece`, is within its range.
 #[inline(always)]
 pub fn is_within(piece: Piece, word: Word) -> bool
     ensures { IsTrue result ↔ IsWithin piece word }
@@ -75,7 +78,7 @@ pub fn is_within(piece: Piece, word: Word) -> bool
     }
 }
 
-/// Says whether the first words of the line at this place have the shapes of pieces.
+/// Says whether the first of `words`, in line `place` of their figure, have the shapes of `pieces`.
 pub fn are_fitting(pieces: &[Piece], place: usize, words: &[Word]) -> bool
     ensures { IsTrue result ↔ Along (Fits place) pieces.now words.now }
 {
@@ -87,7 +90,7 @@ pub fn are_fitting(pieces: &[Piece], place: usize, words: &[Word]) -> bool
     true
 }
 
-/// Says whether the numbers among the first words of a line are within their ranges.
+/// Says whether the numbers among the first of `words`, those of `pieces`, are within their ranges.
 pub fn are_within(pieces: &[Piece], words: &[Word]) -> bool
     ensures { IsTrue result ↔ Along IsWithin pieces.now words.now }
 {
@@ -99,7 +102,7 @@ pub fn are_within(pieces: &[Piece], words: &[Word]) -> bool
     true
 }
 
-/// Says whether words are all that stands before the vertices of a line, in their shapes and ranges.
+/// Says whether `words` are all that stands before the vertices in line `place`, in their shapes and ranges.
 pub fn is_front(pieces: &[Piece], place: usize, words: &[Word]) -> bool
     ensures { OnTrue result ((length words.now ≡ length pieces.now) × Along (Fits place) pieces.now words.now × Along IsWithin pieces.now words.now) }
 {

@@ -1,4 +1,4 @@
-//! Numbers at the end of a line that are written plainly: taken one by one, and not kept as words.
+//! Reads the numbers at the end of a line one by one, where they are plainly written, without keeping words.
 ghost use Rattle.std.specs.Prelude.{◌≡◌, pos, ◌++◌, ◌∷◌, ◌-◌, ◌≤◌, [], false, map, All, IfOk, IfSome};
 ghost use Rattle.std.specs.Bool.{OnTrue};
 ghost use Rattle.figure_text.specs.Words.{words_left};
@@ -10,8 +10,8 @@ use map_lists::ItemLists;
 use pg_plane::Ints;
 use std::alloc::AllocError;
 
-// Returns the number of a vertex that begins at `at`, where it is written plainly. That it does not begin with 0 is tested
-// first, so that it needs no other test for that.
+// Returns the vertex number that begins at index `at`, where it is plainly written. That it does not begin with 0 is
+// tested first, so that it needs no other test for that.
 #[inline(always)]
 fn vertex_at(line: &[u8], at: usize) -> Option<Digits>
     ensures { IfSome result (IsVertexAt line.now at) }
@@ -25,8 +25,8 @@ fn vertex_at(line: &[u8], at: usize) -> Option<Digits>
     }
 }
 
-// Returns the number of a vertex that begins at `at`, like `vertex_at`, where a space follows at most four digits. This takes
-// fewer instructions.
+// Returns the vertex number that begins at index `at`, where a space follows at most four digits. It takes fewer
+// instructions than `vertex_at`.
 #[inline(always)]
 fn short_vertex_at(line: &[u8], at: usize) -> Option<Digits>
     ensures { IfSome result (IsVertexAt line.now at) }
@@ -40,7 +40,7 @@ fn short_vertex_at(line: &[u8], at: usize) -> Option<Digits>
     }
 }
 
-// Returns the vertex with a number from 1, as one from 0.
+// Converts a vertex number from 1 to a vertex from 0.
 fn vertex(number: u32) -> u16
     requires least { 1 ≤ number }
     requires most { number ≤ 65535 }
@@ -49,8 +49,8 @@ fn vertex(number: u32) -> u16
     (number - 1) as u16
 }
 
-/// Appends the list of the vertices that stand from a place on, and says whether all words there are their numbers,
-/// plainly written. Where they are not, the lists are as they were.
+/// Appends to `lists` the list of the vertices that stand in `line` from index `start` on. Returns false, with the
+/// lists as before, where some word there is not a plainly written number of a vertex.
 pub fn push_plain(line: &[u8], start: usize, lists: &mut ItemLists<u16>) -> Result<bool, AllocError>
     ensures good { IfOk result (λ good. OnTrue good (All (λ w. IsNeighbour w) (words_left line.now start)
         × (lists.new ≡ lists.old ++ map vertex_of (words_left line.now start) ∷ []))) }
@@ -74,7 +74,7 @@ pub fn push_plain(line: &[u8], start: usize, lists: &mut ItemLists<u16>) -> Resu
     Ok(false)
 }
 
-// Returns the coordinate that begins at `at`, where it is written plainly.
+// Returns the coordinate that begins at index `at`, where it is plainly written.
 #[inline(always)]
 fn coordinate_at(line: &[u8], at: usize) -> Option<Digits>
     ensures { IfSome result (IsCoordinateAt line.now at) }
@@ -85,7 +85,7 @@ fn coordinate_at(line: &[u8], at: usize) -> Option<Digits>
     }
 }
 
-/// Returns the coordinate that begins at `at`, where `short_at` finds it.
+/// Returns the coordinate that begins at index `at`, where a space follows at most four digits.
 #[inline(always)]
 pub fn short_coordinate_at(line: &[u8], at: usize) -> Option<Digits>
     ensures { IfSome result (IsCoordinateAt line.now at) }
@@ -104,7 +104,8 @@ fn coordinate(number: u32) -> i32
     number as i32
 }
 
-/// Appends the numbers that stand from a place on, and says whether all words there are coordinates, plainly written.
+/// Appends to `list` the numbers that stand in `line` from index `start` on, and says whether all words there are
+/// coordinates, plainly written.
 pub fn push_coordinates(line: &[u8], start: usize, list: &mut Ints) -> Result<bool, AllocError>
     ensures { IfOk result (λ good. OnTrue good (All (λ w. IsCoordinateWord w) (words_left line.now start)
         × (list.new ≡ list.old ++ map integer_of (words_left line.now start)))) }

@@ -1,4 +1,4 @@
-//! A figure as text.
+//! The public calls that print a figure as text, and `Printer`, which keeps its memory from one to the next.
 ghost use Rattle.std.specs.Prelude.{◌≡◌, ◌+◌, ◌++◌, ◌∷◌, [], ℕ, List, ◌*◌, length, drop, sum_by, decimal, ◌<◌, ◌≤◌, OnOk, OnErr, IfOk};
 ghost use Rattle.graph6_text.specs.Lines.{IsLine};
 ghost use Rattle.figure_text.specs.Pieces.{bar_front};
@@ -16,7 +16,7 @@ use map_lists::Rotations;
 use pg_plane::{BarFigure, Ints, Points, RectFigure};
 use std::alloc::{AllocError, Global};
 
-// Appends a digit.
+// Appends `digit` to `out`.
 fn push_digit(out: &mut Vec<u8>, digit: u64) -> Result<(), AllocError>
     requires { digit < 10 }
     ensures { OnOk result (out.new.items ≡ out.old.items ++ (48 + digit) ∷ []) }
@@ -25,7 +25,7 @@ fn push_digit(out: &mut Vec<u8>, digit: u64) -> Result<(), AllocError>
     Ok(())
 }
 
-// Appends a number. Most numbers of a witness have one digit or two.
+// Appends `number` in decimal to `out`. Most numbers of a witness have one digit or two.
 #[tactic(auto, using(std::proofs::lemmas::Fmt::decimal_digit, itoa::proofs::Decimal::decimal_two))]
 pub(crate) fn push_number(out: &mut Vec<u8>, number: u64) -> Result<(), AllocError>
     ensures { OnOk result (out.new.items ≡ out.old.items ++ decimal number) }
@@ -54,7 +54,7 @@ pub(crate) fn push_next(out: &mut Vec<u8>, number: u64) -> Result<(), AllocError
     push_number(out, number)
 }
 
-// Returns the word of a method.
+// Returns the word of the method `job` in a first line.
 fn word_of(job: GridJob) -> &'static [u8]
     ensures word { result.now ≡ job_word job }
     ensures short { length result.now ≤ 8 }
@@ -91,7 +91,7 @@ fn room_of<R: Numbered>(lists: &Rotations) -> Result<usize, AllocError>
     Ok(room)
 }
 
-// Writes the first line and the lines of the vertices at the end, and returns where they start.
+// Writes the first line and the lines of the vertices at the end of `bytes`, and returns the index at which they start.
 fn write_figure<R: Numbered>(
     texts: &Texts<'_>,
     heading: &Heading<'_>,
@@ -108,9 +108,9 @@ fn write_figure<R: Numbered>(
     write_first(texts, heading, bytes, lines)
 }
 
-/// Appends the text of a figure with this number. Each list of the drawing has an entry for each vertex, but
-/// for the columns of bars, of which there may be any number. A witness has as many branches and paths as its kind
-/// has, and no path is empty. When memory runs out the bytes are as they were.
+/// Appends the text of `fig`, with the figure's `number`, to `out`. Each list of the drawing has an entry for each
+/// vertex, but for the columns of bars, of which there may be any number. A witness has as many branches and paths as
+/// its kind has, and no path is empty. When memory runs out the bytes are as they were.
 pub fn print_figure(
     alloc: Global,
     number: u32,
@@ -143,8 +143,8 @@ fn bars_room(lists: &Rotations, columns: &Ints) -> Result<usize, AllocError>
     Ok(room)
 }
 
-// Writes the first line, the lines of the vertices and that of the columns of `bars` at the end, and returns where they
-// start.
+// Writes the first line, the lines of the vertices and that of the columns of `bars` at the end of `bytes`. Returns the
+// index at which they start.
 fn write_bars(texts: &Texts<'_>, heading: &Heading<'_>, bars: &BarFigure, bytes: &mut [u8]) -> usize
     requires bars { HasBars heading.now.lists.now bars.now }
     requires room { 60 + 6 * sum_by length heading.now.lists.now + fronts_room 62 (length heading.now.lists.now) + (12 * length bars.now.column + 8) ≤ length bytes.old }
@@ -188,7 +188,7 @@ impl Printer {
         Ok(())
     }
 
-    // Appends the first line and the lines of the vertices.
+    // Appends the first line and the lines of the vertices of `figure` to `out`.
     fn print_lines<R: Numbered>(
         &mut self,
         heading: &Heading<'_>,
@@ -206,8 +206,8 @@ impl Printer {
         out.extend_from_slice(&self.bytes[start..])
     }
 
-    /// Appends the text of a straight-line drawing with this number, of lists and a point for each of them. When
-    /// memory runs out the bytes are as they were.
+    /// Appends the text of a straight-line drawing with this `number` to `out`, of `lists` and a point for each of
+    /// them. When memory runs out the bytes are as they were.
     pub fn print_grid(
         &mut self,
         number: u32,
@@ -228,8 +228,8 @@ impl Printer {
         self.print_lines(&heading, points, out)
     }
 
-    /// Appends the text of a visibility drawing with this number, of lists and a bar for each of them. When memory
-    /// runs out the bytes are as they were.
+    /// Appends the text of a visibility drawing with this `number` to `out`, of `lists` and a bar for each of them.
+    /// When memory runs out the bytes are as they were.
     pub fn print_bars(
         &mut self,
         number: u32,
@@ -252,8 +252,8 @@ impl Printer {
         out.extend_from_slice(&self.bytes[start..])
     }
 
-    /// Appends the text of a rectangular dual with this number, of lists and a rectangle for each of them. When
-    /// memory runs out the bytes are as they were.
+    /// Appends the text of a rectangular dual with this `number` to `out`, of `lists` and a rectangle for each of them.
+    /// When memory runs out the bytes are as they were.
     pub fn print_rects(
         &mut self,
         number: u32,
@@ -273,8 +273,8 @@ impl Printer {
         self.print_lines(&heading, rects, out)
     }
 
-    /// Appends the text of a witness with this number, and with the line of its graph. When memory runs out the bytes
-    /// are as they were.
+    /// Appends the text of `witness` with this `number`, and with the line of its `graph`, to `out`. When memory runs
+    /// out the bytes are as they were.
     pub fn print_witness(
         &mut self,
         number: u32,

@@ -1,4 +1,5 @@
-//! Items at an offset of a text, and the ends of figures: the line of the columns, and the figure of a draft.
+//! The ends of figures: judges the line of the columns, and makes rectangles and witnesses of a draft. Also the type
+//! `Item`.
 ghost use Rattle.std.specs.Prelude.{◌≡◌, ◌++◌, ◌∷◌, ◌<◌, [], length, drop, map, slice_index_or, IfOk, IfSome, OnOk};
 ghost use Rattle.figure_text.specs.Words.{words_of};
 ghost use Rattle.figure_text.specs.Lines.{integer_of, IsColumnsLine, ColumnsInRange};
@@ -49,7 +50,7 @@ fn integers(alloc: Global, words: &[Word]) -> Result<Ints, AllocError>
     Ok(list)
 }
 
-// Returns the numbers of the line of the columns, where they are plainly written: they are not kept as words.
+// Returns the numbers of `line`, that of the columns, where they are plainly written, with no words kept; else None.
 fn plain_columns(alloc: Global, line: &[u8]) -> Result<Option<Ints>, AllocError>
     ensures { IfOk result (λ found. IfSome found (λ list. IsColumnsLine (words_of line.now) × ColumnsInRange (words_of line.now) × (list ≡ columns_of (words_of line.now)))) }
 {
@@ -108,14 +109,14 @@ pub fn draft_rects(made: Draft) -> Figure
     }
 }
 
-// Returns the vertices that have the numbers of `list`.
+// Returns the vertices with the numbers of `list`.
 fn ids_of(alloc: Global, list: &[u16]) -> Result<Vec<VertexId>, AllocError>
     ensures { IfOk result (λ v. v.items ≡ ids list.now) }
 {
     list.iter().map(|u| VertexId(*u)).collect(alloc)
 }
 
-/// Returns the witness of a draft, whose lists are the branches and then the paths.
+/// Returns the witness of `draft`, whose lists are the branches and then the paths. It fails only when out of memory.
 pub fn draft_witness(alloc: Global, kind: Subdivided, draft: &Draft) -> Result<Witness, AllocError>
     requires { 0 < length draft.now.lists }
     ensures { IfOk result (λ witness. witness ≡ witness_of kind draft.now.lists) }

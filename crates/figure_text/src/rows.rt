@@ -1,4 +1,4 @@
-//! The lines of a figure's vertices, one by one.
+//! The vertex lines of a figure: judges one line, and appends what it gives to the draft of the figure.
 ghost use Rattle.std.specs.Prelude.{◌≡◌, ◌<◌, ◌≤◌, ◌++◌, [], ◌∷◌, ℕ, ℤ, false, map, All, OnOk, IfOk, IfSome};
 ghost use Rattle.std.specs.Bool.{OnTrue};
 ghost use Rattle.figure_text.specs.Words.{words_of};
@@ -40,7 +40,7 @@ pub struct VertexLine<'a> {
     pub line: &'a [u8],
 }
 
-// Returns the vertex, from 0, that a number from 1 to 65535 names.
+// Returns the vertex, from 0, that `word`, a number from 1 to 65535, names.
 fn vertex(word: Word) -> u16
     requires { IsVertex word }
     ensures { result ≡ vertex_of word }
@@ -48,7 +48,7 @@ fn vertex(word: Word) -> u16
     (size_of(word) - 1) as u16
 }
 
-// Appends the list of the vertices that words name.
+// Appends to `lists` the list of the vertices that `words` name.
 fn push_vertices(words: &[Word], lists: &mut ItemLists<u16>) -> Result<(), AllocError>
     requires { All (λ w. IsVertex w) words.now }
     ensures { OnOk result (lists.new ≡ lists.old ++ map vertex_of words.now ∷ []) }
@@ -60,7 +60,7 @@ fn push_vertices(words: &[Word], lists: &mut ItemLists<u16>) -> Result<(), Alloc
     Ok(())
 }
 
-/// Returns the number of this sign and size.
+/// Returns the number with the sign and the size of `z`.
 #[inline(always)]
 pub fn signed_number(z: Signed) -> i32
     ensures { result ≡ signed_value z }
@@ -73,7 +73,7 @@ pub fn signed_number(z: Signed) -> i32
     }
 }
 
-/// Returns the number that a word is, and 0 for any other word.
+/// Returns the number that `word` is, and 0 for any other word.
 #[inline(always)]
 pub fn integer(word: Word) -> i32
     ensures { result ≡ integer_of word }
@@ -125,7 +125,7 @@ impl Values for LineFront {
     }
 }
 
-// Appends the numbers that stand before the vertices of a line.
+// Appends to `draft` the numbers that stand before the vertices of a line of a figure of this kind.
 #[inline(always)]
 fn push_values<V: Values>(kind: Kind, values: &V, draft: &mut Draft) -> Result<(), AllocError>
     requires { (i : ℕ) → i < 7 → V.Has values.now i }
@@ -149,7 +149,7 @@ fn push_values<V: Values>(kind: Kind, values: &V, draft: &mut Draft) -> Result<(
     Ok(())
 }
 
-// Returns the point that the line of a vertex gives.
+// Returns the point that the numbers of a vertex line give.
 #[inline(always)]
 fn point<V: Values>(values: &V) -> Point
     requires { V.Has values.now 2 × V.Has values.now 3 }
@@ -161,7 +161,7 @@ fn point<V: Values>(values: &V) -> Point
     }
 }
 
-// Appends what the words of a line give.
+// Appends to `draft` the list and the numbers that the `words` of a line give.
 fn push_row(kind: Kind, words: &Vec<Word>, draft: &mut Draft) -> Result<(), AllocError>
     requires { RowInRange kind words.now.items }
     ensures { OnOk result (draft.new ≡ with_row kind draft.old words.now.items) }
@@ -171,8 +171,8 @@ fn push_row(kind: Kind, words: &Vec<Word>, draft: &mut Draft) -> Result<(), Allo
 }
 
 impl VertexLine<'_> {
-    // Appends what it gives, by the words of its front, and says whether it is found good: its neighbours are written plainly,
-    // and are not kept as words. Where it is not, the draft is as it was.
+    // Appends to `draft` what this line gives, by the words of its front, and says whether it is found good. Its
+    // neighbours must be plainly written, and are not kept as words. Else the draft is as it was.
     fn push_by_words(&self, found: &mut Vec<Word>, draft: &mut Draft) -> Result<bool, AllocError>
         ensures good { IfOk result (λ good. OnTrue good (IsRow self.now.kind self.now.place (words_of self.now.line.now)
             × RowInRange self.now.kind (words_of self.now.line.now)
@@ -191,8 +191,9 @@ impl VertexLine<'_> {
         Ok(true)
     }
 
-    /// Appends what it gives, where it is found good at sight, and says whether it is. Where it is not, the draft is as it was,
-    /// and the line may still be good. No words are kept of numbers that are written plainly.
+    /// Appends to `draft` what this line gives, where it is found good at sight, and says whether it is. Where it is
+    /// not, the draft is as it was, and the line may still be good. No words are kept of numbers that are written
+    /// plainly.
     #[inline(always)]
     pub fn quick(&self, found: &mut Vec<Word>, draft: &mut Draft) -> Result<bool, AllocError>
         ensures good { IfOk result (λ good. OnTrue good (IsRow self.now.kind self.now.place (words_of self.now.line.now)
@@ -212,8 +213,9 @@ impl VertexLine<'_> {
         Ok(true)
     }
 
-    /// Judges it, by its words where it is not found good at sight, and appends what a good one gives. Without memory there
-    /// is no answer. The vector `found` is for its words, and keeps its memory for those of the next line.
+    /// Judges this line, by its words where it is not found good at sight, and appends to `draft` what a good one
+    /// gives. `None` means out of memory. `found` is room for its words, and keeps its memory for those of the next
+    /// line.
     #[inline(never)]
     pub fn judge(&self, found: &mut Vec<Word>, draft: &mut Draft) -> Option<Judged>
         ensures { IfSome result (λ judged. Judges (IsRow self.now.kind self.now.place (words_of self.now.line.now)) (RowInRange self.now.kind (words_of self.now.line.now)) judged

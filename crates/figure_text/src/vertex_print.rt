@@ -1,4 +1,4 @@
-//! The lines of the vertices of a figure as text, written from the last to the first.
+//! Prints the vertex lines of drawings, backwards, from the last vertex to the first.
 ghost use Rattle.std.specs.Prelude.{◌≡◌, ◌+◌, ◌*◌, ◌<◌, ◌≤◌, ◌++◌, List, ℕ, ℤ, length, drop, sum_by};
 ghost use Rattle.figure_text.specs.declared.piece.Piece.{Piece};
 ghost use Rattle.figure_text.specs.Text.{integer_at, point_at, joined, front_words, vertex_line, vertex_lines, fronts_room};
@@ -45,7 +45,7 @@ pub trait Numbered {
         ensures written { drop result bytes.new ≡ joined (front_words (pieces) line.now.v (numbers self.now line.now.v)) ++ drop end bytes.old };
 }
 
-// Returns number `v` of a list of points.
+// Returns point `v` of `list`.
 fn point(list: &Points, v: usize) -> Point
     requires { v < length list.now }
     ensures { result ≡ point_at list.now v }
@@ -53,7 +53,7 @@ fn point(list: &Points, v: usize) -> Point
     list.get(v)
 }
 
-// Returns number `v` of a list of whole numbers.
+// Returns number `v` of `list`.
 fn integer(list: &Ints, v: usize) -> i32
     requires { v < length list.now }
     ensures { result ≡ integer_at list.now v }

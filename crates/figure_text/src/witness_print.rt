@@ -1,4 +1,4 @@
-//! A witness as text.
+//! Prints a witness as text: its first line with the graph, and the lines of the branches and paths.
 ghost use Rattle.std.specs.Prelude.{◌≡◌, ◌+◌, ◌++◌, ◌∷◌, [], List, ℕ, length, flat_map, codes, decimal, ◌<◌, OnOk, OnErr, IfOk};
 ghost use Rattle.graph6_text.specs.Lines.{IsLine as IsGraphLine};
 ghost use Rattle.figure_text.specs.Text.{kind_word, witness_lines, witness_text};
@@ -9,7 +9,7 @@ use kuratowski::{Kind, Witness};
 use map_lists::VertexId;
 use std::alloc::{AllocError, Global};
 
-// Returns the word of a kind.
+// Returns the word of `kind` in a first line.
 fn word_of(kind: Kind) -> &'static [u8]
     ensures { result.now ≡ kind_word kind }
 {
@@ -19,7 +19,7 @@ fn word_of(kind: Kind) -> &'static [u8]
     }
 }
 
-// Appends the numbers of `ids`, from 1 and each after a space.
+// Appends the numbers of `ids` to `out`, from 1 and each after a space.
 fn push_ids(out: &mut Vec<u8>, ids: &[VertexId]) -> Result<(), AllocError>
     ensures { OnOk result (out.new.items ≡ out.old.items ++ flat_map (λ (u : VertexId). 32 ∷ decimal (u.0 + 1)) ids.now) }
 {
@@ -29,7 +29,7 @@ fn push_ids(out: &mut Vec<u8>, ids: &[VertexId]) -> Result<(), AllocError>
     Ok(())
 }
 
-// Appends a line that begins with `word` and names the vertices `ids`.
+// Appends to `out` a line that begins with `word` and names the vertices `ids`.
 fn push_row(out: &mut Vec<u8>, word: &[u8], ids: &[VertexId]) -> Result<(), AllocError>
     ensures { OnOk result (out.new.items ≡ out.old.items ++ (word.now ++ (flat_map (λ (u : VertexId). 32 ∷ decimal (u.0 + 1)) ids.now ++ 10 ∷ []))) }
 {
@@ -39,7 +39,7 @@ fn push_row(out: &mut Vec<u8>, word: &[u8], ids: &[VertexId]) -> Result<(), Allo
     Ok(())
 }
 
-// Appends the lines of the branches and of the paths.
+// Appends to `out` the lines of the branches and of the paths of `witness`.
 fn push_rows(out: &mut Vec<u8>, witness: &Witness) -> Result<(), AllocError>
     ensures { OnOk result (out.new.items ≡ out.old.items ++ witness_lines witness.now (length witness.now.paths + 1)) }
 {
@@ -50,8 +50,8 @@ fn push_rows(out: &mut Vec<u8>, witness: &Witness) -> Result<(), AllocError>
     Ok(())
 }
 
-// Appends the text of `witness` with this number: a first line, which holds that of `graph`, and the lines of the branches
-// and of the paths.
+// Appends to `text` the text of `witness` with this `number`. It has a first line, which holds that of `graph`, and the
+// lines of the branches and of the paths.
 pub(crate) fn push_witness(
     text: &mut Vec<u8>,
     number: u32,
@@ -72,8 +72,8 @@ pub(crate) fn push_witness(
     Ok(())
 }
 
-/// Appends the text of a witness with this number, and with the line of its graph. When memory runs out the bytes are
-/// as they were.
+/// Appends the text of `witness` with this `number`, and with the line of its `graph`, to `out`. When memory runs out
+/// the bytes are as they were.
 pub fn print_witness(
     alloc: Global,
     number: u32,

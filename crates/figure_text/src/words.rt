@@ -1,4 +1,4 @@
-//! The words of a line.
+//! Cuts a line of a figure's text into words, and reads each: a number, a number before a colon, or a known word.
 ghost use Rattle.std.specs.Prelude.{◌≡◌, ◌↔◌, ◌<◌, ◌≤◌, ◌-◌, ◌+◌, ◌*◌, ◌++◌, [], ◌∷◌, true, take, drop, Some, length, min, option_map, bytes_eq, map, ◌==◌, ◌&&◌, ◌≢◌, ℕ, nat_lt, slice_index, IsTrue, IfOk, IfSome, MatchOption, All};
 ghost use Rattle.std.specs.Bool.{OnTrue, OnFalse};
 ghost use Rattle.std.specs.List.{slice_split};
@@ -53,7 +53,7 @@ pub enum Word {
 /// Stands for all numbers beyond the ranges.
 pub const FAR: u64 = 100_000_000;
 
-// Returns the number that a word is, if it is one.
+// Returns the number that the bytes of `word` are, if they are one.
 fn number(word: &[u8]) -> Option<u32>
     ensures { result ≡ number_of word.now }
 {
@@ -66,7 +66,7 @@ fn number(word: &[u8]) -> Option<u32>
     }
 }
 
-// Returns the signed number that a word is, if it is one.
+// Returns the signed number that the bytes of `word` are, if they are one.
 fn signed_number(word: &[u8]) -> Option<Signed>
     ensures { result ≡ signed_of word.now }
 {
@@ -89,7 +89,7 @@ fn signed_number(word: &[u8]) -> Option<Signed>
     }
 }
 
-// Reads a signed number, or one before a colon.
+// Reads the bytes of `word` as a signed number, or one before a colon, or else as `Other`.
 fn numeral(word: &[u8]) -> Word
     ensures { result ≡ numeral_word (signed_of word.now) (closing_of word.now) }
 {
@@ -105,7 +105,7 @@ fn numeral(word: &[u8]) -> Word
     }
 }
 
-// Says whether a word is this one.
+// Says whether the bytes of `word` are those of `text`.
 fn is_text(word: &[u8], text: &[u8]) -> bool
     ensures { result ≡ bytes_eq word.now text.now }
 {
@@ -152,7 +152,7 @@ fn named(bytes: &[u8]) -> Word
     }
 }
 
-// Says whether a word begins with a byte below all letters of names, as numbers do.
+// Says whether `word` begins with a byte below all letters of names, as numbers do.
 fn is_low(word: &[u8]) -> bool
     ensures { result ≡ (nat_lt 0 (length word.now) && nat_lt (slice_index word.now 0) 75) }
 {
@@ -162,7 +162,7 @@ fn is_low(word: &[u8]) -> bool
     }
 }
 
-// Reads a word. The words within the lines of vertices are told first.
+// Reads the bytes of `word`. The words within the lines of vertices are tested first.
 fn word_of(word: &[u8]) -> Word
     ensures { result ≡ word_meant word.now }
 {
@@ -175,7 +175,7 @@ fn word_of(word: &[u8]) -> Word
     }
 }
 
-// Returns the offset of the first space from `at` on, or the end.
+// Returns the index of the first space of `line` from `at` on, or the end.
 fn word_end(line: &[u8], at: usize) -> usize
     requires { at ≤ length line.now }
     ensures order { at ≤ result }
@@ -194,7 +194,7 @@ fn word_end(line: &[u8], at: usize) -> usize
 /// How many digits of a number are read at once.
 const MOST_DIGITS: usize = 6;
 
-/// Digits of a line.
+/// Digits of a line: their value, and the index after them.
 #[derive(Clone, Copy, PartialEq, Eq)]
 pub struct Digits {
     /// The number that they give.
@@ -203,7 +203,7 @@ pub struct Digits {
     pub end: usize,
 }
 
-// Returns the value of a digit, or a number beyond 9 where the byte is no digit.
+// Returns the value of the digit `byte`, or a number beyond 9 where it is no digit.
 #[inline(always)]
 fn digit_of(byte: u8) -> u32
     ensures is { nat_lt result 10 ≡ is_digit byte }
@@ -212,7 +212,7 @@ fn digit_of(byte: u8) -> u32
     u32::from(byte).wrapping_sub(48)
 }
 
-// Reads the digits that stand from `at` on, or the first `count` of them.
+// Reads the digits that stand in `line` from index `at` on, `count` of them at most.
 #[inline(always)]
 fn first_digits(line: &[u8], at: usize, count: usize) -> Digits
     requires few { count ≤ 6 }
@@ -237,8 +237,8 @@ fn first_digits(line: &[u8], at: usize, count: usize) -> Digits
     }
 }
 
-// Reads the digits that stand from `at` on, or the first six of them. Where six bytes are left, the loop has six rounds; where
-// four are, as mostly at the end of a line, it has four.
+// Reads the digits that stand in `line` from index `at` on, six of them at most. Where six bytes are left, the loop has
+// six rounds; where four are, as mostly at the end of a line, it has four.
 #[inline(always)]
 fn digits_from(line: &[u8], at: usize) -> Digits
     requires { at ≤ length line.now }
@@ -257,14 +257,14 @@ fn digits_from(line: &[u8], at: usize) -> Digits
     }
 }
 
-// Says whether a word may end at `end`.
+// Says whether a word of `line` may end at index `end`.
 fn ends_at(line: &[u8], end: usize) -> bool
     ensures { IsTrue result → end < length line.now → slice_index line.now end ≡ 32 }
 {
     line.len() <= end || line[end] == b' '
 }
 
-// Says whether a colon stands at `end`, after which a word may end.
+// Says whether `line` has a colon at index `end`, after which a word may end.
 fn closes_at(line: &[u8], end: usize) -> bool
     ensures { IsTrue result → (end < length line.now) × (slice_index line.now end ≡ 58)
         × (end + 1 < length line.now → slice_index line.now (end + 1) ≡ 32) }
@@ -272,7 +272,7 @@ fn closes_at(line: &[u8], end: usize) -> bool
     end < line.len() && line[end] == b':' && ends_at(line, end + 1)
 }
 
-/// A word of a line.
+/// A word of a line, and the index after it.
 #[derive(Clone, Copy, PartialEq, Eq)]
 pub struct Next {
     /// The word.
@@ -281,7 +281,7 @@ pub struct Next {
     pub end: usize,
 }
 
-/// Reads the word that begins at `at`.
+/// Reads the word of `line` that begins at index `at`.
 #[inline(always)]
 pub fn next_word(line: &[u8], at: usize) -> Next
     requires { at ≤ length line.now }
@@ -319,7 +319,7 @@ pub fn next_word(line: &[u8], at: usize) -> Next
     }
 }
 
-/// Returns the number that begins at `at`, where it has no minus and at most six digits.
+/// Returns the number that begins at index `at` of `line`, where it has no minus and at most six digits.
 #[inline(always)]
 pub fn plain_at(line: &[u8], at: usize) -> Option<Digits>
     ensures { IfSome result (IsPlainAt line.now at) }
@@ -336,7 +336,8 @@ pub fn plain_at(line: &[u8], at: usize) -> Option<Digits>
     None
 }
 
-/// Returns the number that begins at `at`, where it has no minus, a space follows at most four digits, and five bytes are left.
+/// Returns the number that begins at index `at` of `line`. It has no minus, a space follows at most four digits, and
+/// five bytes are left.
 #[inline(always)]
 pub fn short_at(line: &[u8], at: usize) -> Option<Digits>
     ensures { IfSome result (IsPlainAt line.now at) }
@@ -353,8 +354,8 @@ pub fn short_at(line: &[u8], at: usize) -> Option<Digits>
     None
 }
 
-/// Returns the number before a colon that begins at `at`, where it has no minus, at most four digits, a space follows the
-/// colon, and six bytes are left; its `end` is the place after the colon.
+/// Returns the number before a colon that begins at index `at` of `line`, whose `end` is the index after the colon. It
+/// has no minus and at most four digits, a space follows the colon, and six bytes are left.
 #[inline(always)]
 pub fn closing_at(line: &[u8], at: usize) -> Option<Digits>
     ensures { IfSome result (IsClosingAt line.now at) }
@@ -374,7 +375,7 @@ pub fn closing_at(line: &[u8], at: usize) -> Option<Digits>
     None
 }
 
-/// Says whether the word `at` begins at a place of the line, with a space after it.
+/// Says whether the word `at` begins at index `at` of `line`, with a space after it.
 #[inline(always)]
 pub fn is_word_at(line: &[u8], at: usize) -> bool
     requires { at ≤ length line.now }
@@ -383,7 +384,7 @@ pub fn is_word_at(line: &[u8], at: usize) -> bool
     at + 2 < line.len() && line[at] == b'a' && line[at + 1] == b't' && line[at + 2] == b' '
 }
 
-/// Says whether a letter stands alone at a place of the line, with a space after it.
+/// Says whether `letter` stands at index `at` of `line`, with a space after it.
 #[inline(always)]
 pub fn is_letter_at(line: &[u8], at: usize, letter: u8) -> bool
     requires place { at ≤ length line.now }
@@ -393,8 +394,8 @@ pub fn is_letter_at(line: &[u8], at: usize, letter: u8) -> bool
     at + 1 < line.len() && line[at] == letter && line[at + 1] == b' '
 }
 
-/// Fills a vector with the first words of a line, which stand between its spaces: as many as are asked for, or as there
-/// are. It answers from where on the others stand. What the vector held before is gone, and its memory is kept.
+/// Fills `found` with the first words of `line`, `most` of them or as many as there are, and returns the index at which
+/// the others begin. What it held before is gone, and its memory is kept.
 pub fn fill_front(line: &[u8], most: usize, found: &mut Vec<Word>) -> Result<usize, AllocError>
     ensures words { IfOk result (λ at. found.new.items ++ words_left line.now at ≡ words_of line.now) }
     ensures many { IfOk result (λ at. at ≤ length line.now → length found.new.items ≡ most) }
@@ -413,7 +414,7 @@ pub fn fill_front(line: &[u8], most: usize, found: &mut Vec<Word>) -> Result<usi
     Ok(at)
 }
 
-/// Fills a vector with the words of a line, as far as each is a number or a word of figures, and says whether they are
+/// Fills `found` with the words of `line`, as far as each is a number or a word of figures, and says whether they are
 /// all. What it held before is gone, and its memory is kept.
 pub fn fill_known(line: &[u8], found: &mut Vec<Word>) -> Result<bool, AllocError>
     ensures known { IfOk result (λ known. OnTrue known (found.new.items ≡ words_of line.now)) }
@@ -432,7 +433,7 @@ pub fn fill_known(line: &[u8], found: &mut Vec<Word>) -> Result<bool, AllocError
     Ok(true)
 }
 
-/// Returns the words of a line, where each is a number or a word of figures.
+/// Returns the words of `line`, or None where one is neither a number nor a word of figures.
 pub fn known_words(alloc: Global, line: &[u8]) -> Result<Option<Vec<Word>>, AllocError>
     ensures { IfOk result (λ found. MatchOption found (HasOther (words_of line.now)) (λ v. v.items ≡ words_of line.now)) }
 {

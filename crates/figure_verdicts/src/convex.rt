@@ -1,4 +1,4 @@
-//! The verdict on a drawing that is to be convex.
+//! The verdict on a straight-line drawing that is to be convex.
 ghost use Rattle.std.specs.Prelude.{◌≡◌, ◌≢◌, ◌-◌, List, ℤ, pos, ◌-ℤ◌, IfOk};
 ghost use Rattle.map_lists.specs.Lists.{Lists};
 ghost use Rattle.pg_plane.specs.declared.point.Point.{Point};
@@ -17,7 +17,7 @@ use half_edges::VertexId;
 use pg_plane::Point;
 use std::alloc::AllocError;
 
-// The verdict on a drawing without another fault, by that of the check of bends.
+// Converts the verdict of the check of convexity on a drawing without another fault.
 fn of_convex(verdict: ConvexVerdict) -> FigureVerdict
     ensures { (lists : Lists) (points : List Point) → IsConvexVerdict lists points (first_dart lists 0) verdict → HasBase lists
         → IsBendVerdict lists points result }
@@ -29,7 +29,7 @@ fn of_convex(verdict: ConvexVerdict) -> FigureVerdict
 }
 
 impl MapDrawing<'_> {
-    // The verdict on one without another fault, by its bends.
+    // Returns the verdict on a drawing without another fault, by its convexity over the first vertex's first dart.
     fn bend_verdict(&self) -> Result<FigureVerdict, AllocError>
         ensures { IfOk result (IsBendVerdict self.now.map.now.lists self.now.points.now) }
     {
@@ -43,7 +43,8 @@ impl MapDrawing<'_> {
         }
     }
 
-    /// The verdict on one that is to be convex: its first fault; or, where it has none, how a face bends; or `Yes`.
+    /// Returns the verdict on a drawing that is to be convex, in the grid up to `corner`: its first fault, or else how
+    /// a face bends, or `Yes`.
     pub fn convex_verdict(&self, corner: Point) -> Result<FigureVerdict, AllocError>
         ensures { IfOk result (IsShapedVerdict self.now.map.now.lists self.now.points.now corner.x corner.y) }
     {

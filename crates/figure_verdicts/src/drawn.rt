@@ -1,4 +1,4 @@
-//! The verdict on a drawing of a simple map.
+//! The verdict on a straight-line drawing of a simple map, and the quick yes for a triangulation.
 ghost use Rattle.std.specs.Prelude.{◌≡◌, ◌<◌, length, None, IfOk, ℤ};
 ghost use Rattle.std.specs.Bool.{OnTrue};
 ghost use Rattle.map_lists.specs.Lists.{Lists};
@@ -22,14 +22,15 @@ use pg_plane::{Point, Points};
 use simple_maps::no_fault_is_simple;
 use std::alloc::{AllocError, Global};
 
-// Whether a simple map with these counts has genus zero, at least three vertices and as many edges as such a map can have.
+// Says whether a simple map with these counts has genus zero, at least three vertices and as many edges as such a map
+// can have.
 fn is_triangulation(count: EulerCount) -> bool
     ensures { (lists : Lists) → IsSimpleMap lists → IsCountOf lists count → OnTrue result (IsTriangulation lists) }
 {
     3 <= count.n && count.m + 6 == 3 * count.n && count.n + count.f == 2 * count.c + count.m
 }
 
-// Whether lists are a triangulation. When memory ran out it is not known, and the answer is no.
+// Says whether `lists` are a triangulation. When memory runs out it is not known, and the answer is false.
 fn are_triangulation(alloc: Global, lists: &Rotations) -> bool
     requires some_list { 0 < length lists.now }
     ensures { OnTrue result ((first_fault lists.now ≡ None) × IsTriangulation lists.now) }
@@ -41,7 +42,8 @@ fn are_triangulation(alloc: Global, lists: &Rotations) -> bool
     }
 }
 
-/// Says whether lists are seen to be a triangulation with a valid drawing, before a map is made of them.
+/// Says whether `lists` are seen to be a triangulation with a valid drawing at `points`, in the grid up to `corner`. No
+/// map is made of them.
 pub fn is_drawn_triangulation(
     alloc: Global,
     lists: &Rotations,
@@ -70,7 +72,7 @@ pub struct MapDrawing<'a> {
 }
 
 impl MapDrawing<'_> {
-    // The verdict on one of a connected map by its outer face.
+    // Returns the verdict on a drawing of a connected map by its outer face.
     fn outer_verdict(&self) -> Result<FigureVerdict, AllocError>
         requires { component_count self.now.map.now.lists ≡ 1 }
         ensures { IfOk result (λ verdict. (width height : ℤ) → IsVerdict self.now.map.now.lists self.now.points.now width height NoFault
@@ -87,7 +89,7 @@ impl MapDrawing<'_> {
         }
     }
 
-    // The verdict on one without a fault, by its outer face.
+    // Returns the verdict on a drawing without a fault, by its outer face.
     fn faultless_verdict(&self) -> Result<FigureVerdict, AllocError>
         ensures { IfOk result (λ verdict. (width height : ℤ) → IsVerdict self.now.map.now.lists self.now.points.now width height NoFault
             → IsDrawnVerdict self.now.map.now.lists self.now.points.now width height verdict) }
@@ -99,7 +101,8 @@ impl MapDrawing<'_> {
         }
     }
 
-    /// Returns its first fault; or, where it has none, the least dart of a face that is turned inside out; or `Yes`.
+    /// Returns the first fault of the drawing in the grid up to `corner`; or, where it has none, the least dart of a
+    /// face that is turned inside out; or `Yes`.
     pub fn drawn_verdict(&self, corner: Point) -> Result<FigureVerdict, AllocError>
         ensures { IfOk result (IsDrawnVerdict self.now.map.now.lists self.now.points.now corner.x corner.y) }
     {

@@ -1,4 +1,4 @@
-//! The verdict on a figure.
+//! The public call `figure_verdict`: chooses the check by the kind of the figure, and the grid by its job.
 ghost use Rattle.std.specs.Prelude.{◌≡◌, ◌≢◌, ◌<◌, ◌≤◌, length, ℤ, pos, ◌-ℤ◌, IfOk};
 ghost use Rattle.map_lists.specs.Lists.{Lists};
 ghost use Rattle.bar_check.specs.Verdicts.{IsBarVerdict};
@@ -29,7 +29,7 @@ use pg_plane::{BarFigure, Point, Points, RectFigure};
 use rect_check::{RectVerdict, check_rects};
 use std::alloc::{AllocError, Global};
 
-// A small number with a sign.
+// Converts `n`, a small number, to a signed one.
 fn signed(n: usize) -> i32
     requires { n < 8192 }
     ensures { result ≡ pos n }
@@ -37,8 +37,8 @@ fn signed(n: usize) -> i32
     n as i32
 }
 
-// How far the grid of a drawing of a map with `n` vertices and `f` faces reaches to the right. Of the faces, convex drawings
-// alone ask.
+// Returns the width of the grid of a drawing by `job` of a map with `n` vertices and `f` faces. Only convex drawings
+// depend on the faces.
 fn width(job: GridJob, n: usize, f: u32) -> i32
     requires few_vertices { n < 4096 }
     requires few_faces { f ≤ 16777216 }
@@ -51,7 +51,7 @@ fn width(job: GridJob, n: usize, f: u32) -> i32
     }
 }
 
-// How far it reaches up.
+// Returns the height of the grid of a drawing by `job` of a map with `n` vertices and `f` faces.
 fn height(job: GridJob, n: usize, f: u32) -> i32
     requires few_vertices { n < 4096 }
     requires few_faces { f ≤ 16777216 }
@@ -63,7 +63,7 @@ fn height(job: GridJob, n: usize, f: u32) -> i32
     }
 }
 
-// Where the grid ends of a drawing by a method for triangulations.
+// Returns the upper right corner of the grid of a drawing by a method for triangulations, of `n` vertices.
 fn corner_of(job: GridJob, n: usize) -> Point
     requires { n < 4096 }
     ensures x { (lists : Lists) → length lists ≡ n → job ≢ ConvexJob → result.x ≡ grid_width job lists }
@@ -75,7 +75,7 @@ fn corner_of(job: GridJob, n: usize) -> Point
     }
 }
 
-// Says whether a drawing by such a method is seen to be valid, with no map.
+// Says whether a drawing by a method for triangulations is seen to be valid, with no map made.
 fn is_seen_valid(alloc: Global, job: GridJob, lists: &Rotations, points: &Points) -> bool
     requires { IsGivenGrid lists.now points.now }
     ensures { OnTrue result (IsGridVerdict job lists.now points.now FigureYes) }
@@ -86,7 +86,7 @@ fn is_seen_valid(alloc: Global, job: GridJob, lists: &Rotations, points: &Points
     }
 }
 
-// The verdict on lists with a fault.
+// Returns the verdict on lists with this `fault`.
 fn refused(fault: MapFault) -> Result<FigureVerdict, AllocError>
     ensures { IfOk result (λ verdict. (verdict ≡ FigureVerdict.Refused fault) × (fault ≢ MapFault.NoMemory)) }
 {
@@ -97,7 +97,7 @@ fn refused(fault: MapFault) -> Result<FigureVerdict, AllocError>
 }
 
 impl MapDrawing<'_> {
-    // The verdict on it, by what it is to be.
+    // Returns the verdict on the drawing in the grid up to `corner`, by what the drawings of `job` are to be.
     fn job_verdict(&self, job: GridJob, corner: Point) -> Result<FigureVerdict, AllocError>
         ensures { IfOk result (IsJobVerdict job self.now.map.now.lists self.now.points.now corner.x corner.y) }
     {
@@ -107,7 +107,7 @@ impl MapDrawing<'_> {
         }
     }
 
-    // The verdict on it in the grid of its job.
+    // Returns the verdict on the drawing in the grid of its `job`.
     fn map_verdict(&self, job: GridJob) -> Result<FigureVerdict, AllocError>
         ensures { IfOk result (IsFittingVerdict job self.now.map.now.lists self.now.points.now) }
     {
@@ -120,7 +120,7 @@ impl MapDrawing<'_> {
     }
 }
 
-// The verdict on a straight-line drawing of lists that may be no simple map.
+// Returns the verdict on a straight-line drawing of `lists`, which may be no simple map.
 fn grid_verdict(
     alloc: Global,
     job: GridJob,
@@ -148,7 +148,7 @@ fn grid_verdict(
     }
 }
 
-// How far bars of a map with `f` faces reach to the right.
+// Returns the width of a visibility drawing of a map with `f` faces.
 fn bars_width(f: u32) -> i32
     requires { f ≤ 16777216 }
     ensures { result ≡ less_one f }
@@ -156,7 +156,7 @@ fn bars_width(f: u32) -> i32
     f as i32 - 1
 }
 
-// The verdict on the bars of a simple map, by that of their check.
+// Converts the verdict of the check of bars.
 fn of_bars(verdict: BarVerdict) -> FigureVerdict
     ensures { (lists : Lists) (bars : Bars) (width : ℤ) → IsBarVerdict lists bars width verdict → IsColumnsVerdict lists bars width result }
 {
@@ -166,7 +166,7 @@ fn of_bars(verdict: BarVerdict) -> FigureVerdict
     }
 }
 
-// The verdict on a visibility drawing of lists that may be no simple map.
+// Returns the verdict on a visibility drawing of `lists`, which may be no simple map.
 fn bars_verdict(
     alloc: Global,
     lists: &Rotations,
@@ -184,7 +184,7 @@ fn bars_verdict(
     }
 }
 
-// The verdict on the rectangles of a simple map, by that of their check.
+// Converts the verdict of the check of rectangles.
 fn of_rects(verdict: RectVerdict) -> FigureVerdict
     ensures { (lists : Lists) (rects : Rects) → IsRectVerdict lists rects verdict → IsTiledVerdict lists rects result }
 {
@@ -194,7 +194,7 @@ fn of_rects(verdict: RectVerdict) -> FigureVerdict
     }
 }
 
-// The verdict on a rectangular dual of lists that may be no simple map.
+// Returns the verdict on a rectangular dual of `lists`, which may be no simple map.
 fn rects_verdict(
     alloc: Global,
     lists: &Rotations,
@@ -209,7 +209,7 @@ fn rects_verdict(
     }
 }
 
-// The verdict on a witness, by that of its check.
+// Converts the verdict of the check of a witness.
 fn of_witness(verdict: WitnessVerdict) -> FigureVerdict
     ensures { (graph : EdgeGraph) (witness : AWitness) → IsVerdict graph witness.kind witness.branch witness.paths verdict
         → IsWitnessVerdict graph witness result }
@@ -220,20 +220,19 @@ fn of_witness(verdict: WitnessVerdict) -> FigureVerdict
     }
 }
 
-// The verdict on a witness.
+// Returns the verdict on `witness` for `graph`.
 fn witness_verdict(graph: &Graph, witness: &Witness) -> FigureVerdict
     ensures { IsWitnessVerdict graph.now witness.now result }
 {
     of_witness(check_witness(graph, witness))
 }
 
-/// The verdict on a figure, whose numbers are within the ranges of its text: the first fault of its lists where
-/// they are no simple map. Else, of a straight-line drawing, its first fault in its grid, which is 2n - 4 by
-/// n - 2 for the shift method and n - 2 by n - 2 for Schnyder's; or, for a connected map, the least dart of a
-/// face that is turned inside out, as seen from the first vertex's first dart. For a convex drawing the grid is f - 1
-/// by f - 1, for f faces, and it is how a face bends. Of bars it is their first fault
-/// within the width f - 1, and of rectangles their first fault. Else it is `Yes`. A witness has no lists: its verdict is its own first fault,
-/// or `Yes`.
+/// Returns the verdict on `figure`, whose numbers are within the ranges of its text: the first fault of its lists where
+/// they are no simple map. Else, of a straight-line drawing, its first fault in its grid, which is 2n - 4 by n - 2 for
+/// the shift method and n - 2 by n - 2 for Schnyder's; or, for a connected map, the least dart of a face that is turned
+/// inside out, as seen from the first vertex's first dart. For a convex drawing the grid is f - 1 by f - 1, for f
+/// faces, and it is how a face bends. Of bars it is their first fault within the width f - 1, and of rectangles their
+/// first fault. Else it is `Yes`. A witness has no lists: its verdict is its own first fault, or `Yes`.
 pub fn figure_verdict(alloc: Global, figure: &Figure) -> Result<FigureVerdict, AllocError>
     requires { IsGiven figure.now }
     ensures { IfOk result (IsFigureVerdict figure.now) }

@@ -11,11 +11,11 @@ mod verdict;
 pub use judge::figure_verdict;
 pub use verdict::FigureVerdict;
 
-/// The verdict is `Yes` exactly where the lists of the figure are a simple map, and: of a straight-line drawing
-/// all points lie in the grid, the drawing is plane and keeps the rotations, and for a connected map the face of
-/// the first vertex's first dart is the outer one; of one that is to be convex the faces are as they should besides; bars are
-/// valid within the width f - 1; rectangles are a rectangular dual. Of a witness it is `Yes`
-/// exactly where it is one of its graph.
+/// States the law that the verdict is `Yes` exactly where the figure is valid. Its lists are a simple map. Of a
+/// straight-line drawing all points lie in the grid, the drawing is plane and keeps the rotations. For a connected map
+/// the face of the first vertex's first dart is the outer one. Of one that is to be convex the faces are as they should
+/// besides. Bars are valid within the width f - 1, and rectangles are a rectangular dual. A witness is one of its
+/// graph.
 pub fn yes_is_valid_figure()
     ensures { YesIsValidFigure }
 {
@@ -25,7 +25,7 @@ pub fn yes_is_valid_figure()
     rect_check::yes_is_dual();
 }
 
-/// A valid figure has no other verdict than `Yes`.
+/// States the law that a valid figure has no other verdict than `Yes`.
 pub fn valid_is_yes()
     ensures { ValidIsYes }
 {

@@ -1,4 +1,4 @@
-//! Verdicts on figures of all kinds.
+//! The verdicts on figures of all kinds, as the type `FigureVerdict`.
 
 use bar_check::BarVerdict;
 use convex_check::ConvexVerdict;

@@ -1,4 +1,5 @@
-//! Drawings by the shift method.
+//! The public calls that draw a triangulation by the shift method, and `Shifter`, which keeps its memory from one to
+//! the next.
 ghost use Rattle.std.specs.Prelude.{◌≡◌, ◌<◌, length, IfOk};
 ghost use Rattle.map_theory.specs.Maps.{Dart};
 ghost use Rattle.plane_laws.specs.Triangulations.{IsTriangulation};
@@ -17,8 +18,8 @@ use std::marker::Brand;
 use std::mem;
 use std::sync::ledger::{Blank, Ledger};
 
-/// The drawing of a triangulation by the shift method, for a canonical order of it: a simple map of genus
-/// zero with n >= 3 vertices and 3n - 6 edges.
+/// Returns the drawing of `tri` by the shift method, for its canonical `order`. `tri` is a triangulation: a simple map
+/// of genus zero with n >= 3 vertices and 3n - 6 edges.
 ///
 /// It is plane and keeps the rotations, in the grid 2n - 4 by n - 2. The order's first vertex stands at
 /// (0, 0), its second at (2n - 4, 0) and its last at (n - 2, n - 2); of all faces that of the base alone is
@@ -51,7 +52,7 @@ pub struct Shifter {
 }
 
 impl Shifter {
-    /// A shifter that has drawn nothing yet. It takes no memory.
+    /// Returns a shifter that has drawn nothing yet. It takes no memory.
     pub fn new(alloc: Global) -> Shifter {
         Shifter {
             alloc,
@@ -60,7 +61,7 @@ impl Shifter {
         }
     }
 
-    // A tree of `n` nodes, whatever they are, in the memory kept.
+    // Returns a tree of `n` nodes, whatever they are, in the memory kept.
     fn tree<L: Ledger>(&mut self, n: usize) -> Result<Offsets<L>, AllocError>
         requires { n < 65536 }
         ensures { IfOk result (λ tree. length tree ≡ n) }
@@ -76,7 +77,8 @@ impl Shifter {
         Ok(Offsets::from_nodes(nodes))
     }
 
-    // The shift points of an order, by the lists of the map and its tree of offsets, whose uses a new ledger counts.
+    // Returns the points of the shift method for `order`, by the `lists` of the map and its tree of offsets. A new
+    // ledger counts the uses of the tree.
     fn points<L: Ledger>(
         &mut self,
         lists: &Rotations,
@@ -101,7 +103,7 @@ impl Shifter {
         Ok(points)
     }
 
-    /// Keeps the memory of a figure that is done with.
+    /// Keeps the memory of `figure`, which is done with.
     pub fn keep(&mut self, figure: GridFigure) {
         self.sums.keep(figure.points);
     }

@@ -1,4 +1,4 @@
-//! Why there is no drawing.
+//! Why a triangulation got no drawing by the shift method, as the type `ShiftFault`.
 
 use std::alloc::AllocError;
 
@@ -15,6 +15,7 @@ impl From<AllocError> for ShiftFault {
 
     ghost from_gives = { λ _ fault. fault ≡ NoMemory };
 
+    // Converts a lack of memory.
     fn from(_refused: AllocError) -> ShiftFault {
         ShiftFault::NoMemory
     }

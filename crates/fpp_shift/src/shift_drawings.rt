@@ -1,17 +1,18 @@
-//! Triangulations drawn by the shift method of de Fraysseix, Pach and Pollack (1990). Each law is the contract
-//! of a function that does nothing but call those on which it stands.
+//! Laws: the points of the shift method are a plane drawing of a triangulation, and each triangulation has one. Each
+//! law is the contract of a function that does nothing but call those on which it stands.
 
 ghost use Rattle.fpp_shift.specs.ShiftDrawings.{ShiftPointsDraw, SomeShiftPoints, SomeShiftDrawing};
 
-/// The shift points of a canonical order of a triangulation are a plane drawing in the grid 2n - 4 by n - 2
-/// that keeps the rotations. The face of the base is outside, and its three vertices stand at the corners.
+/// States the law that the shift points of a canonical order of a triangulation draw it. The drawing is plane, in the
+/// grid 2n - 4 by n - 2, and keeps the rotations. The face of the base is outside, and its three vertices stand at the
+/// corners.
 pub fn shift_points_draw()
     ensures { ShiftPointsDraw }
 {
     order_drawings::run_drawings::counterclockwise_run_draws();
 }
 
-/// Each canonical order of a triangulation has shift points.
+/// States the law that each canonical order of a triangulation has shift points.
 pub fn some_shift_points()
     ensures { SomeShiftPoints }
 {
@@ -19,7 +20,7 @@ pub fn some_shift_points()
     order_drawings::run_drawings::points_of_order();
 }
 
-/// Each triangulation has such a drawing, for each base dart.
+/// States the law that each triangulation has a drawing by shift points, for each base dart.
 pub fn some_shift_drawing()
     ensures { SomeShiftDrawing }
 {

@@ -1,5 +1,4 @@
-//! The tree of offsets of the shift method, made over a map and a canonical order of it, in linear time and
-//! without memory.
+//! Makes the tree of offsets of the shift method from a map and its canonical order, in linear time.
 
 ghost use Rattle.fpp_shift.specs.ShiftTreesLaws.{OffsetTreeAddsUp};
 
@@ -10,8 +9,8 @@ mod tree;
 pub(crate) use listed::list_tree;
 pub use tree::offset_tree;
 
-/// The tree of offsets of an order has its links as a tree has, and the points to which it adds up are the shift
-/// points of the order.
+/// States the law that the tree of offsets of an order adds up to the shift points of the order. Its links are those of
+/// a tree.
 pub fn offset_tree_adds_up()
     ensures { OffsetTreeAddsUp }
 {}

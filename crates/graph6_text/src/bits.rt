@@ -1,8 +1,8 @@
-//! The bits of the pairs of vertices, six a byte.
+//! The adjacency bits of a graph6 line: the index of a pair of vertices, and bits read and set, six a byte.
 ghost use Rattle.std.specs.Prelude.{◌≡◌, ◌+◌, ◌-◌, ◌*◌, ◌<◌, ◌≤◌, ◌/◌, ◌==◌, ◌||◌, ℕ, false, length, slice_index, All};
 ghost use Rattle.graph6_text.specs.Lines.{pair_place as place_of_pair, pair_count as count_of_pairs, body_length as bytes_of_pairs, has_bit as is_bit, is_set as is_place_set, IsLineByte};
 
-/// The place of the pair `u` below `v` among the bits.
+/// Returns the index of the pair of `u` and `v`, where `u` is the lesser, among the bits.
 #[tactic(auto, unfolding(crate::specs::Lines::pair_place))]
 pub fn pair_place(u: u16, v: u16) -> usize
     ensures { result ≡ place_of_pair u v }
@@ -11,7 +11,7 @@ pub fn pair_place(u: u16, v: u16) -> usize
     after * after.saturating_sub(1) / 2 + usize::from(u)
 }
 
-/// The number of pairs of `n` vertices.
+/// Returns the number of pairs of `n` vertices.
 #[tactic(auto, unfolding(crate::specs::Lines::pair_count))]
 pub fn pair_count(n: u16) -> usize
     requires { n ≤ 255 }
@@ -21,7 +21,7 @@ pub fn pair_count(n: u16) -> usize
     vertices * vertices.saturating_sub(1) / 2
 }
 
-/// The number of bytes that hold the bits of `n` vertices.
+/// Returns the number of bytes that hold the bits of `n` vertices.
 pub fn body_length(n: u16) -> usize
     requires { n ≤ 255 }
     ensures { result ≡ bytes_of_pairs n }
@@ -29,7 +29,7 @@ pub fn body_length(n: u16) -> usize
     (pair_count(n) + 5) / 6
 }
 
-/// The number of bits of the last byte that stand for no pair.
+/// Returns the number of bits of the last byte that stand for no pair of `n` vertices.
 pub fn spare_bits(n: u16) -> usize
     requires { n ≤ 255 }
     ensures number { result ≡ 6 * bytes_of_pairs n - count_of_pairs n }
@@ -38,7 +38,7 @@ pub fn spare_bits(n: u16) -> usize
     6 * body_length(n) - pair_count(n)
 }
 
-// Bit `k` of a byte.
+// Says whether bit `k` of `byte`, from the highest of its six, is set.
 #[tactic(auto, unfolding(crate::specs::Lines::has_bit))]
 fn has_bit(byte: u8, k: usize) -> bool
     requires { k < 6 }
@@ -47,7 +47,7 @@ fn has_bit(byte: u8, k: usize) -> bool
     (byte.saturating_sub(63) >> (5 - k)) % 2 == 1
 }
 
-// The byte with bit `k` set, which was not.
+// Returns `byte` with bit `k` set, which was not.
 fn with_bit(byte: u8, k: usize) -> u8
     requires bit { k < 6 }
     requires range { IsLineByte byte }
@@ -58,7 +58,7 @@ fn with_bit(byte: u8, k: usize) -> u8
     byte + (32u8 >> k)
 }
 
-/// Whether the bit at a place is set.
+/// Says whether the bit at index `place` of `body` is set.
 #[tactic(auto, unfolding(crate::specs::Lines::is_set))]
 pub fn is_set(body: &[u8], place: usize) -> bool
     requires { place / 6 < length body.now }
@@ -67,7 +67,7 @@ pub fn is_set(body: &[u8], place: usize) -> bool
     has_bit(body[place / 6], place % 6)
 }
 
-/// Sets the bit at a place.
+/// Sets the bit at index `place` of `body`.
 pub fn set(body: &mut [u8], place: usize)
     requires within { place / 6 < length body.old }
     requires bytes { All IsLineByte body.old }

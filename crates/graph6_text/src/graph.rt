@@ -1,4 +1,4 @@
-//! Graphs.
+//! Bare graphs as the type `Graph`, kept as graph6 bits, with adjacency lookups.
 ghost use Rattle.std.specs.Prelude.{◌≡◌, ◌≤◌, ◌<◌, ◌/◌, ◌==◌, ◌||◌, ℕ, false, [], map, length, All, AllPairs, IfOk, replicate};
 ghost use Rattle.std.specs.List.{list_any};
 ghost use Rattle.graph6_text.specs.Graphs.{EdgeGraph, IsGraph, AreEdges, has_edge, edge_of};
@@ -32,7 +32,7 @@ impl Model for Graph {
 }
 
 impl Graph {
-    /// The graph without vertices. It takes no memory.
+    /// Returns the graph without vertices. It takes no memory.
     pub fn new(alloc: Global) -> Graph
         ensures { result ≡ record { n = 0; edges = [] } }
     {
@@ -42,7 +42,7 @@ impl Graph {
         }
     }
 
-    /// The graph on `n` vertices with these edges. `n` is at most 255, the ends are below it, and the edges
+    /// Returns the graph on `n` vertices with these `edges`. `n` is at most 255, the ends are below it, and the edges
     /// are in order and each once.
     pub fn of_edges(alloc: Global, n: u16, edges: &[Ends]) -> Result<Graph, AllocError>
         requires few { n ≤ 255 }
@@ -54,7 +54,7 @@ impl Graph {
         Ok(Graph { vertices: n, body })
     }
 
-    /// The graph whose bits are these, in the memory of `spent`.
+    /// Returns the graph on `n` vertices with the bits `bytes`, in the memory of `spent`.
     pub(crate) fn of_body(spent: Graph, n: u16, bytes: &[u8]) -> Result<Graph, AllocError>
         requires few { n ≤ 255 }
         requires bits { IsBody n bytes.now }
@@ -66,7 +66,7 @@ impl Graph {
         Ok(Graph { vertices: n, body })
     }
 
-    /// The number of vertices.
+    /// Returns the number of vertices.
     pub fn n(&self) -> u16
         ensures count { result ≡ self.now.n }
         ensures known { IsGraph self.now }
@@ -74,7 +74,7 @@ impl Graph {
         self.vertices
     }
 
-    /// Whether an edge joins two vertices.
+    /// Says whether an edge joins `u` and `v`.
     pub fn has(&self, u: VertexId, v: VertexId) -> bool
         ensures { result ≡ has_edge self.now u.0 v.0 }
     {
@@ -85,7 +85,7 @@ impl Graph {
         }
     }
 
-    // Says whether an edge joins a lesser and a greater vertex.
+    // Says whether `u` is less than `v`, both are vertices, and an edge joins them.
     fn has_pair(&self, u: u16, v: u16) -> bool
         requires { u ≤ v }
         ensures { result ≡ has_edge self.now u v }
@@ -93,7 +93,7 @@ impl Graph {
         u < v && v < self.vertices && self.has_bit(u, v)
     }
 
-    // Says whether an edge joins two numbers that are vertices, the lesser first.
+    // Says whether an edge joins `u` and `v`, which are vertices, `u` the lesser.
     fn has_bit(&self, u: u16, v: u16) -> bool
         requires order { u < v }
         requires vertex { v < self.now.n }
@@ -102,7 +102,7 @@ impl Graph {
         is_set(&self.body, pair_place(u, v))
     }
 
-    /// The bytes of its line behind the number of vertices: its bits, six a byte.
+    /// Returns the bytes of its line after the number of vertices: its bits, six a byte.
     pub fn body(&self) -> &[u8]
         ensures few { self.now.n ≤ 255 }
         ensures bits { IsBody self.now.n result.now }
@@ -112,7 +112,7 @@ impl Graph {
     }
 }
 
-// Sets the bits of edges.
+// Sets in `body` the bits of `edges`.
 fn set_all(body: &mut [u8], n: u16, edges: &[Ends])
     requires few { n ≤ 255 }
     requires edges { AreEdges n (map edge_of edges.now) }

@@ -1,4 +1,4 @@
-//! Lines.
+//! Reads and writes graph6 lines, with their faults as the type `G6Fault`.
 ghost use Rattle.std.specs.Prelude.{◌≡◌, ◌≤◌, ◌+◌, ◌-◌, ◌*◌, ◌++◌, ◌∷◌, List, ℕ, length, position, IfOk, IfErr, OnErr, IfSome, IfNone, All, None, Ok};
 ghost use Rattle.graph6_text.specs.Graphs.{EdgeGraph};
 ghost use Rattle.graph6_text.specs.Lines.{IsLine, IsLineByte, IsBody, count_form};
@@ -27,7 +27,7 @@ pub enum G6Fault {
     NoMemory,
 }
 
-/// The graph of a line, which is given without the byte 10 that closes it; or the first fault of the line.
+/// Returns the graph of `line`, which is given without the byte 10 that closes it; or the first fault of the line.
 pub fn read_line(alloc: Global, line: &[u8]) -> Result<Graph, G6Fault>
     ensures ok { IfOk result (IsLine line.now) }
     ensures fault { IfErr result (NamesFault line.now) }
@@ -35,7 +35,7 @@ pub fn read_line(alloc: Global, line: &[u8]) -> Result<Graph, G6Fault>
     read_line_into(Graph::new(alloc), line)
 }
 
-/// Reads a line as [`read_line`] does, in the memory of a graph that is done with.
+/// Reads `line` as [`read_line`] does, in the memory of the graph `spent`.
 pub fn read_line_into(spent: Graph, line: &[u8]) -> Result<Graph, G6Fault>
     ensures ok { IfOk result (IsLine line.now) }
     ensures fault { IfErr result (NamesFault line.now) }
@@ -49,7 +49,7 @@ pub fn read_line_into(spent: Graph, line: &[u8]) -> Result<Graph, G6Fault>
     }
 }
 
-/// Appends the line of a graph, without a byte 10. After an error nothing has changed.
+/// Appends the line of `graph` to `out`, without a byte 10. After an error nothing has changed.
 pub fn write_line(graph: &Graph, out: &mut Vec<u8>) -> Result<(), AllocError>
     ensures ok { IfOk result (λ _. (line : List ℕ) × (out.new.items ≡ out.old.items ++ line) × IsLine line graph.now) }
     ensures err { OnErr result (out.new.items ≡ out.old.items) }
@@ -64,14 +64,14 @@ pub fn write_line(graph: &Graph, out: &mut Vec<u8>) -> Result<(), AllocError>
     }
 }
 
-// The first byte that is not six bits plus 63.
+// Returns the index of the first byte that is not six bits plus 63.
 fn bad_place(line: &[u8]) -> Option<usize>
     ensures { result ≡ position is_bad_byte line.now }
 {
     line.iter().position(|byte| *byte < 63 || 126 < *byte)
 }
 
-// The number of vertices that a line begins with, and in how many bytes; or what is wrong with these.
+// Returns the number of vertices that `line` begins with, and in how many bytes; or what is wrong with these.
 fn line_start(line: &[u8]) -> Result<(u16, usize), G6Fault>
     ensures { result ≡ start_of line.now }
 {
@@ -85,7 +85,7 @@ fn line_start(line: &[u8]) -> Result<(u16, usize), G6Fault>
     }
 }
 
-// The count of three bytes.
+// Returns the number whose 18 bits the bytes `b`, `c` and `d` stand for.
 fn four_byte_count(b: u8, c: u8, d: u8) -> u32
     ensures { result ≡ (b - 63) * 4096 + (c - 63) * 64 + (d - 63) }
 {
@@ -99,7 +99,7 @@ fn six_bits(byte: u8) -> u32
     u32::from(byte.saturating_sub(63))
 }
 
-// A count of four bytes.
+// Returns `n`, a number of vertices in the form of four bytes, with that length; or what is wrong with it.
 fn four_byte_start(n: u32) -> Result<(u16, usize), G6Fault>
     ensures { result ≡ four_byte_of n }
 {
@@ -112,7 +112,7 @@ fn four_byte_start(n: u32) -> Result<(u16, usize), G6Fault>
     }
 }
 
-// Finds what is wrong with the bytes behind the first `start`, as the bits of `n` vertices.
+// Returns what is wrong with the bytes after the first `start`, as the bits of `n` vertices.
 fn body_fault(line: &[u8], n: u16, start: usize) -> Option<G6Fault>
     requires few { n ≤ 255 }
     requires start { start ≤ 4 }
@@ -130,7 +130,7 @@ fn body_fault(line: &[u8], n: u16, start: usize) -> Option<G6Fault>
     }
 }
 
-// Whether the last bits, which stand for no pair, are zeros.
+// Says whether the last bits, which stand for no pair of `n` vertices, are zeros.
 fn is_padded(line: &[u8], n: u16) -> bool
     requires { n ≤ 255 }
     ensures { result ≡ is_padded_for n line.now }
@@ -141,7 +141,7 @@ fn is_padded(line: &[u8], n: u16) -> bool
     }
 }
 
-// The graph of a line whose first bytes are its number of vertices, in the memory of `spent`.
+// Returns the graph of `line`, whose first `start` bytes give its number of vertices `n`, in the memory of `spent`.
 fn read_body(spent: Graph, line: &[u8], n: u16, start: usize) -> Result<Graph, G6Fault>
     requires bytes { position is_bad_byte line.now ≡ None }
     requires start { start_of line.now ≡ Ok (n, start) }
@@ -157,7 +157,7 @@ fn read_body(spent: Graph, line: &[u8], n: u16, start: usize) -> Result<Graph, G
     }
 }
 
-// Appends the line of a graph, or only some of it.
+// Appends the line of `graph` to `out`, or only some of it when out of memory.
 fn push_line(graph: &Graph, out: &mut Vec<u8>) -> Result<(), AllocError>
     ensures ok { IfOk result (λ _. (line : List ℕ) × (out.new.items ≡ out.old.items ++ line) × IsLine line graph.now) }
     ensures err { OnErr result ((some : List ℕ) × (out.new.items ≡ out.old.items ++ some)) }
@@ -167,7 +167,7 @@ fn push_line(graph: &Graph, out: &mut Vec<u8>) -> Result<(), AllocError>
     Ok(())
 }
 
-// Appends a number of vertices, or only some of its form.
+// Appends the number of vertices `n` to `out` in its graph6 form, or only some of it when out of memory.
 fn push_count(n: u16, out: &mut Vec<u8>) -> Result<(), AllocError>
     requires { n ≤ 255 }
     ensures ok { IfOk result (λ _. out.new.items ≡ out.old.items ++ count_form n) }

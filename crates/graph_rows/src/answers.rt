@@ -1,4 +1,4 @@
-//! Who answers a row.
+//! Chooses the module of this test program that answers a row, by the family of the row.
 use crate::{graphs, searches};
 use row_texts::reply::Reply;
 use row_texts::rows::{Answers, Row};

@@ -1,4 +1,4 @@
-//! Bare graphs: lines, edges, cuts and contracted edges.
+//! Answers test rows on bare graphs: graph6 lines, edges, cuts and contracted edges.
 ghost use Rattle.std.specs.Prelude.{◌≡◌, ◌<◌, IfSome, true};
 ghost use Rattle.graph6_text.specs.Graphs.{has_edge};
 
@@ -15,14 +15,14 @@ use row_texts::rows::Row;
 use row_texts::text::pair;
 use std::alloc::{AllocError, Global};
 
-// Writes the line of a graph.
+// Writes the graph6 line of `graph`.
 fn put_line(graph: &Graph, out: &mut Reply) {
     let mut bytes = Vec::new(out.alloc);
     let _ = write_line(graph, &mut bytes);
     put_bytes(&bytes, out);
 }
 
-// Writes the line of a graph that a call gives.
+// Writes the graph6 line of `graph`, or that memory ran out.
 fn put_graph(graph: Result<Graph, AllocError>, out: &mut Reply) {
     match graph {
         Ok(graph) => put_line(&graph, out),
@@ -68,15 +68,15 @@ fn cycle(alloc: Global) -> Result<Graph, AllocError> {
     Graph::of_edges(alloc, 4, &edges)
 }
 
-// Returns the graph of four vertices with two edges from vertex 3.
+// Returns the graph of four vertices with two edges at vertex 3.
 fn two_edges(alloc: Global) -> Result<Graph, AllocError> {
     let (zero, one, three) = (VertexId(0), VertexId(1), VertexId(3));
     let edges = [Ends { a: zero, b: three }, Ends { a: one, b: three }];
     Graph::of_edges(alloc, 4, &edges)
 }
 
-// Answers a row on a graph that has a vertex: by its components, the least cut vertex and the least separating pair
-// where nothing else is asked.
+// Answers a row on a graph that has a vertex. Where nothing else is asked, its components, the least cut vertex and the
+// least separating pair are written.
 fn of_some(call: &str, graph: &Graph, out: &mut Reply)
     requires { 0 < graph.now.n }
 {
@@ -101,7 +101,7 @@ fn of_some(call: &str, graph: &Graph, out: &mut Reply)
     }
 }
 
-// Answers a row on a graph.
+// Answers a row on `graph`.
 fn of_graph(row: &Row<'_>, graph: &Graph, out: &mut Reply) {
     match row.call {
         "line" => put_line(graph, out),

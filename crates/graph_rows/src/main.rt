@@ -11,6 +11,7 @@ use answers::Rows;
 use row_texts::rows::answer_rows;
 use std::io;
 
+// Answers the test rows that the runtime `rt` hands over.
 fn main(rt: HostRuntime) -> io::Result<()> {
     answer_rows::<Rows>(rt)
 }

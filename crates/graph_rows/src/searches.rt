@@ -1,4 +1,4 @@
-//! Graphs that are drawn or refuted, by the fast searches and by sides of edges: single ones, and all of a size.
+//! Answers test rows on planarity searches: single graphs, lists of graphs, and all graphs of a size, by two methods.
 ghost use Rattle.std.specs.Prelude.{◌<◌, ◌≤◌};
 
 use crate::graphs::over_line;
@@ -58,7 +58,7 @@ fn is_drawn(alloc: Global, graph: &Graph, lists: &Rotations) -> bool {
     }
 }
 
-// Names the find of the searches: a map, a subdivision of one kind or the other that the check takes, or something
+// Returns the name of what the fast searches find: a map, a kind of subdivision that the check accepts, or something
 // wrong.
 fn searched(alloc: Global, graph: &Graph) -> &'static str {
     match planar_lists(alloc, graph) {
@@ -74,7 +74,7 @@ fn searched(alloc: Global, graph: &Graph) -> &'static str {
     }
 }
 
-// Names the kind of an answer.
+// Returns the name of the kind of `answer`.
 fn word_of(answer: Result<Embedding, AllocError>) -> &'static str {
     match answer {
         Ok(Embedding::Map(_)) => "map",
@@ -83,7 +83,7 @@ fn word_of(answer: Result<Embedding, AllocError>) -> &'static str {
     }
 }
 
-// Names the kind of the answer by sides of edges, if the test by sides and the lists made by sides agree with it.
+// Returns the name of the answer by sides of edges, if the test by sides and the lists made by sides agree with it.
 fn slow_word(alloc: Global, graph: &Graph) -> &'static str
     requires { 0 < graph.now.n }
 {
@@ -101,14 +101,14 @@ fn slow_word(alloc: Global, graph: &Graph) -> &'static str
     if told && listed { word } else { WRONG }
 }
 
-// Names the answers by the searches and by sides of edges.
+// Returns the names of the answers by the fast searches and by sides of edges.
 fn both_ways(alloc: Global, graph: &Graph) -> (&'static str, &'static str)
     requires { 3 ≤ graph.now.n }
 {
     (word_of(embed(alloc, graph)), slow_word(alloc, graph))
 }
 
-/// Writes the find of the searches for `graph`, or the answers by both ways.
+/// Writes what the fast searches find for `graph`, or the answers by both methods.
 pub fn of_graph(call: &str, graph: &Graph, out: &mut Reply) {
     if call == "graph" {
         out.put(searched(out.alloc, graph));
@@ -132,7 +132,7 @@ struct Tally {
 }
 
 impl Tally {
-    // Counts a graph by what was found for it, twice.
+    // Counts a graph by the names of two answers for it.
     fn add(&mut self, (found, again): (&str, &str)) {
         if (found == "map") != (again == "map") || found == WRONG || again == WRONG {
             self.wrong = self.wrong.wrapping_add(1);
@@ -143,7 +143,7 @@ impl Tally {
         }
     }
 
-    // Counts the graph of a line.
+    // Counts the graph of a graph6 line.
     fn add_line(&mut self, line: &[u8]) {
         match read_line(self.alloc, line) {
             Ok(graph) if self.both && graph.n() >= 3 => self.add(both_ways(self.alloc, &graph)),
@@ -155,7 +155,8 @@ impl Tally {
         }
     }
 
-    // Counts the graphs whose lines begin with a byte and have so many bits behind it, and so many bytes in all.
+    // Counts the graphs whose lines begin with the byte `first` and have `bits` bits after it, and `length` bytes in
+    // all.
     fn add_lines(&mut self, first: u8, bits: u32, length: usize)
         requires bits { bits ≤ 15 }
         requires length { length ≤ 4 }
@@ -167,7 +168,7 @@ impl Tally {
         }
     }
 
-    // Counts all graphs of so many vertices, from three to six.
+    // Counts all graphs of `n` vertices, from three to six.
     fn add_all(&mut self, n: u16) {
         match n {
             3 => self.add_lines(b'B', 3, 2),
@@ -179,7 +180,7 @@ impl Tally {
     }
 }
 
-// Returns six bits of a number as a byte of a line.
+// Returns six bits of a number, from bit `shift` on, as a byte of a graph6 line.
 fn byte_of(bits: u32, shift: u32) -> u8 {
     ((bits >> (shift & 31)) & 63) as u8 + 63
 }

@@ -1,4 +1,4 @@
-//! Witnesses that a graph is not planar: checked, lifted and found.
+//! Answers test rows on Kuratowski witnesses: checked, and lifted from a contracted graph.
 ghost use Rattle.std.specs.Prelude.{◌≡◌, true};
 ghost use Rattle.graph6_text.specs.Graphs.{has_edge};
 
@@ -14,7 +14,7 @@ use row_texts::rows::Row;
 use row_texts::witnesses::witness_of;
 use std::alloc::{AllocError, Global};
 
-/// Returns the name of a kind.
+/// Returns the name of `kind`.
 pub fn name_of(kind: Kind) -> &'static str {
     match kind {
         Kind::K5 => "K5",
@@ -22,7 +22,7 @@ pub fn name_of(kind: Kind) -> &'static str {
     }
 }
 
-// Writes the verdict on a witness.
+// Writes the verdict on `witness` for `graph`.
 fn put_verdict(graph: &Graph, witness: &Witness, out: &mut Reply) {
     match check_witness(graph, witness) {
         WitnessVerdict::BadShape => out.put("BadShape"),
@@ -40,7 +40,7 @@ fn put_verdict(graph: &Graph, witness: &Witness, out: &mut Reply) {
     }
 }
 
-// Returns the witness for a graph that comes of one for the graph with an edge contracted, if it is one.
+// Returns the witness of `graph` that is lifted from `witness`, if that is one of the graph with edge `e` contracted.
 fn lifted(
     alloc: Global,
     graph: &Graph,
@@ -56,8 +56,8 @@ fn lifted(
     }
 }
 
-// Writes the kind, the number of paths and of their vertices, of the witness for a graph that comes of one for the
-// graph with an edge contracted, and what the check says of it.
+// Writes the kind, the numbers of paths and of their vertices, of the witness lifted from `witness` along edge `e`.
+// Then it writes the verdict on it.
 fn put_lifted(graph: &Graph, e: Ends, witness: &Witness, out: &mut Reply)
     requires { has_edge graph.now e.a.0 e.b.0 ≡ true }
 {

@@ -1,4 +1,5 @@
-//! Longest paths from one vertex of a directed graph in which every way ends, and its vertices in order.
+//! Longest paths from one vertex of a directed graph whose cycles all pass through it, and a topological order of its
+//! vertices.
 
 mod paths;
 

@@ -1,8 +1,8 @@
-//! Cut vertices and separating pairs.
+//! Cut vertices and separating pairs of maps and of rotation lists.
 //!
-//! A vertex is a cut vertex where it parts two other vertices: a path joins them, and none that avoids it.
-//! Two vertices are a separating pair where they do so together. The calls on lists serve maps and graphs
-//! alike: all that they ask is that adjacency goes both ways.
+//! A vertex is a cut vertex where it parts two other vertices: a path joins them, and none that avoids it. Two
+//! vertices are a separating pair where they do so together. The calls on lists serve maps and graphs alike: all that
+//! they require is that adjacency goes both ways.
 
 mod flags;
 mod least;

@@ -1,4 +1,5 @@
-//! Depth-first search over lists in which adjacency goes both ways, in time linear in their entries.
+//! Depth-first search of rotation lists in which adjacency goes both ways: its forest, numbers, parents and low
+//! points, in linear time.
 //!
 //! The search keeps no stack: the way back from a vertex is its parent.
 

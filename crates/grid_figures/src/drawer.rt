@@ -1,4 +1,4 @@
-//! Figures of records, one after another, by a drawer that keeps memory from one to the next.
+//! Shift and Schnyder figures of records, one after another, by `Drawer`, which keeps memory from one to the next.
 ghost use Rattle.std.specs.Prelude.{◌≡◌, ◌<◌, length, Some, None, IfOk, IfErr, OnOk};
 ghost use Rattle.refusals.specs.Conditions.{first_refusal, IfRefused};
 ghost use Rattle.grid_figures.specs.ShiftFiguresFigures.{IsShiftFigure};
@@ -24,7 +24,7 @@ pub struct Drawer {
 }
 
 impl Drawer {
-    /// A drawer that has drawn nothing yet. It takes no memory.
+    /// Returns a drawer that has drawn nothing yet. It takes no memory.
     pub fn new(alloc: Global) -> Drawer {
         Drawer {
             tools: Tools::new(alloc),
@@ -33,8 +33,8 @@ impl Drawer {
         }
     }
 
-    /// The figure of a record by the shift method, as `shift_figure` has it. After `NoMemory` the drawer serves as
-    /// before.
+    /// Returns the figure of a record with these `lists` by the shift method, as `shift_figure` has it. After
+    /// `NoMemory` the drawer serves as before.
     pub fn shift_figure(&mut self, lists: &Rotations) -> Result<GridFigure, Unserved>
         requires some_list { 0 < length lists.now }
         ensures figure { IfOk result (IsShiftFigure lists.now) }
@@ -45,13 +45,13 @@ impl Drawer {
         shift_figures::drawn_record(&mut self.tools, &mut self.shifter, &Record { lists })
     }
 
-    /// Keeps the memory of a figure by the shift method that is done with.
+    /// Keeps the memory of `figure`, by the shift method, which is done with.
     pub fn keep_shift(&mut self, figure: GridFigure) {
         self.shifter.keep(figure);
     }
 
-    /// The figure of a record by Schnyder's coordinates, as `schnyder_figure` has it. After `NoMemory` the drawer
-    /// serves as before.
+    /// Returns the figure of a record with these `lists` by Schnyder's coordinates, as `schnyder_figure` has it. After
+    /// `NoMemory` the drawer serves as before.
     pub fn schnyder_figure(&mut self, lists: &Rotations) -> Result<GridFigure, Unserved>
         requires some_list { 0 < length lists.now }
         ensures figure { IfOk result (IsSchnyderFigure lists.now) }
@@ -62,7 +62,7 @@ impl Drawer {
         schnyder_figures::drawn_record(&mut self.tools, &mut self.woods, &Record { lists })
     }
 
-    /// Keeps the memory of a figure by Schnyder's coordinates that is done with.
+    /// Keeps the memory of `figure`, by Schnyder's coordinates, which is done with.
     pub fn keep_schnyder(&mut self, figure: GridFigure) {
         self.woods.keep(figure);
     }

@@ -1,4 +1,5 @@
-//! The figures of the jobs shift and schnyder: the triangulation, its order, the drawing, and its place in the record.
+//! The figures of the jobs shift and schnyder: the completed triangulation, its canonical order, and the drawing of the
+//! record.
 #![tactic(auto)]
 
 mod drawer;

@@ -1,4 +1,4 @@
-//! The lists of a record, as methods of drawing take them.
+//! The lists of a record, as the type that methods of drawing take.
 ghost use Rattle.std.specs.Prelude.{◌<◌, length};
 
 use half_edges::Rotations;

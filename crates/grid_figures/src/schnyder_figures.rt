@@ -8,7 +8,8 @@ mod draw;
 pub(crate) use draw::drawn_record;
 pub use draw::schnyder_figure;
 
-/// Each simple map of genus zero with at least three vertices has a figure.
+/// States the law that each simple map of genus zero with at least three vertices has a figure by Schnyder's
+/// coordinates.
 pub fn some_schnyder_figure()
     ensures { SomeSchnyderFigure }
 {

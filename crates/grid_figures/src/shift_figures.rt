@@ -8,7 +8,7 @@ mod draw;
 pub(crate) use draw::drawn_record;
 pub use draw::shift_figure;
 
-/// Each simple map of genus zero with at least three vertices has a figure.
+/// States the law that each simple map of genus zero with at least three vertices has a figure by the shift method.
 pub fn some_shift_figure()
     ensures { SomeShiftFigure }
 {

@@ -1,4 +1,4 @@
-//! The records of the arena, and walks along them.
+//! Records of darts and vertices in the arena of a half-edge map, and how they are linked round a vertex.
 ghost use Rattle.std.specs.Prelude.{vec_len, vec_capacity, ◌≡◌, ◌+◌, ◌-◌, ◌<◌, ◌≤◌, ◌==◌, nat_lt, if◌then◌else◌, ◌∷◌, ◌++◌, ◌⊎◌, ℕ, length, map, slice_index, slice_index_or, OnOk, IfOk, MatchOption};
 ghost use Rattle.map_lists.specs.Cuts.{AreCuts};
 ghost use Rattle.half_edges.specs.Arena.{IsWalkable, record_at, steps, head_of, walk, next_of, prev_of};
@@ -12,9 +12,9 @@ use map_lists::Rotations;
 use simple_maps::DartSlot;
 use std::alloc::AllocError;
 
-// The record of a dart: its twin, the next and the previous dart round its tail, and its tail. A record
-// that is free is not live: its twin is free too, its `next` is a dart of the free edge behind it, and
-// `prev` says how many free edges are behind it.
+// The record of a dart: its twin, the next and the previous dart round its tail, and its tail. In a free record,
+// which is not live, the twin is free too. There `next` is a dart of the next free edge, and `prev` the number of
+// free edges after this one.
 #[derive(Clone, Copy)]
 pub(crate) struct DartRecord {
     pub(crate) twin: u32,
@@ -31,6 +31,8 @@ impl DartSlot for DartRecord {
 
     ghost IsInLine = { IsInLine };
 
+    // Returns the record of the live dart at index `place`, linked in line: after the dart before it and before the
+    // dart after it.
     fn new(tail: u16, twin: u32, place: u32) -> DartRecord {
         DartRecord {
             twin,
@@ -42,14 +44,14 @@ impl DartSlot for DartRecord {
     }
 }
 
-// The first dart of a vertex, which says nothing where there is none, and how many it has.
+// The first dart of a vertex, which means nothing where there is none, and the vertex's degree.
 #[derive(Clone, Copy)]
 pub(crate) struct VertexRecord {
     pub(crate) first: u32,
     pub(crate) degree: u16,
 }
 
-// Appends the heads of the darts that are met in `degree` steps from `first`, for which there is room.
+// Appends to `entries`, which has room, the heads of the `degree` darts round a vertex from `first` on.
 pub(crate) fn push_heads(entries: &mut Vec<u16>, darts: &[DartRecord], first: u32, degree: u16)
     requires walkable { IsWalkable darts.now first degree }
     requires room { vec_len entries.old + degree ≤ vec_capacity entries.old }
@@ -64,7 +66,7 @@ pub(crate) fn push_heads(entries: &mut Vec<u16>, darts: &[DartRecord], first: u3
     }
 }
 
-// The first dart with this head that is met in `degree` steps from `first`.
+// Returns the first dart to `head` among the `degree` darts round a vertex from `first` on.
 pub(crate) fn dart_to(darts: &[DartRecord], first: u32, degree: u16, head: u16) -> Option<u32>
     requires { IsWalkable darts.now first degree }
     ensures { MatchOption result ((k : ℕ) → k < degree → ¬ (head_of darts.now (steps darts.now first k) ≡ head))
@@ -81,7 +83,8 @@ pub(crate) fn dart_to(darts: &[DartRecord], first: u32, degree: u16, head: u16) 
     None
 }
 
-// Closes the round of the darts from `start` on and before `end`, which stand in line.
+// Links the first and the last of the darts `start..end`, which stand in line, so that they form a cycle round their
+// vertex.
 fn close_round(darts: &mut [DartRecord], start: u32, end: u32)
     requires order { start ≤ end }
     requires within { end ≤ length darts.old }
@@ -95,8 +98,8 @@ fn close_round(darts: &mut [DartRecord], start: u32, end: u32)
     }
 }
 
-// Closes the rounds of all vertices, where the darts of each vertex end at the place that `ends` says,
-// and makes `vertices` the records of the vertices.
+// Links the darts of each vertex to a cycle, and makes `vertices` their records. `ends[v]` is the index after the
+// last dart of vertex `v`. It fails only when out of memory.
 fn close_rounds(
     ends: &[usize],
     darts: &mut [DartRecord],
@@ -125,8 +128,8 @@ fn close_rounds(
     Ok(())
 }
 
-// Links the darts of lists, whose tails and twins are known and which stand in line, and makes `vertices` the
-// records of the vertices.
+// Links the darts of `lists`, in line and with known tails and twins, to cycles round their vertices, and makes
+// `vertices` the vertex records. It fails only when out of memory.
 pub(crate) fn link_darts(
     lists: &Rotations,
     darts: &mut Vec<DartRecord>,
@@ -141,7 +144,8 @@ pub(crate) fn link_darts(
     Ok(())
 }
 
-// Puts a dart from `tail` between two, which are itself where it is the only one.
+// Links the dart `d`, now live and with this `tail`, between the darts `before` and `after`. Both are `d` itself
+// where it is the only one.
 pub(crate) fn splice(darts: &mut [DartRecord], d: u32, before: u32, after: u32, tail: u16)
     requires d_in { d < length darts.old }
     requires before_in { before < length darts.old }
@@ -162,7 +166,7 @@ pub(crate) fn splice(darts: &mut [DartRecord], d: u32, before: u32, after: u32, 
     darts[after as usize].prev = d;
 }
 
-// Takes a dart out from between the previous and the next one.
+// Unlinks the dart `d` from between the previous and the next dart round its tail. It is no longer live.
 pub(crate) fn unsplice(darts: &mut [DartRecord], d: u32)
     requires d_in { d < length darts.old }
     requires prev_in { prev_of darts.old d < length darts.old }
@@ -175,7 +179,8 @@ pub(crate) fn unsplice(darts: &mut [DartRecord], d: u32)
     darts[d as usize].live = false;
 }
 
-// Puts the edge of two darts before the free ones, of which there are `spare`.
+// Puts the edge of `d` and `twin` at the front of the list of free edges, which begins at `free` and has `spare`
+// edges.
 pub(crate) fn thread(darts: &mut [DartRecord], d: u32, twin: u32, free: u32, spare: u32)
     requires d_in { d < length darts.old }
     requires twin_in { twin < length darts.old }

@@ -1,4 +1,5 @@
-//! Edges that come and go, in constant time and with no memory taken.
+//! Edges added to a half-edge map and removed from it, in constant time and without taking memory, and room made for
+//! more.
 ghost use Rattle.std.specs.Prelude.{◌*◌, vec_len, vec_capacity, ◌≡◌, ◌≢◌, ◌+◌, ◌-◌, ◌<◌, ◌≤◌, ℕ, true, min, max, length, Option, Some, OnOk, OnErr};
 ghost use Rattle.map_theory.specs.Maps.{HasDart};
 ghost use Rattle.map_theory.specs.Edges.{without_edge};
@@ -11,7 +12,7 @@ use crate::arena::{DartRecord, VertexRecord, splice, thread, unsplice};
 use crate::{DartId, Ends, HalfMap, VertexId};
 use std::alloc::AllocError;
 
-/// A place round a vertex, for a new dart.
+/// A position in the rotation of a vertex at which a new dart is linked in.
 #[derive(Clone, Copy, PartialEq, Eq)]
 pub enum Corner {
     /// Directly after this dart, clockwise.
@@ -43,9 +44,9 @@ impl HalfMap {
         }
     }
 
-    /// Puts an edge between two corners at vertices that are distinct and not adjacent, and answers the dart
-    /// from the first to the second. Each new entry stands directly after the named one; `spare`, which is
-    /// at least 1, falls by one; all other darts keep their ids.
+    /// Adds an edge between two corners at vertices that are distinct and not adjacent, and returns the dart from the
+    /// first to the second. Each new entry stands directly after the named one. `spare`, which is at least 1, falls
+    /// by one. All other darts keep their ids.
     #[inline(always)]
     pub fn add_edge(&mut self, at_u: Corner, at_v: Corner) -> DartId
         requires spare { 1 ≤ self.old.spare }
@@ -80,8 +81,8 @@ impl HalfMap {
         DartId(d)
     }
 
-    /// Takes away the edge of a dart, and answers its ends. Its two entries leave their lists, and `spare`
-    /// rises by one; all other darts keep their ids.
+    /// Removes the edge of `d`, and returns its ends. Its two entries leave their lists, and `spare` rises by one.
+    /// All other darts keep their ids.
     pub fn remove_edge(&mut self, d: DartId) -> Ends
         requires { IsLive self.old d.0 }
         ensures lists { (u v : ℕ) → dart_at self.old d.0 ≡ Some (u, v) → self.new.lists ≡ without_edge self.old.lists u v }
@@ -105,7 +106,7 @@ impl HalfMap {
     }
 }
 
-// The edge between two vertices.
+// Returns the ends `u` and `v` of an edge, the lesser first.
 fn ends_of(u: u16, v: u16) -> Ends
     requires { u ≢ v }
     ensures lesser { result.a.0 ≡ min u v }
@@ -117,14 +118,14 @@ fn ends_of(u: u16, v: u16) -> Ends
     }
 }
 
-// The first dart of a vertex, where `d` leaves and `next` comes after it.
+// Returns the first dart of a vertex once `d` is removed: `next` where `d` was the first, and else `first`.
 fn first_without(first: u32, d: u32, next: u32) -> u32
     ensures { result ≡ moved_first first d next }
 {
     if first == d { next } else { first }
 }
 
-// Takes a dart out from round its vertex.
+// Unlinks the dart `d` from its tail, and lowers that vertex's degree.
 fn take_out(darts: &mut [DartRecord], vertices: &mut [VertexRecord], d: u32)
     requires d_in { d < length darts.old }
     requires prev_in { prev_of darts.old d < length darts.old }
@@ -142,7 +143,7 @@ fn take_out(darts: &mut [DartRecord], vertices: &mut [VertexRecord], d: u32)
     };
 }
 
-// Takes the edge of a dart away, and puts it before the free ones.
+// Removes the edge of the dart `d`, puts it at the front of the free edges, and returns its ends.
 fn take_edge(
     darts: &mut [DartRecord],
     vertices: &mut [VertexRecord],
@@ -165,7 +166,7 @@ fn take_edge(
     ends
 }
 
-// Puts a dart into a corner.
+// Links the dart `d` in at `corner`, and raises that vertex's degree.
 #[inline(always)]
 fn put(darts: &mut [DartRecord], vertices: &mut [VertexRecord], d: u32, corner: Corner)
     requires d_in { d < length darts.old }
@@ -188,7 +189,8 @@ fn put(darts: &mut [DartRecord], vertices: &mut [VertexRecord], d: u32, corner: 
     }
 }
 
-// Puts the two darts of the first free edge into corners. Only the clauses name `spare`.
+// Links the two darts of the first free edge, `d` and its twin, in at the corners `at_u` and `at_v`. Only the
+// contract needs `spare`.
 #[inline(always)]
 fn put_edge(
     darts: &mut [DartRecord],
@@ -211,7 +213,7 @@ fn put_edge(
     put(darts, vertices, twin, at_v);
 }
 
-// The first free edge behind the first one.
+// Returns a dart of the second free edge, where `free` is a dart of the first. Only the contract needs `spare`.
 fn first_free_behind(darts: &[DartRecord], free: u32, spare: u32) -> u32
     requires threaded { AreFree darts.now free spare }
     requires some { 0 < spare }
@@ -220,7 +222,7 @@ fn first_free_behind(darts: &[DartRecord], free: u32, spare: u32) -> u32
     darts[free as usize].next
 }
 
-// Puts `more` edges before the free ones, of which there are `spare`, and answers a dart of the first.
+// Appends the records of `more` free edges, puts these before the `spare` free ones, and returns a dart of the first.
 fn push_free(darts: &mut Vec<DartRecord>, free: u32, spare: u32, more: u32) -> u32
     requires room { vec_len darts.old + 2 * more ≤ vec_capacity darts.old }
     requires few { vec_len darts.old + 2 * more ≤ 67108864 }

@@ -1,4 +1,5 @@
-//! Half-edge maps.
+//! The half-edge map `HalfMap`: how it is made of rotation lists, what it answers of its darts, and memory kept from
+//! map to map.
 ghost use Rattle.std.specs.Prelude.{◌≡◌, ◌+◌, ◌-◌, ◌<◌, ◌≤◌, ◌==◌, nat_lt, if◌then◌else◌, ◌↔◌, ℕ, List, [], length, slice_index, Some, None, IsTrue, IfOk, IfErr, IfSome, MatchOption, option_map};
 ghost use Rattle.map_theory.specs.Maps.{HasDart, list_of, vertex_count, edge_count, face_step, twin_dart};
 ghost use Rattle.simple_maps.specs.Faults.{first_fault};
@@ -41,7 +42,7 @@ impl Model for HalfMap {
     ghost invariant = { λ m. IsArena (arena_lists m.darts.items m.vertices.items) m.darts.items m.vertices.items m.edges m.free m.spare };
 }
 
-/// The memory of maps that are done with, in which others are made.
+/// The memory of maps that are no longer needed, in which others are made.
 #[derive(Drop)]
 pub struct MapMemory {
     alloc: Global,
@@ -50,7 +51,7 @@ pub struct MapMemory {
 }
 
 impl MapMemory {
-    /// No memory yet.
+    /// Returns memory that holds nothing yet.
     pub fn new(alloc: Global) -> MapMemory {
         MapMemory {
             alloc,
@@ -59,8 +60,8 @@ impl MapMemory {
         }
     }
 
-    /// The map with these lists, which are a simple map, by the tails and the twins of their darts. It fails only when
-    /// out of memory.
+    /// Makes the map with these `lists`, which are a simple map, from the tails and twins of their darts. It fails
+    /// only when out of memory.
     #[inline(always)]
     pub fn from_twins(
         &mut self,
@@ -88,14 +89,14 @@ impl MapMemory {
         })
     }
 
-    /// Keeps the memory of a map that is done with.
+    /// Takes over the memory of `map`, which is no longer needed.
     pub fn keep(&mut self, map: HalfMap) {
         self.darts = map.darts;
         self.vertices = map.vertices;
     }
 }
 
-/// Makes maps, one after another, in the memory of maps that are done with.
+/// Makes maps, one after another, in the memory of maps that are no longer needed.
 #[derive(Drop)]
 pub struct MapMaker {
     alloc: Global,
@@ -106,7 +107,7 @@ pub struct MapMaker {
 }
 
 impl MapMaker {
-    /// A maker that has made nothing yet. It takes no memory.
+    /// Returns a maker that has made nothing yet. It takes no memory.
     pub fn new(alloc: Global) -> MapMaker {
         MapMaker {
             alloc,
@@ -117,8 +118,8 @@ impl MapMaker {
         }
     }
 
-    /// The map with these lists, or their first fault, as `HalfMap::from_rotations` has it. After `NoMemory` the maker
-    /// serves as before.
+    /// Returns the map with these lists, or their first fault, as `HalfMap::from_rotations` has it. After `NoMemory`
+    /// the maker serves as before.
     pub fn from_rotations(&mut self, lists: &Rotations) -> Result<HalfMap, MapFault>
         requires some_list { 0 < length lists.now }
         ensures lists { IfOk result (λ map. map.lists ≡ lists.now) }
@@ -138,14 +139,14 @@ impl MapMaker {
         Ok(map)
     }
 
-    /// Keeps the memory of a map that is done with.
+    /// Takes over the memory of `map`, which is no longer needed.
     pub fn keep(&mut self, map: HalfMap) {
         self.memory.keep(map);
     }
 }
 
 impl HalfMap {
-    /// The map with these lists, which are from 1 to 4095, or the first fault of the lists.
+    /// Returns the map with these lists, which are from 1 to 4095, or the first fault of the lists.
     ///
     /// Its `spare` is 0. The time is linear in the entries, and so is the memory: 16 bytes for a dart, and six
     /// more while it is made.
@@ -168,7 +169,7 @@ impl HalfMap {
         let _darts = &self.darts;
     }
 
-    /// The number of vertices.
+    /// Returns the number of vertices.
     pub fn n(&self) -> u16
         ensures count { result ≡ vertex_count self.now.lists }
         ensures known { IsHalfMap self.now }
@@ -176,7 +177,7 @@ impl HalfMap {
         self.vertices.len() as u16
     }
 
-    /// The number of edges.
+    /// Returns the number of edges.
     pub fn m(&self) -> u32
         ensures count { result ≡ edge_count self.now.lists }
         ensures known { IsHalfMap self.now }
@@ -184,21 +185,21 @@ impl HalfMap {
         self.edges
     }
 
-    /// How many edges can be added without more memory.
+    /// Returns how many edges can be added without taking memory.
     pub fn spare(&self) -> u32
         ensures { result ≡ self.now.spare }
     {
         self.spare
     }
 
-    /// Whether a dart has this id.
+    /// Says whether a dart of the map has the id `d`.
     pub fn is_live(&self, d: DartId) -> bool
         ensures { IsTrue result ↔ IsLive self.now d.0 }
     {
         (d.0 as usize) < self.darts.len() && self.darts[d.0 as usize].live
     }
 
-    /// The other dart of the same edge.
+    /// Returns the other dart of the edge of `d`.
     pub fn twin(&self, d: DartId) -> DartId
         requires { IsLive self.now d.0 }
         ensures { dart_at self.now result.0 ≡ option_map twin_dart (dart_at self.now d.0) }
@@ -206,7 +207,7 @@ impl HalfMap {
         DartId(self.darts[d.0 as usize].twin)
     }
 
-    /// The clockwise next dart from the same vertex.
+    /// Returns the dart after `d` clockwise round its tail.
     pub fn next(&self, d: DartId) -> DartId
         requires { IsLive self.now d.0 }
         ensures { dart_at self.now result.0 ≡ option_map (next_dart self.now.lists) (dart_at self.now d.0) }
@@ -214,7 +215,7 @@ impl HalfMap {
         DartId(self.darts[d.0 as usize].next)
     }
 
-    /// The dart of which `d` is the clockwise next.
+    /// Returns the dart before `d` clockwise round its tail.
     pub fn prev(&self, d: DartId) -> DartId
         requires { IsLive self.now d.0 }
         ensures live { IsLive self.now result.0 }
@@ -223,7 +224,7 @@ impl HalfMap {
         DartId(self.darts[d.0 as usize].prev)
     }
 
-    /// The next dart along the face on the left of `d`: the clockwise next of its twin.
+    /// Returns the next dart along the face on the left of `d`: the clockwise next of its twin.
     pub fn face_step(&self, d: DartId) -> DartId
         requires { IsLive self.now d.0 }
         ensures { dart_at self.now result.0 ≡ option_map (face_step self.now.lists) (dart_at self.now d.0) }
@@ -232,7 +233,7 @@ impl HalfMap {
         self.next(twin)
     }
 
-    /// The vertex that a dart leaves.
+    /// Returns the vertex that `d` leaves.
     pub fn tail(&self, d: DartId) -> VertexId
         requires { IsLive self.now d.0 }
         ensures { option_map (λ dart. dart.0) (dart_at self.now d.0) ≡ Some result.0 }
@@ -240,7 +241,7 @@ impl HalfMap {
         VertexId(self.darts[d.0 as usize].tail)
     }
 
-    /// The vertex to which a dart leads.
+    /// Returns the vertex to which `d` leads.
     pub fn head(&self, d: DartId) -> VertexId
         requires { IsLive self.now d.0 }
         ensures { option_map (λ dart. dart.1) (dart_at self.now d.0) ≡ Some result.0 }
@@ -249,7 +250,7 @@ impl HalfMap {
         VertexId(self.darts[twin as usize].tail)
     }
 
-    /// The dart to the first entry of a vertex's list, or None exactly where the list is empty.
+    /// Returns the dart to the first entry of the list of `v`, or None exactly where the list is empty.
     pub fn first_dart(&self, v: VertexId) -> Option<DartId>
         requires { v.0 < vertex_count self.now.lists }
         ensures dart { MatchOption result (list_of self.now.lists v.0 ≡ [])
@@ -264,7 +265,7 @@ impl HalfMap {
         }
     }
 
-    /// How many neighbours a vertex has.
+    /// Returns the number of neighbours of `v`.
     pub fn degree(&self, v: VertexId) -> u16
         requires { v.0 < vertex_count self.now.lists }
         ensures { result ≡ length (list_of self.now.lists v.0) }
@@ -272,7 +273,7 @@ impl HalfMap {
         self.vertices[v.0 as usize].degree
     }
 
-    /// The dart from `u` to `v`, or None exactly where they are not adjacent. It goes over the list of `u`.
+    /// Returns the dart from `u` to `v`, or None exactly where they are not adjacent. It goes over the list of `u`.
     pub fn dart_of(&self, u: VertexId, v: VertexId) -> Option<DartId>
         requires u_in { u.0 < vertex_count self.now.lists }
         requires v_in { v.0 < vertex_count self.now.lists }
@@ -286,7 +287,7 @@ impl HalfMap {
         }
     }
 
-    /// The lists, each from the vertex's first dart. It fails only when out of memory.
+    /// Returns the rotation lists, each from the vertex's first dart. It fails only when out of memory.
     pub fn rotations(&self, alloc: Global) -> Result<Rotations, AllocError>
         ensures { IfOk result (λ lists. lists ≡ self.now.lists) }
     {
@@ -294,7 +295,7 @@ impl HalfMap {
         Ok(lists)
     }
 
-    /// The lists, as `rotations` has them, in the memory of others that are done with.
+    /// Returns the lists, as `rotations` has them, in the memory of `spent`, lists that are no longer needed.
     #[inline(always)]
     pub fn read_into(&self, spent: Rotations) -> Result<Rotations, AllocError>
         ensures { IfOk result (λ lists. lists ≡ self.now.lists) }

@@ -1,4 +1,4 @@
-//! Half-edge maps: rotation lists, and the darts of a simple map under ids.
+//! Half-edge maps: simple maps as darts with ids, made from rotation lists, with edges added and removed.
 //!
 //! `Rotations` holds the neighbour lists of a record as they were read. `HalfMap::from_rotations` takes
 //! them exactly where they are a simple map, and names the first fault otherwise. Contracts see a

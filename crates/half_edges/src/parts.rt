@@ -1,4 +1,4 @@
-//! Maps made of a map: its copy, and the part of it between some of its vertices.
+//! New half-edge maps made of a map: its copy, and the submap induced by some of its vertices.
 ghost use Rattle.std.specs.Prelude.{◌≡◌, ◌+◌, ◌<◌, ◌≤◌, ◌++◌, ◌∷◌, [], ℕ, true, length, slice_index, IfOk, OnOk, All, Contains};
 ghost use Rattle.map_theory.specs.Maps.{IsSimpleMap, vertex_count};
 ghost use Rattle.half_edges.specs.Map.{IsHalfMap};
@@ -9,8 +9,8 @@ use map_lists::ItemLists;
 use std::alloc::{AllocError, Global};
 
 impl HalfMap {
-    /// The map with these lists, which are at most 4095 and a simple map. Its `spare` is 0. It fails only when
-    /// out of memory.
+    /// Returns the map with these lists, which are at most 4095 and a simple map. Its `spare` is 0. It fails only
+    /// when out of memory.
     pub fn from_simple(alloc: Global, lists: &Rotations) -> Result<HalfMap, AllocError>
         requires simple { IsSimpleMap lists.now }
         ensures lists { IfOk result (λ map. map.lists ≡ lists.now) }
@@ -26,7 +26,7 @@ impl HalfMap {
         }
     }
 
-    /// A map with the same lists. Its `spare` is 0, and its ids may be others. It fails only when out of
+    /// Returns a map with the same lists. Its `spare` is 0, and its ids may be others. It fails only when out of
     /// memory.
     pub fn copy(&self, alloc: Global) -> Result<HalfMap, AllocError>
         ensures lists { IfOk result (λ map. map.lists ≡ self.now.lists) }
@@ -38,8 +38,8 @@ impl HalfMap {
         HalfMap::from_simple(alloc, &lists)
     }
 
-    /// The part of the map between the vertices whose flag in `keep` is set: they are numbered anew in
-    /// rising order, and each list is restricted to them. `keep` has `n` flags, at least one of them set.
+    /// Returns the part of the map between the vertices whose flag in `keep` is set: they are numbered anew in rising
+    /// order, and each list is restricted to them. `keep` has `n` flags, at least one of them set.
     ///
     /// Its `spare` is 0, and its ids may be others. It fails only when out of memory.
     pub fn induced(&self, alloc: Global, keep: &[bool]) -> Result<HalfMap, AllocError>
@@ -56,7 +56,7 @@ impl HalfMap {
     }
 }
 
-// For each vertex how many kept ones stand before it.
+// Returns for each vertex how many vertices before it are kept: its new number. It fails only when out of memory.
 fn numbers_of(alloc: Global, keep: &[bool]) -> Result<Vec<u16>, AllocError>
     requires { length keep.now < 4096 }
     ensures count { IfOk result (λ numbers. length numbers.items ≡ length keep.now) }
@@ -72,7 +72,7 @@ fn numbers_of(alloc: Global, keep: &[bool]) -> Result<Vec<u16>, AllocError>
     Ok(numbers)
 }
 
-// The kept entries of a list, renumbered.
+// Returns the entries of `list` that are kept, by their new numbers. It fails only when out of memory.
 fn kept_entries(
     alloc: Global,
     numbers: &[u16],
@@ -93,7 +93,7 @@ fn kept_entries(
     Ok(kept)
 }
 
-// The lists of the kept vertices, restricted to them and renumbered.
+// Returns the lists of the kept vertices, restricted to these and renumbered. It fails only when out of memory.
 fn induced_rotations(
     alloc: Global,
     lists: &Rotations,

@@ -1,4 +1,4 @@
-//! Whether branches are distinct vertices.
+//! Whether the branch vertices of a Kuratowski witness are distinct vertices of the graph.
 ghost use Rattle.std.specs.Prelude.{◌≡◌, ◌<◌, ◌≤◌, ◌↔◌, ◌⊎◌, ℕ, length, IsTrue, MatchOption};
 ghost use Rattle.kuratowski.specs.Witnesses.{vertex_at as vertex_of};
 ghost use Rattle.kuratowski.specs.Faults.{StandsBefore, IsBadBranch, Stands};
@@ -7,7 +7,7 @@ ghost use Rattle.kuratowski.specs.Verdicts.{NoBadBranch, IsLeast};
 use crate::shape::vertex_at;
 use map_lists::VertexList;
 
-/// Finds the first branch that is no vertex below `n`, or an earlier branch.
+/// Finds the index of the first branch that is no vertex below `n`, or is equal to an earlier branch.
 pub fn bad_branch(n: u16, branch: &VertexList) -> Option<usize>
     ensures { MatchOption result (NoBadBranch n branch.now) (IsLeast (IsBadBranch n branch.now)) }
 {
@@ -19,7 +19,7 @@ pub fn bad_branch(n: u16, branch: &VertexList) -> Option<usize>
     None
 }
 
-// Says whether branch `i` stands at an earlier place too.
+// Says whether branch `i` is equal to an earlier one.
 fn stands_before(branch: &VertexList, i: usize) -> bool
     requires { i < length branch.now }
     ensures { IsTrue result ↔ StandsBefore branch.now i }
@@ -33,7 +33,7 @@ fn stands_before(branch: &VertexList, i: usize) -> bool
     false
 }
 
-/// Says whether a vertex stands in a list.
+/// Says whether `vertex` is in `list`.
 pub fn stands(list: &VertexList, vertex: u16) -> bool
     ensures { IsTrue result ↔ Stands list.now vertex }
 {

@@ -1,4 +1,4 @@
-//! The check of a witness.
+//! The check of a Kuratowski witness against a graph, and its verdict.
 ghost use Rattle.std.specs.Prelude.{◌≡◌, ◌↔◌, IsTrue};
 ghost use Rattle.kuratowski.specs.Witnesses.{IsShape, IsWitness};
 ghost use Rattle.kuratowski.specs.Verdicts.{IsVerdict, NoBadBranch};
@@ -11,7 +11,8 @@ use crate::steps::missing_edge;
 use graph6_text::Graph;
 use map_lists::VertexId;
 
-/// Tells whether a witness is one, or what is wrong. Places and paths are counted from 1; what is named is the first of its kind.
+/// The verdict on a witness: yes, or the first fault of the first kind that it has. Positions and paths are counted
+/// from 1.
 #[derive(Clone, Copy, PartialEq, Eq)]
 pub enum WitnessVerdict {
     /// There are not as many branches and paths as the kind has, or a path does not join its pair.
@@ -53,7 +54,7 @@ pub fn check_witness(graph: &Graph, witness: &Witness) -> WitnessVerdict
     }
 }
 
-// Returns the verdict where shape and branches are right.
+// Returns the verdict on a witness whose shape and branches are right: only its paths are looked at.
 fn path_verdict(graph: &Graph, witness: &Witness) -> WitnessVerdict
     requires shape { IsShape witness.now.kind witness.now.branch witness.now.paths }
     requires branches { NoBadBranch graph.now.n witness.now.branch }

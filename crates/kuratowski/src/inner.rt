@@ -1,4 +1,4 @@
-//! Whether inner vertices stand at one place of one path, and are no branches.
+//! Whether each inner vertex of a witness's paths stands in one path only, once, and is no branch.
 ghost use Rattle.std.specs.Prelude.{◌≡◌, ◌≢◌, ◌+◌, ◌-◌, ◌<◌, ◌≤◌, ◌↔◌, ◌⊎◌, ℕ, suc, length, Option, IsTrue, MatchOption};
 ghost use Rattle.kuratowski.specs.Witnesses.{vertex_at as vertex_of, path_at, IsInnerPlace};
 ghost use Rattle.kuratowski.specs.Faults.{Stands, StandsTwice, IsInner, IsShared};
@@ -8,7 +8,7 @@ ghost use Rattle.kuratowski.specs.Inner.{IsLeastInner, IsBelow};
 use crate::branches::stands;
 use map_lists::{PathList, VertexId, VertexList};
 
-/// A vertex that two paths share, or that is wrong in one.
+/// An inner vertex that two paths share, or that is a branch or stands twice in one path.
 #[derive(Clone, Copy, PartialEq, Eq)]
 pub struct SharedVertex {
     /// The path in which it is inner.
@@ -19,7 +19,8 @@ pub struct SharedVertex {
     pub vertex: u16,
 }
 
-/// Finds the first path, then the first other one or itself, and then the least vertex, that is wrong.
+/// Finds the first path with a wrong inner vertex: the first path that shares it, or the path itself where it is
+/// wrong there, and the least such vertex.
 pub fn shared(branch: &VertexList, paths: &PathList) -> Option<SharedVertex>
     requires { (p : ℕ) → p < length paths.now → 2 ≤ length (path_at paths.now p) }
     ensures { MatchOption result ((p q v : ℕ) → ¬ IsShared branch.now paths.now p q v) (λ s. IsLeastTriple (IsShared branch.now paths.now) s.first s.second s.vertex) }
@@ -39,8 +40,8 @@ pub fn shared(branch: &VertexList, paths: &PathList) -> Option<SharedVertex>
     None
 }
 
-// Returns the first other path or itself, and the least vertex, that is wrong for path number `p`. A path of one edge has
-// no inner vertex to share.
+// Returns the first fault of path number `p`: the number of the other path, and the least vertex. That path is `p`
+// itself where an inner vertex is a branch or stands twice, else the first later one that shares a vertex.
 fn shared_by(branch: &VertexList, paths: &PathList, p: usize) -> Option<(usize, u16)>
     requires path { p < length paths.now }
     requires long { (p : ℕ) → p < length paths.now → 2 ≤ length (path_at paths.now p) }
@@ -62,7 +63,7 @@ fn shared_by(branch: &VertexList, paths: &PathList, p: usize) -> Option<(usize, 
     None
 }
 
-// Finds the least inner vertex that is a branch or stands twice.
+// Finds the least inner vertex of `path` that is a branch or stands twice in the path.
 fn wrong_inner(branch: &VertexList, path: &[VertexId]) -> Option<u16>
     requires { 2 ≤ length path.now }
     ensures { IsLeastInner path.now (λ v. Stands branch.now v ⊎ StandsTwice path.now v) (length path.now - 1) result }
@@ -76,7 +77,7 @@ fn wrong_inner(branch: &VertexList, path: &[VertexId]) -> Option<u16>
     least
 }
 
-// Finds the least vertex that is inner in two paths.
+// Finds the least vertex that is inner in both paths.
 fn common_inner(path: &[VertexId], other: &[VertexId]) -> Option<u16>
     requires path { 2 ≤ length path.now }
     requires other { 2 ≤ length other.now }
@@ -91,7 +92,7 @@ fn common_inner(path: &[VertexId], other: &[VertexId]) -> Option<u16>
     least
 }
 
-// Says whether the vertex at place `i` is a branch or stands at another place too.
+// Says whether the vertex at index `i` of `path` is a branch or stands at another index too.
 fn is_wrong(branch: &VertexList, path: &[VertexId], i: usize) -> bool
     requires { i < length path.now }
     ensures { IsTrue result ↔ (Stands branch.now (vertex_of path.now i) ⊎ StandsTwice path.now (vertex_of path.now i)) }
@@ -107,8 +108,8 @@ fn is_wrong(branch: &VertexList, path: &[VertexId], i: usize) -> bool
     false
 }
 
-// Tells whether `vertex` is below the least so far, or there is none yet: no other one can become the least, and
-// so a path is gone through at most once for each number that a vertex can have.
+// Says whether `vertex` is less than the least one so far, or there is none yet. So a path is gone through at most
+// once for each number that a vertex can have.
 fn is_below(vertex: u16, least: Option<u16>) -> bool
     ensures { IsTrue result ↔ IsBelow vertex least }
 {

@@ -1,11 +1,12 @@
-//! Whether a witness has the branches and paths of its kind.
+//! Whether a witness has as many branches and paths as its kind, K5 or K3,3, and each path joins its two branches.
 ghost use Rattle.std.specs.Prelude.{◌≡◌, ◌<◌, ◌≤◌, ◌-◌, ◌↔◌, ℕ, length, IsTrue, slice_index_or};
 ghost use Rattle.kuratowski.specs.Witnesses.{branch_count as branches_of, pairs_of, pair_at as pair_of, vertex_at as vertex_of, path_at, Joins, IsShape};
 
 use crate::Kind;
 use map_lists::{PathList, VertexId, VertexList};
 
-/// Says whether there are as many branches and paths as the kind has, and each path joins its pair.
+/// Says whether `branch` and `paths` have the numbers of branches and paths of `kind`, and each path joins its two
+/// branches.
 pub fn has_shape(kind: Kind, branch: &VertexList, paths: &PathList) -> bool
     ensures { IsTrue result ↔ IsShape kind branch.now paths.now }
 {
@@ -23,7 +24,7 @@ pub fn has_shape(kind: Kind, branch: &VertexList, paths: &PathList) -> bool
     true
 }
 
-// Says whether a path joins the pair of path number `p`.
+// Says whether `path` leads from the first to the second of the two branches that path number `p` joins.
 fn joins(kind: Kind, branch: &VertexList, path: &[VertexId], p: usize) -> bool
     requires branches { length branch.now ≡ branches_of kind }
     requires path { p < length (pairs_of kind) }
@@ -35,7 +36,7 @@ fn joins(kind: Kind, branch: &VertexList, path: &[VertexId], p: usize) -> bool
         && path[path.len() - 1].0 == vertex_at(branch, b)
 }
 
-/// Returns the vertex at a place of a list.
+/// Returns the number of the vertex at index `i` of `list`.
 pub fn vertex_at(list: &VertexList, i: usize) -> u16
     requires { i < length list.now }
     ensures { result ≡ vertex_of list.now i }

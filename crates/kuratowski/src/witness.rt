@@ -1,10 +1,10 @@
-//! Witnesses.
+//! Kuratowski witnesses: a subdivision of K5 or K3,3 by its branches and paths, and which branches each path joins.
 ghost use Rattle.std.specs.Prelude.{◌≡◌, ◌<◌, length};
 ghost use Rattle.kuratowski.specs.Witnesses.{branch_count as branches_of, pairs_of, pair_at as pair_of};
 
 use map_lists::{PathList, VertexList};
 
-/// Which graph is subdivided.
+/// The graph that a witness subdivides: K5 or K3,3.
 #[derive(Clone, Copy, PartialEq, Eq)]
 pub enum Kind {
     /// Five vertices, each two joined.
@@ -14,7 +14,7 @@ pub enum Kind {
 }
 
 impl Kind {
-    /// Counts the branches.
+    /// Returns the number of branches: 5 or 6.
     pub fn branch_count(self) -> usize
         ensures { result ≡ branches_of self }
     {
@@ -24,7 +24,7 @@ impl Kind {
         }
     }
 
-    /// Counts the paths.
+    /// Returns the number of paths: 10 or 9.
     pub fn path_count(self) -> usize
         ensures { result ≡ length (pairs_of self) }
     {
@@ -60,10 +60,10 @@ impl Kind {
     }
 }
 
-/// A subdivision in a graph.
+/// A subdivision of K5 or K3,3 in a graph.
 ///
 /// For K5 the ten paths join the branches (1,2), (1,3), (1,4), (1,5), (2,3), (2,4), (2,5), (3,4), (3,5), (4,5),
-/// counted from 1; for K3,3 the nine paths join (1,4), (1,5), (1,6), (2,4), (2,5), (2,6), (3,4), (3,5), (3,6).
+/// counted from 1. For K3,3 the nine paths join (1,4), (1,5), (1,6), (2,4), (2,5), (2,6), (3,4), (3,5), (3,6).
 #[derive(Drop)]
 pub struct Witness {
     /// Which graph.

@@ -1,13 +1,13 @@
-//! The complete graph on five vertices, which needs no search.
+//! Whether a graph is K5, the complete graph on five vertices, which needs no search.
 ghost use Rattle.std.specs.Prelude.{IsTrue};
 ghost use Rattle.left_right_check.specs.Ties.{HasNoMap};
 
 use graph6_text::Graph;
 
-// The bits of ten edges, six a byte, in the bytes of a line.
+// The ten bits of the edges of K5 as the two bytes of a graph6 line, six bits a byte.
 const ALL: [u8; 2] = [126, 123];
 
-/// Whether a graph is the complete graph on five vertices.
+/// Says whether `graph` is the complete graph on five vertices.
 pub fn is_k5(graph: &Graph) -> bool
     ensures { IsTrue result → HasNoMap graph.now }
 {

@@ -1,4 +1,5 @@
-//! Rooted forests of a graph, as tables of parents and depths by vertex, and edges that return.
+//! Rooted forests of a graph, as tables of parents and depths by vertex, and the return edges (back edges) at a
+//! vertex.
 ghost use Rattle.std.specs.Prelude.{◌≡◌, slice_index, IsTrue};
 ghost use Rattle.left_right_laws.specs.Forests.{up, IsAbove, IsBranch};
 ghost use Rattle.left_right_check.specs.Ties.{IsForestOf, ReturnsBy};
@@ -6,7 +7,7 @@ ghost use Rattle.left_right_check.specs.Ties.{IsForestOf, ReturnsBy};
 use graph6_text::Graph;
 use map_lists::VertexId;
 
-/// An edge that returns: from a vertex to an ancestor of it.
+/// A return edge, or back edge: from a vertex to an ancestor of it.
 #[derive(Clone, Copy)]
 pub struct ReturnEdge {
     /// The lower end.
@@ -15,7 +16,7 @@ pub struct ReturnEdge {
     pub to: u16,
 }
 
-/// Returns the entry of a list at a place; 0 behind its end.
+/// Returns the entry at index `place` of `list`, or 0 past its end.
 pub fn entry(list: &[u16], place: u16) -> u16
     ensures { result ≡ slice_index list.now place }
 {
@@ -23,7 +24,7 @@ pub fn entry(list: &[u16], place: u16) -> u16
     if place < list.len() { list[place] } else { 0 }
 }
 
-/// Returns the vertex to which `steps` steps to the parent lead.
+/// Returns the ancestor of `vertex` that `steps` steps from child to parent lead to.
 pub fn after_steps(parents: &[u16], vertex: u16, steps: u16) -> u16
     ensures { result ≡ up (slice_index parents.now) steps vertex }
 {
@@ -69,7 +70,8 @@ pub struct RootedForest<'a> {
 }
 
 impl<'a> RootedForest<'a> {
-    // Says whether the way from `vertex` down to an edge's lower end, and then along the edge, begins with the edge to `end`.
+    // Says whether the path from `vertex` down the tree to the lower end of `edge`, and then along it, begins with
+    // the edge to `end`.
     #[tactic(auto, using(crate::proofs::TieLemmas::branch_at))]
     fn begins_with(&self, vertex: u16, end: u16, edge: ReturnEdge) -> bool
         ensures { IsTrue result → IsAbove (slice_index self.now.parents.now) (slice_index self.now.depths.now) vertex edge.from × IsBranch (slice_index self.now.parents.now) (slice_index self.now.depths.now) vertex end edge.from edge.to }

@@ -1,5 +1,5 @@
-//! The check of what shows a graph to have no map of genus zero: a rooted forest of it, and edges that return at its
-//! forks, of which two would have to be both on one side and on different sides.
+//! The check of a proof that a graph is not planar: a rooted forest of it, and return edges that forks force to one
+//! side and to different sides.
 #![tactic(auto)]
 
 mod five;

@@ -1,10 +1,10 @@
-//! Edges that forks put on one side, or on different ones.
+//! Pairs of return edges that a fork of a rooted forest forces to the same side, or to different sides.
 ghost use Rattle.std.specs.Prelude.{◌≡◌, ◌<◌, true, false, slice_index, IsTrue};
 ghost use Rattle.left_right_check.specs.Ties.{AreTied, turned as turn_of};
 
 use crate::forests::{ReturnEdge, RootedForest, entry};
 
-/// Two edges of a vertex, by their other ends.
+/// A fork: a vertex and two of its edges, by their other ends.
 #[derive(Clone, Copy)]
 pub struct Fork {
     /// The vertex.
@@ -15,7 +15,7 @@ pub struct Fork {
     pub other: u16,
 }
 
-/// Two edges that return.
+/// Two return edges.
 #[derive(Clone, Copy)]
 pub struct Pair {
     /// The one edge.
@@ -24,7 +24,7 @@ pub struct Pair {
     pub other: ReturnEdge,
 }
 
-/// Returns a side, or the other one if `turn` says so.
+/// Returns `side`, or the other side where `turn` is set.
 pub fn turned(turn: bool, side: bool) -> bool
     ensures { result ≡ turn_of turn side }
 {
@@ -32,7 +32,7 @@ pub fn turned(turn: bool, side: bool) -> bool
 }
 
 impl<'a> RootedForest<'a> {
-    // Says whether an edge ends nearer to a root than another.
+    // Says whether `edge` ends nearer to the root than `other`.
     fn ends_above(&self, edge: ReturnEdge, other: ReturnEdge) -> bool
         ensures { IsTrue result → slice_index self.now.depths.now edge.to < slice_index self.now.depths.now other.to }
     {

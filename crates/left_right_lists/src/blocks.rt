@@ -1,11 +1,12 @@
-//! The entries at a vertex for each of its edges, and the edges that return by it.
+//! The block of list entries at a vertex for one of its children, and the return edges that go on above the vertex.
 ghost use Rattle.std.specs.Prelude.{◌≡◌, ◌≤◌, ◌++◌, ◌∷◌, [], length, not, eqb, true, false, IfOk, OnOk};
 ghost use Rattle.left_right_lists.specs.Blocks.{IsRun, uppers as uppers_of, lefts, middle, rights};
 
 use map_lists::ItemLists;
 use std::alloc::{AllocError, Global};
 
-// Where a run of edges from a place on ends, of those that end at a vertex, or of those that do not.
+// Returns the first index from `from` on whose return edge does not end at `v` where `ends` is set, or does end there
+// where it is not.
 fn run_end(ds: &[(u16, u16)], from: usize, v: u16, ends: bool) -> usize
     requires { from ≤ length ds.now }
     ensures after { from ≤ result }
@@ -21,7 +22,7 @@ fn run_end(ds: &[(u16, u16)], from: usize, v: u16, ends: bool) -> usize
     ds.len()
 }
 
-// Appends the lower ends of edges, from the last to the first.
+// Appends to `list` the lower ends of the return edges `ds`, from the last to the first.
 fn push_uppers(list: &mut Vec<u16>, ds: &[(u16, u16)]) -> Result<(), AllocError>
     ensures { IfOk result (λ _. list.new.items ≡ list.old.items ++ uppers_of ds.now) }
 {
@@ -31,7 +32,8 @@ fn push_uppers(list: &mut Vec<u16>, ds: &[(u16, u16)]) -> Result<(), AllocError>
     Ok(())
 }
 
-/// Appends what stands at a vertex for its child `u`, from below which these edges return.
+/// Appends to `list` the entries at the vertex `v` for its child `u`: the ends of the edges `ds` that return to `v`,
+/// on both sides of `u`.
 pub(crate) fn push_block(
     list: &mut Vec<u16>,
     ds: &[(u16, u16)],
@@ -48,7 +50,7 @@ pub(crate) fn push_block(
     Ok(())
 }
 
-/// Appends a list of those edges that end above a vertex, of those that return from below a child of it.
+/// Appends to `returns` a list of those return edges among `ds`, from below one child of `v`, that end above `v`.
 pub(crate) fn push_middle(
     returns: &mut ItemLists<(u16, u16)>,
     ds: &[(u16, u16)],

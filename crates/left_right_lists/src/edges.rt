@@ -1,4 +1,5 @@
-//! The edges of a vertex but that to its parent: what returns by each, what stands at the vertex for it, and their order.
+//! The edges from a tree vertex to its children and its return edges: what returns by each, its entries, and their
+//! order.
 ghost use Rattle.std.specs.Prelude.{◌≡◌, [], IfOk};
 ghost use Rattle.left_right_lists.specs.Blocks.{AreValues};
 ghost use Rattle.left_right_lists.specs.Placing.{HasChildren, IsReady, IsOrderAt, is_item_at, returned_at, block_at};
@@ -10,7 +11,7 @@ use left_right_check::entry;
 use map_lists::ItemLists;
 use std::alloc::{AllocError, Global};
 
-/// A vertex of a tree whose children are placed.
+/// A vertex of a tree whose children already have their entries.
 #[derive(Clone, Copy)]
 pub(crate) struct TreeVertex<'a> {
     /// The graph and its tree.
@@ -23,7 +24,8 @@ pub(crate) struct TreeVertex<'a> {
 }
 
 impl<'a> TreeVertex<'a> {
-    // Says whether there is an edge to `u` that leads to a child of the vertex, or returns.
+    // Says whether an edge leads from the vertex to `u` as a child, or returns to `u` as an ancestor other than the
+    // parent.
     fn is_item(&self, u: u16) -> bool
         ensures { result ≡ is_item_at self.now.rooted.graph.now self.now.rooted.tree.now self.now.v u }
     {
@@ -36,7 +38,7 @@ impl<'a> TreeVertex<'a> {
             && u != entry(&tree.parents, self.v)
     }
 
-    /// Lists what returns by the edge to each vertex. It fails only when out of memory.
+    /// Lists for each vertex `u` the return edges by the edge to `u`. It fails only when out of memory.
     pub(crate) fn returned(&self, alloc: Global) -> Result<ItemLists<(u16, u16)>, AllocError>
         ensures { IfOk result (λ rows. AreValues (returned_at self.now.rooted.graph.now.n self.now.rooted.tree.now self.now.opens.now self.now.v) [] rows self.now.rooted.graph.now.n) }
     {
@@ -51,7 +53,8 @@ impl<'a> TreeVertex<'a> {
         Ok(rows)
     }
 
-    /// Lists what stands at the vertex for the edge to each vertex. It fails only when out of memory.
+    /// Lists for each vertex `u` the entries that stand at this vertex for the edge to `u`. It fails only when out of
+    /// memory.
     pub(crate) fn blocks(&self, alloc: Global) -> Result<ItemLists<u16>, AllocError>
         ensures { IfOk result (λ rows. AreValues (block_at self.now.rooted.graph.now.n self.now.rooted.tree.now self.now.opens.now self.now.v) [] rows self.now.rooted.graph.now.n) }
     {

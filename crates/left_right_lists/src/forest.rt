@@ -1,4 +1,4 @@
-//! Depths of the vertices of a depth-first forest.
+//! Depths of the vertices of a finished depth-first search.
 ghost use Rattle.std.specs.Prelude.{◌<◌, ℕ, length, slice_index, IfOk};
 ghost use Rattle.graph_search.specs.Forests.{IsForestOf};
 ghost use Rattle.left_right_lists.specs.Depths.{IsDepthBy, AreDepths};

@@ -1,4 +1,5 @@
-//! Groups of edges, each of which is on the side of its group or on the other one.
+//! Groups of return edges with relative sides, merged as forks demand: each edge is on its group's side or on the
+//! other.
 ghost use Rattle.std.specs.Prelude.{◌≡◌, ◌<◌, ℕ, Bool, length, slice_index_or, IsTrue, IfOk, Contains};
 ghost use Rattle.left_right_check.specs.Ties.{turned as turn_of};
 ghost use Rattle.left_right_lists.specs.Groups.{Demand, IsPlaced, Fits, AreMerged, AreMet, Meets, none_demanded, group_of};
@@ -6,7 +7,7 @@ ghost use Rattle.left_right_lists.specs.Groups.{Demand, IsPlaced, Fits, AreMerge
 use left_right_check::turned;
 use std::alloc::{AllocError, Global};
 
-/// Returns the group of an edge, and whether the edge is on the other side than the group's.
+/// Returns the number of the group of the edge `d`, and whether the edge is on the other side than the group.
 pub(crate) fn group(groups: &[(u32, bool)], d: (u16, u16)) -> (u32, bool)
     ensures { result ≡ group_of groups.now d }
 {
@@ -18,8 +19,8 @@ pub(crate) fn group(groups: &[(u32, bool)], d: (u16, u16)) -> (u32, bool)
     }
 }
 
-// Puts edges `a` and `b` into one group, on one side, or on different ones if `turn` says so. Returns false where the
-// groups are one in which they are not so.
+// Merges the groups of the edges `a` and `b`, so that they are on one side, or on different ones if `turn` is set.
+// Returns false where one group has them otherwise already.
 fn tie(groups: &mut [(u32, bool)], a: (u16, u16), b: (u16, u16), turn: bool) -> bool
     requires long { length groups.old ≡ 65536 }
     requires one { IsPlaced a }
@@ -43,7 +44,8 @@ fn tie(groups: &mut [(u32, bool)], a: (u16, u16), b: (u16, u16), turn: bool) -> 
     true
 }
 
-/// Puts the edges of demands into one group. Returns false where that cannot be.
+/// Merges the groups of all edges of `demands`, each on the side that its flag says. Returns false where that
+/// contradicts their groups.
 pub(crate) fn tie_all(groups: &mut [(u32, bool)], demands: &[((u16, u16), bool)]) -> bool
     requires long { length groups.old ≡ 65536 }
     requires placed { (d : Demand) → Contains demands.now d → IsPlaced d.0 }
@@ -61,7 +63,7 @@ pub(crate) fn tie_all(groups: &mut [(u32, bool)], demands: &[((u16, u16), bool)]
     true
 }
 
-/// Returns a group for each edge.
+/// Returns a table in which each edge is a group of its own. It fails only when out of memory.
 pub(crate) fn single_groups(alloc: Global) -> Result<Vec<(u32, bool)>, AllocError>
     ensures long { IfOk result (λ groups. length groups.items ≡ 65536) }
     ensures fits { IfOk result (λ groups. (left : ℕ → ℕ → Bool) → Fits left groups.items) }

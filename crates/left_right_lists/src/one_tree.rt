@@ -15,7 +15,7 @@ pub(crate) struct OneTree<'a> {
 }
 
 impl<'a> OneTree<'a> {
-    // Says whether a vertex is in another tree of the forest than the root.
+    // Says whether `v` is in another tree of the forest than `root`.
     fn is_other(&self, v: u16) -> bool
         ensures { result ≡ is_in_other self.now.parents.now self.now.depths.now self.now.root v }
     {
@@ -23,7 +23,7 @@ impl<'a> OneTree<'a> {
         top != self.root
     }
 
-    // Returns the depth of a vertex in the one tree.
+    // Returns the depth of `v` once the other roots are children of `root`.
     fn depth(&self, v: u16) -> u16
         ensures { result ≡ grown_depth self.now.parents.now self.now.depths.now self.now.root v }
     {
@@ -31,7 +31,7 @@ impl<'a> OneTree<'a> {
         if self.is_other(v) { depth + 1 } else { depth }
     }
 
-    // Returns the parent of a vertex in the one tree.
+    // Returns the parent of `v` once the other roots are children of `root`.
     fn parent(&self, v: u16) -> u16
         ensures { result ≡ grown_parent self.now.parents.now self.now.depths.now self.now.root v }
     {
@@ -42,7 +42,7 @@ impl<'a> OneTree<'a> {
         }
     }
 
-    /// Returns the depths of `n` vertices in the one tree. It fails only when out of memory.
+    /// Returns the depths of `n` vertices in the tree to which the forest is grown. It fails only when out of memory.
     pub(crate) fn all_depths(&self, alloc: Global, n: u16) -> Result<Vec<u16>, AllocError>
         ensures { IfOk result (λ table. IsTabled (grown_depth self.now.parents.now self.now.depths.now self.now.root) table.items n) }
     {
@@ -53,7 +53,8 @@ impl<'a> OneTree<'a> {
         Ok(table)
     }
 
-    /// Returns their parents there. It fails only when out of memory.
+    /// Returns the parents of `n` vertices in the tree to which the forest is grown. It fails only when out of
+    /// memory.
     pub(crate) fn all_parents(&self, alloc: Global, n: u16) -> Result<Vec<u16>, AllocError>
         ensures { IfOk result (λ table. IsTabled (grown_parent self.now.parents.now self.now.depths.now self.now.root) table.items n) }
     {

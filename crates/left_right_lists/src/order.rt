@@ -1,4 +1,5 @@
-//! Orders in which the edges of a fork may stand: one that may stand before all others goes first.
+//! An order of the edges of a fork by the sides of their return edges: one that may stand before all others goes
+//! first.
 ghost use Rattle.std.specs.Prelude.{◌≡◌, ◌<◌, ◌↔◌, ℕ, List, length, slice_index, IsTrue, IfOk, MatchOption};
 ghost use Rattle.left_right_maps.specs.Orders.{MayAllPrecede};
 ghost use Rattle.left_right_lists.specs.Groups.{side_in};
@@ -9,7 +10,7 @@ use left_right_check::entry;
 use map_lists::ItemLists;
 use std::alloc::{AllocError, Global};
 
-// Says whether a vertex is left.
+// Says whether the vertex `u` is not yet put in order, by the flags `free`.
 fn is_free(free: &[bool], u: u16) -> bool
     ensures { IsTrue result ↔ IsFree free.now u }
 {
@@ -28,8 +29,8 @@ pub(crate) struct Choice<'a> {
 }
 
 impl<'a> Choice<'a> {
-    // Says whether each of some edges that return may stand before each of others: a later one on the left, or an earlier
-    // one on the right, ends no deeper.
+    // Says whether each return edge of `ds` may stand before each of `es`. A later one on the left, or an earlier one
+    // on the right, must not end deeper.
     fn may_all_precede(&self, ds: &[(u16, u16)], es: &[(u16, u16)]) -> bool
         ensures { IsTrue result ↔ MayAllPrecede (slice_index self.now.depths.now) (side_in self.now.sides.now) ds.now es.now }
     {
@@ -48,7 +49,7 @@ impl<'a> Choice<'a> {
         true
     }
 
-    // Says whether a vertex is left, and may stand before all others that are.
+    // Says whether the edge to `u` is not yet put in order, and may stand before all others that are not.
     fn is_first(&self, free: &[bool], u: u16) -> bool
         requires { length free.now ≡ self.now.n }
         ensures { IsTrue result ↔ IsFirst self.now.depths.now self.now.sides.now self.now.returns.now free.now u }
@@ -68,7 +69,7 @@ impl<'a> Choice<'a> {
         true
     }
 
-    // Returns one of the vertices left that may stand before all others left, if there is one.
+    // Returns the least `u` whose edge may stand before all others that are not yet put in order, if there is one.
     fn first_free(&self, free: &[bool]) -> Option<u16>
         requires { length free.now ≡ self.now.n }
         ensures { MatchOption result ((u : ℕ) → ¬ IsFirst self.now.depths.now self.now.sides.now self.now.returns.now free.now u) (IsFirst self.now.depths.now self.now.sides.now self.now.returns.now free.now) }
@@ -81,8 +82,8 @@ impl<'a> Choice<'a> {
         None
     }
 
-    /// Returns the vertices left, in an order in which each may stand before all later ones, where there is such an order. It
-    /// fails only when out of memory.
+    /// Returns the vertices flagged in `free`, in an order in which the edge to each may stand before all later ones,
+    /// where there is such an order. It clears the flags. It fails only when out of memory.
     pub(crate) fn order_of(&self, alloc: Global, free: &mut [bool]) -> Result<Vec<u16>, AllocError>
         requires free { length free.old ≡ self.now.n }
         requires order { (us : List ℕ) × IsOrderOf self.now.depths.now self.now.sides.now self.now.returns.now free.old us }

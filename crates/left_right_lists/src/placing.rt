@@ -1,4 +1,4 @@
-//! The vertices of a tree placed one by one, the last of its order first.
+//! The vertices of a tree placed one by one, the last of the search order first: their list entries.
 ghost use Rattle.std.specs.Prelude.{◌≡◌, ◌<◌, [], ℕ, length, slice_index_or, Contains, IfOk};
 ghost use Rattle.map_lists.specs.Lists.{Lists};
 ghost use Rattle.embed_theorem.specs.Expanded.{IsMapOf};
@@ -13,7 +13,7 @@ use left_right_check::entry;
 use map_lists::ItemLists;
 use std::alloc::{AllocError, Global};
 
-// Joins lists of a table, in the order of their numbers in `us`.
+// Returns the lists of `rows` whose indices are `us`, joined in this order. It fails only when out of memory.
 fn joined_rows<T: Copy>(
     alloc: Global,
     rows: &ItemLists<T>,

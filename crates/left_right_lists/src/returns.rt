@@ -1,4 +1,5 @@
-//! Edges of a graph and of its tree, and which of them return at a vertex.
+//! Which edges of a graph and its depth-first tree are return edges at a vertex, and all edges from lower to upper
+//! end.
 ghost use Rattle.std.specs.Prelude.{◌≡◌, ◌<◌, ◌-◌, ◌↔◌, ◌++◌, ◌∷◌, [], cond, slice_index, true, IsTrue, IfOk};
 ghost use Rattle.left_right_laws.specs.Forests.{IsAbove};
 ghost use Rattle.left_right_maps.specs.RootedMaps.{is_child as is_child_in};
@@ -12,7 +13,7 @@ use left_right_check::{after_steps, entry};
 use map_lists::VertexId;
 use std::alloc::{AllocError, Global};
 
-/// Appends an item to a list, if it is wanted.
+/// Appends `item` to `list` if `wanted` is set. It fails only when out of memory.
 pub(crate) fn push_if<T: Copy>(list: &mut Vec<T>, wanted: bool, item: T) -> Result<(), AllocError>
     ensures { IfOk result (λ _. list.new.items ≡ cond wanted (list.old.items ++ item ∷ []) list.old.items) }
 {
@@ -30,7 +31,7 @@ pub(crate) struct RootedGraph<'a> {
 }
 
 impl<'a> RootedGraph<'a> {
-    /// Returns at which place the vertex `u` stands in a table in which the last vertices of the tree's order come first.
+    /// Returns the index of vertex `u` in a table in which the last vertices of the tree's order come first.
     pub(crate) fn place_of(&self, u: u16) -> usize
         ensures { result ≡ self.now.graph.now.n - 1 - slice_index self.now.tree.now.number.items u }
     {
@@ -56,7 +57,7 @@ impl<'a> RootedGraph<'a> {
         self.is_child(u, v) || self.is_child(v, u)
     }
 
-    // Says whether vertex `u` is `v` or above it.
+    // Says whether vertex `u` is `v` or an ancestor of it.
     fn is_above(&self, u: u16, v: u16) -> bool
         ensures { IsTrue result ↔ IsAbove (slice_index self.now.tree.now.parents.items) (slice_index self.now.tree.now.depths.items) u v }
     {
@@ -92,7 +93,7 @@ impl<'a> RootedGraph<'a> {
         next == after_steps(&self.tree.parents, d.0, steps)
     }
 
-    // Says whether a pair of vertices is an edge that leads upwards.
+    // Says whether `d` is an edge of the graph or the tree, from its deeper end to the other.
     fn is_rising(&self, d: (u16, u16)) -> bool
         ensures { IsTrue result ↔ IsRising self.now.graph.now self.now.tree.now.parents.items self.now.tree.now.depths.items d }
     {

@@ -1,4 +1,4 @@
-//! Lists of a graph, from the entries of the vertices of its tree.
+//! The rotation lists of a graph, made of the entries of its tree's vertices and of their parents.
 ghost use Rattle.std.specs.Prelude.{◌≡◌, length, IfOk};
 ghost use Rattle.left_right_lists.specs.Placing.{AreRows};
 
@@ -8,7 +8,8 @@ use map_lists::{ItemLists, Rotations, VertexId};
 use std::alloc::{AllocError, Global};
 
 impl<'a> RootedGraph<'a> {
-    /// Lists the edges of the graph at each vertex, of all that its entries and parent are. It fails only when out of memory.
+    /// Returns the rotation lists of the graph: for each vertex its `entries` and its parent, without edges that only
+    /// the tree has. It fails only when out of memory.
     pub(crate) fn rows_of(
         &self,
         alloc: Global,

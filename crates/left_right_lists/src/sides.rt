@@ -1,4 +1,4 @@
-//! Sides of the edges that return, by all that forks demand of them.
+//! Left and right sides of the return edges, by the demands of all forks.
 ghost use Rattle.std.specs.Prelude.{◌≡◌, ◌<◌, ◌↔◌, ℕ, Bool, length, slice_index, IsTrue, IfOk, Contains, MatchOption};
 ghost use Rattle.map_theory.specs.Maps.{Dart};
 ghost use Rattle.left_right_lists.specs.Trees.{AreSides};
@@ -11,7 +11,7 @@ use graph6_text::Graph;
 use left_right_check::entry;
 use std::alloc::{AllocError, Global};
 
-// Says whether one of some edges ends nearer to the root than edge `d`.
+// Says whether an edge of `darts` ends nearer to the root than the edge `d`.
 fn has_lower(depths: &[u16], darts: &[(u16, u16)], d: (u16, u16)) -> bool
     ensures { IsTrue result ↔ HasLower depths.now darts.now (slice_index depths.now d.1) }
 {
@@ -24,8 +24,8 @@ fn has_lower(depths: &[u16], darts: &[(u16, u16)], d: (u16, u16)) -> bool
     false
 }
 
-// Lists the demands of a fork, at which the ones return by one edge and the others by another: those that end below the
-// end of one of the other list.
+// Lists the demands of a fork, where `ones` return by one edge and `others` by another. They are the edges that end
+// below the end of one in the other list, each with its side. It fails only when out of memory.
 fn demands_of(
     alloc: Global,
     depths: &[u16],
@@ -73,7 +73,8 @@ impl<'a> Forks<'a> {
         Ok(found)
     }
 
-    // Meets what the forks of the edge from `v` to `e` demand. Returns false where that cannot be.
+    // Merges groups as the forks of the edge from `v` to `e` with other edges of `v` demand. Returns false where
+    // these contradict the groups.
     fn meet_edge(&self, groups: &mut [(u32, bool)], v: u16, e: u16) -> Result<bool, AllocError>
         requires up { IsUpward self.now.graph.now self.now.up.now }
         requires long { length groups.old ≡ 65536 }
@@ -97,7 +98,7 @@ impl<'a> Forks<'a> {
         Ok(true)
     }
 
-    // Meets what all forks demand. Returns false where that cannot be.
+    // Merges groups as all forks demand. Returns false where their demands contradict one another.
     fn meet_all(&self, groups: &mut [(u32, bool)]) -> Result<bool, AllocError>
         requires up { IsUpward self.now.graph.now self.now.up.now }
         requires long { length groups.old ≡ 65536 }

@@ -1,4 +1,4 @@
-//! Depth-first trees of graphs.
+//! The depth-first tree of a graph, as tables of order, parents and depths, with one root for all components.
 ghost use Rattle.std.specs.Prelude.{◌<◌, IfOk};
 ghost use Rattle.left_right_lists.specs.Trees.{IsTreeOf};
 

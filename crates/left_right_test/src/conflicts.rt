@@ -1,30 +1,33 @@
-//! The second search, the testing phase: it keeps a stack of conflict pairs, each of two intervals of return edges that
-//! lie on different sides.
+//! The testing phase (second search): a stack of conflict pairs, each of two intervals of return edges on different
+//! sides.
 use crate::links::Links;
 use crate::row::{MANY_DARTS, MANY_STEPS, NONE, lesser, minus, plus};
 use crate::search::Search;
 use crate::ties::Tie;
 
-// The return edges from one to another, each relative to the next, or none.
+// An interval of return edges from its lowest to its highest one, each with its side relative to the next lower one.
+// Both ends are NONE where it is empty.
 #[derive(Clone, Copy)]
 struct Interval {
     low: u32,
     high: u32,
 }
 
-// A conflict pair: two intervals on different sides.
+// A conflict pair: two intervals whose return edges are on different sides.
 #[derive(Clone, Copy)]
 struct ConflictPair {
     left: Interval,
     right: Interval,
 }
 
+// The empty interval.
 const EMPTY: Interval = Interval {
     low: NONE,
     high: NONE,
 };
 
 impl Interval {
+    // Says whether the interval has no return edge.
     #[inline(always)]
     fn is_empty(self) -> bool {
         self.high == NONE
@@ -32,7 +35,7 @@ impl Interval {
 }
 
 impl ConflictPair {
-    // Returns the pair, with its sides exchanged if `swap` says so.
+    // Returns the pair, with left and right exchanged if `swap` is set.
     #[inline(always)]
     fn swapped_if(self, swap: bool) -> ConflictPair {
         if !swap {
@@ -46,7 +49,7 @@ impl ConflictPair {
 }
 
 impl Search {
-    // The conflict pair at a place of the stack.
+    // Returns the conflict pair at index `place` of the stack.
     #[inline(always)]
     fn pair(&self, place: u32) -> ConflictPair {
         ConflictPair {
@@ -61,6 +64,7 @@ impl Search {
         }
     }
 
+    // Pushes `pair` on the stack of conflict pairs.
     #[inline(always)]
     fn push_pair(&mut self, pair: ConflictPair) {
         self.left_low.set(self.top, pair.left.low);
@@ -70,7 +74,7 @@ impl Search {
         self.top = plus(self.top, 1);
     }
 
-    // Takes the last pair; of no pairs, an empty one.
+    // Pops the top conflict pair from the stack. It returns an empty pair where the stack is empty.
     #[inline(always)]
     fn pop_pair(&mut self) -> ConflictPair {
         if self.top == 0 {
@@ -83,13 +87,14 @@ impl Search {
         self.pair(self.top)
     }
 
-    // Whether an interval returns to above where a dart does.
+    // Says whether the highest edge of `interval` returns to a height greater than `low`, the lowpoint of a dart that
+    // is being integrated.
     #[inline(always)]
     fn conflicts(&self, interval: Interval, low: u32) -> bool {
         !interval.is_empty() && self.lowpt.get(interval.high) > low
     }
 
-    // Whether the last pair has such an interval.
+    // Says whether an interval of the top conflict pair conflicts with a dart of lowpoint `low`.
     #[inline(always)]
     fn top_conflicts(&self, low: u32) -> bool {
         if self.top == 0 {
@@ -99,7 +104,7 @@ impl Search {
         self.conflicts(pair.left, low) || self.conflicts(pair.right, low)
     }
 
-    // The least height that a pair returns to.
+    // Returns the least height to which an edge of `pair` returns.
     #[inline(always)]
     fn least_return(&self, pair: ConflictPair) -> u32 {
         if pair.left.is_empty() {
@@ -114,7 +119,8 @@ impl Search {
         }
     }
 
-    // Notes that two return edges along a dart are on one side, if there are two.
+    // Records a tie: the return edges `one` and `other` along `dart` are on one side. It does nothing where `one` is
+    // NONE.
     #[inline(always)]
     fn note_alike(&mut self, one: u32, other: u32, dart: u32) {
         if one != NONE {
@@ -127,13 +133,15 @@ impl Search {
         }
     }
 
-    // Notes the return edges at which a conflict shows.
+    // Records the return edges at which a conflict shows: `one` can be on neither side, and `meeting` is the edge
+    // that it meets, or NONE.
     fn note_odd(&mut self, one: u32, meeting: u32) {
         self.odd = one;
         self.meeting = meeting;
     }
 
-    // One interval above another, as one.
+    // Joins two intervals on one side into one: the lowest edge of `above` becomes relative to the highest of
+    // `below`.
     #[inline(always)]
     fn joined(&mut self, above: Interval, below: Interval) -> Interval {
         if above.is_empty() {
@@ -149,7 +157,9 @@ impl Search {
         }
     }
 
-    // All return edges from a dart or from beyond it, on one side; or none where they need both.
+    // Pops the conflict pairs of `dart`. Returns the interval of its return edges that reach a greater height than
+    // the lowpoint of the dart `parent`, if all are on one side. Returns None, and records it, where they need both
+    // sides.
     fn return_edges_of(&mut self, dart: u32, parent: u32) -> Option<Interval> {
         let mut right = EMPTY;
         let bottom = self.stack_bottom.get(dart);
@@ -174,8 +184,8 @@ impl Search {
         Some(right)
     }
 
-    // Makes one pair of what returns along a dart, on the right, and of all that conflicts with it, on the left. Says
-    // whether that can be.
+    // Pushes one pair: on its right `right`, what returns along `dart`, and on its left all intervals that conflict
+    // with `dart`, which it pops. Returns false, and records it, where one pair conflicts on both sides.
     fn meet_conflicts(&mut self, right: Interval, dart: u32) -> bool {
         let low = self.lowpt.get(dart);
         let mut pair = ConflictPair { left: EMPTY, right };
@@ -204,7 +214,8 @@ impl Search {
         true
     }
 
-    // Brings what returns along a dart together with what returned along earlier ones. Says whether that can be.
+    // Merges `right`, the return edges along `dart`, with those along earlier darts of its vertex on the stack.
+    // Returns false where that is a conflict.
     #[inline(always)]
     fn meet(&mut self, right: Interval, dart: u32) -> bool {
         if self.top_conflicts(self.lowpt.get(dart)) {
@@ -216,7 +227,7 @@ impl Search {
         true
     }
 
-    // Notes at which dart of a vertex a conflict showed, if one did.
+    // Records `vertex` and `dart` as those at which a conflict showed, unless `fits` is set. It returns `fits`.
     #[inline(always)]
     fn settled(&mut self, fits: bool, dart: u32, vertex: u32) -> bool {
         if !fits {
@@ -226,7 +237,8 @@ impl Search {
         fits
     }
 
-    // Takes a return edge of a vertex. The first of its darts has no earlier ones.
+    // Puts the return edge `dart` of `vertex` on the stack, together with what conflicts with it. Returns false where
+    // they fit on no sides.
     #[inline(always)]
     fn take_edge(&mut self, dart: u32, vertex: u32) -> bool {
         let parent = self.parent.get(vertex);
@@ -276,8 +288,8 @@ impl Search {
         self.settled(fits, dart, vertex)
     }
 
-    // An interval without the highest darts, which lead to a vertex. Emptied, its lowest dart goes to the left
-    // of the other interval's.
+    // Returns `interval` without its highest return edges that lead to `vertex`. Where none is left, its lowest edge
+    // is set to the other side than the edge `other`.
     fn trimmed(&mut self, links: &Links, interval: Interval, other: u32, vertex: u32) -> Interval {
         if interval.is_empty() {
             return interval;
@@ -300,7 +312,8 @@ impl Search {
         }
     }
 
-    // Drops all that returns to a vertex: whole pairs, and then what does of the last one left.
+    // Removes all return edges to `vertex` from the stack: whole pairs, and then the highest edges of the top pair
+    // that is left.
     #[inline(always)]
     fn drop_return_edges(&mut self, links: &Links, vertex: u32) {
         let height = self.height.get(vertex);
@@ -325,13 +338,13 @@ impl Search {
     }
 }
 
-// Whether the highest dart of an interval leads to a vertex.
+// Says whether the highest edge of `interval` returns to `vertex`.
 #[inline(always)]
 fn leads_to(links: &Links, interval: Interval, vertex: u32) -> bool {
     !interval.is_empty() && links.head.get(interval.high) == vertex
 }
 
-// Goes on from a root until all that it reaches is done, or a conflict shows.
+// Runs the testing phase over the tree at `root`. Returns false where a conflict shows.
 fn agrees_from(links: &Links, search: &mut Search, root: u32) -> bool {
     search.top = 0;
     let mut vertex = root;
@@ -365,7 +378,8 @@ fn agrees_from(links: &Links, search: &mut Search, root: u32) -> bool {
     false
 }
 
-/// Whether the oriented edges can be put on two sides without a conflict.
+/// Runs the testing phase: says whether the return edges can be put on two sides without a conflict. Else `search`
+/// holds where the conflict showed.
 pub fn agrees(links: &Links, search: &mut Search) -> bool {
     search.ties.count = 0;
     for place in 0..search.root_count {

@@ -1,10 +1,10 @@
-//! The edges of a graph, read out of its bits.
+//! The edges of a graph by number, read out of the bits of its graph6 line and chained to darts.
 use crate::few::{FEW, Few};
 use crate::links::Links;
 use crate::row::{ByEdge, minus, plus, twice};
 use graph6_text::Graph;
 
-/// Edges by number.
+/// The edges of a graph by number, each with its two ends.
 #[derive(Drop)]
 pub struct Edges {
     /// How many vertices there are.
@@ -20,7 +20,7 @@ pub struct Edges {
 }
 
 impl Edges {
-    /// No edges.
+    /// Returns a table of no edges.
     #[inline(always)]
     pub fn new() -> Edges {
         Edges {
@@ -32,7 +32,7 @@ impl Edges {
         }
     }
 
-    /// Appends an edge.
+    /// Appends the edge between `u` and `v`.
     #[inline(always)]
     pub fn push(&mut self, u: u32, v: u32) {
         self.one.set(self.count, u);
@@ -40,8 +40,8 @@ impl Edges {
         self.count = plus(self.count, 1);
     }
 
-    /// Counts and chains the edges of a graph, by the greater end and then by the lesser; of edges that are too many for a
-    /// plane map the first ones, one too many. Their ends are left to `take_ends`.
+    /// Counts the edges of `graph` and chains them in `links`, by the greater end and then by the lesser. Of edges
+    /// too many for a plane map it reads the first ones, one too many. Their ends are left to `take_ends`.
     pub fn read(&mut self, graph: &Graph, links: &mut Links) {
         self.vertices = u32::from(graph.n());
         links.begin_chains(self.vertices);
@@ -78,20 +78,21 @@ impl Edges {
         self.size <= most_edges(self.vertices)
     }
 
-    /// Takes the ends of an edge, which its darts have.
+    /// Copies the ends of `edge` from its darts in `links`.
     #[inline(always)]
     pub fn take_ends(&mut self, links: &Links, edge: u32) {
         self.one.set(edge, links.tail(twice(edge)));
         self.other.set(edge, links.head.get(twice(edge)));
     }
 
-    /// Whether the graph is K5, if it has no loops and no parallels.
+    /// Says whether the graph is K5, if it has no loops and no parallel edges.
     pub fn are_of_k5(&self) -> bool {
         self.vertices == 5 && self.size == 10
     }
 }
 
-// Where the pairs of a byte stand: for each v the pairs of v and a lesser vertex are one row.
+// The position in the upper triangle of the adjacency matrix that a byte of a graph6 line has: for each `v` its pairs
+// with lesser vertices follow one another.
 #[derive(Clone, Copy)]
 struct Place {
     // the vertex of the row
@@ -102,7 +103,8 @@ struct Place {
     count: u32,
 }
 
-// Chains the edges of one byte, until there are `enough`. Returns in which row the last one of them is.
+// Chains the edges of the six `bits` of one byte in `links`, until there are `enough` edges. Returns the position of
+// the last one.
 #[inline(always)]
 fn chain_byte(links: &mut Links, bits: u32, place: Place, enough: u32) -> Place {
     let mut bits = bits;
@@ -127,7 +129,8 @@ fn chain_byte(links: &mut Links, bits: u32, place: Place, enough: u32) -> Place 
     place
 }
 
-// Returns how many edges a plane map has at most, on as many vertices, or on three.
+// Returns the greatest number of edges of a simple plane map with this many vertices, or with three where they are
+// fewer.
 fn most_edges(vertices: u32) -> u32 {
     minus(vertices.max(3).wrapping_mul(3), 6)
 }

@@ -1,48 +1,53 @@
-//! The first search in a graph of few vertices, whose neighbours are kept as bits. An edge's number is the place of its
-//! pair in the graph's line, by which the edges come in the order of `Edges::read`.
+//! The orientation phase (first search) in a graph of at most 27 vertices, whose neighbours are kept as bits of a
+//! number. An edge's number is the place of its pair in the graph's line, by which the edges come in the order of
+//! `Edges::read`.
 use crate::links::Links;
 use crate::row::{NONE, minus, plus, twice};
 use crate::search::Search;
 use graph6_text::Graph;
 
-/// The greatest number of vertices. Of one fewer the bits, and those of a byte, are held in one number.
+/// The greatest number of vertices of a graph that is read as bits. The bits of one vertex fewer, and those of a
+/// byte, fit in one number.
 pub const FEW: u32 = 27;
 
-// Rows of bits, of which 32 are kept apart.
+// A table of 32 bit sets, each a number.
 #[derive(Drop)]
 struct Bits {
     cells: [u32; 32],
 }
 
 impl Bits {
+    // Returns a table of empty sets.
     #[inline(always)]
     fn new() -> Bits {
         Bits { cells: [0; 32] }
     }
 
+    // Returns the set at index `place` modulo 32.
     #[inline(always)]
     fn get(&self, place: u32) -> u32 {
         self.cells[place as usize % 32]
     }
 
+    // Writes the set at index `place` modulo 32.
     #[inline(always)]
     fn set(&mut self, place: u32, bits: u32) {
         self.cells[place as usize % 32] = bits;
     }
 }
 
-/// A graph of few vertices, and what a search in it works in.
+/// A graph of few vertices as sets of neighbours, and the tables of the search in it.
 #[derive(Drop)]
 pub struct Few {
-    // for each vertex its neighbours
+    // for each vertex the set of its neighbours
     near: Bits,
-    // for each height the vertex of the way to the search
+    // for each height the vertex there on the path from the root to the search
     way: Bits,
-    // for each height the heights below to which an edge returns from that vertex or from beyond it
+    // for each height the set of lesser heights to which an edge returns from that vertex or a descendant
     returns: Bits,
 }
 
-// The pairs of a vertex and a lesser one.
+// The pairs of one vertex with each lesser one, as they stand in a graph6 line.
 #[derive(Clone, Copy)]
 struct Pairs {
     vertex: u32,
@@ -52,7 +57,7 @@ struct Pairs {
     first: u32,
 }
 
-// Where the search stands.
+// The position of the first search in a small graph: its vertex, and what is known of the dart to it.
 #[derive(Clone, Copy)]
 struct Stand {
     vertex: u32,
@@ -64,25 +69,25 @@ struct Stand {
     returns: u32,
 }
 
-// Returns the bit of a number.
+// Returns the set that holds `number` alone.
 #[inline(always)]
 fn bit(number: u32) -> u32 {
     1 << (number & 31)
 }
 
-// Returns the greatest number of one bit or more.
+// Returns the greatest member of the set `bits`, which is not empty.
 #[inline(always)]
 fn greatest(bits: u32) -> u32 {
     31 ^ bits.leading_zeros()
 }
 
-// Returns twice how many pairs there are of lesser vertices.
+// Returns the number of the first dart of the pairs of `vertex`: twice the number of pairs of lesser vertices.
 #[inline(always)]
 fn darts_before(vertex: u32) -> u32 {
     vertex.wrapping_mul(minus(vertex, 1))
 }
 
-// Returns the dart from a vertex to another.
+// Returns the number of the dart from `vertex` to `head`.
 #[inline(always)]
 fn dart_between(vertex: u32, head: u32) -> u32 {
     if head < vertex {
@@ -92,14 +97,15 @@ fn dart_between(vertex: u32, head: u32) -> u32 {
     }
 }
 
-// Returns where a dart to a vertex comes by its depth: of two as deep the one to the greater vertex is first.
+// Returns the sort key of a dart to `head` with nesting depth `depth`: of two as deep, the one to the greater vertex
+// is first.
 #[inline(always)]
 fn order_of(depth: u32, head: u32) -> u32 {
     (depth << 5) | (head ^ 31)
 }
 
 impl Few {
-    /// No vertices.
+    /// Returns the tables of a graph without vertices.
     #[inline(always)]
     pub fn new() -> Few {
         Few {
@@ -109,7 +115,8 @@ impl Few {
         }
     }
 
-    // Takes the edges of a vertex to lesser ones. The last bit of `row` is that of the vertex before it.
+    // Reads the edges from one vertex to lesser ones, given as bits: the last bit of `row` is that of the vertex
+    // before it. It fills the neighbour sets and, in `links`, the heads of the darts.
     #[inline(always)]
     fn take_row(&mut self, links: &mut Links, at: Pairs, row: u32) {
         let before = minus(at.vertex, 1);
@@ -127,7 +134,8 @@ impl Few {
         self.near.set(at.vertex, near);
     }
 
-    /// Takes the edges of a graph of few vertices. Returns how many there are.
+    /// Reads the edges of `graph`, of few vertices, into neighbour sets and the darts of `links`. Returns the number
+    /// of edges.
     pub fn read(&mut self, graph: &Graph, links: &mut Links) -> u32 {
         self.near = Bits::new();
         let mut held = 0u32;
@@ -163,7 +171,7 @@ impl Few {
         darts / 2
     }
 
-    // Returns the heights of those of some vertices, which are on the way to the search.
+    // Returns the set of the heights of `vertices`, a set of vertices on the path to the search.
     #[inline(always)]
     fn heights(search: &Search, vertices: u32) -> u32 {
         let mut rest = vertices;
@@ -175,7 +183,8 @@ impl Few {
         heights
     }
 
-    // Chains the return edges of a vertex, to these heights.
+    // Chains the return edges from `vertex` to the ancestors at these `heights`, by rising height, as the darts that
+    // leave it.
     #[inline(always)]
     fn chain_returns(&self, search: &mut Search, vertex: u32, heights: u32) {
         let mut rest = heights;
@@ -196,7 +205,8 @@ impl Few {
         search.leaving.set(vertex, first);
     }
 
-    // Goes along a dart to a vertex that was not reached, some of whose neighbours are on the way above.
+    // Goes from `at` to its neighbour `head`, which was not reached. `above` is the set of neighbours of `head` that
+    // are its ancestors.
     #[inline(always)]
     fn go_down(&mut self, search: &mut Search, at: Stand, head: u32, above: u32) -> Stand {
         let height = plus(at.height, 1);
@@ -215,7 +225,8 @@ impl Few {
         }
     }
 
-    // Goes back along the dart to a vertex: all that returns along it is known.
+    // Goes back from `at` to its parent: the lowpoint of the dart between is known, and the dart is put in order
+    // there.
     #[inline(always)]
     fn go_up(&self, search: &mut Search, at: Stand) -> Stand {
         let height = minus(at.height, 1);
@@ -241,10 +252,10 @@ impl Few {
         }
     }
 
-    // Goes on from a root until all that it reaches is done. Returns those of the `fresh` vertices that were not reached.
+    // Orients the tree of `root`. Returns the set of those `fresh` vertices that were not reached.
     fn orient_from(&mut self, search: &mut Search, root: u32, fresh: u32) -> u32 {
         let mut fresh = fresh ^ bit(root);
-        // the vertices of the way to the search
+        // the set of vertices on the path to the search
         let mut way = 0u32;
         let mut at = Stand {
             vertex: root,

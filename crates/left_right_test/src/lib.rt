@@ -1,8 +1,8 @@
 //! The left-right planarity test (de Fraysseix, Rosenstiehl; as in Brandes, The left-right planarity test, 2009), with
 //! rotation lists where it passes, and the check of what shows its conflict where it does not.
 //!
-//! That a graph is nonplanar is told only where what shows it passed the check. Of lists nothing is promised but that
-//! they come: whoever calls checks them.
+//! A graph is reported as nonplanar only where the proof of it passed the check. Of the lists nothing is promised:
+//! the caller checks them.
 #![tactic(auto)]
 
 mod conflicts;

@@ -1,8 +1,9 @@
-//! Lists of darts, linked both ways. The darts of edge e are 2e and 2e + 1, and each is the other's twin.
+//! Lists of the darts at each vertex, doubly linked. The darts of edge e are 2e and 2e + 1, and each is the other's
+//! twin. The darts of edge e are 2e and 2e + 1, and each is the other's twin.
 use crate::edges::Edges;
 use crate::row::{ByDart, ByVertex, NONE, minus, plus, twice};
 
-/// For each vertex the list of its darts.
+/// For each vertex the doubly linked list of its darts.
 #[derive(Drop)]
 pub struct Links {
     /// How many vertices there are.
@@ -22,7 +23,7 @@ pub struct Links {
 }
 
 impl Links {
-    /// Empty lists, of no vertices.
+    /// Returns empty lists, of no vertices.
     #[inline(always)]
     pub fn new() -> Links {
         Links {
@@ -36,7 +37,7 @@ impl Links {
         }
     }
 
-    /// Empties all lists, for the vertices and edges of a graph.
+    /// Empties all lists, for the vertices and the number of edges of `edges`.
     pub fn begin(&mut self, edges: &Edges) {
         self.vertices = edges.vertices;
         self.darts = twice(edges.count);
@@ -44,13 +45,13 @@ impl Links {
         self.degree.fill(edges.vertices, 0);
     }
 
-    /// The vertex from which a dart leads.
+    /// Returns the vertex that `dart` leaves.
     #[inline(always)]
     pub fn tail(&self, dart: u32) -> u32 {
         self.head.get(dart ^ 1)
     }
 
-    /// Puts a dart to `head` before all others of a vertex.
+    /// Puts `dart`, which leads to `head`, at the front of the list of `vertex`, and counts it.
     #[inline(always)]
     pub fn put_first(&mut self, dart: u32, vertex: u32, head: u32) {
         let first = self.first.get(vertex);
@@ -62,7 +63,7 @@ impl Links {
         self.count_dart(vertex);
     }
 
-    // Puts a dart first into the list of `vertex`, without what stands before a dart and without a count.
+    // Puts `dart` at the front of the list of `vertex`, without a link back to it and without counting it.
     #[inline(always)]
     fn chain_first(&mut self, dart: u32, vertex: u32, head: u32) {
         self.head.set(dart, head);
@@ -70,32 +71,34 @@ impl Links {
         self.first.set(vertex, dart);
     }
 
-    /// Empties the lists of so many vertices, which `chain_edge` or `chain_next` is to fill: they can be gone along.
+    /// Empties the lists of `vertices` vertices, which `chain_edge` or `chain_next` is to fill. These lists are
+    /// linked forwards only.
     pub fn begin_chains(&mut self, vertices: u32) {
         self.vertices = vertices;
         self.first.fill(vertices, NONE);
     }
 
-    /// Puts both darts of an edge first, in lists that can be gone along.
+    /// Puts both darts of `edge` at the fronts of their lists, which are linked forwards only.
     #[inline(always)]
     pub fn chain_edge(&mut self, edges: &Edges, edge: u32) {
         self.chain(edge, edges.one.get(edge), edges.other.get(edge));
     }
 
-    // Puts both darts of an edge between two vertices first.
+    // Puts both darts of the edge between `a` and `b` at the fronts of their lists, linked forwards only.
     #[inline(always)]
     fn chain(&mut self, edge: u32, a: u32, b: u32) {
         self.chain_first(twice(edge), a, b);
         self.chain_first(twice(edge) ^ 1, b, a);
     }
 
-    // Counts a dart of a vertex.
+    // Raises the degree of `vertex` by one.
     #[inline(always)]
     fn count_dart(&mut self, vertex: u32) {
         self.degree.set(vertex, plus(self.degree.get(vertex), 1));
     }
 
-    /// Chains an edge between two vertices, and counts its darts.
+    /// Puts both darts of the edge between `a` and `b` at the fronts of their lists, linked forwards only, and counts
+    /// them.
     #[inline(always)]
     pub fn chain_next(&mut self, edge: u32, a: u32, b: u32) {
         self.chain(edge, a, b);
@@ -103,7 +106,7 @@ impl Links {
         self.count_dart(b);
     }
 
-    /// Puts both darts of an edge first.
+    /// Puts both darts of `edge` at the fronts of their lists, linked both ways, and counts them.
     #[inline(always)]
     pub fn put_edge(&mut self, edges: &Edges, edge: u32) {
         let a = edges.one.get(edge);
@@ -112,7 +115,7 @@ impl Links {
         self.put_first(twice(edge) ^ 1, b, a);
     }
 
-    /// Links all edges.
+    /// Makes the lists of all `edges`, linked both ways.
     pub fn put_all(&mut self, edges: &Edges) {
         self.begin(edges);
         for edge in 0..edges.count {
@@ -120,7 +123,8 @@ impl Links {
         }
     }
 
-    // Joins two places of a vertex's list. NONE is the place before the first, and that behind the last.
+    // Links `before` and `after` as neighbours in the list of `vertex`. NONE stands for the position before the first
+    // dart or after the last.
     fn join(&mut self, vertex: u32, before: u32, after: u32) {
         if before == NONE {
             self.first.set(vertex, after);
@@ -130,7 +134,7 @@ impl Links {
         self.prev.set(after, before);
     }
 
-    /// Takes a dart out of the list of its vertex.
+    /// Removes `dart` from the list of `vertex`.
     pub fn take_out(&mut self, dart: u32, vertex: u32) {
         let before = self.prev.get(dart);
         let after = self.next.get(dart);
@@ -138,7 +142,7 @@ impl Links {
         self.degree.set(vertex, minus(self.degree.get(vertex), 1));
     }
 
-    /// Puts a dart where another of its vertex was.
+    /// Puts `dart` in the position of the dart `old` in the list of `vertex`.
     pub fn put_for(&mut self, dart: u32, old: u32, vertex: u32) {
         let before = self.prev.get(old);
         let after = self.next.get(old);
@@ -146,7 +150,7 @@ impl Links {
         self.join(vertex, dart, after);
     }
 
-    /// Whether two vertices are joined, by the shorter of their lists.
+    /// Says whether `u` and `v` are adjacent, by the shorter of their lists.
     pub fn has(&self, u: u32, v: u32) -> bool {
         if self.degree.get(u) < self.degree.get(v) {
             self.leads(u, v)
@@ -155,7 +159,7 @@ impl Links {
         }
     }
 
-    // Whether a dart of u leads to v.
+    // Says whether a dart of `u` leads to `v`.
     fn leads(&self, u: u32, v: u32) -> bool {
         let mut dart = self.first.get(u);
         for _ in 0..self.degree.get(u) {

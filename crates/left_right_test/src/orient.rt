@@ -1,10 +1,10 @@
-//! The first search, the orientation phase: it orients edges, finds their lowpoints, and puts the darts that leave each
-//! vertex into the order of their nesting depths.
+//! The orientation phase (first search): it orients edges, finds their lowpoints, and sorts the darts of each vertex
+//! by nesting depth.
 use crate::links::Links;
 use crate::row::{NONE, lesser, minus, plus, twice};
 use crate::search::{Search, steps};
 
-// Where the search stands, and what is known so far of the dart by which it came.
+// The position of the first search: its vertex, and what is known so far of the dart by which it came.
 #[derive(Clone, Copy)]
 struct Stand {
     vertex: u32,
@@ -28,7 +28,7 @@ const ABOVE: Stand = Stand {
 };
 
 impl Stand {
-    // Returns the stand with these lowpoints.
+    // Returns the position with these two lowpoints of the dart to its vertex.
     #[inline(always)]
     fn with(self, low: u32, second: u32) -> Stand {
         Stand {
@@ -40,7 +40,7 @@ impl Stand {
         }
     }
 
-    // Returns the stand with what returns along a dart of the vertex, by its lowpoints.
+    // Returns the position with its lowpoints updated by those of one more dart of the vertex, `low` and `second`.
     #[inline(always)]
     fn with_returns(self, low: u32, second: u32) -> Stand {
         if low < self.low {
@@ -53,7 +53,7 @@ impl Stand {
     }
 }
 
-// Goes along a dart to a vertex that was not reached.
+// Goes along `dart` from `at` to `head`, which was not reached, and writes down the lowpoints found so far.
 #[inline(always)]
 fn go_down(search: &mut Search, at: Stand, dart: u32, head: u32) -> Stand {
     let height = plus(at.height, 1);
@@ -71,7 +71,7 @@ fn go_down(search: &mut Search, at: Stand, dart: u32, head: u32) -> Stand {
     }
 }
 
-// Goes back along the dart to a vertex: all that returns along it is known.
+// Goes back from `at` to its parent: the lowpoints of the dart between are known, and the dart is put in order there.
 #[inline(always)]
 fn go_up(links: &Links, search: &mut Search, at: Stand) -> Stand {
     let vertex = links.tail(at.parent);
@@ -90,7 +90,7 @@ fn go_up(links: &Links, search: &mut Search, at: Stand) -> Stand {
     above.with_returns(at.low, at.second)
 }
 
-// Goes on from a root until all that it reaches is done, if it was not reached and has darts.
+// Orients all edges of the component of `root`, if it was not reached and has darts.
 fn orient_from(links: &Links, search: &mut Search, root: u32) {
     let mut dart = links.first.get(root);
     if search.is_reached(root) || dart == NONE {
@@ -123,7 +123,8 @@ fn orient_from(links: &Links, search: &mut Search, root: u32) {
     }
 }
 
-/// Orients all edges, notes the roots in rising order, and puts the darts that leave each vertex into rising order of depth.
+/// Orients all edges, records the roots in rising order, and sorts the darts that leave each vertex by rising nesting
+/// depth.
 pub fn orient_all(links: &Links, search: &mut Search) {
     search.height.fill(links.vertices, NONE);
     search.root_count = 0;

@@ -1,4 +1,4 @@
-//! The third search: it settles sides and places the twins of oriented darts, which gives rotation lists.
+//! The embedding phase (third search): it settles sides and puts the twins of oriented darts into rotation lists.
 ghost use Rattle.std.specs.Prelude.{◌≡◌, ◌<◌, length, IfOk};
 ghost use Rattle.map_lists.specs.Cuts.{AreCuts};
 
@@ -9,7 +9,8 @@ use crate::signs::settle_leaving;
 use map_lists::Rotations;
 use std::alloc::AllocError;
 
-/// Where the twins of return edges stand: next to the dart along which the search came back by them.
+/// Where the twins of return edges stand: next to the dart along which the search came back by them, on its left or
+/// right. Also the rotation lists that are being made.
 #[derive(Drop)]
 pub struct Places {
     // for each vertex on the way to the search the first return edge whose twin is left of the dart by which the way
@@ -23,12 +24,12 @@ pub struct Places {
     entries: ByDart,
     // how many there are
     count: u32,
-    // for each vertex the place of the next entry of its list
+    // for each vertex the index of the next entry of its list
     place: ByVertex,
 }
 
 impl Places {
-    /// Nothing.
+    /// Returns tables of no lists.
     #[inline(always)]
     pub fn new() -> Places {
         Places {
@@ -41,7 +42,7 @@ impl Places {
         }
     }
 
-    // Places the twin of a return edge, which leads to `head`.
+    // Puts the twin of the return edge `dart`, which leads to `head`, on the left or right of the tree dart there.
     #[inline(always)]
     fn place_twin(&mut self, search: &Search, head: u32, dart: u32) {
         if search.side.get(dart) == 0 {
@@ -53,14 +54,15 @@ impl Places {
         }
     }
 
-    // Writes an entry. Returns the place behind it.
+    // Writes `vertex` as the list entry at index `place`. Returns the next index.
     #[inline(always)]
     fn put(&mut self, place: u32, vertex: u32) -> u32 {
         self.entries.set(place, vertex);
         plus(place, 1)
     }
 
-    // Writes the vertices from which return edges come, from a first one on.
+    // Writes, from index `place` on, the vertices from which the return edges chained from `dart` on come. Returns
+    // the next index.
     #[inline(always)]
     fn put_tails(&mut self, links: &Links, place: u32, dart: u32) -> u32 {
         let mut place = place;
@@ -75,7 +77,8 @@ impl Places {
         place
     }
 
-    // Goes along a dart from a vertex to another. Returns the place of the next entry there.
+    // Goes from `vertex` to its child `head`, whose first entry is `vertex`. Returns the index of the next entry
+    // there.
     #[inline(always)]
     fn go_down(&mut self, vertex: u32, head: u32) -> u32 {
         self.left.set(vertex, NONE);
@@ -84,8 +87,8 @@ impl Places {
         self.put(start, vertex)
     }
 
-    // Goes back from a vertex to the one above it, and writes it there with what stands next to it. Returns the place of
-    // the next entry there.
+    // Goes back from `vertex` to its parent `above`, and writes it there between the twins on its left and right.
+    // Returns the index of the next entry there.
     #[inline(always)]
     fn go_up(&mut self, links: &Links, vertex: u32, above: u32) -> u32 {
         let left = self.left.get(above);
@@ -96,7 +99,7 @@ impl Places {
         self.put_tails(links, place, right)
     }
 
-    // Lists what leaves a root and all that it reaches, whose sides it settles.
+    // Writes the lists of all vertices in the tree of `root`, and settles the sides of their darts.
     fn list_from(&mut self, links: &Links, search: &mut Search, root: u32) {
         let mut vertex = root;
         let mut place = self.place.get(root);
@@ -142,7 +145,7 @@ impl Places {
         }
     }
 
-    /// The lists that were made, of `n` vertices, in the memory of `spent`. It fails only when out of memory.
+    /// Returns the lists that were made, of `n` vertices, in the memory of `spent`. It fails only when out of memory.
     pub fn lists(&self, spent: Rotations, n: u16) -> Result<Rotations, AllocError>
         requires { n < 4096 }
         ensures { IfOk result (λ lists. length lists ≡ n) }
@@ -159,8 +162,8 @@ impl Places {
     }
 }
 
-/// Returns the ends of `n` lists of `total` entries, as a row tells them, in the memory of `spent`. The last one is behind all
-/// entries; an end that is out of order is moved to the one before it.
+/// Returns the end indices of `n` lists of `total` entries, as the table `told` has them, in the memory of `spent`.
+/// The last one is `total`. An end out of order is moved to the one before it. It fails only when out of memory.
 pub fn ends_of(
     told: &ByVertex,
     spent: Vec<usize>,

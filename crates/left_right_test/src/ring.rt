@@ -1,13 +1,14 @@
-//! The return edges that show a conflict: each tied to the next, which come back to the first one on the other side.
+//! The ring of ties that shows a conflict: return edges each tied to the next, which come back to the first on the
+//! other side.
 use crate::links::Links;
 use crate::row::{ByArc, ByDart, ByEdge, NONE, plus, twice};
 use crate::search::Search;
 use crate::ties::Ties;
 
-// Stands for no side.
+// Stands for the side of a return edge that was not reached.
 const UNSEEN: u32 = 2;
 
-/// The tables of the search among ties, and what it found.
+/// The tables of a breadth-first search along ties, and the ring that it found.
 #[derive(Drop)]
 pub struct OddRing {
     // for each return edge the first of its ends of ties; end 2k goes along tie k from its one edge, 2k + 1 from the
@@ -34,7 +35,7 @@ pub struct OddRing {
 }
 
 impl OddRing {
-    /// Nothing.
+    /// Returns tables of no ring.
     #[inline(always)]
     pub fn new() -> OddRing {
         OddRing {
@@ -51,14 +52,15 @@ impl OddRing {
         }
     }
 
-    // Puts one end of a tie into the list of its edge.
+    // Puts `end`, one end of a tie, into the list of the ties of its return edge `edge`.
     #[inline(always)]
     fn put_end(&mut self, end: u32, edge: u32) {
         self.next.set(end, self.first.get(edge));
         self.first.set(edge, end);
     }
 
-    // Reaches a return edge along a tie, if it was not.
+    // Marks the return edge `edge` as reached along the tie end `end`, on `side`, and appends it to the queue, if it
+    // was not reached.
     #[inline(always)]
     fn reach(&mut self, edge: u32, end: u32, side: u32) {
         if self.side.get(edge) == UNSEEN {
@@ -69,8 +71,8 @@ impl OddRing {
         }
     }
 
-    // Returns the nearest return edge that the conflict binds and that is on the other side than `start`; or none. None is
-    // reached yet.
+    // Searches along ties from `start` for the nearest return edge that the conflict binds, on the other side than
+    // `start`. Returns it, or NONE. It requires that none is reached yet.
     fn nearest(&mut self, links: &Links, search: &Search, start: u32) -> u32 {
         self.reached = 0;
         self.reach(start, NONE, 0);
@@ -97,8 +99,8 @@ impl OddRing {
         NONE
     }
 
-    /// Finds the return edges that show the conflict of a search: a ring of ties from one to another on its other side,
-    /// which the conflict binds to one side.
+    /// Finds the ring of ties that shows the conflict of `search`: from `one` to `other`, which is on the other side
+    /// though the conflict binds both to one side.
     pub fn find(&mut self, links: &Links, search: &Search) {
         self.first.fill(links.darts / 2, NONE);
         self.side.fill(links.darts / 2, UNSEEN);
@@ -123,7 +125,7 @@ impl OddRing {
     }
 }
 
-/// The dart of a vertex along which an edge returns.
+/// Returns the dart of `vertex` along which the return edge `edge` returns.
 pub fn branch_of(links: &Links, search: &Search, edge: u32, vertex: u32) -> u32 {
     let mut dart = edge;
     for _ in 0..links.vertices {
@@ -136,13 +138,13 @@ pub fn branch_of(links: &Links, search: &Search, edge: u32, vertex: u32) -> u32 
     dart
 }
 
-/// The return edge from which an end of a tie leads.
+/// Returns the return edge from which the tie end `end` leads.
 #[inline(always)]
 pub fn near_edge(ties: &Ties, end: u32) -> u32 {
     far_edge(ties, end ^ 1)
 }
 
-// The return edge to which an end of a tie leads.
+// Returns the return edge to which the tie end `end` leads.
 #[inline(always)]
 fn far_edge(ties: &Ties, end: u32) -> u32 {
     if end & 1 == 0 {

@@ -1,5 +1,5 @@
-//! A forest and return edges show that the conflict of a search is one of the graph: each edge is tied to the next, and the
-//! last would have to be both on the side of the first and on the other one. All of it is checked.
+//! The proof that a conflict is one of the graph: a rooted forest and a ring of ties, all of which is checked. All of
+//! it is checked.
 ghost use Rattle.std.specs.Prelude.{true, false, IfSome, IsTrue};
 ghost use Rattle.left_right_check.specs.Ties.{AreTied, HasNoMap};
 
@@ -11,7 +11,7 @@ use crate::test::LeftRightTest;
 use graph6_text::Graph;
 use left_right_check::{Fork, Pair, ReturnEdge, RootedForest, is_forest, turned};
 
-/// The forest of a search.
+/// The rooted forest of a search, by parents and depths.
 #[derive(Drop)]
 pub struct Forest {
     /// For each vertex its parent.
@@ -21,7 +21,7 @@ pub struct Forest {
 }
 
 impl Forest {
-    /// No forest.
+    /// Returns tables of no forest.
     #[inline(always)]
     pub fn new() -> Forest {
         Forest {
@@ -30,7 +30,7 @@ impl Forest {
         }
     }
 
-    /// Takes that of a search.
+    /// Reads the forest of `search` into the tables.
     pub fn read(&mut self, links: &Links, search: &Search) {
         for vertex in 0..links.vertices {
             let dart = search.parent.get(vertex);
@@ -44,7 +44,7 @@ impl Forest {
     }
 }
 
-// Returns the vertex with a number.
+// Converts a number of 32 bits to a vertex by its last 16 bits.
 #[inline(always)]
 fn vertex(number: u32) -> u16 {
     (number & 0xffff) as u16
@@ -61,7 +61,7 @@ struct Conflict<'a> {
 }
 
 impl<'a> Conflict<'a> {
-    // Returns the edge of a dart that returns.
+    // Returns the ends of the return edge `dart`.
     fn return_edge(&self, dart: u32) -> ReturnEdge {
         ReturnEdge {
             from: vertex(self.links.tail(dart)),
@@ -69,7 +69,7 @@ impl<'a> Conflict<'a> {
         }
     }
 
-    // Returns the fork of two darts of a vertex.
+    // Returns the fork of the darts `one` and `other` of a vertex.
     fn fork(&self, one: u32, other: u32) -> Fork {
         Fork {
             vertex: vertex(self.links.tail(one)),
@@ -78,7 +78,7 @@ impl<'a> Conflict<'a> {
         }
     }
 
-    // Returns the return edge to the lowpoint of a dart.
+    // Returns the return edge that reaches the lowpoint of `dart`.
     fn lowest(&self, dart: u32) -> ReturnEdge {
         self.return_edge(self.search.lowpt_edge.get(dart))
     }
@@ -105,7 +105,8 @@ impl<'a> Conflict<'a> {
         self.forest.are_opposite(at, pair, low)
     }
 
-    // Says whether two return edges are tied as a tie says.
+    // Says whether the forest ties the two return edges of `pair` as tie number `tie` says: to different sides if
+    // `turn` is set, else to one.
     fn is_tie(&self, pair: Pair, tie: u32, turn: bool) -> bool
         ensures { IsTrue result → AreTied self.now.forest.graph.now self.now.forest.parents.now self.now.forest.depths.now turn pair.one.from pair.one.to pair.other.from pair.other.to }
     {
@@ -121,7 +122,8 @@ impl<'a> Conflict<'a> {
         }
     }
 
-    // Says whether a return edge is tied to the one before it on the way, by the tie that `end` is an end of.
+    // Says whether the forest ties two successive return edges of the ring, `edges`, by the tie that `end` is an end
+    // of.
     fn is_step(&self, edges: (ReturnEdge, ReturnEdge), end: u32, turn: bool) -> bool
         ensures { IsTrue result → AreTied self.now.forest.graph.now self.now.forest.parents.now self.now.forest.depths.now turn edges.0.from edges.0.to edges.1.from edges.1.to }
     {

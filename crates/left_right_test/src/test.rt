@@ -1,4 +1,5 @@
-//! The test.
+//! The left-right planarity test as a whole, for one graph after another: it reads, searches, refuses or gives
+//! rotation lists.
 ghost use Rattle.std.specs.Prelude.{◌≡◌, ◌<◌, length, IfOk, IsTrue};
 ghost use Rattle.left_right_check.specs.Ties.{HasNoMap};
 
@@ -17,7 +18,7 @@ use left_right_check::is_k5;
 use map_lists::Rotations;
 use std::alloc::AllocError;
 
-/// The tables of the test, for one graph after another.
+/// The tables of the left-right planarity test, which serve one graph after another.
 #[derive(Drop)]
 pub struct LeftRightTest {
     /// The edges of which it asks whether they are planar.
@@ -34,7 +35,7 @@ pub struct LeftRightTest {
 }
 
 impl LeftRightTest {
-    /// Tables before the first graph. They take no memory of an allocator.
+    /// Returns the tables before the first graph. They take no memory of an allocator.
     #[inline(always)]
     pub fn new() -> LeftRightTest {
         LeftRightTest {
@@ -48,7 +49,7 @@ impl LeftRightTest {
         }
     }
 
-    /// Takes a graph, and forgets the conflict of an earlier one.
+    /// Reads `graph` into the tables and into `edges`, and forgets the conflict of an earlier graph.
     pub fn begin(&mut self, edges: &mut Edges, graph: &Graph) {
         self.is_few = edges.read_few(graph, &mut self.links, &mut self.few);
         if !self.is_few {
@@ -57,12 +58,13 @@ impl LeftRightTest {
         self.search.failed = NONE;
     }
 
-    /// Whether the test met a conflict since it began.
+    /// Says whether the test has met a conflict since `begin`.
     pub fn has_failed(&self) -> bool {
         self.search.failed != NONE
     }
 
-    /// Whether the chained edges are planar, by a search from the first vertex on; else it shows where it met its conflict.
+    /// Says whether the edges are planar, by a search from the first vertex on. If not, `search` and `ring` hold the
+    /// conflict.
     pub fn passes_all(&mut self) -> bool {
         self.search.root = 0;
         if self.is_few {
@@ -73,13 +75,14 @@ impl LeftRightTest {
         self.agrees()
     }
 
-    /// Whether the chained edges are planar; else it shows where it met its conflict.
+    /// Says whether the edges are planar, by a search from `search.root`. If not, `search` and `ring` hold the
+    /// conflict.
     pub fn passes(&mut self) -> bool {
         orient_all(&self.links, &mut self.search);
         self.agrees()
     }
 
-    // Whether the oriented edges can be put on two sides; else it shows where it met its conflict.
+    // Says whether the oriented edges can be put on two sides. If not, it finds the ring that shows the conflict.
     fn agrees(&mut self) -> bool {
         if agrees(&self.links, &mut self.search) {
             return true;
@@ -88,7 +91,8 @@ impl LeftRightTest {
         false
     }
 
-    /// Whether it refuses a graph, whose edges are chained; else `lists` answers lists, which may be those of no map.
+    /// Says whether the test shows that `graph`, which was read by `begin`, is not planar. If not, `lists` returns
+    /// lists, which may be those of no map.
     pub fn refuses(&mut self, graph: &Graph) -> bool
         ensures { IsTrue result → HasNoMap graph.now }
     {
@@ -98,7 +102,8 @@ impl LeftRightTest {
         !self.passes_all() && self.is_shown(graph)
     }
 
-    /// The rotation lists of edges that pass, on `n` vertices, in the memory of `spent`. It fails only when out of memory.
+    /// Returns the rotation lists of edges that passed, on `n` vertices, in the memory of `spent`. It fails only when
+    /// out of memory.
     pub fn lists(&mut self, spent: Rotations, n: u16) -> Result<Rotations, AllocError>
         requires { n < 4096 }
         ensures { IfOk result (λ lists. length lists ≡ n) }

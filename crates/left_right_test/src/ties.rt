@@ -1,7 +1,7 @@
-//! Pairs of return edges of which the one's side follows from the other's.
+//! Ties: pairs of return edges that must lie on one side or on different sides.
 use crate::row::{ByEdge, plus};
 
-/// A pair of return edges of which the one's side follows from the other's.
+/// A pair of return edges of which one's side follows from the other's.
 #[derive(Clone, Copy)]
 pub struct Tie {
     /// The one: of two on different sides, the one along an earlier dart.
@@ -30,7 +30,7 @@ pub struct Ties {
 }
 
 impl Ties {
-    /// No ties.
+    /// Returns a table of no ties.
     #[inline(always)]
     pub fn new() -> Ties {
         Ties {
@@ -42,7 +42,7 @@ impl Ties {
         }
     }
 
-    /// Notes a tie.
+    /// Appends `tie` to the table.
     #[inline(always)]
     pub fn push(&mut self, tie: Tie) {
         self.one.set(self.count, tie.one);

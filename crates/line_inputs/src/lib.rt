@@ -1,4 +1,4 @@
-//! Inputs of lines: figures in their text, and graphs in graph6.
+//! Inputs of lines, read piece by piece: figures in their text, and graphs in graph6.
 #![tactic(auto)]
 
 pub mod figure_lines;

@@ -1,10 +1,11 @@
-//! A whole line: what came of it in earlier parts of the input, and its end. A line that stands whole in one part is
-//! judged there, and not copied.
+//! A line whose bytes come in several parts of an input: its front from earlier parts, joined with its end. A line
+//! that stands whole in one part is judged there, and not copied.
 ghost use Rattle.std.specs.Prelude.{◌≡◌, ◌++◌, if◌then◌else◌, OnOk};
 
 use std::alloc::AllocError;
 
-/// Puts the end of a line behind its front, but where the end is the whole line.
+/// Appends `end` to `front`, the earlier bytes of the line, unless `end` is the whole line, as `alone` says. It fails
+/// only when out of memory.
 pub(crate) fn join(alone: bool, front: &mut Vec<u8>, end: &[u8]) -> Result<(), AllocError>
     ensures { OnOk result (front.new.items ≡ (if alone then front.old.items else front.old.items ++ end.now)) }
 {
@@ -14,7 +15,7 @@ pub(crate) fn join(alone: bool, front: &mut Vec<u8>, end: &[u8]) -> Result<(), A
     Ok(())
 }
 
-/// Chooses the whole line: its end where that is the whole, or else what was joined.
+/// Returns the whole line: `end` if `alone` is set, else `joined`.
 pub(crate) fn chosen<'a>(alone: bool, end: &'a [u8], joined: &'a [u8]) -> &'a [u8]
     ensures { result.now ≡ (if alone then end.now else joined.now) }
 {

@@ -1,4 +1,4 @@
-//! Lists with an edge more.
+//! Rotation lists with one edge added, each of its two entries directly after a given one.
 ghost use Rattle.std.specs.Prelude.{◌≡◌, ◌≤◌, ◌+◌, ◌++◌, ◌∷◌, [], ℕ, length, slice_index_or, IfOk, OnOk};
 ghost use Rattle.std.specs.List.{insert};
 ghost use Rattle.map_theory.specs.Maps.{place_of as place_of_entry};
@@ -8,7 +8,7 @@ ghost use Rattle.plane_laws.specs.WithEdge.{with_edge_after as lists_with_edge};
 use map_lists::{ItemLists, Rotations};
 use std::alloc::{AllocError, Global};
 
-// An edge more, between `u` and `v`: at `u` it stands directly after `a`, and at `v` directly after `c`.
+// An edge to add between `u` and `v`: at `u` it stands directly after `a`, and at `v` directly after `c`.
 #[derive(Clone, Copy)]
 struct NewEdge {
     u: u16,
@@ -18,7 +18,8 @@ struct NewEdge {
 }
 
 impl NewEdge {
-    // Appends the list `us` of vertex `w`, with the edge.
+    // Appends to `new` the list `us` of vertex `w`, with the edge if `w` is an end of it. It fails only when out of
+    // memory.
     fn push_row(
         &self,
         alloc: Global,
@@ -38,8 +39,9 @@ impl NewEdge {
     }
 }
 
-/// The lists with an edge between two vertices more: `v` stands directly after `a` in the list of `u`, and `u`
-/// directly after `c` in that of `v`; at the end, where the list has no such entry. It fails only when out of memory.
+/// Returns the lists with an edge between `u` and `v` added. `v` stands directly after `a` in the list of `u`, and
+/// `u` directly after `c` in that of `v`, or at the end where there is no such entry. It fails only when out of
+/// memory.
 pub fn with_edge_after(
     alloc: Global,
     lists: &Rotations,
@@ -58,7 +60,8 @@ pub fn with_edge_after(
     Ok(Rotations::from_lists(new))
 }
 
-// Appends a list with an entry directly after its first `a`, or at its end where it has none.
+// Appends to `new` the list `us` with the entry `x` directly after its first `a`, or at its end where it has none. It
+// fails only when out of memory.
 fn push_with(
     alloc: Global,
     new: &mut ItemLists<u16>,
@@ -74,7 +77,7 @@ fn push_with(
     new.push(&row)
 }
 
-// The place behind the first `a` of a list, or its end where it has none.
+// Returns the index after the first `a` of the list `us`, or its length where it has none.
 fn place_after(us: &[u16], a: u16) -> usize
     ensures within { result ≤ length us.now }
     ensures place { (x : ℕ) → insert us.now result x ≡ insert us.now (place_of_entry a us.now + 1) x }

@@ -1,4 +1,4 @@
-//! How a map is made, vertex by vertex.
+//! The generator of stacked triangulations: pseudorandom numbers, and vertex after vertex put into a face.
 ghost use Rattle.std.specs.Prelude.{◌≡◌, ◌+◌, ◌<◌, ◌≤◌, ℕ, [], length, IfOk, Some};
 ghost use Rattle.map_theory.specs.Maps.{IsSimpleMap, list_of};
 ghost use Rattle.half_edges.specs.Map.{dart_at};
@@ -18,14 +18,14 @@ pub(crate) struct FaceDarts {
     pub(crate) c: DartId,
 }
 
-// The number after `number` in the row.
+// Returns the pseudorandom number that follows `number`.
 fn next_number(number: u32) -> u32
     ensures { result ≡ next_number_of number }
 {
     ((number as u64 * 1103515245 + 12345) % 4294967296) as u32
 }
 
-// Which of so many faces a number chooses.
+// Returns the index of the face, below `faces`, that `number` chooses.
 fn chosen(number: u32, faces: usize) -> usize
     requires { 0 < faces }
     ensures is { result ≡ chosen_of number faces }
@@ -34,7 +34,8 @@ fn chosen(number: u32, faces: usize) -> usize
     (number / 65536) as usize % faces
 }
 
-// The triangle of the first three vertices, and all others isolated.
+// Returns the lists of `n` vertices, of which the first three are a triangle and the others isolated. It fails only
+// when out of memory.
 fn triangle(alloc: Global, n: u16) -> Result<Rotations, AllocError>
     requires some { 3 ≤ n }
     requires few { n < 4096 }
@@ -50,8 +51,8 @@ fn triangle(alloc: Global, n: u16) -> Result<Rotations, AllocError>
     Ok(Rotations::from_lists(lists))
 }
 
-// Joins the isolated vertex k to the vertices of a face, and answers the three faces into which that is
-// split: those of its first, second and third dart.
+// Joins the isolated vertex `k` to the three vertices of `face`. Returns the three faces into which that is split:
+// those of its first, second and third dart.
 fn put_vertex(map: &mut HalfMap, k: VertexId, face: FaceDarts) -> (FaceDarts, FaceDarts, FaceDarts)
     requires spare { 3 ≤ map.old.spare }
     requires vertex { k.0 < length map.old.lists }
@@ -89,7 +90,7 @@ fn put_vertex(map: &mut HalfMap, k: VertexId, face: FaceDarts) -> (FaceDarts, Fa
     )
 }
 
-// The inner face of the triangle.
+// Returns the darts of the inner face of the first triangle.
 fn inner_face(map: &HalfMap) -> FaceDarts
     requires { IsFaceOf map.now.lists (record { a = 0; b = 2; c = 1 }) }
     ensures { HasDarts map.now result (record { a = 0; b = 2; c = 1 }) }
@@ -108,7 +109,7 @@ fn inner_face(map: &HalfMap) -> FaceDarts
     }
 }
 
-/// The map with `n` vertices, from 3 to 4095, that the generator makes from a number.
+/// Returns the map with `n` vertices, from 3 to 4095, that the generator makes from a number.
 ///
 /// It begins with the triangle of the vertices 0, 1 and 2, whose lists are `1 2`, `2 0` and `0 1`, and with
 /// one inner face, which goes from 0 to 2 to 1. Each further vertex k is put into an inner face: the number

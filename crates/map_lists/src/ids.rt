@@ -1,4 +1,4 @@
-//! The ids of vertices, darts and faces.
+//! The ids of vertices, darts and faces: `VertexId`, `DartId`, `FaceId`.
 
 /// A vertex of a map, by its number from 0, which is below the map's number of vertices.
 #[derive(Clone, Copy, PartialEq, Eq)]

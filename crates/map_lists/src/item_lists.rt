@@ -1,4 +1,4 @@
-//! Lists of lists of copied items, all of them in one vector.
+//! `ItemLists`: lists of lists of copied items, all of them in one vector.
 ghost use Rattle.std.specs.Prelude.{◌≡◌, ◌<◌, ◌≤◌, List, [], ◌∷◌, ◌++◌, length, sum_by, take, slice_index_or, slice_range, OnOk, OnErr, IfOk};
 ghost use Rattle.map_lists.specs.Cuts.{cut, joined, AreCuts, ends_from};
 
@@ -11,15 +11,15 @@ pub type PathList = ItemLists<VertexId>;
 
 /// A list of lists of items, of any lengths. Contracts see it as just that.
 ///
-/// All items stand in one vector, list after list. So lists come one by one without a vector of their
-/// own: `open` begins an empty list at the end, and `append` gives the last list one item more. `clear`
-/// and `truncate` keep the memory for the lists to come. A loop that wants the vectors themselves takes
-/// them by `into_parts` and gives them back by `from_parts`.
+/// All items stand in one vector, list after list. So lists come one by one without a vector of their own: `open`
+/// begins an empty list at the end, and `append` gives the last list one item more. `clear` and `truncate` keep the
+/// memory for the lists to come. A loop that needs the vectors themselves takes them by `into_parts` and gives them
+/// back by `from_parts`.
 #[derive(Drop)]
 pub struct ItemLists<T: Copy> {
     // all lists, one after another
     entries: Vec<T>,
-    // for each list the place behind its last entry
+    // for each list the index after its last entry
     ends: Vec<usize>,
 }
 
@@ -35,7 +35,7 @@ impl<T: Copy> Model for ItemLists<T> {
 }
 
 impl<T: Copy> ItemLists<T> {
-    /// No lists. It takes no memory.
+    /// Returns an empty list of lists. It takes no memory.
     pub fn new(alloc: Global) -> Self
         ensures { result ≡ [] }
     {
@@ -45,7 +45,8 @@ impl<T: Copy> ItemLists<T> {
         }
     }
 
-    /// No lists, with room for `items` items in `lists` lists.
+    /// Returns an empty list of lists, with room for `items` items in `lists` lists. It fails only when out of
+    /// memory.
     pub fn with_capacity(alloc: Global, items: usize, lists: usize) -> Result<Self, AllocError>
         ensures { IfOk result (λ list. list ≡ []) }
     {
@@ -54,7 +55,7 @@ impl<T: Copy> ItemLists<T> {
         Ok(ItemLists { entries, ends })
     }
 
-    /// The pieces of `entries` that end at the places `ends`.
+    /// Returns the lists into which `ends`, the index after the last item of each, cuts `entries`.
     pub fn from_parts(entries: Vec<T>, ends: Vec<usize>) -> Self
         requires { AreCuts 0 ends.items (length entries.items) }
         ensures { result ≡ cut 0 ends.items entries.items }
@@ -62,7 +63,7 @@ impl<T: Copy> ItemLists<T> {
         ItemLists { entries, ends }
     }
 
-    /// All items, list after list, and for each list the place behind its last item.
+    /// Returns all items, list after list, and for each list the index after its last item.
     pub fn into_parts(self) -> (Vec<T>, Vec<usize>)
         ensures entries { result.0.items ≡ joined self }
         ensures ends { result.1.items ≡ ends_from 0 self }
@@ -111,7 +112,7 @@ impl<T: Copy> ItemLists<T> {
         }
     }
 
-    /// Takes all lists away, and keeps the memory.
+    /// Removes all lists, and keeps the memory.
     pub fn clear(&mut self)
         ensures { self.new ≡ [] }
     {
@@ -119,7 +120,7 @@ impl<T: Copy> ItemLists<T> {
         self.ends.clear();
     }
 
-    /// Takes away the lists from number `count` on, and keeps the memory.
+    /// Removes the lists from number `count` on, and keeps the memory.
     pub fn truncate(&mut self, count: usize)
         ensures { self.new ≡ take count self.old }
     {
@@ -129,21 +130,21 @@ impl<T: Copy> ItemLists<T> {
         }
     }
 
-    /// The number of lists.
+    /// Returns the number of lists.
     pub fn len(&self) -> usize
         ensures { result ≡ length self.now }
     {
         self.ends.len()
     }
 
-    /// The number of items of all lists.
+    /// Returns the number of items of all lists together.
     pub fn total(&self) -> usize
         ensures { result ≡ sum_by length self.now }
     {
         self.entries.len()
     }
 
-    /// List number `i`, from 0.
+    /// Returns list number `i`, from 0.
     pub fn list(&self, i: usize) -> &[T]
         requires { i < length self.now }
         ensures { result.now ≡ slice_index_or self.now i [] }
@@ -151,14 +152,14 @@ impl<T: Copy> ItemLists<T> {
         piece(&self.entries, &self.ends, i)
     }
 
-    /// All items, list after list.
+    /// Returns all items, list after list.
     pub fn entries(&self) -> &[T]
         ensures { result.now ≡ joined self.now }
     {
         &self.entries
     }
 
-    /// For each list the place behind its last item, among all items.
+    /// Returns for each list the index after its last item, among all items.
     pub fn ends(&self) -> &[usize]
         ensures { result.now ≡ ends_from 0 self.now }
     {
@@ -166,7 +167,7 @@ impl<T: Copy> ItemLists<T> {
     }
 }
 
-// The piece that ends at `ends[i]`.
+// Returns the items of list number `i`: those of `entries` up to index `ends[i]`.
 fn piece<'a, T: Copy>(entries: &'a [T], ends: &[usize], i: usize) -> &'a [T]
     requires in_ends { i < length ends.now }
     requires cuts { AreCuts 0 ends.now (length entries.now) }
@@ -175,7 +176,7 @@ fn piece<'a, T: Copy>(entries: &'a [T], ends: &[usize], i: usize) -> &'a [T]
     part(entries, start_of(ends, i), ends[i])
 }
 
-// Where the piece begins that ends at `ends[i]`.
+// Returns the index at which list number `i` begins: the end of the list before it.
 fn start_of(ends: &[usize], i: usize) -> usize
     requires { i < length ends.now }
     ensures { result ≡ slice_index_or (0 ∷ ends.now) i 0 }
@@ -183,7 +184,7 @@ fn start_of(ends: &[usize], i: usize) -> usize
     if i == 0 { 0 } else { ends[i - 1] }
 }
 
-// The entries from `start` on and before `end`.
+// Returns the entries `start..end`.
 fn part<T: Copy>(entries: &[T], start: usize, end: usize) -> &[T]
     requires order { start ≤ end }
     requires within { end ≤ length entries.now }

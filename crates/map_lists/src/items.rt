@@ -1,4 +1,4 @@
-//! Lists of copied items.
+//! `ItemList`: a list of copied items, and its types for counts, vertices and edges.
 ghost use Rattle.std.specs.Prelude.{◌≡◌, ◌<◌, ◌^◌, [], ◌∷◌, ◌++◌, length, slice_get, Some, OnOk, OnErr, IfOk};
 ghost use Rattle.std.specs.Iterator.Runs.{EveryRun, ItemsMapTo};
 ghost use Rattle.std.specs.Slice.Iter.{iter_rest, iter_steps};
@@ -42,7 +42,7 @@ impl<T: Copy> Model for ItemList<T> {
 }
 
 impl<T: Copy> ItemList<T> {
-    /// The empty list. It takes no memory.
+    /// Returns the empty list. It takes no memory.
     pub fn new(alloc: Global) -> Self
         ensures { result ≡ [] }
     {
@@ -51,7 +51,7 @@ impl<T: Copy> ItemList<T> {
         }
     }
 
-    /// No items, with room for `capacity` of them.
+    /// Returns an empty list, with room for `capacity` items. It fails only when out of memory.
     pub fn with_capacity(alloc: Global, capacity: usize) -> Result<Self, AllocError>
         ensures { IfOk result (λ list. list ≡ []) }
     {
@@ -59,21 +59,22 @@ impl<T: Copy> ItemList<T> {
         Ok(ItemList { items })
     }
 
-    /// The items of a vector, in its memory.
+    /// Makes a list of the items of a vector, in its memory.
     pub fn from_vec(items: Vec<T>) -> Self
         ensures { result ≡ items.items }
     {
         ItemList { items }
     }
 
-    /// The items as a vector, in the memory of the list.
+    /// Returns the items as a vector, in the memory of the list.
     pub fn into_vec(self) -> Vec<T>
         ensures { result.items ≡ self }
     {
         self.items
     }
 
-    /// No items, with room for `capacity` of them, in the memory of the list.
+    /// Returns an empty list with room for `capacity` items, in the memory of this one. It fails only when out of
+    /// memory.
     pub fn emptied(self, capacity: usize) -> Result<Self, AllocError>
         ensures { IfOk result (λ list. list ≡ []) }
     {
@@ -94,14 +95,14 @@ impl<T: Copy> ItemList<T> {
         }
     }
 
-    /// The number of items.
+    /// Returns the number of items.
     pub fn len(&self) -> usize
         ensures { result ≡ length self.now }
     {
         self.items.len()
     }
 
-    /// Item number `i`, from 0.
+    /// Returns item number `i`, from 0.
     pub fn get(&self, i: usize) -> T
         requires { i < length self.now }
         ensures { slice_get self.now i ≡ Some result }
@@ -109,7 +110,7 @@ impl<T: Copy> ItemList<T> {
         self.items[i]
     }
 
-    /// The items, in order.
+    /// Returns the items, in order.
     pub fn as_slice(&self) -> &[T]
         ensures { result.now ≡ self.now }
     {
@@ -133,6 +134,7 @@ impl<'a, T: Copy> IntoIterator for &'a ItemList<T> {
     ghost into_iter_gives = { λ list it. (iter_rest it ≡ list.now) × (length (iter_rest it) < 2 ^ 64)
         × EveryRun (iter_steps {A = T}) (λ p. ItemsMapTo p (λ x. x.now) (iter_rest p.from)) };
 
+    // Goes over the items, in order.
     fn into_iter(self) -> slice::Iter<'a, T> {
         self.as_slice().iter()
     }

@@ -1,4 +1,4 @@
-//! The rotation lists of a map.
+//! `Rotations`: the rotation lists of a map, at most 4095.
 ghost use Rattle.std.specs.Prelude.{◌≡◌, ◌<◌, [], length, sum_by, take, slice_index_or};
 ghost use Rattle.map_lists.specs.Cuts.{cut, joined, AreCuts, ends_from};
 
@@ -25,7 +25,7 @@ impl Model for Rotations {
 }
 
 impl Rotations {
-    /// No lists. It takes no memory.
+    /// Returns no lists. It takes no memory.
     pub fn new(alloc: Global) -> Self
         ensures { result ≡ [] }
     {
@@ -34,7 +34,7 @@ impl Rotations {
         }
     }
 
-    /// Lists, which are at most 4095, as those of a map, in the same memory.
+    /// Takes `lists`, which are at most 4095, as rotation lists, in the same memory.
     pub fn from_lists(lists: ItemLists<u16>) -> Self
         requires { length lists < 4096 }
         ensures { result ≡ lists }
@@ -42,7 +42,7 @@ impl Rotations {
         Rotations { lists }
     }
 
-    /// The pieces of `entries` that end at the places `ends`.
+    /// Returns the lists into which `ends`, the index after the last entry of each, cuts `entries`.
     pub fn from_parts(entries: Vec<u16>, ends: Vec<usize>) -> Self
         requires cuts { AreCuts 0 ends.items (length entries.items) }
         requires few { length ends.items < 4096 }
@@ -53,7 +53,7 @@ impl Rotations {
         }
     }
 
-    /// All entries, list after list, and for each list the place behind its last entry.
+    /// Returns all entries, list after list, and for each list the index after its last entry.
     pub fn into_parts(self) -> (Vec<u16>, Vec<usize>)
         ensures entries { result.0.items ≡ joined self }
         ensures ends { result.1.items ≡ ends_from 0 self }
@@ -61,21 +61,21 @@ impl Rotations {
         self.lists.into_parts()
     }
 
-    /// Takes all lists away, and keeps the memory.
+    /// Removes all lists, and keeps the memory.
     pub fn clear(&mut self)
         ensures { self.new ≡ [] }
     {
         self.lists.clear();
     }
 
-    /// Takes away the lists from number `count` on, and keeps the memory.
+    /// Removes the lists from number `count` on, and keeps the memory.
     pub fn truncate(&mut self, count: usize)
         ensures { self.new ≡ take count self.old }
     {
         self.lists.truncate(count);
     }
 
-    /// The number of lists, which is at most 4095.
+    /// Returns the number of lists, which is at most 4095.
     pub fn len(&self) -> usize
         ensures is { result ≡ length self.now }
         ensures few { length self.now < 4096 }
@@ -83,21 +83,21 @@ impl Rotations {
         self.lists.len()
     }
 
-    /// Says that the lists are at most 4095, where their number is not asked for.
+    /// Does nothing. By its contract a proof learns that there are at most 4095 lists.
     pub fn facts(&self)
         ensures { length self.now < 4096 }
     {
         self.len();
     }
 
-    /// The number of entries of all lists.
+    /// Returns the number of entries of all lists together.
     pub fn total(&self) -> usize
         ensures { result ≡ sum_by length self.now }
     {
         self.lists.total()
     }
 
-    /// List number `i`, from 0.
+    /// Returns list number `i`, from 0.
     pub fn list(&self, i: usize) -> &[u16]
         requires { i < length self.now }
         ensures { result.now ≡ slice_index_or self.now i [] }
@@ -105,14 +105,14 @@ impl Rotations {
         self.lists.list(i)
     }
 
-    /// All entries, list after list.
+    /// Returns all entries, list after list.
     pub fn entries(&self) -> &[u16]
         ensures { result.now ≡ joined self.now }
     {
         self.lists.entries()
     }
 
-    /// For each list the place behind its last entry, among all entries.
+    /// Returns for each list the index after its last entry, among all entries.
     pub fn ends(&self) -> &[usize]
         ensures { result.now ≡ ends_from 0 self.now }
     {

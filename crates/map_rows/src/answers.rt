@@ -1,4 +1,4 @@
-//! Who answers a row.
+//! Which module answers a test row on maps or permutations, by the row's family.
 
 use crate::{counts, cuts, edits, maps, orbits};
 use half_edges::HalfMap;
@@ -7,10 +7,11 @@ use row_texts::refusal::tell_fault;
 use row_texts::reply::Reply;
 use row_texts::rows::{Answers, Row};
 
-/// The rows of this program: on permutations, or on lists and their map, where the lists have one.
+/// The test rows of this program: on permutations, or on lists and their map, where the lists have one.
 pub struct Rows;
 
 impl Answers for Rows {
+    // Appends to `out` the answer to `row`, from the module for its family.
     fn answer(row: &Row<'_>, out: &mut Reply) {
         if row.family == "perm" {
             return orbits::answer(row, out);

@@ -1,4 +1,4 @@
-//! Faces, components and Euler's counts.
+//! Test rows on faces, components and Euler's counts.
 use conn_parts::components;
 use euler_faces::{Counter, EulerCount, Faces, count_lists, euler, euler_by_components, faces};
 use half_edges::{FaceId, HalfMap, MapFault, VertexId};
@@ -8,7 +8,7 @@ use row_texts::reply::Reply;
 use row_texts::rows::Row;
 use std::alloc::{AllocError, Global};
 
-// Writes the vertices that the walk of each face leaves, with `!` where a dart has another face.
+// Appends to `out` the vertices on the walk of each face, with `!` where a dart has another face.
 fn put_walks(map: &HalfMap, found: &Faces, out: &mut Reply) {
     for f in 0..found.count() {
         if 0 < f {
@@ -27,7 +27,7 @@ fn put_walks(map: &HalfMap, found: &Faces, out: &mut Reply) {
     }
 }
 
-// Writes the counts of a map.
+// Appends to `out` the counts of a map.
 fn put_count(count: EulerCount, out: &mut Reply) {
     out.put_one("n", u64::from(count.n));
     out.put_one(" m", u64::from(count.m));
@@ -36,7 +36,7 @@ fn put_count(count: EulerCount, out: &mut Reply) {
     out.put_one(" genus", u64::from(count.genus()));
 }
 
-// Writes the counts of lists, or why they are no map.
+// Appends to `out` the counts of lists, or the fault by which they are no map.
 fn put_counted(found: Result<EulerCount, MapFault>, out: &mut Reply) {
     match found {
         Ok(count) => put_count(count, out),
@@ -44,7 +44,7 @@ fn put_counted(found: Result<EulerCount, MapFault>, out: &mut Reply) {
     }
 }
 
-// Writes the counts of some lists by one counter.
+// Appends to `out` the counts of each list of `args`, by one counter.
 fn count_all(args: &[&str], out: &mut Reply) {
     let mut counter = Counter::new(out.alloc);
     for i in 0..args.len() {
@@ -63,7 +63,7 @@ fn by_components(alloc: Global, map: &HalfMap) -> Result<EulerCount, AllocError>
     euler_by_components(alloc, map, found.count())
 }
 
-// Writes the counts of lists, and of their map.
+// Appends to `out` the counts by the lists, by their map, and by the map with its components.
 fn put_both(given: &SomeLists, map: &HalfMap, out: &mut Reply) {
     put_counted(count_lists(out.alloc, &given.lists), out);
     out.put(", of the map ");
@@ -78,7 +78,8 @@ fn put_both(given: &SomeLists, map: &HalfMap, out: &mut Reply) {
     }
 }
 
-/// Answers a row on counts: by the number of components, and the number of each vertex's, where nothing else is asked.
+/// Answers a row on counts. Where it names no other call, the answer is the number of components and that of each
+/// vertex's.
 pub fn answer(row: &Row<'_>, given: &SomeLists, map: &HalfMap, out: &mut Reply) {
     match row.call {
         "faces" => match faces(out.alloc, map) {

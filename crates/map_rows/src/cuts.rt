@@ -1,10 +1,10 @@
-//! Vertices that cut a map, one or two of them.
+//! Test rows on cut vertices and separating pairs of a map.
 use graph_search::map_cuts::{cut_vertex, separating_pair};
 use half_edges::HalfMap;
 use row_texts::refusal::{put_pair, put_vertex};
 use row_texts::reply::Reply;
 
-/// Writes the least cut vertex of a map, or its least separating pair.
+/// Appends to `out` the least cut vertex of `map`, or its least separating pair, as `call` says.
 pub fn answer(call: &str, map: &HalfMap, out: &mut Reply) {
     match call {
         "vertex" => put_vertex(cut_vertex(out.alloc, map), out),

@@ -1,4 +1,4 @@
-//! Edges that come and go.
+//! Test rows on edges added to a map and removed from it.
 ghost use Rattle.std.specs.Prelude.{◌≡◌, ◌<◌, Some, IfSome};
 ghost use Rattle.map_theory.specs.Maps.{vertex_count};
 ghost use Rattle.half_edges.specs.Edges.{IsCorner, corner_place};
@@ -10,7 +10,8 @@ use row_texts::refusal::tell_no_memory;
 use row_texts::reply::Reply;
 use row_texts::text::{halves, number, pair};
 
-// Returns the corner at a vertex behind an entry of its list, or at an isolated one.
+// Returns the corner at `v` after `entry` in its list, or where `v` is isolated and there is no entry. Returns None
+// where there is no such corner.
 fn corner_at(map: &HalfMap, v: u16, entry: Option<u16>) -> Option<Corner>
     ensures vertex { IfSome result (λ _. v < vertex_count map.now.lists) }
     ensures corner { IfSome result (λ corner. IsCorner map.now corner) }
@@ -31,7 +32,8 @@ fn corner_at(map: &HalfMap, v: u16, entry: Option<u16>) -> Option<Corner>
     }
 }
 
-// Puts an edge in between two vertices behind entries of their lists, and returns its first dart, if it can be.
+// Adds an edge between two vertices, each with the list entry after which it goes. Returns its first dart, or None
+// where there is no room or no such edge can be.
 fn join(
     map: &mut HalfMap,
     (u, behind_u): (u16, Option<u16>),
@@ -48,7 +50,7 @@ fn join(
     }
 }
 
-// Returns the vertex that a text names, and the entry behind `>`.
+// Parses a vertex, and the list entry after `>` where there is one.
 fn place_of(text: &str) -> (u16, Option<u16>) {
     match text.split_once('>') {
         Some((v, u)) => (number(v), Some(number(u))),
@@ -56,13 +58,14 @@ fn place_of(text: &str) -> (u16, Option<u16>) {
     }
 }
 
-// Puts in the edge between two places, and returns its first dart, if it can be.
+// Adds the edge whose two ends `places` names, with the entries after which they go. Returns its first dart, or None
+// where it cannot be added.
 fn join_places(map: &mut HalfMap, places: &str) -> Option<DartId> {
     let (first, second) = halves(places);
     join(map, place_of(first), place_of(second))
 }
 
-// Puts an edge in and takes it out again, if it can be, and says whether it did.
+// Adds an edge and removes it again. Returns false where it cannot be added.
 fn turn(map: &mut HalfMap, places: &str) -> bool {
     match join_places(map, places) {
         Some(d) if map.is_live(d) => {
@@ -73,7 +76,7 @@ fn turn(map: &mut HalfMap, places: &str) -> bool {
     }
 }
 
-// Does a thousand turns, and writes how many there were.
+// Adds and removes an edge a thousand times, and appends to `out` how often that succeeded.
 fn turns(map: &mut HalfMap, places: &str, out: &mut Reply) {
     let mut count: u64 = 0;
     for _ in 0..1000 {
@@ -85,8 +88,7 @@ fn turns(map: &mut HalfMap, places: &str, out: &mut Reply) {
     out.put(" turns");
 }
 
-// Puts an edge in from vertex 0, behind the first entry of its list, to each other vertex, which is isolated; and writes
-// how many it put in.
+// Adds an edge from vertex 0 to each other vertex, which is isolated, and appends to `out` the number of edges added.
 fn spokes(map: &mut HalfMap, out: &mut Reply) {
     let mut count: u64 = 0;
     for v in 1..map.n() {
@@ -102,7 +104,7 @@ fn spokes(map: &mut HalfMap, out: &mut Reply) {
     out.put(" spokes");
 }
 
-// Edits a map once, and writes what came of it.
+// Edits `map` once, as `text` says, and appends the outcome to `out`.
 fn edit(map: &mut HalfMap, text: &str, out: &mut Reply) {
     let (word, rest) = halves(text);
     match word {
@@ -129,7 +131,8 @@ fn edit(map: &mut HalfMap, text: &str, out: &mut Reply) {
     }
 }
 
-// Writes lists, or of large ones their size, and the first and the last.
+// Appends `lists` to `out`, or for 20 lists or more their number of entries and the lengths of the first and the
+// last.
 fn put_some(lists: &Rotations, out: &mut Reply) {
     let n = lists.len();
     if n < 20 {
@@ -141,7 +144,7 @@ fn put_some(lists: &Rotations, out: &mut Reply) {
     out.put(" of the last");
 }
 
-/// Edits a map, writes after each edit how much room it leaves, and the lists in the end.
+/// Makes the `edits` in `map`, and appends to `out` the size and room after each, and the lists in the end.
 pub fn answer(map: &mut HalfMap, edits: &str, out: &mut Reply) {
     for text in edits.split(';') {
         edit(map, text, out);

@@ -1,5 +1,5 @@
-//! Runs the rows on maps, their darts, edits, counts and cuts, and on permutations.
-//! What a row and its answer look like is told in `row_texts`.
+//! The program of test rows on maps, their darts, edits, counts and cuts, and on permutations. What a row and its
+//! answer look like is told in `row_texts`.
 #![tactic(auto)]
 
 mod answers;
@@ -13,6 +13,7 @@ use answers::Rows;
 use row_texts::rows::answer_rows;
 use std::io;
 
+// Answers the rows on standard input.
 fn main(rt: HostRuntime) -> io::Result<()> {
     answer_rows::<Rows>(rt)
 }

@@ -1,4 +1,4 @@
-//! Maps of lists, their darts, and their copies and parts.
+//! Test rows on maps made of lists, their darts, copies and induced submaps.
 ghost use Rattle.half_edges.specs.Map.{IsLive};
 
 use half_edges::{DartId, HalfMap, Rotations, VertexId};
@@ -10,7 +10,7 @@ use row_texts::rows::Row;
 use row_texts::text::pair;
 use std::alloc::{AllocError, Global};
 
-// Writes a map by its numbers of vertices and edges, its spare room, and its lists.
+// Appends to `out` the numbers of vertices and edges of `map`, its spare room, and its lists.
 fn put_map(map: &HalfMap, out: &mut Reply) {
     put_size(map, out);
     out.put_one(" spare", u64::from(map.spare()));
@@ -21,7 +21,7 @@ fn put_map(map: &HalfMap, out: &mut Reply) {
     }
 }
 
-// Writes a map that a call gives.
+// Appends to `out` a map that a call made, or that it ran out of memory.
 fn put_made(made: Result<HalfMap, AllocError>, out: &mut Reply) {
     match made {
         Ok(map) => put_map(&map, out),
@@ -29,7 +29,7 @@ fn put_made(made: Result<HalfMap, AllocError>, out: &mut Reply) {
     }
 }
 
-// Writes a dart, and where the steps from it lead.
+// Appends to `out` the dart `d`, its twin, its next and previous dart, and the next along its face.
 fn put_steps(map: &HalfMap, d: DartId, out: &mut Reply)
     requires { IsLive map.now d.0 }
 {
@@ -40,7 +40,7 @@ fn put_steps(map: &HalfMap, d: DartId, out: &mut Reply)
     put_dart(", along the face ", map, map.face_step(d), out);
 }
 
-// Returns the flags that a text names, `yes` each or anything else.
+// Parses flags: `yes` is set, and any other word is not.
 fn flags_of(alloc: Global, text: &str) -> Vec<bool> {
     let mut flags = Vec::new(alloc);
     for word in text.split_whitespace() {
@@ -49,7 +49,7 @@ fn flags_of(alloc: Global, text: &str) -> Vec<bool> {
     flags
 }
 
-/// Answers a row on a map.
+/// Appends to `out` the answer to a row on `map` or its `lists`.
 pub fn answer(row: &Row<'_>, lists: &Rotations, map: &HalfMap, out: &mut Reply) {
     let (u, v) = pair(row.arg(1));
     match row.call {

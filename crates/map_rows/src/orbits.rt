@@ -1,4 +1,4 @@
-//! Permutations and their orbits.
+//! Test rows on permutations and their orbits.
 ghost use Rattle.std.specs.Prelude.{◌<◌, length};
 
 use pg_perm::{Perm, PermFault};
@@ -7,7 +7,7 @@ use row_texts::reply::Reply;
 use row_texts::rows::Row;
 use row_texts::text::{number, pair};
 
-// Writes a permutation by its length, its images and the number of its orbits.
+// Appends to `out` the length of `perm`, its images and the number of its orbits.
 fn put_perm(perm: &Perm, out: &mut Reply) {
     out.put_number(u64::from(perm.len()));
     out.put(" numbers,");
@@ -21,7 +21,7 @@ fn put_perm(perm: &Perm, out: &mut Reply) {
     out.put(" orbits");
 }
 
-// Writes a permutation, and for each pair of numbers whether they lie in one orbit.
+// Appends to `out` the permutation, and for each of `pairs` whether the two numbers lie in one orbit.
 fn put_orbits(perm: &Perm, pairs: &str, out: &mut Reply) {
     put_perm(perm, out);
     for text in pairs.split(';') {
@@ -34,8 +34,8 @@ fn put_orbits(perm: &Perm, pairs: &str, out: &mut Reply) {
     }
 }
 
-// Writes the orbits of the permutation with these images and whether pairs lie in one of them, and again after an
-// exchange of two images, if one is named; or the fault of the images.
+// Appends to `out` the orbits of the permutation with these `images`, before and after an exchange that `row` may
+// name, or the fault of the images.
 fn put_all(images: &[u32], row: &Row<'_>, out: &mut Reply)
     requires { length images.now < 65536 }
 {
@@ -61,7 +61,7 @@ fn put_all(images: &[u32], row: &Row<'_>, out: &mut Reply)
     }
 }
 
-/// Answers a row on permutations.
+/// Appends to `out` the answer to a row on permutations.
 pub fn answer(row: &Row<'_>, out: &mut Reply) {
     if row.call == "identity" {
         match Perm::identity(out.alloc, u32::from(row.number(0))) {

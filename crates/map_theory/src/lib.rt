@@ -1,4 +1,4 @@
-//! Maps: simple maps, darts, faces, components, genus, and the Euler bound.
+//! Maps: the definitions of simple maps, darts, faces, components and genus, and the Euler bound.
 #![tactic(auto)]
 
 pub mod euler_bound;

@@ -1,4 +1,5 @@
-//! Drawings over a canonical order: the runs of orders, the tables of their rows, and what drawings of runs have in common.
+//! Drawings over a canonical order: its construction sequence, the contour interval under each vertex, and laws of
+//! drawings.
 #![tactic(auto)]
 
 pub mod order_runs;

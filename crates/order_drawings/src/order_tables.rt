@@ -1,5 +1,5 @@
-//! Tables that methods of drawing read from a canonical order and write by it: the rows of the contour over which its
-//! vertices are put, and the points of vertices by their places in it.
+//! Tables for drawing by a canonical order: for each vertex the interval of the contour under it, by ranks, and
+//! points by ranks.
 
 ghost use Rattle.order_drawings.specs.Ranks.{RanksArePlaces};
 
@@ -11,7 +11,7 @@ pub use points::points_at;
 pub use ranked::RankedList;
 pub use rows::{list_rows, order_rows, rows_into};
 
-/// The ranks of an order are places of it.
+/// The rank of each vertex in a canonical order is an index of the order, below the number of vertices.
 pub fn ranks_are_places()
     ensures { RanksArePlaces }
 {}

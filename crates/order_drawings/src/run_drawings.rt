@@ -15,7 +15,7 @@ pub fn counterclockwise_run_draws()
     plane_drawings::drawings::counterclockwise_is_plane();
 }
 
-/// A point for each place of a canonical order is a point for each vertex.
+/// Points given for the places of a canonical order are points of the vertices: there is a list of these.
 pub fn points_of_order()
     ensures { PointsOfOrder }
 {}

@@ -3,16 +3,15 @@
 
 ghost use Rattle.order_drawings.specs.SchnyderDrawings.{WoodPointsDraw, SomeWoodPoints, SomeSchnyderDrawing};
 
-/// Schnyder's coordinates over a canonical order of a triangulation are a plane drawing in the grid n - 2 by
-/// n - 2 that keeps the rotations. The face of the base is outside, and its three vertices stand at the
-/// corners.
+/// Schnyder's coordinates over a canonical order of a triangulation are a plane drawing in the grid n - 2 by n - 2
+/// that keeps the rotations. The face of the base is outside, and its three vertices stand at the corners.
 pub fn wood_points_draw()
     ensures { WoodPointsDraw }
 {
     crate::run_drawings::counterclockwise_run_draws();
 }
 
-/// Each canonical order of a triangulation has such points.
+/// Each canonical order of a triangulation has points at Schnyder's coordinates.
 pub fn some_wood_points()
     ensures { SomeWoodPoints }
 {
@@ -20,7 +19,7 @@ pub fn some_wood_points()
     crate::run_drawings::points_of_order();
 }
 
-/// Each triangulation has such a drawing, for each base dart.
+/// Each triangulation has a drawing by Schnyder's coordinates, for each base dart.
 pub fn some_schnyder_drawing()
     ensures { SomeSchnyderDrawing }
 {

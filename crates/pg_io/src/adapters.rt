@@ -1,5 +1,5 @@
-//! The readers and writers of `std`, with their faults counted. What a file or a pipe holds no proof
-//! can know, so these tell nothing of their bytes.
+//! Adapters that make readers and writers of `std` into sources and sinks, and count their faults. What a file or a
+//! pipe holds no proof can know, so these tell nothing of their bytes.
 ghost use Rattle.std.specs.Prelude.{ℕ, ◌<◌, ◌≤◌, ◌≡◌, ◌↔◌, length, take, None, Ok, IfOk, OnErr, IsOk, IsErr, IsSome, IsSomeAnd, MatchResult, is_err, if◌then◌else◌};
 ghost use Rattle.std.specs.Io.KnownBytes.{Appends, Consumes, IsAtEnd, Keeps};
 ghost use Rattle.pg_io.specs.Io.{HasRisen, raised, TookSome};
@@ -17,7 +17,7 @@ pub struct ReadAdapter<R> {
 }
 
 impl<R> ReadAdapter<R> {
-    /// The reader as a source, with the count 0. It takes no memory.
+    /// Returns the reader as a source, with the count 0. It takes no memory.
     pub fn new(inner: R) -> ReadAdapter<R>
         ensures held { result.inner ≡ inner }
         ensures count { result.faults ≡ 0 }
@@ -26,7 +26,7 @@ impl<R> ReadAdapter<R> {
     }
 }
 
-// Passes on the answer of a reader, or counts it where it is a fault.
+// Passes on the answer of a reader, or adds one to `faults` where it is an error.
 fn judge_read(answer: io::Result<usize>, faults: &mut u64) -> Result<usize, ReadFailed>
     ensures passed_on { MatchResult answer (λ k. result ≡ Ok k) (λ _. IsErr result) }
     ensures counted { faults.new ≡ (if is_err answer then raised faults.old else faults.old) }
@@ -74,7 +74,7 @@ pub struct WriteAdapter<W> {
 }
 
 impl<W> WriteAdapter<W> {
-    /// The writer as a sink, with the count 0. It takes no memory.
+    /// Returns the writer as a sink, with the count 0. It takes no memory.
     pub fn new(inner: W) -> WriteAdapter<W>
         ensures held { result.inner ≡ inner }
         ensures count { result.faults ≡ 0 }
@@ -83,7 +83,7 @@ impl<W> WriteAdapter<W> {
     }
 }
 
-// Flushes a writer that took some bytes, and no other.
+// Flushes `writer` if it took some bytes, as `written` says, and returns the answer. Else returns None.
 fn flush_after<W: Write>(writer: &mut W, written: &io::Result<usize>) -> Option<io::Result<()>>
     ensures just_then { IsSome result ↔ TookSome written.now }
     ensures kept { Keeps (W.contents writer.old) (W.contents writer.new) }
@@ -94,8 +94,8 @@ fn flush_after<W: Write>(writer: &mut W, written: &io::Result<usize>) -> Option<
     }
 }
 
-// Judges the answers of a writer, to a write and to the flush after it: the count of bytes is passed
-// on, or it is a fault, which is counted, where the write failed or took no byte, or the flush failed.
+// Judges the answers of a writer to a write and to the flush after it. Returns the number of bytes written, or adds
+// one to `faults`: the write failed or took no byte, or the flush failed.
 fn judge_write(
     written: io::Result<usize>,
     flushed: Option<io::Result<()>>,

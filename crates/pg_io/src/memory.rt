@@ -1,4 +1,4 @@
-//! A source and a sink in memory, which fail just where they are told to.
+//! `MemSource` and `MemSink`: a source and a sink in memory, which fail exactly at chosen calls.
 ghost use Rattle.std.specs.Prelude.{ℕ, ◌+◌, ◌-◌, ◌<◌, ◌≤◌, ◌≡◌, ◌↔◌, ◌⊎◌, min, List, [], ◌++◌, length, take, drop, Some, Contains, IfOk, OnOk, OnErr, IsErr, is_err, IsTrue, if◌then◌else◌, vec_len, vec_capacity};
 ghost use Rattle.pg_io.specs.Io.{WhereTold, Gives, Grows, HasRisen, raised};
 
@@ -25,8 +25,7 @@ pub struct MemSource {
 }
 
 impl MemSource {
-    /// A source with all of `bytes` left and both counts 0. `most` must be at least 1. It takes no
-    /// memory.
+    /// Returns a source with all of `bytes` left and both counts 0. `most` must be at least 1. It takes no memory.
     pub fn new(bytes: Vec<u8>, most: usize, failing: Vec<u64>) -> MemSource
         requires { 0 < most }
         ensures all_left { (result.bytes ≡ bytes) × (result.at ≡ 0) }
@@ -92,7 +91,7 @@ impl Source for MemSource {
     }
 }
 
-/// Copies the first bytes of `from` to the front of `to`: as many as both have, and at most `most`.
+/// Copies the first bytes of `from` to the front of `to`: as many as both have, and at most `most`. Returns how many.
 pub(crate) fn copy_front(from: &[u8], most: usize, to: &mut [u8]) -> usize
     ensures count { result ≡ min (min most (length to.old)) (length from.now) }
     ensures copied { to.new ≡ take result from.now ++ drop result to.old }
@@ -123,8 +122,8 @@ pub struct MemSink {
 }
 
 impl MemSink {
-    /// A sink with nothing written and both counts 0, and memory for `room` bytes. `most` must be at
-    /// least 1. `failing` is copied. It fails only when out of memory.
+    /// Returns a sink with nothing written and both counts 0, and memory for `room` bytes. `most` must be at least 1.
+    /// `failing` is copied. It fails only when out of memory.
     pub fn with_room(
         alloc: Global,
         room: usize,
@@ -150,7 +149,7 @@ impl MemSink {
         })
     }
 
-    // Whether a write fails whose number is the count of calls.
+    // Says whether the current call, whose number is `calls`, is to fail: it is in `failing`, or no room is left.
     fn must_fail(&self) -> bool
         ensures { IsTrue result
             ↔ (Contains self.now.failing.items self.now.calls ⊎ (vec_len self.now.written ≡ self.now.room)) }

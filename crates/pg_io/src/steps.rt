@@ -1,4 +1,4 @@
-//! A count of steps that contracts see, and that takes no bytes.
+//! `Steps`: a count of steps that only contracts see, and that takes no bytes at run time.
 ghost use Rattle.std.specs.Prelude.{◌≡◌, ◌<◌, ◌+◌};
 
 use std::marker::Model;
@@ -25,8 +25,7 @@ impl<L: Ledger> Model for Steps<L> {
 }
 
 impl<L: Ledger> Steps<L> {
-    /// A count of no steps, of a ledger that has no count yet: `blank` is it, with one part at least, and takes
-    /// no bytes. It takes no memory.
+    /// Returns a count of zero steps on the fresh ledger `blank`, which has at least one part. It takes no memory.
     pub fn new(blank: Blank) -> Steps<L>
         requires name { blank.name ≡ L.name }
         requires parts { blank.parts ≡ L.parts }

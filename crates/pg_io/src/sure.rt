@@ -1,4 +1,4 @@
-//! A source and a sink that never fail.
+//! `SureSource` and `SureSink`: a source and a sink that never fail.
 ghost use Rattle.std.specs.Prelude.{ℕ, ◌+◌, ◌-◌, ◌^◌, ◌<◌, ◌≤◌, ◌≡◌, ◌↔◌, min, [], length, take, drop, Some, None, Ok, IfOk, OnErr, IsOk, vec_len};
 ghost use Rattle.pg_io.specs.Io.{WhereTold, Gives, Grows, HasRisen};
 
@@ -19,7 +19,7 @@ pub struct SureSource {
 }
 
 impl SureSource {
-    /// A source with all of `bytes` left. `most` must be at least 1. It takes no memory.
+    /// Returns a source with all of `bytes` left. `most` must be at least 1. It takes no memory.
     pub fn new(bytes: Vec<u8>, most: usize) -> SureSource
         requires { 0 < most }
         ensures all_left { (result.bytes ≡ bytes) × (result.at ≡ 0) }
@@ -66,7 +66,7 @@ pub struct SureSink {
 }
 
 impl SureSink {
-    /// A sink to which nothing has been written. It takes no memory.
+    /// Returns a sink to which nothing has been written. It takes no memory.
     pub fn new() -> SureSink
         ensures { result.total ≡ 0 }
     {

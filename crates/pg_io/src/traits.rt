@@ -1,4 +1,4 @@
-//! Sources of bytes, and sinks.
+//! The traits `Source` and `Sink`, by which bytes are read and written, and their errors.
 ghost use Rattle.std.specs.Prelude.{ℕ, ◌<◌, ◌≤◌, ◌≡◌, ◌↔◌, List, [], length, take, Option, IfOk, OnOk, OnErr};
 ghost use Rattle.pg_io.specs.Io.{WhereTold, Gives, Grows, HasRisen};
 
@@ -18,11 +18,10 @@ pub trait Source {
     /// How often it has failed. A number at 2^64 - 1 stays there.
     ghost faults: { Self → ℕ };
 
-    /// Puts the next bytes at the front of `buf`, which must not be empty, and answers how many.
-    /// `Ok(0)` is the end of input. Where the bytes left are told, it comes exactly where there are
-    /// none, and the rest of `buf` is as before. A read fails only where the count of faults rose,
-    /// and has then taken nothing; what it leaves in `buf` is not promised. After `Ok` the count is as
-    /// before.
+    /// Writes the next bytes to the front of `buf`, which must not be empty, and returns how many. `Ok(0)` is the end
+    /// of input. Where the bytes left are told, it comes exactly where there are none, and the rest of `buf` is as
+    /// before. A read fails only where the count of faults rose, and has then taken nothing; what it leaves in `buf`
+    /// is not promised. After `Ok` the count is as before.
     fn read(&mut self, buf: &mut [u8]) -> Result<usize, ReadFailed>
         requires { 0 < length buf.old }
         ensures within { IfOk result (λ k. k ≤ length buf.old) }
@@ -42,9 +41,9 @@ pub trait Sink {
     /// How often it has failed. A number at 2^64 - 1 stays there.
     ghost faults: { Self → ℕ };
 
-    /// Appends some first bytes of `piece`, which must not be empty, and answers how many: at least
-    /// one, and the count of faults is as before. A write fails only where that count rose; where the
-    /// bytes written are told, it has then appended nothing.
+    /// Appends some first bytes of `piece`, which must not be empty, and returns how many: at least one, and the
+    /// count of faults is as before. A write fails only where that count rose; where the bytes written are told, it
+    /// has then appended nothing.
     fn write(&mut self, piece: &[u8]) -> Result<usize, WriteFailed>
         requires { 0 < length piece.now }
         ensures within { IfOk result (λ k. (0 < k) × (k ≤ length piece.now)) }

@@ -1,4 +1,4 @@
-//! Why a list is no list of images of a permutation.
+//! Why a list of numbers is not the list of images of a permutation.
 ghost use Rattle.std.specs.Prelude.{◌≡◌};
 ghost use Rattle.pg_perm.specs.declared.fault.PermFault.TheVariants.{NoMemory};
 
@@ -18,6 +18,7 @@ pub enum PermFault {
 impl From<AllocError> for PermFault {
     ghost from_gives = { λ _ fault. fault ≡ NoMemory };
 
+    // Converts an allocation error to `NoMemory`.
     fn from(_error: AllocError) -> PermFault {
         PermFault::NoMemory
     }

@@ -1,4 +1,4 @@
-//! A law of permutations, for all lists.
+//! The law of one swap: what an exchange of two images does to the orbits of a permutation.
 ghost use Rattle.pg_perm.specs.Law.{OneSwap};
 
 /// The law of one swap. Let `images` be a permutation, and let a and b be different numbers below its

@@ -1,9 +1,9 @@
-//! Marks on the numbers below k, which the walk along an orbit sets.
+//! Orbits of a permutation marked by walks along them, and their number.
 ghost use Rattle.std.specs.Prelude.{◌≡◌, ◌<◌, ◌^◌, ◌||◌, ℕ, false, length};
 ghost use Rattle.classes.specs.Classes.{IsPermutationOfBelow, orbits, orbit_count, same_class};
 ghost use Rattle.pg_perm.specs.Marks.{mark, KeepsMarks};
 
-/// Marks the orbit of `start`, given marks that each step keeps; other marks stay as they are.
+/// Marks the orbit of `start` in `marked`. The marks already set are of whole orbits, and stay.
 pub fn mark_orbit(images: &[u32], marked: &mut [bool], start: u32)
     requires bijection { IsPermutationOfBelow images.now }
     requires marks { length marked.old ≡ length images.now }
@@ -19,8 +19,8 @@ pub fn mark_orbit(images: &[u32], marked: &mut [bool], start: u32)
     }
 }
 
-/// How many orbits there are, given one unset mark for each number: each orbit is marked where its
-/// least number is met. The time is linear.
+/// Returns the number of orbits of `images`, in linear time. `marked` has an unset mark for each number, and each
+/// orbit is marked when its least number is met.
 pub fn count_orbits(images: &[u32], marked: &mut [bool]) -> u32
     requires bijection { IsPermutationOfBelow images.now }
     requires few { length images.now < 2 ^ 32 }

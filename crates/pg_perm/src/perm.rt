@@ -1,4 +1,4 @@
-//! A permutation as its list of images.
+//! `Perm`: a permutation as its list of images, with its orbits and the exchange of two images.
 ghost use Rattle.std.specs.Prelude.{◌≡◌, ◌≢◌, ◌+◌, ◌<◌, ◌^◌, IsTrue, IfOk, IfErr, true, false, length, swap};
 ghost use Rattle.std.specs.List.{range_with_len};
 ghost use Rattle.classes.specs.Classes.{IsPermutationOfBelow, image, orbits, orbit_count, same_class};
@@ -30,7 +30,7 @@ impl Model for Perm {
 impl Perm {
     ghost use Rattle.pg_perm.specs.Perm.{IsPerm};
 
-    /// The permutation of the numbers below `k` that moves none.
+    /// Returns the permutation of the numbers below `k` that moves none.
     pub fn identity(alloc: Global, k: u32) -> Result<Perm, AllocError>
         ensures { IfOk result (λ perm. perm ≡ range_with_len 0 k) }
     {
@@ -41,8 +41,8 @@ impl Perm {
         Ok(Perm { images })
     }
 
-    /// The permutation with these images, which are fewer than 2^32 and are copied; or why there is
-    /// none, `OutOfRange` before `Repeated`. The time is linear.
+    /// Returns the permutation with these images, which are fewer than 2^32 and are copied; or why there is none,
+    /// `OutOfRange` before `Repeated`. The time is linear.
     pub fn of_images(alloc: Global, images: &[u32]) -> Result<Perm, PermFault>
         requires { length images.now < 2 ^ 32 }
         ensures images { IfOk result (λ perm. perm ≡ images.now) }
@@ -60,7 +60,7 @@ impl Perm {
         Ok(Perm { images })
     }
 
-    /// How many numbers it permutes.
+    /// Returns how many numbers it permutes.
     pub fn len(&self) -> u32
         ensures length { result ≡ length self.now }
         ensures known { IsPerm self.now }
@@ -68,7 +68,7 @@ impl Perm {
         self.images.len() as u32
     }
 
-    /// The image of `i`, which is below the length.
+    /// Returns the image of `i`, which is below the length.
     pub fn image(&self, i: u32) -> u32
         requires { i < length self.now }
         ensures image { result ≡ image self.now i }
@@ -95,7 +95,7 @@ impl Perm {
         self.images.swap(a as usize, b as usize);
     }
 
-    /// The number of orbits. The time is linear.
+    /// Returns the number of orbits. The time is linear.
     pub fn orbit_count(&self, alloc: Global) -> Result<u32, AllocError>
         ensures { IfOk result (λ count. count ≡ orbit_count self.now) }
     {
@@ -103,8 +103,8 @@ impl Perm {
         Ok(count_orbits(&self.images, &mut marked))
     }
 
-    /// Whether `a` and `b`, which are below the length, lie in one orbit. It takes no memory, and its
-    /// time is linear in the orbit.
+    /// Says whether `a` and `b`, which are below the length, lie in one orbit. It takes no memory, and its time is
+    /// linear in the orbit.
     pub fn same_orbit(&self, a: u32, b: u32) -> bool
         requires a_in { a < length self.now }
         requires b_in { b < length self.now }

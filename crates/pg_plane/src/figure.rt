@@ -1,4 +1,4 @@
-//! The figures of drawings, as lists of numbers.
+//! The types of the figures of drawings: points, bars and rectangles, as lists of whole numbers.
 
 use crate::Point;
 use map_lists::ItemList;
@@ -12,7 +12,7 @@ pub type Ints = ItemList<i32>;
 /// A straight-line drawing: a point for each vertex, on the grid from (0, 0) to (`width`, `height`).
 #[derive(Drop)]
 pub struct GridFigure {
-    /// The place of each vertex.
+    /// The point of each vertex.
     pub points: Points,
     /// How far the grid reaches to the right.
     pub width: i32,

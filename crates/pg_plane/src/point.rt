@@ -1,4 +1,5 @@
-//! Points and directions.
+//! Points of the grid, and the predicates of drawings: twice the area of a triangle, point on segment, crossing
+//! segments, clockwise order.
 ghost use Rattle.std.specs.Prelude.{◌≡◌, ◌↔◌, ◌-ℤ◌, ◌*ℤ◌, pos, IsTrue};
 ghost use Rattle.pg_plane.specs.Geometry.{area, cross, IsBetween, IsOnSegment, AreOpposite, DoCross, IsFirstHalf, IsClockBefore};
 ghost use Rattle.pg_plane.specs.Range.{IsWithin, IsInRange, IsDirection};
@@ -13,7 +14,7 @@ pub struct Point {
     pub y: i32,
 }
 
-// How far it is from `s` to `t`.
+// Returns `t` less `s`, for two coordinates.
 fn difference(s: i32, t: i32) -> i64
     requires s { IsWithin (pos 1048576) s }
     requires t { IsWithin (pos 1048576) t }
@@ -23,7 +24,7 @@ fn difference(s: i32, t: i32) -> i64
     i64::from(t) - i64::from(s)
 }
 
-// The product of two differences of coordinates.
+// Returns the product of two differences of coordinates.
 fn product(u: i64, v: i64) -> i64
     requires u { IsWithin (pos 2097152) u }
     requires v { IsWithin (pos 2097152) v }
@@ -44,8 +45,8 @@ fn minor(u: i64, v: i64, s: i64, t: i64) -> i64
     product(u, v) - product(s, t)
 }
 
-/// Twice the area of the triangle `a`, `b`, `c`: positive where `c` lies to the left of the way from `a`
-/// to `b`, and zero where the three are in line.
+/// Returns twice the area of the triangle `a`, `b`, `c`: positive where `c` lies to the left of the way from `a` to
+/// `b`, and zero where the three are in line.
 pub fn area2(a: Point, b: Point, c: Point) -> i64
     requires a { IsInRange a }
     requires b { IsInRange b }
@@ -60,21 +61,21 @@ pub fn area2(a: Point, b: Point, c: Point) -> i64
     )
 }
 
-// Whether a number is between two others, or one of them.
+// Says whether `v` is between `s` and `t`, or one of them.
 fn is_between(s: i32, t: i32, v: i32) -> bool
     ensures { IsTrue result ↔ IsBetween s t v }
 {
     (s <= v && v <= t) || (t <= v && v <= s)
 }
 
-// Whether `p` lies in the box of `a` and `b`.
+// Says whether `p` lies in the bounding box of `a` and `b`.
 fn is_in_box(p: Point, a: Point, b: Point) -> bool
     ensures { IsTrue result ↔ (IsBetween a.x b.x p.x × IsBetween a.y b.y p.y) }
 {
     is_between(a.x, b.x, p.x) && is_between(a.y, b.y, p.y)
 }
 
-/// Whether `p` lies on the segment from `a` to `b`, its ends included.
+/// Says whether `p` lies on the segment from `a` to `b`, its ends included.
 pub fn on_segment(p: Point, a: Point, b: Point) -> bool
     requires p { IsInRange p }
     requires a { IsInRange a }
@@ -84,15 +85,15 @@ pub fn on_segment(p: Point, a: Point, b: Point) -> bool
     area2(a, b, p) == 0 && is_in_box(p, a, b)
 }
 
-// Whether one of two numbers is negative and the other positive.
+// Says whether one of two numbers is negative and the other positive.
 fn are_opposite(s: i64, t: i64) -> bool
     ensures { IsTrue result ↔ AreOpposite s t }
 {
     (s < 0 && 0 < t) || (0 < s && t < 0)
 }
 
-/// Whether the segments from `a` to `b` and from `c` to `d` cross: each has its ends strictly on the two
-/// sides of the other.
+/// Says whether the segments from `a` to `b` and from `c` to `d` cross: each has its ends strictly on the two sides
+/// of the other.
 pub fn crosses(a: Point, b: Point, c: Point, d: Point) -> bool
     requires a { IsInRange a }
     requires b { IsInRange b }
@@ -103,14 +104,14 @@ pub fn crosses(a: Point, b: Point, c: Point, d: Point) -> bool
     are_opposite(area2(a, b, c), area2(a, b, d)) && are_opposite(area2(c, d, a), area2(c, d, b))
 }
 
-// Whether a direction is west or leads up.
+// Says whether the direction `d` points west or upwards, in the first half of the clockwise order.
 fn is_first_half(d: Point) -> bool
     ensures { IsTrue result ↔ IsFirstHalf d }
 {
     0 < d.y || (d.y == 0 && d.x < 0)
 }
 
-// Twice the area between two directions.
+// Returns the cross product of two directions.
 fn cross2(d: Point, e: Point) -> i64
     requires d { IsDirection d }
     requires e { IsDirection e }
@@ -124,8 +125,8 @@ fn cross2(d: Point, e: Point) -> i64
     )
 }
 
-/// Whether direction `d` comes strictly before direction `e` in the clockwise order that starts at west.
-/// No coordinate of the two is beyond 2^21 in size, and neither is (0, 0).
+/// Says whether direction `d` comes strictly before direction `e` in the clockwise order that starts at west. No
+/// coordinate of the two is beyond 2^21 in size, and neither is (0, 0).
 pub fn clock_before(d: Point, e: Point) -> bool
     requires d { IsDirection d }
     requires e { IsDirection e }

@@ -1,4 +1,4 @@
-//! The edges of the program: the words that it was given, and the number with which it ends.
+//! The command line of the program: the words that it was given, and the exit code with which it ends.
 ghost use Rattle.std.specs.Prelude.{◌≡◌, [], drop, IfOk, OnErr, IfErr, IsErr, MatchResult};
 ghost use Rattle.std.specs.Vec.Iter.{into_iter_items};
 ghost use Rattle.std.specs.IoError.{error_kind};
@@ -11,7 +11,7 @@ use std::env::Args;
 use std::io::{self, ErrorKind};
 use std::process::ExitCode;
 
-// All words.
+// Returns all words of `all`. It fails only when out of memory.
 fn all_of(alloc: Global, mut all: Args) -> Result<Vec<String>, AllocError>
     ensures { IfOk result (λ words. words.items ≡ into_iter_items all) }
 {
@@ -22,7 +22,7 @@ fn all_of(alloc: Global, mut all: Args) -> Result<Vec<String>, AllocError>
     Ok(words)
 }
 
-// All words but the first.
+// Returns all words of `all` but the first, the program's name. It fails only when out of memory.
 fn after_first(alloc: Global, mut all: Args) -> Result<Vec<String>, AllocError>
     ensures { IfOk result (λ words. words.items ≡ drop 1 (into_iter_items all)) }
 {
@@ -32,8 +32,8 @@ fn after_first(alloc: Global, mut all: Args) -> Result<Vec<String>, AllocError>
     }
 }
 
-/// The words after the program's name, by what the system reports of its arguments: none where one of
-/// them is not UTF-8, since the words are then bad. It fails only when out of memory.
+/// Returns the words of the command line after the program's name, or none where one of them is not UTF-8, since the
+/// words are then bad. It fails only when out of memory.
 pub fn words_of(alloc: Global, args: io::Result<Args>) -> Result<Vec<String>, AllocError>
     ensures words { IfOk result (λ words. MatchResult args
         (λ all. words.items ≡ drop 1 (into_iter_items all)) (λ _. words.items ≡ [])) }
@@ -52,7 +52,7 @@ pub fn words_of(alloc: Global, args: io::Result<Args>) -> Result<Vec<String>, Al
     }
 }
 
-/// The number of a status, as the program hands it to the system.
+/// Converts a status to the exit code of the program.
 pub fn exit_code(status: Status) -> ExitCode
     ensures { exit_status result ≡ status_number status }
 {

@@ -1,5 +1,5 @@
-//! Pigale: the words after its name to the top call, standard input to its source, its sink to standard
-//! output, and the number of its status to the caller. Its stored run is on three solids.
+//! The program Pigale: it passes the words of its command line, standard input and standard output to the top call,
+//! and exits by its status. Its stored run is on three solids.
 #![tactic(auto)]
 
 mod edge;
@@ -10,6 +10,7 @@ use pigale_shell::{Status, pigale};
 use std::env;
 use std::process::ExitCode;
 
+// Runs the top call on the words of the command line, standard input and standard output, and returns the exit code.
 fn main(rt: HostRuntime) -> ExitCode {
     let Ok(words) = words_of(rt.alloc(), env::args(&rt)) else {
         return exit_code(Status::NoMemory);

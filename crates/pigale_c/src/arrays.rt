@@ -1,4 +1,4 @@
-//! Maps and points from arrays, and what is written into arrays.
+//! Maps and points read from the caller's arrays, and results written into arrays.
 ghost use Rattle.std.specs.Prelude.{◌≡◌, ◌<◌, ◌↔◌, ◌++◌, length, take, drop, pos, IsTrue, IfOk, IfErr};
 ghost use Rattle.map_lists.specs.Cuts.{AreCuts};
 ghost use Rattle.pg_plane.specs.Range.{IsInRange, IsWithin};
@@ -18,7 +18,7 @@ pub(crate) struct MapArrays<'a> {
     pub(crate) neighbours: &'a [u16],
 }
 
-// Says whether the ends do not fall and go to `total`.
+// Says whether `ends` do not fall, and the last one is `total`.
 fn are_cuts(ends: &[usize], total: usize) -> bool
     ensures { IsTrue result ↔ AreCuts 0 ends.now total }
 {
@@ -32,14 +32,15 @@ fn are_cuts(ends: &[usize], total: usize) -> bool
     from == total
 }
 
-// Says whether two arrays are those of a map.
+// Says whether two arrays describe a map: 1 to 4095 ends, which do not fall and cut up all `neighbours`.
 fn is_given_map(ends: &[usize], neighbours: &[u16]) -> bool
     ensures { IsTrue result ↔ IsGivenMap ends.now neighbours.now }
 {
     !ends.is_empty() && ends.len() < 4096 && are_cuts(ends, neighbours.len())
 }
 
-/// Returns the rotation lists of two arrays.
+/// Copies the rotation lists that two arrays describe. It fails with `BadArgument` where they describe none, and when
+/// out of memory.
 pub(crate) fn lists_of(
     alloc: Global,
     ends: &[usize],
@@ -74,7 +75,8 @@ fn is_in_range(p: Point) -> bool
     is_coordinate(p.x) && is_coordinate(p.y)
 }
 
-/// Returns the points of `n` vertices by two arrays.
+/// Copies the points of `n` vertices from two arrays of coordinates. It fails with `BadArgument` where a length or a
+/// coordinate is wrong, and when out of memory.
 pub(crate) fn points_of(alloc: Global, n: usize, x: &[i32], y: &[i32]) -> Result<Points, Failure>
     ensures points { IfOk result (λ points. points ≡ points_in x.now y.now) }
     ensures given { IfOk result (λ points. ArePlaces n x.now y.now) }
@@ -96,7 +98,7 @@ pub(crate) fn points_of(alloc: Global, n: usize, x: &[i32], y: &[i32]) -> Result
     Ok(points)
 }
 
-/// Writes points into two arrays of coordinates.
+/// Writes the coordinates of `points` into the arrays `x` and `y`.
 pub(crate) fn put_points(points: &[Point], x: &mut [i32], y: &mut [i32])
     requires x { length x.old ≡ length points.now }
     requires y { length y.old ≡ length points.now }
@@ -109,7 +111,7 @@ pub(crate) fn put_points(points: &[Point], x: &mut [i32], y: &mut [i32])
     }
 }
 
-/// Writes over the front of an array, as much as there is room for.
+/// Copies `from` to the front of `to`, as much as there is room for.
 pub(crate) fn put_front<T: Copy>(from: &[T], to: &mut [T])
     ensures { to.new ≡ take (length to.old) from.now ++ drop (length from.now) to.old }
 {

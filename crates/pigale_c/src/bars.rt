@@ -1,4 +1,4 @@
-//! Visibility drawings of maps, as bars and columns in arrays.
+//! Calls for C on visibility drawings of maps: drawn and judged, as bars and columns in arrays.
 ghost use Rattle.std.specs.Prelude.{◌≡◌, ◌↔◌, length, IsTrue, IfOk, IfErr};
 ghost use Rattle.conn_parts.specs.BiconnectedMaps.{IsBiconnectedMap, BreaksFirst};
 ghost use Rattle.visibility.specs.Figures.{IsBarFigure};
@@ -25,7 +25,7 @@ struct BarArrays<'a> {
 }
 
 impl BarArrays<'_> {
-    // Returns the bars of the arrays.
+    // Copies the bars out of the arrays. It fails only when out of memory.
     fn figure(&self, alloc: Global) -> Result<BarFigure, AllocError>
         ensures { IfOk result (λ fig. fig ≡ bars_in self.now.y.now self.now.x1.now self.now.x2.now self.now.column.now) }
     {
@@ -44,7 +44,7 @@ impl BarArrays<'_> {
     }
 }
 
-// Judges bars of a map within a width.
+// Returns the verdict on `bars` as a drawing of the map `given` within `width`, or why there is none.
 fn judged(given: &MapArrays<'_>, bars: &BarArrays<'_>, width: i32) -> Result<Outcome, Failure>
     ensures { AreJudgedBars given.now.ends.now given.now.neighbours.now (bars_in bars.now.y.now bars.now.x1.now bars.now.x2.now bars.now.column.now) width (outcome_of result) }
 {
@@ -58,7 +58,8 @@ fn judged(given: &MapArrays<'_>, bars: &BarArrays<'_>, width: i32) -> Result<Out
     Ok(Outcome::Bars(verdict))
 }
 
-/// Judges a visibility drawing of a map within the width from 0 to `width`.
+/// Judges a visibility drawing of a map within the width from 0 to `width`. Returns the status of the verdict, and
+/// writes the vertices that it names to `found`.
 #[unsafe(no_mangle)]
 pub extern "C" fn pigale_check_bars(
     alloc: Global,
@@ -82,7 +83,7 @@ pub extern "C" fn pigale_check_bars(
     report(judged(&given, &bars, width), found)
 }
 
-// Returns the bars of a map, where there is room for them.
+// Draws the map `given` by bars, where the arrays `bars` have room for them, or returns why it did not.
 fn drawn(given: &MapArrays<'_>, bars: &BarArrays<'_>) -> Result<BarFigure, Failure>
     ensures shape { IfOk result (AreBarsFor (length given.now.ends.now)) }
     ensures columns { IfOk result (λ fig. length fig.column ≡ length bars.now.column.now) }
@@ -103,7 +104,8 @@ fn drawn(given: &MapArrays<'_>, bars: &BarArrays<'_>) -> Result<BarFigure, Failu
     Ok(figure)
 }
 
-/// Draws a biconnected plane map by bars, over the width f - 1 for f faces.
+/// Draws a biconnected plane map by bars, over the width f - 1 for f faces, into the last four arrays. Returns a
+/// status, and writes the numbers beside it to `found`.
 #[unsafe(no_mangle)]
 pub extern "C" fn pigale_bars(
     alloc: Global,

@@ -1,4 +1,4 @@
-//! Drawings of maps, judged.
+//! Calls for C that judge straight-line drawings of maps, also those that are to be convex.
 ghost use Rattle.std.specs.Prelude.{◌≡◌, Some, None, IfOk, IfErr};
 ghost use Rattle.simple_maps.specs.Faults.{first_fault};
 ghost use Rattle.refusals.specs.Conditions.{fault_refusal};
@@ -16,14 +16,14 @@ use half_edges::{HalfMap, VertexId};
 use pg_plane::{Point, Points};
 use std::alloc::{AllocError, Global};
 
-// A map, and a place for each vertex.
+// A map, and a point for each of its vertices.
 #[derive(Drop)]
 struct Drawing {
     map: HalfMap,
     points: Points,
 }
 
-// Returns the map and the places of arrays.
+// Reads a map and its points from arrays, or returns why they are none.
 fn drawing_of(given: &MapArrays<'_>, x: &[i32], y: &[i32]) -> Result<Drawing, Failure>
     ensures map { IfOk result (λ drawing. drawing.map.lists ≡ lists_in given.now.ends.now given.now.neighbours.now) }
     ensures points { IfOk result (λ drawing. drawing.points ≡ points_in x.now y.now) }
@@ -39,7 +39,7 @@ fn drawing_of(given: &MapArrays<'_>, x: &[i32], y: &[i32]) -> Result<Drawing, Fa
     Ok(Drawing { map, points })
 }
 
-// Judges the drawing of arrays in the grid from (0, 0) to a corner.
+// Returns the verdict on a straight-line drawing in the grid from (0, 0) to `corner`, or why there is none.
 fn judged(given: &MapArrays<'_>, x: &[i32], y: &[i32], corner: Point) -> Result<Outcome, Failure>
     ensures { IsJudged given.now.ends.now given.now.neighbours.now x.now y.now corner.x corner.y (outcome_of result) }
 {
@@ -48,7 +48,8 @@ fn judged(given: &MapArrays<'_>, x: &[i32], y: &[i32], corner: Point) -> Result<
     Ok(Outcome::Drawing(verdict))
 }
 
-/// Judges a straight-line drawing of a map in the grid from (0, 0) to (`width`, `height`).
+/// Judges a straight-line drawing of a map in the grid from (0, 0) to (`width`, `height`). Returns the status of the
+/// verdict, and writes the vertices that it names to `found`.
 #[unsafe(no_mangle)]
 pub extern "C" fn pigale_check(
     alloc: Global,
@@ -74,7 +75,8 @@ pub extern "C" fn pigale_check(
     report(judged(&given, x, y, corner), found)
 }
 
-// Returns the verdict on the bends of a drawing, over the first dart of vertex 0.
+// Returns the verdict on the bends of a drawing's faces, with the face of the first dart of vertex 0 outside. It
+// fails only when out of memory.
 fn bends(alloc: Global, map: &HalfMap, points: &Points) -> Result<ConvexVerdict, AllocError>
     requires { HasPlaces map.now.lists points.now }
     ensures { IfOk result (IsBendVerdict map.now.lists points.now) }
@@ -89,7 +91,8 @@ fn bends(alloc: Global, map: &HalfMap, points: &Points) -> Result<ConvexVerdict,
     }
 }
 
-// Judges the drawing of arrays that is to be convex: it has a first fault, or a verdict on its bends.
+// Returns the first fault of a straight-line drawing in the grid from (0, 0) to `corner`, or else the verdict on its
+// bends.
 fn judged_convex(
     given: &MapArrays<'_>,
     x: &[i32],
@@ -108,7 +111,8 @@ fn judged_convex(
     }
 }
 
-/// Judges a straight-line drawing of a map that is to have convex faces, in the grid from (0, 0) to (`width`, `height`).
+/// Judges a straight-line drawing of a map that is to have convex faces, in the grid from (0, 0) to (`width`,
+/// `height`). Returns the status of the verdict, and writes the vertices that it names to `found`.
 #[unsafe(no_mangle)]
 pub extern "C" fn pigale_check_convex(
     alloc: Global,

@@ -1,4 +1,4 @@
-//! The counts of a map.
+//! The call for C that counts vertices, edges, faces and components of a map, and its genus.
 ghost use Rattle.pigale_c.specs.Counted.{IsCounted};
 ghost use Rattle.pigale_c.specs.Numbers.{Reports, outcome_of};
 
@@ -23,7 +23,7 @@ pub struct Counts {
     pub genus: u32,
 }
 
-// Writes the counts of the map of two arrays.
+// Writes the counts of the map of two arrays to `counts`, or returns why there are none.
 fn count(
     alloc: Global,
     ends: &[usize],
@@ -44,7 +44,8 @@ fn count(
     Ok(Outcome::Served)
 }
 
-/// Counts the vertices, edges, faces and components of a map, and its genus.
+/// Counts the vertices, edges, faces and components of a map, and its genus, into `counts`. Returns a status, and
+/// writes the numbers beside it to `found`.
 ///
 /// `ends` has for each vertex the number of entries of `neighbours` up to the end of its list.
 #[unsafe(no_mangle)]

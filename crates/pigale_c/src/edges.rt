@@ -1,4 +1,4 @@
-//! Graphs from arrays of edges.
+//! Graphs read from the caller's arrays of edges.
 ghost use Rattle.std.specs.Prelude.{◌≡◌, ◌<◌, ◌↔◌, map, All, IsTrue, IfOk, IfErr};
 ghost use Rattle.graph6_text.specs.Graphs.{IsGraph, ComesBefore, edge_of};
 ghost use Rattle.pigale_c.specs.Embedded.{edge_at, graph_in, IsEdge, RiseFrom};
@@ -19,21 +19,21 @@ pub struct EdgeEnds {
     pub b: u16,
 }
 
-// Says whether an edge comes before another: by its lesser end, and where these are one by its greater.
+// Says whether the edge `e` comes before `f`: by the lesser end, and then by the greater.
 fn is_before(e: EdgeEnds, f: EdgeEnds) -> bool
     ensures { IsTrue result ↔ ComesBefore (edge_at e) (edge_at f) }
 {
     e.a < f.a || e.a == f.a && e.b < f.b
 }
 
-// Says whether an edge joins two of `n` vertices, the lesser first, and comes behind another.
+// Says whether the edge `e` joins two of `n` vertices, the lesser first, and comes after the edge `last`.
 fn is_next(n: u16, last: EdgeEnds, e: EdgeEnds) -> bool
     ensures { IsTrue result ↔ (IsEdge n e × ComesBefore (edge_at last) (edge_at e)) }
 {
     e.a < e.b && e.b < n && is_before(last, e)
 }
 
-// Says whether these are edges between `n` vertices, in order and each once.
+// Says whether `edges` join vertices below `n`, in order and each once.
 fn are_edges(n: u16, edges: &[EdgeEnds]) -> bool
     ensures { IsTrue result ↔ RiseFrom n (record { a = 0; b = 0 }) edges.now }
 {
@@ -47,7 +47,7 @@ fn are_edges(n: u16, edges: &[EdgeEnds]) -> bool
     true
 }
 
-// Returns an edge as it is stored.
+// Converts an edge of an array to one of a graph.
 fn stored(e: EdgeEnds) -> Ends
     requires { e.a < e.b }
     ensures { edge_of result ≡ edge_at e }
@@ -58,7 +58,7 @@ fn stored(e: EdgeEnds) -> Ends
     }
 }
 
-// Returns edges as they are stored.
+// Converts edges of an array to those of a graph. It fails only when out of memory.
 fn stored_edges(alloc: Global, edges: &[EdgeEnds]) -> Result<Vec<Ends>, AllocError>
     requires { All (λ e. e.a < e.b) edges.now }
     ensures { IfOk result (λ list. map edge_of list.items ≡ map edge_at edges.now) }
@@ -70,7 +70,7 @@ fn stored_edges(alloc: Global, edges: &[EdgeEnds]) -> Result<Vec<Ends>, AllocErr
     Ok(list)
 }
 
-// Says whether these are a number of vertices and edges of a graph.
+// Says whether `n` is at most 255 and `edges` are those of a graph on `n` vertices.
 fn is_given(n: u16, edges: &[EdgeEnds]) -> bool
     ensures { IsTrue result ↔ IsGraph (graph_in n edges.now) }
 {
@@ -85,7 +85,8 @@ pub(crate) struct GraphArrays<'a> {
     pub(crate) edges: &'a [EdgeEnds],
 }
 
-/// Returns the graph of a number of vertices and an array of edges.
+/// Makes the graph of `given`, or returns `BadArgument` where the arrays describe none. It also fails when out of
+/// memory.
 pub(crate) fn graph_of(given: &GraphArrays<'_>) -> Result<Graph, Failure>
     ensures graph { IfOk result (λ graph. graph ≡ graph_in given.now.n given.now.edges.now) }
     ensures given { IfOk result (λ graph. IsGraph (graph_in given.now.n given.now.edges.now)) }

@@ -1,4 +1,4 @@
-//! Maps and drawings of graphs, or witnesses that there are none, in arrays.
+//! The call for C that embeds a graph: a plane map with its drawing, or a Kuratowski witness, in arrays.
 ghost use Rattle.std.specs.Prelude.{◌≡◌, ◌≤◌, map, IfOk, IfErr};
 ghost use Rattle.embed_graph.specs.Figures.{IsEmbedFigure};
 ghost use Rattle.pigale_c.specs.Embedded.{graph_in, number, IsGivenGraph, IsSmall, IsEmbedded};
@@ -13,7 +13,8 @@ use map_lists::VertexId;
 use refusals::Refusal;
 use std::alloc::{AllocError, Global};
 
-// Returns what a graph is answered by, where there is room for two coordinates of each vertex.
+// Returns the map and drawing of the graph `given`, or its witness, where `x` and `y` have room for all vertices.
+// Else returns why not.
 fn figure_of(given: &GraphArrays<'_>, x: &[i32], y: &[i32]) -> Result<EmbedFigure, Failure>
     ensures given { IfOk result (λ figure. IsGivenGraph given.now.n given.now.edges.now x.now y.now) }
     ensures enough { IfOk result (λ figure. 3 ≤ given.now.n) }
@@ -33,7 +34,7 @@ fn figure_of(given: &GraphArrays<'_>, x: &[i32], y: &[i32]) -> Result<EmbedFigur
     Ok(figure)
 }
 
-// Returns the numbers of vertices.
+// Copies the numbers of `vertices`. It fails only when out of memory.
 fn numbers_of_vertices(alloc: Global, vertices: &[VertexId]) -> Result<Vec<u16>, AllocError>
     ensures { IfOk result (λ numbers. numbers.items ≡ map number vertices.now) }
 {
@@ -44,7 +45,9 @@ fn numbers_of_vertices(alloc: Global, vertices: &[VertexId]) -> Result<Vec<u16>,
     Ok(numbers)
 }
 
-/// Writes a plane map of a graph and its drawing in the grid n - 2 by n - 2, or the paths of a Kuratowski witness.
+/// Writes a plane map of a graph to `ends` and `neighbours` and its drawing in the grid n - 2 by n - 2 to `x` and
+/// `y`. Where the graph is not planar, it writes the paths of a Kuratowski witness instead. Returns a status, and
+/// writes the numbers beside it to `found`.
 #[unsafe(no_mangle)]
 pub extern "C" fn pigale_embed(
     alloc: Global,

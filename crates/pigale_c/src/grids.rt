@@ -1,4 +1,4 @@
-//! Straight-line drawings of maps, as coordinates in arrays.
+//! Calls for C that draw maps with straight edges: by the shift method, by Schnyder's, and convex.
 ghost use Rattle.std.specs.Prelude.{◌≡◌, ◌<◌, length, IfOk, IfErr};
 ghost use Rattle.pigale_c.specs.Arrays.{lists_in};
 ghost use Rattle.pigale_c.specs.Drawn.{IsGivenGrid, IsShiftDrawn, IsSchnyderDrawn, IsConvexDrawn};
@@ -13,7 +13,7 @@ use grid_figures::shift_figures::shift_figure;
 use map_lists::Rotations;
 use std::alloc::Global;
 
-// Returns the lists of a map, where there is room for two coordinates of each vertex.
+// Reads the lists of the map `given`, where `x` and `y` have room for all vertices. Else returns why not.
 fn lists_with_room(given: &MapArrays<'_>, x: &[i32], y: &[i32]) -> Result<Rotations, Failure>
     ensures lists { IfOk result (λ lists. lists ≡ lists_in given.now.ends.now given.now.neighbours.now) }
     ensures given { IfOk result (λ lists. IsGivenGrid given.now.ends.now given.now.neighbours.now x.now y.now) }
@@ -28,7 +28,7 @@ fn lists_with_room(given: &MapArrays<'_>, x: &[i32], y: &[i32]) -> Result<Rotati
     Ok(lists)
 }
 
-// Writes the drawing of a map by the shift method.
+// Writes the drawing of the map `given` by the shift method into `x` and `y`, or returns why there is none.
 fn shift(given: &MapArrays<'_>, x: &mut [i32], y: &mut [i32]) -> Result<Outcome, Failure>
     ensures { IsShiftDrawn given.now.ends.now given.now.neighbours.now x.old y.old x.new y.new (outcome_of result) }
 {
@@ -38,7 +38,7 @@ fn shift(given: &MapArrays<'_>, x: &mut [i32], y: &mut [i32]) -> Result<Outcome,
     Ok(Outcome::Served)
 }
 
-// Writes the drawing of a map by Schnyder's method.
+// Writes the drawing of the map `given` by Schnyder's method into `x` and `y`, or returns why there is none.
 fn schnyder(given: &MapArrays<'_>, x: &mut [i32], y: &mut [i32]) -> Result<Outcome, Failure>
     ensures { IsSchnyderDrawn given.now.ends.now given.now.neighbours.now x.old y.old x.new y.new (outcome_of result) }
 {
@@ -48,7 +48,7 @@ fn schnyder(given: &MapArrays<'_>, x: &mut [i32], y: &mut [i32]) -> Result<Outco
     Ok(Outcome::Served)
 }
 
-// Writes the convex drawing of a map.
+// Writes the convex drawing of the map `given` into `x` and `y`, or returns why there is none.
 fn convex(given: &MapArrays<'_>, x: &mut [i32], y: &mut [i32]) -> Result<Outcome, Failure>
     ensures { IsConvexDrawn given.now.ends.now given.now.neighbours.now x.old y.old x.new y.new (outcome_of result) }
 {
@@ -58,7 +58,8 @@ fn convex(given: &MapArrays<'_>, x: &mut [i32], y: &mut [i32]) -> Result<Outcome
     Ok(Outcome::Served)
 }
 
-/// Draws a plane map with straight edges by the shift method, in the grid 2n - 4 by n - 2.
+/// Draws a plane map with straight edges by the shift method, in the grid 2n - 4 by n - 2, into `x` and `y`. Returns
+/// a status, and writes the numbers beside it to `found`.
 #[unsafe(no_mangle)]
 pub extern "C" fn pigale_shift(
     alloc: Global,
@@ -78,7 +79,8 @@ pub extern "C" fn pigale_shift(
     report(shift(&given, x, y), found)
 }
 
-/// Draws a plane map with straight edges by Schnyder's method, in the grid n - 2 by n - 2.
+/// Draws a plane map with straight edges by Schnyder's method, in the grid n - 2 by n - 2, into `x` and `y`. Returns
+/// a status, and writes the numbers beside it to `found`.
 #[unsafe(no_mangle)]
 pub extern "C" fn pigale_schnyder(
     alloc: Global,
@@ -98,7 +100,8 @@ pub extern "C" fn pigale_schnyder(
     report(schnyder(&given, x, y), found)
 }
 
-/// Draws a three-connected plane map with convex faces, in the grid f - 1 by f - 1.
+/// Draws a three-connected plane map with convex faces, in the grid f - 1 by f - 1, into `x` and `y`. Returns a
+/// status, and writes the numbers beside it to `found`.
 #[unsafe(no_mangle)]
 pub extern "C" fn pigale_convex(
     alloc: Global,

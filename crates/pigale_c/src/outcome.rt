@@ -1,4 +1,4 @@
-//! How a call ends, as the number of a status and up to four numbers beside it.
+//! How a call for C ends: verdicts, refusals and failures as the number of a status and up to four numbers beside it.
 ghost use Rattle.std.specs.Prelude.{◌≡◌};
 ghost use Rattle.pigale_c.specs.Numbers.{four as four_of, none as none_of, one as one_of, two as two_of, three as three_of, refusal_answer_of, drawing_answer_of, bars_answer_of, rects_answer_of, answer_of, outcome_of};
 
@@ -29,6 +29,7 @@ impl From<AllocError> for Failure {
 
     ghost from_gives = { λ _ failure. failure ≡ NoMemory };
 
+    // Converts an allocation error to `NoMemory`.
     fn from(_refused: AllocError) -> Failure {
         Failure::NoMemory
     }
@@ -40,6 +41,7 @@ impl From<Unserved> for Failure {
 
     ghost from_gives = { λ unserved failure. failure ≡ failure_for unserved };
 
+    // Converts the reason why a record is not served.
     fn from(unserved: Unserved) -> Failure {
         match unserved {
             Unserved::Refused(refusal) => Failure::Refused(refusal),
@@ -55,6 +57,7 @@ impl From<MapFault> for Failure {
 
     ghost from_gives = { λ fault failure. failure ≡ failure_for (unserved_for fault) };
 
+    // Converts the fault by which lists are no map to the condition that they break.
     fn from(fault: MapFault) -> Failure {
         Failure::from(Unserved::from(fault))
     }
@@ -96,14 +99,14 @@ pub struct Answer {
     pub numbers: Numbers,
 }
 
-// Returns a status with its numbers.
+// Returns the answer with this `status` and these `numbers`.
 fn told(status: u8, numbers: Numbers) -> Answer
     ensures { result ≡ record { status = status; numbers = numbers } }
 {
     Answer { status, numbers }
 }
 
-// Returns four numbers.
+// Returns four numbers as the numbers beside a status.
 fn four(first: u32, second: u32, third: u32, fourth: u32) -> Numbers
     ensures { result ≡ four_of first second third fourth }
 {
@@ -115,35 +118,35 @@ fn four(first: u32, second: u32, third: u32, fourth: u32) -> Numbers
     }
 }
 
-// Returns no number.
+// Returns the numbers of a status that has none: zeros.
 fn none() -> Numbers
     ensures { result ≡ none_of }
 {
     four(0, 0, 0, 0)
 }
 
-// Returns the number of a vertex.
+// Returns the number of vertex `v` as the numbers beside a status.
 fn one(v: VertexId) -> Numbers
     ensures { result ≡ one_of v.0 }
 {
     four(u32::from(v.0), 0, 0, 0)
 }
 
-// Returns the numbers of two vertices.
+// Returns the numbers of two vertices as the numbers beside a status.
 fn two(u: VertexId, v: VertexId) -> Numbers
     ensures { result ≡ two_of u.0 v.0 }
 {
     four(u32::from(u.0), u32::from(v.0), 0, 0)
 }
 
-// Returns the numbers of three vertices.
+// Returns the numbers of three vertices as the numbers beside a status.
 fn three(a: VertexId, b: VertexId, c: VertexId) -> Numbers
     ensures { result ≡ three_of a.0 b.0 c.0 }
 {
     four(u32::from(a.0), u32::from(b.0), u32::from(c.0), 0)
 }
 
-// Returns the numbers of the ends of two edges.
+// Returns the numbers of the ends of two edges as the numbers beside a status.
 fn ends(e: Ends, f: Ends) -> Numbers
     ensures { result ≡ four_of e.a.0 e.b.0 f.a.0 f.b.0 }
 {
@@ -155,7 +158,7 @@ fn ends(e: Ends, f: Ends) -> Numbers
     )
 }
 
-// Returns the number of a condition, from 1, and what it says of a record.
+// Returns the status of a condition that a record breaks, from 1 on, and the vertices or the count that it names.
 fn refusal_answer(refusal: Refusal) -> Answer
     ensures { result ≡ refusal_answer_of refusal }
 {
@@ -176,7 +179,7 @@ fn refusal_answer(refusal: Refusal) -> Answer
     }
 }
 
-// Returns the answer of a verdict on a straight-line drawing.
+// Converts a verdict on a straight-line drawing to a status and its numbers.
 fn drawing_answer(verdict: Verdict) -> Answer
     ensures { result ≡ drawing_answer_of verdict }
 {
@@ -190,7 +193,7 @@ fn drawing_answer(verdict: Verdict) -> Answer
     }
 }
 
-// Returns the answer of a verdict on bars.
+// Converts a verdict on bars to a status and its numbers.
 fn bars_answer(verdict: BarVerdict) -> Answer
     ensures { result ≡ bars_answer_of verdict }
 {
@@ -206,7 +209,7 @@ fn bars_answer(verdict: BarVerdict) -> Answer
     }
 }
 
-// Returns the answer of a verdict on rectangles.
+// Converts a verdict on rectangles to a status and its numbers.
 fn rects_answer(verdict: RectVerdict) -> Answer
     ensures { result ≡ rects_answer_of verdict }
 {
@@ -221,7 +224,7 @@ fn rects_answer(verdict: RectVerdict) -> Answer
     }
 }
 
-// Returns the answer of an outcome.
+// Converts the outcome of a call to a status and its numbers.
 fn outcome_answer(outcome: Outcome) -> Answer
     ensures { result ≡ answer_of outcome }
 {
@@ -241,7 +244,7 @@ fn outcome_answer(outcome: Outcome) -> Answer
     }
 }
 
-// Returns the outcome of a call that has one, or failed.
+// Returns the outcome of a call, which is `Failed` where the call failed.
 fn ended(call: Result<Outcome, Failure>) -> Outcome
     ensures { result ≡ outcome_of call }
 {
@@ -251,7 +254,7 @@ fn ended(call: Result<Outcome, Failure>) -> Outcome
     }
 }
 
-/// Sets the numbers of the outcome of a call, and returns its status.
+/// Writes the numbers of the outcome of a call to `found`, and returns its status.
 pub(crate) fn report(call: Result<Outcome, Failure>, found: &mut Numbers) -> u8
     ensures status { result ≡ (answer_of (outcome_of call)).status }
     ensures numbers { found.new ≡ (answer_of (outcome_of call)).numbers }

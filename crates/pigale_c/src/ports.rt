@@ -1,4 +1,4 @@
-//! A source over lent bytes, and a sink that keeps its text.
+//! `LentSource` and `TextSink`: a source over lent bytes, and a sink that keeps its text in memory.
 ghost use Rattle.std.specs.Prelude.{ℕ, ◌<◌, ◌≤◌, ◌≡◌, ◌⊎◌, ◌↔◌, ◌++◌, List, [], length, take, drop, min, Some, IfOk, OnOk, OnErr, is_err, IsErr, if◌then◌else◌};
 ghost use Rattle.pg_io.specs.Io.{WhereTold, Gives, Grows, HasRisen, raised};
 

@@ -1,4 +1,4 @@
-//! Rectangular duals of maps, as rectangles in arrays.
+//! Calls for C on rectangular duals of maps: drawn and judged, as rectangles in arrays.
 ghost use Rattle.std.specs.Prelude.{◌≡◌, ◌↔◌, length, IsTrue, IfOk, IfErr};
 ghost use Rattle.rect_class.specs.RectMaps.{IsRectMap};
 ghost use Rattle.rect_class.specs.Refusals.{BreaksRect};
@@ -26,7 +26,7 @@ struct RectArrays<'a> {
 }
 
 impl RectArrays<'_> {
-    // Returns the rectangles of the arrays.
+    // Copies the rectangles out of the arrays. It fails only when out of memory.
     fn figure(&self, alloc: Global) -> Result<RectFigure, AllocError>
         ensures { IfOk result (λ fig. fig ≡ rects_in self.now.x1.now self.now.x2.now self.now.y1.now self.now.y2.now) }
     {
@@ -45,7 +45,7 @@ impl RectArrays<'_> {
     }
 }
 
-// Judges rectangles of a map.
+// Returns the verdict on `rects` as a rectangular dual of the map `given`, or why there is none.
 fn judged(given: &MapArrays<'_>, rects: &RectArrays<'_>) -> Result<Outcome, Failure>
     ensures { AreJudgedRects given.now.ends.now given.now.neighbours.now (rects_in rects.now.x1.now rects.now.x2.now rects.now.y1.now rects.now.y2.now) (outcome_of result) }
 {
@@ -59,7 +59,8 @@ fn judged(given: &MapArrays<'_>, rects: &RectArrays<'_>) -> Result<Outcome, Fail
     Ok(Outcome::Rects(verdict))
 }
 
-/// Judges a rectangular dual of a map.
+/// Judges a rectangular dual of a map. Returns the status of the verdict, and writes the vertices that it names to
+/// `found`.
 #[unsafe(no_mangle)]
 pub extern "C" fn pigale_check_rects(
     alloc: Global,
@@ -82,7 +83,7 @@ pub extern "C" fn pigale_check_rects(
     report(judged(&given, &rects), found)
 }
 
-// Returns the rectangles of a map, where there is room for them.
+// Draws the map `given` as a rectangular dual, where the arrays `rects` have room for it, or returns why it did not.
 fn drawn(given: &MapArrays<'_>, rects: &RectArrays<'_>) -> Result<RectFigure, Failure>
     ensures shape { IfOk result (AreRectsFor (length given.now.ends.now)) }
     ensures given { IfOk result (λ fig. IsGivenRects given.now.ends.now given.now.neighbours.now (rects_in rects.now.x1.now rects.now.x2.now rects.now.y1.now rects.now.y2.now)) }
@@ -101,7 +102,8 @@ fn drawn(given: &MapArrays<'_>, rects: &RectArrays<'_>) -> Result<RectFigure, Fa
     }
 }
 
-/// Draws a map of triangles within a quadrangle as a rectangular dual, within n - 2 by n - 2.
+/// Draws a map of triangles within a quadrangle as a rectangular dual, within n - 2 by n - 2, into the four arrays.
+/// Returns a status, and writes the numbers beside it to `found`.
 #[unsafe(no_mangle)]
 pub extern "C" fn pigale_rect(
     alloc: Global,

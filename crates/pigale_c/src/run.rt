@@ -1,4 +1,4 @@
-//! One run of the program over memory.
+//! The call for C that runs the program's words over an input in memory.
 ghost use Rattle.pigale_c.specs.Run.{RunsText, RunsTo};
 
 use crate::arrays::put_front;
@@ -7,14 +7,14 @@ use crate::words::words_of;
 use pigale_shell::{Status, pigale};
 use std::alloc::{AllocError, Global};
 
-// How a run ended, and what it wrote.
+// The status of a run, and the text that it wrote.
 #[derive(Drop)]
 struct Run {
     status: Status,
     text: Vec<u8>,
 }
 
-// Runs the job of the words of a text over an input.
+// Runs the job that `words` name, with spaces between them, over `input`.
 fn run_of_text(alloc: Global, words: &[u8], input: &[u8]) -> Run
     ensures { RunsText words.now input.now result.status result.text.items }
 {

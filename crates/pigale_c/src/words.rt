@@ -1,11 +1,12 @@
-//! The words of a text.
+//! A text split into the words of a command at its spaces.
 ghost use Rattle.std.specs.Prelude.{◌≡◌, [], ◌∷◌, ◌++◌, map, string_bytes, IfOk, IsUtf8};
 ghost use Rattle.std.specs.Bool.{OnTrue, OnFalse};
 ghost use Rattle.pigale_c.specs.Words.{GivesWords};
 
 use std::alloc::{AllocError, Global};
 
-// Appends the word so far to the words and begins the next one; or returns `false`, where it is not UTF-8.
+// Moves the bytes of `word` to `words` as a string, and empties `word`. Returns false where they are not UTF-8. It
+// fails only when out of memory.
 fn close_word(
     alloc: Global,
     word: &mut Vec<u8>,
@@ -25,7 +26,8 @@ fn close_word(
     }
 }
 
-/// Returns the words of a text in which a space stands between each two, or no words where one is not UTF-8.
+/// Returns the words of a text that spaces separate, or no words where one is not UTF-8. It fails only when out of
+/// memory.
 pub(crate) fn words_of(alloc: Global, text: &[u8]) -> Result<Vec<String>, AllocError>
     ensures { IfOk result (λ words. GivesWords text.now (map string_bytes words.items)) }
 {

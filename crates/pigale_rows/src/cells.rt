@@ -1,16 +1,16 @@
-//! Grids of cells within a quadrangle.
+//! Test maps that are grids of cells with diagonals, within a quadrangle.
 use map_lists::ItemLists;
 use std::alloc::Global;
 
-/// The number of the cell in column i and row j, behind the four vertices outside.
+/// Returns the vertex number of the cell in column `i` and row `j`, after the four outer vertices.
 fn cell(columns: u16, i: u16, j: u16) -> u16 {
     j.wrapping_mul(columns).wrapping_add(i).wrapping_add(4)
 }
 
-/// Where there is no cell.
+/// Stands for no neighbour.
 const NONE: u16 = u16::MAX;
 
-/// The cell there, or else what stands for it.
+/// Returns the vertex number of the cell in column `i` and row `j`, or `other` where the grid has no such cell.
 fn cell_or(columns: u16, rows: u16, i: u16, j: u16, other: u16) -> u16 {
     if i < columns && j < rows {
         cell(columns, i, j)
@@ -19,7 +19,8 @@ fn cell_or(columns: u16, rows: u16, i: u16, j: u16, other: u16) -> u16 {
     }
 }
 
-/// The neighbours of that cell: above, to the right, below and to the left, and along diagonals that rise.
+/// Returns the six neighbours of the cell in column `i` and row `j`: above, right, below and left, and along rising
+/// diagonals.
 fn around(columns: u16, rows: u16, i: u16, j: u16) -> [u16; 6] {
     let (right, above) = (i.wrapping_add(1), j.wrapping_add(1));
     let (left, below) = (i.wrapping_sub(1), j.wrapping_sub(1));
@@ -33,7 +34,7 @@ fn around(columns: u16, rows: u16, i: u16, j: u16) -> [u16; 6] {
     ]
 }
 
-/// Appends a list of those of six numbers that stand for something.
+/// Appends to `lists` a list of those `numbers` that are not `NONE`.
 fn push_some(alloc: Global, lists: &mut ItemLists<u16>, numbers: [u16; 6]) {
     let mut list = Vec::new(alloc);
     for number in numbers {
@@ -44,7 +45,7 @@ fn push_some(alloc: Global, lists: &mut ItemLists<u16>, numbers: [u16; 6]) {
     let _ = lists.push(&list);
 }
 
-/// Appends a list of so many numbers, each one step behind the one before it, between two others.
+/// Appends to `lists` the `count` numbers from `first` on by steps of `step`, between the two `ends`.
 fn push_side(
     alloc: Global,
     lists: &mut ItemLists<u16>,
@@ -64,7 +65,7 @@ fn push_side(
     let _ = lists.push(&list);
 }
 
-/// Appends the lists of the vertices outside: that of each is one side between its neighbours.
+/// Appends the lists of the four outer vertices: each has one side of the grid between its outer neighbours.
 fn push_sides(alloc: Global, lists: &mut ItemLists<u16>, columns: u16, rows: u16) {
     let (last, top) = (columns.wrapping_sub(1), rows.wrapping_sub(1));
     let (down, left) = (columns.wrapping_neg(), 1u16.wrapping_neg());
@@ -81,8 +82,8 @@ fn push_sides(alloc: Global, lists: &mut ItemLists<u16>, columns: u16, rows: u16
     push_side(alloc, lists, [0, 2], cell(columns, 0, 0), 1, columns);
 }
 
-/// Appends the lists of a grid of cells with diagonals, within a quadrangle of which each vertex is joined to one side:
-/// the left one, the upper, the right and the lower.
+/// Appends the lists of a grid of cells with diagonals, within a quadrangle. Each of its vertices is joined to one
+/// side: the left, the upper, the right and the lower one.
 pub fn push_grid(alloc: Global, lists: &mut ItemLists<u16>, columns: u16, rows: u16) {
     push_sides(alloc, lists, columns, rows);
     for j in 0..rows {

@@ -1,9 +1,10 @@
-//! Sources and sinks that a run is given.
+//! The settings of a test run: its input, how many bytes each call moves, which calls fail, and which lines are
+//! shown.
 ghost use Rattle.std.specs.Prelude.{◌<◌};
 
 use std::alloc::Global;
 
-/// How many bytes a call moves at most, and the numbers of the calls that fail, counted from 1.
+/// How a source or sink is limited: the most bytes that a call moves, and the numbers of the calls that fail, from 1.
 #[derive(Drop)]
 pub struct Cut {
     pub most: usize,
@@ -12,7 +13,7 @@ pub struct Cut {
 }
 
 impl Cut {
-    /// Calls that move all there is, and do not fail.
+    /// Returns no limit: calls move all there is, and none fails.
     pub fn none(alloc: Global) -> Cut {
         Cut {
             most: usize::MAX,
@@ -21,8 +22,8 @@ impl Cut {
     }
 }
 
-/// An input, how it comes and how the text goes, and the beginnings of the lines that are shown of a drawing, each
-/// behind a line end.
+/// The settings of a run: its input, the limits on reads and writes, and the beginnings of the lines shown of a
+/// drawing, each after a line end.
 #[derive(Drop)]
 pub struct Given {
     pub input: Vec<u8>,
@@ -32,7 +33,7 @@ pub struct Given {
 }
 
 impl Given {
-    /// No input.
+    /// Returns the settings of a run with empty input and no limits.
     pub fn new(alloc: Global) -> Given {
         Given {
             input: Vec::new(alloc),
@@ -42,7 +43,8 @@ impl Given {
         }
     }
 
-    /// Does what a line says of it; answers whether there is such a line.
+    /// Applies the line of the table that has this first `word` and `rest`. Returns false where `word` names no
+    /// setting.
     pub fn take(&mut self, word: &str, rest: &str) -> bool {
         match word {
             "read" => self.reads.most = size_of(rest),
@@ -56,7 +58,7 @@ impl Given {
     }
 }
 
-/// A number of at least 1: the text's, or the largest.
+/// Parses a number of at least 1. Anything else is the largest number.
 fn size_of(text: &str) -> usize
     ensures { 0 < result }
 {
@@ -66,7 +68,7 @@ fn size_of(text: &str) -> usize
     }
 }
 
-/// Puts the numbers between the spaces in place of some; what is no number is passed over.
+/// Replaces `found` by the numbers in `text` between spaces. Words that are no number are skipped.
 fn put_numbers(text: &str, found: &mut Vec<u64>) {
     found.clear();
     for word in text.split_whitespace() {
@@ -76,7 +78,7 @@ fn put_numbers(text: &str, found: &mut Vec<u64>) {
     }
 }
 
-/// Appends a line end and a text.
+/// Appends a line end and `text` to `lines`.
 fn put_line(text: &str, lines: &mut String) {
     let _ = lines.push('\n');
     let _ = lines.push_str(text);

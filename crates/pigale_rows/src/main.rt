@@ -1,5 +1,5 @@
-//! Runs of the top call as a table. Each line of standard input says what the runs below it are given, or runs
-//! some words; what a run writes goes to standard output, and then its status.
+//! The program of test rows on runs of the top call. Each line of standard input says what the runs below it are
+//! given, or runs some words; what a run writes goes to standard output, and then its status.
 //!
 //! The lines and the texts that they want stand together in `rows/`, and `tools/rows.py` parts them.
 //!
@@ -38,6 +38,7 @@ mod watched;
 use std::io::{self, Write};
 use table::Table;
 
+// Answers the lines on standard input one by one, on standard output.
 fn main(rt: HostRuntime) -> io::Result<()> {
     let mut out = rt.stdout();
     let mut table = Table::new(rt.alloc());

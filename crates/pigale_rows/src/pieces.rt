@@ -1,15 +1,15 @@
-//! Pieces of an input: bytes, lines of text, and maps of some families.
+//! Pieces appended to a test input: bytes in hexadecimal, lines of text, and records of maps.
 use crate::families::map_of;
 use crate::graphs;
 use map_lists::Rotations;
 use std::alloc::Global;
 
-/// The two halves of a text at its first space.
+/// Splits a line of the table at its first space. Where it has none, the second half is `other`.
 pub fn halves<'a>(text: &'a str, other: &'a str) -> (&'a str, &'a str) {
     text.split_once(' ').unwrap_or((text, other))
 }
 
-/// Appends a byte so many times; answers whether there is just one.
+/// Appends to `input` the one byte of `bytes` `times` times. Returns false where `bytes` are not just one.
 fn put_many(input: &mut Vec<u8>, bytes: &[u8], times: usize) -> bool {
     match bytes {
         [byte] => {
@@ -20,7 +20,8 @@ fn put_many(input: &mut Vec<u8>, bytes: &[u8], times: usize) -> bool {
     }
 }
 
-/// Appends bytes, or a single one as often as a text says; answers whether there are such.
+/// Appends `bytes` to `input`, or a single byte as often as the text `times` says. Returns false where it says
+/// neither.
 fn put_times(input: &mut Vec<u8>, bytes: &[u8], times: &str) -> bool {
     match times.parse::<usize>() {
         Ok(times) => put_many(input, bytes, times),
@@ -31,7 +32,8 @@ fn put_times(input: &mut Vec<u8>, bytes: &[u8], times: &str) -> bool {
     }
 }
 
-/// Appends bytes in hexadecimal, or a byte, `*` and how often it comes; answers whether they are such.
+/// Appends to `input` bytes in hexadecimal, or a byte, `*` and how often it comes. Returns false where `word` is
+/// neither.
 fn put_digits(alloc: Global, input: &mut Vec<u8>, word: &str) -> bool {
     let (digits, times) = word.split_once('*').unwrap_or((word, ""));
     match hex::decode(alloc, digits) {
@@ -40,7 +42,7 @@ fn put_digits(alloc: Global, input: &mut Vec<u8>, word: &str) -> bool {
     }
 }
 
-/// Appends all that the words between the spaces say in hexadecimal; answers whether they do.
+/// Appends to `input` the bytes that the words of `rest` give in hexadecimal. Returns false where one does not.
 fn put_bytes(alloc: Global, input: &mut Vec<u8>, rest: &str) -> bool {
     for word in rest.split_whitespace() {
         if !put_digits(alloc, input, word) {
@@ -50,7 +52,7 @@ fn put_bytes(alloc: Global, input: &mut Vec<u8>, rest: &str) -> bool {
     true
 }
 
-/// Appends a text, and a line end behind it where it is a closed line.
+/// Appends `text` to `input`, and a line end if it is a closed line. It always returns true.
 fn put_text(input: &mut Vec<u8>, text: &str, closed: bool) -> bool {
     let _ = input.extend_from_slice(text.as_bytes());
     if closed {
@@ -59,7 +61,7 @@ fn put_text(input: &mut Vec<u8>, text: &str, closed: bool) -> bool {
     true
 }
 
-/// Appends a number of a record, in two bytes or in one.
+/// Appends a number of a planar_code record, in two bytes if `wide` is set, else in one.
 fn put_number(input: &mut Vec<u8>, wide: bool, number: u16) {
     let [high, low] = number.to_be_bytes();
     if wide {
@@ -68,7 +70,7 @@ fn put_number(input: &mut Vec<u8>, wide: bool, number: u16) {
     let _ = input.push(low);
 }
 
-/// Appends the numbers of a list, and the 0 behind them.
+/// Appends the numbers of a list of a planar_code record, and the 0 after them.
 fn put_list(input: &mut Vec<u8>, wide: bool, list: &[u16]) {
     for u in list {
         put_number(input, wide, u.saturating_add(1));
@@ -76,7 +78,7 @@ fn put_list(input: &mut Vec<u8>, wide: bool, list: &[u16]) {
     put_number(input, wide, 0);
 }
 
-/// Appends lists as a record, wide or narrow.
+/// Appends `lists` as a planar_code record, wide or narrow.
 fn put_record(input: &mut Vec<u8>, wide: bool, lists: &Rotations) {
     if wide {
         let _ = input.push(0);
@@ -87,7 +89,8 @@ fn put_record(input: &mut Vec<u8>, wide: bool, lists: &Rotations) {
     }
 }
 
-/// Appends the record of lists, wide where it has to be or is to be; answers whether there are any.
+/// Appends the planar_code record of `lists`, wide if it must be or `wide` is set. Returns false where there are no
+/// lists.
 fn put_lists(input: &mut Vec<u8>, wide: bool, lists: &Rotations) -> bool {
     if lists.len() == 0 {
         return false;
@@ -96,7 +99,8 @@ fn put_lists(input: &mut Vec<u8>, wide: bool, lists: &Rotations) -> bool {
     true
 }
 
-/// Appends the record of a map of a family; answers whether there is one.
+/// Appends the planar_code record of a map of `family`, with the size and number in `rest`. Returns false where there
+/// is none.
 fn put_map(alloc: Global, input: &mut Vec<u8>, wide: bool, family: &str, rest: &str) -> bool {
     let (first, second) = halves(rest, "0");
     match (first.parse::<u16>(), second.parse::<u16>()) {
@@ -105,7 +109,8 @@ fn put_map(alloc: Global, input: &mut Vec<u8>, wide: bool, family: &str, rest: &
     }
 }
 
-/// Appends the record of a map that a line names; answers whether there is one.
+/// Appends the planar_code record of the map that a line names, wide if its first word says so. Returns false where
+/// it names none.
 fn put_named_map(alloc: Global, input: &mut Vec<u8>, word: &str, rest: &str) -> bool {
     if word == "wide" {
         let (family, rest) = halves(rest, "");
@@ -115,7 +120,7 @@ fn put_named_map(alloc: Global, input: &mut Vec<u8>, word: &str, rest: &str) -> 
     }
 }
 
-/// Appends what a line says to an input; answers whether there is such a line.
+/// Appends to `input` what a line with this first `word` and `rest` gives. Returns false where there is no such line.
 pub fn put(alloc: Global, input: &mut Vec<u8>, word: &str, rest: &str) -> bool {
     match word {
         "bytes" => put_bytes(alloc, input, rest),

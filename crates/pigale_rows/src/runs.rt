@@ -1,4 +1,4 @@
-//! One run over a source and a sink in memory.
+//! Test runs of the top call over a source and a sink in memory, and their text and status.
 use crate::given::{Cut, Given};
 use map_lists::Rotations;
 use pg_io::{MemSink, MemSource, Sink, Source};
@@ -14,15 +14,15 @@ pub struct Ran {
     pub reads: u64,
 }
 
-/// How many bytes a sink has room for.
+/// The most bytes that a sink of a test run holds.
 const ROOM: usize = 1 << 20;
 
-/// Appends bytes.
+/// Appends `bytes` to `told`.
 pub fn put(bytes: &[u8], told: &mut Vec<u8>) {
     let _ = told.extend_from_slice(bytes);
 }
 
-/// Appends a number.
+/// Appends `number` in decimal to `told`.
 pub fn put_number(alloc: Global, number: u64, told: &mut Vec<u8>) {
     match format!(in alloc; "{number}") {
         Ok(text) => put(text.as_bytes(), told),
@@ -30,21 +30,21 @@ pub fn put_number(alloc: Global, number: u64, told: &mut Vec<u8>) {
     }
 }
 
-/// A copy of some bytes.
+/// Returns a copy of `bytes`.
 fn copy_of(alloc: Global, bytes: &[u8]) -> Vec<u8> {
     let mut copy = Vec::new(alloc);
     put(bytes, &mut copy);
     copy
 }
 
-/// A copy of some numbers.
+/// Returns a copy of `numbers`.
 fn numbers_of(alloc: Global, numbers: &[u64]) -> Vec<u64> {
     let mut copy = Vec::new(alloc);
     let _ = copy.extend_from_slice(numbers);
     copy
 }
 
-/// The number of the status of a run of words over a source, into a sink.
+/// Runs `words` over `source` into `sink`, and returns the number of the status.
 pub fn status_of<S: Source, K: Sink>(
     alloc: Global,
     words: &[String],
@@ -54,7 +54,7 @@ pub fn status_of<S: Source, K: Sink>(
     pigale(alloc, words, source, sink).number()
 }
 
-/// Runs words over a source, into a sink.
+/// Runs `words` over `source` into `sink`, and returns the result.
 fn run_into(alloc: Global, words: &[String], source: &mut MemSource, sink: &mut MemSink) -> Ran {
     let status = status_of(alloc, words, source, sink);
     Ran {
@@ -64,7 +64,8 @@ fn run_into(alloc: Global, words: &[String], source: &mut MemSource, sink: &mut 
     }
 }
 
-/// Runs words into a sink that takes and fails as a cut says; nothing is written where there is no memory for it.
+/// Runs `words` over `source` into a sink that takes and fails as `writes` says. Without memory for the sink nothing
+/// is written.
 fn run_through(alloc: Global, words: &[String], source: &mut MemSource, writes: &Cut) -> Ran {
     match MemSink::with_room(alloc, ROOM, writes.most, &writes.failing) {
         Ok(mut sink) => run_into(alloc, words, source, &mut sink),
@@ -76,24 +77,24 @@ fn run_through(alloc: Global, words: &[String], source: &mut MemSource, writes: 
     }
 }
 
-/// A source of the input that is given, which gives and fails as it is told.
+/// Returns a source of the input `given`, with its limits and failing reads.
 pub fn source_of(alloc: Global, given: &Given) -> MemSource {
     let failing = numbers_of(alloc, &given.reads.failing);
     MemSource::new(copy_of(alloc, &given.input), given.reads.most, failing)
 }
 
-/// Runs words over what is given.
+/// Runs `words` with the input and the limits `given`.
 pub fn run(alloc: Global, words: &[String], given: &Given) -> Ran {
     run_through(alloc, words, &mut source_of(alloc, given), &given.writes)
 }
 
-/// Runs words over an input that comes at once.
+/// Runs `words` over an `input` that one read may give whole.
 pub fn run_over(alloc: Global, words: &[String], input: &[u8]) -> Ran {
     let mut source = MemSource::new(copy_of(alloc, input), usize::MAX, Vec::new(alloc));
     run_through(alloc, words, &mut source, &Cut::none(alloc))
 }
 
-/// Appends a text. Where its last line is open, a `\` stands behind it.
+/// Appends `text` to `told`. If its last line is open, a `\` follows it.
 pub fn tell_text(text: &[u8], told: &mut Vec<u8>) {
     put(text, told);
     match text.last() {
@@ -102,7 +103,7 @@ pub fn tell_text(text: &[u8], told: &mut Vec<u8>) {
     }
 }
 
-/// Appends the status of a run, and whether it read at all.
+/// Appends to `told` the status of a run, and that it read nothing if so.
 pub fn tell_status(alloc: Global, ran: &Ran, told: &mut Vec<u8>) {
     put(b"status ", told);
     put_number(alloc, u64::from(ran.status), told);
@@ -116,13 +117,13 @@ pub fn tell_status(alloc: Global, ran: &Ran, told: &mut Vec<u8>) {
     );
 }
 
-/// Appends what a run wrote, and its status.
+/// Appends to `told` what a run wrote, and its status.
 pub fn tell_run(alloc: Global, ran: &Ran, told: &mut Vec<u8>) {
     tell_text(&ran.text, told);
     tell_status(alloc, ran, told);
 }
 
-/// Appends the answer of `count` to the lists of one record, behind a line that stood there before.
+/// Appends to `told` the answer of `count` to `lists`, after a line that stood there before.
 fn answer_lists(alloc: Global, lists: &Rotations, told: &mut Vec<u8>) {
     put(b"before\n", told);
     if 0 < lists.len() {
@@ -133,7 +134,7 @@ fn answer_lists(alloc: Global, lists: &Rotations, told: &mut Vec<u8>) {
     }
 }
 
-/// Appends what `count` answers for the lists of the record that is given.
+/// Appends to `told` the answer of `count` to the lists of the record in the input `given`.
 pub fn answer(alloc: Global, given: &Given, told: &mut Vec<u8>) {
     match next_record(alloc, &given.input, 0) {
         Ok(Step::Lists(lists, _)) => answer_lists(alloc, &lists, told),

@@ -1,4 +1,4 @@
-//! The lines of the table.
+//! The lines of the table of test runs: each changes the settings or runs words.
 use crate::given::Given;
 use crate::judged::{judge, sum};
 use crate::pieces::{halves, put};
@@ -6,14 +6,14 @@ use crate::runs::{self, run, tell_run};
 use crate::watched::watch;
 use std::alloc::Global;
 
-/// An input with a name.
+/// An input that has a name.
 #[derive(Drop)]
 struct Named {
     name: String,
     bytes: Vec<u8>,
 }
 
-/// The rows that the lines so far have given.
+/// The settings that the lines so far have given, and the inputs that have names.
 #[derive(Drop)]
 pub struct Table {
     named: Vec<Named>,
@@ -21,7 +21,7 @@ pub struct Table {
 }
 
 impl Table {
-    /// Nothing is given.
+    /// Returns a table before its first line.
     pub fn new(alloc: Global) -> Table {
         Table {
             named: Vec::new(alloc),
@@ -29,7 +29,7 @@ impl Table {
         }
     }
 
-    /// Gives a name to the input, which is then empty.
+    /// Gives the input this `name`, and empties it.
     fn name(&mut self, alloc: Global, name: &str) {
         if let Ok(name) = String::from_str(alloc, name) {
             let bytes = std::mem::replace(&mut self.given.input, Vec::new(alloc));
@@ -37,7 +37,8 @@ impl Table {
         }
     }
 
-    /// Does what a line says that gives something; answers whether there is such a line.
+    /// Applies a line that changes the settings, with this first `word` and `rest`. Returns false where there is no
+    /// such line.
     fn take(&mut self, alloc: Global, word: &str, rest: &str) -> bool {
         match word {
             "name" => {
@@ -49,21 +50,21 @@ impl Table {
         }
     }
 
-    /// Does what a line says that gives something, and says so where there is no such line.
+    /// Applies a line that changes the settings, or appends to `told` that there is no such line.
     fn set(&mut self, alloc: Global, word: &str, rest: &str, told: &mut Vec<u8>) {
         if !self.take(alloc, word, rest) {
             runs::put(b"no such line\n", told);
         }
     }
 
-    /// A heading, which forgets what was given.
+    /// Appends the heading `line` to `told`, and resets the settings.
     fn begin(&mut self, alloc: Global, line: &str, told: &mut Vec<u8>) {
         self.given = Given::new(alloc);
         runs::put(line.as_bytes(), told);
         runs::put(b"\n", told);
     }
 
-    /// Appends the answer to a line to the output.
+    /// Appends to `told` the answer to `line`.
     pub fn answer(&mut self, alloc: Global, line: &str, told: &mut Vec<u8>) {
         let (word, rest) = halves(line, "");
         match word {
@@ -77,7 +78,7 @@ impl Table {
     }
 }
 
-/// A run of words over what is given.
+/// Runs `words` with the settings `given`, and appends to `told` what `how` says of the run.
 fn run_words(alloc: Global, how: &str, words: &[String], given: &Given, told: &mut Vec<u8>) {
     match how {
         "run" => tell_run(alloc, &run(alloc, words, given), told),
@@ -87,7 +88,7 @@ fn run_words(alloc: Global, how: &str, words: &[String], given: &Given, told: &m
     }
 }
 
-/// The input with a name.
+/// Returns the input with this `name`, if there is one.
 fn bytes_named<'a>(named: &'a [Named], name: &str) -> Option<&'a [u8]> {
     for each in named {
         if each.name.as_str() == name {
@@ -97,13 +98,13 @@ fn bytes_named<'a>(named: &'a [Named], name: &str) -> Option<&'a [u8]> {
     None
 }
 
-/// Appends so many of the first bytes of some.
+/// Appends the first bytes of `bytes` to `input`: as many as the text `count` says, or all.
 fn put_first(input: &mut Vec<u8>, bytes: &[u8], count: &str) {
     let count = count.parse::<usize>().unwrap_or(bytes.len());
     let _ = input.extend_from_slice(&bytes[..count.min(bytes.len())]);
 }
 
-/// Appends an input by its name, or so many of its first bytes; answers whether there is one.
+/// Appends to `input` the input that `rest` names, or its first bytes. Returns false where there is none.
 fn copy(named: &[Named], input: &mut Vec<u8>, rest: &str) -> bool {
     let (name, count) = halves(rest, "");
     match bytes_named(named, name) {
@@ -115,7 +116,7 @@ fn copy(named: &[Named], input: &mut Vec<u8>, rest: &str) -> bool {
     }
 }
 
-/// A word, in which `_` stands for a space; `''` is the empty one.
+/// Returns a word of a command, in which `_` stands for a space. `''` is the empty one.
 fn word_of(alloc: Global, word: &str) -> String {
     let mut made = String::new(alloc);
     if word != "''" {
@@ -126,7 +127,7 @@ fn word_of(alloc: Global, word: &str) -> String {
     made
 }
 
-/// The words between the spaces.
+/// Returns the words of a command, between the spaces of `text`.
 fn words_of(alloc: Global, text: &str) -> Vec<String> {
     let mut words = Vec::new(alloc);
     for word in text.split_whitespace() {

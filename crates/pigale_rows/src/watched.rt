@@ -1,4 +1,5 @@
-//! A run whose reads and writes are watched: how many bytes each read gave, and how many had been written by then.
+//! Test runs whose reads and writes are watched: how many bytes each read gave, and how many had been written by
+//! then.
 ghost use Rattle.std.specs.Prelude.{None};
 
 use crate::given::Given;
@@ -7,14 +8,14 @@ use pg_io::{MemSource, ReadFailed, Sink, Source, WriteFailed};
 use std::alloc::Global;
 use std::cell::Cell;
 
-/// The bytes that one read gave, and how many had been written before it.
+/// What was observed at one read: the bytes that it gave, and the bytes written before it.
 #[derive(Clone, Copy)]
 struct Seen {
     given: usize,
     written: u64,
 }
 
-/// A source that notes what it sees at each read.
+/// A source that records at each read how much was given and written.
 #[derive(Drop)]
 struct Watching<'a> {
     source: MemSource,
@@ -27,6 +28,7 @@ impl Source for Watching<'_> {
 
     ghost faults = { λ watching. watching.source.faults };
 
+    // Reads as its source does, and records the bytes given and written so far.
     fn read(&mut self, buf: &mut [u8]) -> Result<usize, ReadFailed> {
         let given = self.source.read(buf)?;
         let written = self.written.get();
@@ -35,7 +37,7 @@ impl Source for Watching<'_> {
     }
 }
 
-/// A sink that takes every piece whole, and counts the bytes.
+/// A sink that takes every piece whole and counts the bytes.
 #[derive(Drop)]
 struct Counting<'a> {
     written: &'a Cell<u64>,
@@ -46,6 +48,7 @@ impl Sink for Counting<'_> {
 
     ghost faults = { λ _. 0 };
 
+    // Takes the whole piece, and adds its length to the count.
     fn write(&mut self, piece: &[u8]) -> Result<usize, WriteFailed> {
         let written = self.written.get().saturating_add(piece.len() as u64);
         self.written.set(written);
@@ -53,7 +56,7 @@ impl Sink for Counting<'_> {
     }
 }
 
-/// Appends a name and a number, and how many bytes had been written.
+/// Appends to `told` a line with `name`, `number` and the number of bytes written.
 fn tell_one(alloc: Global, name: &[u8], number: u64, written: u64, told: &mut Vec<u8>) {
     put(name, told);
     put_number(alloc, number, told);
@@ -62,14 +65,14 @@ fn tell_one(alloc: Global, name: &[u8], number: u64, written: u64, told: &mut Ve
     put(b" written\n", told);
 }
 
-/// Appends what was seen, a line for each read.
+/// Appends to `told` a line for each read that was observed.
 fn tell_seen(alloc: Global, seen: &[Seen], told: &mut Vec<u8>) {
     for each in seen {
         tell_one(alloc, b"read ", each.given as u64, each.written, told);
     }
 }
 
-/// Appends what is seen of a run of words, how many bytes it wrote, and its status.
+/// Runs `words`, and appends to `told` what each read gave, how many bytes were written, and the status.
 pub fn watch(alloc: Global, words: &[String], given: &Given, told: &mut Vec<u8>) {
     let written = Cell::new(0);
     let mut source = Watching {

@@ -1,4 +1,4 @@
-//! The answer to one record.
+//! The answer to one record of planar_code: its block, or the line that refuses it.
 ghost use Rattle.std.specs.Prelude.{◌≡◌, ◌<◌, ◌≤◌, ◌↔◌, length, IsTrue, IfOk, OnOk, OnErr};
 ghost use Rattle.pigale_shell.specs.Text.{refusal_line as refusal_line_of};
 ghost use Rattle.pigale_shell.specs.Forms.{line_in as line_by};
@@ -47,7 +47,8 @@ pub fn answer_record(
     }
 }
 
-/// Appends the block of a job, which may have answered other records before, and answers whether the record was served.
+/// Appends to `out` the block of a job for one map, by `method`, which may have answered others before. Returns
+/// whether the map was served. It fails only when out of memory.
 pub(crate) fn answer_with<M: Method>(
     alloc: Global,
     method: &mut M,
@@ -74,7 +75,7 @@ pub(crate) fn answer_with<M: Method>(
     }
 }
 
-/// Returns the line that refuses record `number` for a condition, in a form.
+/// Returns the line that refuses record `number` for the condition `refusal`, as text or as an SVG comment.
 pub(crate) fn refused_line(
     alloc: Global,
     form: Form,

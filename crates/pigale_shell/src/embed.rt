@@ -1,4 +1,4 @@
-//! Graphs as graph6 lines, and the job over them, for the loop of runs.
+//! The job `embed` over graph6 lines, as a job of the main loop.
 ghost use Rattle.std.specs.Prelude.{◌≡◌, IfOk};
 ghost use Rattle.pigale_shell.specs.EmbedText.{embed_last_line as last_line_of};
 
@@ -14,7 +14,8 @@ use record_runs::Job as RecordJob;
 use refusals::Refusal;
 use std::alloc::{AllocError, Global};
 
-// Returns the last line of a run over graphs.
+// Returns the last line of a run over graphs: `end` with the counts, or `stop` with the line at which the input
+// ended.
 fn embed_last_line(
     alloc: Global,
     records: u32,
@@ -31,7 +32,7 @@ fn embed_last_line(
     }
 }
 
-/// The job `embed`, in a form. It embeds, draws and prints graphs, and keeps its memory from graph to graph.
+/// The job `embed`, as text or SVG. It embeds, draws and prints graphs, and keeps its memory from graph to graph.
 #[derive(Drop)]
 pub struct EmbedJob {
     alloc: Global,
@@ -63,6 +64,8 @@ impl RecordJob<GraphReader> for EmbedJob {
 
     ghost answers = { embed_answers };
 
+    // Appends the block of a graph: its map and drawing, a witness, or the line that refuses it. Returns whether it
+    // was served.
     fn answer(
         &mut self,
         number: u32,
@@ -86,6 +89,7 @@ impl RecordJob<GraphReader> for EmbedJob {
         Ok(true)
     }
 
+    // Returns the last line of the run, as text or as an SVG comment.
     fn last_line(
         &self,
         alloc: Global,

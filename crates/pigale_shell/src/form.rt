@@ -1,4 +1,4 @@
-//! In which form a job writes.
+//! Output as text or as SVG: the printer of figures in either, and lines that belong to no figure.
 ghost use Rattle.std.specs.Prelude.{◌≡◌, ◌++◌, List, ℕ, length, OnOk, OnErr, IfOk};
 ghost use Rattle.map_theory.specs.Maps.{IsSimpleMap};
 ghost use Rattle.svg_out.specs.Svg.{HasColumns};
@@ -18,7 +18,7 @@ use pigale_words::Form;
 use std::alloc::{AllocError, Global};
 use svg_out::{svg_bars, svg_grid, svg_rects, svg_witness};
 
-// Returns a line as a comment of SVG.
+// Returns `line` as an SVG comment. It fails only when out of memory.
 fn commented(alloc: Global, line: &[u8]) -> Result<Vec<u8>, AllocError>
     ensures { IfOk result (λ text. text.items ≡ comment_of line.now) }
 {
@@ -28,7 +28,7 @@ fn commented(alloc: Global, line: &[u8]) -> Result<Vec<u8>, AllocError>
     Ok(text)
 }
 
-/// Returns a line that belongs to no figure in this form.
+/// Returns a line that belongs to no figure, unchanged in text and as a comment in SVG.
 pub(crate) fn line_in(alloc: Global, form: Form, line: Vec<u8>) -> Result<Vec<u8>, AllocError>
     ensures { IfOk result (λ text. text.items ≡ line_by form line.items) }
 {
@@ -38,7 +38,7 @@ pub(crate) fn line_in(alloc: Global, form: Form, line: Vec<u8>) -> Result<Vec<u8
     }
 }
 
-/// Prints drawings in forms, one after another, and keeps its memory for the next.
+/// Prints drawings as text or SVG, one after another, and keeps its memory for the next.
 #[derive(Drop)]
 pub struct FormPrinter {
     alloc: Global,

@@ -1,4 +1,4 @@
-//! The jobs by what they read.
+//! The jobs sorted by what they read: maps, graphs, figures or nothing.
 
 use super::map_jobs::MapJob;
 use pigale_words::Form;

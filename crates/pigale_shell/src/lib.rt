@@ -1,4 +1,4 @@
-//! The jobs of Pigale, and the top call that runs them over any source and any sink.
+//! The jobs of Pigale, and the top call that runs the words of a command over any source and any sink.
 #![tactic(auto)]
 
 mod answer;

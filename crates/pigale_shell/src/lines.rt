@@ -1,4 +1,4 @@
-//! The lines that a run writes.
+//! The lines of the output: counts, refusals, and the last line of a run.
 ghost use Rattle.std.specs.Prelude.{◌≡◌, ◌+◌, ◌++◌, ◌∷◌, [], OnOk, IfOk, decimal};
 ghost use Rattle.pigale_shell.specs.Text.{counts_line, refusal_bytes, refusal_line as refusal_line_of, last_line as last_line_of};
 ghost use Rattle.map_theory.specs.Maps.{genus_of};
@@ -9,10 +9,10 @@ use itoa::Buffer;
 use refusals::Refusal;
 use std::alloc::{AllocError, Global};
 
-// How many bytes a line of six words and six numbers takes at most.
+// The most bytes that a line of six words and six numbers takes.
 const LINE: usize = 96;
 
-/// How the bytes of an input end.
+/// How an input of planar_code ends.
 #[derive(Clone, Copy, PartialEq, Eq)]
 pub enum Ending {
     /// After the last record.
@@ -56,7 +56,7 @@ pub fn count_line(alloc: Global, number: u32, count: &EulerCount) -> Result<Vec<
     Ok(line)
 }
 
-// Appends a name and a number.
+// Appends `name`, a space and the number `given` to `out`.
 fn push_named(out: &mut Vec<u8>, name: &[u8], given: u64) -> Result<(), AllocError>
     ensures { OnOk result (out.new.items ≡ out.old.items ++ (name.now ++ 32 ∷ decimal given)) }
 {
@@ -71,7 +71,7 @@ fn push_vertex(out: &mut Vec<u8>, name: &[u8], v: u16) -> Result<(), AllocError>
     push_named(out, name, u64::from(v) + 1)
 }
 
-// Appends a name and the numbers of two vertices.
+// Appends `name` and the numbers of two vertices, which are printed from 1, to `out`.
 fn push_vertices(out: &mut Vec<u8>, name: &[u8], v: u16, u: u16) -> Result<(), AllocError>
     ensures { OnOk result (out.new.items
         ≡ out.old.items ++ ((name.now ++ 32 ∷ decimal (v + 1)) ++ 32 ∷ decimal (u + 1))) }
@@ -80,7 +80,7 @@ fn push_vertices(out: &mut Vec<u8>, name: &[u8], v: u16, u: u16) -> Result<(), A
     push_number(out, u64::from(u) + 1)
 }
 
-// Appends the number and name of a condition, and what it says of the record.
+// Appends to `out` the number and name of the condition `refusal`, and the vertices or the count that it names.
 fn push_refusal(out: &mut Vec<u8>, refusal: Refusal) -> Result<(), AllocError>
     ensures { OnOk result (out.new.items ≡ out.old.items ++ refusal_bytes refusal) }
 {
@@ -117,7 +117,8 @@ pub fn refusal_line(alloc: Global, number: u32, refusal: Refusal) -> Result<Vec<
     Ok(line)
 }
 
-// Returns the line `stop NAME P`, of which `words` are the first two words.
+// Returns the line of an input that ended badly: the two words `words`, as `stop Limit`, and the offset or line
+// number `place`.
 pub(crate) fn stop_line(alloc: Global, words: &[u8], place: usize) -> Result<Vec<u8>, AllocError>
     ensures { IfOk result (λ line. line.items ≡ (words.now ++ 32 ∷ decimal place) ++ 10 ∷ []) }
 {
@@ -127,7 +128,7 @@ pub(crate) fn stop_line(alloc: Global, words: &[u8], place: usize) -> Result<Vec
     Ok(line)
 }
 
-// Returns the last line of an input that ended well.
+// Returns the last line of a run whose input ended well: the number of records, and of those refused.
 pub(crate) fn end_line(alloc: Global, records: u32, refused: u32) -> Result<Vec<u8>, AllocError>
     ensures { IfOk result (λ line. line.items ≡ last_line_of records refused (ending_of Ending.Well)) }
 {

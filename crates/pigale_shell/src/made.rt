@@ -1,4 +1,4 @@
-//! The job that makes its one record: a map, and the sums over its drawing.
+//! The job `gen`, which reads nothing: it makes one map, counts it, and sums over its drawing.
 ghost use Rattle.std.specs.Prelude.{◌≡◌, ◌⊎◌, ◌<◌, ◌≤◌, ◌++◌, ◌∷◌, ℕ, List, [], length, Some, None, pos, neg_ℤ, ◌+ℤ◌, ◌≤ℤ◌, OnOk, IfOk};
 ghost use Rattle.std.specs.Fmt.{signed_decimal};
 ghost use Rattle.map_theory.specs.Maps.{vertex_count, edge_count, face_count, component_count};
@@ -23,7 +23,7 @@ use record_runs::RunEnd;
 use refusals::Unserved;
 use std::alloc::{AllocError, Global};
 
-// Returns a sum with one number more.
+// Returns the sum with `number` added.
 fn added(sum: i64, number: i32) -> i64
     requires least { neg_ℤ (pos 17592186044416) ≤ℤ sum }
     requires most { sum ≤ℤ pos 17592186044416 }
@@ -32,7 +32,7 @@ fn added(sum: i64, number: i32) -> i64
     sum + i64::from(number)
 }
 
-// Returns the sums of x and of y over points.
+// Returns the sums of x and of y over `points`.
 fn sums(points: &Points) -> (i64, i64)
     requires { length points.now < 4096 }
     ensures x { result.0 ≡ total_x points.now }
@@ -48,7 +48,7 @@ fn sums(points: &Points) -> (i64, i64)
     (x, y)
 }
 
-// Appends a space and a whole number.
+// Appends a space and a number that may be negative to `out`.
 fn push_signed(out: &mut Vec<u8>, number: i64) -> Result<(), AllocError>
     ensures { OnOk result (out.new.items ≡ out.old.items ++ 32 ∷ signed_decimal number) }
 {
@@ -57,7 +57,7 @@ fn push_signed(out: &mut Vec<u8>, number: i64) -> Result<(), AllocError>
     out.extend_from_slice(buffer.format(number).as_bytes())
 }
 
-// Returns the line that says the two sums over the figure of record `number`.
+// Returns the line of the sums `x` and `y` over the points of record `number`.
 fn sums_line(alloc: Global, number: u32, x: i64, y: i64) -> Result<Vec<u8>, AllocError>
     ensures { IfOk result (λ line. line.items ≡ sums_line_of number x y) }
 {
@@ -70,7 +70,7 @@ fn sums_line(alloc: Global, number: u32, x: i64, y: i64) -> Result<Vec<u8>, Allo
     Ok(line)
 }
 
-// Returns the counts of a simple map.
+// Returns the counts of lists that are a simple map. It fails only when out of memory.
 fn count(alloc: Global, lists: &Rotations) -> Result<EulerCount, AllocError>
     requires some_list { 0 < length lists.now }
     requires simple { first_fault lists.now ≡ None }
@@ -86,7 +86,7 @@ fn count(alloc: Global, lists: &Rotations) -> Result<EulerCount, AllocError>
     }
 }
 
-// Returns the figure of lists that break no condition.
+// Returns the drawing of a plane map by the shift method. It fails only when out of memory.
 fn figure(alloc: Global, lists: &Rotations) -> Result<GridFigure, AllocError>
     requires some_list { 0 < length lists.now }
     requires served { first_refusal 3 lists.now ≡ None }
@@ -99,7 +99,7 @@ fn figure(alloc: Global, lists: &Rotations) -> Result<GridFigure, AllocError>
     }
 }
 
-// Returns the block of lists that break no condition: their count line, and the sums over their figure.
+// Returns the block of a plane map: its count line, and the sums over its drawing. It fails only when out of memory.
 fn block(alloc: Global, number: u32, lists: &Rotations) -> Result<Vec<u8>, AllocError>
     requires some_list { 0 < length lists.now }
     requires served { first_refusal 3 lists.now ≡ None }
@@ -113,7 +113,8 @@ fn block(alloc: Global, number: u32, lists: &Rotations) -> Result<Vec<u8>, Alloc
     Ok(block)
 }
 
-// Returns the whole text: the block of the made map, which is the first and last record, and the last line.
+// Returns the whole output of `gen`: the block of the map of `size` vertices made from `number`, and the last line.
+// It fails only when out of memory.
 fn text(alloc: Global, size: u16, number: u32) -> Result<Vec<u8>, AllocError>
     requires some { 3 ≤ size }
     requires few { size < 4096 }

@@ -1,4 +1,4 @@
-//! The jobs over maps: a module and a row each.
+//! The jobs over planar_code, one module each, and which method answers which job.
 ghost use Rattle.std.specs.Prelude.{◌≡◌, ◌↔◌, IsTrue, IfOk, OnOk, OnErr};
 ghost use Rattle.pigale_words.specs.Jobs.{HasSize};
 ghost use Rattle.pigale_shell.specs.Answer.{IsMapBlock};
@@ -42,7 +42,7 @@ pub enum MapJob {
 }
 
 impl JobKind {
-    /// Returns the kind of a job.
+    /// Returns the kind of `job`, by what it reads.
     pub fn of(job: Job) -> JobKind
         ensures kind { result ≡ kind_of job }
         ensures sized { HasSize job → IsSized result }
@@ -61,7 +61,7 @@ impl JobKind {
     }
 }
 
-// Answers one map by a job whose memory is new.
+// Appends to `out` the block of the job `M` for one map, in new memory. Returns whether the map was served.
 fn answer_by<M: Method>(
     alloc: Global,
     given: &MapRecord<'_>,
@@ -75,7 +75,8 @@ fn answer_by<M: Method>(
     answer_with(alloc, &mut method, given, out)
 }
 
-/// Appends the block of a job for one map, and answers whether the map was served.
+/// Appends to `out` the block of `job` for one map, and returns whether the map was served. It fails only when out of
+/// memory.
 pub(crate) fn answer_map(
     alloc: Global,
     job: MapJob,

@@ -1,4 +1,5 @@
-//! A record of the input, and how a job answers a map, whatever the job is.
+//! The trait `Method` of all jobs over maps: what it finds of a map and how it prints that, and the records that jobs
+//! are given.
 ghost use Rattle.std.specs.Prelude.{◌≡◌, ◌<◌, ◌≤◌, length, IfOk, IfErr, OnOk, OnErr};
 ghost use Rattle.map_lists.specs.Lists.{Lists};
 ghost use Rattle.refusals.specs.Conditions.{IfRefused};
@@ -10,7 +11,7 @@ use pigale_words::Form;
 use refusals::Unserved;
 use std::alloc::{AllocError, Global};
 
-/// A record of the input: the form in which it is answered, its number, and its lists, of which there is one at least.
+/// A planar_code record with the form of its answer: its number, and its lists, of which there is at least one.
 #[derive(Clone, Copy)]
 pub struct MapRecord<'a> {
     /// The form in which it is answered.
@@ -22,7 +23,7 @@ pub struct MapRecord<'a> {
     pub ghost some: { 0 < length lists.now },
 }
 
-/// A graph of the input that is served: it has three vertices at least.
+/// A graph of the input with the form of its answer: it has at least three vertices.
 #[derive(Clone, Copy)]
 pub struct GraphRecord<'a> {
     /// The form in which it is answered.

@@ -1,4 +1,4 @@
-//! planar_code, and the jobs over it, for the loop of runs.
+//! planar_code as a format of the main loop, and the jobs over it.
 ghost use Rattle.std.specs.Prelude.{◌≡◌, ◌+◌, true};
 ghost use Rattle.pg_io.specs.Io.{TakesAtMost};
 ghost use Rattle.record_runs.specs.Texts.{input_limit};
@@ -17,7 +17,7 @@ use planar_code::{RecordReader, Taken as Found};
 use record_runs::{Format, Job as RecordJob, RunEnd, Taken, run_records};
 use std::alloc::{AllocError, Global};
 
-/// A reader of planar_code.
+/// The reader of planar_code, as a format of the main loop.
 #[derive(Drop)]
 pub struct PlanarReader {
     reader: RecordReader,
@@ -57,8 +57,8 @@ impl Format for PlanarReader {
 
     ghost IsGiven = { IsGiven };
 
-    // Passes `piece` to the reader of planar_code, and answers a bad count by the ending `BadCount` with the offset
-    // of its record.
+    // Passes `piece` to the reader of planar_code. A bad count becomes the ending `BadCount` with the offset of its
+    // record.
     fn take(&mut self, piece: &[u8]) -> Result<Taken<Ending>, AllocError> {
         match self.reader.take(piece)? {
             Found::More => Ok(Taken::Goes(piece.len())),
@@ -67,10 +67,12 @@ impl Format for PlanarReader {
         }
     }
 
+    // Returns the lists of the record that ended last.
     fn record(&self) -> &Rotations {
         self.reader.lists()
     }
 
+    // Returns how the input ends if it ends here.
     fn end(&self) -> Ending {
         if self.reader.is_between() {
             Ending::Well
@@ -79,18 +81,21 @@ impl Format for PlanarReader {
         }
     }
 
+    // Returns the ending of an input that is longer than the limit.
     fn too_long(&self) -> Ending {
         Ending::TooLong
     }
 
+    // Says whether `end` is the good ending.
     fn is_well(end: &Ending) -> bool {
         matches!(end, Ending::Well)
     }
 
+    // Does nothing. Its contract is the laws of the format.
     fn lawful() {}
 }
 
-/// A job over planar_code, in a form. What it keeps lives from record to record.
+/// A job over planar_code, as text or SVG. Its method keeps memory from record to record.
 #[derive(Drop)]
 pub struct PlanarJob<M> {
     alloc: Global,
@@ -120,6 +125,7 @@ impl<M: Method> RecordJob<PlanarReader> for PlanarJob<M> {
 
     ghost answers = { λ form. planar_answers M.says form };
 
+    // Appends the block of a record by the job's method, and returns whether it was served.
     fn answer(
         &mut self,
         number: u32,
@@ -134,6 +140,7 @@ impl<M: Method> RecordJob<PlanarReader> for PlanarJob<M> {
         answer_with(self.alloc, &mut self.method, &record, out)
     }
 
+    // Returns the last line of the run, as text or as an SVG comment.
     fn last_line(
         &self,
         alloc: Global,
@@ -146,7 +153,7 @@ impl<M: Method> RecordJob<PlanarReader> for PlanarJob<M> {
     }
 }
 
-/// Runs a job over planar_code, in a form.
+/// Runs the job `M` over the planar_code of `src`, and writes to `out`.
 pub(crate) fn run_planar<M: Method, S: Source, K: Sink>(
     alloc: Global,
     form: Form,

@@ -1,4 +1,4 @@
-//! One run of a job.
+//! One run of a job by its kind, over a source and a sink, and the status of its end.
 ghost use Rattle.std.specs.Prelude.{◌≡◌, ◌⊎◌, ◌+◌, IsFalse};
 ghost use Rattle.pg_io.specs.Io.{TakesAtMost};
 ghost use Rattle.record_runs.specs.Texts.{input_limit};
@@ -20,7 +20,7 @@ use pigale_words::Status;
 use record_runs::{RunEnd, run_records};
 use std::alloc::Global;
 
-// Returns the status of a run by its end.
+// Converts how the main loop ended to a status.
 fn status(end: RunEnd) -> Status
     ensures { result ≡ status_of end }
 {

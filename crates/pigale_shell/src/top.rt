@@ -1,4 +1,4 @@
-//! The top call.
+//! The top call `pigale`: it runs the job that the words of a command name.
 ghost use Rattle.std.specs.Prelude.{◌≡◌, ◌≢◌, ◌⊎◌, ◌+◌, ◌<◌, ℕ, List, [], map, string_bytes, Some, None, IsFalse, IfOk, MatchResult};
 ghost use Rattle.pigale_shell.specs.Text.{bad_words_line};
 ghost use Rattle.pg_io.specs.Io.{WhereTold, Grows, HasRisen, TakesAtMost};
@@ -14,7 +14,8 @@ use pg_io::{Sink, Source, put_all};
 use pigale_words::{Status, WordFault, words_to_job};
 use std::alloc::Global;
 
-// Returns the kind of the job that the words after the program's name name.
+// Returns the kind of the job that `words`, those after the program's name, name. Else it returns `BadWords`, or
+// `NoMemory`.
 fn named_kind(alloc: Global, words: &[String]) -> Result<JobKind, WordFault>
     ensures job { MatchResult result
         (λ job. kind_named (map string_bytes words.now) ≡ Some job)
@@ -28,9 +29,9 @@ fn named_kind(alloc: Global, words: &[String]) -> Result<JobKind, WordFault>
 /// Runs the words after the program's name: the job that they name, over the records of the source,
 /// or the line `stop BadWords` where they name none.
 ///
-/// A job that makes its record has the empty input, whatever the source holds, and does not touch it.
-/// The clauses on the source's bytes and the sink's hold where it tells them. Want of memory is the
-/// one answer with no clause that says when it comes.
+/// A job that makes its record has the empty input, whatever the source holds, and does not touch it. The clauses on
+/// the bytes of the source and of the sink hold where contracts see these. Only `NoMemory` may be returned without a
+/// proved cause.
 pub fn pigale<S: Source, K: Sink>(
     alloc: Global,
     words: &[String],

@@ -1,4 +1,4 @@
-//! Figures as text, and the job over them, for the loop of runs.
+//! The job `verify` over figures in text, as a job of the main loop, and the lines of its verdicts.
 ghost use Rattle.std.specs.Prelude.{◌≡◌, ◌++◌, OnOk, IfOk};
 ghost use Rattle.pigale_shell.specs.Verify.{numbers, verdict_line as verdict_line_of, verdict_words, bars_words, rects_words, spaced, numbers_line as numbers_line_of, witness_words, WritesVerdict};
 
@@ -15,7 +15,7 @@ use rect_check::RectVerdict;
 use refusals::Unserved;
 use std::alloc::{AllocError, Global};
 
-// Appends vertices, each after a space and numbered from 1.
+// Appends vertices to `out`, each after a space and printed from 1.
 fn push_numbers(out: &mut Vec<u8>, vertices: &[u16]) -> Result<(), AllocError>
     ensures { OnOk result (out.new.items ≡ out.old.items ++ numbers vertices.now) }
 {
@@ -25,7 +25,7 @@ fn push_numbers(out: &mut Vec<u8>, vertices: &[u16]) -> Result<(), AllocError>
     Ok(())
 }
 
-// Appends numbers, each after a space.
+// Appends numbers to `out`, each after a space.
 fn push_places(out: &mut Vec<u8>, found: &[usize]) -> Result<(), AllocError>
     ensures { OnOk result (out.new.items ≡ out.old.items ++ spaced found.now) }
 {
@@ -35,7 +35,7 @@ fn push_places(out: &mut Vec<u8>, found: &[usize]) -> Result<(), AllocError>
     Ok(())
 }
 
-// Returns the line of a verdict by its name and vertices.
+// Returns the line of a verdict on figure `number`: its name, and the vertices that it names, printed from 1.
 fn verdict_line(
     alloc: Global,
     number: u32,
@@ -53,7 +53,7 @@ fn verdict_line(
     Ok(line)
 }
 
-// Returns the line of a verdict on a straight-line drawing.
+// Returns the line of a verdict on a straight-line drawing, for figure `number`.
 fn fault_line(alloc: Global, number: u32, verdict: Verdict) -> Result<Vec<u8>, AllocError>
     ensures { IfOk result (λ line. line.items ≡ verdict_line_of number (verdict_words verdict)) }
 {
@@ -72,7 +72,7 @@ fn fault_line(alloc: Global, number: u32, verdict: Verdict) -> Result<Vec<u8>, A
     }
 }
 
-// Returns the line of a verdict on bars.
+// Returns the line of a verdict on bars, for figure `number`.
 fn bars_line(alloc: Global, number: u32, verdict: BarVerdict) -> Result<Vec<u8>, AllocError>
     ensures { IfOk result (λ line. line.items ≡ verdict_line_of number (bars_words verdict)) }
 {
@@ -93,7 +93,7 @@ fn bars_line(alloc: Global, number: u32, verdict: BarVerdict) -> Result<Vec<u8>,
     }
 }
 
-// Returns the line of a verdict on rectangles.
+// Returns the line of a verdict on rectangles, for figure `number`.
 fn rects_line(alloc: Global, number: u32, verdict: RectVerdict) -> Result<Vec<u8>, AllocError>
     ensures { IfOk result (λ line. line.items ≡ verdict_line_of number (rects_words verdict)) }
 {
@@ -108,7 +108,7 @@ fn rects_line(alloc: Global, number: u32, verdict: RectVerdict) -> Result<Vec<u8
     }
 }
 
-// Returns the line of a verdict by its name and numbers.
+// Returns the line of a verdict on figure `number`: its name, and the numbers `found` as they are.
 fn numbers_line(
     alloc: Global,
     number: u32,
@@ -126,7 +126,7 @@ fn numbers_line(
     Ok(line)
 }
 
-// Returns the line of a verdict on a witness.
+// Returns the line of a verdict on a Kuratowski witness, for figure `number`.
 fn witness_line(alloc: Global, number: u32, verdict: WitnessVerdict) -> Result<Vec<u8>, AllocError>
     ensures { IfOk result (λ line. line.items ≡ numbers_line_of number (witness_words verdict)) }
 {
@@ -144,7 +144,7 @@ fn witness_line(alloc: Global, number: u32, verdict: WitnessVerdict) -> Result<V
     }
 }
 
-// Returns the line of a verdict.
+// Returns the line of a verdict on figure `number` of any kind, or the line that refuses its map.
 fn figure_line(alloc: Global, number: u32, verdict: FigureVerdict) -> Result<Vec<u8>, AllocError>
     ensures { IfOk result (λ line. WritesVerdict number verdict line.items) }
 {
@@ -172,7 +172,7 @@ fn figure_line(alloc: Global, number: u32, verdict: FigureVerdict) -> Result<Vec
     }
 }
 
-/// The job `verify`.
+/// The job `verify`, which judges figures.
 #[derive(Drop)]
 pub struct VerifyJob {
     alloc: Global,
@@ -194,8 +194,9 @@ impl RecordJob<FigureReader> for VerifyJob {
 
     ghost answers = { λ kind. verify_answers };
 
-    // The checks of bars and rectangles keep large arrays on the stack: inside the step that takes a line they would make each
-    // line touch that stack.
+    // Appends the line of the verdict on a figure, and returns whether it is valid. The checks of bars and rectangles
+    // keep large arrays on the stack: inlined into the step that takes a line they would make each line touch that
+    // stack.
     #[inline(never)]
     fn answer(
         &mut self,
@@ -214,6 +215,7 @@ impl RecordJob<FigureReader> for VerifyJob {
         }
     }
 
+    // Returns the last line of the run: `end` with the counts, or `stop` with the line at which the input ended.
     fn last_line(
         &self,
         alloc: Global,

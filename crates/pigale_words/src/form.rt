@@ -1,4 +1,4 @@
-//! In which form a job writes.
+//! The form in which a job writes its figures: text or SVG.
 
 /// How a job that draws writes its figures.
 #[derive(Clone, Copy, PartialEq, Eq)]

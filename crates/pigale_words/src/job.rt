@@ -1,4 +1,4 @@
-//! Jobs and statuses.
+//! The jobs of the program, how a run ends as a status, and why words name no job.
 ghost use Rattle.std.specs.Prelude.{◌≡◌};
 ghost use Rattle.pigale_words.specs.Status.{status_number};
 
@@ -49,7 +49,7 @@ pub enum Status {
 }
 
 impl Status {
-    /// The number with which the program ends, from 0 to 6 in the order above.
+    /// Returns the number with which the program ends, from 0 to 6 in the order above.
     pub fn number(self) -> u8
         ensures { result ≡ status_number self }
     {

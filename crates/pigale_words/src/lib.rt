@@ -1,4 +1,4 @@
-//! The words of the program: which of them name a job, with its form and its numbers, and how a run can end.
+//! The words of the program's command line: which job they name, with its form and numbers, and how a run can end.
 #![tactic(auto)]
 
 mod form;

@@ -1,4 +1,4 @@
-//! Numbers that words spell.
+//! Numbers of options parsed from decimal text, within a range.
 ghost use Rattle.std.specs.Prelude.{◌≡◌};
 ghost use Rattle.pigale_words.specs.Numbers.{number_in as number_by};
 
@@ -7,8 +7,8 @@ use figure_text::decimals::{decimal_number, is_canonical};
 // The number that stands for all that are beyond every range.
 const BEYOND: u64 = 4294967296;
 
-/// The number from `least` to `most` that a text spells in decimal: digits alone, which begin with 0 only
-/// where they are just that.
+/// Parses a number from `least` to `most` in decimal: digits alone, with no leading zero. Returns None for any other
+/// text.
 pub fn number_in(text: &[u8], least: u32, most: u32) -> Option<u32>
     ensures { result ≡ number_by least most text.now }
 {

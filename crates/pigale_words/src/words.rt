@@ -1,4 +1,4 @@
-//! The words of the program, as clap reads them.
+//! The words of the command line parsed by clap, and the job and options that they name.
 ghost use Rattle.std.specs.Prelude.{◌≡◌, ◌≢◌, ◌<◌, map, is_some, option_map, IfOk, IfSome, MatchResult, Some, codes, string_bytes};
 ghost use Rattle.clap.specs.Matches.{found_of};
 ghost use Rattle.clap.specs.Values.{kind_of};
@@ -17,7 +17,8 @@ use clap::error::ErrorKind;
 use clap::{Arg, ArgMatches, Command, Error};
 use std::alloc::{AllocError, Global};
 
-// The job's word, and the options of all jobs, each with one text.
+// Returns the clap command: the job's word, and the options of all jobs, each with one text. It fails only when out
+// of memory.
 fn command<'a>(alloc: Global) -> Result<Command<'a>, AllocError>
     ensures { IfOk result (λ r. app_of r ≡ the_command) }
 {
@@ -45,7 +46,7 @@ fn fault_of(error: &Error) -> WordFault
     }
 }
 
-// Reads the words by one clap command.
+// Parses `words` by the clap command, or returns the fault of the words.
 fn matches_of<'a>(alloc: Global, words: &'a [String]) -> Result<ArgMatches<'a>, WordFault>
     ensures { MatchResult result
         (λ matches. given (map string_bytes words.entry.now) ≡ Some (given_in (rows_of (found_of matches))))
@@ -60,14 +61,14 @@ fn matches_of<'a>(alloc: Global, words: &'a [String]) -> Result<ArgMatches<'a>, 
     }
 }
 
-// The text that the words give for an argument.
+// Returns the text that the words give for the argument `id`, if they do.
 fn text_of<'a>(matches: &ArgMatches<'a>, id: &str) -> Option<&'a str>
     ensures { option_map (λ text. text.now) result ≡ first_of id.now (rows_of (found_of matches.now)) }
 {
     matches.get_str(id)
 }
 
-// Whether the words give one.
+// Says whether the words give the argument `id`.
 fn is_given(matches: &ArgMatches, id: &str) -> bool
     ensures { result ≡ is_some (first_of id.now (rows_of (found_of matches.now))) }
 {
@@ -77,21 +78,21 @@ fn is_given(matches: &ArgMatches, id: &str) -> bool
     }
 }
 
-// Whether they give an option.
+// Says whether the words give any option.
 fn has_option(matches: &ArgMatches) -> bool
     ensures { result ≡ gives_option (given_in (rows_of (found_of matches.now))) }
 {
     is_given(matches, "form") || is_given(matches, "size") || is_given(matches, "number")
 }
 
-// Whether they give an option that no job that draws has.
+// Says whether the words give `--size` or `--number`, which no job that draws its input takes.
 fn has_number(matches: &ArgMatches) -> bool
     ensures { result ≡ gives_number (given_in (rows_of (found_of matches.now))) }
 {
     is_given(matches, "size") || is_given(matches, "number")
 }
 
-// The form with this name.
+// Returns the form with this name, if there is one.
 fn form_named(name: &str) -> Option<Form>
     ensures { result ≡ form_by (Some name.now) }
 {
@@ -104,7 +105,7 @@ fn form_named(name: &str) -> Option<Form>
     }
 }
 
-// The form that the words name; text where they name none.
+// Returns the form that the words name, or text where they name none. It is None for a wrong name.
 fn form_of(matches: &ArgMatches) -> Option<Form>
     ensures { result ≡ form_by (first_of (codes "form") (rows_of (found_of matches.now))) }
 {
@@ -114,7 +115,7 @@ fn form_of(matches: &ArgMatches) -> Option<Form>
     }
 }
 
-// The form of a job that draws, where the words give no option that it does not have.
+// Returns the form of a job that draws, or None where the words give an option that it does not have or a wrong form.
 fn form_given(matches: &ArgMatches) -> Option<Form>
     ensures { result ≡ form_from (given_in (rows_of (found_of matches.now))) }
 {
@@ -125,7 +126,7 @@ fn form_given(matches: &ArgMatches) -> Option<Form>
     }
 }
 
-// The number from `least` to `most` that an option gives.
+// Returns the number from `least` to `most` that the option `id` gives, or None.
 fn number_given(matches: &ArgMatches, id: &str, least: u32, most: u32) -> Option<u32>
     ensures { result ≡ number_by least most (first_of id.now (rows_of (found_of matches.now))) }
 {
@@ -135,7 +136,7 @@ fn number_given(matches: &ArgMatches, id: &str, least: u32, most: u32) -> Option
     }
 }
 
-// The job that makes a map of so many vertices from a number.
+// Returns the job `gen` with this size and number, if both are there.
 fn gen_job(size: Option<u32>, number: Option<u32>) -> Option<Job>
     requires { IfSome size (λ size. size < 4096) }
     ensures { result ≡ gen_of size number }
@@ -149,7 +150,7 @@ fn gen_job(size: Option<u32>, number: Option<u32>) -> Option<Job>
     }
 }
 
-// Returns the job that makes a map, by the texts of its options.
+// Returns the job `gen` by its options, or None where one is missing, wrong or not its own.
 fn gen_given(matches: &ArgMatches) -> Option<Job>
     ensures { result ≡ gen_by (given_in (rows_of (found_of matches.now))) }
 {
@@ -161,14 +162,15 @@ fn gen_given(matches: &ArgMatches) -> Option<Job>
     gen_job(size, number)
 }
 
-// A job that takes no option, where there is none.
+// Returns `job`, which takes no option, or None where an option is given.
 fn bare_job(matches: &ArgMatches, job: Job) -> Option<Job>
     ensures { result ≡ job_by_options (given_in (rows_of (found_of matches.now))) (Takes.no_option job) }
 {
     if has_option(matches) { None } else { Some(job) }
 }
 
-// The job with this word, where the options are those that it takes: a row for each job.
+// Returns the job with this word, or None where there is none or the options are not those that it takes. It has a
+// case for each job.
 fn job_named(matches: &ArgMatches, word: &str) -> Option<Job>
     ensures { result ≡ job_by_word (given_in (rows_of (found_of matches.now))) word.now }
 {
@@ -187,7 +189,7 @@ fn job_named(matches: &ArgMatches, word: &str) -> Option<Job>
     }
 }
 
-// The job that the words ask for: none where there is no such job, or an option that it does not have.
+// Returns the job that the words name, with its options. It is None where there is no such job or an option is wrong.
 fn job_given(matches: &ArgMatches) -> Option<Job>
     ensures { result ≡ job_by (given_in (rows_of (found_of matches.now))) }
 {
@@ -197,14 +199,14 @@ fn job_given(matches: &ArgMatches) -> Option<Job>
     }
 }
 
-/// The job of the words after the program's name.
+/// Returns the job that `words` name, those after the program's name.
 ///
-/// clap reads them as a command with one positional, the job's word, and the options `--form`, `--size`
-/// and `--number`, each with one text, which may follow as the next word or behind a `=`. The word is the job's
-/// name in lower case. A job that draws what it reads has the first option, of which the text is `text` or `svg`.
-/// `gen` has the other two, which it wants: a size from 3 to 4095 and a number from 0 to 4294967295, both in
-/// decimal. The others have none. `BadWords` comes exactly where the words are those of no job: where clap refuses
-/// them, where there is no such job, and where an option is there that the job does not have.
+/// clap reads them as a command with one positional, the job's word, and the options `--form`, `--size` and
+/// `--number`. Each option has one text, which may follow as the next word or after a `=`. The word is the job's name
+/// in lower case. A job that draws what it reads has the first option, whose text is `text` or `svg`. `gen` has the
+/// other two, which it requires: a size from 3 to 4095 and a number from 0 to 4294967295, both in decimal. The others
+/// have none. `BadWords` comes exactly where the words name no job: where clap refuses them, where there is no such
+/// job, and where an option is given that the job does not have.
 pub fn words_to_job(alloc: Global, words: &[String]) -> Result<Job, WordFault>
     ensures job { MatchResult result
         (λ job. job_of (map string_bytes words.now) ≡ Some job)

@@ -1,4 +1,4 @@
-//! The numbers of a record, one byte or two bytes each.
+//! The numbers of a planar_code record, one byte or two bytes each, gathered into lists up to the record's end.
 ghost use Rattle.std.specs.Prelude.{◌≡◌, ◌+◌, ◌-◌, ◌*◌, ◌<◌, ◌≤◌, List, ℕ, [], length, slice_index, take, flat_map, ◌≢◌};
 ghost use Rattle.std.specs.Bool.{OnTrue, OnFalse};
 ghost use Rattle.planar_code.specs.Reading.{two_bytes};
@@ -16,10 +16,10 @@ pub fn number_of(high: u8, low: u8) -> u16
     u16::from(high) * 256 + u16::from(low)
 }
 
-/// Lets numbers of one byte each join the lists, up to the one that closes list number `count`. It answers
-/// how many bytes they were.
+/// Appends numbers of one byte each to `gathered`, up to the one that closes list number `count`. Returns how many
+/// bytes of `piece` they were.
 ///
-/// The lists are a value of its own for the loop, so that their ends stay in registers.
+/// The loop has the lists as a value of its own, so that their ends stay in registers.
 pub fn gather_narrow(gathered: &mut OpenLists, count: usize, piece: &[u8]) -> usize
     requires { CanGather 0 (Narrow count) count gathered.old piece.now }
     ensures some { 0 < result }
@@ -32,7 +32,7 @@ pub fn gather_narrow(gathered: &mut OpenLists, count: usize, piece: &[u8]) -> us
     taken
 }
 
-// Returns the place behind the last 0, or the begin.
+// Returns the index after the last 0 of `piece`, or 0 where there is none.
 fn behind_last_zero(piece: &[u8]) -> usize
     ensures within { result ≤ length piece.now }
     ensures zero { 0 < result → slice_index piece.now (result - 1) ≡ 0 }
@@ -48,8 +48,8 @@ fn behind_last_zero(piece: &[u8]) -> usize
     0
 }
 
-// Does the loops of `gather_narrow`. As far as a 0 is still to come no number is asked whether it is the last of the
-// piece, and behind the last 0 no list is closed.
+// Does the loops of `gather_narrow`. While a 0 is still to come no end of the piece is tested, and after the last 0
+// no list is closed.
 #[inline(always)]
 fn narrow_numbers(gathered: &mut OpenLists, count: usize, piece: &[u8]) -> usize
     requires { CanGather 0 (Narrow count) count gathered.old piece.now }
@@ -76,8 +76,8 @@ fn narrow_numbers(gathered: &mut OpenLists, count: usize, piece: &[u8]) -> usize
     piece.len()
 }
 
-/// Lets numbers of two bytes each join the lists, up to the one that closes list number `count`. It answers
-/// how many bytes they were; a last byte alone is none of them.
+/// Appends numbers of two bytes each to `gathered`, up to the one that closes list number `count`. Returns how many
+/// bytes of `piece` they were. A last byte alone is not among them.
 pub fn gather_wide(gathered: &mut OpenLists, count: usize, piece: &[u8]) -> usize
     requires { CanGather 1 (Wide count) count gathered.old piece.now }
     ensures some { 0 < result }
@@ -91,7 +91,7 @@ pub fn gather_wide(gathered: &mut OpenLists, count: usize, piece: &[u8]) -> usiz
     taken
 }
 
-// Returns the number of the pair of bytes at `pair`.
+// Returns the number whose two bytes are pair number `pair` of `piece`.
 fn pair_at(piece: &[u8], pair: usize) -> u16
     requires { 2 * pair + 1 < length piece.now }
     ensures { result ≡ 256 * slice_index piece.now (2 * pair) + slice_index piece.now (2 * pair + 1) }
@@ -99,7 +99,7 @@ fn pair_at(piece: &[u8], pair: usize) -> u16
     number_of(piece[2 * pair], piece[2 * pair + 1])
 }
 
-// Returns how many pairs of bytes there are up to the last number 0, or none.
+// Returns the number of pairs of bytes up to the last number 0, or 0 where there is none.
 fn pairs_to_last_zero(piece: &[u8]) -> usize
     ensures within { 2 * result ≤ length piece.now }
     ensures zero { 0 < result → 256 * slice_index piece.now (2 * (result - 1)) + slice_index piece.now (2 * (result - 1) + 1) ≡ 0 }
@@ -115,7 +115,7 @@ fn pairs_to_last_zero(piece: &[u8]) -> usize
     0
 }
 
-// Does the loops of `gather_wide`, as those of `narrow_numbers`.
+// Does the loops of `gather_wide`, like those of `narrow_numbers`.
 #[inline(always)]
 fn wide_numbers(gathered: &mut OpenLists, count: usize, piece: &[u8]) -> usize
     requires { CanGather 1 (Wide count) count gathered.old piece.now }
@@ -146,7 +146,7 @@ fn wide_numbers(gathered: &mut OpenLists, count: usize, piece: &[u8]) -> usize
     2 * pairs
 }
 
-/// Lends the lists if they are as many as the count says.
+/// Exchanges the lists `gathered` with `lent` if `count` of them are closed, and says whether they are.
 pub fn lend_whole(gathered: &mut OpenLists, lent: &mut Rotations, count: usize) -> bool
     requires whole { length gathered.old.lists ≡ count → gathered.old.last ≡ [] }
     requires few { count < 4096 }

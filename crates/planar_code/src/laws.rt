@@ -1,4 +1,4 @@
-//! Laws on how inputs are read, each the contract of a function that does nothing.
+//! Laws on how inputs of planar_code are read and written, each the contract of a function that does nothing.
 ghost use Rattle.planar_code.specs.Laws.{OneReading, EachInputIsRead, RecordIsRead};
 
 /// Each input is read in one way at most: two readings of it have the same records, in the same

@@ -1,4 +1,5 @@
-//! Records of bytes that are all there.
+//! Records of planar_code read from bytes that are all in memory: the record at an offset, and the offset of the
+//! first.
 ghost use Rattle.std.specs.Prelude.{◌≡◌, ◌≤◌, length, MatchResult};
 ghost use Rattle.planar_code.specs.Reading.{header_of};
 ghost use Rattle.planar_code.specs.Step.{StandsAt, FailsAt};
@@ -8,7 +9,7 @@ use crate::scan::{Scanned, Scanner};
 use map_lists::Rotations;
 use std::alloc::Global;
 
-/// The item at an offset of the input.
+/// What stands at an offset of the bytes: a record, or their end.
 #[derive(Drop)]
 pub enum Step {
     /// A record with these lists, numbered from 0, and the offset after it.
@@ -28,10 +29,10 @@ pub enum CodeFault {
     NoMemory,
 }
 
-/// For how many bytes room is made at once.
+/// The number of bytes for which memory is reserved at once.
 const AT_ONCE: usize = 4096;
 
-/// Reads the record at the offset `at`, which is at most the length of the bytes.
+/// Reads the record at the offset `at` of `bytes`, which is at most their length.
 pub fn next_record(alloc: Global, bytes: &[u8], at: usize) -> Result<Step, CodeFault>
     requires { at ≤ length bytes.now }
     ensures { MatchResult result (StandsAt bytes.now at) (FailsAt bytes.now at) }

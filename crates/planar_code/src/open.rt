@@ -1,4 +1,4 @@
-//! The lists of a record, as their numbers come.
+//! `OpenLists`: the rotation lists of a record while its numbers come, with the last list open.
 ghost use Rattle.std.specs.Prelude.{◌≡◌, ◌+◌, ◌<◌, ◌≤◌, [], length, OnOk};
 ghost use Rattle.planar_code.specs.Open.{Collects};
 
@@ -7,13 +7,13 @@ use std::alloc::{AllocError, Global};
 use std::marker::Model;
 use std::mem;
 
-/// Lists as their numbers come: those that are closed, and the open one.
+/// The lists of a record while its numbers come: the closed ones, and the open one.
 #[derive(Drop)]
 pub struct OpenLists {
     alloc: Global,
     // the entries of all lists, one list after another
     entries: Vec<u16>,
-    // for each closed list the place behind its last entry
+    // for each closed list the index after its last entry
     ends: Vec<usize>,
 }
 
@@ -35,7 +35,7 @@ impl Model for OpenLists {
 }
 
 impl OpenLists {
-    /// Makes no lists. It takes no memory.
+    /// Returns no lists. It takes no memory.
     pub fn new(alloc: Global) -> Self
         ensures lists { result.lists ≡ [] }
         ensures last { result.last ≡ [] }
@@ -47,14 +47,15 @@ impl OpenLists {
         }
     }
 
-    /// Takes the lists out, and leaves none.
+    /// Moves the lists out, and leaves none.
     pub fn take_out(&mut self) -> OpenLists
         ensures { result ≡ self.old }
     {
         mem::replace(self, OpenLists::new(self.alloc))
     }
 
-    /// Makes room for so many more entries and for so many lists. The lists stay.
+    /// Reserves memory for `entries` more entries and `lists` lists. The lists stay. It fails only when out of
+    /// memory.
     pub fn reserve(&mut self, entries: usize, lists: usize) -> Result<(), AllocError>
         ensures lists { self.new.lists ≡ self.old.lists }
         ensures last { self.new.last ≡ self.old.last }
@@ -68,7 +69,7 @@ impl OpenLists {
         Ok(())
     }
 
-    /// Lets a number join the lists: 0 closes the open one.
+    /// Appends the vertex `number`, from 1 on, to the open list. 0 closes that list.
     pub fn collect(&mut self, number: u16)
         requires room { 0 < self.old.room }
         requires most { length self.old.lists < self.old.most }
@@ -90,7 +91,7 @@ impl OpenLists {
         self.ends.len()
     }
 
-    /// Gives the lists away in place of those that were lent before, whose memory is kept.
+    /// Moves the lists to `lent`, in place of those lent before, whose memory is kept.
     pub fn exchange(&mut self, lent: &mut Rotations)
         requires whole { self.old.last ≡ [] }
         requires few { length self.old.lists < 4096 }

@@ -1,4 +1,5 @@
-//! A reader that is fed byte by byte.
+//! `RecordReader`: a reader of planar_code that is fed piece by piece or byte by byte, and passes over the file's
+//! header.
 ghost use Rattle.std.specs.Prelude.{◌≡◌, ◌+◌, ◌<◌, ◌≤◌, ◌↔◌, ◌&&◌, ◌==◌, [], ◌∷◌, length, slice_index, IsTrue, IsFalse, IfOk, OnErr};
 ghost use Rattle.planar_code.specs.Reading.{header, input_limit};
 ghost use Rattle.planar_code.specs.Fed.{Feeds};
@@ -39,7 +40,7 @@ pub enum Taken {
     Bad(usize, usize),
 }
 
-/// Moves what a piece made of the bytes pending by the `passed` bytes before it.
+/// Returns the outcome of a piece with its offsets raised by `passed`, the number of bytes before it.
 fn shift(passed: usize, taken: Taken) -> Taken
     requires { passed + looked_at taken ≤ usize.MAX }
     ensures { result ≡ shifted passed taken }
@@ -51,7 +52,7 @@ fn shift(passed: usize, taken: Taken) -> Taken
     }
 }
 
-/// Where in a file a reader stands.
+/// The position of a reader in a file: where its pending bytes begin, and whether they may be the header.
 #[derive(Clone, Copy)]
 pub struct Place {
     /// The offset of the first byte pending.
@@ -63,7 +64,7 @@ pub struct Place {
     in_header: bool,
 }
 
-/// Behind the header.
+/// The position after the header.
 const BEHIND_HEADER: Place = Place {
     start: 15,
     header_may_come: false,
@@ -71,7 +72,8 @@ const BEHIND_HEADER: Place = Place {
     in_header: false,
 };
 
-/// Says whether bytes that are a front of the header or not, of this length, are one with one byte more.
+/// Says whether pending bytes of this `length` are a front of the header, as `in_header` says, and still are one with
+/// `byte`.
 fn goes_on(in_header: bool, length: usize, byte: u8) -> bool
     ensures { IsTrue result
         ↔ (IsTrue in_header × (length < 15) × (byte ≡ slice_index header length)) }
@@ -79,14 +81,14 @@ fn goes_on(in_header: bool, length: usize, byte: u8) -> bool
     in_header && length < HEADER.len() && byte == HEADER[length]
 }
 
-/// Says whether a byte ends the header, where the bytes behind it are a front of one, of this length.
+/// Says whether pending bytes of this `length`, a front of the header if `in_header` is set, are the whole header.
 fn ends_header(in_header: bool, length: usize) -> bool
     ensures { result ≡ (in_header && (length == 15)) }
 {
     in_header && length == HEADER.len()
 }
 
-/// Converts the scanner's outcome for a piece into the reader's, and moves the place behind the piece.
+/// Converts the scanner's outcome for a piece into the reader's, and moves `place` past the piece.
 fn answer(place: &mut Place, scanned: Scanned) -> Taken
     requires some { HasByte scanned }
     requires fits { place.old.start + place.old.pending_len + seen_of scanned ≤ usize.MAX }
@@ -114,7 +116,7 @@ fn answer(place: &mut Place, scanned: Scanned) -> Taken
     }
 }
 
-/// Takes a byte, with which the header may end.
+/// Reads one byte, which may end the header, and moves `place`.
 fn take_byte(scanner: &mut Scanner, place: &mut Place, byte: u8) -> Taken
     requires { CanRead scanner.old place.old (byte ∷ []) }
     ensures takes { Takes (state_of scanner.old place.old) (byte ∷ []) result (state_of scanner.new place.new) }
@@ -138,7 +140,7 @@ fn take_byte(scanner: &mut Scanner, place: &mut Place, byte: u8) -> Taken
     }
 }
 
-/// Takes a piece, for which there has to be room.
+/// Reads a piece, for which there must be room, up to the end of a record or a bad count, and moves `place`.
 fn take_piece(scanner: &mut Scanner, place: &mut Place, piece: &[u8]) -> Taken
     requires { CanRead scanner.old place.old piece.now }
     ensures takes { Takes (state_of scanner.old place.old) piece.now result (state_of scanner.new place.new) }

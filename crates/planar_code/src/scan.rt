@@ -1,4 +1,4 @@
-//! The bytes of one record, as they come.
+//! `Scanner`: the state machine over the bytes of one planar_code record.
 //!
 //! A scanner keeps the lists that are closed, the entries of the open one, and where in the record it
 //! stands. So no byte is stored twice, and each is handled once.
@@ -13,7 +13,7 @@ use std::alloc::{AllocError, Global};
 use std::marker::Model;
 use std::mem;
 
-/// The outcome of a piece of bytes for those before it, with the number of its bytes that were looked at.
+/// The outcome of scanning a piece, with the number of its bytes that were looked at.
 #[derive(Clone, Copy)]
 pub enum Scanned {
     /// So many join them, and they are no record and no bad count.
@@ -24,7 +24,7 @@ pub enum Scanned {
     Bad(usize),
 }
 
-/// Where in a record a scanner stands.
+/// The position of a scanner in a record.
 #[derive(Clone, Copy)]
 pub enum Phase {
     /// Before the first byte.
@@ -44,7 +44,8 @@ pub enum Phase {
 /// The most lists that a record may have.
 const MOST_LISTS: u16 = 4095;
 
-/// Takes lists of a narrow record.
+/// Scans numbers of a narrow record of `count` lists. Returns the next phase and the outcome. The lists of a record
+/// that ends are moved to `lent`.
 fn take_narrow(
     gathered: &mut OpenLists,
     lent: &mut Rotations,
@@ -62,7 +63,8 @@ fn take_narrow(
     }
 }
 
-/// Takes lists of a wide record, from the front of a number.
+/// Scans numbers of a wide record of `count` lists, from the first byte of one. Returns the next phase and the
+/// outcome. The lists of a record that ends are moved to `lent`.
 fn take_wide(
     gathered: &mut OpenLists,
     lent: &mut Rotations,
@@ -83,7 +85,8 @@ fn take_wide(
     }
 }
 
-/// Takes as many bytes of a piece as go in one phase.
+/// Scans as many bytes of `piece` as one phase takes. Returns the next phase and the outcome. The lists of a record
+/// that ends are moved to `lent`.
 fn advance(
     phase: Phase,
     gathered: &mut OpenLists,
@@ -123,7 +126,7 @@ fn advance(
     }
 }
 
-/// The bytes of a record that has begun, and the lists of the record that ended last.
+/// The state of a record that has begun, and the lists of the record that ended last.
 #[derive(Drop)]
 pub struct Scanner {
     alloc: Global,
@@ -156,7 +159,7 @@ impl Scanner {
         }
     }
 
-    /// Makes room for so many bytes.
+    /// Reserves memory for `bytes` more bytes. It fails only when out of memory.
     pub fn reserve(&mut self, bytes: usize) -> Result<(), AllocError>
         ensures bytes { self.new.bytes ≡ self.old.bytes }
         ensures lists { self.new.lists ≡ self.old.lists }
@@ -172,7 +175,7 @@ impl Scanner {
         &self.lent
     }
 
-    /// Hands those lists over.
+    /// Moves out the lists of the record that ended last.
     pub fn hand_over(&mut self) -> Rotations
         ensures lists { result ≡ self.old.lists }
         ensures rest { self.new ≡ record self.old { lists = [] } }
@@ -180,7 +183,7 @@ impl Scanner {
         mem::replace(&mut self.lent, Rotations::new(self.alloc))
     }
 
-    /// Forgets the bytes.
+    /// Forgets the record that has begun.
     pub fn clear(&mut self)
         ensures bytes { self.new.bytes ≡ [] }
         ensures lists { self.new.lists ≡ self.old.lists }
@@ -190,7 +193,7 @@ impl Scanner {
         self.gathered.clear();
     }
 
-    /// Takes some bytes of a piece: of the lists of a record as many as there are.
+    /// Scans as many bytes of `piece` as one phase takes, and moves to the next phase.
     fn advance(&mut self, piece: &[u8]) -> Scanned
         requires some { 0 < length piece.now }
         requires room { length piece.now ≤ self.old.room }
@@ -202,8 +205,8 @@ impl Scanner {
         scanned
     }
 
-    /// Takes the bytes of a piece, up to the end of a record within it or to its own end. There has to
-    /// be room for it. With a bad count the last byte that was looked at changes nothing.
+    /// Scans `piece`, for which there must be room, up to the end of a record within it or to its own end. With a bad
+    /// count the last byte looked at changes nothing.
     pub fn take(&mut self, piece: &[u8]) -> Scanned
         requires room { length piece.now ≤ self.old.room }
         ensures scans { Scans self.old piece.now result self.new }

@@ -1,4 +1,4 @@
-//! Records as bytes.
+//! Rotation lists written as a record of planar_code, narrow or wide.
 ghost use Rattle.std.specs.Prelude.{◌≡◌, ◌+◌, ◌<◌, ◌≤◌, ◌++◌, length, take, OnOk, OnErr};
 ghost use Rattle.planar_code.specs.Reading.{IsRecord};
 ghost use Rattle.planar_code.specs.Scan.{most_lists};
@@ -7,7 +7,8 @@ ghost use Rattle.planar_code.specs.Write.{spelled, entry_limit, first_bytes, rec
 use map_lists::Rotations;
 use std::alloc::AllocError;
 
-// Appends a number, in two bytes or in one. After an error the bytes before are as they were.
+// Appends `number` in two bytes if `wide` is set, else in one. When memory runs out the bytes before are as they
+// were.
 fn write_number(wide: bool, number: u16, out: &mut Vec<u8>) -> Result<(), AllocError>
     requires { number ≤ entry_limit wide }
     ensures ok { OnOk result (out.new.items ≡ out.old.items ++ spelled wide number) }
@@ -23,7 +24,7 @@ fn write_number(wide: bool, number: u16, out: &mut Vec<u8>) -> Result<(), AllocE
     }
 }
 
-// Appends the byte 0 of a wide record.
+// Appends the byte 0 with which a wide record begins, if `wide` is set.
 fn write_first(wide: bool, out: &mut Vec<u8>) -> Result<(), AllocError>
     ensures ok { OnOk result (out.new.items ≡ out.old.items ++ first_bytes wide) }
     ensures err { OnErr result (out.new.items ≡ out.old.items) }
@@ -36,7 +37,7 @@ fn write_first(wide: bool, out: &mut Vec<u8>) -> Result<(), AllocError>
     }
 }
 
-// Appends a record, or a part of it.
+// Appends the record of `lists`. When memory runs out a part of it may stay.
 fn write_whole(lists: &Rotations, out: &mut Vec<u8>) -> Result<(), AllocError>
     requires few { length lists.now ≤ most_lists }
     requires below { AreBelow (entry_limit (is_wide lists.now)) lists.now }

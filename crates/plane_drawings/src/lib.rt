@@ -1,4 +1,5 @@
-//! Straight-line drawings: what plane means, that counterclockwise faces make a drawing plane, and the sweep that finds crossings.
+//! Straight-line drawings: the definition of plane, the law that counterclockwise faces make a drawing plane, and the
+//! sweep that finds crossings.
 #![tactic(auto)]
 
 pub mod drawings;

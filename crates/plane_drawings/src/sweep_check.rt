@@ -1,5 +1,5 @@
-//! A sweep over the vertices of a drawing, from left to right, that says that the drawing is plane, or that
-//! it is so without the edges of a few vertices.
+//! A left-to-right sweep over the vertices of a drawing that shows it plane, or plane without the edges of a few
+//! excluded vertices.
 
 mod fresh;
 mod line;

@@ -1,4 +1,5 @@
-//! Laws of plane maps. Each is the contract of a function that does nothing, and speaks of all maps.
+//! Laws of plane maps: bridges, faces and components when an edge is removed, the edge bound, and separation at
+//! corners. Each is the contract of a function that does nothing, and speaks of all maps.
 #![tactic(auto)]
 
 pub mod map_edits;

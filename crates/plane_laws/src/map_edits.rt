@@ -1,5 +1,5 @@
-//! Laws of edges that are put into maps of genus zero, and of edges that are kept. Each is the contract
-//! of a function that does nothing, and speaks of all maps.
+//! Laws of edges added to maps of genus zero, and of edges kept: chords, ears, completion to a triangulation. Each is
+//! the contract of a function that does nothing, and speaks of all maps.
 
 ghost use Rattle.plane_laws.specs.Added.{EdgeInFace, EdgeBetween};
 ghost use Rattle.plane_laws.specs.Chords.{CornerChord, EarCut, OneChord, SomeEar};
@@ -33,8 +33,8 @@ pub fn edge_between()
     ensures { EdgeBetween }
 {}
 
-/// A simple map restricted to some of its edges is simple, and of genus zero where the map is; what
-/// follows an entry is what followed it, or where that is not kept and what followed that is, that.
+/// A simple map restricted to some of its edges is simple, and of genus zero where the map is. The successor of a
+/// kept entry is its old successor or, if that was deleted and the next one was not, the next one.
 pub fn kept_edges()
     ensures { KeptEdges }
 {}
@@ -57,13 +57,14 @@ pub fn corner_chord()
     ensures { CornerChord }
 {}
 
-/// A face that is no triangle, in a connected map of genus zero with at least three vertices, has an ear
-/// at one of any three darts in a row.
+/// A face that is no triangle, in a connected map of genus zero with at least three vertices, has an ear at one of
+/// any three successive darts. At an ear the vertices before and after can be joined.
 pub fn some_ear()
     ensures { SomeEar }
 {}
 
-/// An ear that is cut is a triangle, and all triangles stay.
+/// An ear of a face, cut off by the edge between the vertices before and after it, is a triangle, and all triangles
+/// stay.
 pub fn ear_cut()
     ensures { EarCut }
 {}

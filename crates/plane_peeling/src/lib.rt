@@ -1,5 +1,5 @@
-//! Vertices taken off a plane map from its outer cycle. Each law is the contract of a function that does
-//! nothing, and speaks of all maps.
+//! Laws of peeling: vertices taken off a plane map from its outer cycle, one by one. Each law is the contract of a
+//! function that does nothing, and speaks of all maps.
 #![tactic(auto)]
 
 ghost use Rattle.plane_peeling.specs.Laws.{RemovableTakenOff, NothingTakenOff, OuterCycleIsFace, SomeRemovable};

@@ -1,4 +1,4 @@
-//! Visibility representations.
+//! Promised contracts of the calls that draw visibility representations.
 ghost use Rattle.std.specs.Prelude.{◌≡◌, ◌<◌, ◌-◌, ℕ, IfOk, length, IfErr, OnOk};
 ghost use Rattle.conn_parts.specs.BiconnectedMaps.{IsBiconnectedMap, BreaksFirst};
 ghost use Rattle.graph_search.specs.Cuts.{IsCutVertex};

@@ -1,4 +1,4 @@
-//! Contracted edges of graphs, and witnesses carried over them.
+//! Promised contracts of contracted edges of graphs, and of witnesses carried over them.
 ghost use Rattle.std.specs.Prelude.{◌≡◌, ◌<◌, ◌≤◌, ◌↔◌, IsTrue, IfOk, true};
 ghost use Rattle.conn_parts.specs.GraphLists.{graph_lists as lists_of_graph};
 ghost use Rattle.convex_peeling.specs.Polyhedral.{IsThreeConnected};

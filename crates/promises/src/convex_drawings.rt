@@ -1,4 +1,4 @@
-//! Convex drawings by face counts.
+//! Promised contracts of convex drawings by face counts, and of convex woods.
 ghost use Rattle.std.specs.Prelude.{◌≡◌, ◌<◌, length, IfOk, IfErr, ◌-◌, ℕ, Some, ◌↔◌, None, IfSome, OnOk};
 ghost use Rattle.convex_class.specs.Convexity.{BreaksConvex};
 ghost use Rattle.convex_draw.specs.Figures.{IsConvexFigure};
@@ -57,14 +57,14 @@ pub fn wood_size(wood: &ConvexWood) -> u16
     wood.n()
 }
 
-/// Returns the root of an axis.
+/// Returns the root of a convex wood along an axis.
 pub fn root(wood: &ConvexWood, axis: Axis) -> VertexId
     ensures { result.0 ≡ root_in wood.now axis }
 {
     wood.root(axis)
 }
 
-/// Returns the dart that leaves `v` along an axis, or None exactly for the root.
+/// Returns the dart of `wood` that leaves `v` along an axis, or None exactly for the root.
 pub fn out(wood: &ConvexWood, axis: Axis, v: VertexId) -> Option<DartId>
     requires { v.0 < count_in wood.now }
     ensures root { (result ≡ None) ↔ (v.0 ≡ root_in wood.now axis) }

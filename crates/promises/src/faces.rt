@@ -1,4 +1,4 @@
-//! Faces and the Euler count.
+//! Promised contracts of faces and the Euler count.
 ghost use Rattle.std.specs.Prelude.{◌≡◌, ◌<◌, ◌-◌, IfOk, length, ℕ, Contains, All};
 ghost use Rattle.classes.specs.Classes.{class_count};
 ghost use Rattle.euler_faces.specs.FaceWalks.{AreFaces, walk_at, ids_of};

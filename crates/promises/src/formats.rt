@@ -1,4 +1,4 @@
-//! Records of planar_code and lines of graph6.
+//! Promised contracts of records of planar_code and lines of graph6, read and written.
 ghost use Rattle.std.specs.Prelude.{◌≡◌, ◌<◌, ◌≤◌, length, MatchResult, ◌+◌, ◌++◌, OnOk, OnErr, ◌-◌, IfOk, IfErr, List, ℕ, ◌/◌, map};
 ghost use Rattle.graph6_text.specs.Faults.{NamesFault};
 ghost use Rattle.graph6_text.specs.Graphs.{AreEdges, edge_of, IsGraph, has_edge};

@@ -1,4 +1,4 @@
-//! Signed areas, segments and directions.
+//! Promised contracts of the predicates of points: signed areas, segments and directions.
 ghost use Rattle.std.specs.Prelude.{◌≡◌, ◌↔◌, IsTrue};
 ghost use Rattle.pg_plane.specs.Geometry.{area, IsOnSegment, DoCross, IsClockBefore};
 ghost use Rattle.pg_plane.specs.Range.{IsInRange, IsDirection};

@@ -1,4 +1,4 @@
-//! Embeddings of graphs, or witnesses that there are none.
+//! Promised contracts of embeddings of graphs, or witnesses that there are none.
 ghost use Rattle.std.specs.Prelude.{◌<◌, ◌≤◌, ◌≡◌, ◌↔◌, length, IsTrue, IfOk, MatchOption};
 ghost use Rattle.map_lists.specs.Lists.{Lists};
 ghost use Rattle.embed_theorem.specs.Expanded.{IsMapOf};

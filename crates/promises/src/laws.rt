@@ -1,4 +1,4 @@
-//! Laws: statements over the definitions alone, which hold of every map, drawing, text and graph.
+//! Promised laws: statements over the definitions alone, which hold of every map, drawing, text and graph.
 ghost use Rattle.bar_check.specs.Laws.{YesIsValid as YesIsValidBars, OverlapIsNever};
 ghost use Rattle.bipolar.specs.Laws.{NumberingIsOne};
 ghost use Rattle.convex_check.specs.Laws.{YesIsConvex};
@@ -199,7 +199,7 @@ pub fn printed_is_read()
     figure_text::laws::printed_is_read();
 }
 
-/// At each offset of a text there is one answer.
+/// At each offset of a text of figures there is one answer: one figure, note, end or fault.
 pub fn one_answer()
     ensures { OneAnswer }
 {

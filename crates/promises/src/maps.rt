@@ -1,4 +1,4 @@
-//! Half-edge maps: what each call reads from the rotations, and what an edit leaves.
+//! Promised contracts of half-edge maps: what each call reads from the rotations, and what an edit leaves.
 ghost use Rattle.std.specs.Prelude.{◌≡◌, ◌+◌, ◌-◌, ◌<◌, ◌≤◌, ◌↔◌, [], length, None, IfOk, IfErr, IsTrue, option_map, Some, IfSome, MatchOption, true, Contains, ◌≢◌, ℕ, max, OnOk, OnErr, Option, min};
 ghost use Rattle.half_edges.specs.Edges.{corner_place, IsCorner, with_edge};
 ghost use Rattle.half_edges.specs.Induced.{induced_lists};

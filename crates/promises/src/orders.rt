@@ -1,4 +1,4 @@
-//! Triangulations, orders and numberings.
+//! Promised contracts of triangulations, canonical orders, rectangular orders and st-numberings.
 ghost use Rattle.std.specs.Prelude.{◌≡◌, ◌≤◌, ℕ, Some, OnOk, IfOk, IfErr, ◌<◌, map};
 ghost use Rattle.bipolar.specs.DualNumbers.{AreDualNumbers};
 ghost use Rattle.canon_order.specs.Orders.{IsCanonicalOrder, vertices_of};
@@ -68,7 +68,7 @@ pub fn dual_numbers(
     bipolar::dual_orders::dual_numbers(alloc, map, order, st)
 }
 
-/// Returns a rectangular order of the map that `more` is with one edge more.
+/// Returns a rectangular order of the map whose lists with an edge added between top and bottom are `more`.
 pub fn rect_order(alloc: Global, more: &Rotations, frame: Frame) -> Result<Order, AllocError>
     requires class { (map : Lists) × IsClosedOf more.now map frame.left.0 frame.top.0 frame.right.0 frame.bottom.0 frame.inner.0 }
     ensures order { IfOk result (λ order. (map : Lists) → IsClosedOf more.now map frame.left.0 frame.top.0 frame.right.0 frame.bottom.0 frame.inner.0

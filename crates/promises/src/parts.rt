@@ -1,4 +1,4 @@
-//! Components, cut vertices and separating pairs, of maps and of graphs.
+//! Promised contracts of components, cut vertices and separating pairs, of maps and of graphs.
 ghost use Rattle.std.specs.Prelude.{◌≡◌, ◌<◌, IfOk, length, slice_index, ℕ, MatchOption};
 ghost use Rattle.conn_parts.specs.GraphLists.{graph_lists as lists_of_graph};
 ghost use Rattle.conn_parts.specs.Parts.{ArePartsOf};
@@ -20,7 +20,7 @@ pub fn components(alloc: Global, map: &HalfMap) -> Result<Parts, AllocError>
     conn_parts::components(alloc, map)
 }
 
-/// Counts the components.
+/// Returns the number of components.
 pub fn count_of_components(parts: &Parts) -> u16
     ensures { result ≡ parts.now.count }
 {

@@ -1,4 +1,4 @@
-//! Permutations and their orbits.
+//! Promised contracts of permutations and their orbits.
 ghost use Rattle.std.specs.List.{range_with_len};
 ghost use Rattle.std.specs.Prelude.{◌≡◌, ◌≢◌, ◌+◌, ◌<◌, ◌^◌, IfOk, IfErr, length, true, false, swap};
 ghost use Rattle.classes.specs.Classes.{IsPermutationOfBelow, image, orbits, orbit_count, same_class};

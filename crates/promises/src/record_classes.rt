@@ -1,4 +1,4 @@
-//! Records as maps of a class, or the first condition that they break.
+//! Promised contracts of records taken as maps of a class, or their first broken condition.
 ghost use Rattle.std.specs.Prelude.{◌≡◌, ◌<◌, ◌≤◌, ◌-◌, length, None, OnOk, IfOk, IfErr, Some};
 ghost use Rattle.conn_parts.specs.BiconnectedMaps.{IsBiconnectedMap, BreaksFirst};
 ghost use Rattle.conn_parts.specs.Counted.{IsCountOf, IsCountedMap};

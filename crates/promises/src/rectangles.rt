@@ -1,4 +1,4 @@
-//! Rectangular duals and regular edge labellings.
+//! Promised contracts of rectangular duals and regular edge labellings.
 ghost use Rattle.std.specs.Prelude.{◌≡◌, ◌<◌, length, IfOk, IfErr, ℕ, Some, ◌-◌, OnOk};
 ghost use Rattle.half_edges.specs.Map.{IsLive, dart_at};
 ghost use Rattle.rect_check.specs.Duals.{HasRects};

@@ -1,4 +1,4 @@
-//! Schnyder's woods and drawings.
+//! Promised contracts of Schnyder's woods and drawings.
 ghost use Rattle.std.specs.Prelude.{◌≡◌, ◌<◌, ◌-◌, ℕ, slice_index, IfOk, ◌↔◌, None, IfSome, pos, length, Some, IfErr, OnOk};
 ghost use Rattle.canon_order.specs.Orders.{IsCanonicalOrder, vertices_of};
 ghost use Rattle.contour_runs.specs.Runs.{Step};
@@ -46,14 +46,14 @@ pub fn wood_size(wood: &Wood) -> u16
     wood.n()
 }
 
-/// Returns the root of a colour.
+/// Returns the root of a Schnyder wood in a colour.
 pub fn root(wood: &Wood, colour: Colour) -> VertexId
     ensures { result.0 ≡ root_in wood.now (kind colour) }
 {
     wood.root(colour)
 }
 
-/// Returns the parent of `v` of a colour, or None exactly for a root.
+/// Returns the parent of `v` in a colour of `wood`, or None exactly for a root.
 pub fn parent(wood: &Wood, colour: Colour, v: VertexId) -> Option<VertexId>
     requires { v.0 < count_in wood.now }
     ensures root { (result ≡ None) ↔ IsRoot wood.now v.0 }

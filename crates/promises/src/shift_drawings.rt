@@ -1,4 +1,4 @@
-//! The shift method.
+//! Promised contracts of the shift method.
 ghost use Rattle.std.specs.Prelude.{◌≡◌, ◌<◌, ◌-◌, ◌*◌, IfOk, ◌≤◌, ◌+◌, length, slice_index, replicate, slice_set, Some, None, IfErr, OnOk};
 ghost use Rattle.canon_order.specs.Orders.{IsCanonicalOrder, vertices_of};
 ghost use Rattle.fpp_shift.specs.Nodes.{empty_node, node_at};

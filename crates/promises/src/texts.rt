@@ -1,4 +1,4 @@
-//! Figures as text and as pictures, and the words of a command.
+//! Promised contracts of figures as text and as pictures, and of the words of a command.
 ghost use Rattle.std.specs.Prelude.{◌≡◌, ◌≤◌, length, ◌+◌, ◌++◌, ℕ, List, ◌<◌, OnOk, OnErr, map, IfOk, MatchResult, Some, string_bytes};
 ghost use Rattle.figure_text.specs.Laws.{IsAnswer};
 ghost use Rattle.figure_text.specs.Text.{IsText, IsWhole};

@@ -1,4 +1,4 @@
-//! Witnesses as text and as pictures, and headers of lines.
+//! Promised contracts of witnesses as text and as pictures, and of headers of graph6.
 ghost use Rattle.std.specs.Prelude.{◌≡◌, ◌+◌, ◌++◌, List, ℕ, ◌<◌, OnOk, OnErr};
 ghost use Rattle.figure_text.specs.Text.{witness_text};
 ghost use Rattle.graph6_text.specs.Header.{header_length};

@@ -1,4 +1,4 @@
-//! Bytes that go to a sink.
+//! Promised contract of bytes written to a sink.
 ghost use Rattle.std.specs.Prelude.{◌≡◌, ◌≤◌, OnOk, OnErr};
 ghost use Rattle.pg_io.specs.Io.{Grows, GrowsByPrefix, HasRisen};
 

@@ -1,4 +1,4 @@
-//! How an input is read.
+//! The trait `Format`: how the records of an input are read, piece by piece.
 ghost use Rattle.std.specs.Prelude.{◌≡◌, ◌+◌, ◌<◌, ◌≤◌, List, ℕ, [], ◌∷◌, ◌++◌, length, IfOk, IfErr};
 ghost use Rattle.std.specs.Bool.{OnTrue, OnFalse};
 ghost use Rattle.record_runs.specs.Texts.{Reads, input_limit};
@@ -53,22 +53,22 @@ pub trait Format: Drop {
         ensures reads { (consumed : List ℕ) (records : List Self.Record) → At self.old consumed records →
             IfOk result (TakesPiece (reads) At consumed records self.new (lent self.new) piece.now) };
 
-    /// The record that ended last.
+    /// Returns the record that ended last.
     fn record(&self) -> &Self::Record
         ensures { result.now ≡ lent self.now };
 
-    /// How the bytes consumed end if no more come.
+    /// Returns how the bytes consumed end if no more come.
     fn end(&self) -> Self::End
         ensures { result ≡ ending self.now };
 
-    /// How they end if more come, where they are as many as the limit.
+    /// Returns how the input ends if more bytes come, where those consumed are as many as the limit.
     fn too_long(&self) -> Self::End
         ensures bad { reads.IsBad result }
         ensures reading { (consumed : List ℕ) (records : List Self.Record) → At self.now consumed records →
             length consumed ≡ input_limit → (byte : ℕ) (tail : List ℕ) →
             reads.IsReading (consumed ++ byte ∷ tail) records result };
 
-    /// Whether an input that ends thus ended well.
+    /// Says whether `end` is the good ending.
     fn is_well(end: &Self::End) -> bool
         ensures well { OnTrue result (end.now ≡ reads.well) }
         ensures bad { OnFalse result (reads.IsBad end.now) };

@@ -1,4 +1,4 @@
-//! Jobs: how a record is answered.
+//! The trait `Job`: how each record is answered by a block, and the last line of a run.
 ghost use Rattle.std.specs.Prelude.{◌≡◌, ◌<◌, ◌≤◌, ◌++◌, List, ℕ, IfOk, OnOk, OnErr};
 ghost use Rattle.record_runs.specs.Texts.{Answers, input_limit};
 
@@ -15,8 +15,8 @@ pub trait Job<F: Format> {
     /// The texts that a job of this kind writes.
     ghost answers: { Self.Kind → Answers F.Record F.End };
 
-    /// Appends the block of record `number`, and answers whether the record was served. When memory
-    /// runs out `out` is as before.
+    /// Appends to `out` the block of record `number`, and returns whether the record was served. When memory runs out
+    /// `out` is as before.
     fn answer(
         &mut self,
         number: u32,
@@ -32,7 +32,7 @@ pub trait Job<F: Format> {
         ensures err { OnErr result (out.new.items ≡ out.old.items) }
         ensures same { kind self.new ≡ kind self.old };
 
-    /// The last line of a run over this many records, of which so many were refused.
+    /// Returns the last line of a run over `records` records, of which `refused` were refused.
     fn last_line(
         &self,
         alloc: Global,

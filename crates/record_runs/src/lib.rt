@@ -1,5 +1,5 @@
-//! A run: the records of an input, read piece by piece, are answered one by one, and their answers
-//! written block by block.
+//! The main loop of the program: the records of an input are read piece by piece, answered one by one, and their
+//! answers written block by block.
 //!
 //! A [`Format`] reads the records, and a [`Job`] answers them; [`run_records`] runs any job over any
 //! format, from any source to any sink. Its contract says for each way of ending what was taken and
@@ -15,8 +15,8 @@ pub use format::{Format, Taken};
 pub use job::Job;
 pub use run::{RunEnd, run_records};
 
-/// How many bytes of an input are read.
+/// The most bytes of an input that are read.
 pub const INPUT_LIMIT: usize = 16777216;
 
-/// How many bytes a read may give.
+/// The most bytes that one read may give.
 pub const BUFFER: usize = 4096;

@@ -1,4 +1,4 @@
-//! A run from a source to a sink.
+//! The main loop: a run from a source to a sink, read by read, with its last line.
 ghost use Rattle.std.specs.Prelude.{◌≡◌, ◌<◌, ◌≤◌, ◌+◌, ◌^◌, ◌++◌, [], List, ℕ, Option, length, OnOk, IfErr, MatchResult};
 ghost use Rattle.pg_io.specs.Io.{Grows, TakesAtMost};
 ghost use Rattle.record_runs.specs.Texts.{input_limit};
@@ -29,7 +29,7 @@ pub enum RunEnd {
     NoMemory,
 }
 
-/// Where a run stands between two pieces.
+/// The state of a run between two pieces.
 #[derive(Drop)]
 pub struct Run<F> {
     /// The state of the record that is being read.
@@ -42,7 +42,7 @@ pub struct Run<F> {
     pub taken: usize,
 }
 
-/// Why a run stops within bytes.
+/// Why a run stops within a piece.
 #[derive(Drop)]
 pub enum Stop<End> {
     /// The input ends badly in them.
@@ -60,7 +60,7 @@ pub enum Failure {
     NoMemory,
 }
 
-// Writes the last line.
+// Writes the last line of a run whose input ended by `end`.
 fn write_last<F: Format, J: Job<F>, K: Sink>(
     alloc: Global,
     run: &Run<F>,
@@ -83,7 +83,7 @@ fn write_last<F: Format, J: Job<F>, K: Sink>(
     }
 }
 
-// How a run ends whose last line could not be written.
+// Returns how a run ends whose last line could not be written.
 fn failed(failure: Failure) -> RunEnd
     ensures { result ≡ end_of failure }
 {
@@ -95,7 +95,7 @@ fn failed(failure: Failure) -> RunEnd
 
 ghost use Rattle.record_runs.specs.Run.{end_of};
 
-// The end of the input: the last line, and how the run ends.
+// Writes the last line at the end of the input, and returns how the run ended.
 fn finish<F: Format, J: Job<F>, K: Sink>(
     alloc: Global,
     run: &Run<F>,
@@ -124,7 +124,8 @@ fn finish<F: Format, J: Job<F>, K: Sink>(
     }
 }
 
-// Consumes bytes that were read, and writes the blocks of the records that end in them.
+// Consumes the bytes `piece` of one read, and writes the blocks of the records that end in them. Returns an error
+// where the run has ended. `text` is room for the blocks.
 fn consume<F: Format, J: Job<F>, K: Sink>(
     alloc: Global,
     run: &mut Run<F>,
@@ -159,7 +160,7 @@ fn consume<F: Format, J: Job<F>, K: Sink>(
     }
 }
 
-// One read, and the bytes that it gives. It answers that the run goes on, or how it has ended.
+// Reads once, and consumes the bytes. Returns an error, how the run has ended, at the end of the input or at a fault.
 fn read_once<F: Format, J: Job<F>, S: Source, K: Sink>(
     alloc: Global,
     run: &mut Run<F>,

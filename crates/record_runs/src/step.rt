@@ -1,5 +1,4 @@
-//! Bytes to bytes: pieces of the input are consumed, and the blocks of the records that end in them
-//! appended to a buffer.
+//! One piece of the input: records are taken from it, and their blocks appended to a buffer.
 ghost use Rattle.std.specs.Prelude.{◌≡◌, ◌<◌, ◌≤◌, ◌+◌, ◌-◌, ◌^◌, if◌then◌else◌, ◌++◌, List, ℕ, length, take, IfOk, OnOk, MatchResult};
 ghost use Rattle.record_runs.specs.Texts.{input_limit};
 ghost use Rattle.record_runs.specs.Run.{IsCounted, IsAt, Stops};
@@ -9,7 +8,7 @@ use super::format::{Format, Taken};
 use super::job::Job;
 use super::run::{Run, Stop};
 
-// Counts a record that was answered.
+// Adds one to the number of records, and where the record was not `served` to that of refusals.
 fn count_record<F: Format>(run: &mut Run<F>, served: bool)
     requires few_records { run.old.records < 2 ^ 32 - 1 }
     requires few_refused { run.old.refused ≤ run.old.records }
@@ -21,7 +20,8 @@ fn count_record<F: Format>(run: &mut Run<F>, served: bool)
     }
 }
 
-// Consumes some of a piece, to the end of a record at most, which is answered; and says how many bytes.
+// Consumes some of `piece`, to the end of a record at most, and appends the record's block to `text`. Returns the
+// number of bytes consumed, or why the run stops.
 fn take_record<F: Format, J: Job<F>>(
     run: &mut Run<F>,
     job: &mut J,
@@ -59,7 +59,7 @@ fn take_record<F: Format, J: Job<F>>(
     }
 }
 
-// Consumes all of a piece that is within the limit.
+// Consumes all of `piece`, which is within the limit, and appends the blocks of its records to `text`.
 fn take_within<F: Format, J: Job<F>>(
     run: &mut Run<F>,
     job: &mut J,
@@ -87,7 +87,8 @@ fn take_within<F: Format, J: Job<F>>(
     Ok(())
 }
 
-/// Consumes a piece, until it is empty or the run has to stop in it.
+/// Consumes `piece`, as far as the limit on the input allows, and appends the blocks of its records to `text`.
+/// Returns why the run stops in it, if it does.
 pub fn take_piece<F: Format, J: Job<F>>(
     run: &mut Run<F>,
     job: &mut J,

@@ -1,4 +1,4 @@
-//! The areas of the rectangles, and of the one that they span.
+//! Whether the areas of the rectangles sum to that of the rectangle that they span.
 ghost use Rattle.std.specs.Prelude.{◌≡◌, ◌+◌, ◌<◌, ◌↔◌, IsTrue, length, take, ◌≤ℤ◌, ◌-ℤ◌, ◌*ℤ◌, pos};
 ghost use Rattle.std.specs.Int.{int_max};
 ghost use Rattle.rect_check.specs.Duals.{IsSpan, area_at, area_of, greatest as the_greatest};
@@ -20,7 +20,7 @@ fn product(u: i32, v: i32) -> i64
     i64::from(u) * i64::from(v)
 }
 
-// Returns how far it is from `p` to `q`.
+// Returns `q` less `p`. Only the contract needs `n`.
 fn distance(n: u16, p: i32, q: i32) -> i32
     requires { IsSpan n p q }
     ensures value { result ≡ q -ℤ p }
@@ -36,7 +36,7 @@ fn greater(u: i32, v: i32) -> i32
     u.max(v)
 }
 
-// Returns the greatest of 0 and some numbers.
+// Returns the greatest number of `list`, or 0 where that is greater.
 pub(crate) fn greatest(list: &Ints) -> i32
     ensures { result ≡ the_greatest list.now }
 {
@@ -48,7 +48,7 @@ pub(crate) fn greatest(list: &Ints) -> i32
 }
 
 impl Rects<'_> {
-    // Returns the area of the rectangle of a vertex.
+    // Returns the area of the rectangle of `v`.
     fn area(&self, v: VertexId) -> i64
         requires vertex { v.0 < length self.now.map.now.lists }
         ensures area { result ≡ area_at self.now.fig.now v.0 }
@@ -61,7 +61,7 @@ impl Rects<'_> {
         product(wide, tall)
     }
 
-    // Returns the area of all rectangles.
+    // Returns the sum of the areas of all rectangles.
     fn total_area(&self) -> i64
         ensures { result ≡ area_of self.now.fig.now (length self.now.map.now.lists) }
     {
@@ -74,7 +74,7 @@ impl Rects<'_> {
         total
     }
 
-    // Says whether the rectangles have the area of the one that they span.
+    // Says whether the areas of the rectangles sum to that of the rectangle that they span.
     pub(crate) fn do_fill(&self) -> bool
         ensures { IsTrue result ↔ DoFill self.now.map.now.lists self.now.fig.now }
     {

@@ -1,4 +1,4 @@
-//! The check of a rectangular dual.
+//! The public check `check_rects` of a rectangular dual, and the order in which it looks for faults.
 ghost use Rattle.std.specs.Prelude.{◌≡◌, ◌<◌, ◌≤◌, length, MatchOption};
 ghost use Rattle.std.specs.Bool.{OnTrue};
 ghost use Rattle.half_edges.specs.Map.{IsHalfMap};
@@ -15,7 +15,7 @@ use half_edges::{HalfMap, VertexId};
 use pg_plane::RectFigure;
 
 impl Rects<'_> {
-    // Returns the least two rectangles that meet. Where none are known to, there is no search.
+    // Returns the least two rectangles whose interiors meet. Where `fitting` says that none do, there is no search.
     fn first_meeting(&self, fitting: bool) -> Option<(VertexId, VertexId)>
         requires fitting { OnTrue fitting (NoneMeet self.now.map.now.lists self.now.fig.now) }
         ensures { MatchOption result (NoneMeet self.now.map.now.lists self.now.fig.now)
@@ -24,7 +24,7 @@ impl Rects<'_> {
         if fitting { None } else { self.first_meet() }
     }
 
-    // Returns the first fault of two rectangles, or of their areas, with room for a mark for each vertex.
+    // Returns the first fault of two rectangles, or of the areas. `marks` is room for a flag for each vertex.
     fn first_of_pairs_in(&self, marks: &mut [bool]) -> Option<RectVerdict>
         requires marks { length marks.old ≡ length self.now.map.now.lists }
         ensures { MatchOption result (NoneMeet self.now.map.now.lists self.now.fig.now × DoFill self.now.map.now.lists self.now.fig.now × HasContacts self.now.map.now.lists self.now.fig.now)
@@ -43,7 +43,7 @@ impl Rects<'_> {
         }
     }
 
-    // Returns the first fault of two rectangles, or of their areas, with room for `MOST` marks.
+    // Returns the first fault of two rectangles, or of the areas, with room for `MOST` flags.
     fn first_of_pairs_of<const MOST: usize>(&self, n: usize) -> Option<RectVerdict>
         requires n { n ≡ length self.now.map.now.lists }
         requires most { n ≤ MOST }
@@ -55,7 +55,7 @@ impl Rects<'_> {
         self.first_of_pairs_in(&mut marks[..n])
     }
 
-    // Returns the first fault of two rectangles, or of their areas.
+    // Returns the first fault of two rectangles, or of the areas, with as much room as the map needs.
     fn first_of_pairs(&self) -> Option<RectVerdict>
         ensures { MatchOption result (NoneMeet self.now.map.now.lists self.now.fig.now × DoFill self.now.map.now.lists self.now.fig.now × HasContacts self.now.map.now.lists self.now.fig.now)
             (IsRectVerdict self.now.map.now.lists self.now.fig.now) }
@@ -72,12 +72,12 @@ impl Rects<'_> {
 /// Returns the first fault of a rectangular dual in the order of the variants of `RectVerdict`, with the least ids,
 /// or `Yes` exactly where it is one of the map.
 ///
-/// `fig` has a rectangle for each vertex. It takes no memory from the heap, and at most 30 KB of the stack. A
-/// sweep along each of the two axes keeps which rectangle each run of rows has last. It compares each new one with
-/// those of its runs, looks each contact up in the shorter of two lists, and marks the two of one that is no edge.
-/// Where rectangles meet, two passes over the rows mark those that do. The time of a valid figure is linear in the
-/// vertices and the darts; else the sum of all heights comes to it, and for the least fault only a marked rectangle
-/// is compared with all others.
+/// `fig` has a rectangle for each vertex. It takes no memory from the heap, and at most 30 KB of the stack. A sweep
+/// along each of the two axes keeps which rectangle each interval of rows has last. It compares each new one with
+/// those of its intervals, looks each contact up in the shorter of two lists, and marks the two of one that is no
+/// edge. Where rectangles meet, two passes over the rows mark those that do. The time of a valid figure is linear in
+/// the vertices and the darts. Otherwise the sum of all heights is added, and for the least fault only a marked
+/// rectangle is compared with all others.
 pub fn check_rects(map: &HalfMap, fig: &RectFigure) -> RectVerdict
     requires { HasRects map.now.lists fig.now }
     ensures { IsRectVerdict map.now.lists fig.now result }

@@ -1,4 +1,4 @@
-//! The outer face, and the rectangles of its vertices.
+//! The four vertices of the outer face, and whether their rectangles lie along the sides of the frame.
 ghost use Rattle.std.specs.Prelude.{◌≡◌, ◌<◌, ◌↔◌, length, IsTrue, Some, MatchOption};
 ghost use Rattle.half_edges.specs.Map.{IsHalfMap, dart_at, first_dart};
 ghost use Rattle.rect_check.specs.Duals.{HasFrame, IsWide as IsAsWide, IsLeftmost, IsRightmost, IsFramed};
@@ -10,7 +10,7 @@ use crate::rects::number;
 use half_edges::{HalfMap, VertexId};
 use pg_plane::RectFigure;
 
-/// The vertices behind vertex 0 on an outer face of four.
+/// The vertices after vertex 0 on an outer face of four.
 #[derive(Clone, Copy, PartialEq, Eq)]
 pub struct OuterFour {
     /// The first neighbour of vertex 0.
@@ -21,8 +21,8 @@ pub struct OuterFour {
     pub bottom: VertexId,
 }
 
-// Says whether a walk that passes 0, the three vertices of a frame, `s` and `e` is at 0 and the first of these again,
-// past four vertices.
+// Says whether a walk over 0, the three vertices of `frame`, `s` and `e` comes back to 0 and the first of these,
+// after four distinct vertices.
 fn is_round_of_four(frame: OuterFour, s: VertexId, e: VertexId) -> bool
     ensures { IsTrue result ↔ IsRoundOfFour frame.top.0 frame.right.0 frame.bottom.0 s.0 e.0 }
 {
@@ -30,8 +30,8 @@ fn is_round_of_four(frame: OuterFour, s: VertexId, e: VertexId) -> bool
     s.0 == 0 && e.0 == d && 0 != d && 0 != p && 0 != q && d != p && d != q && p != q
 }
 
-/// Returns the vertices of the outer face after vertex 0, where vertex 0 has a neighbour and the face of the dart to
-/// the first one is walked by four darts over four vertices.
+/// Returns the vertices after vertex 0 on the face of its first dart, if that face is walked by four darts over four
+/// vertices.
 pub fn outer_four(map: &HalfMap) -> Option<OuterFour>
     ensures { MatchOption result (¬ HasFrame map.now.lists) (λ f. IsFrame map.now.lists f.top.0 f.right.0 f.bottom.0) }
 {
@@ -54,14 +54,14 @@ pub fn outer_four(map: &HalfMap) -> Option<OuterFour>
     }
 }
 
-// Says whether a rectangle reaches over the whole width.
+// Says whether the rectangle of `v` reaches over the whole width.
 fn is_wide(fig: &RectFigure, v: VertexId) -> bool
     ensures { IsTrue result ↔ IsAsWide fig.now v.0 }
 {
     number(&fig.x1, v) == 0 && number(&fig.x2, v) == greatest(&fig.x2)
 }
 
-// Returns the first vertex of the frame that is not at its end.
+// Returns the first vertex of the outer face whose rectangle does not lie along its side of the frame.
 pub(crate) fn first_unframed(fig: &RectFigure, frame: OuterFour) -> Option<VertexId>
     ensures { MatchOption result (IsFramed fig.now 0 frame.top.0 frame.right.0 frame.bottom.0)
         (λ v. IsFirstUnframed fig.now 0 frame.top.0 frame.right.0 frame.bottom.0 v.0) }

@@ -1,7 +1,6 @@
-//! The check of rectangular duals, in which each vertex is a rectangle, and two share a side exactly where their
-//! vertices are adjacent. It says whether the rectangles fill the one that they span, without overlap, whether all
-//! contacts are edges and all edges contacts, and whether the outer face is the frame. Where not, it says which
-//! fault comes first.
+//! The check of rectangular duals: each vertex is a rectangle, and two share a side exactly where their vertices are
+//! adjacent. It says whether the rectangles fill the one that they span, without overlap, whether all contacts are
+//! edges and all edges contacts, and whether the outer face is the frame. Where not, it says which fault comes first.
 #![tactic(auto)]
 
 ghost use Rattle.rect_check.specs.Laws.{YesIsDual};

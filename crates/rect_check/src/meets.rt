@@ -1,5 +1,6 @@
-//! Marks on the rectangles that meet others. A pass over all of them keeps for each row how far those so far
-//! reach along it, and marks each that begins before that; a pass back marks the others of such pairs.
+//! Marks on the rectangles whose interiors meet others, by a pass from the left and one from the right. A pass over
+//! all of them keeps for each row how far those so far reach along it, and marks each that begins before that; a pass
+//! back marks the others of such pairs.
 ghost use Rattle.std.specs.Prelude.{◌≡◌, ◌+◌, ◌<◌, ◌≤◌, ◌||◌, ◌≤ℤ◌, ◌<ℤ◌, ◌-ℤ◌, ℕ, length, slice_index, pos, IsTrue, MatchOption, All};
 ghost use Rattle.vertex_rounds.specs.Least.{IsLeastPair};
 ghost use Rattle.rect_check.specs.Faults.{RectsMeet};
@@ -12,7 +13,7 @@ use crate::rects::{Rects, number};
 use crate::sweep::{fill_rows, natural};
 use half_edges::VertexId;
 
-// Returns a number from 0 to n.
+// Converts a coordinate from 0 to `n` to its distance from 0. Only the contract needs `n`.
 fn from_front(n: u16, z: i32) -> u16
     requires low { pos 0 ≤ℤ z }
     requires high { z ≤ℤ pos n }
@@ -21,7 +22,7 @@ fn from_front(n: u16, z: i32) -> u16
     z as u16
 }
 
-// Returns how far such a number is before n.
+// Returns the distance of the coordinate `z` from `n`.
 fn from_behind(n: u16, z: i32) -> u16
     requires low { pos 0 ≤ℤ z }
     requires high { z ≤ℤ pos n }
@@ -46,7 +47,7 @@ struct Pass<'a> {
 }
 
 impl Pass<'_> {
-    // Returns where a rectangle begins; or, on the way back, how far its end is before n.
+    // Returns where the rectangle of `v` begins, or on the way back how far its end is before n.
     fn near(&self, v: VertexId) -> u16
         requires vertex { v.0 < length self.now.rects.map.now.lists }
         ensures { pos result ≡ near_at self.now.back (length self.now.rects.map.now.lists) self.now.rects.fig.now v.0 }
@@ -58,7 +59,7 @@ impl Pass<'_> {
         }
     }
 
-    // Returns where it ends; or, on the way back, how far its beginning is before n.
+    // Returns where the rectangle of `v` ends, or on the way back how far its beginning is before n.
     fn far(&self, v: VertexId) -> u16
         requires vertex { v.0 < length self.now.rects.map.now.lists }
         ensures { pos result ≡ far_at self.now.back (length self.now.rects.map.now.lists) self.now.rects.fig.now v.0 }
@@ -70,7 +71,8 @@ impl Pass<'_> {
         }
     }
 
-    // Marks a vertex, if its rectangle begins before a row of it reaches; its rows now reach to its end.
+    // Marks `v` in `marks`, if its rectangle begins before the end of an earlier one in a row of its own. `table` has
+    // for each row how far the earlier ones reach, and is raised to the end of this one.
     fn mark_next(&self, table: &mut [u16], marks: &mut [bool], v: VertexId)
         requires vertex { v.0 < length self.now.rects.map.now.lists }
         requires table { length table.old ≡ length self.now.rects.map.now.lists }
@@ -96,7 +98,8 @@ impl Pass<'_> {
         }
     }
 
-    // Marks each vertex of an order whose rectangle meets one before it.
+    // Marks each vertex of `order` in `marks` whose rectangle meets one before it. `table` has for each row how far
+    // the earlier ones reach.
     fn mark_later(&self, order: &[u16], table: &mut [u16], marks: &mut [bool])
         requires vertices { All (λ v. v < length self.now.rects.map.now.lists) order.now }
         requires table { length table.old ≡ length self.now.rects.map.now.lists }
@@ -114,7 +117,7 @@ impl Pass<'_> {
 }
 
 impl Rects<'_> {
-    // Returns the least two rectangles that meet, with room for the vertices in their order, for the rows and for
+    // Returns the least two rectangles whose interiors meet. The slices are room for the order, the rows and the
     // marks.
     fn first_meet_in(
         &self,
@@ -142,7 +145,7 @@ impl Rects<'_> {
         self.first_marked_meet(marks)
     }
 
-    // Returns the least two rectangles that meet, with room for `MOST` vertices.
+    // Returns the least two rectangles whose interiors meet, with room for `MOST` vertices.
     fn first_meet_of<const MOST: usize>(&self, n: usize) -> Option<(VertexId, VertexId)>
         requires n { n ≡ length self.now.map.now.lists }
         requires most { n ≤ MOST }
@@ -156,7 +159,7 @@ impl Rects<'_> {
         self.first_meet_in(&mut order[..n], &mut table[..n], &mut marks[..n])
     }
 
-    // Returns the least two rectangles that meet.
+    // Returns the least two rectangles whose interiors meet, with as much room as the map needs.
     pub(crate) fn first_meet(&self) -> Option<(VertexId, VertexId)>
         ensures { MatchOption result (NoneMeet self.now.map.now.lists self.now.fig.now)
             (λ p. IsLeastPair (RectsMeet self.now.map.now.lists self.now.fig.now) p.0.0 p.1.0) }

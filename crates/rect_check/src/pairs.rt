@@ -1,4 +1,4 @@
-//! The search for the least two rectangles with a fault, over the pairs of those with a mark.
+//! The least two rectangles that meet or whose contact is wrong, among pairs with a marked vertex.
 ghost use Rattle.std.specs.Prelude.{◌≡◌, ◌<◌, ◌↔◌, ℕ, length, MatchOption};
 ghost use Rattle.map_theory.specs.Maps.{HasDart};
 ghost use Rattle.vertex_rounds.specs.Least.{IsLeast, IsLeastPair};
@@ -13,8 +13,8 @@ use crate::sides::{are_adjacent, do_meet, share_side};
 use half_edges::VertexId;
 
 impl Rects<'_> {
-    // Returns the least two rectangles that meet, where each vertex has a mark whose rectangle meets that of a greater
-    // one. Only of a vertex with a mark all pairs are tried.
+    // Returns the least two rectangles whose interiors meet. It requires a mark for each vertex whose rectangle meets
+    // that of a greater one, and tries only pairs of these.
     pub(crate) fn first_marked_meet(&self, marks: &[bool]) -> Option<(VertexId, VertexId)>
         requires marks { length marks.now ≡ length self.now.map.now.lists }
         requires marked { MeetsAreMarked self.now.map.now.lists self.now.fig.now marks.now }
@@ -35,8 +35,8 @@ impl Rects<'_> {
         None
     }
 
-    // Returns the least vertex after `u` with a wrong contact, where a vertex without a mark is adjacent to those that
-    // share a side with it.
+    // Returns the least vertex after `u` with which the contact is wrong: one of contact and edge is missing. It
+    // requires that a vertex without a mark is adjacent to all that share a side with it.
     fn first_wrong_at(&self, marks: &[bool], u: VertexId) -> Option<VertexId>
         requires vertex { u.0 < length self.now.map.now.lists }
         requires marks { length marks.now ≡ length self.now.map.now.lists }
@@ -57,7 +57,8 @@ impl Rects<'_> {
         None
     }
 
-    // Returns the least two vertices with a wrong contact. Only of a vertex with a mark all pairs are tried.
+    // Returns the least two vertices of which one of contact and edge is missing. All pairs are tried only of
+    // vertices with a mark.
     pub(crate) fn first_wrong(&self, marks: &[bool]) -> Option<(VertexId, VertexId)>
         requires marks { length marks.now ≡ length self.now.map.now.lists }
         requires joined { AllJoined self.now.map.now.lists marks.now self.now.fig.now }

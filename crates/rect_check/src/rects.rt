@@ -1,4 +1,4 @@
-//! Rectangles, vertex by vertex, and those of a figure of which none is wrong.
+//! The rectangles of a figure, one for each vertex, and the first one that is empty or out of range.
 ghost use Rattle.std.specs.Prelude.{◌≡◌, ◌<◌, ◌↔◌, IsTrue, MatchOption};
 ghost use Rattle.vertex_rounds.specs.Least.{IsLeast};
 ghost use Rattle.rect_check.specs.Duals.{number_at, left_of, right_of, low_of, high_of, IsSpan, IsRect};
@@ -16,49 +16,49 @@ pub(crate) struct Rects<'a> {
     ghost rects: { AreRects map.now.lists fig.now },
 }
 
-// Returns number `i` of a list, or 0 after its end.
+// Returns entry `i` of `list`, or 0 past its end.
 pub(crate) fn number_in(list: &Ints, i: usize) -> i32
     ensures { result ≡ number_at list.now i }
 {
     if i < list.len() { list.get(i) } else { 0 }
 }
 
-// Returns the number of a vertex in a list, or 0 after its end.
+// Returns the number of vertex `v` in `list`, or 0 past its end.
 pub(crate) fn number(list: &Ints, v: VertexId) -> i32
     ensures { result ≡ number_at list.now v.0 }
 {
     number_in(list, v.0 as usize)
 }
 
-// Says whether the span from `p` to `q` is not empty, and lies from 0 to n - 2.
+// Says whether the interval from `p` to `q` is not empty, and lies within 0 to n - 2.
 fn is_span(n: u16, p: i32, q: i32) -> bool
     ensures { IsTrue result ↔ IsSpan n p q }
 {
     0 <= p && p < q && q <= i32::from(n) - 2
 }
 
-// Says whether the rectangle of a vertex goes from left to right.
+// Says whether the rectangle of `v` has a positive width, within 0 to n - 2.
 fn is_wide(n: u16, fig: &RectFigure, v: VertexId) -> bool
     ensures { IsTrue result ↔ IsSpan n (left_of fig.now v.0) (right_of fig.now v.0) }
 {
     is_span(n, number(&fig.x1, v), number(&fig.x2, v))
 }
 
-// Says whether it goes upwards.
+// Says whether the rectangle of `v` has a positive height, within 0 to n - 2.
 fn is_tall(n: u16, fig: &RectFigure, v: VertexId) -> bool
     ensures { IsTrue result ↔ IsSpan n (low_of fig.now v.0) (high_of fig.now v.0) }
 {
     is_span(n, number(&fig.y1, v), number(&fig.y2, v))
 }
 
-// Says whether the rectangle of a vertex is not empty, and lies within n - 2 by n - 2.
+// Says whether the rectangle of `v` is not empty, and lies within n - 2 by n - 2.
 fn is_rect(n: u16, fig: &RectFigure, v: VertexId) -> bool
     ensures { IsTrue result ↔ IsRect n fig.now v.0 }
 {
     is_wide(n, fig, v) && is_tall(n, fig, v)
 }
 
-// Returns the least vertex with a wrong rectangle.
+// Returns the least vertex whose rectangle is empty or not within n - 2 by n - 2.
 pub(crate) fn first_bad_rect(map: &HalfMap, fig: &RectFigure) -> Option<VertexId>
     ensures { MatchOption result (AreRects map.now.lists fig.now)
         (λ v. IsLeast (HasBadRect map.now.lists fig.now) v.0) }

@@ -1,4 +1,4 @@
-//! Two rectangles: whether they meet, and whether they share a side.
+//! Two rectangles: whether their interiors meet, whether they share a side, and whether their vertices are adjacent.
 ghost use Rattle.std.specs.Prelude.{◌≡◌, ◌<◌, ◌↔◌, ◌<ℤ◌, IsTrue, length};
 ghost use Rattle.map_theory.specs.Maps.{HasDart};
 ghost use Rattle.rect_check.specs.Duals.{left_of, right_of, low_of, high_of, DoMeet, IsBeside, IsAbove, ShareSide};
@@ -7,14 +7,14 @@ use crate::rects::number;
 use half_edges::{HalfMap, VertexId};
 use pg_plane::RectFigure;
 
-// Says whether `u` begins to the left of the right side of `v`.
+// Says whether the rectangle of `u` begins to the left of the right side of that of `v`.
 fn begins_before(fig: &RectFigure, u: VertexId, v: VertexId) -> bool
     ensures { IsTrue result ↔ (left_of fig.now u.0 <ℤ right_of fig.now v.0) }
 {
     number(&fig.x1, u) < number(&fig.x2, v)
 }
 
-// Says whether `u` begins below the upper side of `v`.
+// Says whether the rectangle of `u` begins below the upper side of that of `v`.
 fn begins_below(fig: &RectFigure, u: VertexId, v: VertexId) -> bool
     ensures { IsTrue result ↔ (low_of fig.now u.0 <ℤ high_of fig.now v.0) }
 {
@@ -31,14 +31,14 @@ pub(crate) fn do_meet(fig: &RectFigure, u: VertexId, v: VertexId) -> bool
         && begins_below(fig, v, u)
 }
 
-// Says whether `v` is to the right of `u`, along a piece of an upright line.
+// Says whether the rectangle of `v` is to the right of that of `u`, along a piece of a vertical line.
 fn is_beside(fig: &RectFigure, u: VertexId, v: VertexId) -> bool
     ensures { IsTrue result ↔ IsBeside fig.now u.0 v.0 }
 {
     number(&fig.x2, u) == number(&fig.x1, v) && begins_below(fig, u, v) && begins_below(fig, v, u)
 }
 
-// Says whether `v` is above `u`, along a piece of a level line.
+// Says whether the rectangle of `v` is above that of `u`, along a piece of a horizontal line.
 fn is_above(fig: &RectFigure, u: VertexId, v: VertexId) -> bool
     ensures { IsTrue result ↔ IsAbove fig.now u.0 v.0 }
 {

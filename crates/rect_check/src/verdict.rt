@@ -1,4 +1,4 @@
-//! Verdicts on a drawing by rectangles.
+//! `RectVerdict`: the verdict on a rectangular dual, by its first fault.
 
 use half_edges::VertexId;
 

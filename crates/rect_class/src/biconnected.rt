@@ -1,4 +1,4 @@
-//! A record as a map of the class.
+//! The conditions of the job `rect` on a record, in order: its map, or the first condition that it breaks.
 ghost use Rattle.std.specs.Prelude.{◌≡◌, ◌<◌, length, MatchOption, IfOk, IfErr};
 ghost use Rattle.refusals.specs.Conditions.{IfRefused};
 ghost use Rattle.conn_parts.specs.BiconnectedMaps.{IsBiconnectedMap};
@@ -15,11 +15,11 @@ use rect_check::{OuterFour, outer_four};
 use refusals::{Refusal, Unserved};
 use std::alloc::{AllocError, Global};
 
-// How many vertices the outer face has.
+// The number of vertices on the outer face.
 const OUTER_COUNT: u16 = 4;
 
-// Returns the first condition on triangles of edges that a map breaks; `lists` are the lists of `map`, and `four` is its
-// outer face.
+// Returns the least separating triangle of `map` as a refusal, or None. `lists` are the lists of `map`, and `four` is
+// its outer face. It fails only when out of memory.
 fn first_of_triangles(
     alloc: Global,
     map: &HalfMap,
@@ -44,8 +44,8 @@ fn first_of_triangles(
     }
 }
 
-// Returns the first condition that a biconnected map breaks: on the outer face, the other faces, the triangles of edges,
-// and the vertices inside. `lists` are the lists of `map`.
+// Returns the first condition that a biconnected map breaks: on the outer face, the other faces, the triangles of
+// edges, and the inner vertices. `lists` are the lists of `map`. It fails only when out of memory.
 fn first_broken(
     alloc: Global,
     map: &HalfMap,
@@ -72,14 +72,14 @@ fn first_broken(
     }
 }
 
-/// The map of a record with these lists, which are from 1 to 4095, where it has genus zero, is connected and
-/// has no cut vertex, its outer face is a quadrangle, each other face is a triangle, each triangle of edges is
-/// a face, and some vertex is inside.
+/// Returns the map of a record with these lists, from 1 to 4095, if it is of the class of `rect`. It then has genus
+/// zero, is connected and has no cut vertex. Its outer face is a quadrangle, each other face is a triangle, each
+/// triangle of edges is a face, and some vertex is inside.
 ///
-/// `Err` names the first condition that the lists break, in the order of [`Refusal`], with the least
-/// vertices. Or there was not enough memory. For each edge it goes over the shorter of two lists; only where a
-/// triangle may separate it looks each common neighbour up in a row of those neighbours of a vertex whose degree is no
-/// lower. The time is linear but for the lengths of these rows, which are short also at hubs.
+/// `Err` names the first condition that the lists break, in the order of [`Refusal`], with the least vertices. Or
+/// there was not enough memory. For each edge it goes over the shorter of two lists. Only where a triangle may
+/// separate does it look each common neighbour up among the neighbours of a vertex whose degree is no lower. The time
+/// is linear but for the lengths of these lists, which are short also at hubs.
 pub fn rect_map(alloc: Global, lists: &Rotations) -> Result<HalfMap, Unserved>
     requires some_list { 0 < length lists.now }
     ensures lists { IfOk result (λ map. map.lists ≡ lists.now) }

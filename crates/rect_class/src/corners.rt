@@ -1,5 +1,5 @@
-//! That no triangle of edges separates, by the lists alone: at one end of each edge the neighbours that both ends have
-//! stand next to the other end in the list.
+//! A quick test that no triangle of edges separates, by the lists alone: common neighbours stand next to an edge's
+//! end.
 ghost use Rattle.std.specs.Prelude.{◌≡◌, ◌≢◌, ◌<◌, ◌↔◌, ◌+◌, ◌⊎◌, ℕ, length, All, AllPairs, slice_index, IsTrue, IfOk};
 ghost use Rattle.std.specs.Bool.{OnTrue};
 ghost use Rattle.map_theory.specs.Maps.{HasDart, IsSimpleMap, list_of, entry_after};
@@ -13,7 +13,7 @@ use half_edges::{Rotations, VertexId};
 use rect_check::OuterFour;
 use std::alloc::{AllocError, Global};
 
-// Puts a stamp on each vertex of a list.
+// Sets the mark of each vertex in the list `us` to `stamp`.
 fn stamp_all(marks: &mut Vec<u16>, us: &[u16], stamp: u16)
     requires { All (λ u. u < length marks.old.items) us.now }
     ensures length { length marks.new.items ≡ length marks.old.items }
@@ -24,7 +24,8 @@ fn stamp_all(marks: &mut Vec<u16>, us: &[u16], stamp: u16)
     }
 }
 
-// A vertex whose neighbours have its stamp, with the lists, the degrees and the marks of all vertices.
+// A vertex `v` whose neighbours are marked by its stamp, v + 1, with the lists, the degrees and the marks of all
+// vertices.
 #[derive(Clone, Copy)]
 struct Star<'a> {
     lists: &'a Rotations,
@@ -41,7 +42,7 @@ struct Star<'a> {
 }
 
 impl Star<'_> {
-    // Says whether the vertex comes after `u`: `u` is before it by its degree, or by its number where they have one degree.
+    // Says whether `u` comes before the vertex by its degree, or by its number where they have one degree.
     fn comes_after(&self, u: u16) -> bool
         requires { u < length self.now.lists.now }
         ensures { IsTrue result ↔ ComesBefore self.now.degrees.now u self.now.v }
@@ -51,7 +52,7 @@ impl Star<'_> {
         first < second || (first == second && u < self.v)
     }
 
-    // Says whether each entry of `ws` that is a neighbour of the vertex, by its stamp, is `last` or `next`.
+    // Says whether each entry of `ws` that is a neighbour of the vertex, by its mark, is `last` or `next`.
     fn are_sides(&self, ws: &[u16], last: u16, next: u16) -> bool
         requires { All (λ w. w < length self.now.marks.now) ws.now }
         ensures { OnTrue result ((k : ℕ) → k < length ws.now → IsSide self.now.marks.now (self.now.v + 1) last next (slice_index ws.now k)) }
@@ -66,7 +67,8 @@ impl Star<'_> {
         true
     }
 
-    // Says whether number `k` of its list comes after the vertex, or stands there next to each common neighbour of both.
+    // Says whether entry `k` of the vertex's list comes after the vertex, or stands next to each common neighbour of
+    // both in that list.
     fn is_closed_over(&self, k: usize) -> bool
         requires { k < length (list_of self.now.lists.now self.now.v) }
         ensures { OnTrue result (ComesBefore self.now.degrees.now (slice_index (list_of self.now.lists.now self.now.v) k) self.now.v
@@ -82,8 +84,7 @@ impl Star<'_> {
         self.are_sides(self.lists.list(usize::from(u)), last, next)
     }
 
-    // Says whether each common neighbour of the vertex and of one of its neighbours that come before it stands next to
-    // that.
+    // Says whether `is_closed_over` holds for all entries of the vertex's list.
     fn is_closed(&self) -> bool
         ensures { OnTrue result ((k : ℕ) → k < length (list_of self.now.lists.now self.now.v) → ComesBefore self.now.degrees.now (slice_index (list_of self.now.lists.now self.now.v) k) self.now.v
             → IsClosedOver self.now.lists.now self.now.v (slice_index (list_of self.now.lists.now self.now.v) k)) }
@@ -98,7 +99,7 @@ impl Star<'_> {
     }
 }
 
-// Makes the list of all degrees.
+// Returns the degrees of all vertices. It fails only when out of memory.
 fn all_degrees(alloc: Global, lists: &Rotations) -> Result<Vec<usize>, AllocError>
     ensures { IfOk result (λ degrees. length degrees.items ≡ length lists.now) }
 {
@@ -109,7 +110,8 @@ fn all_degrees(alloc: Global, lists: &Rotations) -> Result<Vec<usize>, AllocErro
     Ok(degrees)
 }
 
-// Says whether the common neighbours of each edge stand next to one end in the list of the other.
+// Says whether for each edge the common neighbours of its ends stand next to one end in the list of the other. It
+// fails only when out of memory.
 pub(crate) fn are_closed(alloc: Global, lists: &Rotations) -> Result<bool, AllocError>
     requires simple { IsSimpleMap lists.now }
     ensures { IfOk result (λ closed. OnTrue closed (AreClosed lists.now)) }
@@ -131,7 +133,7 @@ pub(crate) fn are_closed(alloc: Global, lists: &Rotations) -> Result<bool, Alloc
     Ok(true)
 }
 
-// Says whether an edge joins two of the four vertices of the outer face across it.
+// Says whether an edge joins two opposite vertices of the outer face `four`.
 pub(crate) fn has_diagonal(lists: &Rotations, four: OuterFour) -> bool
     requires first { 0 < length lists.now }
     requires top { four.top.0 < length lists.now }
@@ -140,7 +142,8 @@ pub(crate) fn has_diagonal(lists: &Rotations, four: OuterFour) -> bool
     has_upper(lists, VertexId(0), four.right) || has_upper(lists, four.top, four.bottom)
 }
 
-/// Says whether no triangle of edges separates, where the lists show that at once; `false` leaves it open.
+/// Says whether the lists show at once that no triangle of edges separates. `false` leaves it open. `four` is the
+/// outer face.
 ///
 /// For each edge it goes over the shorter of two lists, so that its time is linear. It fails only when out of memory.
 pub(crate) fn none_separates(

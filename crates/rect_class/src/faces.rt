@@ -1,4 +1,4 @@
-//! Faces other than the outer one that are no triangles.
+//! The least dart of an inner face that is no triangle.
 ghost use Rattle.std.specs.Prelude.{◌≡◌, ◌+◌, ◌<◌, ◌↔◌, ℕ, List, length, slice_index, IsTrue, Some, MatchOption};
 ghost use Rattle.plane_laws.specs.Laws.{IsTriangle};
 ghost use Rattle.half_edges.specs.Map.{IsLive, dart_at, first_dart};
@@ -19,7 +19,7 @@ fn is_dart(v: VertexId, u: VertexId, x: VertexId, y: VertexId) -> bool
     v.0 == x.0 && u.0 == y.0
 }
 
-// Says whether the dart from `v` to `u` is one of the outer face, over `four`.
+// Says whether the dart from `v` to `u` is on the outer face, which is walked from vertex 0 over `four`.
 fn is_frame_dart(four: OuterFour, v: VertexId, u: VertexId) -> bool
     ensures { IsTrue result ↔ IsFrameDart four.top.0 four.right.0 four.bottom.0 v.0 u.0 }
 {
@@ -41,8 +41,7 @@ fn is_triangle(map: &HalfMap, d: DartId) -> bool
     fourth.0 == d.0
 }
 
-// Says whether the face of dart `d` is no triangle, and the dart is off the outer face, over `four`: nearly every face
-// is a triangle.
+// Says whether the face of dart `d` is neither a triangle nor the outer one, which is walked over `four`.
 fn is_large(map: &HalfMap, four: OuterFour, d: DartId) -> bool
     requires { IsLive map.now d.0 }
     ensures { IsTrue result ↔ HoldsAt map.now (IsLargeDart map.now.lists four.top.0 four.right.0 four.bottom.0) d.0 }
@@ -51,7 +50,7 @@ fn is_large(map: &HalfMap, four: OuterFour, d: DartId) -> bool
     !is_triangle(map, d) && !is_frame_dart(four, map.tail(d), map.head(d))
 }
 
-// Returns the least dart whose face is neither the outer one, over `four`, nor a triangle.
+// Returns the ends of the least dart whose face is neither the outer one, walked over `four`, nor a triangle.
 pub(crate) fn first_large(map: &HalfMap, four: OuterFour) -> Option<(VertexId, VertexId)>
     requires { IsFrame map.now.lists four.top.0 four.right.0 four.bottom.0 }
     ensures { MatchOption result (HasTriangles map.now.lists)

@@ -1,4 +1,5 @@
-//! The outer faces of maps of the class that counts and corners tell: no map is made of their lists.
+//! `FrameFinder`: the outer face of a map of the class of `rect`, shown by counts and corners of the lists, without a
+//! half-edge map.
 ghost use Rattle.std.specs.Prelude.{◌≡◌, ◌≤◌, ◌<◌, ◌+◌, ◌*◌, ⊤, ℕ, length, slice_index, sum_by, IsTrue, MatchOption, IfOk};
 ghost use Rattle.map_theory.specs.Maps.{IsSimpleMap, HasDart, follows, list_of};
 ghost use Rattle.rect_check.specs.Loops.{IsFrame};
@@ -12,7 +13,7 @@ use half_edges::{Rotations, VertexId};
 use rect_check::OuterFour;
 use std::alloc::{AllocError, Global};
 
-// Whether lists have as many vertices and entries as those of a map of the class.
+// Says whether lists have at least five vertices, and as many entries as a map of the class: 3n - 7 edges.
 fn is_full(lists: &Rotations) -> bool
     ensures large { IsTrue result → 5 ≤ length lists.now }
     ensures full { IsTrue result → sum_by length lists.now + 14 ≡ 6 * length lists.now }
@@ -33,7 +34,8 @@ pub fn next_on_face(lists: &Rotations, u: VertexId, v: VertexId) -> VertexId
     VertexId(ring.next(u.0))
 }
 
-// Returns the outer face, if it is walked by four darts over four vertices: the walk is then at 0 and the top again.
+// Returns the outer face, that of the dart from vertex 0 to its first neighbour, if it is walked by four darts over
+// four vertices.
 fn outer_face(lists: &Rotations) -> Option<OuterFour>
     requires simple { IsSimpleMap lists.now }
     requires some { 0 < length lists.now }

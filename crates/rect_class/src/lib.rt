@@ -1,4 +1,4 @@
-//! A record as a map that has a rectangular dual, or the first condition that it breaks.
+//! Which records have a rectangular dual: the map of a record of this class, or the first condition that it breaks.
 #![tactic(auto)]
 
 ghost use Rattle.rect_class.specs.Laws.{RectMapsBreakNothing, BiconnectedAreRectMaps};

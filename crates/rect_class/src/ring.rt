@@ -1,4 +1,4 @@
-//! A list round a vertex: who comes after whom.
+//! A rotation list read cyclically: the entry before or after another.
 ghost use Rattle.std.specs.Prelude.{◌≡◌, ◌≢◌, ◌<◌, length, slice_index, AllPairs, Contains};
 ghost use Rattle.map_theory.specs.Maps.{entry_after};
 
@@ -10,7 +10,7 @@ pub(crate) struct Ring<'a> {
 }
 
 impl Ring<'_> {
-    // Returns the entry after the one at place `k`.
+    // Returns the entry after the one at index `k`, cyclically.
     pub(crate) fn behind(&self, k: usize) -> u16
         requires { k < length self.now.us.now }
         ensures { result ≡ entry_after (slice_index self.now.us.now k) self.now.us.now }
@@ -19,7 +19,7 @@ impl Ring<'_> {
         if k + 1 < us.len() { us[k + 1] } else { us[0] }
     }
 
-    // Returns the entry before the one at place `k`.
+    // Returns the entry before the one at index `k`, cyclically.
     pub(crate) fn ahead(&self, k: usize) -> u16
         requires { k < length self.now.us.now }
         ensures { entry_after result self.now.us.now ≡ slice_index self.now.us.now k }
@@ -28,7 +28,7 @@ impl Ring<'_> {
         if 0 < k { us[k - 1] } else { us[us.len() - 1] }
     }
 
-    // Returns the entry after `u`, which is one.
+    // Returns the entry after the entry `u`, cyclically.
     pub(crate) fn next(&self, u: u16) -> u16
         requires { Contains self.now.us.now u }
         ensures { result ≡ entry_after u self.now.us.now }

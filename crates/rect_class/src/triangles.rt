@@ -1,4 +1,4 @@
-//! Triangles of edges that are no faces.
+//! The least separating triangle: three edges of a map that bound no face.
 ghost use Rattle.std.specs.Prelude.{◌≡◌, ◌⊎◌, ◌+◌, ◌<◌, ◌↔◌, ℕ, List, false, length, slice_index, IsTrue, Some, MatchOption};
 ghost use Rattle.std.specs.Bool.{OnTrue};
 ghost use Rattle.map_theory.specs.Maps.{HasDart, list_of, follows};
@@ -13,7 +13,7 @@ use crate::upper::Upper;
 use half_edges::{DartId, VertexId};
 use vertex_rounds::{first_dart, least_head};
 
-// An edge, by one of its darts, which goes from `a` to `b`.
+// An edge by one of its darts, `d`, which goes from `a` to `b`.
 #[derive(Clone, Copy)]
 struct Edge<'a> {
     near: Upper<'a>,
@@ -23,7 +23,7 @@ struct Edge<'a> {
     ghost dart: { dart_at near.map.now d.0 ≡ Some (a.0, b.0) },
 }
 
-// An edge with the vertices to which its faces go on, on its left and on its right: no others bound a face with it.
+// An edge with the third vertices of the faces on its left and on its right, where these are triangles.
 #[derive(Clone, Copy)]
 struct Wings<'a> {
     edge: Edge<'a>,
@@ -33,7 +33,7 @@ struct Wings<'a> {
 }
 
 impl Wings<'_> {
-    // Says whether the edge bounds a face with `c`, on the one side or on the other.
+    // Says whether the edge bounds a triangular face with `c`, on one side or the other.
     fn is_bounding(&self, c: VertexId) -> bool
         ensures { IsTrue result ↔ (IsFaceOfThree self.now.edge.near.map.now.lists self.now.edge.a.0 self.now.edge.b.0 c.0
             ⊎ IsFaceOfThree self.now.edge.near.map.now.lists self.now.edge.b.0 self.now.edge.a.0 c.0) }
@@ -42,7 +42,7 @@ impl Wings<'_> {
             || (self.right.0 == c.0 && self.edge.is_turned_face(c))
     }
 
-    // Says whether `a`, `b` and `c` rise and are a separating triangle.
+    // Says whether `a`, `b` and `c` rise, are adjacent in pairs, and bound no face.
     fn is_separating(&self, c: VertexId) -> bool
         requires { c.0 < length self.now.edge.near.map.now.lists }
         ensures { IsTrue result ↔ IsSeparating self.now.edge.near.map.now.lists self.now.edge.a.0 self.now.edge.b.0 c.0 }
@@ -59,7 +59,7 @@ impl Wings<'_> {
 }
 
 impl Edge<'_> {
-    // Says whether the face of the dart goes on to `c` and back.
+    // Says whether the face of the dart is the triangle of `a`, `b` and `c`.
     fn is_face(&self, c: VertexId) -> bool
         ensures { IsTrue result ↔ IsFaceOfThree self.now.near.map.now.lists self.now.a.0 self.now.b.0 c.0 }
     {
@@ -71,7 +71,7 @@ impl Edge<'_> {
         map.head(second).0 == c.0 && map.head(third).0 == self.a.0 && map.head(fourth).0 == self.b.0
     }
 
-    // Says whether the face of the twin goes on to `c` and back.
+    // Says whether the face of the twin is the triangle of `b`, `a` and `c`.
     fn is_turned_face(&self, c: VertexId) -> bool
         ensures { IsTrue result ↔ IsFaceOfThree self.now.near.map.now.lists self.now.b.0 self.now.a.0 c.0 }
     {
@@ -85,7 +85,7 @@ impl Edge<'_> {
         twin.is_face(c)
     }
 
-    // Returns the vertex to which the face on the left goes on.
+    // Returns the head of the dart after this one along its face, on the left.
     fn left(&self) -> VertexId
         ensures { follows self.now.near.map.now.lists self.now.b.0 self.now.a.0 ≡ result.0 }
     {
@@ -94,7 +94,7 @@ impl Edge<'_> {
         map.head(map.face_step(self.d))
     }
 
-    // Returns the vertex to which the face on the right goes on.
+    // Returns the head of the next dart round `a`, which is on the face on the right.
     fn right(&self) -> VertexId
         ensures { follows self.now.near.map.now.lists self.now.a.0 self.now.b.0 ≡ result.0 }
     {
@@ -103,7 +103,8 @@ impl Edge<'_> {
         map.head(map.next(self.d))
     }
 
-    // Says whether the head of dart `e` is the third vertex of a separating triangle with `a` and `b`.
+    // Says whether the head of dart `e` forms a separating triangle with `a` and `b`, and is the greatest of the
+    // three.
     fn leads_to_third(&self, e: DartId) -> bool
         requires { IsLive self.now.near.map.now e.0 }
         ensures { IsTrue result ↔ IsSeparating self.now.near.map.now.lists self.now.a.0 self.now.b.0 (dart_of self.now.near.map.now e.0).1 }
@@ -117,7 +118,7 @@ impl Edge<'_> {
         wings.is_separating(self.near.map.head(e))
     }
 
-    // Returns the end whose list is the shorter of the two.
+    // Returns the end of the edge whose list is the shorter.
     fn shorter_end(&self) -> VertexId
         ensures { (result.0 ≡ self.now.a.0) ⊎ (result.0 ≡ self.now.b.0) }
     {
@@ -129,8 +130,8 @@ impl Edge<'_> {
         }
     }
 
-    // Returns the least third vertex of the edge. It goes over the shorter of the lists of `a` and `b`: a third vertex
-    // stands in both.
+    // Returns the least vertex that forms a separating triangle with `a` and `b` and is the greatest of the three. It
+    // goes over the shorter list of `a` and `b`.
     fn least_third(&self) -> Option<VertexId>
         ensures { MatchOption result ((c : ℕ) → ¬ IsSeparating self.now.near.map.now.lists self.now.a.0 self.now.b.0 c)
             (λ c. IsLeast (IsSeparating self.now.near.map.now.lists self.now.a.0 self.now.b.0) c.0) }
@@ -142,7 +143,7 @@ impl Edge<'_> {
 }
 
 impl Upper<'_> {
-    // Says whether the edge of dart `d` has a third vertex, and the tail is its lesser end.
+    // Says whether the edge of dart `d` is the least one of a separating triangle, with its tail as the lesser end.
     fn is_second(&self, d: DartId) -> bool
         requires { IsLive self.now.map.now d.0 }
         ensures { IsTrue result ↔ HoldsAt self.now.map.now (HasThird self.now.map.now.lists) d.0 }
@@ -154,7 +155,8 @@ impl Upper<'_> {
         a.0 < b.0 && Edge { near, d, a, b }.least_third().is_some()
     }
 
-    // Returns the least third vertex of `a` and `b`, which have one, where no dart is at hand.
+    // Returns the greatest vertex of the least separating triangle whose other vertices are `a` and `b`. It requires
+    // that there is one.
     fn third_between(&self, a: VertexId, b: VertexId) -> VertexId
         requires { HasThird self.now.map.now.lists a.0 b.0 }
         ensures { IsLeast (IsSeparating self.now.map.now.lists a.0 b.0) result.0 }
@@ -173,7 +175,7 @@ impl Upper<'_> {
         }
     }
 
-    // Returns the least separating triangle.
+    // Returns the least separating triangle, by its rising vertices, if there is one.
     pub(crate) fn first_separating(&self) -> Option<(VertexId, VertexId, VertexId)>
         ensures { MatchOption result (NoneSeparating self.now.map.now.lists)
             (λ t. IsLeastTriple (IsSeparating self.now.map.now.lists) t.0.0 t.1.0 t.2.0) }

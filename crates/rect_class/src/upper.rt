@@ -1,5 +1,5 @@
-//! For each vertex its neighbours of no lower degree. In a plane map such a row is short, also at a hub, so that
-//! two vertices are soon seen to be adjacent or not.
+//! For each vertex its neighbours of no lower degree: a short list in a plane map, by which adjacency is soon tested.
+//! In a plane map such a row is short, also at a hub, so that two vertices are soon seen to be adjacent or not.
 ghost use Rattle.std.specs.Prelude.{◌≡◌, ◌<◌, ◌↔◌, ◌++◌, length, IsTrue, IfOk, Contains, All};
 ghost use Rattle.std.specs.List.{filter};
 ghost use Rattle.map_theory.specs.Maps.{HasDart, IsSimpleMap, list_of};
@@ -8,7 +8,7 @@ ghost use Rattle.rect_class.specs.Upper.{has_degree as the_test, AreUpperRows};
 use half_edges::{HalfMap, Rotations, VertexId};
 use std::alloc::{AllocError, Global};
 
-// Says whether vertex `u` has `degree` neighbours or more.
+// Says whether vertex `u` has at least `degree` neighbours.
 fn has_degree(lists: &Rotations, degree: usize, u: u16) -> bool
     requires { u < length lists.now }
     ensures { result ≡ the_test lists.now degree u }
@@ -16,7 +16,8 @@ fn has_degree(lists: &Rotations, degree: usize, u: u16) -> bool
     degree <= lists.list(usize::from(u)).len()
 }
 
-// Puts the row of a vertex with the neighbours `us` behind `entries`: those that have as many neighbours or more.
+// Appends to `entries` those of a vertex's neighbours `us` that have no lower degree. It fails only when out of
+// memory.
 fn put_row(entries: &mut Vec<u16>, lists: &Rotations, us: &[u16]) -> Result<(), AllocError>
     requires { All (λ u. u < length lists.now) us.now }
     ensures { IfOk result (λ _. entries.new.items ≡ entries.old.items ++ filter (the_test lists.now (length us.now)) us.now) }
@@ -43,7 +44,7 @@ pub(crate) fn upper_rows(alloc: Global, lists: &Rotations) -> Result<Rotations, 
     Ok(Rotations::from_parts(entries, ends))
 }
 
-/// Says whether row `u` has `v`.
+/// Says whether `v` is in list `u` of `rows`.
 pub(crate) fn has_upper(rows: &Rotations, u: VertexId, v: VertexId) -> bool
     requires { u.0 < length rows.now }
     ensures { IsTrue result ↔ Contains (list_of rows.now u.0) v.0 }
@@ -51,7 +52,7 @@ pub(crate) fn has_upper(rows: &Rotations, u: VertexId, v: VertexId) -> bool
     rows.list(usize::from(u.0)).contains(&v.0)
 }
 
-/// A map, and a row for each of its vertices with the neighbours of no lower degree.
+/// A map, and for each of its vertices the list of its neighbours of no lower degree.
 #[derive(Clone, Copy)]
 pub(crate) struct Upper<'a> {
     pub(crate) map: &'a HalfMap,
@@ -60,7 +61,7 @@ pub(crate) struct Upper<'a> {
 }
 
 impl Upper<'_> {
-    // Says whether two vertices are adjacent, by the row of the one of lower degree.
+    // Says whether two vertices are adjacent, by the list of the one of lower degree.
     pub(crate) fn are_adjacent(&self, u: VertexId, v: VertexId) -> bool
         requires u { u.0 < length self.now.map.now.lists }
         requires v { v.0 < length self.now.map.now.lists }

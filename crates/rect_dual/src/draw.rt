@@ -1,5 +1,5 @@
-//! Rectangular duals of maps, for any base dart (Kant, He 1997): an order, the rows of its run, the numbers of the
-//! left and the lower sides, the right and the upper sides, and each box at its vertex.
+//! Rectangular duals of maps drawn for any base dart (Kant, He 1997), by a rectangular order and the sides of its
+//! boxes.
 
 mod draw;
 mod tables;

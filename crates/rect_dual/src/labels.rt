@@ -1,5 +1,5 @@
-//! Edge labellings of maps that have rectangular duals, for any base dart (Kant, He 1997): each edge off the outer face
-//! is a run or a rise, with a direction, read off the rows and turns of a rectangular order.
+//! Regular edge labellings (transversal structures) of maps that have rectangular duals, for any base dart (Kant, He
+//! 1997).
 
 mod darts;
 mod labels;

@@ -1,4 +1,5 @@
-//! Rectangular duals (Kant, He 1997): turns, numbers and sides of boxes, the drawing, the figure, and the edge labelling.
+//! Rectangular duals (Kant, He 1997): the rows and turns of an order, the sides of boxes, the drawing, and the edge
+//! labelling.
 #![tactic(auto)]
 
 pub mod draw;

@@ -1,5 +1,5 @@
-//! Things on lines that stand in an order, where a line may be put in behind any other: the lines are a linked
-//! list, and the numbers are read off it in the end. A line more moves all numbers behind it in constant time.
+//! Lines in an order, on which things lie, where a line may be inserted after any other: a linked list, numbered in
+//! the end. A line more moves all numbers behind it in constant time.
 
 ghost use Rattle.std.specs.Prelude.{◌≡◌, ◌<◌, ◌^◌, ℕ, suc, List, length, slice_index, All, IfOk};
 ghost use Rattle.rect_runs.specs.Numbers.{shifted, with_new};
@@ -7,7 +7,7 @@ ghost use Rattle.rect_dual.specs.Lines.{AreLines, AreWalked};
 
 use std::alloc::{AllocError, Global};
 
-/// Puts thing z, the next one, on the line of thing u.
+/// Puts thing `z`, the next one, on the line of thing `u`.
 pub fn put_level(lines: &mut [u16], u: u16, z: u16)
     requires u { u < length lines.old }
     requires z { z < length lines.old }
@@ -18,7 +18,7 @@ pub fn put_level(lines: &mut [u16], u: u16, z: u16)
     lines[z as usize] = lines[u as usize];
 }
 
-/// Puts thing z, the next one, on a line of its own, directly behind that of thing u.
+/// Puts thing `z`, the next one, on a new line directly after that of thing `u`.
 pub fn put_own(lines: &mut [u16], next: &mut [u16], u: u16, z: u16)
     requires u { u < length lines.old }
     requires z { z < length lines.old }
@@ -36,7 +36,7 @@ pub fn put_own(lines: &mut [u16], next: &mut [u16], u: u16, z: u16)
     lines[z as usize] = z;
 }
 
-// Writes the number of each line at its thing.
+// Writes to `numbers` the number of each of `count` lines, from `first` on along `next`.
 fn walk(numbers: &mut [u32], next: &[u16], first: u16, count: usize)
     requires first { first < length next.now }
     requires size { length numbers.old ≡ length next.now }
@@ -51,12 +51,12 @@ fn walk(numbers: &mut [u32], next: &[u16], first: u16, count: usize)
     }
 }
 
-/// The line of each of some things, and the line behind each one.
+/// Lines as a linked list: the line of each thing, and the line after each line.
 #[derive(Clone, Copy)]
 pub struct Linked<'a> {
-    /// The thing by which the line of each thing goes.
+    /// For each thing the thing that names its line.
     pub lines: &'a [u16],
-    /// The line behind each one.
+    /// For each line the next one.
     pub next: &'a [u16],
     pub ghost size: { length next.now ≡ length lines.now },
     pub ghost within: { All (λ l. l < length lines.now) lines.now },
@@ -64,7 +64,7 @@ pub struct Linked<'a> {
 }
 
 impl Linked<'_> {
-    /// Returns the number of the line of each thing, where there are `count` lines of which `first` is the first, in time
+    /// Returns for each thing the number of its line, where there are `count` lines from `first` on. The time is
     /// linear in the things and the lines. It fails only when out of memory.
     pub fn numbers(&self, alloc: Global, first: u16, count: usize) -> Result<Vec<u32>, AllocError>
         requires first { first < length self.now.lines.now }

@@ -1,4 +1,4 @@
-//! A rectangular order of a map, with the rows of its run.
+//! A rectangular order of a map, with the rows of its construction sequence.
 ghost use Rattle.std.specs.Prelude.{◌≡◌, ◌<◌, length, All, IfOk};
 ghost use Rattle.map_theory.specs.Maps.{follows};
 ghost use Rattle.canon_order.specs.Orders.{vertices_of};
@@ -11,15 +11,15 @@ use order_drawings::order_tables::list_rows;
 use rect_orders::rect_order::{Frame, rect_order, with_closing_edge};
 use std::alloc::{AllocError, Global};
 
-// An order, and the rows of its vertices but the last one.
+// A rectangular order, and the rows of its vertices but the last: for each the contour interval that it covers.
 #[derive(Drop)]
 pub(crate) struct FramedOrder {
     pub order: Order,
     pub rows: Rotations,
 }
 
-// A rectangular order of a map with this frame, and its rows: those of the map with an edge more, between the top and
-// the bottom.
+// Returns a rectangular order of the map with the outer vertices `frame`, and its rows. They are rows of the map with
+// an edge added between top and bottom. It fails only when out of memory.
 pub(crate) fn framed_order(
     alloc: Global,
     lists: &Rotations,
@@ -40,7 +40,7 @@ pub(crate) fn framed_order(
     Ok(FramedOrder { order, rows })
 }
 
-// That of a half-edge map.
+// Returns a rectangular order, and its rows, of a half-edge map. It fails only when out of memory.
 pub(crate) fn map_order(
     alloc: Global,
     map: &HalfMap,

@@ -1,5 +1,4 @@
-//! The right and the upper sides of the boxes of a rectangular run, from its rows, its turns, and the numbers of
-//! the left and the lower sides.
+//! The right and the upper sides of the boxes, from the rows, the turns, and the left and the lower sides.
 
 ghost use Rattle.std.specs.Prelude.{◌≡◌, ◌<◌, ◌+◌, ℕ, length, slice_index, All};
 ghost use Rattle.contour_runs.specs.Runs.{Step};
@@ -9,7 +8,7 @@ ghost use Rattle.rect_dual.specs.Sides.{AreTurnPlaces, IsWritten, AreSides};
 use crate::rect_turns::TurnedRows;
 use crate::side_lines::RowNumbers;
 
-/// Writes one side to each vertex of a piece of a row.
+/// Sets `sides[v]` to `side` for each vertex `v` of a piece of a row.
 pub(crate) fn put_side(sides: &mut [u32], piece: &[u16], side: u32)
     requires { All (λ u. u < length sides.old) piece.now }
     ensures { IsWritten sides.old sides.new piece.now 0 (length piece.now) side }
@@ -19,9 +18,9 @@ pub(crate) fn put_side(sides: &mut [u32], piece: &[u16], side: u32)
     }
 }
 
-/// Fills in the right and the upper side of each vertex of a run, where at first all reach to the end of the grid. The
-/// vertices of a row up to its turn end where the new vertex begins, by its `numbers`, those behind it under the new
-/// vertex. The time is linear in the rows.
+/// Fills in the right and the upper side of each box, by rank, where at first all reach to the end of the grid. The
+/// vertices of a row up to its turn end where the new box begins, by `numbers`, and those after it below the new box.
+/// The time is linear in the rows.
 pub(crate) fn fill_sides(
     right: &mut [u32],
     high: &mut [u32],

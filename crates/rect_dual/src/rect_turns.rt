@@ -1,4 +1,5 @@
-//! The turns of a rectangular run, from its rows: where the runs of the contour begin under each new vertex.
+//! The turn of each row of a rectangular order: the index at which the horizontal edges of the contour begin under a
+//! new vertex.
 
 ghost use Rattle.std.specs.Prelude.{◌≡◌, ◌<◌, ◌≤◌, ◌+◌, ℕ, length, slice_index, All, IfOk};
 ghost use Rattle.map_theory.specs.Maps.{list_of};
@@ -9,20 +10,20 @@ ghost use Rattle.rect_dual.specs.Turns.{IsTurnIn, AreTurns};
 use map_lists::Rotations;
 use std::alloc::{AllocError, Global};
 
-/// The turns of a run's steps, one after another.
+/// The turns of the rows of a rectangular order, one after another.
 #[derive(Drop)]
 pub struct RowTurns {
-    /// The place of each in its row, from 0.
+    /// The index of each turn in its row, from 0.
     pub place: Vec<usize>,
     /// Whether it is a run.
     pub run: Vec<bool>,
 }
 
-/// The rows of a run, and the turn of each.
+/// The rows of a rectangular order, and the turn of each.
 #[derive(Clone, Copy)]
 pub(crate) struct TurnedRows<'a> {
     pub(crate) rows: &'a Rotations,
-    /// The place of each turn in its row, from 0.
+    /// For each row the index of its turn.
     pub(crate) places: &'a [usize],
     /// Whether it is a run.
     pub(crate) runs: &'a [bool],
@@ -32,7 +33,8 @@ pub(crate) struct TurnedRows<'a> {
     ghost within: { (k : ℕ) → k < length rows.now → All (λ u. u < length rows.now + 2) (list_of rows.now k) },
 }
 
-// The place in a row at which the first run stands, or the last rise.
+// Returns the first index in `row` from which a horizontal edge of the contour leads on, or the last but one where
+// there is none before. `runs` says which edges are horizontal.
 fn turn_place(row: &[u16], runs: &[bool]) -> usize
     requires some { 2 ≤ length row.now }
     requires within { All (λ u. u < length runs.now) row.now }
@@ -46,7 +48,7 @@ fn turn_place(row: &[u16], runs: &[bool]) -> usize
     row.len() - 2
 }
 
-/// The turns of the steps of a run with these rows, in time linear in the rows. It fails only when out of memory.
+/// Returns the turn of each row, in time linear in the rows. It fails only when out of memory.
 pub fn row_turns(alloc: Global, rows: &Rotations) -> Result<RowTurns, AllocError>
     requires run { (steps : ℕ → Step) × AreRows steps rows.now }
     ensures { IfOk result (λ turns. (steps : ℕ → Step) → AreRows steps rows.now → AreTurns steps (length rows.now) turns.place.items turns.run.items) }

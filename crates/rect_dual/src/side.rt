@@ -1,4 +1,4 @@
-//! The two sides of a box that the lines of a run number.
+//! `Side`: left or lower side of a box, and how new vertices get their line on that side.
 ghost use Rattle.std.specs.Prelude.{◌≡◌, ◌<◌, ◌≤◌, ◌+◌, ◌^◌};
 
 /// A side of a box. Left sides are numbered along the contour backwards, lower sides along it forwards.
@@ -13,7 +13,8 @@ pub enum Side {
 impl Side {
     ghost use Rattle.rect_dual.specs.SidesOfBoxes.{gets_line, place_in, second_line};
 
-    // Says whether a step that turns at a run, or at a rise, gives the new vertex a line of its own.
+    // Says whether a new vertex gets a line of its own on this side, where its turn is at a horizontal edge if `run`
+    // is set, else at a vertical one.
     pub(crate) fn gets_line(self, run: bool) -> bool
         ensures { result ≡ gets_line self run }
     {
@@ -23,7 +24,8 @@ impl Side {
         }
     }
 
-    // Returns the place in a row at which a step looks, where the turn is at place `c`.
+    // Returns the index in a row of the vertex whose line the new vertex takes or follows, where the turn is at index
+    // `c`.
     pub(crate) fn place_in(self, c: usize) -> usize
         requires { c + 1 < 2 ^ 64 }
         ensures place { result ≡ place_in self c }
@@ -35,7 +37,7 @@ impl Side {
         }
     }
 
-    // Returns the line of the second vertex of the base: the first has line 0.
+    // Returns the line of the second vertex of the base. The first has line 0.
     pub(crate) fn second_line(self) -> u16
         ensures line { result ≡ second_line self }
         ensures bound { result < 2 }

@@ -1,5 +1,4 @@
-//! Lines for one side of the boxes of a rectangular run, one vertex more after another: a line of its own comes
-//! directly behind that of the nearest vertex of the contour that leads, so no number is looked up or moved.
+//! Left or lower sides of all boxes, numbered by lines that are inserted into a linked list as vertices are put on.
 
 ghost use Rattle.std.specs.Prelude.{◌≡◌, ◌≢◌, ◌⊎◌, ◌<◌, ◌≤◌, ◌+◌, ℕ, suc, true, false, length, slice_index, vec_len, All, IfOk};
 ghost use Rattle.contour_runs.specs.Runs.{Step};
@@ -16,7 +15,7 @@ use crate::rect_turns::TurnedRows;
 use crate::side::Side;
 use std::alloc::{AllocError, Global};
 
-// The first vertex that is marked, from one on along the links.
+// Returns the first vertex that leads, from `start` on along `links`.
 fn leading(links: &[u16], leads: &[bool], start: u16) -> u16
     requires size { length leads.now ≡ length links.now }
     requires within { All (λ u. u < length links.now) links.now }
@@ -34,7 +33,7 @@ fn leading(links: &[u16], leads: &[bool], start: u16) -> u16
     v
 }
 
-// The vertex z leads from now on, and u no more where it stands at the turn.
+// Marks the vertex `z` as leading, and `u` as leading no more where it is `at`, the vertex at the turn.
 fn mark(leads: &mut [bool], at: u16, u: u16, z: u16)
     requires u { u < length leads.old }
     requires z { z < length leads.old }
@@ -50,7 +49,7 @@ fn mark(leads: &mut [bool], at: u16, u: u16, z: u16)
     }
 }
 
-// Where a vertex is put on over a row: the vertex at which it looks for its line, and the ends of the row.
+// Where a vertex is put on over a row: the vertex at which it looks for its line, and both ends of the row.
 #[derive(Clone, Copy)]
 struct Seat {
     at: u16,
@@ -59,17 +58,17 @@ struct Seat {
     far: u16,
 }
 
-// The lines of one side of each box of a run, while its vertices are put on one after another.
+// The lines of one side of each box, while vertices are put on one after another.
 #[derive(Drop)]
 struct SideLines {
     side: Side,
-    // The vertex by which the line of each vertex goes.
+    // For each vertex the vertex that names its line.
     lines: Vec<u16>,
-    // The line behind each one.
+    // For each line the next one.
     next: Vec<u16>,
-    // The vertex of the contour at which to look behind each one.
+    // For each vertex the vertex of the contour at which to look next.
     links: Vec<u16>,
-    // Whether each vertex leads: no line of the contour from there on is behind its own.
+    // Whether each vertex leads: no line of the contour from there on comes after its own.
     leads: Vec<bool>,
     ghost next_size: { vec_len next ≡ vec_len lines },
     ghost links_size: { vec_len links ≡ vec_len lines },
@@ -80,7 +79,8 @@ struct SideLines {
 }
 
 impl SideLines {
-    // The lines of the two vertices of the base, of `n`: one, or two.
+    // Returns the lines of the two vertices of the base, one or two of them, with room for `n` vertices. It fails
+    // only when out of memory.
     fn new(alloc: Global, side: Side, n: usize) -> Result<SideLines, AllocError>
         requires base { 2 ≤ n }
         requires few { n < 4098 }
@@ -104,7 +104,8 @@ impl SideLines {
         })
     }
 
-    // Puts `z` on the line of `at`, or on one of its own, behind that of the first vertex from there on that leads.
+    // Puts the vertex `z` on the line of `at`, or if `own` is set on a new line after that of the first leading
+    // vertex from `at` on.
     fn put_line(&mut self, at: u16, own: bool, z: u16)
         requires at { at < vec_len self.old.lines }
         requires z { z < vec_len self.old.lines }
@@ -123,7 +124,7 @@ impl SideLines {
         }
     }
 
-    // Puts `z` on over a row: it gets the line of the vertex at which it looks, or one of its own.
+    // Puts the vertex `z` on over a row, at its `seat`, with a line of its own if `own` is set.
     fn put_over(&mut self, seat: Seat, own: bool, z: u16)
         requires at { seat.at < vec_len self.old.lines }
         requires near { seat.near < vec_len self.old.lines }
@@ -140,7 +141,7 @@ impl SideLines {
         self.links[near as usize] = z;
     }
 
-    // Puts a vertex on over row `k` of a run.
+    // Puts the next vertex on over row `k`.
     fn put(&mut self, turned: &TurnedRows<'_>, k: usize)
         requires row { k < length turned.now.rows.now }
         requires size { vec_len self.old.lines ≡ length turned.now.rows.now + 2 }
@@ -178,8 +179,8 @@ impl SideLines {
     }
 }
 
-/// Returns the numbers of one side of each vertex of a run with these rows and turns. It fails only where memory runs
-/// out. Where a new vertex gets a line of its own it goes along the contour to the nearest vertex that leads.
+/// Returns for each vertex, by rank, the number of one side of its box. A new vertex with a line of its own looks
+/// along the contour for the nearest one that leads. It fails only when out of memory.
 pub(crate) fn side_numbers(
     alloc: Global,
     side: Side,
@@ -204,14 +205,14 @@ pub(crate) fn side_numbers(
     Ok(numbers)
 }
 
-/// The left and the lower side of each vertex of a run.
+/// The left and the lower side of each box, by rank.
 #[derive(Drop)]
 pub(crate) struct RowNumbers {
     pub x: Vec<u32>,
     pub y: Vec<u32>,
 }
 
-/// Returns the left and the lower sides of a run with these rows and turns. It fails only where memory runs out.
+/// Returns the left and the lower side of each box, from the rows and their turns. It fails only when out of memory.
 pub(crate) fn row_numbers(alloc: Global, turned: &TurnedRows<'_>) -> Result<RowNumbers, AllocError>
     ensures count { IfOk result (λ numbers. length numbers.x.items ≡ length turned.now.rows.now + 2) }
     ensures count_y { IfOk result (λ numbers. length numbers.y.items ≡ length turned.now.rows.now + 2) }

@@ -1,5 +1,5 @@
-//! Orders that rectangular duals rest on: the vertices of a map are put on one after another, and each has two
-//! later neighbours. Each law is the contract of a function that does nothing.
+//! Rectangular orders, in which rectangular duals are built: each vertex put on has two later neighbours. Each law is
+//! the contract of a function that does nothing.
 #![tactic(auto)]
 
 pub mod rect_corners;
@@ -10,19 +10,19 @@ pub mod rect_order;
 ghost use Rattle.rect_orders.specs.Laws.{ClosedIsTriangulation, SomeRectOrder};
 ghost use Rattle.rect_orders.specs.Runs.{RectOrderIsRun};
 
-/// A map of this class with an edge more, in its outer face between the top and the bottom, is a triangulation; it had
-/// no such edge.
+/// A map of the class of `rect`, with an edge added in its outer face between top and bottom, is a triangulation. It
+/// had no such edge.
 pub fn closed_is_triangulation()
     ensures { ClosedIsTriangulation }
 {}
 
-/// Each map of this class has a rectangular order.
+/// Each map of the class of `rect` has a rectangular order.
 pub fn some_rect_order()
     ensures { SomeRectOrder }
 {}
 
-/// The run of a rectangular order in the closed map, with its last step a place shorter, is one that boxes can be
-/// made of, in which vertices are joined exactly where they are adjacent in the map.
+/// The construction sequence of a rectangular order, with its last step one vertex shorter, is one over which boxes
+/// can be built. Its vertices are joined exactly where they are adjacent in the map.
 pub fn rect_order_is_run()
     ensures { RectOrderIsRun }
 {}

@@ -3,7 +3,8 @@
 
 ghost use Rattle.rect_orders.specs.Corners.{CornersOfMap};
 
-/// Round each inner vertex the edge after another one stands as it, or as comes next clockwise.
+/// Round each inner vertex the next edge clockwise has the label of the one before, or the label that follows it:
+/// runs in, rises out, runs out, rises in.
 pub fn corners_of_map()
     ensures { CornersOfMap }
 {}

@@ -8,7 +8,7 @@ pub fn boxes_are_dual_of_map()
     ensures { BoxesAreDualOfMap }
 {}
 
-/// Such a dual, for the base dart from vertex 0 to the first entry of its list, is a rectangular dual in the words
+/// A rectangular dual for the base dart from vertex 0 to its first neighbour is a rectangular dual by the definition
 /// of the check.
 pub fn dual_for_first()
     ensures { DualForFirst }

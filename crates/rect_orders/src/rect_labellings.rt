@@ -3,8 +3,8 @@
 
 ghost use Rattle.rect_orders.specs.Labellings.{LabelsOfOrder, BoxesByLabelling};
 
-/// Where each edge off the frame stands at its ends as in the run of a rectangular order, the map has an edge
-/// labelling.
+/// The labels of edges at their ends, as in the construction sequence of a rectangular order, are a regular edge
+/// labelling of the map.
 pub fn labels_of_order()
     ensures { LabelsOfOrder }
 {}

@@ -4,23 +4,24 @@
 ghost use Rattle.rect_runs.specs.Ends.{CornersOfFaces, OneEnd, EndsAgree, FrameEnds, EdgesMeet};
 ghost use Rattle.rect_runs.specs.Rounds.{OnceRound};
 
-/// At each corner of a face that a step makes, but those of the base, the two edges stand alike, or the second as
-/// comes next clockwise.
+/// At each corner of a face that a step makes, except at the base, the second edge has the label of the first, or the
+/// next label clockwise.
 pub fn corners_of_faces()
     ensures { CornersOfFaces }
 {}
 
-/// An edge stands in one way at each of its ends.
+/// An edge has one label at each of its ends.
 pub fn one_end()
     ensures { OneEnd }
 {}
 
-/// An edge leaves at one end exactly as it enters at the other.
+/// An edge leaves at one end exactly as it enters at the other: both ends agree that it is horizontal or vertical.
 pub fn ends_agree()
     ensures { EndsAgree }
 {}
 
-/// How edges stand at the four vertices of the frame.
+/// The four outer vertices have edges with one label each, apart from edges between them. Runs leave the first, rises
+/// leave the second, runs enter the last but one, and rises enter the last.
 pub fn frame_ends()
     ensures { FrameEnds }
 {}
@@ -31,7 +32,8 @@ pub fn edges_meet()
     ensures { EdgesMeet }
 {}
 
-/// A walk that goes on by corners, and only once from entering runs to leaving rises, comes once round.
+/// Labels round a vertex, each of which may follow the one before, come once round if they pass only once from
+/// entering runs to leaving rises.
 pub fn once_round()
     ensures { OnceRound }
 {}

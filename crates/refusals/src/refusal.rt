@@ -1,4 +1,4 @@
-//! The conditions, and why a record is not served.
+//! `Refusal`: the conditions that a record may break, in order, and `Unserved`: a refusal, or out of memory.
 
 use map_lists::VertexId;
 use simple_maps::MapFault;
@@ -52,6 +52,7 @@ impl From<AllocError> for Unserved {
 
     ghost from_gives = { λ _ unserved. unserved ≡ NoMemory };
 
+    // Converts an allocation error to `NoMemory`.
     fn from(_refused: AllocError) -> Unserved {
         Unserved::NoMemory
     }
@@ -63,6 +64,7 @@ impl From<MapFault> for Unserved {
 
     ghost from_gives = { λ fault unserved. unserved ≡ unserved_for fault };
 
+    // Converts the fault by which lists are no map to the condition that they break.
     fn from(fault: MapFault) -> Unserved {
         match fault {
             MapFault::OutOfRange(v, u) => Unserved::Refused(Refusal::OutOfRange(v, u)),

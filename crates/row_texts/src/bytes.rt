@@ -1,4 +1,4 @@
-//! Bytes as texts, with `;` for the end of a line.
+//! Bytes as texts of a test row, with `;` for the end of a line.
 use crate::reply::Reply;
 use std::alloc::Global;
 

@@ -1,5 +1,5 @@
-//! What the programs of rows share: the loop over the rows, the arguments of a row and the text of its answer, and
-//! maps, lists, points and refusals as texts.
+//! What the programs of test rows share: the loop over the rows, arguments parsed, and maps, lists, points and
+//! refusals as texts.
 //!
 //! A row is a line of standard input. It stands for one call of a library, or for a family of calls: what the row
 //! shows, a kind (a family, a space and a call), and arguments, with `/` between them. To standard output goes what the

@@ -1,4 +1,4 @@
-//! Lists as texts, and families of maps.
+//! Rotation lists parsed from the text of a row, or made for a family of maps, and lists written as texts.
 ghost use Rattle.std.specs.Prelude.{◌<◌, length};
 
 use crate::reply::Reply;
@@ -8,14 +8,14 @@ use map_gen::stacked;
 use map_lists::ItemLists;
 use std::alloc::Global;
 
-// Appends the lists of vertices with no edges.
+// Appends the empty lists of `n` isolated vertices.
 fn alone(n: u16, lists: &mut ItemLists<u16>) {
     for _ in 0..n {
         let _ = lists.open();
     }
 }
 
-// Appends the lists of a path along the numbers.
+// Appends the lists of a path of `n` vertices in the order of their numbers.
 fn path(n: u16, lists: &mut ItemLists<u16>) {
     for v in 0..n {
         let (before, after) = (v.wrapping_sub(1), v.wrapping_add(1));
@@ -31,7 +31,7 @@ fn path(n: u16, lists: &mut ItemLists<u16>) {
     }
 }
 
-// Returns the numbers before and after `v` on a rim from `first` up to n.
+// Returns the vertices before and after `v` on a cycle of the vertices from `first` up to `n`.
 fn beside(first: u16, n: u16, v: u16) -> (u16, u16) {
     let before = if v == first { n } else { v };
     let after = v.wrapping_add(1);
@@ -41,7 +41,7 @@ fn beside(first: u16, n: u16, v: u16) -> (u16, u16) {
     )
 }
 
-// Appends the lists of a cycle along the numbers.
+// Appends the lists of a cycle of `n` vertices in the order of their numbers.
 fn cycle(n: u16, lists: &mut ItemLists<u16>) {
     for v in 0..n {
         let (before, after) = beside(0, n, v);
@@ -49,8 +49,8 @@ fn cycle(n: u16, lists: &mut ItemLists<u16>) {
     }
 }
 
-// Appends a star whose middle is vertex 0, or a wheel: each other vertex has `most` of the middle and its two neighbours
-// on the rim, 1 in a star and 3 in a wheel.
+// Appends the lists of a star or a wheel of `n` vertices whose middle is vertex 0. `most` is the degree of the
+// others: 1 in a star, 3 in a wheel.
 fn star(alloc: Global, n: u16, most: usize, lists: &mut ItemLists<u16>)
     requires { most < 4 }
 {
@@ -65,7 +65,7 @@ fn star(alloc: Global, n: u16, most: usize, lists: &mut ItemLists<u16>)
     }
 }
 
-// Appends a triangle of which vertices are put into faces, one after another, by a number.
+// Appends the lists of the stacked triangulation of `n` vertices that `number` chooses, if `n` is from 3 to 4095.
 fn stack(alloc: Global, n: u16, number: u16, lists: &mut ItemLists<u16>) {
     if n < 3 || 4095 < n {
         return;
@@ -77,7 +77,7 @@ fn stack(alloc: Global, n: u16, number: u16, lists: &mut ItemLists<u16>) {
     }
 }
 
-// Appends the lists of a family, or those that a text has between its semicolons.
+// Appends the lists of the family that `text` names, or those that it has between semicolons.
 fn fill(alloc: Global, text: &str, lists: &mut ItemLists<u16>) {
     let (family, size) = halves(text);
     let (n, number) = pair(size);
@@ -96,7 +96,7 @@ fn fill(alloc: Global, text: &str, lists: &mut ItemLists<u16>) {
     }
 }
 
-/// Lists of which there is one at least.
+/// Lists, of which there is at least one.
 #[derive(Drop)]
 pub struct SomeLists {
     pub lists: Rotations,

@@ -1,4 +1,4 @@
-//! Maps and their darts as texts.
+//! Darts of a map found by their ends, and darts and sizes of maps written as texts.
 ghost use Rattle.std.specs.Prelude.{◌≡◌, [], IfSome, MatchOption, Some};
 ghost use Rattle.map_theory.specs.Maps.{HasDart, list_of};
 ghost use Rattle.half_edges.specs.Map.{IsLive, dart_at, first_dart};

@@ -1,4 +1,4 @@
-//! Points and whole numbers as texts.
+//! Points, whole numbers and bars parsed from the text of a row, and written as texts.
 ghost use Rattle.std.specs.Prelude.{◌≡◌, ◌<◌, ℕ, IfSome, IsTrue, length, All};
 ghost use Rattle.pg_plane.specs.Range.{IsInRange};
 ghost use Rattle.plane_drawings.specs.Drawing.{place};

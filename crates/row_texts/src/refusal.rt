@@ -1,16 +1,16 @@
-//! Why a call gives no answer; and vertices that a call gives, if there are such.
+//! Faults, refusals and out of memory written as texts, and vertices that a call may return.
 use crate::reply::Reply;
 use graph6_text::G6Fault;
 use half_edges::{MapFault, VertexId};
 use refusals::{Refusal, Unserved};
 use std::alloc::AllocError;
 
-/// Tells that there was not enough memory.
+/// Appends to `out` that there was not enough memory.
 pub fn tell_no_memory(out: &mut Reply) {
     out.put("NoMemory");
 }
 
-/// Tells why a job does not serve a record: a condition by its name and its numbers, or that there was not enough memory.
+/// Appends to `out` why a job does not serve a record: a condition by its name and numbers, or out of memory.
 pub fn tell_unserved(unserved: Unserved, out: &mut Reply) {
     let condition = match unserved {
         Unserved::Refused(condition) => condition,
@@ -27,12 +27,12 @@ pub fn tell_unserved(unserved: Unserved, out: &mut Reply) {
     }
 }
 
-/// Tells why lists are no map.
+/// Appends to `out` why lists are no map.
 pub fn tell_fault(fault: MapFault, out: &mut Reply) {
     tell_unserved(Unserved::from(fault), out);
 }
 
-/// Tells why a line is no graph.
+/// Appends to `out` why a line of graph6 is no graph.
 pub fn tell_line_fault(fault: G6Fault, out: &mut Reply) {
     match fault {
         G6Fault::BadByte(i) => out.put_one("BadByte", i as u64),
@@ -45,7 +45,7 @@ pub fn tell_line_fault(fault: G6Fault, out: &mut Reply) {
     }
 }
 
-/// Writes the vertex that a call gives, if there is one.
+/// Appends to `out` the vertex that a call returned, or that there is none.
 pub fn put_vertex(found: Result<Option<VertexId>, AllocError>, out: &mut Reply) {
     match found {
         Ok(Some(v)) => out.put_number(u64::from(v.0)),
@@ -54,7 +54,7 @@ pub fn put_vertex(found: Result<Option<VertexId>, AllocError>, out: &mut Reply) 
     }
 }
 
-/// Writes the two vertices that a call gives, if there are such.
+/// Appends to `out` the two vertices that a call returned, or that there are none.
 pub fn put_pair(found: Result<Option<(VertexId, VertexId)>, AllocError>, out: &mut Reply) {
     match found {
         Ok(Some((u, v))) => out.put_numbers(&[u.0, v.0]),

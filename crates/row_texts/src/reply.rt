@@ -1,4 +1,4 @@
-//! An answer, as far as it is written.
+//! `Reply`: the text of the answer to a row, which grows by words and numbers.
 use std::alloc::Global;
 
 /// The answer to a row as far as it is written. What there is no memory for is left out.

@@ -1,9 +1,9 @@
-//! A row and its answer.
+//! The loop over test rows on standard input, and the trait of a program that answers them.
 use crate::reply::Reply;
 use crate::text::{behind, halves, number, part};
 use std::io::{self, Write};
 
-/// What a row asks for: a row without what it shows.
+/// A test row parsed: the family of its call, the call, and its arguments.
 #[derive(Clone, Copy)]
 pub struct Row<'a> {
     /// The family of the call.
@@ -26,13 +26,14 @@ impl<'a> Row<'a> {
     }
 }
 
-/// Who answers the rows of a program: a program has one type with this trait, and no values of it.
+/// Answers the rows of a program: a program has one type with this trait, and no values of it.
 pub trait Answers {
     /// Writes the answer to a row.
     fn answer(row: &Row<'_>, out: &mut Reply);
 }
 
-// Writes the answer of `A` to a row behind what the row shows, or the row as it is where it asks for nothing.
+// Appends to `out` the answer of `A` to `row` after what the row shows, or the row itself where it is a comment or
+// empty.
 fn put_line<A: Answers>(row: &str, out: &mut Reply) {
     if row.is_empty() || row.starts_with('#') {
         out.put(row);

@@ -1,12 +1,12 @@
-//! The arguments of a row.
+//! Arguments of a test row split and parsed: words, halves, numbers.
 use std::alloc::Global;
 
-/// Returns the argument at a place, and nothing where there is none.
+/// Returns the argument of a row at index `i`, or the empty text where there is none.
 pub fn part<'a>(parts: &[&'a str], i: usize) -> &'a str {
     if i < parts.len() { parts[i] } else { "" }
 }
 
-/// Returns the arguments behind the first `count`.
+/// Returns the arguments of a row after the first `count`.
 pub fn behind<'a, 'b>(parts: &'b [&'a str], count: usize) -> &'b [&'a str] {
     if parts.len() < count {
         parts

@@ -1,4 +1,4 @@
-//! Witnesses as texts.
+//! Kuratowski witnesses parsed from the text of a row.
 use crate::text::number;
 use kuratowski::{Kind, Witness};
 use map_lists::{PathList, VertexId, VertexList};

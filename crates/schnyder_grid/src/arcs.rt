@@ -1,4 +1,4 @@
-//! The order of vertices that a Schnyder wood gives: which one stands before which.
+//! The arcs of the order that a Schnyder wood gives: which vertex comes before which neighbour.
 ghost use Rattle.std.specs.Prelude.{◌≡◌, ◌<◌, ◌↔◌, ℕ, [], length, All, IsTrue, IfOk};
 ghost use Rattle.map_theory.specs.Maps.{HasDart};
 ghost use Rattle.schnyder_wood.specs.Parents.{kind, count_in};
@@ -9,7 +9,7 @@ use map_lists::ItemLists;
 use schnyder_wood::{Colour, Wood};
 use std::alloc::{AllocError, Global};
 
-// Whether u is the parent of a colour of v.
+// Says whether `u` is the parent of `v` in `colour`.
 fn is_parent(wood: &Wood, colour: Colour, v: u16, u: u16) -> bool
     requires { v < count_in wood.now }
     ensures { IsTrue result ↔ HasParent wood.now (kind colour) v u }
@@ -20,6 +20,7 @@ fn is_parent(wood: &Wood, colour: Colour, v: u16, u: u16) -> bool
     }
 }
 
+// Says whether `e` is the parent of `r` in colour one or two, and so comes before it.
 fn comes_down(wood: &Wood, e: u16, r: u16) -> bool
     requires { r < count_in wood.now }
     ensures { IsTrue result ↔ ComesDown wood.now e r }
@@ -27,6 +28,7 @@ fn comes_down(wood: &Wood, e: u16, r: u16) -> bool
     is_parent(wood, Colour::One, r, e) || is_parent(wood, Colour::Two, r, e)
 }
 
+// Says whether `e` and `r` are roots one and two, or roots two and three.
 fn joins(wood: &Wood, e: u16, r: u16) -> bool
     ensures { IsTrue result ↔ JoinsRoots wood.now e r }
 {
@@ -36,6 +38,7 @@ fn joins(wood: &Wood, e: u16, r: u16) -> bool
     (e == one && r == two) || (e == two && r == three)
 }
 
+// Says whether `r` is the parent of `e` in colour three, or both are successive roots, and so `e` comes before it.
 fn goes_up(wood: &Wood, e: u16, r: u16) -> bool
     requires { e < count_in wood.now }
     ensures { IsTrue result ↔ GoesUp wood.now e r }
@@ -43,7 +46,7 @@ fn goes_up(wood: &Wood, e: u16, r: u16) -> bool
     is_parent(wood, Colour::Three, e, r) || joins(wood, e, r)
 }
 
-// Whether e stands before r.
+// Says whether `e` comes before its neighbour `r`.
 fn leads(wood: &Wood, e: u16, r: u16) -> bool
     requires e_in { e < count_in wood.now }
     requires r_in { r < count_in wood.now }
@@ -52,7 +55,7 @@ fn leads(wood: &Wood, e: u16, r: u16) -> bool
     comes_down(wood, e, r) || goes_up(wood, e, r)
 }
 
-// Puts r behind a row, if e stands before it.
+// Appends `r` to `row`, if `e` comes before it. It fails only when out of memory.
 fn put_arc(wood: &Wood, e: u16, r: u16, row: &mut Vec<u32>) -> Result<(), AllocError>
     requires e_in { e < count_in wood.now }
     requires r_in { r < count_in wood.now }
@@ -64,7 +67,7 @@ fn put_arc(wood: &Wood, e: u16, r: u16, row: &mut Vec<u32>) -> Result<(), AllocE
     Ok(())
 }
 
-// Puts those of a list into a row before which e stands.
+// Appends to `row` those of `list`, the neighbours of `e`, that come after `e`. It fails only when out of memory.
 fn put_row(wood: &Wood, e: u16, list: &[u16], row: &mut Vec<u32>) -> Result<(), AllocError>
     requires e_in { e < count_in wood.now }
     requires within { All (λ r. r < count_in wood.now) list.now }
@@ -77,7 +80,7 @@ fn put_row(wood: &Wood, e: u16, list: &[u16], row: &mut Vec<u32>) -> Result<(), 
     Ok(())
 }
 
-// For each vertex the neighbours before which it stands.
+// Returns for each vertex the list of the neighbours that come after it. It fails only when out of memory.
 pub(crate) fn wood_arcs(
     alloc: Global,
     lists: &Rotations,

@@ -1,4 +1,4 @@
-//! Drawings of woods.
+//! The public call `schnyder_draw`: the drawing of a triangulation by the regions of a Schnyder wood.
 ghost use Rattle.std.specs.Prelude.{◌≡◌, ◌-◌, ℕ, pos, IfOk};
 ghost use Rattle.map_theory.specs.Maps.{Dart, HasDart, vertex_count};
 ghost use Rattle.plane_laws.specs.Triangulations.{IsTriangulation};
@@ -15,7 +15,7 @@ use pg_plane::GridFigure;
 use schnyder_wood::Wood;
 use std::alloc::Global;
 
-/// The drawing of a triangulation, a simple map of genus zero with n >= 3 vertices and 3n - 6 edges, by the
+/// Returns the drawing of a triangulation, a simple map of genus zero with n >= 3 vertices and 3n - 6 edges, by the
 /// regions of a wood of it.
 ///
 /// It is plane and keeps the rotations, in the grid n - 2 by n - 2. Each vertex but the roots has as coordinate

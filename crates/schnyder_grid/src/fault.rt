@@ -1,4 +1,4 @@
-//! Why there is no drawing.
+//! Why a triangulation with a Schnyder wood got no drawing.
 
 use std::alloc::AllocError;
 
@@ -15,6 +15,7 @@ impl From<AllocError> for SchnyderFault {
 
     ghost from_gives = { λ _ fault. fault ≡ NoMemory };
 
+    // Converts an allocation error to `NoMemory`.
     fn from(_refused: AllocError) -> SchnyderFault {
         SchnyderFault::NoMemory
     }

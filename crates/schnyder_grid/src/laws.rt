@@ -1,4 +1,4 @@
-//! Laws: the figures of the job `schnyder` by the regions of a wood.
+//! A law: the figures of the job `schnyder` are by the regions of a Schnyder wood.
 ghost use Rattle.schnyder_grid.specs.FigureRegions.{FiguresByRegions};
 
 /// Each figure of the job `schnyder` is by the regions of a wood: in some completion of the map, with some wood, the

@@ -1,4 +1,4 @@
-//! Drawings of triangulations by the regions of their woods (Schnyder, 1990), in linear time.
+//! Drawings of triangulations by the regions of their Schnyder woods (realizers, 1990), in linear time.
 #![tactic(auto)]
 
 mod arcs;

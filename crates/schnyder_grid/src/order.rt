@@ -1,4 +1,4 @@
-//! Orders of woods.
+//! A canonical order found from a Schnyder wood.
 ghost use Rattle.std.specs.Prelude.{◌≡◌, ◌<◌, ℕ, All, reverse, IfOk};
 ghost use Rattle.map_theory.specs.Maps.{Dart, HasDart};
 ghost use Rattle.plane_laws.specs.Triangulations.{IsTriangulation};
@@ -13,7 +13,7 @@ use half_edges::HalfMap;
 use schnyder_wood::{Colour, Wood};
 use std::alloc::{AllocError, Global};
 
-// These vertices from the last one to the first.
+// Returns the vertices of `order` from the last to the first. It fails only when out of memory.
 fn turned(alloc: Global, order: &[u32]) -> Result<Vec<u16>, AllocError>
     requires { All (λ v. v < 4096) order.now }
     ensures { IfOk result (λ taken. taken.items ≡ reverse order.now) }
@@ -25,9 +25,9 @@ fn turned(alloc: Global, order: &[u32]) -> Result<Vec<u16>, AllocError>
     Ok(taken)
 }
 
-/// The vertices of a triangulation in an order in which those of a wood can be put on: root one first, root two
-/// second and root three last, and each other vertex behind its parents of colours one and two and before that
-/// of colour three. It is a canonical order, and the wood is its wood.
+/// Returns the vertices of a triangulation in an order in which those of `wood` can be put on. Root one is first,
+/// root two second and root three last. Each other vertex comes after its parents of colours one and two and before
+/// that of colour three. It is a canonical order, and the wood is its wood.
 ///
 /// It fails only when out of memory. The map and the wood stay as they are. The time is linear in the map.
 pub fn wood_order(alloc: Global, tri: &HalfMap, wood: &Wood) -> Result<Order, AllocError>

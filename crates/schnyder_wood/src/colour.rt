@@ -1,4 +1,4 @@
-//! The colours of a wood.
+//! `Colour`: the three colours of a Schnyder wood.
 
 /// One of the three colours, which are counted cyclically.
 #[derive(Clone, Copy, PartialEq, Eq)]

@@ -1,4 +1,5 @@
-//! Schnyder's wood (1990) of a canonical order of a triangulation, in linear time.
+//! The Schnyder wood (realizer, 1990) of a canonical order of a triangulation, its paths and its regions, in linear
+//! time.
 #![tactic(auto)]
 
 mod colour;

@@ -1,4 +1,4 @@
-//! Paths of a wood.
+//! Lengths of the paths of a Schnyder wood.
 ghost use Rattle.std.specs.Prelude.{◌≡◌};
 ghost use Rattle.schnyder_wood.specs.Parents.{kind, IsInnerIn, IsPathLength};
 
@@ -6,7 +6,7 @@ use crate::colour::Colour;
 use crate::woods::Wood;
 use map_lists::VertexId;
 
-/// The number of vertices from an inner vertex to the root along a colour, both counted.
+/// Returns the number of vertices on the path of `colour` from the inner vertex `v` to the root, both counted.
 ///
 /// It takes no memory. The time is linear in that number.
 pub fn path_len(wood: &Wood, v: VertexId, colour: Colour) -> u32

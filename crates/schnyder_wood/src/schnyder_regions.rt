@@ -1,4 +1,4 @@
-//! Schnyder's regions (1990), counted by a search of the faces.
+//! The regions of a Schnyder wood (1990), whose vertices are counted by a search of the faces.
 
 mod boundary;
 mod closed;

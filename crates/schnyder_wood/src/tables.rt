@@ -1,4 +1,4 @@
-//! The parents of vertices, by the rows of the contour.
+//! Parents in a Schnyder wood, by ranks, found from the rows of a canonical order.
 //!
 //! The first vertex of a row is the parent of colour one of the vertex that is put over it, the last one that of
 //! colour two; and that vertex is the parent of colour three of all between them.
@@ -12,8 +12,8 @@ use canon_order::Order;
 use half_edges::Rotations;
 use std::alloc::{AllocError, Global};
 
-// The parents of the vertices of a run, by its rows: for each rank that of the parent. The vertex that is put over a row
-// covers all of it but its ends.
+// Writes to the tables the parents of each rank in colours one, two and three. A vertex put on has the ends of its
+// row as parents, and is the parent of all between them.
 pub(crate) fn find_parents(
     firsts: &mut [u16],
     lasts: &mut [u16],
@@ -42,7 +42,7 @@ pub(crate) fn find_parents(
     }
 }
 
-// The number of the vertex of a rank.
+// Returns the number of the vertex of rank `k`.
 pub(crate) fn name_of(order: &Order, k: u16) -> u16
     requires { k < length (vertices_of order.now) }
     ensures { result ≡ slice_index (vertices_of order.now) k }
@@ -50,7 +50,7 @@ pub(crate) fn name_of(order: &Order, k: u16) -> u16
     order.at.get(k as usize).0
 }
 
-// A table by ranks, with vertices in place of their ranks.
+// Converts a table of ranks by rank to one of vertices by vertex. It fails only when out of memory.
 pub(crate) fn named(alloc: Global, table: &[u16], order: &Order) -> Result<Vec<u16>, AllocError>
     requires ranks { All (λ k. k < length table.now) order.now.rank }
     requires within { (k : ℕ) → slice_index table.now k < length (vertices_of order.now) }

@@ -1,4 +1,4 @@
-//! Woods, and what they tell of a vertex.
+//! `Wood`: a Schnyder wood, with its roots and parents.
 ghost use Rattle.std.specs.Prelude.{◌≡◌, ◌<◌, ◌↔◌, None, IsTrue, IfSome};
 ghost use Rattle.schnyder_wood.specs.Parents.{IsRooted, IsRoot, kind, count_in, root_in, parent_in};
 
@@ -40,14 +40,14 @@ impl Wood {
         let _ones = &self.ones;
     }
 
-    /// The number of vertices. It takes no memory.
+    /// Returns the number of vertices. It takes no memory.
     pub fn n(&self) -> u16
         ensures { result ≡ count_in self.now }
     {
         self.ones.len() as u16
     }
 
-    /// The root of a colour. It takes no memory.
+    /// Returns the root of `colour`. It takes no memory.
     pub fn root(&self, colour: Colour) -> VertexId
         ensures { result.0 ≡ root_in self.now (kind colour) }
     {
@@ -58,14 +58,14 @@ impl Wood {
         }
     }
 
-    // Whether a vertex is a root.
+    // Says whether `v` is a root.
     fn is_root(&self, v: VertexId) -> bool
         ensures { IsTrue result ↔ IsRoot self.now v.0 }
     {
         v.0 == self.root_one || v.0 == self.root_two || v.0 == self.root_three
     }
 
-    // The entry of a vertex in the table of a colour.
+    // Returns the entry of `v` in the parent table of `colour`.
     pub(crate) fn entry(&self, colour: Colour, v: VertexId) -> VertexId
         requires { v.0 < count_in self.now }
         ensures { result.0 ≡ parent_in self.now (kind colour) v.0 }
@@ -77,7 +77,7 @@ impl Wood {
         }
     }
 
-    /// The parent of a colour of a vertex, or None exactly for the three roots. It takes no memory.
+    /// Returns the parent of `v` in `colour`, or None exactly for the three roots. It takes no memory.
     pub fn parent(&self, colour: Colour, v: VertexId) -> Option<VertexId>
         requires { v.0 < count_in self.now }
         ensures root { (result ≡ None) ↔ IsRoot self.now v.0 }

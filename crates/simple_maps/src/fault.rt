@@ -1,8 +1,8 @@
-//! Why lists are no simple map.
+//! `MapFault`: why rotation lists are no simple map.
 
 use std::alloc::AllocError;
 
-/// Tells why lists are no simple map, or of no memory. List 0 is that of vertex 0.
+/// Says why lists are no simple map, or that there was not enough memory. List 0 is that of vertex 0.
 ///
 /// The first kind that applies is named, and of it the least first and then the least second vertex.
 #[derive(Clone, Copy, PartialEq, Eq)]
@@ -25,6 +25,7 @@ impl From<AllocError> for MapFault {
 
     ghost from_gives = { λ _ fault. fault ≡ NoMemory };
 
+    // Converts an allocation error to `NoMemory`.
     fn from(_refused: AllocError) -> MapFault {
         MapFault::NoMemory
     }

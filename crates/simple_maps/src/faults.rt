@@ -1,4 +1,4 @@
-//! The search for the first fault of lists, one kind after another.
+//! Searches for the first fault of rotation lists: a number out of range, a loop, a repeated entry.
 ghost use Rattle.std.specs.Prelude.{◌≡◌, ◌+◌, ◌<◌, ◌==◌, length, nat_le, All, Some, None, IfOk, MatchOption};
 ghost use Rattle.std.specs.List.{list_any};
 ghost use Rattle.simple_maps.specs.Faults.{lesser_of, least_where, first_from, least_out_of_range, own_number, least_repeated};
@@ -6,7 +6,7 @@ ghost use Rattle.simple_maps.specs.Faults.{lesser_of, least_where, first_from, l
 use map_lists::Rotations;
 use std::alloc::{AllocError, Global};
 
-// Returns the lesser of a number and the least one so far.
+// Returns the lesser of `u` and the least number so far, if there is one.
 pub(crate) fn lesser(least: Option<u16>, u: u16) -> Option<u16>
     ensures { result ≡ lesser_of least (Some u) }
 {
@@ -62,7 +62,8 @@ pub(crate) fn first_loop(lists: &Rotations) -> Option<u16>
     None
 }
 
-// Returns the least number that `list` holds twice. Each number of it gets `mark`, which none had before.
+// Returns the least number that `list` holds twice. It sets `marks` of each number in `list` to `mark`, which none
+// has before.
 fn least_twice(marks: &mut [u16], mark: u16, list: &[u16]) -> Option<u16>
     requires within { All (λ u. u < length marks.old) list.now }
     requires fresh { All (λ m. m < mark) marks.old }

@@ -1,4 +1,5 @@
-//! Laws of simple maps and of faults, for all lists. Each is the contract of a function that does nothing.
+//! Laws of simple maps and of their faults, for all rotation lists. Each is the contract of a function that does
+//! nothing.
 
 ghost use Rattle.simple_maps.specs.Laws.{NoFaultIsSimple, FirstFaultIsFirst};
 

@@ -1,4 +1,4 @@
-//! Which rotation lists are a simple map: the slots of its darts, or the first fault of the lists.
+//! Which rotation lists are a simple map: the tails and twins of its darts, or the first fault of the lists.
 #![tactic(auto)]
 
 mod fault;

@@ -1,9 +1,9 @@
-//! One pass over lists, which finds the twins of their darts where they are a simple map.
+//! One pass over rotation lists that finds the twins of their darts by threads: chains of the darts with one head.
 //!
-//! Each dart that a list holds is threaded by its head, so that those that lead to a vertex are at hand
-//! when its own list comes up; and the newest of each head tells whether a list holds a number twice. What
-//! the threads say is tried before it is written, and where they do not lead to a twin the pass gives up:
-//! it answers that lists are a simple map, and never that they are none.
+//! The darts with one head are linked to a thread, so that those that lead to a vertex are at hand when its own list
+//! comes up. The newest dart of each head tells whether a list holds a number twice. Whatever the threads say is
+//! tested before it is written. Where they do not lead to a twin the pass gives up: it may answer that lists are a
+//! simple map, and never that they are none.
 ghost use Rattle.std.specs.Prelude.{◌≡◌, ◌+◌, ◌^◌, ◌<◌, ◌≤◌, ℕ, length, slice_index, All};
 ghost use Rattle.std.specs.Bool.{OnTrue};
 ghost use Rattle.map_lists.specs.Cuts.{joined};
@@ -28,13 +28,14 @@ pub trait DartSlot: Copy {
         ensures line { IsInLine result place };
 }
 
-// More than any dart's number: what stands in place of a twin's number, where the twin is not known.
+// A number above that of each dart: it stands where a twin is not known.
 pub(crate) const NO_PLACE: u32 = 1 << 24;
 
-// A thread names place d of the entries by d more than this.
+// The thread of the entry at index 0: that at index d is d more.
 const FIRST_PLACE: u32 = NO_PLACE + 1;
 
-// Returns the place that a thread names, or any other number where it names none.
+// Returns the index of the entry that the thread `link` stands for, or a number out of range where it stands for
+// none.
 fn place_named(link: u32) -> usize {
     link.wrapping_sub(FIRST_PLACE) as usize
 }
@@ -61,8 +62,8 @@ pub(crate) fn are_paired(twins: &[u32]) -> bool
     joined < NO_PLACE
 }
 
-// The list of `v`, as a part of the entries of all lists: from `start` on and before `end`. `before` is the thread of the
-// darts to `v` in the lists before.
+// The list of `v` as the part `start..end` of the entries of all lists. `before` is the thread of the darts to `v` in
+// the lists before.
 #[derive(Clone, Copy)]
 struct ListPart<'a> {
     entries: &'a [u16],
@@ -76,7 +77,8 @@ struct ListPart<'a> {
 }
 
 impl ListPart<'_> {
-    // Threads the darts of the list, and says whether the list holds no number twice and not `v`.
+    // Links each dart of the list to the newest one before it with the same head, in `twins`, and writes its tail.
+    // Returns false where the list holds a number twice, or `v`.
     #[inline(always)]
     fn thread(&self, tails: &mut [u16], twins: &mut [u32], newest: &mut [u32]) -> bool
         requires tails { length tails.old ≡ length self.now.entries.now }
@@ -103,8 +105,8 @@ impl ListPart<'_> {
         true
     }
 
-    // Pairs the darts of the list with those to `v` in the lists before, along their thread, which leads from each
-    // dart to one before it.
+    // Writes the twins of the darts to `v` from earlier lists, and those of their twins in this list. It goes along
+    // their thread, and stops where that leads to no twin.
     #[inline(always)]
     fn pair(&self, tails: &[u16], twins: &mut [u32], newest: &[u32])
         requires tails { length tails.now ≡ length self.now.entries.now }
@@ -135,7 +137,7 @@ impl ListPart<'_> {
     }
 }
 
-// Takes off the threads of all heads.
+// Makes each entry of `newest` `NO_PLACE`: no vertex has a thread of darts.
 fn unthread(newest: &mut [u32])
     ensures { All (λ m. 16777216 ≤ m) newest.new }
 {
@@ -144,7 +146,7 @@ fn unthread(newest: &mut [u32])
     }
 }
 
-// Says whether lists are found to be a simple map, and then finds the tails and the twins of their darts.
+// Says whether the pass finds lists to be a simple map, and then writes the `tails` and `twins` of their darts.
 #[inline(never)]
 pub(crate) fn finds_twins(
     lists: &Rotations,

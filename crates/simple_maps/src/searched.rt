@@ -1,4 +1,4 @@
-//! The tails and twins of the darts of a simple map, or the first fault of other lists, by searches of each kind of fault.
+//! The tails and twins of a simple map by a search of each list, after the exact search for the first fault.
 ghost use Rattle.std.specs.Prelude.{◌≡◌, ◌<◌, [], length, OnOk, IfErr};
 ghost use Rattle.map_theory.specs.Maps.{IsSimpleMap, HasDart, dart_number};
 ghost use Rattle.simple_maps.specs.Faults.{first_fault};
@@ -28,7 +28,7 @@ fn number_of(lists: &Rotations, v: u16, u: u16) -> u32
     unreachable!()
 }
 
-// Appends for each dart of a map the vertex that it leaves, and the number of its twin.
+// Appends for each dart of a map its tail, and the number of its twin. It fails only when out of memory.
 fn push_slots(
     lists: &Rotations,
     tails: &mut Vec<u16>,

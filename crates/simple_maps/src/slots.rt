@@ -1,4 +1,5 @@
-//! The tails and twins of the darts of a simple map, as tables or as slots, or the first fault of other lists.
+//! The public calls `fill_twins` and `put_slots`: tails and twins of the darts of a simple map, as tables or in
+//! slots.
 ghost use Rattle.std.specs.Prelude.{◌≡◌, ◌<◌, ◌≤◌, ℕ, length, map, slice_index, OnOk, IfOk, IfErr};
 ghost use Rattle.std.specs.Bool.{OnTrue};
 ghost use Rattle.map_lists.specs.Cuts.{joined};
@@ -14,9 +15,8 @@ use crate::searched::searched_twins;
 use map_lists::Rotations;
 use std::alloc::{AllocError, Global};
 
-// Says whether a list is found that has as many entries as there are lists, which no simple map has. Whatever this answers,
-// the searches tell the fault: it saves tables for such lists, and passes over lists as short as those of a plane map
-// without a look.
+// Says whether a list with at least as many entries as there are vertices is found, which no simple map has. The
+// answer only saves time: it does not look at lists as short as those of a plane map.
 fn has_long_list(lists: &Rotations) -> bool {
     let count = lists.len();
     if lists.total() <= 6 * count {
@@ -95,7 +95,7 @@ pub fn fill_twins(
     searched_twins(alloc, lists, tails, twins)
 }
 
-// Writes the slots of darts with these tails and twins.
+// Writes to `slots` those of the darts with these tails and twins.
 fn write_slots<P: DartSlot>(tails: &[u16], twins: &[u32], slots: &mut [P])
     requires twins { length tails.now ≡ length twins.now }
     requires slots { length slots.old ≡ length twins.now }

@@ -1,4 +1,4 @@
-//! St-orders of biconnected maps: the vertices from one end of an edge to the other, each of the others
+//! St-numberings (st-orders) of biconnected maps: the vertices from one end of an edge to the other, each other one
 //! with an earlier and a later neighbour.
 //!
 //! A search from s that sees t next gives each vertex a range of places within its parent's. A vertex stands

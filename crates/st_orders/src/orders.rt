@@ -1,4 +1,4 @@
-//! St-orders.
+//! The public calls that number the vertices in an st-order: `st_order`, `st_ranks`, `fill_places`.
 ghost use Rattle.std.specs.Prelude.{◌≡◌, ◌<◌, ℕ, List, map, length, slice_index, Some, IfOk};
 ghost use Rattle.map_theory.specs.Maps.{IsSimpleMap, HasDart, component_count};
 ghost use Rattle.half_edges.specs.Map.{IsLive, dart_at};
@@ -22,7 +22,7 @@ pub struct StOrder {
     pub rank: Counts,
 }
 
-// Writes each vertex at its place.
+// Inverts a numbering: writes each vertex `v` to `at[from[v]]`.
 fn put_all(from: &[u16], at: &mut [u16])
     requires few { length from.now < 4096 }
     requires long { length at.old ≡ length from.now }
@@ -35,7 +35,7 @@ fn put_all(from: &[u16], at: &mut [u16])
     }
 }
 
-// Numbers as a list.
+// Copies numbers into a list of counts. It fails only when out of memory.
 fn counts_of(alloc: Global, numbers: &[u16]) -> Result<Counts, AllocError>
     ensures { IfOk result (λ counts. counts ≡ numbers.now) }
 {
@@ -46,7 +46,7 @@ fn counts_of(alloc: Global, numbers: &[u16]) -> Result<Counts, AllocError>
     Ok(counts)
 }
 
-// Vertices as a list.
+// Copies numbers into a list of vertices. It fails only when out of memory.
 fn vertices_of(alloc: Global, numbers: &[u16]) -> Result<VertexList, AllocError>
     ensures { IfOk result (λ vertices. map (λ v. v.0) vertices ≡ numbers.now) }
 {
@@ -57,8 +57,9 @@ fn vertices_of(alloc: Global, numbers: &[u16]) -> Result<VertexList, AllocError>
     Ok(vertices)
 }
 
-/// The places of an st-order for the dart from s to t of a connected map without cut vertices, by a search from s
-/// that sees t next, in the memory of `ranges`. It fails only when out of memory. The time is linear.
+/// Writes to `ranges.from` the place of each vertex in an st-order for the dart from `s` to `t`, of a connected map
+/// without cut vertices. `forest` is a search from `s` that sees `t` next, and `low` its low points. It fails only
+/// when out of memory. The time is linear.
 pub fn fill_places(
     ranges: &mut Ranges,
     lists: &Rotations,
@@ -84,7 +85,7 @@ pub fn fill_places(
     Ok(())
 }
 
-// An st-order of lists for the dart from s to t.
+// Returns an st-order of `lists` for the dart from `s` to `t`. It fails only when out of memory.
 fn list_order(alloc: Global, lists: &Rotations, s: u16, t: u16) -> Result<StOrder, AllocError>
     requires simple { IsSimpleMap lists.now }
     requires connected { component_count lists.now ≡ 1 }
@@ -130,9 +131,9 @@ pub fn st_ranks(
     Ok(rank)
 }
 
-/// An st-order for a dart of a connected map without cut vertices, in linear time: the dart's tail stands
-/// first, its head last, and each other vertex has an earlier and a later neighbour. It fails only when out
-/// of memory.
+/// Returns an st-order for the dart `st` of a connected map without cut vertices, in linear time. The dart's tail
+/// stands first, its head last, and each other vertex has an earlier and a later neighbour. It fails only when out of
+/// memory.
 pub fn st_order(alloc: Global, map: &HalfMap, st: DartId) -> Result<StOrder, AllocError>
     requires connected { component_count map.now.lists ≡ 1 }
     requires uncut { (v : ℕ) → ¬ IsCutVertex map.now.lists v }

@@ -1,4 +1,4 @@
-//! The places of vertices in an st-order, by a search.
+//! The place of each vertex in an st-order, as a range taken from the range of its parent in a depth-first search.
 ghost use Rattle.std.specs.Prelude.{◌≡◌, ◌+◌, ◌<◌, ◌≤◌, ◌≢◌, ℕ, true, false, length, slice_index, slice_index_or, slice_set};
 ghost use Rattle.std.specs.Prelude.{IfOk};
 ghost use Rattle.st_orders.specs.Placing.{IsCarved, IsWholeBy, AreTables, ArePlacedBelow};
@@ -27,7 +27,7 @@ pub struct Ranges {
     recent: Vec<bool>,
 }
 
-// Says which places a vertex takes of those of its parent.
+// The places that a vertex takes from the range of its parent.
 #[derive(Clone, Copy)]
 struct Share {
     vertex: u16,
@@ -39,7 +39,7 @@ struct Share {
     ghost other: { parent ≢ vertex },
 }
 
-// Moves a share's places from the range of its parent to that of its vertex.
+// Moves the places of `share` from the range of its parent to that of its vertex.
 fn take_places(from: &mut [u16], to: &mut [u16], share: Share)
     requires froms { length from.old ≡ length to.old }
     requires vertex_in { share.vertex < length from.old }
@@ -63,7 +63,7 @@ fn take_places(from: &mut [u16], to: &mut [u16], share: Share)
 }
 
 impl Ranges {
-    /// Ranges of no map. They take no memory.
+    /// Returns the ranges of no map. They take no memory.
     pub fn new(alloc: Global) -> Ranges {
         Ranges {
             from: Vec::new(alloc),
@@ -72,7 +72,7 @@ impl Ranges {
         }
     }
 
-    // Makes room for the vertices of a map.
+    // Makes the tables as long as `lists`. It fails only when out of memory.
     pub(crate) fn make_room(&mut self, lists: &Rotations) -> Result<(), AllocError>
         ensures { IfOk result (λ _. AreTables lists.now self.new.from.items self.new.to.items self.new.recent.items) }
     {
@@ -83,7 +83,8 @@ impl Ranges {
         Ok(())
     }
 
-    // Gives the vertex numbered `next` its places, on the other side of its parent than the vertex at its low point.
+    // Gives the vertex with search number `next` its range, on the other side of its parent than the vertex at its
+    // low point.
     fn place_next(&mut self, search: &LowSearch<'_>, next: u16)
         requires whole { IsWholeBy search.now.lists.now search.now.forest.now search.now.low.now }
         requires placed { ArePlacedBelow search.now.lists.now search.now.forest.now search.now.low.now self.old next }
@@ -106,8 +107,8 @@ impl Ranges {
         self.recent[above as usize] = below;
     }
 
-    // Gives all vertices their places: of the first two, s the first place and t all others, of which each further
-    // vertex takes its own.
+    // Gives all vertices their places: s has the first, and t all others, from which each further vertex takes its
+    // own.
     pub(crate) fn place_all(&mut self, search: &LowSearch<'_>)
         requires whole { IsWholeBy search.now.lists.now search.now.forest.now search.now.low.now }
         requires tables { AreTables search.now.lists.now self.old.from.items self.old.to.items self.old.recent.items }

@@ -1,4 +1,4 @@
-//! Visibility drawings as SVG.
+//! Visibility drawings as SVG: bars for vertices and columns for edges.
 ghost use Rattle.std.specs.Prelude.{◌≡◌, ◌<◌, ℕ, ℤ, pos, ◌+ℤ◌, ◌-ℤ◌, ◌++◌, length, fold, slice_index_or, OnOk, OnErr, IfOk};
 ghost use Rattle.std.specs.Int.{int_max};
 ghost use Rattle.map_theory.specs.Maps.{Dart, IsSimpleMap, edge_count};
@@ -12,7 +12,7 @@ use map_lists::Rotations;
 use pg_plane::{BarFigure, Ints};
 use std::alloc::{AllocError, Global};
 
-// Returns number `v` of a list of whole numbers.
+// Returns entry `v` of a list of whole numbers.
 pub(crate) fn integer(list: &Ints, v: usize) -> i32
     requires { v < length list.now }
     ensures { result ≡ integer_at list.now v }
@@ -20,7 +20,7 @@ pub(crate) fn integer(list: &Ints, v: usize) -> i32
     list.get(v)
 }
 
-// Returns the greatest of `least` and all numbers of a list.
+// Returns the greatest of `least` and all numbers of `list`.
 pub(crate) fn greatest_from(least: i32, list: &Ints) -> i32
     ensures { result ≡ fold int_max least list.now }
 {
@@ -31,7 +31,8 @@ pub(crate) fn greatest_from(least: i32, list: &Ints) -> i32
     most
 }
 
-// Returns where the bar of vertex `v` begins in the picture of a drawing of this height: a little left of the bar.
+// Returns the left end of the bar of vertex `v` in the picture of a drawing of this `height`, a little left of the
+// bar.
 fn bar_start(bars: &BarFigure, height: i32, v: usize) -> Spot
     requires y { v < length bars.now.y }
     requires x { v < length bars.now.x1 }
@@ -44,7 +45,8 @@ fn bar_start(bars: &BarFigure, height: i32, v: usize) -> Spot
     }
 }
 
-// Returns where the bar of vertex `v` ends in such a picture: a little right of the bar.
+// Returns the right end of the bar of vertex `v` in the picture of a drawing of this `height`, a little right of the
+// bar.
 fn bar_end(bars: &BarFigure, height: i32, v: usize) -> Spot
     requires y { v < length bars.now.y }
     requires x { v < length bars.now.x2 }
@@ -57,7 +59,7 @@ fn bar_end(bars: &BarFigure, height: i32, v: usize) -> Spot
     }
 }
 
-// Returns where edge `i` ends in such a picture, at the bar of vertex `v`.
+// Returns the end of edge `i` at the bar of vertex `v`, in the picture of a drawing of this `height`.
 fn edge_end(bars: &BarFigure, height: i32, i: usize, v: usize) -> Spot
     requires column { i < length bars.now.column }
     requires y { v < length bars.now.y }
@@ -70,14 +72,14 @@ fn edge_end(bars: &BarFigure, height: i32, i: usize, v: usize) -> Spot
     }
 }
 
-// Returns the attribute that says how thick a bar is.
+// Returns the SVG attribute for the thickness of a bar.
 fn thick() -> &'static [u8]
     ensures { result.now ≡ the_width }
 {
     b" stroke-width=\"3\""
 }
 
-// Appends the bars of all vertices.
+// Appends the bars of all vertices to `out`, in the picture of a drawing of this `height`.
 fn push_bars(
     out: &mut Vec<u8>,
     lists: &Rotations,
@@ -95,7 +97,7 @@ fn push_bars(
     Ok(())
 }
 
-// Appends the edges of a visibility drawing of this height.
+// Appends the columns of all edges to `out`, in the picture of a drawing of this `height`.
 fn push_columns(
     out: &mut Vec<u8>,
     edges: &[(usize, usize)],

@@ -1,4 +1,4 @@
-//! The edges of a map in their order.
+//! The edges of a map in order: by the lesser end, and then by the greater.
 ghost use Rattle.std.specs.Prelude.{◌≡◌, ◌<◌, length, OnOk, IfOk};
 ghost use Rattle.map_theory.specs.Maps.{IsSimpleMap, edge_count};
 ghost use Rattle.svg_out.specs.Edges.{later_neighbours, edges as the_edges};
@@ -6,7 +6,7 @@ ghost use Rattle.svg_out.specs.Edges.{later_neighbours, edges as the_edges};
 use map_lists::Rotations;
 use std::alloc::{AllocError, Global};
 
-// Fills `row` with the neighbours of `v` that are greater than `v`, in rising order.
+// Makes `row` the neighbours of `v` that are greater than `v`, in rising order. It fails only when out of memory.
 fn fill_sorted(lists: &Rotations, v: usize, row: &mut Vec<u16>) -> Result<(), AllocError>
     requires simple { IsSimpleMap lists.now }
     requires vertex { v < length lists.now }
@@ -24,7 +24,8 @@ fn fill_sorted(lists: &Rotations, v: usize, row: &mut Vec<u16>) -> Result<(), Al
     Ok(())
 }
 
-/// Returns the edges of a simple map in their order, each by its lesser end and then its greater one.
+/// Returns the edges of a simple map in order, each by its lesser end and then its greater one. It fails only when
+/// out of memory.
 pub(crate) fn edges(alloc: Global, lists: &Rotations) -> Result<Vec<(usize, usize)>, AllocError>
     requires { IsSimpleMap lists.now }
     ensures order { IfOk result (λ edges. edges.items ≡ the_edges lists.now) }

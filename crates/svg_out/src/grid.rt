@@ -1,4 +1,4 @@
-//! Straight-line drawings as SVG.
+//! Straight-line drawings as SVG: segments for edges and dots for vertices.
 ghost use Rattle.std.specs.Prelude.{◌≡◌, ◌<◌, ℕ, ◌++◌, length, map, flat_map, slice_index_or, OnOk, OnErr, IfOk};
 ghost use Rattle.map_theory.specs.Maps.{Dart, IsSimpleMap};
 ghost use Rattle.figure_text.specs.Text.{point_at};
@@ -11,7 +11,7 @@ use map_lists::Rotations;
 use pg_plane::{Point, Points};
 use std::alloc::{AllocError, Global};
 
-// Returns number `v` of a list of points.
+// Returns point `v` of `list`.
 fn point(list: &Points, v: usize) -> Point
     requires { v < length list.now }
     ensures { result ≡ point_at list.now v }
@@ -19,7 +19,7 @@ fn point(list: &Points, v: usize) -> Point
     list.get(v)
 }
 
-// Returns the greatest of 0 and all x.
+// Returns the greatest x of `points`, or 0 where that is greater.
 fn width_of(points: &Points) -> i32
     ensures { result ≡ greatest (map (λ p. p.x) points.now) }
 {
@@ -30,7 +30,7 @@ fn width_of(points: &Points) -> i32
     width
 }
 
-// Returns the greatest of 0 and all y.
+// Returns the greatest y of `points`, or 0 where that is greater.
 fn height_of(points: &Points) -> i32
     ensures { result ≡ greatest (map (λ p. p.y) points.now) }
 {
@@ -41,7 +41,7 @@ fn height_of(points: &Points) -> i32
     height
 }
 
-// Returns where a point lies in the picture of a drawing of this height.
+// Returns the position of a point in the picture of a drawing of this `height`.
 fn spot(height: i32, point: Point) -> Spot
     ensures x { result.x ≡ far_right point.x }
     ensures y { result.y ≡ far_down height point.y }
@@ -52,7 +52,7 @@ fn spot(height: i32, point: Point) -> Spot
     }
 }
 
-// Appends the edges of a straight-line drawing of this height.
+// Appends a segment for each edge to `out`, in the picture of a drawing of this `height`.
 fn push_straight_edges(
     out: &mut Vec<u8>,
     edges: &[(usize, usize)],
@@ -71,7 +71,7 @@ fn push_straight_edges(
     Ok(())
 }
 
-// Appends the vertices of a straight-line drawing of this height.
+// Appends a dot for each vertex to `out`, in the picture of a drawing of this `height`.
 fn push_dots(out: &mut Vec<u8>, points: &Points, height: i32) -> Result<(), AllocError>
     ensures { OnOk result (out.new.items ≡ out.old.items ++ flat_map (dot height) points.now) }
 {

@@ -1,4 +1,4 @@
-//! Figures as SVG, line by line.
+//! Figures of drawings as SVG, line by line.
 //!
 //! `svg` appends the picture of a figure: a first line with its size, a tag for each vertex and each edge, and a
 //! last line. All numbers are whole: a unit of the figure is ten of the picture, in which y goes down. Edges come

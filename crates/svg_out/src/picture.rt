@@ -1,4 +1,4 @@
-//! A figure as SVG.
+//! The public call `svg`: a figure of any kind as SVG.
 ghost use Rattle.std.specs.Prelude.{◌≡◌, ◌++◌, List, ℕ, OnOk, OnErr};
 ghost use Rattle.svg_out.specs.Svg.{IsSvg, IsDrawn};
 

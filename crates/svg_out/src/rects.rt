@@ -1,4 +1,4 @@
-//! Rectangular duals as SVG.
+//! Rectangular duals as SVG: a rectangle for each vertex.
 ghost use Rattle.std.specs.Prelude.{◌≡◌, ◌<◌, ℕ, ◌++◌, length, OnOk, OnErr, IfOk};
 ghost use Rattle.figure_text.specs.Text.{HasRects};
 ghost use Rattle.svg_out.specs.Svg.{greatest, unfilled as the_style, tiles, rects_svg};
@@ -9,14 +9,14 @@ use map_lists::Rotations;
 use pg_plane::RectFigure;
 use std::alloc::{AllocError, Global};
 
-// Returns the end of the tag of a rectangle: its sides alone are drawn.
+// Returns the end of a rectangle's SVG tag: its sides alone are drawn.
 fn unfilled() -> &'static [u8]
     ensures { result.now ≡ the_style }
 {
     b" fill=\"none\" stroke=\"black\"/>\n"
 }
 
-// Appends the rectangles of all vertices, each as a tag, in a drawing of this height.
+// Appends the rectangles of all vertices to `out`, in the picture of a drawing of this `height`.
 fn push_tiles(
     out: &mut Vec<u8>,
     lists: &Rotations,

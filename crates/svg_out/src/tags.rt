@@ -1,4 +1,5 @@
-//! The lines of a picture.
+//! SVG tags and lines: the opening and closing of a picture, segments, dots, rectangles, and the scale from figure to
+//! picture.
 ghost use Rattle.std.specs.Prelude.{◌≡◌, ◌++◌, ◌∷◌, ℤ, pos, ◌+ℤ◌, ◌-ℤ◌, ◌*ℤ◌, OnOk};
 ghost use Rattle.std.specs.Fmt.{signed_decimal};
 ghost use Rattle.svg_out.specs.Svg.{across as far_right, down as far_down, attribute, extent as the_extent, sides, segment, front as the_front, opening, closing, dot};
@@ -7,7 +8,7 @@ use itoa::Buffer;
 use pg_plane::Point;
 use std::alloc::AllocError;
 
-// Appends a whole number.
+// Appends `number` in decimal to `out`.
 fn push_number(out: &mut Vec<u8>, number: i64) -> Result<(), AllocError>
     ensures { OnOk result (out.new.items ≡ out.old.items ++ signed_decimal number) }
 {
@@ -15,7 +16,7 @@ fn push_number(out: &mut Vec<u8>, number: i64) -> Result<(), AllocError>
     out.extend_from_slice(buffer.format(number).as_bytes())
 }
 
-// Appends an attribute of a tag, with a space before it.
+// Appends the SVG attribute `name` with this number to `out`, after a space.
 fn push_attribute(out: &mut Vec<u8>, name: &[u8], number: i64) -> Result<(), AllocError>
     ensures { OnOk result (out.new.items ≡ out.old.items ++ attribute name.now number) }
 {
@@ -27,28 +28,28 @@ fn push_attribute(out: &mut Vec<u8>, name: &[u8], number: i64) -> Result<(), All
     Ok(())
 }
 
-/// Returns how far right x lies in the picture.
+/// Converts the coordinate `x` of a figure to that of the picture, ten times as large.
 pub(crate) fn across(x: i32) -> i64
     ensures { result ≡ far_right x }
 {
     10 * i64::from(x)
 }
 
-/// Returns how far down y lies in the picture of a figure of this height.
+/// Converts the coordinate `y` of a figure of this `height` to that of the picture, in which y goes down.
 pub(crate) fn down(height: i32, y: i32) -> i64
     ensures { result ≡ far_down height y }
 {
     10 * (i64::from(height) - i64::from(y))
 }
 
-/// Returns how long the way from p to q is in the picture.
+/// Returns the distance from `p` to `q` in the picture.
 pub(crate) fn extent(p: i32, q: i32) -> i64
     ensures { result ≡ the_extent p q }
 {
     10 * (i64::from(q) - i64::from(p))
 }
 
-/// A place in the picture.
+/// A position in the picture.
 #[derive(Clone, Copy, PartialEq, Eq)]
 pub(crate) struct Spot {
     /// How far right it lies.
@@ -57,7 +58,7 @@ pub(crate) struct Spot {
     pub(crate) y: i64,
 }
 
-/// Appends where a rectangle stands, by its upper left corner, and how wide and how high it is.
+/// Appends the position and size of a rectangle to `out`, as SVG attributes, by its upper left `corner`.
 pub(crate) fn push_sides(
     out: &mut Vec<u8>,
     corner: Spot,
@@ -72,7 +73,7 @@ pub(crate) fn push_sides(
     push_attribute(out, b"height", height)
 }
 
-/// Appends the tag of a segment, with the attributes `more` after the others.
+/// Appends the SVG tag of a segment to `out`, with the attributes `more` after the others.
 pub(crate) fn push_segment(
     out: &mut Vec<u8>,
     from: Spot,
@@ -92,7 +93,7 @@ pub(crate) fn push_segment(
     Ok(())
 }
 
-/// Appends a vertex of a straight-line drawing of this height.
+/// Appends the SVG dot of a vertex to `out`, in the picture of a drawing of this `height`.
 pub(crate) fn push_dot(out: &mut Vec<u8>, height: i32, point: Point) -> Result<(), AllocError>
     ensures { OnOk result (out.new.items ≡ out.old.items ++ dot height point) }
 {
@@ -103,21 +104,21 @@ pub(crate) fn push_dot(out: &mut Vec<u8>, height: i32, point: Point) -> Result<(
     Ok(())
 }
 
-// Returns the width of the picture of a figure of width `size`, or its height in the same way.
+// Returns the size of the picture, with its margin, of a figure of this `size` in one direction.
 fn with_margin(size: i32) -> i64
     ensures { result ≡ pos 10 *ℤ size +ℤ pos 20 }
 {
     10 * i64::from(size) + 20
 }
 
-// Returns how each picture begins.
+// Returns the bytes with which each picture begins.
 fn front() -> &'static [u8]
     ensures { result.now ≡ the_front }
 {
     b"<svg xmlns=\"http://www.w3.org/2000/svg\" viewBox=\"-10 -10 "
 }
 
-/// Appends the first line, for a figure of this width and height.
+/// Appends the first line of the picture of a figure of this width and height to `out`.
 pub(crate) fn push_opening(out: &mut Vec<u8>, width: i32, height: i32) -> Result<(), AllocError>
     ensures { OnOk result (out.new.items ≡ out.old.items ++ opening width height) }
 {
@@ -129,7 +130,7 @@ pub(crate) fn push_opening(out: &mut Vec<u8>, width: i32, height: i32) -> Result
     Ok(())
 }
 
-/// Appends the last line.
+/// Appends the last line of a picture to `out`.
 pub(crate) fn push_closing(out: &mut Vec<u8>) -> Result<(), AllocError>
     ensures { OnOk result (out.new.items ≡ out.old.items ++ closing) }
 {

@@ -1,4 +1,4 @@
-//! Witnesses as SVG.
+//! Kuratowski witnesses in SVG, as text in a comment.
 ghost use Rattle.std.specs.Prelude.{◌≡◌, ◌++◌, List, ℕ, OnOk, OnErr, IfOk};
 ghost use Rattle.svg_out.specs.Svg.{IsWitnessSvg};
 

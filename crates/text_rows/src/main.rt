@@ -1,5 +1,5 @@
-//! Runs the rows on points, records, and texts of figures.
-//! What a row and its answer look like is told in `row_texts`.
+//! The program of test rows on points, records of planar_code, and texts of figures. What a row and its answer look
+//! like is told in `row_texts`.
 #![tactic(auto)]
 
 mod answers;
@@ -11,6 +11,7 @@ use answers::Rows;
 use row_texts::rows::answer_rows;
 use std::io;
 
+// Answers the rows on standard input.
 fn main(rt: HostRuntime) -> io::Result<()> {
     answer_rows::<Rows>(rt)
 }

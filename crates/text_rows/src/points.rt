@@ -1,4 +1,4 @@
-//! The questions that are asked of points.
+//! Test rows on the predicates of points: areas, segments, directions.
 ghost use Rattle.std.specs.Prelude.{IfSome};
 ghost use Rattle.pg_plane.specs.Range.{IsInRange};
 
@@ -7,7 +7,7 @@ use row_texts::points::{is_in_range, point_of};
 use row_texts::reply::Reply;
 use row_texts::rows::Row;
 
-// Returns the point of an argument, if it is within the range.
+// Parses argument `i` as a point, if it is within the range of coordinates.
 fn point(row: &Row<'_>, i: usize) -> Option<Point>
     ensures { IfSome result IsInRange }
 {
@@ -15,8 +15,8 @@ fn point(row: &Row<'_>, i: usize) -> Option<Point>
     if is_in_range(p) { Some(p) } else { None }
 }
 
-// Writes twice the area of a triangle, whether a point is on a segment, from both of its ends, or whether two segments
-// cross. It writes nothing where a point is beyond the range.
+// Appends to `out` twice the area of a triangle, whether a point is on a segment, from both of its ends, or whether
+// two segments cross. It appends nothing where a point is out of range.
 fn put_answer(row: &Row<'_>, out: &mut Reply) -> Option<()> {
     let (a, b, c) = (point(row, 0)?, point(row, 1)?, point(row, 2)?);
     match row.call {
@@ -31,7 +31,7 @@ fn put_answer(row: &Row<'_>, out: &mut Reply) -> Option<()> {
     Some(())
 }
 
-// Writes for each direction whether it is before each of them, where both are within the range.
+// Appends to `out`, for each two directions, whether the first comes before the second clockwise.
 fn put_clock(row: &Row<'_>, out: &mut Reply) {
     for i in 0..row.args.len() {
         for j in 0..row.args.len() {
@@ -45,7 +45,7 @@ fn put_clock(row: &Row<'_>, out: &mut Reply) {
     }
 }
 
-/// Answers a row on points.
+/// Appends to `out` the answer to a row on points.
 pub fn answer(row: &Row<'_>, out: &mut Reply) {
     if row.call == "clock" {
         put_clock(row, out);

@@ -1,4 +1,4 @@
-//! Records as bytes: fed one by one, taken in pieces, read whole and written.
+//! Test rows on records of planar_code: fed byte by byte, taken in pieces, read whole, and written.
 ghost use Rattle.std.specs.Prelude.{◌+◌, ◌<◌, ◌≤◌, length, All, IsTrue};
 ghost use Rattle.planar_code.specs.Write.{AreBelow};
 
@@ -13,7 +13,7 @@ use row_texts::rows::Row;
 use row_texts::text::{number, numbers};
 use std::alloc::{AllocError, Global};
 
-// Appends the bytes of the pieces between the spaces: `=` and a text, or bytes in hexadecimal, `*` and how often.
+// Appends to `bytes` the pieces of `text` between spaces: `=` and a text, or bytes in hexadecimal, `*` and how often.
 fn put_pieces(alloc: Global, bytes: &mut Vec<u8>, text: &str) {
     for piece in text.split_whitespace() {
         if let Some(text) = piece.strip_prefix('=') {
@@ -29,21 +29,22 @@ fn put_pieces(alloc: Global, bytes: &mut Vec<u8>, text: &str) {
     }
 }
 
-// Returns the bytes of the pieces between the spaces.
+// Returns the bytes of the pieces of `text`, as `put_pieces` reads them.
 fn bytes_of(alloc: Global, text: &str) -> Vec<u8> {
     let mut bytes = Vec::new(alloc);
     put_pieces(alloc, &mut bytes, text);
     bytes
 }
 
-// Writes the lists of a record in brackets.
+// Appends the lists of a record to `out`, in brackets.
 fn put_record(lists: &Rotations, out: &mut Reply) {
     out.put_letter('[');
     put_lists(lists, out);
     out.put_letter(']');
 }
 
-// Writes the outcome of each byte: a dot where it joins those before, the lists of a record, or `bad` and where.
+// Feeds `bytes` to a reader one by one, and appends each outcome to `out`: a dot, the lists of a record, or `bad` and
+// its offset.
 fn put_fed(bytes: &[u8], out: &mut Reply) -> Result<(), AllocError>
     requires { length bytes.now < 1000 }
 {
@@ -58,7 +59,7 @@ fn put_fed(bytes: &[u8], out: &mut Reply) -> Result<(), AllocError>
     Ok(())
 }
 
-// Returns the next bytes to read, at most `at_once`.
+// Returns the next bytes from the offset `at` on, at most `at_once`.
 fn piece_at(bytes: &[u8], at: usize, at_once: usize) -> &[u8]
     requires within { at < length bytes.now }
     requires some { 0 < at_once }
@@ -73,7 +74,7 @@ fn piece_at(bytes: &[u8], at: usize, at_once: usize) -> &[u8]
     }
 }
 
-// Writes the records of bytes of which `at_once` are read at a time, up to a bad count.
+// Reads `bytes` in pieces of `at_once`, and appends to `out` the records up to a bad count.
 fn put_taken(bytes: &[u8], at_once: usize, out: &mut Reply) -> Result<(), AllocError>
     requires short { length bytes.now < 1000 }
     requires some { 0 < at_once }
@@ -97,7 +98,8 @@ fn put_taken(bytes: &[u8], at_once: usize, out: &mut Reply) -> Result<(), AllocE
     Ok(())
 }
 
-// Feeds a few bytes one by one, or takes them in pieces of each of the sizes that are named.
+// Feeds fewer than 1000 bytes one by one, or reads them in pieces of each of the `sizes`, and appends the outcome to
+// `out`.
 fn put_few(sizes: &[u16], bytes: &[u8], out: &mut Reply) {
     if 1000 <= bytes.len() {
         return;
@@ -113,7 +115,7 @@ fn put_few(sizes: &[u16], bytes: &[u8], out: &mut Reply) {
     }
 }
 
-// Writes the item that was found at an offset, or the fault there.
+// Appends to `out` the record found at an offset, or the fault there.
 fn put_step(found: &Result<Step, CodeFault>, out: &mut Reply) {
     match found {
         Ok(Step::Lists(lists, end)) => {
@@ -127,7 +129,7 @@ fn put_step(found: &Result<Step, CodeFault>, out: &mut Reply) {
     }
 }
 
-// Says whether all entries of the lists are below a number.
+// Says whether all entries of `lists` are below `limit`.
 fn are_below(lists: &Rotations, limit: u16) -> bool
     ensures { IsTrue result → AreBelow limit lists.now }
 {
@@ -139,7 +141,7 @@ fn are_below(lists: &Rotations, limit: u16) -> bool
     true
 }
 
-// Appends the record of lists, if they have one.
+// Appends the record of the lists `given` to `bytes`, if they have one.
 fn put_written(given: &SomeLists, bytes: &mut Vec<u8>) {
     let limit = if 255 < given.lists.len() { 65535 } else { 255 };
     if are_below(&given.lists, limit) {
@@ -147,7 +149,7 @@ fn put_written(given: &SomeLists, bytes: &mut Vec<u8>) {
     }
 }
 
-// Says whether what was found at an offset is the record of lists, up to the offset `end`.
+// Says whether the record found at an offset is that of `lists`, up to the offset `end`.
 fn is_back(lists: &Rotations, end: usize, found: &Result<Step, CodeFault>) -> bool {
     match found {
         Ok(Step::Lists(read, next)) => {
@@ -157,7 +159,8 @@ fn is_back(lists: &Rotations, end: usize, found: &Result<Step, CodeFault>) -> bo
     }
 }
 
-// Puts the record of lists between the bytes of two texts, reads it back, and writes where it stands.
+// Writes the record of the lists `given` between the bytes of two arguments, reads it back, and appends its offsets
+// to `out`.
 fn write_and_read(given: &SomeLists, row: &Row<'_>, out: &mut Reply) {
     let mut bytes = bytes_of(out.alloc, row.arg(1));
     let at = bytes.len();
@@ -178,7 +181,7 @@ fn write_and_read(given: &SomeLists, row: &Row<'_>, out: &mut Reply) {
     }
 }
 
-// Writes the record of lists in hexadecimal, behind the bytes of a text.
+// Appends to `out` in hexadecimal the bytes of `text` and the record of the lists `given`.
 fn write(given: &SomeLists, text: &str, out: &mut Reply) {
     let mut bytes = bytes_of(out.alloc, text);
     put_written(given, &mut bytes);
@@ -188,7 +191,7 @@ fn write(given: &SomeLists, text: &str, out: &mut Reply) {
     }
 }
 
-/// Answers a row on records.
+/// Appends to `out` the answer to a row on records.
 pub fn answer(row: &Row<'_>, out: &mut Reply) {
     match row.call {
         "feed" => put_few(&[], &bytes_of(out.alloc, row.arg(0)), out),

@@ -1,4 +1,4 @@
-//! Texts of figures, printed and read. A line ends with `;` in a row and in an answer.
+//! Test rows on the texts of figures, printed and read. A line ends with `;` in a row and in an answer.
 ghost use Rattle.figure_text.specs.Text.{IsWhole};
 
 use figure_text::{Figure, GridJob, Item, TextFault, print_figure, print_witness};
@@ -15,7 +15,7 @@ use row_texts::rows::Row;
 use row_texts::text::behind;
 use row_texts::witnesses::witness_of;
 
-// Writes the text of a figure.
+// Appends the text of `figure` with this number to `out`.
 fn put_figure(number: u16, figure: &Figure, out: &mut Reply)
     requires { IsWhole figure.now }
 {
@@ -24,7 +24,8 @@ fn put_figure(number: u16, figure: &Figure, out: &mut Reply)
     put_bytes(&bytes, out);
 }
 
-// Writes the text of a drawing in a grid by the job that a row names, if there is a point for each list.
+// Appends to `out` the text of a straight-line drawing by the job that `row` names, if there is a point for each
+// list.
 fn put_grid(row: &Row<'_>, lists: Rotations, points: Points, out: &mut Reply) {
     if points.len() == lists.len() {
         let job = match row.arg(1) {
@@ -36,7 +37,7 @@ fn put_grid(row: &Row<'_>, lists: Rotations, points: Points, out: &mut Reply) {
     }
 }
 
-// Writes the text of a visibility drawing of some lists, if there is a bar for each.
+// Appends to `out` the text of a visibility drawing, if there is a bar for each of its lists.
 fn put_bars(row: &Row<'_>, out: &mut Reply) {
     if let Some(given) = lists_of(out.alloc, row.arg(1)) {
         let lists = given.lists;
@@ -46,7 +47,7 @@ fn put_bars(row: &Row<'_>, out: &mut Reply) {
     }
 }
 
-// Writes the text of a witness in the graph of a line.
+// Appends to `out` the text of a witness in the graph of a graph6 line.
 fn put_witness(row: &Row<'_>, out: &mut Reply) {
     match read_line(out.alloc, row.arg(1).as_bytes()) {
         Ok(graph) => {
@@ -65,14 +66,14 @@ fn put_witness(row: &Row<'_>, out: &mut Reply) {
     }
 }
 
-// Writes an item by its name, the number of a line, and the offset behind it.
+// Appends to `out` the `name` of an item, and the line and offset after it.
 fn put_place(name: &str, next: usize, line: u32, out: &mut Reply) {
     out.put(name);
     out.put_one(", line", u64::from(line));
     out.put_one(" at", next as u64);
 }
 
-// Writes the item that was found at the front of a text, or the fault there.
+// Appends to `out` the item found at the front of a text, or the fault there.
 fn put_item(found: &Result<Item, TextFault>, out: &mut Reply) {
     match found {
         Ok(Item::Drawn(_, next, line)) => put_place("figure", *next, *line, out),
@@ -85,7 +86,7 @@ fn put_item(found: &Result<Item, TextFault>, out: &mut Reply) {
     }
 }
 
-/// Answers a row on texts.
+/// Appends to `out` the answer to a row on texts.
 pub fn answer(row: &Row<'_>, out: &mut Reply) {
     match row.call {
         "grid" => {

@@ -1,8 +1,9 @@
-//! Lists that were filled by hand.
+//! Test cases of lists: items, points and whole lists come back as they were pushed.
 use map_lists::{Counts, EdgeList, Ends, ItemLists, PathList, Rotations, VertexId, VertexList};
 use pg_plane::{Ints, Point, Points};
 use std::test::Fail;
 
+// Tests that lists of counts, vertices and edges return the items that were pushed.
 #[test]
 fn items_come_back_by_value(rt: HostRuntime) -> Result<(), Fail> {
     let mut counts = Counts::new(rt.alloc());
@@ -22,6 +23,7 @@ fn items_come_back_by_value(rt: HostRuntime) -> Result<(), Fail> {
     Ok(())
 }
 
+// Tests that lists of points and of whole numbers return the items that were pushed.
 #[test]
 fn points_and_whole_numbers_come_back(rt: HostRuntime) -> Result<(), Fail> {
     let point = Point { x: 3, y: -4 };
@@ -34,6 +36,7 @@ fn points_and_whole_numbers_come_back(rt: HostRuntime) -> Result<(), Fail> {
     Ok(())
 }
 
+// Tests that lists of lists return the lists that were pushed, also an empty one.
 #[test]
 fn lists_come_back_whole(rt: HostRuntime) -> Result<(), Fail> {
     let mut paths = PathList::new(rt.alloc());
@@ -44,6 +47,7 @@ fn lists_come_back_whole(rt: HostRuntime) -> Result<(), Fail> {
     Ok(())
 }
 
+// Tests lists of lists that are opened, appended to, truncated and taken apart.
 #[test]
 fn lists_grow_by_entries(rt: HostRuntime) -> Result<(), Fail> {
     let mut lists = ItemLists::<u16>::new(rt.alloc());
@@ -63,6 +67,7 @@ fn lists_grow_by_entries(rt: HostRuntime) -> Result<(), Fail> {
     Ok(())
 }
 
+// Tests rotation lists made of their entries and ends, and emptied.
 #[test]
 fn parts_make_lists(rt: HostRuntime) -> Result<(), Fail> {
     let entries = vec![in rt.alloc(); 4, 1, 2]?;

@@ -1,6 +1,6 @@
-//! Types that a caller chooses: sources and sinks in memory and over std's readers and writers, and generic lists at
-//! the types of their items. Tests alone; all other calls are rows of `map_rows`, `drawing_rows`,
-//! `text_rows` and `graph_rows`.
+//! Test cases of types that a caller chooses: sources and sinks in memory and over std's readers and writers, and
+//! lists at several types of items. Tests alone; all other calls are rows of `map_rows`, `drawing_rows`, `text_rows`
+//! and `graph_rows`.
 #![tactic(auto)]
 
 #[cfg(test)]

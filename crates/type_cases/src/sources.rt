@@ -1,4 +1,4 @@
-//! Each call once on its happy path, and a failure in mid-stream of each source and sink.
+//! Test cases of sources and sinks: each call on its happy path, and a failure in mid-stream.
 use pg_io::{
     MemSink, MemSource, ReadAdapter, ReadFailed, Sink, Source, SureSink, SureSource, WriteAdapter,
     WriteFailed, put_all,
@@ -6,6 +6,7 @@ use pg_io::{
 use std::io;
 use std::test::Fail;
 
+// Tests that `MemSource` gives its bytes in pieces, and fails at the chosen call.
 #[test]
 fn source_in_memory(rt: HostRuntime) -> Result<(), Fail> {
     let failing = [2].to_vec(rt.alloc())?;
@@ -22,6 +23,7 @@ fn source_in_memory(rt: HostRuntime) -> Result<(), Fail> {
     Ok(())
 }
 
+// Tests that `MemSink` takes bytes in pieces, and fails at the chosen call and where no room is left.
 #[test]
 fn sink_in_memory(rt: HostRuntime) -> Result<(), Fail> {
     let mut sink = MemSink::with_room(rt.alloc(), 5, 2, &[3])?;
@@ -35,6 +37,7 @@ fn sink_in_memory(rt: HostRuntime) -> Result<(), Fail> {
     Ok(())
 }
 
+// Tests that `SureSource` and `SureSink` give and take all bytes.
 #[test]
 fn sure_ones(rt: HostRuntime) -> Result<(), Fail> {
     let mut source = SureSource::new(b"abc".to_vec(rt.alloc())?, 2);
@@ -55,6 +58,7 @@ fn sure_ones(rt: HostRuntime) -> Result<(), Fail> {
 struct SecondFails(u8);
 
 impl io::Read for SecondFails {
+    // Reads three bytes, or fails at the second call.
     fn read(&mut self, buf: &mut [u8]) -> io::Result<usize> {
         self.0 = self.0.saturating_add(1);
         if self.0 == 2 {
@@ -64,6 +68,7 @@ impl io::Read for SecondFails {
     }
 }
 
+// Tests that `ReadAdapter` passes on what its reader gives, and counts its faults.
 #[test]
 fn reader_of_std(rt: HostRuntime) {
     let mut source = ReadAdapter::new(SecondFails(0));
@@ -84,12 +89,14 @@ struct Narrow {
 }
 
 impl io::Write for Narrow {
+    // Takes bytes until three are held.
     fn write(&mut self, buf: &[u8]) -> io::Result<usize> {
         let taken = buf.len().min(3usize.saturating_sub(self.held));
         self.held = self.held.saturating_add(taken);
         Ok(taken)
     }
 
+    // Succeeds twice, and fails from then on.
     fn flush(&mut self) -> io::Result<()> {
         self.flushes = self.flushes.saturating_add(1);
         if self.flushes > 2 {
@@ -99,6 +106,7 @@ impl io::Write for Narrow {
     }
 }
 
+// Tests that `WriteAdapter` flushes after each write, and counts faults of writes and flushes.
 #[test]
 fn writer_of_std(rt: HostRuntime) {
     let mut sink = WriteAdapter::new(Narrow {

@@ -39,19 +39,19 @@ pub fn one_figure_verdict()
     ensures { OneFigureVerdict }
 {}
 
-/// Lists break at most one condition first, of those on biconnected maps.
+/// Of the conditions on biconnected maps, lists break at most one first.
 pub fn one_break()
     ensures { OneBreak }
 {}
 
-/// Lists break at most one condition first, of those on three-connected maps.
+/// Of the conditions on three-connected maps, lists break at most one first.
 pub fn one_convex_break()
     ensures { OneConvexBreak }
 {
     conn_parts::biconnected_maps::biconnected_break_nothing();
 }
 
-/// Lists break at most one condition first, of those on rectangular duals.
+/// Of the conditions on maps with rectangular duals, lists break at most one first.
 pub fn one_rect_break()
     ensures { OneRectBreak }
 {

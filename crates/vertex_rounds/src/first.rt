@@ -1,4 +1,4 @@
-//! The first dart that passes a test.
+//! The first dart of a map that passes a test, and the least neighbour of a vertex whose dart does.
 ghost use Rattle.std.specs.Prelude.{◌≡◌, ◌+◌, ◌<◌, ◌≤◌, ℕ, List, length, slice_index, Some};
 ghost use Rattle.map_theory.specs.Maps.{list_of};
 ghost use Rattle.map_lists.specs.declared.ids.DartId.{DartId as TheDart};
@@ -9,7 +9,7 @@ ghost use Rattle.vertex_rounds.specs.First.{Passes, Fails, FindsFirst, FindsLeas
 use crate::rounds::{is_below, later_dart};
 use half_edges::{DartId, HalfMap, VertexId};
 
-// The least neighbour so far whose dart passes, with that of `d` beside those before.
+// Returns the least of `best` and the head of `d`, if `d` passes the test. Only a dart to a lesser vertex is tested.
 fn better<F: Fn(DartId) -> bool>(
     map: &HalfMap,
     test: &F,
@@ -31,7 +31,7 @@ fn better<F: Fn(DartId) -> bool>(
     }
 }
 
-// The least neighbour of `v` whose dart passes; `first` is the dart to the first entry of its list.
+// Returns the least neighbour of `v` whose dart passes the test. `first` is the dart to the first entry of its list.
 fn least_round<F: Fn(DartId) -> bool>(
     map: &HalfMap,
     test: &F,
@@ -54,7 +54,7 @@ fn least_round<F: Fn(DartId) -> bool>(
     }
 }
 
-// The least neighbour of `v` whose dart from `v` passes.
+// Returns the least neighbour of `v` whose dart from `v` passes the test.
 fn least_of<F: Fn(DartId) -> bool>(map: &HalfMap, test: &F, v: VertexId) -> Option<VertexId>
     requires vertex { v.0 < length map.now.lists }
     requires test { (e : TheDart) → IsLive map.now e.0 → F.pre test.now e }
@@ -67,8 +67,8 @@ fn least_of<F: Fn(DartId) -> bool>(map: &HalfMap, test: &F, v: VertexId) -> Opti
     }
 }
 
-/// The least neighbour of `v` whose dart from `v` passes a test; None where none passes. Only those are
-/// tried that are below the least one so far.
+/// Returns the least neighbour of `v` whose dart from `v` passes the test, or None where none passes. Only darts to
+/// lesser vertices than the least one so far are tested.
 pub fn least_head<F: Fn(DartId) -> bool>(map: &HalfMap, v: VertexId, test: F) -> Option<VertexId>
     requires vertex { v.0 < length map.now.lists }
     requires test { (e : TheDart) → IsLive map.now e.0 → F.pre test e }
@@ -78,10 +78,10 @@ pub fn least_head<F: Fn(DartId) -> bool>(map: &HalfMap, v: VertexId, test: F) ->
     least_of(map, &test, v)
 }
 
-/// The first dart that passes a test, by its tail and then by its head, of those whose tail is `from` or
-/// greater; None where none passes.
+/// Returns the first dart that passes the test, by its tail and then by its head, of those whose tail is `from` or
+/// greater. None where none passes.
 ///
-/// Of the darts from one vertex only those are tried that are below the least one so far.
+/// Of the darts from one vertex only those are tested whose head is below the least one so far.
 pub fn first_dart_from<F: Fn(DartId) -> bool>(
     map: &HalfMap,
     from: u16,
@@ -99,7 +99,7 @@ pub fn first_dart_from<F: Fn(DartId) -> bool>(
     None
 }
 
-/// The first dart that passes a test, by its tail and then by its head; None where none passes.
+/// Returns the first dart that passes the test, by its tail and then by its head, or None where none passes.
 pub fn first_dart<F: Fn(DartId) -> bool>(map: &HalfMap, test: F) -> Option<(VertexId, VertexId)>
     requires test { (e : TheDart) → IsLive map.now e.0 → F.pre test e }
     ensures { FindsFirst map.now (F.post test) 0 result }

@@ -1,4 +1,4 @@
-//! Steps round a vertex, from the first entry of its list to the last.
+//! The next dart of a vertex in the order of its list, which ends at the last entry.
 ghost use Rattle.std.specs.Prelude.{◌≡◌, ◌+◌, ◌<◌, ◌↔◌, ℕ, length, IsTrue, Some, MatchOption};
 ghost use Rattle.map_theory.specs.Maps.{list_of, place_of};
 ghost use Rattle.half_edges.specs.Map.{IsHalfMap, IsLive, dart_at};
@@ -6,7 +6,7 @@ ghost use Rattle.vertex_rounds.specs.Rounds.{IsLaterDart, IsBelow};
 
 use half_edges::{DartId, HalfMap, VertexId};
 
-/// The dart from the same vertex to the next entry of its list, or None at the last entry.
+/// Returns the dart to the next entry of the list in which `d` is, or None where `d` is the last one.
 pub fn later_dart(map: &HalfMap, d: DartId) -> Option<DartId>
     requires live { IsLive map.now d.0 }
     ensures { (v u : ℕ) → dart_at map.now d.0 ≡ Some (v, u)
@@ -21,7 +21,7 @@ pub fn later_dart(map: &HalfMap, d: DartId) -> Option<DartId>
     }
 }
 
-/// Whether a vertex is below the least one so far, if there is one.
+/// Says whether `v` is less than the least vertex so far, if there is one.
 pub fn is_below(v: VertexId, least: Option<VertexId>) -> bool
     ensures { IsTrue result ↔ IsBelow v.0 least }
 {

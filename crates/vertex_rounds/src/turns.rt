@@ -1,4 +1,4 @@
-//! Whether just one dart of a vertex passes a test.
+//! Whether exactly one dart of a vertex passes a test: whether a list goes once round in some order.
 ghost use Rattle.std.specs.Prelude.{◌≡◌, ◌<◌, ◌||◌, length, Some};
 ghost use Rattle.map_lists.specs.declared.ids.DartId.{DartId as TheDart};
 ghost use Rattle.half_edges.specs.Map.{IsHalfMap, IsLive, dart_at, first_dart as dart_of_first};
@@ -7,14 +7,14 @@ ghost use Rattle.vertex_rounds.specs.First.{IsPassedOnce, TurnsOnce};
 use crate::rounds::later_dart;
 use half_edges::{DartId, HalfMap, VertexId};
 
-// Whether one of two holds.
+// Says whether `a` or `b` holds.
 fn either(a: bool, b: bool) -> bool
     ensures { result ≡ (a || b) }
 {
     a || b
 }
 
-// Whether just one dart from `v` passes; `first` is the dart to the first entry of its list.
+// Says whether exactly one dart from `v` passes the test. `first` is the dart to the first entry of its list.
 fn passes_once<F: Fn(DartId) -> bool>(map: &HalfMap, test: &F, v: VertexId, first: DartId) -> bool
     requires first { dart_at map.now first.0 ≡ Some (dart_of_first map.now.lists v.0) }
     requires test { (e : TheDart) → IsLive map.now e.0 → F.pre test.now e }
@@ -36,7 +36,7 @@ fn passes_once<F: Fn(DartId) -> bool>(map: &HalfMap, test: &F, v: VertexId, firs
     }
 }
 
-// Says whether just one dart from `v` passes, where there are two darts at least.
+// Says whether exactly one dart from `v` passes the test, or `v` has only the dart `first`.
 fn turns_round<F: Fn(DartId) -> bool>(map: &HalfMap, test: &F, v: VertexId, first: DartId) -> bool
     requires first { dart_at map.now first.0 ≡ Some (dart_of_first map.now.lists v.0) }
     requires test { (e : TheDart) → IsLive map.now e.0 → F.pre test.now e }
@@ -49,10 +49,10 @@ fn turns_round<F: Fn(DartId) -> bool>(map: &HalfMap, test: &F, v: VertexId, firs
     }
 }
 
-/// Whether just one dart from `v` passes a test, or `v` has fewer than two neighbours.
+/// Says whether exactly one dart from `v` passes the test, or `v` has fewer than two neighbours.
 ///
-/// Where the test says that an entry of the list of `v` does not come before the next one, cyclically, in
-/// some order, this is whether the list goes once round in that order.
+/// Where the test says that an entry of the list of `v` does not come before the next one, cyclically, in some order,
+/// this is whether the list goes once round in that order.
 pub fn turns_once<F: Fn(DartId) -> bool>(map: &HalfMap, v: VertexId, test: F) -> bool
     requires vertex { v.0 < length map.now.lists }
     requires test { (e : TheDart) → IsLive map.now e.0 → F.pre test e }

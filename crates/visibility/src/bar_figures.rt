@@ -1,5 +1,5 @@
-//! The answer of the job `bars` to a record, as a value: the visibility drawing of Tamassia and Tollis (1986), or
-//! the first condition of the job that the record breaks.
+//! The answer of the job `bars` to a record, as a value: a visibility drawing, or the first condition that the record
+//! breaks.
 
 mod draw;
 mod drawer;

@@ -1,4 +1,4 @@
-//! Where bars begin and end.
+//! The left and right ends of bars, as the least and the greatest column of their edges.
 ghost use Rattle.std.specs.Prelude.{◌≡◌, ◌<◌, ◌≤◌, ◌^◌, ◌⊎◌, ℕ, map, pos, length, slice_index, IfOk};
 ghost use Rattle.graph_search.specs.Arcs.{arcs_of};
 ghost use Rattle.visibility.specs.Ends.{IsLeastOf, IsGreatestOf, AreEnds};
@@ -8,7 +8,7 @@ use map_lists::ItemLists;
 use pg_plane::Ints;
 use std::alloc::{AllocError, Global};
 
-// A number as a coordinate.
+// Converts an unsigned number to a coordinate.
 pub(crate) fn coordinate(number: u32) -> i32
     requires { number < 2 ^ 31 }
     ensures { result ≡ pos number }
@@ -16,7 +16,7 @@ pub(crate) fn coordinate(number: u32) -> i32
     number as i32
 }
 
-// The lesser of two.
+// Returns the lesser of two numbers.
 pub(crate) fn lesser(a: u32, b: u32) -> u32
     ensures below { result ≤ a }
     ensures below_other { result ≤ b }
@@ -26,7 +26,7 @@ pub(crate) fn lesser(a: u32, b: u32) -> u32
     if a < b { a } else { b }
 }
 
-// The greater of two.
+// Returns the greater of two numbers.
 pub(crate) fn greater(a: u32, b: u32) -> u32
     ensures above { a ≤ result }
     ensures above_other { b ≤ result }
@@ -35,7 +35,7 @@ pub(crate) fn greater(a: u32, b: u32) -> u32
     if a < b { b } else { a }
 }
 
-// The least number of a row.
+// Returns the least number of `row`, which is not empty.
 fn least(row: &[u32]) -> u32
     requires { 0 < length row.now }
     ensures { IsLeastOf row.now result }
@@ -47,7 +47,7 @@ fn least(row: &[u32]) -> u32
     least
 }
 
-// The greatest number of a row.
+// Returns the greatest number of `row`, which is not empty.
 fn greatest(row: &[u32]) -> u32
     requires { 0 < length row.now }
     ensures { IsGreatestOf row.now result }
@@ -59,7 +59,8 @@ fn greatest(row: &[u32]) -> u32
     greatest
 }
 
-// The least number of each row.
+// Returns for each vertex the least column of its edges, where `rows` has their columns. It fails only when out of
+// memory.
 pub(crate) fn left_ends(alloc: Global, rows: &ItemLists<u32>) -> Result<Ints, AllocError>
     requires some { (v : ℕ) → v < length rows.now → 0 < length (arcs_of rows.now v) }
     requires low { (v i : ℕ) → slice_index (arcs_of rows.now v) i < 2 ^ 31 }
@@ -72,7 +73,8 @@ pub(crate) fn left_ends(alloc: Global, rows: &ItemLists<u32>) -> Result<Ints, Al
     Ok(ends)
 }
 
-// The greatest number of each row.
+// Returns for each vertex the greatest column of its edges, where `rows` has their columns. It fails only when out of
+// memory.
 pub(crate) fn right_ends(alloc: Global, rows: &ItemLists<u32>) -> Result<Ints, AllocError>
     requires some { (v : ℕ) → v < length rows.now → 0 < length (arcs_of rows.now v) }
     requires low { (v i : ℕ) → slice_index (arcs_of rows.now v) i < 2 ^ 31 }
@@ -85,7 +87,7 @@ pub(crate) fn right_ends(alloc: Global, rows: &ItemLists<u32>) -> Result<Ints, A
     Ok(ends)
 }
 
-// Converts the numbers into coordinates.
+// Converts `numbers` to coordinates. It fails only when out of memory.
 pub(crate) fn coordinates(alloc: Global, numbers: &Counts) -> Result<Ints, AllocError>
     requires low { (i : ℕ) → slice_index numbers.now i < 2 ^ 31 }
     ensures { IfOk result (λ made. made ≡ map pos numbers.now) }
@@ -97,7 +99,7 @@ pub(crate) fn coordinates(alloc: Global, numbers: &Counts) -> Result<Ints, Alloc
     Ok(made)
 }
 
-// Gives a table of ends `n` places.
+// Makes `table` `n` entries long: it is cut, or filled up with zeros. It fails only when out of memory.
 #[inline(always)]
 pub(crate) fn size_ends(table: &mut Vec<i32>, n: usize) -> Result<(), AllocError>
     ensures { IfOk result (λ _. length table.new.items ≡ n) }

@@ -1,4 +1,4 @@
-//! The bars of an st-order.
+//! The public calls that draw a map by bars: by an st-order, by its ranks, or for a dart.
 ghost use Rattle.std.specs.Prelude.{◌≡◌, ◌<◌, ◌-◌, ℕ, pos, length, Some, IfOk};
 ghost use Rattle.map_theory.specs.Maps.{IsPlane, component_count};
 ghost use Rattle.graph_search.specs.Cuts.{IsCutVertex};
@@ -14,9 +14,9 @@ use pg_plane::BarFigure;
 use st_orders::{StOrder, st_order};
 use std::alloc::{AllocError, Global};
 
-/// The visibility drawing of the ranks of an st-order of a connected map of genus zero with these lists: heights are
-/// ranks, columns are dual numbers, and each bar reaches from its least to its greatest column. It fails only when out
-/// of memory.
+/// Returns the visibility drawing by the ranks of an st-order of a connected map of genus zero with these `lists`.
+/// Heights are ranks, columns are dual numbers, and each bar reaches from its least to its greatest column. It fails
+/// only when out of memory.
 pub fn bars_of_ranks(
     alloc: Global,
     lists: &Rotations,
@@ -39,8 +39,8 @@ pub fn bars_of_ranks(
     Ok(BarFigure { y, x1, x2, column })
 }
 
-/// The visibility drawing of an st-order of a connected map of genus zero: heights are ranks, columns are
-/// dual numbers, and each bar reaches from its least to its greatest column. It fails only when out of
+/// Returns the visibility drawing by the st-order `order` of a connected map of genus zero. Heights are ranks,
+/// columns are dual numbers, and each bar reaches from its least to its greatest column. It fails only when out of
 /// memory.
 pub fn bars_of_order(
     alloc: Global,
@@ -59,8 +59,8 @@ pub fn bars_of_order(
     Ok(figure)
 }
 
-/// A visibility drawing of a connected map of genus zero without cut vertices: that of an st-order for a
-/// dart, over a width of one less than the number of faces. It fails only when out of memory.
+/// Returns a visibility drawing of a connected map of genus zero without cut vertices, by an st-order for the dart
+/// `st`. Its width is one less than the number of faces. It fails only when out of memory.
 pub fn bars(alloc: Global, map: &HalfMap, st: DartId) -> Result<BarFigure, AllocError>
     requires live { IsLive map.now st.0 }
     requires plane { IsPlane map.now.lists }

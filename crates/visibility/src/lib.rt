@@ -1,4 +1,4 @@
-//! Visibility drawings of plane maps: level bars for vertices, and upright segments for edges.
+//! Visibility drawings of plane maps: horizontal bars for vertices, and vertical segments for edges.
 #![tactic(auto)]
 
 pub mod bar_figures;

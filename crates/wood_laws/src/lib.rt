@@ -1,4 +1,4 @@
-//! Laws of Schnyder woods: the wood of an order, nested regions, and an order of a wood.
+//! Laws of Schnyder woods (realizers): the wood of a canonical order, an order of a wood, and nested regions.
 #![tactic(auto)]
 
 pub mod order_woods;

@@ -1,4 +1,4 @@
-//! Schnyder's wood (1990) of a canonical order of a triangulation.
+//! Law: the parents of a canonical order are a Schnyder wood (1990).
 
 ghost use Rattle.wood_laws.specs.Woods.{WoodOfOrder};
 

@@ -1,6 +1,5 @@
-//! Each of Schnyder's woods (1990) of a triangulation is the wood of a canonical order, and so the laws of regions
-//! are laws of each wood. Each law is the contract of a function that does nothing but call those on which it
-//! stands.
+//! Laws: each Schnyder wood (1990) of a triangulation is the wood of a canonical order, and so the laws of regions
+//! hold of each wood. Each law is the contract of a function that does nothing but call those on which it stands.
 
 ghost use Rattle.wood_laws.specs.WoodOrdersLaws.{ArrangedIsOrder, CoordinatesInWood, InsideOfWood, NestedInWood, OrderOfWood, ParentsOfArranged, SomeArranged};
 
@@ -10,17 +9,19 @@ pub fn arranged_is_order()
     ensures { ArrangedIsOrder }
 {}
 
-/// For each wood there is such a list.
+/// For each Schnyder wood the vertices can be listed so that each inner vertex has its parents of colours one and two
+/// before it and that of colour three after it.
 pub fn some_arranged()
     ensures { SomeArranged }
 {}
 
-/// Such a list has the wood as the wood of its run.
+/// A list of the vertices in which a Schnyder wood's parents stand so, two before and one after, has exactly these
+/// parents as the wood of its order.
 pub fn parents_of_arranged()
     ensures { ParentsOfArranged }
 {}
 
-/// So each wood is the wood of a canonical order.
+/// Each Schnyder wood is the wood of a canonical order.
 pub fn order_of_wood()
     ensures { OrderOfWood }
 {
@@ -39,7 +40,7 @@ pub fn inside_of_wood()
     crate::wood_regions::inside_is_known();
 }
 
-/// Where an inner vertex lies in a region of another, its region is part of that.
+/// Where an inner vertex lies in a region of another, its own region of that colour is part of that region.
 pub fn nested_in_wood()
     ensures { NestedInWood }
 {

@@ -1,5 +1,5 @@
-//! Schnyder's regions (1990) of a triangulation with the wood of a canonical order. Region c of an inner vertex
-//! is bounded by its paths of the two other colours and the outer edge between their roots. Each law is the
+//! Laws of Schnyder's regions (1990): nested regions, and coordinates by regions and paths. Region c of an inner
+//! vertex is bounded by its paths of the two other colours and the outer edge between their roots. Each law is the
 //! contract of a function that does nothing.
 
 ghost use Rattle.wood_laws.specs.WoodRegionsLaws.{InsideIsKnown, RegionsNested, DrawnAtCoordinates};
@@ -10,7 +10,7 @@ pub fn inside_is_known()
     ensures { InsideIsKnown }
 {}
 
-/// Where an inner vertex lies in a region of another, its region is part of that.
+/// Where an inner vertex lies in a region of another, its own region of that colour is part of that region.
 pub fn regions_nested()
     ensures { RegionsNested }
 {}

@@ -1,4 +1,5 @@
-//! Schnyder woods over runs: the colours of the edges that a run puts on, and the regions.
+//! Theory of Schnyder woods (realizers) over construction sequences: the colours of the edges that a step adds, and
+//! the regions.
 #![tactic(auto)]
 
 pub mod run_regions;

@@ -5,7 +5,7 @@
 
 ghost use Rattle.wood_runs.specs.Laws.{RegionsNested};
 
-/// The regions of a vertex in a region of another are part of that.
+/// Where a vertex lies in a region of another, its own region of that colour is part of that region.
 pub fn regions_nested()
     ensures { RegionsNested }
 {}

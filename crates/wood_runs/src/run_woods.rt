@@ -4,8 +4,8 @@
 
 ghost use Rattle.wood_runs.specs.Rules.{CornersOrdered};
 
-/// Counterclockwise round a vertex stand out one, in three, out two, in one, out three, in two, as each of its
-/// corners shows.
+/// At each corner of a vertex the edges follow the order of a Schnyder wood. Counterclockwise it has its parent of
+/// colour one, children of colour three, parent two, children one, parent three, children two.
 pub fn corners_ordered()
     ensures { CornersOrdered }
 {}

@@ -1,4 +1,4 @@
-//! The dual graph of a map with ranks.
+//! The dual graph of a half-edge map with ranks: for each face those on the right of its upward edges.
 ghost use Rattle.std.specs.Prelude.{◌≡◌, ◌<◌, ◌^◌, ◌↔◌, ℕ, length, slice_index, Some, IsTrue, IfOk};
 ghost use Rattle.half_edges.specs.Map.{IsHalfMap, IsLive, dart_at};
 ghost use Rattle.euler_faces.specs.FaceWalks.{AreFaces, walk_at, ids_of};
@@ -9,7 +9,7 @@ use half_edges::{Counts, DartId, FaceId, HalfMap};
 use map_lists::ItemLists;
 use std::alloc::{AllocError, Global};
 
-/// A map with ranks of its vertices.
+/// A half-edge map with ranks of its vertices.
 #[derive(Clone, Copy)]
 pub(crate) struct RankedMap<'a> {
     pub(crate) map: &'a HalfMap,
@@ -18,7 +18,7 @@ pub(crate) struct RankedMap<'a> {
 }
 
 impl RankedMap<'_> {
-    /// Whether a dart goes upwards.
+    /// Says whether dart `d` leads to a vertex of greater rank.
     pub(crate) fn goes_up(&self, d: DartId) -> bool
         requires { IsLive self.now.map.now d.0 }
         ensures { (u v : ℕ) → dart_at self.now.map.now d.0 ≡ Some (u, v) → (IsTrue result ↔ (slice_index self.now.rank.now u < slice_index self.now.rank.now v)) }
@@ -27,7 +27,7 @@ impl RankedMap<'_> {
         self.rank.get(self.map.tail(d).0 as usize) < self.rank.get(self.map.head(d).0 as usize)
     }
 
-    // Puts the right faces of the upward darts of a walk behind others.
+    // Appends to `entries` the right faces of the upward darts on the walk of face `f`.
     fn put_walk(&self, faces: &Faces, f: u32, entries: &mut Vec<u32>) -> Result<(), AllocError>
         requires faces { AreFaces self.now.map.now faces.now }
         requires face { f < length faces.now }
@@ -44,7 +44,8 @@ impl RankedMap<'_> {
     }
 }
 
-/// For each face the faces on the right of the upward edges on its left. It fails only when out of memory.
+/// Returns for each face the faces on the right of the upward edges that it has on its left; `rank` has the ranks. It
+/// fails only when out of memory.
 pub fn face_arcs(
     alloc: Global,
     map: &HalfMap,

@@ -1,4 +1,4 @@
-//! The faces of a map, numbered by walks over the numbers of its darts, with the arcs between them.
+//! Numbers the faces of a map by the numbers of its darts, with no half-edge map, and lists the dual arcs between them.
 ghost use Rattle.std.specs.Prelude.{◌≡◌, ◌<◌, ◌+◌, ◌==◌, ◌||◌, if◌then◌else◌, ◌∷◌, ◌^◌, ℕ, [], false, length, map, slice_index, slice_index_or, OnOk, IfOk};
 ghost use Rattle.classes.specs.Classes.{same_class};
 ghost use Rattle.classes.proofs.Marks.{KeepsMarks};
@@ -15,7 +15,7 @@ use std::alloc::{AllocError, Global};
 // Stands in place of the face of a dart that was not met yet.
 const NO_FACE: u32 = u32::MAX;
 
-// A map by its lists one behind another and the twins of its darts, with ranks of its vertices.
+// A map by its concatenated lists and the twins of its darts, with ranks of its vertices.
 #[derive(Clone, Copy)]
 struct RankedDarts<'a> {
     entries: &'a [u16],
@@ -26,7 +26,7 @@ struct RankedDarts<'a> {
     ghost ranks: { length rank.now ≡ length ends.now },
 }
 
-// Where list `v` begins.
+// Returns the index at which list `v` begins; `ends` has the ends of the concatenated lists.
 fn start_of(ends: &[usize], v: usize) -> usize
     requires { v < length ends.now }
     ensures { result ≡ slice_index_or (0 ∷ ends.now) v 0 }
@@ -34,7 +34,7 @@ fn start_of(ends: &[usize], v: usize) -> usize
     if v == 0 { 0 } else { ends[v - 1] }
 }
 
-// The number of the dart after number `d` in list `v`, cyclically.
+// Returns the number of the dart after dart `d` in list `v`, cyclically; `ends` has the ends of the lists.
 fn after(ends: &[usize], v: usize, d: usize) -> usize
     requires v_in { v < length ends.now }
     requires fits { d < 4294967295 }
@@ -47,7 +47,8 @@ fn after(ends: &[usize], v: usize, d: usize) -> usize
     }
 }
 
-// Puts the twin of a dart behind others, where the dart goes upwards.
+// Appends `twin` to `arcs`, where its dart, from the first to the second vertex of `dart`, leads to a vertex of greater
+// rank.
 fn put_upward(
     rank: &[u16],
     dart: (u16, u16),
@@ -70,7 +71,8 @@ impl RankedDarts<'_> {
         ensures { AreDarts self.now.entries.now self.now.ends.now self.now.twins.now }
     {}
 
-    // Writes the number `f` at the darts of the face of `start`, and puts the twins of its upward darts behind others.
+    // Writes the number `f` into `of` at the darts of the face of `start`, and appends the twins of its upward darts to
+    // `arcs`.
     fn walk_face(
         &self,
         of: &mut [u32],
@@ -100,8 +102,8 @@ impl RankedDarts<'_> {
         Ok(())
     }
 
-    // Numbers all faces by their least darts, those that have no face yet where all before have theirs, and puts the twins
-    // of the upward darts of each behind those of the faces before.
+    // Numbers all faces in `of`, in the order of their least darts. Appends the twins of the upward darts of each to
+    // `arcs`, and where these end to `arc_ends`.
     fn number_all(
         &self,
         of: &mut [u32],
@@ -127,7 +129,7 @@ impl RankedDarts<'_> {
     }
 }
 
-// Puts the face of each dart in its place.
+// Replaces each dart of `arcs` by the number of its face, which `of` has.
 fn lead_to_faces(arcs: &mut [u32], of: &[u32])
     requires within { (i : ℕ) → i < length arcs.old → slice_index arcs.old i < length of.now }
     ensures { arcs.new ≡ map (λ d. slice_index of.now d) arcs.old }
@@ -137,7 +139,8 @@ fn lead_to_faces(arcs: &mut [u32], of: &[u32])
     }
 }
 
-/// The faces of a map with ranks. The tables keep their memory from one map to the next.
+/// The numbered faces of a map with ranks, and the dual arcs between them. The tables keep their memory from one map to
+/// the next.
 #[derive(Drop)]
 pub struct FaceTables {
     /// For each dart, by its number, the number of its face.
@@ -147,7 +150,7 @@ pub struct FaceTables {
 }
 
 impl FaceTables {
-    /// Tables of no map. They take no memory.
+    /// Returns tables of no map. They take no memory.
     pub fn new(alloc: Global) -> FaceTables {
         FaceTables {
             of: Vec::new(alloc),
@@ -156,9 +159,9 @@ impl FaceTables {
     }
 }
 
-/// Numbers the faces of a map, given by its lists one behind another and by the twins of its darts, and leads from
-/// each to those on the right of its upward edges. It goes on in the memory of other tables, and fails only when out
-/// of memory. The time is linear in the darts.
+/// Numbers the faces of a map, and lists for each those on the right of its upward edges. The map is given by its
+/// concatenated lists, `entries` with `ends`, by the `twins` of its darts, and by ranks. It goes on in the memory of
+/// other tables, and fails only when out of memory. The time is linear in the darts.
 pub fn number_faces(
     tables: FaceTables,
     entries: &[u16],

@@ -1,4 +1,4 @@
-//! The dual numbers of an st-order.
+//! The public calls that number the dual of an st-order, by longest paths over the faces from left to right.
 ghost use Rattle.std.specs.Prelude.{◌≡◌, ◌<◌, ◌^◌, ℕ, length, slice_index, Some, IfOk, MatchResult};
 ghost use Rattle.map_theory.specs.Maps.{IsPlane, component_count};
 ghost use Rattle.half_edges.specs.Map.{IsHalfMap, IsLive, dart_at};
@@ -19,7 +19,7 @@ use map_lists::ItemLists;
 use st_orders::StOrder;
 use std::alloc::{AllocError, Global};
 
-/// For each vertex the dual numbers of its edges, in the order of its list, by the ranks of an st-order; by their
+/// Returns for each vertex the dual numbers of its edges, in the order of its list, by the ranks of an st-order. By its
 /// clause the columns that `edge_columns` makes of them are the dual numbers. It fails only when out of memory.
 pub fn rank_rows(
     alloc: Global,
@@ -45,7 +45,8 @@ pub fn rank_rows(
     Ok(rows)
 }
 
-/// Like [`rank_rows`], but takes an st-order instead of its ranks. It fails only when out of memory.
+/// Returns the rows that [`rank_rows`] gives, by the st-order `order` instead of its ranks. It fails only when out of
+/// memory.
 pub fn dual_rows(
     alloc: Global,
     map: &HalfMap,
@@ -62,7 +63,7 @@ pub fn dual_rows(
     Ok(rows)
 }
 
-/// The dual numbers of an st-order of a connected map of genus zero, for each edge in the order of edges. It
+/// Returns the dual numbers of an st-order of a connected map of genus zero, for each edge in the order of edges. It
 /// fails only when out of memory. The time is linear in the edges, and so is the memory.
 pub fn dual_numbers(
     alloc: Global,

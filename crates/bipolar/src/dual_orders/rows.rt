@@ -1,4 +1,4 @@
-//! The numbers of left faces, round each vertex.
+//! The numbers of the faces on the left of the edges, listed round each vertex.
 ghost use Rattle.std.specs.Prelude.{◌≡◌, ◌<◌, ℕ, length, slice_index, Some, IfOk};
 ghost use Rattle.map_theory.specs.Maps.{list_of};
 ghost use Rattle.half_edges.specs.Map.{IsLive, dart_at, first_dart};
@@ -23,7 +23,7 @@ pub(crate) struct NumberedMap<'a> {
 }
 
 impl NumberedMap<'_> {
-    // Returns the number of a dart's face.
+    // Returns the number of the face of dart `d`.
     fn face_number(&self, d: DartId) -> u32
         requires faces { AreFaces self.now.map.now self.now.faces.now }
         requires live { IsLive self.now.map.now d.0 }
@@ -51,7 +51,7 @@ impl NumberedMap<'_> {
         }
     }
 
-    // Puts the numbers of the edges of `v` behind others.
+    // Appends to `entries` the left numbers of the edges of `v`, in the order of its list.
     fn put_vertex(&self, v: VertexId, entries: &mut Vec<u32>) -> Result<(), AllocError>
         requires faces { AreFaces self.now.map.now self.now.faces.now }
         requires vertex { v.0 < length self.now.map.now.lists }

@@ -1,4 +1,4 @@
-//! A record as a biconnected map.
+//! The calls that make the biconnected map of a record, with the depth-first search that shows it to be one.
 ghost use Rattle.std.specs.Prelude.{◌≡◌, ◌<◌, length, slice_index, IfOk, IfErr};
 ghost use Rattle.map_theory.specs.Maps.{IsSimpleMap, list_of};
 ghost use Rattle.refusals.specs.Conditions.{IfRefused};
@@ -24,7 +24,7 @@ pub struct SearchedMap {
     pub low: Vec<u16>,
 }
 
-// A search of lists from vertex 0, to the first of its list next.
+// Searches `lists` from vertex 0, along the first dart of its list.
 fn first_search(alloc: Global, lists: &Rotations) -> Result<Forest, AllocError>
     requires simple { IsSimpleMap lists.now }
     requires some { 0 < length lists.now }
@@ -39,8 +39,8 @@ fn first_search(alloc: Global, lists: &Rotations) -> Result<Forest, AllocError>
     }
 }
 
-/// The map of a record with these lists, which are from 1 to 4095, where it has genus zero and at least
-/// `least` vertices, is connected and has no cut vertex, with a search of the lists.
+/// Returns the map of a record with these lists, which are from 1 to 4095, with a search of the lists. The map has
+/// genus zero and at least `least` vertices, is connected and has no cut vertex.
 ///
 /// `Err` names the first condition that the lists break, in the order of [`Refusal`], with the least
 /// vertices. Or there was not enough memory. The time is linear in the entries.
@@ -64,7 +64,7 @@ pub fn searched_map(alloc: Global, lists: &Rotations, least: u16) -> Result<Sear
     }
 }
 
-/// Like [`searched_map`], but returns the map without the search.
+/// Returns the map that [`searched_map`] gives, without the search.
 pub fn biconnected_map(alloc: Global, lists: &Rotations, least: u16) -> Result<HalfMap, Unserved>
     requires some_list { 0 < length lists.now }
     ensures lists { IfOk result (λ map. map.lists ≡ lists.now) }

@@ -1,4 +1,4 @@
-//! Components, cut vertices and separating pairs of graphs.
+//! The public calls for components, the least cut vertex and the least separating pair of a bare graph.
 ghost use Rattle.std.specs.Prelude.{◌≡◌, ◌<◌, ℕ, length, MatchOption, IfOk};
 ghost use Rattle.conn_parts.specs.Parts.{ArePartsOf};
 ghost use Rattle.graph_search.specs.Cuts.{IsCutVertex, IsLeastCutVertex, IsSeparatingPair, IsLeastPair};
@@ -11,7 +11,7 @@ use graph6_text::Graph;
 use map_lists::VertexId;
 use std::alloc::{AllocError, Global};
 
-/// The components of a graph with a vertex, numbered by their least vertices. It fails only when out of
+/// Returns the components of `graph`, which has a vertex, numbered by their least vertices. It fails only when out of
 /// memory.
 pub fn graph_components(alloc: Global, graph: &Graph) -> Result<Parts, AllocError>
     requires { 0 < graph.now.n }
@@ -22,7 +22,7 @@ pub fn graph_components(alloc: Global, graph: &Graph) -> Result<Parts, AllocErro
     list_components(alloc, &lists)
 }
 
-/// The least cut vertex of a graph with a vertex, or None exactly where there is none. It fails only when
+/// Returns the least cut vertex of `graph`, which has a vertex, or None exactly where there is none. It fails only when
 /// out of memory.
 pub fn graph_cut_vertex(alloc: Global, graph: &Graph) -> Result<Option<VertexId>, AllocError>
     requires { 0 < graph.now.n }
@@ -36,8 +36,8 @@ pub fn graph_cut_vertex(alloc: Global, graph: &Graph) -> Result<Option<VertexId>
     }
 }
 
-/// The least separating pair of a graph with a vertex, by its first vertex and then by its second, or None
-/// exactly where there is none. It fails only when out of memory.
+/// Returns the least separating pair of `graph`, which has a vertex, by its first vertex and then by its second. None
+/// is returned exactly where there is none. It fails only when out of memory.
 pub fn graph_separating_pair(
     alloc: Global,
     graph: &Graph,

@@ -1,4 +1,4 @@
-//! Graphs as lists.
+//! Bare graphs as adjacency lists, in rising order.
 ghost use Rattle.std.specs.Prelude.{◌≡◌, ◌<◌, ◌++◌, ◌∷◌, [], List, ℕ, length, IfOk};
 ghost use Rattle.std.specs.List.{filter};
 ghost use Rattle.graph6_text.specs.Graphs.{has_edge};
@@ -8,7 +8,7 @@ use graph6_text::Graph;
 use map_lists::{ItemLists, Rotations, VertexId};
 use std::alloc::{AllocError, Global};
 
-// Appends u to the last list, if an edge joins it to v.
+// Appends `u` to the last of `lists`, if an edge of `graph` joins it to `v`.
 fn append_joined(
     lists: &mut ItemLists<u16>,
     graph: &Graph,
@@ -25,7 +25,7 @@ fn append_joined(
     }
 }
 
-// Appends the list of v.
+// Appends to `lists` the list of the neighbours of `v` in `graph`.
 fn push_neighbours(lists: &mut ItemLists<u16>, graph: &Graph, v: u16) -> Result<(), AllocError>
     ensures { IfOk result (λ _. lists.new ≡ lists.old ++ neighbours_below graph.now v graph.now.n ∷ []) }
 {
@@ -36,7 +36,7 @@ fn push_neighbours(lists: &mut ItemLists<u16>, graph: &Graph, v: u16) -> Result<
     Ok(())
 }
 
-/// For each vertex of a graph its neighbours, in rising order. It fails only when out of memory.
+/// Returns for each vertex of `graph` its neighbours, in rising order. It fails only when out of memory.
 pub fn graph_lists(alloc: Global, graph: &Graph) -> Result<Rotations, AllocError>
     ensures { IfOk result (λ lists. lists ≡ lists_of_graph graph.now) }
 {

@@ -1,4 +1,5 @@
-//! A record as a three-connected map.
+//! The calls that make the three-connected map of a record, from its biconnected map and the search for separating
+//! pairs.
 ghost use Rattle.std.specs.Prelude.{◌≡◌, ◌<◌, length, IfOk, IfErr};
 ghost use Rattle.map_theory.specs.Maps.{IsPlane};
 ghost use Rattle.convex_peeling.specs.Polyhedral.{IsThreeConnected};
@@ -22,8 +23,8 @@ pub struct ConvexMap {
     pub faces: Faces,
 }
 
-/// The map of a record with these lists, which are from 1 to 4095, where it is three-connected and has genus
-/// zero, with its faces.
+/// Returns the map of a record with these `lists`, which are from 1 to 4095, with its faces. The map is three-connected
+/// and has genus zero.
 ///
 /// `Err` names the first condition that the lists break, in the order of [`Refusal`], with the least
 /// vertices. Or there was not enough memory. The time and the memory are linear in the entries.
@@ -43,7 +44,7 @@ pub fn convex_map_with_faces(alloc: Global, lists: &Rotations) -> Result<ConvexM
     }
 }
 
-/// The map that [`convex_map_with_faces`] gives, without its faces.
+/// Returns the map that [`convex_map_with_faces`] gives, without its faces.
 pub fn convex_map(alloc: Global, lists: &Rotations) -> Result<HalfMap, Unserved>
     requires some_list { 0 < length lists.now }
     ensures lists { IfOk result (λ map. map.lists ≡ lists.now) }

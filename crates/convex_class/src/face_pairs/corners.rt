@@ -1,4 +1,4 @@
-//! Where a face has two places in common with another one, from the face.
+//! Faces that meet a given face twice, found from that face: across its edges and at its vertices.
 ghost use Rattle.std.specs.Prelude.{◌≡◌, ◌≢◌, ◌<◌, ◌≤◌, ℕ, length, slice_index, Contains, IfOk};
 ghost use Rattle.half_edges.specs.Map.{IsLive};
 ghost use Rattle.euler_faces.specs.FaceWalks.{ids_of, walk_at};
@@ -10,7 +10,7 @@ use crate::face_pairs::uncut::UncutMap;
 use half_edges::DartId;
 use std::alloc::AllocError;
 
-/// A face, by its number, and the darts of its walk.
+/// A face by its number `f`, and the darts of its walk.
 #[derive(Clone, Copy)]
 pub(crate) struct WalkedFace<'a> {
     pub(crate) uncut: UncutMap<'a>,
@@ -20,7 +20,8 @@ pub(crate) struct WalkedFace<'a> {
     ghost walked: { ids_of walk.now ≡ walk_at uncut.faces.now f },
 }
 
-// A vertex of a face, where others may meet it, and the two faces across its darts there, which are noted already.
+// A vertex of a face, as the meeting `place`. The faces `x` and `y` across the two darts of the walk there are noted
+// already.
 #[derive(Clone, Copy)]
 struct Spot<'a> {
     uncut: UncutMap<'a>,
@@ -29,7 +30,7 @@ struct Spot<'a> {
     y: u32,
 }
 
-// Returns the dart of a walk behind place `i`.
+// Returns the dart of the cyclic `walk` after index `i`.
 fn behind(walk: &[DartId], i: usize) -> DartId
     requires { i < length walk.now }
     ensures { result.0 ≡ after_place (ids_of walk.now) i }
@@ -42,7 +43,7 @@ fn behind(walk: &[DartId], i: usize) -> DartId
 }
 
 impl UncutMap<'_> {
-    // Returns the number of the face across a dart.
+    // Returns the number of the face across dart `d`, that of its twin.
     fn across(&self, d: DartId) -> u32
         requires live { IsLive self.now.map.now d.0 }
         ensures within { result < length self.now.faces.now }
@@ -56,8 +57,8 @@ impl UncutMap<'_> {
 }
 
 impl Spot<'_> {
-    // Notes that the faces of the darts of a row meet the face of the spot there, where they are neither that one nor across
-    // its darts.
+    // Notes in `met` that the faces of the darts of `ring` meet the face of the spot there. That face and those across
+    // its darts are left out. Returns the least of `best` and the vertices of second meetings.
     fn meet_round(&self, ring: &[DartId], met: &mut [Meeting], mut best: u16) -> u16
         requires ring { (i : ℕ) → i < length (ids_of ring.now) → IsLive self.now.uncut.map.now (slice_index (ids_of ring.now) i) }
         requires met { length met.old ≡ length self.now.uncut.faces.now }
@@ -80,8 +81,9 @@ impl Spot<'_> {
 }
 
 impl WalkedFace<'_> {
-    // Notes the faces that meet this one at a vertex of its walk alone, where that has no more darts than the face; the
-    // faces across the two darts there are noted already. `ring` is memory for the darts of a vertex.
+    // Notes in `met` the faces that meet this one at single vertices with no more darts than it. Returns the least of
+    // `best` and the vertices of second meetings. Faces across edges are noted already; `ring` is memory for the darts
+    // of a vertex.
     fn meet_corners(
         &self,
         ring: &mut Vec<DartId>,
@@ -113,9 +115,9 @@ impl WalkedFace<'_> {
         Ok(best)
     }
 
-    // Returns the least of `best` and the vertices of the face at which one meets it twice: across its darts, or at vertices
-    // with no more darts than the face. The vertex between two darts with one face across counts for neither. `ring` is
-    // memory for the darts of a vertex, and `met` tells where each face met this one first.
+    // Returns the least of `best` and the vertices of this face at which another face meets it twice: across its darts,
+    // or at vertices with no more darts than it. The vertex between two darts with one face across counts for neither.
+    // `ring` is memory for the darts of a vertex, and `met` tells where each face met this one first.
     pub(crate) fn least(
         &self,
         ring: &mut Vec<DartId>,

@@ -1,4 +1,4 @@
-//! A vertex that is at most the least of all separating pairs.
+//! A lower bound for all separating pairs: a vertex such that no pair has a lesser one.
 ghost use Rattle.std.specs.Prelude.{◌≡◌, ◌<◌, ◌≤◌, ℕ, length, IfOk};
 ghost use Rattle.graph_search.specs.Cuts.{IsSeparatingPair};
 ghost use Rattle.convex_class.specs.Clear.{IsClearVertex, IsClearFace};
@@ -11,7 +11,8 @@ use half_edges::{DartId, FaceId, VertexId};
 use std::alloc::{AllocError, Global};
 
 impl UncutMap<'_> {
-    // Returns the least answer over all vertices. `ring` and `marks` are memory for the darts of a vertex, and for its marks.
+    // Returns the least vertex that some vertex finds by its own short faces, or the number of vertices. `ring` is
+    // memory for the darts of a vertex, and `marks` for its marks.
     fn least_at_vertices(
         &self,
         ring: &mut Vec<DartId>,
@@ -34,8 +35,8 @@ impl UncutMap<'_> {
         Ok(best)
     }
 
-    // Returns the least of `best` and the answers over all faces. `ring` is memory for the darts of a vertex, and `met` for
-    // where faces meet.
+    // Returns the least of `best` and the vertices that some face finds by its short vertices. `ring` is memory for the
+    // darts of a vertex, and `met` for where faces meet.
     fn least_at_faces(
         &self,
         ring: &mut Vec<DartId>,
@@ -58,9 +59,9 @@ impl UncutMap<'_> {
         Ok(best)
     }
 
-    // Finds a vertex before which none is in a separating pair: the least one of two vertices that have two faces in common, but
-    // along an edge, or else the number of vertices. Each vertex looks at the faces that have no more darts, and each face
-    // at the vertices, so that the time is linear.
+    // Returns a vertex before which none is in a separating pair: the least of two vertices with two faces in common,
+    // but along an edge, or else the number of vertices. Each vertex looks at the faces that have no more darts, and
+    // each face at the vertices, so that the time is linear.
     pub(crate) fn least_paired(&self, alloc: Global) -> Result<u16, AllocError>
         ensures { IfOk result (λ least. (u v : ℕ) → IsSeparatingPair self.now.map.now.lists u v → least ≤ u) }
     {

@@ -1,4 +1,5 @@
-//! Marks on the vertices that the faces of a vertex pass.
+//! Marks, for one vertex at a time, on the greater vertices that its faces pass; one marked twice makes a separating
+//! pair.
 ghost use Rattle.std.specs.Prelude.{◌≡◌, ◌⊎◌, ◌≢◌, ◌+◌, ◌<◌, ◌≤◌, ℕ, length, Some, Contains};
 ghost use Rattle.half_edges.specs.Map.{IsLive, dart_at};
 ghost use Rattle.euler_faces.specs.FaceWalks.{IsFaceWalk, ids_of};
@@ -8,7 +9,8 @@ ghost use Rattle.convex_class.specs.Passing.{AreMarksOf, IsUnused, IsMarked};
 use crate::face_pairs::uncut::UncutMap;
 use half_edges::{DartId, VertexId};
 
-// Marks w by u, and answers the lesser of `best` and w where w had that mark already.
+// Sets the mark of `w` in `marks` to `u`, and returns the lesser of `best` and `w` where it had that mark already, else
+// `best`.
 fn mark(marks: &mut [u16], u: u16, w: u16, best: u16) -> u16
     requires { w < length marks.old }
     ensures { IsMarked u w marks.old best marks.new result }
@@ -26,7 +28,8 @@ pub(crate) struct AtVertex<'a> {
 }
 
 impl AtVertex<'_> {
-    // Marks the tail of a dart, where it is greater than the vertex and the dart does not lead to that.
+    // Marks the tail of dart `d` by this vertex in `marks`, where it is greater than this vertex and `d` does not lead
+    // to that. Returns the lesser of `best` and a tail that was marked so already.
     fn mark_tail(&self, d: DartId, marks: &mut [u16], best: u16) -> u16
         requires live { IsLive self.now.uncut.map.now d.0 }
         requires marks { length marks.old ≡ length self.now.uncut.map.now.lists }
@@ -43,7 +46,8 @@ impl AtVertex<'_> {
         }
     }
 
-    // Marks what the face of one of the vertex's darts passes.
+    // Marks by this vertex what `walk`, that of the face of one of its darts, passes. Returns the least of `best` and
+    // the vertices that were marked so already.
     pub(crate) fn mark_walk(&self, walk: &[DartId], marks: &mut [u16], mut best: u16) -> u16
         requires walk { IsFaceWalk self.now.uncut.map.now (ids_of walk.now) }
         requires marks { length marks.old ≡ length self.now.uncut.map.now.lists }

@@ -1,4 +1,4 @@
-//! Where faces meet the face of a round first, and what a later place tells.
+//! Where each face met a given face first, and the vertices that a second meeting of the two shows.
 ghost use Rattle.std.specs.Prelude.{◌≡◌, ◌≢◌, ◌<◌, ◌≤◌, length};
 ghost use Rattle.convex_class.specs.Meetings.{IsHere, IsMet};
 
@@ -13,7 +13,7 @@ pub(crate) struct Meeting {
     pub(crate) head: u16,
 }
 
-// Returns the least of `best` and two vertices, which count where they differ.
+// Returns the least of `best`, `x` and `y`, where these two differ, and else `best`.
 fn least_of_two(best: u16, x: u16, y: u16) -> u16
     ensures lower { result ≤ best }
     ensures two { x ≢ y → (result ≤ x) × (result ≤ y) }
@@ -21,8 +21,8 @@ fn least_of_two(best: u16, x: u16, y: u16) -> u16
     if x == y { best } else { best.min(x).min(y) }
 }
 
-// Notes that the face z meets that of `place` there. Where it met it before, the answer is the least of `best` and
-// the vertices of one of the two places that are not on the other.
+// Notes in `met` that face `z` meets the face of `place` there, if it did not before. Otherwise it returns the least of
+// `best` and the vertices of one meeting that are not on the other.
 pub(crate) fn meet(met: &mut [Meeting], z: u32, place: Meeting, best: u16) -> u16
     requires { z < length met.old }
     ensures { IsMet place.face (IsHere place z) met.old best met.new result }

@@ -1,4 +1,4 @@
-//! The least separating pair.
+//! The public call `separating_pair_by`: the first vertex with a partner, and the least partner of it.
 ghost use Rattle.std.specs.Prelude.{◌≡◌, ◌≢◌, ◌<◌, ◌≤◌, ℕ, length, Some, MatchOption, IsTrue, IfOk};
 ghost use Rattle.map_theory.specs.Maps.{IsPlane};
 ghost use Rattle.half_edges.specs.Map.{IsLive, dart_at, first_dart};
@@ -13,8 +13,8 @@ use half_edges::{FaceId, HalfMap, VertexId};
 use std::alloc::{AllocError, Global};
 
 impl UncutMap<'_> {
-    // Returns the least greater vertex with which `u` is a separating pair, or the number of vertices; `u` may have no
-    // neighbours.
+    // Returns the least vertex greater than `u` with which `u` is a separating pair, or the number of vertices. `marks`
+    // has no mark of `u` at first; `u` may have no neighbours.
     fn partner(&self, u: VertexId, marks: &mut [u16]) -> u16
         requires vertex { u.0 < length self.now.map.now.lists }
         requires marks { length marks.old ≡ length self.now.map.now.lists }
@@ -41,7 +41,8 @@ impl UncutMap<'_> {
         }
     }
 
-    // Returns the least separating pair, given marks that are no vertices, where no pair has a vertex before `from`.
+    // Returns the least separating pair, where no pair has a vertex before `from`. `marks` has no vertex as a mark at
+    // first.
     fn first_pair(&self, from: u16, marks: &mut [u16]) -> Option<(VertexId, VertexId)>
         requires from { (u v : ℕ) → IsSeparatingPair self.now.map.now.lists u v → from ≤ u }
         requires marks { length marks.old ≡ length self.now.map.now.lists }
@@ -73,8 +74,8 @@ fn has_short_faces(faces: &Faces) -> bool
     true
 }
 
-/// The least separating pair of a map of genus zero without cut vertices, by its first vertex and then by
-/// its second, or None exactly where there is none. The faces are those of the map.
+/// Returns the least separating pair of `map`, by its first vertex and then by its second, or None exactly where there
+/// is none. `map` has genus zero and no cut vertices, and `faces` are its faces. The faces are those of the map.
 ///
 /// It fails only when out of memory. The memory is linear in the vertices and the darts, and so is the time for a
 /// connected map of at least four vertices. Elsewhere the time is the sum of the lengths of faces over the darts:

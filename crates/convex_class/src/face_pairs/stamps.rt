@@ -1,8 +1,9 @@
-//! Marks of the round of a vertex, and what a vertex tells that has its mark already.
+//! A mark on a vertex that belongs to the current vertex `u`, and the least vertex that a repeated mark shows.
 ghost use Rattle.std.specs.Prelude.{◌≡◌, ◌<◌, length};
 ghost use Rattle.convex_class.specs.Stamps.{IsStamped};
 
-// Gives z the mark u, and answers the least of `best` and the two where z had it already.
+// Sets the mark of `z` in `marks` to `u`, and returns the least of `best`, `u` and `z` where it had that mark already,
+// else `best`.
 pub(crate) fn stamp(marks: &mut [u16], u: u16, z: u16, best: u16) -> u16
     requires { z < length marks.old }
     ensures { IsStamped u (λ y. y ≡ z) marks.old best marks.new result }

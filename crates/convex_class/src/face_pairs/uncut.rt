@@ -1,4 +1,4 @@
-//! A map of genus zero without cut vertices with its faces, as a search for separating pairs reads it.
+//! A map of genus zero without cut vertices with its faces, as the type that the search for separating pairs reads.
 ghost use Rattle.std.specs.Prelude.{ℕ};
 ghost use Rattle.map_theory.specs.Maps.{IsPlane};
 ghost use Rattle.half_edges.specs.Map.{IsHalfMap};

@@ -1,4 +1,4 @@
-//! Where two faces at a vertex have another vertex in common, from the vertex.
+//! Vertices that share two faces with a given vertex, found from that vertex by its short faces.
 ghost use Rattle.std.specs.Prelude.{◌≡◌, ◌≤◌, ℕ, length, slice_index, Contains};
 ghost use Rattle.euler_faces.specs.FaceWalks.{IsFaceWalk, ids_of};
 ghost use Rattle.convex_class.specs.Clear.{IsRing, IsOffAt, IsOff, IsClearVertex};
@@ -8,7 +8,7 @@ use crate::face_pairs::stamps::stamp;
 use crate::face_pairs::uncut::UncutMap;
 use half_edges::DartId;
 
-/// A vertex, and the darts from it in a row.
+/// A vertex `u`, and the darts from it in the order of its list.
 #[derive(Clone, Copy)]
 pub(crate) struct Star<'a> {
     pub(crate) uncut: UncutMap<'a>,
@@ -17,7 +17,7 @@ pub(crate) struct Star<'a> {
     ghost darts: { IsRing uncut.map.now u (ids_of ring.now) },
 }
 
-// The dart from a vertex `u` to a neighbour `a`, by its ends, whose face is gone over.
+// The dart from a vertex `u` to its neighbour `a`, whose face is gone over.
 #[derive(Clone, Copy)]
 struct FaceOf<'a> {
     uncut: UncutMap<'a>,
@@ -26,8 +26,8 @@ struct FaceOf<'a> {
 }
 
 impl FaceOf<'_> {
-    // Gives the tails of the darts of a walk the mark u, where they are neither u nor a, and the dart does not lead to u. The
-    // answer is the least of `best`, u, and those that had the mark.
+    // Marks by u the tails of the darts of `walk`, except u, a and those whose dart leads to u. The answer is the least
+    // of `best`, u, and those that had the mark.
     fn mark_passed(&self, walk: &[DartId], marks: &mut [u16], mut best: u16) -> u16
         requires walk { IsFaceWalk self.now.uncut.map.now (ids_of walk.now) }
         requires marks { length marks.old ≡ length self.now.uncut.map.now.lists }
@@ -51,8 +51,8 @@ impl FaceOf<'_> {
 }
 
 impl Star<'_> {
-    // Gives the vertices of the faces of all darts from the vertex its mark, where a face has no more darts than that. The
-    // answer is the least of `best`, the vertex, and those that had the mark.
+    // Marks by this vertex the vertices of its faces with no more darts than it has. Returns the least of `best`, this
+    // vertex and those that had the mark already.
     fn mark_faces(&self, marks: &mut [u16], mut best: u16) -> u16
         requires marks { length marks.old ≡ length self.now.uncut.map.now.lists }
         ensures { AreStamped self.now.u (length self.now.ring.now) (λ i. IsOff self.now.uncut.map.now self.now.uncut.faces.now (length self.now.ring.now) self.now.u (slice_index (ids_of self.now.ring.now) i)) marks.old best marks.new result }
@@ -70,8 +70,8 @@ impl Star<'_> {
         best
     }
 
-    // Returns the least of `best`, the vertex, and another one, where two faces of it that have no more darts than it pass
-    // that one, and not along an edge from it. All neighbours get the mark of the vertex first.
+    // Returns the least of `best`, this vertex and each other that two of its faces pass, not along an edge from it.
+    // Only faces with no more darts than this vertex are gone over; its neighbours are marked first.
     pub(crate) fn least(&self, marks: &mut [u16], best: u16) -> u16
         requires marks { length marks.old ≡ length self.now.uncut.map.now.lists }
         ensures lower { result ≤ best }

@@ -1,4 +1,4 @@
-//! The three axes of a wood.
+//! The three axes of a realizer, as the type `Axis`.
 
 /// One of the three axes, which are counted cyclically.
 #[derive(Clone, Copy, PartialEq, Eq)]

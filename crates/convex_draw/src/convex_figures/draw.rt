@@ -1,4 +1,4 @@
-//! The figure of a record, or why it has none.
+//! The public call `convex_figure`: the convex figure of a record, or the refusal of the record.
 ghost use Rattle.std.specs.Prelude.{◌≡◌, ◌<◌, length, Some, IfOk, IfErr, OnOk};
 ghost use Rattle.euler_faces.specs.FaceWalks.{AreFaces};
 ghost use Rattle.half_edges.specs.Map.{IsLive, dart_at, first_dart as first_of};
@@ -27,10 +27,10 @@ fn first_dart(map: &HalfMap) -> DartId
     }
 }
 
-/// The figure of a record with these lists, which are from 1 to 4095: a point for each vertex, so that each edge is a
-/// straight segment, no two cross, each list is kept clockwise, no inner face bends inwards, and the outer one, that of
-/// the dart from vertex 0 to the first of its list, is a triangle with flat angles. The grid is f - 1 by f - 1, for f
-/// faces.
+/// Returns the convex figure of a record with these `lists`, which are from 1 to 4095. It has a point for each vertex,
+/// so that each edge is a straight segment, no two cross and each list is kept clockwise. No inner face bends inwards.
+/// The outer face, that of the dart from vertex 0 to the first of its list, is a triangle with flat angles. The grid is
+/// f - 1 by f - 1, for f faces.
 ///
 /// `Err` names the first condition that the lists break, of these in this order: the four faults of a map, each
 /// with the least vertices; fewer than four vertices; a genus above zero; more than one component; a cut vertex,

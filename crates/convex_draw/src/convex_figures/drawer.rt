@@ -1,4 +1,4 @@
-//! Figures of records, one after another, by a drawer that keeps its tables from one to the next.
+//! Convex figures of records, one after another, by `ConvexDrawer`, which keeps its tables from one to the next.
 ghost use Rattle.std.specs.Prelude.{◌≡◌, ◌+◌, ◌*◌, ◌<◌, ◌≤◌, length, slice_index, sum_by, Some, IsTrue, IfOk, IfErr, OnOk};
 ghost use Rattle.map_theory.specs.Maps.{IsSimpleMap, IsPlane, darts, list_of, face_count};
 ghost use Rattle.simple_maps.specs.Tables.{AreTwins};
@@ -22,7 +22,8 @@ use simple_maps::fill_twins;
 use std::alloc::{AllocError, Global};
 use std::mem;
 
-// The tables from numbers of faces to points.
+// The tables that are filled from the numbers of faces to the points: lists, rows of the construction sequence, and
+// spots.
 #[derive(Drop)]
 struct RunTables {
     lists: Rotations,
@@ -30,7 +31,7 @@ struct RunTables {
     spots: SpotTable,
 }
 
-// All tables. What they hold before a record says nothing.
+// All tables of a drawer. What they hold before a record says nothing.
 #[derive(Drop)]
 struct DrawTables {
     parts: Parts,
@@ -41,7 +42,7 @@ struct DrawTables {
 }
 
 impl DrawTables {
-    // Makes tables of no record. They take no memory.
+    // Returns tables of no record. They take no memory.
     fn new(alloc: Global) -> DrawTables {
         DrawTables {
             parts: Parts::new(alloc),
@@ -56,15 +57,15 @@ impl DrawTables {
     }
 }
 
-// Returns how many lists there are.
+// Returns the number of `lists`.
 fn count_of(lists: &Rotations) -> u16
     ensures { length lists.now ≡ result }
 {
     lists.len() as u16
 }
 
-// Returns the figure of a three-connected map of genus zero over the dart from vertex 0 to `t`, by the numbers of its faces,
-// which the tables have. The tables come back.
+// Returns the figure of a three-connected map of genus zero over the dart from vertex 0 to `t`. `spent` has the numbers
+// of its faces; the tables are returned too.
 fn run_again(
     alloc: Global,
     lists: &Rotations,
@@ -124,7 +125,7 @@ fn run_again(
     Ok((figure, tables))
 }
 
-// Says whether lists have as many entries as those of a triangulation with four vertices or more.
+// Says whether `lists` have as many entries as those of a triangulation with four vertices or more.
 fn is_full(lists: &Rotations) -> bool
     ensures some { IsTrue result → 4 ≤ length lists.now }
     ensures full { IsTrue result → sum_by length lists.now + 12 ≡ 6 * length lists.now }
@@ -132,7 +133,8 @@ fn is_full(lists: &Rotations) -> bool
     lists.len() >= 4 && lists.total() == 6 * lists.len() - 12
 }
 
-// Says whether lists have one component, and as many faces as a triangulation.
+// Says whether `lists`, with components `parts` and so many `faces`, are connected with as many faces as a
+// triangulation.
 fn has_all(parts: &Parts, faces: u32, lists: &Rotations) -> bool
     ensures connected { IsTrue result → parts.now.count ≡ 1 }
     ensures faces { IsTrue result → faces + 4 ≡ 2 * length lists.now }
@@ -140,8 +142,8 @@ fn has_all(parts: &Parts, faces: u32, lists: &Rotations) -> bool
     parts.count() == 1 && faces as usize + 4 == 2 * lists.len()
 }
 
-// Returns the figure of a record with as many entries as a triangulation, by the twins of its darts, where it is one. The tables
-// come back.
+// Returns the figure of a record with as many entries as a triangulation, by the twins of its darts, or None where it
+// is no triangulation. The tables are returned too.
 fn drawn(
     alloc: Global,
     lists: &Rotations,
@@ -196,7 +198,7 @@ pub struct ConvexDrawer {
 }
 
 impl ConvexDrawer {
-    /// A drawer that has drawn nothing yet. It takes no memory.
+    /// Returns a drawer that has drawn nothing yet. It takes no memory.
     pub fn new(alloc: Global) -> ConvexDrawer {
         ConvexDrawer {
             alloc,
@@ -207,7 +209,8 @@ impl ConvexDrawer {
         }
     }
 
-    /// The figure of a record, as `convex_figure` has it. After `NoMemory` the drawer serves as before.
+    /// Returns the figure of a record with these `lists`, as `convex_figure` has it. After `NoMemory` the drawer serves
+    /// as before.
     pub fn figure(&mut self, lists: &Rotations) -> Result<GridFigure, Unserved>
         requires some_list { 0 < length lists.now }
         ensures figure { IfOk result (IsConvexFigure lists.now) }

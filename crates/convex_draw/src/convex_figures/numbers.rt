@@ -1,4 +1,4 @@
-//! The numbers of a map's faces by its lists and the twins of its darts, with no map made of them.
+//! The numbers of a map's faces at each list entry, by the twins of its darts, with no half-edge map.
 ghost use Rattle.std.specs.Prelude.{◌≡◌, ◌<◌, ◌^◌, ℕ, List, length, map, slice_index, IfOk};
 ghost use Rattle.classes.specs.Classes.{class_count};
 ghost use Rattle.map_lists.specs.Cuts.{ends_from};
@@ -22,7 +22,7 @@ pub(crate) struct NumberTables {
 }
 
 impl NumberTables {
-    /// Tables of no map. They take no memory.
+    /// Returns tables of no map. They take no memory.
     pub(crate) fn new(alloc: Global) -> NumberTables {
         NumberTables {
             numbers: FaceNumbers {
@@ -36,7 +36,7 @@ impl NumberTables {
     }
 }
 
-// Returns the numbers at the twins, in the memory of others.
+// Returns for each dart the entry of `of` at its twin, in the memory of `spent`.
 fn at_twins(spent: Vec<u32>, of: &[u32], twins: &[u32]) -> Result<Vec<u32>, AllocError>
     requires within { (i : ℕ) → i < length twins.now → slice_index twins.now i < length of.now }
     ensures { IfOk result (λ made. made.items ≡ map (λ t. slice_index of.now t) twins.now) }
@@ -50,7 +50,7 @@ fn at_twins(spent: Vec<u32>, of: &[u32], twins: &[u32]) -> Result<Vec<u32>, Allo
     Ok(made)
 }
 
-// Returns the ends of the lists, in the memory of others.
+// Returns the ends of the concatenated lists, in the memory of `spent`.
 fn ends_of(spent: Vec<usize>, lists: &Rotations) -> Result<Vec<usize>, AllocError>
     ensures { IfOk result (λ made. made.items ≡ ends_from 0 lists.now) }
 {
@@ -60,7 +60,8 @@ fn ends_of(spent: Vec<usize>, lists: &Rotations) -> Result<Vec<usize>, AllocErro
     Ok(made)
 }
 
-/// The numbers of the faces of a map by the twins of its darts, in the memory of other tables.
+/// Returns the numbers of the faces of the map with these `lists`, by the `twins` of its darts, in the memory of
+/// `tables`. It fails only when out of memory.
 pub(crate) fn numbers_again(
     tables: NumberTables,
     lists: &Rotations,

@@ -1,4 +1,4 @@
-//! Differences are added up, from the last contour downwards.
+//! Adds up the differences that spots keep, along the last contour and then from the last step down to the first.
 ghost use Rattle.std.specs.Prelude.{◌≡◌, ◌<◌, ◌≤◌, ◌+◌, ◌-◌, ℕ, List, length, slice_index, All, AllPairs, ◌≢◌};
 ghost use Rattle.contour_runs.specs.Runs.{Stage};
 ghost use Rattle.contour_runs.specs.Wood.{Coordinates};
@@ -12,7 +12,8 @@ use crate::convex_points::run::FaceRun;
 use crate::convex_points::spots::{Spot, put_all};
 use convex_laws::convex_rows::ConvexRows;
 
-// Adds differences up along the last contour, from its end on.
+// Replaces the differences in `spots` by coordinates along the last contour, which has `width` vertices, from its end
+// `s` on.
 fn walk(spots: &mut [Spot], s: u16, faces: u32, width: usize)
     requires last { (g : Stage) × (at : Coordinates) × (name : ℕ → ℕ) × IsLast g at name spots.old s faces width }
     ensures { (g : Stage) (at : Coordinates) (name : ℕ → ℕ) → IsLast g at name spots.old s faces width → AreWalked g at name 0 spots.old spots.new }
@@ -38,7 +39,8 @@ fn walk(spots: &mut [Spot], s: u16, faces: u32, width: usize)
     };
 }
 
-// Adds to the differences of each vertex strictly within a row what is known of the one that it is under.
+// Replaces the differences in `spots` by coordinates, for each vertex strictly within `row`. It adds those of the
+// vertex that took its place.
 fn add_row(spots: &mut [Spot], row: &[u16])
     requires free { IsFree row.now spots.old }
     ensures { AreAdded row.now (length row.now - 1) spots.old spots.new }
@@ -55,7 +57,8 @@ fn add_row(spots: &mut [Spot], row: &[u16])
     }
 }
 
-// Adds differences up where the last contour is known, from the last step down to the first.
+// Replaces the differences in `spots` by coordinates, where those of the last contour are known, from the last step
+// down to the first.
 fn add_all(spots: &mut [Spot], rows: &ConvexRows)
     requires run { (steps : ℕ → Step) × (name : ℕ → ℕ) × IsCountRun steps name rows.now (length spots.old) × AreDone steps name (length rows.now.rows) (length rows.now.rows) spots.old }
     ensures { (steps : ℕ → Step) (name : ℕ → ℕ) → IsCountRun steps name rows.now (length spots.old) → AreDone steps name (length rows.now.rows) (length rows.now.rows) spots.old → AreDone steps name (length rows.now.rows) 0 spots.new }
@@ -65,7 +68,7 @@ fn add_all(spots: &mut [Spot], rows: &ConvexRows)
     }
 }
 
-/// Finds the counts of each vertex.
+/// Fills `spots` with the coordinates of each vertex of `run`: its counts of faces along axes one and two.
 pub(crate) fn find_counts(spots: &mut [Spot], run: &FaceRun<'_>)
     requires run { (steps : ℕ → Step) × (name : ℕ → ℕ) × IsCountRun steps name run.now.rows.now (length spots.old) × (name 0 ≡ run.now.d.0) × (name 1 ≡ run.now.s.0) × (faces_made steps (length run.now.rows.now.rows) ≡ run.now.faces) }
     ensures { (steps : ℕ → Step) (name : ℕ → ℕ) → IsCountRun steps name run.now.rows.now (length spots.old) → name 0 ≡ run.now.d.0 → name 1 ≡ run.now.s.0 → faces_made steps (length run.now.rows.now.rows) ≡ run.now.faces

@@ -1,4 +1,4 @@
-//! The points of a run.
+//! The public calls that find the points of a construction sequence.
 ghost use Rattle.std.specs.Prelude.{◌≡◌, ◌<◌, ◌+◌, ℕ, length, pos, IfOk};
 ghost use Rattle.contour_runs.specs.FaceRuns.{Step};
 ghost use Rattle.convex_counts.specs.Counts.{face_counts};
@@ -12,7 +12,7 @@ use crate::convex_points::spots::Spot;
 use pg_plane::{Point, Points};
 use std::alloc::{AllocError, Global};
 
-/// Returns a number as a coordinate.
+/// Converts `number` to a coordinate.
 pub(crate) fn coordinate(number: u32) -> i32
     requires { number < 1048576 }
     ensures { result ≡ pos number }
@@ -20,7 +20,7 @@ pub(crate) fn coordinate(number: u32) -> i32
     number as i32
 }
 
-// Returns the points of all vertices.
+// Returns the coordinates one and two in `spots` as the points of all vertices.
 fn points_of(alloc: Global, spots: &[Spot]) -> Result<Points, AllocError>
     requires small { (u : ℕ) → u < length spots.now → ((spot_of spots.now u).one < 1048576) × ((spot_of spots.now u).two < 1048576) }
     ensures { IfOk result (λ points. ArePlaced spots.now (length spots.now) points) }
@@ -35,7 +35,7 @@ fn points_of(alloc: Global, spots: &[Spot]) -> Result<Points, AllocError>
     Ok(points)
 }
 
-// Returns the points of a run, with room for what is kept of its vertices.
+// Returns the points of `run`; `spots` is room with an entry for each vertex.
 fn run_points(alloc: Global, spots: &mut [Spot], run: &FaceRun<'_>) -> Result<Points, AllocError>
     requires small { length spots.old < 65536 }
     requires run { (steps : ℕ → Step) × (at : ℕ → ℕ) × IsListedRun steps at run.now.rows.now run.now.d.0 run.now.s.0 (length spots.old) run.now.faces }
@@ -53,7 +53,7 @@ pub struct SpotTable {
 }
 
 impl SpotTable {
-    /// A table of no run. It takes no memory.
+    /// Returns a table of no run. It takes no memory.
     pub fn new(alloc: Global) -> SpotTable {
         SpotTable {
             spots: Vec::new(alloc),
@@ -61,7 +61,7 @@ impl SpotTable {
     }
 }
 
-/// Returns the points that [`count_points`] gives, with a table that may have served other runs, and comes back.
+/// Returns the points that [`count_points`] gives, in the memory of the table `spent`, which is returned too.
 pub fn count_points_again(
     alloc: Global,
     spent: SpotTable,
@@ -82,7 +82,7 @@ pub fn count_points_again(
     Ok((points, SpotTable { spots }))
 }
 
-/// Returns the points of the vertices of a run, by counts of faces over it. The turns of its faces are read off the
+/// Returns the points of the vertices of `run`, by counts of faces over it. The turns of its faces are read off the
 /// counts.
 ///
 /// It fails only when out of memory. The time is linear in the entries of the rows: a step gives how far what it

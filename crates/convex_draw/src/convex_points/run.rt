@@ -1,4 +1,4 @@
-//! A run as its points are found.
+//! A construction sequence as the type `FaceRun`: its rows, its base, and how many vertices and faces it makes.
 ghost use Rattle.std.specs.Prelude.{◌<◌};
 
 use convex_laws::convex_rows::ConvexRows;

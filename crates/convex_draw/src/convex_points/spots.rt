@@ -1,4 +1,4 @@
-//! Coordinates by counts of faces, each kept as a difference from another vertex.
+//! Spots: coordinates by counts of faces, each kept as a difference from another vertex, while steps cover vertices.
 //!
 //! A vertex of the contour names the one before it, and keeps how far coordinate one falls and coordinate two
 //! rises from there. One that has gone under another names the vertex whose place it took, and keeps how far it
@@ -20,7 +20,7 @@ pub(crate) struct Spot {
     pub(crate) over: u16,
 }
 
-// Tells how far coordinate one falls along a row.
+// Returns how far coordinate one falls along `row`, an interval of the contour.
 fn total_fall(spots: &[Spot], row: &[u16]) -> u32
     requires over { (z : Setting) × IsRowOver z spots.now row.now }
     ensures { (z : Setting) → IsRowOver z spots.now row.now → result + z.at.one (z.stage.vertex z.step.last) ≡ z.at.one (z.stage.vertex z.step.first) }
@@ -32,8 +32,8 @@ fn total_fall(spots: &[Spot], row: &[u16]) -> u32
     fall
 }
 
-// What a covered vertex may go under: the first vertex of the row, the last one, or the first new vertex. So many new
-// faces stand over the row.
+// The vertices that a covered vertex may refer to, and the number of new faces over the interval. These are its first
+// vertex `p`, its last one `q` and the first new vertex `z`.
 #[derive(Clone, Copy)]
 struct Cover {
     p: u16,
@@ -43,7 +43,8 @@ struct Cover {
 }
 
 impl Cover {
-    // Returns the spot of a covered vertex, for which `gain` of the new faces count as two.
+    // Returns the spot of a covered vertex that lies `fall` and `rise` from the interval's ends, where `gain` of the
+    // new faces count for coordinate two.
     fn spot(&self, gain: u16, fall: u32, rise: u32) -> Spot
         requires gain { gain ≤ self.now.faces }
         requires small { (fall < 1048576) × (rise < 1048576) }
@@ -71,7 +72,7 @@ impl Cover {
     }
 }
 
-// Adds one to a face where the test holds.
+// Returns `face` plus one where `test` holds, else `face`.
 fn more_if(test: bool, face: u16) -> u16
     requires { face < 65535 }
     ensures { result ≡ (if test then face + 1 else face) }
@@ -79,8 +80,8 @@ fn more_if(test: bool, face: u16) -> u16
     if test { face + 1 } else { face }
 }
 
-// Counts the faces that turn before the next place: one more than before this face, but for an edge that goes left and
-// comes before its last place.
+// Returns how many new faces turn before the next vertex of the interval, from the number of the current `face` and the
+// last `gain`. An edge that goes `left` and does not end its face adds none.
 fn gain_at(at_cut: bool, left: bool, face: u16, gain: u16) -> u16
     requires { face < 65535 }
     ensures { result ≡ (if at_cut then face + 1 else (if left then gain else face + 1)) }
@@ -94,14 +95,14 @@ fn gain_at(at_cut: bool, left: bool, face: u16, gain: u16) -> u16
     }
 }
 
-// Says whether the edge of the contour to a vertex goes left.
+// Says whether the contour edge to the vertex with `spot` goes left: only coordinate two changes along it.
 fn is_left(spot: Spot) -> bool
     ensures { result ≡ (spot.one == 0) && nat_lt 0 spot.two }
 {
     spot.one == 0 && 0 < spot.two
 }
 
-// A row of the contour that a step covers, and the places in it behind which its faces end.
+// An interval of the contour that a step covers, and the positions in it at which its faces end.
 #[derive(Clone, Copy)]
 struct CoveredRow<'a> {
     row: &'a [u16],
@@ -109,8 +110,8 @@ struct CoveredRow<'a> {
 }
 
 impl CoveredRow<'_> {
-    // Lets the vertices strictly within the row go under others, of which `z` is the first new one; along the row coordinate
-    // one falls by `fall`. The answer is how far coordinate two rises up to the last of them.
+    // Makes the spots of the vertices strictly within the interval refer to its ends or to `z`, the first new vertex.
+    // Coordinate one falls by `fall` along it; returns how far coordinate two rises up to the last of them.
     #[inline(always)]
     fn settle(&self, spots: &mut [Spot], z: u16, fall: u32) -> u32
         requires put { (w : Setting) × (news : List ℕ) × IsPut w spots.old self.now.row.now self.now.cuts.now news × (w.name w.stage.count ≡ z) × (fall + w.at.one (w.stage.vertex w.step.last) ≡ w.at.one (w.stage.vertex w.step.first)) }
@@ -139,7 +140,7 @@ impl CoveredRow<'_> {
     }
 }
 
-// Links new vertices to one another, each but the first to the one before it, with no difference.
+// Makes the spot of each new vertex but the first refer to the one before it, with no difference.
 fn link(spots: &mut [Spot], news: &[u16])
     requires some { 0 < length news.now }
     requires within { All (λ u. u < length spots.old) news.now }
@@ -155,7 +156,8 @@ fn link(spots: &mut [Spot], news: &[u16])
     }
 }
 
-// Puts new vertices over a row of the contour.
+// Adds the vertices `news` over `row`, an interval of the contour with cuts `cuts`, by writing their spots and those of
+// the covered vertices.
 fn put_over(spots: &mut [Spot], row: &[u16], cuts: &[u16], news: &[u16])
     requires put { (w : Setting) × IsPut w spots.old row.now cuts.now news.now }
     ensures { (w : Setting) → IsPut w spots.old row.now cuts.now news.now → IsWritten w spots.old spots.new }
@@ -178,7 +180,8 @@ fn put_over(spots: &mut [Spot], row: &[u16], cuts: &[u16], news: &[u16])
     };
 }
 
-// Puts all vertices on, step after step, and tells how many places the last contour has.
+// Adds all vertices to `spots`, step after step, over the base from `s` to `d`. Returns how many vertices the last
+// contour has.
 pub(crate) fn put_all(spots: &mut [Spot], rows: &ConvexRows, d: u16, s: u16) -> usize
     requires run { (steps : ℕ → Step) × (name : ℕ → ℕ) × IsCountRun steps name rows.now (length spots.old) × (name 0 ≡ d) × (name 1 ≡ s) }
     ensures { (steps : ℕ → Step) (name : ℕ → ℕ) → IsCountRun steps name rows.now (length spots.old) → name 0 ≡ d → name 1 ≡ s → AreKept steps name (length rows.now.rows) result spots.new }

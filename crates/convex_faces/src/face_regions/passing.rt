@@ -1,4 +1,4 @@
-//! Walks that pass edges: an edge has its mark as long as it was passed an odd number of times.
+//! The boundary of a region: marks the edges that its closed walk passes an odd number of times.
 ghost use Rattle.std.specs.Prelude.{◌≡◌, ◌<◌, ℕ, Some, length};
 ghost use Rattle.map_theory.specs.Maps.{Dart, IsPlane};
 ghost use Rattle.convex_peeling.specs.Polyhedral.{IsThreeConnected};
@@ -11,7 +11,7 @@ ghost use Rattle.convex_faces.specs.Passing.{Passes, PassesDart, PassesAxis, Pas
 use crate::wood::{Axis, ConvexWood};
 use half_edges::{DartId, HalfMap, VertexId};
 
-// Passes the edge of a dart: turns the marks of its two darts round.
+// Flips the marks of both darts of the edge of `d` in `marked`.
 fn pass(map: &HalfMap, marked: &mut [bool], d: DartId)
     requires live { IsLive map.now d.0 }
     requires marks { length marked.old ≡ id_bound map.now }
@@ -23,7 +23,7 @@ fn pass(map: &HalfMap, marked: &mut [bool], d: DartId)
     marked[twin.0 as usize] = !marked[twin.0 as usize];
 }
 
-/// A wood of a map, and a vertex from which its darts lead to the roots.
+/// A convex realizer of a map, and a vertex from which its darts lead to the roots.
 #[derive(Clone, Copy)]
 pub(crate) struct WoodVertex<'a> {
     pub(crate) map: &'a HalfMap,
@@ -32,7 +32,7 @@ pub(crate) struct WoodVertex<'a> {
 }
 
 impl WoodVertex<'_> {
-    // Passes the darts from the vertex along an axis to its root.
+    // Flips the marks of the edges along `axis` from this vertex to the root of the axis.
     pub(crate) fn pass_axis(&self, marked: &mut [bool], axis: Axis)
         requires wood { (base : Dart) × IsWoodIn self.now.map.now base self.now.wood.now }
         requires vertex { self.now.v.0 < length self.now.map.now.lists }
@@ -64,7 +64,7 @@ pub(crate) struct OuterCorner<'a> {
 }
 
 impl OuterCorner<'_> {
-    // Passes the darts of the outer face from the head of the base to the tail of the dart before the base.
+    // Flips the marks of the outer edges from the head of the base to the tail of the dart before the base.
     fn pass_rest(&self, marked: &mut [bool])
         requires plane { IsPlane self.now.map.now.lists }
         requires three { IsThreeConnected self.now.map.now.lists }
@@ -86,8 +86,8 @@ impl OuterCorner<'_> {
         unreachable!()
     }
 
-    // Passes the darts of the outer face from the root of the axis before to that of the next one, without passing the
-    // root of the axis itself.
+    // Flips the marks of the outer edges from the root of the axis before `axis` to that of the one after it. The root
+    // of `axis` itself is not passed.
     pub(crate) fn pass_outer(&self, marked: &mut [bool], axis: Axis)
         requires plane { IsPlane self.now.map.now.lists }
         requires three { IsThreeConnected self.now.map.now.lists }

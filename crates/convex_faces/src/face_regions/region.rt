@@ -1,4 +1,4 @@
-//! The regions of a convex wood.
+//! The public call that counts the faces in a region of a vertex.
 ghost use Rattle.std.specs.Prelude.{◌≡◌, ◌<◌, ℕ, false, Some, length, IfOk};
 ghost use Rattle.map_theory.specs.Maps.{Dart, HasDart, IsPlane};
 ghost use Rattle.convex_peeling.specs.Polyhedral.{IsThreeConnected};
@@ -14,7 +14,7 @@ use crate::wood::{Axis, ConvexWood};
 use half_edges::{DartId, HalfMap, VertexId};
 use std::alloc::{AllocError, Global};
 
-// Returns the axis after another, and the one before it.
+// Returns the axis after `axis` and the one before it, cyclically.
 fn axes_beside(axis: Axis) -> (Axis, Axis)
     ensures behind { result.0 ≡ next axis }
     ensures before { result.1 ≡ previous axis }
@@ -27,7 +27,7 @@ fn axes_beside(axis: Axis) -> (Axis, Axis)
 }
 
 impl WoodVertex<'_> {
-    // Returns the dart from the root of one axis to that of another.
+    // Returns the dart from the root of axis `from` to that of `to`.
     fn dart_between(&self, from: Axis, to: Axis) -> DartId
         requires { HasDart self.now.map.now.lists (root_in self.now.wood.now from) (root_in self.now.wood.now to) }
         ensures { dart_at self.now.map.now result.0 ≡ Some (root_in self.now.wood.now from, root_in self.now.wood.now to) }
@@ -39,8 +39,8 @@ impl WoodVertex<'_> {
         }
     }
 
-    // Returns how many faces a region of the vertex has: marks, where none were, the edges that its closed path passes an odd
-    // number of times, and counts the faces inside.
+    // Returns how many faces the region of this vertex for `axis` has. It marks in `marked`, which is unmarked at
+    // first, the edges that the region's boundary passes an odd number of times, and counts the faces inside.
     fn count_with(&self, alloc: Global, marked: &mut [bool], axis: Axis) -> Result<u32, AllocError>
         requires plane { IsPlane self.now.map.now.lists }
         requires three { IsThreeConnected self.now.map.now.lists }
@@ -63,7 +63,7 @@ impl WoodVertex<'_> {
     }
 }
 
-/// Returns the number of faces in the region of a vertex for an axis of a convex wood.
+/// Returns the number of faces in the region of `v` for `axis` of the convex realizer `wood`.
 ///
 /// The region is bounded by a closed path: from the vertex along the next axis to its root, over the outer face to
 /// the root of the axis before without passing that of the axis itself, and back along the axis before. It has the

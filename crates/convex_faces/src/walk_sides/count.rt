@@ -1,4 +1,4 @@
-//! How many faces lie inside a closed walk.
+//! The public call `inside_count`, which counts the faces that a closed walk encloses.
 ghost use Rattle.std.specs.Prelude.{◌≡◌, ◌<◌, ◌*◌, ℕ, Bool, List, false, Some, length, IfOk};
 ghost use Rattle.classes.specs.Classes.{count_below};
 ghost use Rattle.map_theory.specs.Maps.{Dart, IsPlane, component_count};
@@ -14,7 +14,7 @@ use euler_faces::{Faces, faces, mark_reached};
 use half_edges::{DartId, FaceId, HalfMap};
 use std::alloc::{AllocError, Global};
 
-// Whether a face other than the outer one is met with an odd number.
+// Says whether face `f` is not the outer one and was reached over an odd number of marked edges, by `met`.
 fn is_inside(map: &HalfMap, faces: &Faces, met: &[bool], outer: FaceId, f: FaceId) -> bool
     requires faces { AreFaces map.now faces.now }
     requires room { length met.now ≡ 2 * id_bound map.now }
@@ -26,7 +26,7 @@ fn is_inside(map: &HalfMap, faces: &Faces, met: &[bool], outer: FaceId, f: FaceI
     f.0 != outer.0 && met[2 * (first.0 as usize) + 1]
 }
 
-// How many such faces there are.
+// Returns how many faces lie inside by `met`, the outer one not among them.
 fn counted(map: &HalfMap, faces: &Faces, met: &[bool], outer: FaceId) -> u32
     requires faces { AreFaces map.now faces.now }
     requires room { length met.now ≡ 2 * id_bound map.now }
@@ -40,7 +40,8 @@ fn counted(map: &HalfMap, faces: &Faces, met: &[bool], outer: FaceId) -> u32
     count
 }
 
-// Counts such faces, with `met` as room for the marks of the search.
+// Returns how many faces lie inside the walk with marks `marked`. `met` is room for the marks of the search, which
+// begins at `base`.
 fn count_with(
     alloc: Global,
     map: &HalfMap,
@@ -62,7 +63,8 @@ fn count_with(
     Ok(counted(map, &all, met, all.of_dart(base)))
 }
 
-/// The number of faces other than that of the base that lie inside a closed walk of a connected map of genus zero.
+/// Returns the number of faces inside a closed walk of `map`, which is connected and has genus zero. The face of `base`
+/// is outside.
 ///
 /// A face lies inside where a chain of faces that leads there from the base's face, each sharing an edge with the
 /// next, steps over the walk an odd number of times. An edge that the walk passes twice counts twice. Whatever chain

@@ -1,4 +1,4 @@
-//! The convex wood of a map.
+//! The public call that makes the convex realizer of a map, read off the face counts of its convex drawing.
 ghost use Rattle.std.specs.Prelude.{◌≡◌, ℕ, Some, IfOk};
 ghost use Rattle.map_theory.specs.Maps.{IsPlane};
 ghost use Rattle.convex_peeling.specs.Polyhedral.{IsThreeConnected};
@@ -12,8 +12,9 @@ use convex_draw::run_figure;
 use half_edges::{DartId, HalfMap};
 use std::alloc::{AllocError, Global};
 
-/// Returns a convex wood of a three-connected map of genus zero over a base: three axes along which its edges lead. The
-/// roots of the axes are the head of the base, its tail, and the vertex before the base on its face, the outer one.
+/// Returns a convex realizer of `map`, three-connected and of genus zero, over `base`: three axes along which its edges
+/// lead. The roots of the axes are the head of the base, its tail, and the vertex before the base on its face, the
+/// outer one.
 ///
 /// Each edge is directed one way or both ways, and each direction has an axis, the two of one edge different ones.
 /// Each vertex has one outgoing direction for each axis, but a root has none of its own. Counterclockwise round a

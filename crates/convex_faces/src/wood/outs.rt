@@ -1,4 +1,4 @@
-//! The darts that lead out of vertices along one axis.
+//! A table of the darts that leave the vertices along one axis.
 ghost use Rattle.std.specs.Prelude.{◌≡◌, ◌<◌, length, IfOk};
 ghost use Rattle.plane_drawings.specs.Drawing.{place};
 ghost use Rattle.half_edges.specs.Map.{id_bound};
@@ -10,7 +10,7 @@ use half_edges::{DartId, HalfMap, VertexId};
 use pg_plane::{Point, Points};
 use std::alloc::{AllocError, Global};
 
-// Returns the place of a vertex.
+// Returns the point of `v`.
 fn place_at(points: &Points, v: VertexId) -> Point
     requires { v.0 < length points.now }
     ensures { result ≡ place points.now v.0 }
@@ -18,7 +18,7 @@ fn place_at(points: &Points, v: VertexId) -> Point
     points.get(v.0 as usize)
 }
 
-// Notes at its vertex each dart that leads along the axis.
+// Writes into `outs` at its tail each dart of `map` that leads along `axis`, by the `points` of the vertices.
 fn note_all(map: &HalfMap, points: &Points, axis: Axis, outs: &mut [u32])
     requires points { length points.now ≡ length map.now.lists }
     requires outs { length outs.old ≡ length map.now.lists }
@@ -40,7 +40,7 @@ fn note_all(map: &HalfMap, points: &Points, axis: Axis, outs: &mut [u32])
     }
 }
 
-// Returns for each vertex the dart that leads out along an axis, and any number where none does.
+// Returns for each vertex the dart that leaves it along `axis`, and any number where none does.
 pub(crate) fn outs_along(
     alloc: Global,
     map: &HalfMap,

@@ -1,11 +1,11 @@
-//! Along which axis a point lies from another.
+//! Along which axis one point lies from another, by the signs of three differences.
 ghost use Rattle.std.specs.Prelude.{◌≡◌, ◌↔◌, ◌≤ℤ◌, ◌+ℤ◌, IsTrue};
 ghost use Rattle.convex_laws.specs.Signs.{IsRisingBy};
 
 use convex_counts::face_woods::Axis;
 use pg_plane::Point;
 
-// Returns the sum of both coordinates.
+// Returns the sum of both coordinates of `p`.
 fn sum_of(p: Point) -> i64
     ensures { result ≡ p.x +ℤ p.y }
 {

@@ -1,4 +1,4 @@
-//! Convex woods, and what they tell of a vertex.
+//! A convex realizer as the type `ConvexWood`: the roots of its axes, and the dart of a vertex along each axis.
 ghost use Rattle.std.specs.Prelude.{◌≡◌, ◌<◌, ◌↔◌, None, IfSome};
 ghost use Rattle.convex_faces.specs.Directions.{count_in, root_in, out_in};
 
@@ -33,14 +33,14 @@ impl Model for ConvexWood {
 }
 
 impl ConvexWood {
-    /// The number of vertices. It takes no memory.
+    /// Returns the number of vertices. It takes no memory.
     pub fn n(&self) -> u16
         ensures { result ≡ count_in self.now }
     {
         self.ones.len() as u16
     }
 
-    /// The root of an axis. It takes no memory.
+    /// Returns the root of `axis`. It takes no memory.
     pub fn root(&self, axis: Axis) -> VertexId
         ensures { result.0 ≡ root_in self.now axis }
     {
@@ -51,7 +51,7 @@ impl ConvexWood {
         }
     }
 
-    // Returns the entry of a vertex in the table of an axis.
+    // Returns the entry of `v` in the table of `axis`.
     fn entry(&self, axis: Axis, v: VertexId) -> DartId
         requires { v.0 < count_in self.now }
         ensures { result.0 ≡ out_in self.now axis v.0 }
@@ -63,8 +63,7 @@ impl ConvexWood {
         }
     }
 
-    /// The dart that leads out of a vertex along an axis, or None exactly for the root of the axis. It takes no
-    /// memory.
+    /// Returns the dart that leaves `v` along `axis`, or None exactly for the root of the axis. It takes no memory.
     pub fn out(&self, axis: Axis, v: VertexId) -> Option<DartId>
         requires { v.0 < count_in self.now }
         ensures root { (result ≡ None) ↔ (v.0 ≡ root_in self.now axis) }

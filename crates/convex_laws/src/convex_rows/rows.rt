@@ -1,4 +1,4 @@
-//! The rows of a run.
+//! The steps of a construction sequence as the type `ConvexRows`: intervals, cuts and new vertices.
 
 use map_lists::ItemLists;
 

@@ -1,4 +1,4 @@
-//! The answer.
+//! The public call `embed_by_sides`, which returns a map made by sides of edges or a witness by contracted edges.
 ghost use Rattle.std.specs.Prelude.{◌<◌, IfOk};
 ghost use Rattle.embed_graph.specs.Embeddings.{IsEmbedding};
 

@@ -1,4 +1,4 @@
-//! Edges that can be contracted so that a witness stays.
+//! Finds an edge whose contraction leaves the graph nonplanar, so that a Kuratowski witness stays.
 ghost use Rattle.std.specs.Prelude.{◌≡◌, ◌<◌, ◌↔◌, ℕ, true, IsTrue, IfOk, MatchOption};
 ghost use Rattle.graph6_text.specs.Graphs.{has_edge};
 ghost use Rattle.embed_contraction.specs.Traces.{HasWitness};
@@ -12,8 +12,8 @@ use left_right_lists::has_map;
 use map_lists::{Ends, VertexId};
 use std::alloc::{AllocError, Global};
 
-// Says whether a graph has a witness: it has one exactly where it has no map. The left-right test says so, and the sides
-// of the edges where there are too few vertices for it.
+// Says whether `graph` has a Kuratowski witness, which is so exactly where it has no map. The left-right test decides,
+// and the slow test where there are too few vertices for it.
 fn has_witness(alloc: Global, graph: &Graph) -> Result<bool, AllocError>
     requires { 0 < graph.now.n }
     ensures { IfOk result (λ yes. IsTrue yes ↔ HasWitness graph.now) }
@@ -30,7 +30,7 @@ fn has_witness(alloc: Global, graph: &Graph) -> Result<bool, AllocError>
     }
 }
 
-// Returns an edge with the lesser end `u` that can be contracted so that a witness stays, or none where there is none.
+// Returns the first edge with lesser end `u` whose contraction leaves a witness, or None where there is none.
 fn kept_above(alloc: Global, graph: &Graph, u: u16) -> Result<Option<Ends>, AllocError>
     requires { u < graph.now.n }
     ensures { IfOk result (λ found. MatchOption found ((b : ℕ) → ¬ IsKept graph.now u b) (λ e. IsKept graph.now e.a.0 e.b.0)) }
@@ -51,8 +51,8 @@ fn kept_above(alloc: Global, graph: &Graph, u: u16) -> Result<Option<Ends>, Allo
     Ok(None)
 }
 
-/// Returns an edge that can be contracted so that a witness stays, or none where there is none. It fails only when out of
-/// memory.
+/// Returns the first edge of `graph` whose contraction leaves a witness, or None where there is none. It fails only
+/// when out of memory.
 pub(crate) fn kept_edge(alloc: Global, graph: &Graph) -> Result<Option<Ends>, AllocError>
     ensures { IfOk result (λ found. MatchOption found ((a b : ℕ) → ¬ IsKept graph.now a b) (λ e. IsKept graph.now e.a.0 e.b.0)) }
 {

@@ -1,4 +1,4 @@
-//! A witness of a graph that has one.
+//! The public call `contracted_witness`: contracts edges while a witness stays, and lifts the witness back.
 ghost use Rattle.std.specs.Prelude.{◌<◌, IfOk};
 ghost use Rattle.kuratowski.specs.Witnesses.{IsWitness};
 ghost use Rattle.embed_contraction.specs.Traces.{HasWitness};
@@ -23,7 +23,7 @@ pub fn contracted_witness(alloc: Global, graph: &Graph) -> Result<Witness, Alloc
     witness_within(alloc, graph, n + 1)
 }
 
-// Returns a Kuratowski witness of a graph that has one and fewer than `count` vertices.
+// Returns a Kuratowski witness of `graph`, which has one and fewer than `count` vertices.
 fn witness_within(alloc: Global, graph: &Graph, count: u16) -> Result<Witness, AllocError>
     requires some { HasWitness graph.now }
     requires count { graph.now.n < count }

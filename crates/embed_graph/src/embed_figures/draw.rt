@@ -1,4 +1,4 @@
-//! Figures of graphs, one after another, by an embedder that keeps memory from one to the next.
+//! Maps and drawings of graphs, one after another, by `Embedder`, which keeps memory from one to the next.
 ghost use Rattle.std.specs.Prelude.{◌≡◌, ◌≤◌, length, IfOk, IfSome};
 ghost use Rattle.embed_theorem.specs.Expanded.{IsMapOf};
 ghost use Rattle.embed_graph.specs.Figures.{IsEmbedFigure};
@@ -14,7 +14,7 @@ use pg_plane::GridFigure;
 use refusals::Unserved;
 use std::alloc::{AllocError, Global};
 
-/// The answer to a graph.
+/// The answer of the job `embed` to a graph.
 #[derive(Drop)]
 pub enum EmbedFigure {
     /// A map of genus zero with exactly the edges of the graph, and its drawing by Schnyder's coordinates.
@@ -44,7 +44,7 @@ impl Embedder {
         }
     }
 
-    // Draws `map`, which is a map of `graph`.
+    // Draws `map`, which is a map of `graph`, by Schnyder's coordinates.
     fn drawn_map(&mut self, graph: &Graph, map: Rotations) -> Result<EmbedFigure, AllocError>
         requires some { 3 ≤ graph.now.n }
         requires map { IsMapOf map graph.now }
@@ -60,8 +60,8 @@ impl Embedder {
         }
     }
 
-    // Returns a figure of `graph` by what a search finds, if it is right: lists with the graph's edges that are drawn as a
-    // map of genus zero, or a witness.
+    // Returns the figure or witness that the fast searches find for `graph`, if it is right. Lists with the graph's
+    // edges are drawn as a map of genus zero.
     fn found_figure(&mut self, graph: &Graph) -> Result<Option<EmbedFigure>, AllocError>
         requires { 3 ≤ graph.now.n }
         ensures { IfOk result (λ found. IfSome found (IsEmbedFigure graph.now)) }
@@ -87,8 +87,8 @@ impl Embedder {
         }
     }
 
-    /// Returns a map of a graph with at least three vertices and the map's drawing in the grid n - 2 by n - 2, or a
-    /// witness that there is none. It fails only when out of memory, and the embedder then serves as before.
+    /// Returns a map of `graph`, which has at least three vertices, with its drawing in the grid n - 2 by n - 2, or
+    /// else a witness. It fails only when out of memory, and the embedder then serves as before.
     pub fn figure(&mut self, graph: &Graph) -> Result<EmbedFigure, AllocError>
         requires { 3 ≤ graph.now.n }
         ensures { IfOk result (IsEmbedFigure graph.now) }
@@ -106,7 +106,7 @@ impl Embedder {
         }
     }
 
-    /// Keeps the memory of a figure that is done with.
+    /// Keeps the memory of `figure`, which is done with.
     pub fn keep(&mut self, figure: EmbedFigure) {
         match figure {
             EmbedFigure::Drawn(lists, drawing) => {

@@ -1,4 +1,4 @@
-//! The answer.
+//! The answer to a planarity question, as the type `Embedding`.
 use kuratowski::Witness;
 use map_lists::Rotations;
 

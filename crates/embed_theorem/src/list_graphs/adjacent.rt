@@ -1,4 +1,4 @@
-//! Adjacency, read off the lists.
+//! Adjacency of two vertices, read off rotation lists.
 ghost use Rattle.std.specs.Prelude.{◌≡◌, ◌==◌};
 ghost use Rattle.std.specs.List.{list_any};
 ghost use Rattle.map_theory.specs.Maps.{IsSimpleMap};
@@ -7,7 +7,7 @@ ghost use Rattle.embed_theorem.specs.ListGraphs.{graph_of};
 
 use map_lists::Rotations;
 
-/// Whether an edge joins two vertices of a simple map.
+/// Says whether an edge joins `u` and `v` in a simple map, given by its `lists`.
 pub fn are_adjacent(lists: &Rotations, u: u16, v: u16) -> bool
     requires simple { IsSimpleMap lists.now }
     ensures { result ≡ has_edge (graph_of lists.now) u v }
@@ -19,7 +19,7 @@ pub fn are_adjacent(lists: &Rotations, u: u16, v: u16) -> bool
     }
 }
 
-// Whether a list holds a number.
+// Says whether `us` has the entry `v`.
 fn holds(us: &[u16], v: u16) -> bool
     ensures { result ≡ list_any (λ w. w == v) us.now }
 {

@@ -1,4 +1,4 @@
-//! The graph with an edge contracted.
+//! Contracts an edge of a graph: lists the edges that remain and renumbers the vertices.
 ghost use Rattle.std.specs.Prelude.{◌≡◌, ◌≤◌, ◌<◌, ◌++◌, ◌∷◌, [], true, map, IfOk, OnOk};
 ghost use Rattle.graph6_text.specs.Graphs.{Edge, edge_of, has_edge};
 ghost use Rattle.graph6_text.specs.Lines.{pairs};
@@ -30,7 +30,7 @@ struct Contracting<'a> {
 }
 
 impl<'a> Contracting<'a> {
-    // Lists the edges of the contracted graph between its first `n` vertices.
+    // Returns the edges of the contracted graph, which has `n` vertices.
     fn edges(&self, alloc: Global, n: u16) -> Result<Vec<Ends>, AllocError>
         requires { n ≤ 255 }
         ensures { IfOk result (λ edges. map edge_of edges.items ≡ contracted_among self.now.graph.now self.now.e.a.0 self.now.e.b.0 (pairs n)) }
@@ -44,7 +44,7 @@ impl<'a> Contracting<'a> {
         Ok(edges)
     }
 
-    // Appends the edge of `u` and `v`, if it is one of that graph.
+    // Appends the edge of `u` and `v` to `edges`, if it is one of the contracted graph.
     fn push_joined(&self, edges: &mut Vec<Ends>, u: u16, v: u16) -> Result<(), AllocError>
         requires order { u < v }
         requires few { v < 256 }
@@ -59,8 +59,8 @@ impl<'a> Contracting<'a> {
         Ok(())
     }
 
-    // Says whether an edge joins `u` and `v` in that graph: it joins what they stand for, or the greater end in place of
-    // the lesser.
+    // Says whether an edge joins `u` and `v` in the contracted graph. It joins the vertices that they stand for, or the
+    // greater end in place of the lesser.
     fn is_edge(&self, u: u16, v: u16) -> bool
         requires first { u < 256 }
         requires second { v < 256 }
@@ -77,7 +77,7 @@ impl<'a> Contracting<'a> {
     }
 }
 
-// Returns the number that a vertex had.
+// Returns the number that vertex `v` of the contracted graph had before the greater end `b` left.
 fn before_left(b: u16, v: u16) -> u16
     requires { v < 256 }
     ensures { result ≡ number_before b v }

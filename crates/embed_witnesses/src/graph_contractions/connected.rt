@@ -1,4 +1,4 @@
-//! Whether a graph is three-connected.
+//! Tests whether a graph is three-connected.
 ghost use Rattle.std.specs.Prelude.{◌<◌, ◌↔◌, IsTrue, IfOk};
 ghost use Rattle.convex_peeling.specs.Polyhedral.{IsThreeConnected};
 ghost use Rattle.conn_parts.specs.GraphLists.{graph_lists as lists_of_graph};
@@ -7,7 +7,8 @@ use conn_parts::graph_cuts::{graph_components, graph_cut_vertex, graph_separatin
 use graph6_text::Graph;
 use std::alloc::{AllocError, Global};
 
-/// Says whether a graph with a vertex has at least four, and is connected without cut vertices and separating pairs. It fails only when out of memory.
+/// Says whether `graph`, which has a vertex, has at least four, and is connected without cut vertices and separating
+/// pairs. It fails only when out of memory.
 pub fn is_three_connected(alloc: Global, graph: &Graph) -> Result<bool, AllocError>
     requires { 0 < graph.now.n }
     ensures { IfOk result (λ yes. IsTrue yes ↔ IsThreeConnected (lists_of_graph graph.now)) }

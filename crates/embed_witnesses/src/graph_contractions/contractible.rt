@@ -1,4 +1,4 @@
-//! The least edge that can be contracted.
+//! Finds the least edge that can be contracted so that the graph stays three-connected.
 ghost use Rattle.std.specs.Prelude.{◌<◌, ◌≤◌, ℕ, IfOk, MatchOption};
 ghost use Rattle.convex_peeling.specs.Polyhedral.{IsThreeConnected};
 ghost use Rattle.conn_parts.specs.GraphLists.{graph_lists as lists_of_graph};
@@ -10,8 +10,8 @@ use graph6_text::Graph;
 use map_lists::{Ends, VertexId};
 use std::alloc::{AllocError, Global};
 
-/// Returns the least edge of a three-connected graph with at least five vertices that leaves a three-connected graph when
-/// it is contracted; there is one by Thomassen's theorem. It fails only when out of memory.
+/// Returns the least edge of a three-connected `graph` with at least five vertices that leaves a three-connected graph
+/// when it is contracted. There is one by Thomassen's theorem. It fails only when out of memory.
 pub fn contractible_edge(alloc: Global, graph: &Graph) -> Result<Ends, AllocError>
     requires five { 5 ≤ graph.now.n }
     requires three { IsThreeConnected (lists_of_graph graph.now) }
@@ -26,7 +26,8 @@ pub fn contractible_edge(alloc: Global, graph: &Graph) -> Result<Ends, AllocErro
     unreachable!()
 }
 
-// Returns the least such edge with the lesser end `u`, or None where there is none.
+// Returns the least edge with lesser end `u` whose contraction leaves a three-connected graph, or None where there is
+// none.
 fn contractible_above(alloc: Global, graph: &Graph, u: u16) -> Result<Option<Ends>, AllocError>
     requires { u < graph.now.n }
     ensures { IfOk result (λ found. MatchOption found ((v : ℕ) → ¬ IsContractibleEdge graph.now u v) (λ e. IsLeastAbove graph.now u e.a.0 e.b.0)) }

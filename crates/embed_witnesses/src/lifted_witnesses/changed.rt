@@ -1,4 +1,4 @@
-//! A witness changed, by its branches and the vertices of its paths.
+//! Builds the changed witness: its branch vertices and the vertices of its paths.
 ghost use Rattle.std.specs.Prelude.{◌≡◌, ◌++◌, ◌∷◌, [], IfOk, OnOk};
 ghost use Rattle.embed_witnesses.specs.Changes.{path_in, IsChanged};
 
@@ -8,7 +8,7 @@ use kuratowski::Witness;
 use map_lists::{PathList, VertexId, VertexList};
 use std::alloc::{AllocError, Global};
 
-/// Returns the witness changed. It fails only when out of memory.
+/// Returns the witness `old` with `change` made. It fails only when out of memory.
 pub(crate) fn changed(alloc: Global, old: &Witness, change: Change) -> Result<Witness, AllocError>
     ensures { IfOk result (IsChanged change old.now) }
 {
@@ -28,7 +28,7 @@ pub(crate) fn changed(alloc: Global, old: &Witness, change: Change) -> Result<Wi
     })
 }
 
-// Appends to `new` the path that stands for path number `p` of the witness.
+// Appends to `new` path `p` of the changed witness, made from `paths`, those of the old one.
 fn push_changed(
     new: &mut PathList,
     paths: &PathList,

@@ -1,6 +1,6 @@
-//! Changes of a witness.
+//! The two kinds of change that are tried on a witness, as types: an edge's end put into a path, or K5 split into K3,3.
 
-/// A vertex put into a path: one of the ends `a` and `b` of an edge.
+/// A vertex put into a path of a witness: one of the ends `a` and `b` of an edge.
 #[derive(Clone, Copy)]
 pub(crate) struct Mending {
     /// Whether the two ends are exchanged first; then `a` is put in, and else `b`.
@@ -15,7 +15,7 @@ pub(crate) struct Mending {
     pub place: usize,
 }
 
-/// K5 split into K3,3.
+/// A witness of K5 split into one of K3,3.
 #[derive(Clone, Copy)]
 pub(crate) struct Splitting {
     /// The branch that is split.
@@ -27,6 +27,7 @@ pub(crate) struct Splitting {
     pub order: u32,
 }
 
+// A change of a witness.
 #[derive(Clone, Copy)]
 pub(crate) enum Change {
     Mended(Mending),

@@ -1,4 +1,4 @@
-//! Witnesses lifted out of a contracted graph.
+//! The public call `lift`, which tries all changes of a witness until one makes it a witness of the graph.
 ghost use Rattle.std.specs.Prelude.{◌≡◌, true, IfOk};
 ghost use Rattle.graph6_text.specs.Graphs.{has_edge};
 ghost use Rattle.kuratowski.specs.Witnesses.{IsWitness};

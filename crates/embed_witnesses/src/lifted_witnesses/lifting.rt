@@ -1,4 +1,4 @@
-//! A witness to be lifted, and changes of it tried.
+//! A witness to be lifted, and the trial of one change, which the witness check decides.
 ghost use Rattle.std.specs.Prelude.{IfOk, MatchOption};
 ghost use Rattle.kuratowski.specs.Witnesses.{IsWitness};
 ghost use Rattle.embed_witnesses.specs.Changes.{IsRight};
@@ -20,7 +20,8 @@ pub(crate) struct Lifting<'a> {
 }
 
 impl Lifting<'_> {
-    /// Returns the witness changed, where it is one of the graph then. It fails only when out of memory.
+    /// Returns the witness with `change` made, if it is one of the graph then, else None. It fails only when out of
+    /// memory.
     pub(crate) fn tried(&self, change: Change) -> Result<Option<Witness>, AllocError>
         ensures { IfOk result (λ found. MatchOption found (¬ IsRight self.now.graph.now self.now.old.now change) (λ w. IsWitness self.now.graph.now w.kind w.branch w.paths)) }
     {

@@ -1,4 +1,5 @@
-//! The vertices of a changed witness, place by place.
+//! Lookups in a changed witness: its branch vertices, and the length and the vertices of each path, with K3,3 indexed
+//! by K5.
 ghost use Rattle.std.specs.Prelude.{◌≡◌, ◌<◌, ◌+◌, ◌-◌, ◌==◌, nat_lt, if◌then◌else◌};
 ghost use Rattle.kuratowski.specs.Witnesses.{branch_count as branches_of, vertex_at as vertex_of};
 ghost use Rattle.embed_contraction.specs.Traces.{path_count as paths_of};
@@ -9,21 +10,21 @@ use crate::lifted_witnesses::changes::{Change, Mending, Splitting};
 use kuratowski::Kind;
 use map_lists::{PathList, VertexId, VertexList};
 
-// Returns the vertex at a place of a list, or 0 past its end.
+// Returns the vertex at index `i` of `list`, or 0 past its end.
 fn vertex_at(list: &[VertexId], i: usize) -> u16
     ensures { result ≡ vertex_of list.now i }
 {
     if i < list.len() { list[i].0 } else { 0 }
 }
 
-// Returns the branch with a number, or 0 past the last.
+// Returns branch vertex `i` of `list`, or 0 past the last.
 fn branch_at(list: &VertexList, i: usize) -> u16
     ensures { result ≡ vertex_of list.now i }
 {
     if i < list.len() { list.get(i).0 } else { 0 }
 }
 
-// Returns the vertex of a path at a place, or 0 where there is none.
+// Returns the vertex at index `i` of path `p`, or 0 where there is none.
 fn place_in(paths: &PathList, p: usize, i: usize) -> u16
     ensures { result ≡ vertex_of_path paths.now p i }
 {
@@ -34,7 +35,7 @@ fn place_in(paths: &PathList, p: usize, i: usize) -> u16
     }
 }
 
-/// Counts the steps of a path; past the last path there are none.
+/// Returns the number of steps of path `p`; past the last path there are none.
 pub(crate) fn step_count(paths: &PathList, p: usize) -> usize
     ensures value { result ≡ steps_of paths.now p }
     ensures few { result < 18446744073709551615 }
@@ -46,6 +47,7 @@ pub(crate) fn step_count(paths: &PathList, p: usize) -> usize
     }
 }
 
+// Returns `v` with `a` and `b` exchanged.
 fn exchanged_number(a: u16, b: u16, v: u16) -> u16
     ensures { result ≡ number_of_other a b v }
 {
@@ -58,6 +60,7 @@ fn exchanged_number(a: u16, b: u16, v: u16) -> u16
     }
 }
 
+// Returns the vertex that stands for `v` in a mended witness: `v`, or the other end where the ends are exchanged.
 fn moved(m: Mending, v: u16) -> u16
     ensures { result ≡ moved_number m v }
 {
@@ -68,12 +71,14 @@ fn moved(m: Mending, v: u16) -> u16
     }
 }
 
+// Returns the end of the edge that a mending puts into a path.
 fn put_in(m: Mending) -> u16
     ensures { result ≡ put_number m }
 {
     if m.exchange { m.a } else { m.b }
 }
 
+// Returns the number of steps of path `p` in a mended witness.
 fn mended_count(m: Mending, paths: &PathList, p: usize) -> usize
     ensures { result ≡ mended_steps m paths.now p }
 {
@@ -84,6 +89,7 @@ fn mended_count(m: Mending, paths: &PathList, p: usize) -> usize
     }
 }
 
+// Returns the vertex at index `i` of the path into which a mending puts an end of the edge.
 fn longer(m: Mending, paths: &PathList, i: usize) -> u16
     ensures { result ≡ longer_vertex m paths.now i }
 {
@@ -98,6 +104,7 @@ fn longer(m: Mending, paths: &PathList, i: usize) -> u16
     }
 }
 
+// Returns the vertex at index `i` of path `p` in a mended witness.
 fn mended_place(m: Mending, paths: &PathList, p: usize, i: usize) -> u16
     ensures { result ≡ mended_vertex m paths.now p i }
 {
@@ -108,6 +115,7 @@ fn mended_place(m: Mending, paths: &PathList, p: usize, i: usize) -> u16
     }
 }
 
+// Returns digit `k` of `order` in base 5: the branch of K5 that is listed at index `k`.
 fn named_branch(order: u32, k: usize) -> u32
     ensures value { result ≡ branch_named order k }
     ensures few { result < 5 }
@@ -125,6 +133,7 @@ fn named_branch(order: u32, k: usize) -> u32
     }
 }
 
+// Returns the index in the order of K5's branches of the branch at which path `p` of K3,3 begins.
 fn first_name(p: usize) -> usize
     ensures { result ≡ name_of_first p }
 {
@@ -132,6 +141,7 @@ fn first_name(p: usize) -> usize
     if row == 0 { 0 } else { row + 2 }
 }
 
+// Returns the number of the path of K5 between branches `a` and `b`, where `a` is the lesser.
 fn path_between(a: u32, b: u32) -> u32
     requires { b < 5 }
     ensures { result ≡ path_of_two a b }
@@ -147,6 +157,7 @@ fn path_between(a: u32, b: u32) -> u32
     }
 }
 
+// Returns the number of the path of K5 between branches `a` and `b`, in any order.
 fn link_between(a: u32, b: u32) -> u32
     requires first { a < 5 }
     requires second { b < 5 }
@@ -159,6 +170,7 @@ fn link_between(a: u32, b: u32) -> u32
     }
 }
 
+// Returns the number of the path of K5 that becomes path `p` of K3,3.
 fn link_of(order: u32, p: usize) -> usize
     ensures { result ≡ link_number order p }
 {
@@ -167,8 +179,8 @@ fn link_of(order: u32, p: usize) -> usize
     link_between(first, second) as usize
 }
 
-// Returns the vertex at place `i` of the path of K5 that is path `p` of K3,3, which is read backwards where its first branch
-// is the greater.
+// Returns the vertex at index `i` of the path of K5 that becomes path `p` of K3,3. It is read backwards where its first
+// branch is the greater.
 fn linked_place(order: u32, paths: &PathList, p: usize, i: usize) -> u16
     ensures { result ≡ linked_vertex order paths.now p i }
 {
@@ -180,12 +192,14 @@ fn linked_place(order: u32, paths: &PathList, p: usize, i: usize) -> u16
     }
 }
 
+// Returns the vertex that stands for `v` on path `p` of the split witness: `b` for `a` on the paths that end at `b`.
 fn ended(t: Splitting, p: usize, v: u16) -> u16
     ensures { result ≡ ended_vertex t p v }
 {
     if p % 3 == 0 && v == t.a { t.b } else { v }
 }
 
+// Returns the number of steps of path `p` in a split witness.
 fn split_count(t: Splitting, paths: &PathList, p: usize) -> usize
     ensures value { result ≡ split_steps t paths.now p }
     ensures few { result < 18446744073709551615 }
@@ -197,6 +211,7 @@ fn split_count(t: Splitting, paths: &PathList, p: usize) -> usize
     }
 }
 
+// Returns the vertex at index `i` of path `p` in a split witness.
 fn split_place(t: Splitting, paths: &PathList, p: usize, i: usize) -> u16
     ensures { result ≡ split_vertex t paths.now p i }
 {
@@ -207,6 +222,7 @@ fn split_place(t: Splitting, paths: &PathList, p: usize, i: usize) -> u16
     }
 }
 
+// Returns the index in the order of K5's branches of branch `j` of K3,3.
 fn name_of_branch(j: usize) -> usize
     ensures { result ≡ (if j == 0 then 0 else if nat_lt j 3 then j + 2 else j - 3) }
 {
@@ -219,6 +235,7 @@ fn name_of_branch(j: usize) -> usize
     }
 }
 
+// Returns branch vertex `j` of a split witness.
 fn split_branch(t: Splitting, branch: &VertexList, j: usize) -> u16
     ensures { result ≡ split_branch_vertex t branch.now j }
 {
@@ -229,7 +246,7 @@ fn split_branch(t: Splitting, branch: &VertexList, j: usize) -> u16
     }
 }
 
-/// Returns the kind of the changed witness.
+/// Returns the kind of the changed witness, where the old one has kind `kind`.
 pub(crate) fn kind_of(change: Change, kind: Kind) -> Kind
     ensures { result ≡ kind_in change kind }
 {
@@ -239,7 +256,7 @@ pub(crate) fn kind_of(change: Change, kind: Kind) -> Kind
     }
 }
 
-/// Returns a branch of the changed witness.
+/// Returns branch vertex `j` of the changed witness; `branch` has those of the old one.
 pub(crate) fn branch_of(change: Change, branch: &VertexList, j: usize) -> u16
     ensures { result ≡ branch_in change branch.now j }
 {
@@ -249,7 +266,7 @@ pub(crate) fn branch_of(change: Change, branch: &VertexList, j: usize) -> u16
     }
 }
 
-/// Counts the steps of a path of it.
+/// Returns the number of steps of path `p` of the changed witness; `paths` are those of the old one.
 pub(crate) fn count_of(change: Change, paths: &PathList, p: usize) -> usize
     ensures { result ≡ count_in change paths.now p }
 {
@@ -259,7 +276,7 @@ pub(crate) fn count_of(change: Change, paths: &PathList, p: usize) -> usize
     }
 }
 
-/// Returns a vertex of that path.
+/// Returns the vertex at index `i` of path `p` of the changed witness; `paths` are those of the old one.
 pub(crate) fn vertex_of_change(change: Change, paths: &PathList, p: usize, i: usize) -> u16
     ensures { result ≡ vertex_in change paths.now p i }
 {

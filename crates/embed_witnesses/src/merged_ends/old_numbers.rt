@@ -1,4 +1,4 @@
-//! Witnesses of a contracted graph on the numbers that its vertices had.
+//! Renumbers a witness of a contracted graph by the numbers that its vertices had before.
 ghost use Rattle.std.specs.Prelude.{◌≡◌, ◌<◌, ◌≤◌, ℕ, true, length, map, IfOk};
 ghost use Rattle.std.specs.List.{range_with_len};
 ghost use Rattle.graph6_text.specs.Graphs.{has_edge};
@@ -28,7 +28,8 @@ pub fn on_old_numbers(
     renamed(alloc, small, &table)
 }
 
-// For each number up to before the last the one before `b` left, and for the last `b`.
+// Returns a table of old numbers for `n` vertices: for each number but the last the one before `b` left, and for the
+// last `b`.
 fn old_numbers(alloc: Global, n: u16, b: u16) -> Result<Vec<u16>, AllocError>
     requires { n ≤ 255 }
     ensures { IfOk result (λ table. table.items ≡ map (number_before n b) (range_with_len 0 n)) }
@@ -40,6 +41,7 @@ fn old_numbers(alloc: Global, n: u16, b: u16) -> Result<Vec<u16>, AllocError>
     Ok(table)
 }
 
+// Returns the old number of vertex `v` of the contracted graph, where the last of `n` numbers stands for `b`.
 fn old_number(n: u16, b: u16, v: u16) -> u16
     requires { v < 255 }
     ensures { result ≡ number_before n b v }

@@ -1,10 +1,10 @@
-//! Branches and paths by their numbers.
+//! Which branch vertices of K5 or K3,3 are joined, and lookups of chosen branches.
 ghost use Rattle.std.specs.Prelude.{◌≡◌};
 ghost use Rattle.embed_witnesses.specs.Plain.{chosen_at as vertex_chosen, is_pair as is_pair_of};
 
 use kuratowski::Kind;
 
-/// Says whether branch `i` and the later one `k` are to be joined.
+/// Says whether branch `i` and the later one `k` are to be joined in a witness of this kind.
 pub(crate) fn is_pair(kind: Kind, i: usize, k: usize) -> bool
     ensures { result ≡ is_pair_of kind i k }
 {

@@ -1,4 +1,4 @@
-//! The search for K5 and K3,3, branch by branch.
+//! The backtracking search for K5 and K3,3 as subgraphs, branch vertex by branch vertex.
 ghost use Rattle.std.specs.Prelude.{◌≡◌, ◌<◌, ◌≤◌, ℕ, true, length, IsTrue, IfOk, MatchOption};
 ghost use Rattle.graph6_text.specs.Graphs.{has_edge};
 ghost use Rattle.kuratowski.specs.Witnesses.{branch_count as branches_of, IsWitness};
@@ -12,8 +12,8 @@ use kuratowski::{Kind, Witness};
 use map_lists::VertexId;
 use std::alloc::{AllocError, Global};
 
-/// Returns a witness of a graph all of whose paths are single edges, or none where the graph has neither K5 nor K3,3 as a
-/// part. It fails only when out of memory.
+/// Returns a witness of `graph` all of whose paths are single edges, or None where the graph has neither K5 nor K3,3 as
+/// a subgraph. It fails only when out of memory.
 ///
 /// Branch by branch all vertices that have edges are tried, so it is quick only where few have.
 pub fn plain_witness(alloc: Global, graph: &Graph) -> Result<Option<Witness>, AllocError>
@@ -39,7 +39,7 @@ pub fn plain_witness(alloc: Global, graph: &Graph) -> Result<Option<Witness>, Al
     begun(&three, &[])
 }
 
-// Returns the vertices that have edges.
+// Returns the vertices of `graph` that have edges.
 fn live_vertices(alloc: Global, graph: &Graph) -> Result<Vec<u16>, AllocError>
     ensures { IfOk result (λ live. HasLive graph.now live.items) }
 {
@@ -52,7 +52,7 @@ fn live_vertices(alloc: Global, graph: &Graph) -> Result<Vec<u16>, AllocError>
     Ok(live)
 }
 
-// Says whether a vertex has an edge.
+// Says whether vertex `v` of `graph` has an edge.
 fn has_edges(graph: &Graph, v: u16) -> bool
     ensures { (u : ℕ) → has_edge graph.now v u ≡ true → IsTrue result }
 {
@@ -73,7 +73,7 @@ struct PlainSearch<'a> {
     live: &'a [u16],
 }
 
-// Returns a witness whose first branches are those in `chosen`, or none where there is none.
+// Returns a witness whose first branches are those in `chosen`, or None where there is none.
 #[cycle(choices)]
 fn begun(search: &PlainSearch<'_>, chosen: &[u16]) -> Result<Option<Witness>, AllocError>
     requires live { HasLive search.now.graph.now search.now.live.now }
@@ -92,8 +92,8 @@ fn begun(search: &PlainSearch<'_>, chosen: &[u16]) -> Result<Option<Witness>, Al
     Ok(None)
 }
 
-// Returns a witness whose first branches are those in `chosen` and `v` behind them, or none where there is none: so it is
-// where an edge is missing from `v` to one of those to which the next branch is to be joined.
+// Returns a witness whose first branches are those in `chosen` and then `v`, or None where there is none. There is none
+// where an edge from `v` to a chosen branch that it is joined to is missing.
 #[cycle(choices)]
 fn continued(
     search: &PlainSearch<'_>,

@@ -1,4 +1,4 @@
-//! Chosen branches as a witness.
+//! Builds a witness from chosen branch vertices, with single edges as its paths.
 ghost use Rattle.std.specs.Prelude.{◌≡◌, ◌<◌, ◌++◌, ◌∷◌, [], length, IfOk, OnOk, MatchOption};
 ghost use Rattle.kuratowski.specs.Witnesses.{pairs_of, IsWitness};
 ghost use Rattle.embed_witnesses.specs.Plain.{plain_branch as branches_of, plain_path as path_of, plain_paths as paths_of};
@@ -9,8 +9,8 @@ use kuratowski::{Kind, Witness, check_witness};
 use map_lists::{PathList, VertexId, VertexList};
 use std::alloc::{AllocError, Global};
 
-/// Returns chosen branches with the edges between them as a witness, or none where it is not one of the graph. It fails
-/// only when out of memory.
+/// Returns the branches `chosen` with the edges between them as a witness, or None where it is not one of `graph`. It
+/// fails only when out of memory.
 pub(crate) fn as_witness(
     alloc: Global,
     graph: &Graph,
@@ -39,7 +39,7 @@ pub(crate) fn as_witness(
     }
 }
 
-// Appends path number `p`: the edge between its two branches.
+// Appends path `p` to `paths`: the edge between its two branches.
 fn push_path(paths: &mut PathList, kind: Kind, chosen: &[u16], p: usize) -> Result<(), AllocError>
     requires { p < length (pairs_of kind) }
     ensures { OnOk result (paths.new ≡ paths.old ++ path_of kind chosen.now p ∷ []) }

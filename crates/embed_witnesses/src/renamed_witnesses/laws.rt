@@ -1,7 +1,7 @@
-//! The law that renaming keeps a witness, as a function that does nothing.
+//! Law: renaming keeps a witness.
 ghost use Rattle.embed_witnesses.specs.Renamed.{RenamedWitness};
 
-/// A witness renamed is one of each graph that has its edges under the new numbers.
+/// States the law that a witness renamed is one of each graph that has its edges under the new numbers.
 pub fn renamed_witness()
     ensures { RenamedWitness }
 {}

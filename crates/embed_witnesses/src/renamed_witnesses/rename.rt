@@ -1,4 +1,4 @@
-//! Witnesses renamed by a table.
+//! Replaces each vertex of a witness by its entry in a table.
 ghost use Rattle.std.specs.Prelude.{◌≡◌, ◌++◌, ◌∷◌, [], map, take, IfOk, OnOk, slice_index_or};
 ghost use Rattle.map_lists.specs.declared.ids.VertexId.{VertexId as Vertex};
 ghost use Rattle.embed_witnesses.specs.Renamed.{named, renamed_list, IsRenamed};
@@ -7,7 +7,7 @@ use kuratowski::Witness;
 use map_lists::{PathList, VertexId, VertexList};
 use std::alloc::{AllocError, Global};
 
-/// Returns the witness with the entries of a table in place of its vertices; a number past the table stays. It fails only
+/// Returns `witness` with the entries of `table` in place of its vertices; a number past the table stays. It fails only
 /// when out of memory.
 pub fn renamed(alloc: Global, witness: &Witness, table: &[u16]) -> Result<Witness, AllocError>
     ensures { IfOk result (λ new. IsRenamed (named table.now) witness.now new) }
@@ -27,7 +27,7 @@ pub fn renamed(alloc: Global, witness: &Witness, table: &[u16]) -> Result<Witnes
     })
 }
 
-// Appends a path with the vertices that `table` has for its own.
+// Appends to `paths` the path with the vertices that `table` has for those of `path`.
 fn push_renamed(paths: &mut PathList, path: &[VertexId], table: &[u16]) -> Result<(), AllocError>
     ensures { OnOk result (paths.new ≡ paths.old ++ renamed_list (named table.now) path.now ∷ []) }
 {
@@ -38,7 +38,7 @@ fn push_renamed(paths: &mut PathList, path: &[VertexId], table: &[u16]) -> Resul
     Ok(())
 }
 
-// Returns the vertex that stands for `v`.
+// Returns the vertex that `table` has for `v`, or `v` past its end.
 fn name_of(table: &[u16], v: VertexId) -> VertexId
     ensures { result.0 ≡ named table.now v.0 }
 {

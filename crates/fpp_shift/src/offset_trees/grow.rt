@@ -1,4 +1,4 @@
-//! How a tree of offsets grows by one vertex.
+//! Adds one vertex to a tree of offsets, over an interval of the contour.
 ghost use Rattle.std.specs.Prelude.{◌≡◌, ◌≢◌, ◌<◌, ◌≤◌, ◌+◌, ◌-◌, ◌*◌, ◌^◌, ℕ, suc, List, slice_index, length, pos, ◌+ℤ◌, option_map, Some};
 ghost use Rattle.pg_plane.specs.Range.{IsWithin};
 ghost use Rattle.fpp_shift.specs.Nodes.{node_at, right_of};
@@ -14,7 +14,7 @@ use map_lists::VertexId;
 use pg_io::Steps;
 use std::sync::ledger::Ledger;
 
-// A width and one offset more.
+// Returns `width` plus `offset`.
 fn wider(width: i32, offset: i32) -> i32
     requires { IsWithin (pos 1048576) (width +ℤ offset) }
     ensures { result ≡ width +ℤ offset }
@@ -22,7 +22,7 @@ fn wider(width: i32, offset: i32) -> i32
     width + offset
 }
 
-// The vertex to which the right link of a vertex leads.
+// Returns the vertex to which the right link of vertex `at` leads.
 fn to_right<L: Ledger>(tree: &Offsets<L>, at: u16, steps: &mut Steps<L>) -> u16
     requires at { at < length tree.now }
     requires link { (u : ℕ) × (right_of tree.now at ≡ Some u) }
@@ -36,7 +36,7 @@ fn to_right<L: Ledger>(tree: &Offsets<L>, at: u16, steps: &mut Steps<L>) -> u16
     }
 }
 
-// The offset of a vertex.
+// Returns the offset of vertex `at`.
 fn offset_of<L: Ledger>(tree: &Offsets<L>, at: u16, steps: &mut Steps<L>) -> i32
     requires { at < length tree.now }
     ensures offset { result ≡ (node_at tree.now at).x }
@@ -46,7 +46,7 @@ fn offset_of<L: Ledger>(tree: &Offsets<L>, at: u16, steps: &mut Steps<L>) -> i32
     node.x
 }
 
-// Along right links from p to q: how far q stands to the right of p, and the vertex before q.
+// Follows right links from `p` to `q`. Returns how far `q` stands to the right of `p`, and the vertex before `q`.
 pub(crate) fn walk<L: Ledger>(tree: &Offsets<L>, p: u16, q: u16, steps: &mut Steps<L>) -> (i32, u16)
     requires { (row : ℕ → ℕ) × (m : ℕ) × IsRow tree.now row m p q }
     ensures width { (row : ℕ → ℕ) (m : ℕ) → IsRow tree.now row m p q → result.0 ≡ far tree.now row m }
@@ -67,7 +67,7 @@ pub(crate) fn walk<L: Ledger>(tree: &Offsets<L>, p: u16, q: u16, steps: &mut Ste
     unreachable!()
 }
 
-// Half of an even number.
+// Returns half of `number`, which is even.
 fn half(number: i32) -> i32
     requires { (k : ℕ) × (number ≡ pos (2 * k)) × (k < 2 ^ 20) }
     ensures { (k : ℕ) → number ≡ pos (2 * k) → result ≡ pos k }
@@ -75,8 +75,8 @@ fn half(number: i32) -> i32
     number / 2
 }
 
-// Where a new vertex comes over p and q, which stand so far apart before, at these heights: how far to the
-// right of p, how high, and how far q is then to the right of it.
+// Returns where a new vertex comes over p and q, which stood `apart` before, at heights `y_p` and `y_q`. These are its
+// offset from p, its height, and the offset of q from it.
 fn top(apart: i32, y_p: i32, y_q: i32) -> (i32, i32, i32)
     requires { (far : ℕ) × (p : ℕ) × (q : ℕ) × (dx : ℕ) × (dy : ℕ) × IsTop apart y_p y_q far p q dx dy }
     ensures { (far p q dx dy : ℕ) → IsTop apart y_p y_q far p q dx dy
@@ -88,8 +88,9 @@ fn top(apart: i32, y_p: i32, y_q: i32) -> (i32, i32, i32)
     (x, y, width - x)
 }
 
-// Tells the nodes of a row but its ends from the vertex over them, which stands x to the right of the row's first vertex;
-// `row` are this one and the last vertex but one. Gives the first of the nodes, if there is any.
+// Makes the nodes strictly within an interval hang on the new vertex over them, which stands `x` to the right of the
+// interval's first vertex. `row` has this one and the last vertex but one; returns the first of the nodes, if there is
+// any.
 fn cover<L: Ledger>(
     tree: &mut Offsets<L>,
     row: (u16, u16),
@@ -116,7 +117,7 @@ fn cover<L: Ledger>(
     Some(VertexId(first))
 }
 
-// An offset that has moved by one, told from where the new vertex stands.
+// Returns `offset`, which has grown by one, as measured from the new vertex at offset `x`.
 fn from_top(offset: i32, x: i32) -> i32
     requires offset { IsWithin (pos 1048576) offset }
     requires x { IsWithin (pos 1048576) x }
@@ -125,7 +126,7 @@ fn from_top(offset: i32, x: i32) -> i32
     offset + 1 - x
 }
 
-// The height of a vertex.
+// Returns the height of vertex `at`.
 fn height_of<L: Ledger>(tree: &Offsets<L>, at: u16, steps: &mut Steps<L>) -> i32
     requires { at < length tree.now }
     ensures height { result ≡ (node_at tree.now at).y }
@@ -135,7 +136,7 @@ fn height_of<L: Ledger>(tree: &Offsets<L>, at: u16, steps: &mut Steps<L>) -> i32
     node.y
 }
 
-// The node at this place, with a left and a right link.
+// Returns the node with this offset and height, and this left and right link.
 fn node_with(place: (i32, i32), links: (Option<VertexId>, Option<VertexId>)) -> Node
     ensures { result ≡ record { x = place.0; y = place.1; left = links.0; right = links.1 } }
 {
@@ -147,7 +148,7 @@ fn node_with(place: (i32, i32), links: (Option<VertexId>, Option<VertexId>)) -> 
     }
 }
 
-// Sets the node of a vertex.
+// Sets the node of vertex `v`.
 fn set_node<L: Ledger>(tree: &mut Offsets<L>, v: u16, node: Node, steps: &mut Steps<L>)
     requires { v < length tree.old }
     ensures set { SetsNode tree.old tree.new v node }
@@ -156,8 +157,8 @@ fn set_node<L: Ledger>(tree: &mut Offsets<L>, v: u16, node: Node, steps: &mut St
     tree.put(VertexId(v), node, steps);
 }
 
-/// Puts the vertex `v` over the row of the contour from one vertex to another, which are `ends`, where the nodes are
-/// the tree of a run before that step. Five nodes change at most; the tree is used 14 times at most, and twice for
+/// Adds vertex `v` over the interval of the contour between the vertices `ends`, where the nodes are the tree of a
+/// construction sequence before that step. Five nodes change at most; the tree is used 14 times at most, and twice for
 /// each vertex that follows the first one up to the last. It takes no memory.
 pub fn put_over<L: Ledger>(
     tree: &mut Offsets<L>,
@@ -184,8 +185,8 @@ pub fn put_over<L: Ledger>(
     set_node(tree, v.0, node_with((x, y), (first, Some(q))), steps);
 }
 
-/// Makes the nodes of `s` and `t` the tree of a run before its first step, whatever they were: both of zeros,
-/// and `s` leads to `t`. The tree is used twice. It takes no memory.
+/// Sets the nodes of `s` and `t` to the tree of a construction sequence before its first step: both are zeros, and `s`
+/// leads to `t`. The tree is used twice. It takes no memory.
 pub fn begin_tree<L: Ledger>(tree: &mut Offsets<L>, s: VertexId, t: VertexId, steps: &mut Steps<L>)
     requires s { s.0 < length tree.old }
     requires t { t.0 < length tree.old }

@@ -1,4 +1,4 @@
-//! The nodes of a tree of offsets.
+//! A tree of offsets as the type `Offsets`, with one `Node` for each vertex, and reads and writes that are counted.
 ghost use Rattle.std.specs.Prelude.{◌≡◌, ◌<◌, ◌≤◌, ◌+◌, length, replicate, slice_set, IfOk};
 
 use map_lists::VertexId;
@@ -45,7 +45,7 @@ impl<L: Ledger> Model for Offsets<L> {
 impl<L: Ledger> Offsets<L> {
     ghost use Rattle.fpp_shift.specs.Nodes.{empty_node, node_at};
 
-    /// The nodes of `n` vertices, all of zeros and without links.
+    /// Returns a tree with the nodes of `n` vertices, all of zeros and without links. It fails only when out of memory.
     pub fn new(alloc: Global, n: u16) -> Result<Offsets<L>, AllocError>
         requires { 1 ≤ n }
         ensures { IfOk result (λ tree. tree ≡ replicate n empty_node) }
@@ -63,7 +63,7 @@ impl<L: Ledger> Offsets<L> {
         })
     }
 
-    // A tree of these nodes, whatever they are.
+    // Returns a tree of these `nodes`, whatever they are.
     pub(crate) fn from_nodes(nodes: Vec<Node>) -> Offsets<L>
         requires few { length nodes.items < 65536 }
         ensures { result ≡ nodes.items }
@@ -74,19 +74,19 @@ impl<L: Ledger> Offsets<L> {
         }
     }
 
-    // The nodes, once the tree is no longer used.
+    // Returns the nodes, once the tree is no longer used.
     pub(crate) fn into_nodes(self) -> Vec<Node> {
         self.nodes
     }
 
-    /// The number of nodes. It takes no memory.
+    /// Returns the number of nodes. It takes no memory.
     pub fn len(&self) -> u16
         ensures { result ≡ length self.now }
     {
         self.nodes.len() as u16
     }
 
-    /// The node of a vertex, and one step. It takes no memory.
+    /// Returns the node of `v`, and counts one step. It takes no memory.
     pub fn get(&self, v: VertexId, steps: &mut Steps<L>) -> Node
         requires { v.0 < length self.now }
         ensures node { result ≡ node_at self.now v.0 }
@@ -97,7 +97,7 @@ impl<L: Ledger> Offsets<L> {
         node
     }
 
-    /// Sets the node of a vertex and keeps all others, and one step. It takes no memory.
+    /// Sets the node of `v` and keeps all others, and counts one step. It takes no memory.
     pub fn put(&mut self, v: VertexId, node: Node, steps: &mut Steps<L>)
         requires { v.0 < length self.old }
         ensures set { self.new ≡ slice_set self.old v.0 node }

@@ -1,4 +1,4 @@
-//! The points to which a tree of offsets adds up.
+//! Adds up a tree of offsets to the points of its vertices.
 ghost use Rattle.std.specs.Prelude.{◌≡◌, ◌<◌, ◌≤◌, ◌+◌, ◌*◌, ℕ, length, take, option_map, slice_index, slice_set, pos, ◌+ℤ◌, IfOk};
 ghost use Rattle.pg_plane.specs.Range.{IsWithin};
 ghost use Rattle.plane_drawings.specs.Drawing.{place};
@@ -13,7 +13,7 @@ use std::alloc::{AllocError, Global};
 use std::mem;
 use std::sync::ledger::Ledger;
 
-// The point of a vertex to which one at `from` leads: by its node so far to the right of it, and as high as the node says.
+// Returns the point of a vertex with this `node` to which one at `from` leads: offset from it, at the node's height.
 fn point_beside(from: Point, node: Node) -> Point
     requires { IsWithin (pos 1048576) (from.x +ℤ node.x) }
     ensures { result ≡ beside from node }
@@ -24,7 +24,7 @@ fn point_beside(from: Point, node: Node) -> Point
     }
 }
 
-// Sets the vertex at place i of those met.
+// Writes vertex `v` at index `i` of `met`, the list of vertices met.
 fn meet(met: &mut [u16], i: usize, v: u16)
     requires { i < length met.old }
     ensures { met.new ≡ slice_set met.old i v }
@@ -32,7 +32,7 @@ fn meet(met: &mut [u16], i: usize, v: u16)
     met[i] = v;
 }
 
-// The point of a vertex.
+// Returns the point of `v`.
 fn point_of(points: &[Point], v: u16) -> Point
     requires { v < length points.now }
     ensures { result ≡ place points.now v }
@@ -40,7 +40,7 @@ fn point_of(points: &[Point], v: u16) -> Point
     points[v as usize]
 }
 
-// Sets the point of a vertex.
+// Sets the point of `v`.
 fn put_point(points: &mut [Point], v: u16, point: Point)
     requires { v < length points.old }
     ensures { points.new ≡ slice_set points.old v point }
@@ -48,7 +48,7 @@ fn put_point(points: &mut [Point], v: u16, point: Point)
     points[v as usize] = point;
 }
 
-// The point of a vertex with this node that no other leads to.
+// Returns the point of the root, which has this `node`.
 fn own_point(node: Node) -> Point
     ensures { result ≡ own node }
 {
@@ -58,8 +58,8 @@ fn own_point(node: Node) -> Point
     }
 }
 
-// Goes along one link of a vertex, where `filled` vertices were met: what it leads to is met too, beside the vertex. It
-// answers how many are met then.
+// Follows one link of `v`, where `filled` vertices were met. If it leads to a vertex, that is met too, and its point is
+// found. It answers how many are met then.
 fn follow<L: Ledger>(
     tree: &Offsets<L>,
     met: &mut [u16],
@@ -95,7 +95,7 @@ fn follow<L: Ledger>(
     }
 }
 
-// Finds the points of a tree, by tables that may hold anything: the root is met first, and then what the links of each
+// Finds the points of a tree, in tables that may hold anything. The root is met first, and then what the links of each
 // vertex lead to, in the order in which the vertices are met.
 fn find_points<L: Ledger>(
     tree: &Offsets<L>,
@@ -144,7 +144,7 @@ impl SumMemory {
         }
     }
 
-    // Finds the points to which a tree adds up, in the memory kept.
+    // Returns the points to which `tree` adds up, in the memory kept.
     pub(crate) fn sum_offsets<L: Ledger>(
         &mut self,
         tree: &Offsets<L>,
@@ -163,17 +163,17 @@ impl SumMemory {
         Ok(Points::from_vec(points))
     }
 
-    // Keeps the memory of points that are done with.
+    // Keeps the memory of `points`, which are done with.
     pub(crate) fn keep(&mut self, points: Points) {
         self.spent = points;
     }
 }
 
-/// The points to which a tree of offsets adds up: the x of a vertex is the sum of the nodes' x on the way
-/// by links from `root` to it, both included, and its y is that of its node.
+/// Returns the points to which `tree` adds up. The y of a vertex is that of its node. Its x is the sum of the nodes' x
+/// on the path of links from `root` to it, both included.
 ///
-/// The links lead from the root to each vertex, and to each other vertex by just one link; each such sum is
-/// from -2^20 to 2^20. The tree is used at most 8 times as often as it has nodes.
+/// The links lead from the root to each vertex, and to each other vertex by just one link; each such sum is from -2^20
+/// to 2^20. The tree is used at most 8 times as often as it has nodes.
 ///
 /// It fails only when out of memory.
 pub fn sum_offsets<L: Ledger>(

@@ -1,4 +1,4 @@
-//! Writes to one node of a tree.
+//! Writes to one field of a node in a tree of offsets: its offset, or its right link.
 ghost use Rattle.std.specs.Prelude.{◌≡◌, ◌<◌, ◌+◌, length, option_map};
 ghost use Rattle.fpp_shift.specs.Writes.{SetsX, SetsRight};
 
@@ -7,7 +7,7 @@ use map_lists::VertexId;
 use pg_io::Steps;
 use std::sync::ledger::Ledger;
 
-// Sets the offset of a vertex.
+// Sets the offset of vertex `u`.
 pub(crate) fn set_x<L: Ledger>(tree: &mut Offsets<L>, u: u16, x: i32, steps: &mut Steps<L>)
     requires { u < length tree.old }
     ensures set { SetsX tree.old tree.new u x }
@@ -18,7 +18,7 @@ pub(crate) fn set_x<L: Ledger>(tree: &mut Offsets<L>, u: u16, x: i32, steps: &mu
     tree.put(VertexId(u), node, steps);
 }
 
-// Sets the right link of a vertex.
+// Sets the right link of vertex `u`.
 pub(crate) fn set_right<L: Ledger>(
     tree: &mut Offsets<L>,
     u: u16,

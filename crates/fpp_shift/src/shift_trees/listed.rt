@@ -1,4 +1,4 @@
-//! Where rows begin and end, and the tree of offsets of an order, by the lists of the map.
+//! Makes the tree of offsets by the lists of a map, and finds the ends of attachment intervals by list entries.
 ghost use Rattle.std.specs.Prelude.{◌≡◌, ◌<◌, ◌≤◌, ◌+◌, ◌*◌, ℕ, length, slice_index};
 ghost use Rattle.map_lists.specs.Lists.{Lists};
 ghost use Rattle.map_theory.specs.Maps.{Dart, vertex_count};
@@ -16,8 +16,8 @@ use order_drawings::order_tables::RankedList;
 use pg_io::Steps;
 use std::sync::ledger::Ledger;
 
-// The neighbours at which the row of a vertex begins and ends, by one round of its list: where those of its list that are
-// later begin, and come to an end. Where none is later, these are the base's vertices, s and t.
+// Returns the first and the last neighbour of the attachment interval of a vertex, from one round of its list. It lies
+// between the later neighbours; where none is later, these are the base's vertices, `s` and `t`.
 fn row_in(row: &RankedList<'_>, s: u16, t: u16) -> (u16, u16)
     requires { 0 < length row.now.list.now }
     ensures begin { (lists : Lists) (v p : ℕ) → IsListOf lists v row.now.list.now → BeginsRow lists row.now.ranks.now row.now.k v p → (slice_index row.now.ranks.now p ≡ 0 → p ≡ s)
@@ -46,7 +46,7 @@ fn row_in(row: &RankedList<'_>, s: u16, t: u16) -> (u16, u16)
     (list[end - 1], list[again])
 }
 
-/// Makes `tree` the tree of offsets of a canonical order of a triangulation, by its lists.
+/// Makes `tree` the tree of offsets of the canonical `order` of a triangulation, by its `lists`.
 pub(crate) fn list_tree<L: Ledger>(
     lists: &Rotations,
     order: &Order,

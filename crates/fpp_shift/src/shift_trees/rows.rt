@@ -1,4 +1,4 @@
-//! Where the row of the contour begins and ends over which a vertex of an order is put.
+//! Attachment intervals of a canonical order: the first and the last contour vertex under a vertex, by its darts.
 ghost use Rattle.std.specs.Prelude.{◌≡◌, ◌<◌, ◌≤◌, ◌⊎◌, ◌↔◌, ℕ, length, slice_index, IsTrue, Some};
 ghost use Rattle.map_theory.specs.Maps.{list_of};
 ghost use Rattle.half_edges.specs.Map.{IsLive, dart_at, first_dart};
@@ -6,15 +6,15 @@ ghost use Rattle.fpp_shift.specs.ShiftTreesRows.{BeginsRow, EndsRow, OrderHasRow
 
 use half_edges::{Counts, DartId, HalfMap, VertexId};
 
-/// The row of each vertex of a canonical order from the third on begins and ends at just one of its neighbours,
-/// and these are the first and the last vertex of a step of the order's run.
+/// States the law that the attachment interval of each vertex of a canonical order, from the third on, begins and ends
+/// at just one neighbour. These are the first and the last vertex of a step of the order's run.
 pub(crate) fn order_has_rows()
     ensures { OrderHasRows }
 {
     canon_order::row_ends();
 }
 
-/// Holds a map, and for each vertex its rank in a canonical order: its place there, from 0.
+/// A half-edge map, and for each vertex its rank in a canonical order: its index there, from 0.
 #[derive(Clone, Copy)]
 pub(crate) struct RankedMap<'a> {
     pub(crate) map: &'a HalfMap,
@@ -22,15 +22,15 @@ pub(crate) struct RankedMap<'a> {
     pub(crate) ghost ranked: { length ranks.now ≡ length map.now.lists },
 }
 
-// Whether the row of a vertex of rank k has an end at a neighbour of this rank: it is earlier, and it is that end
-// of the base, or the neighbour on that side of it is later.
+// Says whether the attachment interval of a vertex of rank `k` ends at its neighbour of rank `rank`. That is earlier,
+// and it is the end `base` of the base or has a later neighbour `beside` it.
 fn is_end(rank: u32, beside: u32, k: u32, base: u32) -> bool
     ensures { IsTrue result ↔ ((rank < k) × ((rank ≡ base) ⊎ (k ≤ beside))) }
 {
     rank < k && (rank == base || k <= beside)
 }
 
-// The first dart of a vertex that has neighbours.
+// Returns the first dart of `v`, which has neighbours.
 fn some_dart(map: &HalfMap, v: VertexId) -> DartId
     requires vertex { v.0 < length map.now.lists }
     requires some { 0 < length (list_of map.now.lists v.0) }
@@ -52,7 +52,7 @@ impl RankedMap<'_> {
         self.ranks.get(self.map.head(d).0 as usize)
     }
 
-    /// Finds the neighbour at which the row of a vertex of rank k begins, by one round of its darts.
+    /// Returns the neighbour at which the attachment interval of `v`, of rank `k`, begins, by one round of its darts.
     #[inline(always)]
     pub(crate) fn row_begin(&self, v: VertexId, k: u32) -> VertexId
         requires vertex { v.0 < length self.now.map.now.lists }
@@ -73,7 +73,7 @@ impl RankedMap<'_> {
         unreachable!()
     }
 
-    /// Finds the neighbour at which it ends.
+    /// Returns the neighbour at which the attachment interval of `v`, of rank `k`, ends, by one round of its darts.
     #[inline(always)]
     pub(crate) fn row_end(&self, v: VertexId, k: u32) -> VertexId
         requires vertex { v.0 < length self.now.map.now.lists }

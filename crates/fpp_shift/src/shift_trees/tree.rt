@@ -1,4 +1,4 @@
-//! The tree of offsets of an order.
+//! The public call `offset_tree`, which makes the tree of offsets of a canonical order by a half-edge map.
 ghost use Rattle.std.specs.Prelude.{◌≡◌, ◌≤◌, ◌+◌, ◌*◌, length, slice_index};
 ghost use Rattle.map_theory.specs.Maps.{Dart, vertex_count};
 ghost use Rattle.plane_laws.specs.Triangulations.{IsTriangulation};
@@ -13,8 +13,8 @@ use half_edges::HalfMap;
 use pg_io::Steps;
 use std::sync::ledger::Ledger;
 
-/// Makes `tree` the tree of offsets of a canonical order of a triangulation, whatever its nodes were. Its links
-/// lead from the first vertex of the order to each other one, and it adds up to the points of the shift method.
+/// Makes `tree` the tree of offsets of the canonical `order` of the triangulation `tri`, whatever its nodes were. Its
+/// links lead from the first vertex of the order to each other one, and it adds up to the points of the shift method.
 ///
 /// At most 24 uses of the tree are made for each vertex. It takes no memory and refuses nothing.
 ///

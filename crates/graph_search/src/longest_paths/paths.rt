@@ -1,4 +1,5 @@
-//! Longest paths, by a queue of the vertices into which no arc is left.
+//! Longest path lengths and a topological order by Kahn's method: a queue of the vertices all of whose incoming arcs
+//! are used.
 ghost use Rattle.std.specs.Prelude.{◌≡◌, ◌+◌, ◌<◌, ◌^◌, ◌==◌, ℕ, [], ◌∷◌, length, slice_index, replicate, All, IfOk};
 ghost use Rattle.graph_search.specs.Arcs.{HasArc, IsAcyclic, AreLongest, IsTopological};
 ghost use Rattle.graph_search.specs.Progress.{IsRaised, all_into};
@@ -7,7 +8,7 @@ use map_lists::ItemLists;
 use std::alloc::{AllocError, Global};
 use std::mem;
 
-// Raises the number of `r` above that of `e`.
+// Raises the path length of vertex `r` in `number` to one more than that of `e`, where it is less.
 fn raise(number: &mut [u32], e: u32, r: u32)
     requires e_in { e < length number.old }
     requires r_in { r < length number.old }
@@ -20,7 +21,8 @@ fn raise(number: &mut [u32], e: u32, r: u32)
     }
 }
 
-// Uses all arcs: from the base, and then from each vertex into which none is left.
+// Uses all arcs: first those from `base`, then those from each vertex without an unused incoming arc. It fills
+// `number` with the longest path lengths, counts `waiting` down, and appends the vertices to `queue`.
 fn visit_all(
     arcs: &ItemLists<u32>,
     base: u32,
@@ -59,7 +61,7 @@ fn visit_all(
     Ok(())
 }
 
-// Counts the arcs into each vertex.
+// Adds to the entry of each vertex in `counts` the number of arcs into it.
 fn count_arcs(counts: &mut [usize], arcs: &ItemLists<u32>)
     requires size { length counts.old ≡ length arcs.now }
     requires within { (e r : ℕ) → HasArc arcs.now e r → r < length arcs.now }
@@ -71,7 +73,7 @@ fn count_arcs(counts: &mut [usize], arcs: &ItemLists<u32>)
     }
 }
 
-// Fills a table with 0 at each of `n` places.
+// Makes `table` a list of `n` zeros. It fails only when out of memory.
 fn zeros(table: &mut Vec<u32>, n: usize) -> Result<(), AllocError>
     ensures { IfOk result (λ _. table.new.items ≡ replicate n 0) }
 {
@@ -80,7 +82,7 @@ fn zeros(table: &mut Vec<u32>, n: usize) -> Result<(), AllocError>
     Ok(())
 }
 
-// Fills a table with how many arcs lead to each vertex.
+// Makes `table` hold for each vertex the number of arcs into it. It fails only when out of memory.
 fn arcs_into(table: &mut Vec<usize>, arcs: &ItemLists<u32>) -> Result<(), AllocError>
     requires within { (e r : ℕ) → HasArc arcs.now e r → r < length arcs.now }
     ensures count { IfOk result (λ _. length table.new.items ≡ length arcs.now) }
@@ -137,7 +139,7 @@ impl PathTables {
     }
 }
 
-/// For each vertex the length of the longest path from the base to it, as [`PathTables::find`] has it.
+/// Returns for each vertex the length of the longest path from `base` to it, as [`PathTables::find`] has it.
 pub fn longest_paths(
     alloc: Global,
     arcs: &ItemLists<u32>,
@@ -152,8 +154,8 @@ pub fn longest_paths(
     Ok(tables.number)
 }
 
-/// All vertices in an order in which each but the base stands behind those from which arcs lead to it. The base is
-/// the first. It fails only when out of memory. The time is linear in the vertices and arcs, and so is the memory.
+/// Returns all vertices in an order in which each but `base` stands after those from which arcs lead to it. `base` is
+/// the first. It fails only when out of memory. Time and memory are linear in the vertices and arcs.
 pub fn topological_order(
     alloc: Global,
     arcs: &ItemLists<u32>,

@@ -1,4 +1,4 @@
-//! Which vertices are cut vertices.
+//! Which vertices are cut vertices, as flags for all vertices, and whether there is none, by low points.
 ghost use Rattle.std.specs.Prelude.{◌≡◌, ◌+◌, ◌<◌, ◌≤◌, ◌↔◌, ℕ, length, slice_index, IfOk, IsTrue, MatchBool};
 ghost use Rattle.map_theory.specs.Maps.{list_of};
 ghost use Rattle.graph_search.specs.Cuts.{IsCutVertex};
@@ -11,7 +11,7 @@ use map_lists::Rotations;
 use std::alloc::{AllocError, Global};
 
 impl Searched<'_> {
-    // Whether `u` is a child of `v` that `v` parts from other vertices.
+    // Says whether `u` is a child of `v` in the forest, and `v` as a cut vertex separates `u` from other vertices.
     fn is_separated(&self, v: u16, u: u16) -> bool
         requires v_in { v < length self.now.lists.now }
         requires u_in { u < length self.now.lists.now }
@@ -26,7 +26,7 @@ impl Searched<'_> {
         }
     }
 
-    /// Whether `v` parts a child of its list from other vertices.
+    /// Says whether `v` is a cut vertex: it separates some child in its list from other vertices.
     pub(crate) fn has_separated(&self, v: u16) -> bool
         requires { v < length self.now.lists.now }
         ensures { MatchBool result (HasSeparatedChild self.now.number.now self.now.parent.now self.now.low.now v (list_of self.now.lists.now v)) (¬ HasSeparatedChild self.now.number.now self.now.parent.now self.now.low.now v (list_of self.now.lists.now v)) }
@@ -40,7 +40,7 @@ impl Searched<'_> {
         false
     }
 
-    // Says whether no vertex with a low point not before its parent is a child that this parts from others.
+    // Says whether no vertex is separated from others by its parent, so that there is no cut vertex.
     fn no_child_apart(&self) -> bool
         ensures { IsTrue result → (v u : ℕ) → v < length self.now.number.now → slice_index self.now.number.now v ≤ slice_index self.now.low.now u → ¬ IsSeparatedIn self.now.number.now self.now.parent.now self.now.low.now v u }
     {
@@ -61,7 +61,7 @@ impl Searched<'_> {
         true
     }
 
-    // Sets the flag of each vertex that parts a child from other vertices.
+    // Sets `flags[v]` to whether `v` is a cut vertex, for each vertex `v`.
     fn set_flags(&self, flags: &mut [bool])
         requires { length flags.old ≡ length self.now.lists.now }
         ensures { TellSeparated self.now.lists.now self.now.number.now self.now.parent.now self.now.low.now flags.new (length self.now.lists.now) }
@@ -72,8 +72,8 @@ impl Searched<'_> {
     }
 }
 
-/// Whether no vertex of lists in which adjacency goes both ways is a cut vertex, by a search of them and its low
-/// points. It looks once at each vertex.
+/// Says whether no vertex of `lists`, in which adjacency goes both ways, is a cut vertex, by a search `forest` and
+/// its low points `low`. It looks once at each vertex.
 pub fn is_uncut(lists: &Rotations, forest: &Forest, low: &[u16]) -> bool
     requires adjacency { IsAdjacency lists.now }
     requires forest { IsForestOf lists.now forest.now.order.items forest.now.number.items forest.now.last.items forest.now.parent.items }
@@ -90,8 +90,8 @@ pub fn is_uncut(lists: &Rotations, forest: &Forest, low: &[u16]) -> bool
     searched.no_child_apart()
 }
 
-/// For each vertex of lists in which adjacency goes both ways, whether it is a cut vertex, in time linear in
-/// the entries. It fails only when out of memory.
+/// Returns for each vertex of `lists`, in which adjacency goes both ways, whether it is a cut vertex. The time is
+/// linear in the entries. It fails only when out of memory.
 pub fn cut_flags(alloc: Global, lists: &Rotations) -> Result<Vec<bool>, AllocError>
     requires adjacency { IsAdjacency lists.now }
     ensures { IfOk result (λ flags. AreCutFlags lists.now flags.items) }

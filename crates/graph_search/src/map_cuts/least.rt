@@ -1,4 +1,4 @@
-//! The least cut vertex.
+//! The least cut vertex of rotation lists or of a map, and the first flag that is set.
 ghost use Rattle.std.specs.Prelude.{◌≡◌, ◌<◌, ◌≤◌, ℕ, true, false, length, slice_index_or, MatchOption, IfOk};
 ghost use Rattle.graph_search.specs.Forests.{IsAdjacency, IsForestOf};
 ghost use Rattle.graph_search.specs.Lows.{AreLows};
@@ -9,7 +9,7 @@ use half_edges::HalfMap;
 use map_lists::{Rotations, VertexId};
 use std::alloc::{AllocError, Global};
 
-// The first place from `from` on whose flag is set.
+// Returns the first index from `from` on at which `flags` is set.
 pub(crate) fn first_set(flags: &[bool], from: usize) -> Option<usize>
     requires { length flags.now < 4096 }
     ensures none { MatchOption result ((i : ℕ) → from ≤ i → i < length flags.now → slice_index_or flags.now i false ≡ false) (λ i. (i < length flags.now) × (from ≤ i) × (slice_index_or flags.now i false ≡ true) × ((k : ℕ) → from ≤ k → k < i → slice_index_or flags.now k false ≡ false)) }
@@ -22,8 +22,8 @@ pub(crate) fn first_set(flags: &[bool], from: usize) -> Option<usize>
     None
 }
 
-/// The least cut vertex of lists in which adjacency goes both ways, by a search of them and its low points; None
-/// exactly where there is none.
+/// Returns the least cut vertex of lists in which adjacency goes both ways, by a search of them and its low points;
+/// None exactly where there is none.
 pub fn searched_cut_vertex(lists: &Rotations, forest: &Forest, low: &[u16]) -> Option<u16>
     requires adjacency { IsAdjacency lists.now }
     requires forest { IsForestOf lists.now forest.now.order.items forest.now.number.items forest.now.last.items forest.now.parent.items }
@@ -45,7 +45,7 @@ pub fn searched_cut_vertex(lists: &Rotations, forest: &Forest, low: &[u16]) -> O
     None
 }
 
-/// The least cut vertex of lists in which adjacency goes both ways, or None exactly where there is none, in
+/// Returns the least cut vertex of lists in which adjacency goes both ways, or None exactly where there is none, in
 /// time linear in the entries. It fails only when out of memory.
 pub fn list_cut_vertex(alloc: Global, lists: &Rotations) -> Result<Option<u16>, AllocError>
     requires adjacency { IsAdjacency lists.now }
@@ -56,8 +56,8 @@ pub fn list_cut_vertex(alloc: Global, lists: &Rotations) -> Result<Option<u16>, 
     Ok(searched_cut_vertex(lists, &forest, &low))
 }
 
-/// The least cut vertex of a map, or None exactly where there is none, in linear time. It fails only when
-/// out of memory.
+/// Returns the least cut vertex of a map, or None exactly where there is none, in linear time. It fails only when out
+/// of memory.
 pub fn cut_vertex(alloc: Global, map: &HalfMap) -> Result<Option<VertexId>, AllocError>
     ensures { IfOk result (λ found. MatchOption found ((v : ℕ) → ¬ IsCutVertex map.now.lists v) (λ v. IsLeastCutVertex map.now.lists v.0)) }
 {

@@ -1,4 +1,4 @@
-//! The least separating pair.
+//! The least separating pair of vertices, of rotation lists or of a map.
 ghost use Rattle.std.specs.Prelude.{◌≡◌, ◌<◌, ◌≤◌, ℕ, true, false, length, slice_index_or, MatchOption, IfOk};
 ghost use Rattle.graph_search.specs.Forests.{IsAdjacency};
 ghost use Rattle.graph_search.specs.Cuts.{IsSeparatingPair, IsLeastPair};
@@ -11,7 +11,8 @@ use half_edges::HalfMap;
 use map_lists::{Rotations, VertexId};
 use std::alloc::{AllocError, Global};
 
-// Returns the least greater vertex with which `u` is a separating pair: the flags tell the cut vertices.
+// Returns the least vertex greater than `u` with which `u` is a separating pair of `lists`, or None. `flags` says
+// which vertices are cut vertices. It fails only when out of memory.
 fn partner(
     alloc: Global,
     lists: &Rotations,
@@ -45,9 +46,9 @@ fn partner(
     }
 }
 
-/// The least separating pair of lists in which adjacency goes both ways, by its first vertex and then by its
-/// second, or None exactly where there is none. It searches the lists without each vertex in turn, and
-/// fails only when out of memory.
+/// Returns the least separating pair of lists in which adjacency goes both ways, by its first vertex and then by its
+/// second, or None exactly where there is none. It searches the lists without each vertex in turn, and fails only
+/// when out of memory.
 pub fn list_separating_pair(
     alloc: Global,
     lists: &Rotations,
@@ -65,7 +66,7 @@ pub fn list_separating_pair(
     Ok(None)
 }
 
-/// The least separating pair of a map, by its first vertex and then by its second, or None exactly where
+/// Returns the least separating pair of a map, by its first vertex and then by its second, or None exactly where
 /// there is none. It fails only when out of memory.
 pub fn separating_pair(
     alloc: Global,

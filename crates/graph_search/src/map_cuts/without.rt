@@ -1,4 +1,4 @@
-//! Lists without a vertex.
+//! Rotation lists with one vertex isolated: it leaves all lists, and its own list is empty.
 ghost use Rattle.std.specs.Prelude.{◌≡◌, ◌<◌, ◌==◌, ◌++◌, ◌∷◌, [], List, ℕ, not, length, IfOk};
 ghost use Rattle.std.specs.List.{filter};
 ghost use Rattle.graph_search.specs.Without.{list_without, IsWithoutVertex};
@@ -6,7 +6,7 @@ ghost use Rattle.graph_search.specs.Without.{list_without, IsWithoutVertex};
 use map_lists::{ItemLists, Rotations};
 use std::alloc::{AllocError, Global};
 
-// Appends an entry to the last list, unless it is u.
+// Appends the entry `w` to the last list of `rest`, unless it is `u`.
 fn append_other(rest: &mut ItemLists<u16>, w: u16, u: u16) -> Result<(), AllocError>
     requires { 0 < length rest.old }
     ensures { IfOk result (λ _. (before : List (List ℕ)) (last : List ℕ) → rest.old ≡ before ++ last ∷ [] → rest.new ≡ before ++ (last ++ filter (λ x. not (x == u)) (w ∷ [])) ∷ []) }
@@ -14,7 +14,7 @@ fn append_other(rest: &mut ItemLists<u16>, w: u16, u: u16) -> Result<(), AllocEr
     if w == u { Ok(()) } else { rest.append(w) }
 }
 
-// Appends the list of `v` as it is without `u`: that of `u` itself is empty.
+// Appends to `rest` the list of vertex `v` without the entry `u`. The list of `u` itself becomes empty.
 fn push_without(rest: &mut ItemLists<u16>, list: &[u16], v: u16, u: u16) -> Result<(), AllocError>
     ensures { IfOk result (λ _. rest.new ≡ rest.old ++ list_without u v list.now ∷ []) }
 {
@@ -28,7 +28,8 @@ fn push_without(rest: &mut ItemLists<u16>, list: &[u16], v: u16, u: u16) -> Resu
     Ok(())
 }
 
-/// Lists without a vertex, which stays, alone. It fails only when out of memory.
+/// Returns `lists` with vertex `u` isolated: it is in no list, and its own list is empty. It fails only when out of
+/// memory.
 pub(crate) fn lists_without(
     alloc: Global,
     lists: &Rotations,

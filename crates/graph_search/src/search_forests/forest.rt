@@ -1,4 +1,4 @@
-//! Finished searches.
+//! The forest of a finished depth-first search, the public calls that search, and the tables that keep their memory.
 ghost use Rattle.std.specs.Prelude.{◌≡◌, ◌<◌, ◌≢◌, length, slice_index, replicate, IfOk};
 ghost use Rattle.map_theory.specs.Maps.{HasDart};
 ghost use Rattle.graph_search.specs.Forests.{IsAdjacency, IsForestOf};
@@ -17,13 +17,13 @@ pub struct Forest {
     pub order: Vec<u16>,
     /// For each vertex its place in that order, from 0.
     pub number: Vec<u16>,
-    /// For each vertex how many were seen when all its neighbours were.
+    /// For each vertex the number of vertices seen by the time when all its neighbours were.
     pub last: Vec<u16>,
     /// For each vertex that from which it was seen, or the number of vertices where there is none.
     pub parent: Vec<u16>,
 }
 
-/// The forest of lists in which adjacency goes both ways. It fails only when out of memory.
+/// Returns the forest of lists in which adjacency goes both ways. It fails only when out of memory.
 pub fn search_forest(alloc: Global, lists: &Rotations) -> Result<Forest, AllocError>
     requires adjacency { IsAdjacency lists.now }
     ensures { IfOk result (λ f. IsForestOf lists.now f.order.items f.number.items f.last.items f.parent.items) }
@@ -36,7 +36,7 @@ pub fn search_forest(alloc: Global, lists: &Rotations) -> Result<Forest, AllocEr
 }
 
 impl Forest {
-    /// A forest of no lists. It takes no memory.
+    /// Returns a forest of no lists. It takes no memory.
     pub fn new(alloc: Global) -> Forest {
         Forest {
             order: Vec::new(alloc),
@@ -47,7 +47,7 @@ impl Forest {
     }
 }
 
-/// Gives a table `n` places, with `item` at those that it did not have.
+/// Makes `table` `n` entries long: it is cut, or filled up with copies of `item`. It fails only when out of memory.
 #[inline(always)]
 pub fn size<T: Copy>(table: &mut Vec<T>, item: T, n: usize) -> Result<(), AllocError>
     ensures { IfOk result (λ _. length table.new.items ≡ n) }
@@ -60,7 +60,8 @@ pub fn size<T: Copy>(table: &mut Vec<T>, item: T, n: usize) -> Result<(), AllocE
     Ok(())
 }
 
-// Marks all vertices as unseen and open, with no low point found and no entry read.
+// Resets the tables of a search: all vertices are unseen and open, with no low point found and no entry of their
+// lists read.
 fn unsee(number: &mut [u16], last: &mut [u16], low: &mut [u16], cursor: &mut [usize])
     requires few { length number.old < 4096 }
     requires lasts { length last.old ≡ length number.old }
@@ -101,7 +102,7 @@ impl SearchTables {
         }
     }
 
-    // Makes the tables those of a search in which none of `n` vertices was seen.
+    // Resets the tables to a search of `n` vertices of which none was seen. It fails only when out of memory.
     fn clear(&mut self, n: usize) -> Result<(), AllocError>
         requires { n < 4096 }
         ensures { IfOk result (λ _. AreCleared n self.new.forest.order.items self.new.forest.number.items self.new.forest.last.items self.new.forest.parent.items self.new.cursor.items self.new.low.items) }

@@ -1,4 +1,4 @@
-//! Low points.
+//! Low points: for each vertex the least search number adjacent to it or to a descendant of it.
 ghost use Rattle.std.specs.Prelude.{◌≡◌, ◌<◌, length, replicate, IfOk, min};
 ghost use Rattle.graph_search.specs.Forests.{IsAdjacency, IsForestOf};
 ghost use Rattle.graph_search.specs.Lows.{AreLows, IsLowered};
@@ -7,7 +7,7 @@ use crate::search_forests::forest::Forest;
 use map_lists::Rotations;
 use std::alloc::{AllocError, Global};
 
-// Returns the lesser of two.
+// Returns the lesser of two search numbers.
 pub(crate) fn lesser(one: u16, other: u16) -> u16
     ensures { result ≡ min one other }
 {
@@ -24,7 +24,7 @@ pub(crate) fn lower(low: &mut [u16], v: u16, least: u16)
     }
 }
 
-// Fills the low points, those of the greatest numbers first. Each lowers that of its parent.
+// Fills `low` with the low points, from the vertex seen last to the first. Each lowers that of its parent.
 pub(crate) fn fill_lows(lists: &Rotations, forest: &Forest, low: &mut [u16])
     requires in_range { IsAdjacency lists.now }
     requires forest { IsForestOf lists.now forest.now.order.items forest.now.number.items forest.now.last.items forest.now.parent.items }
@@ -44,7 +44,7 @@ pub(crate) fn fill_lows(lists: &Rotations, forest: &Forest, low: &mut [u16])
     }
 }
 
-/// The low points of a search's vertices. It fails only when out of memory.
+/// Returns for each vertex of `lists` its low point in the search `forest`. It fails only when out of memory.
 pub fn low_points(alloc: Global, lists: &Rotations, forest: &Forest) -> Result<Vec<u16>, AllocError>
     requires adjacency { IsAdjacency lists.now }
     requires forest { IsForestOf lists.now forest.now.order.items forest.now.number.items forest.now.last.items forest.now.parent.items }

@@ -1,4 +1,4 @@
-//! Lends a finished search to its readers.
+//! A finished depth-first search, borrowed as slices: numbers, parents and low points.
 ghost use Rattle.std.specs.Prelude.{◌≡◌, ◌<◌, ℕ, length, slice_index};
 ghost use Rattle.map_theory.specs.Maps.{HasDart};
 

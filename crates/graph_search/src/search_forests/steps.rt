@@ -1,4 +1,4 @@
-//! A search under way, and its steps.
+//! A depth-first search under way: it sees a vertex, moves along its list, ends it and goes back to its parent.
 ghost use Rattle.std.specs.Prelude.{◌≡◌, ◌+◌, ◌<◌, ◌≤◌, ◌↔◌, IsTrue, ℕ, length, slice_index, slice_set, replicate};
 ghost use Rattle.map_theory.specs.Maps.{HasDart, list_of};
 ghost use Rattle.graph_search.specs.Forests.{IsForestOf};
@@ -55,7 +55,7 @@ impl<'a> Search<'a> {
         }
     }
 
-    // Whether a vertex was not seen.
+    // Says whether the search has not yet seen vertex `v`.
     #[inline(always)]
     fn is_unseen(&self, v: u16) -> bool
         requires { v < length self.now.lists.now }
@@ -64,7 +64,7 @@ impl<'a> Search<'a> {
         self.number[v as usize] as usize >= self.lists.len()
     }
 
-    // Whether a vertex is open.
+    // Says whether there is a current vertex, whose neighbours are being read.
     #[inline(always)]
     fn is_open(&self) -> bool
         ensures { IsTrue result ↔ (self.now.current < length self.now.lists.now) }
@@ -72,8 +72,8 @@ impl<'a> Search<'a> {
         (self.current as usize) < self.lists.len()
     }
 
-    // Returns the first place from `from` on at which the current list, lent as `list`, has a vertex that was not seen, or
-    // its length, and the least of `start` and of the numbers of the vertices before that.
+    // Returns the first index from `from` on at which `list`, that of the current vertex, has an unseen vertex, or
+    // its length. Also returns the least of `start` and of the numbers of the vertices before that.
     #[inline(always)]
     fn unseen_place(&self, list: &[u16], from: usize, start: u16) -> (usize, u16)
         requires vertex { self.now.current < length self.now.lists.now }
@@ -95,7 +95,7 @@ impl<'a> Search<'a> {
         (list.len(), least)
     }
 
-    // Sees a vertex from the current one, or as a top where there is none.
+    // Marks `v` as seen from the current vertex, or as a root where there is none, and makes it the current one.
     #[inline(always)]
     pub(crate) fn see(&mut self, v: u16)
         requires vertex { v < length self.old.lists.now }
@@ -115,7 +115,8 @@ impl<'a> Search<'a> {
         self.current = v;
     }
 
-    // Ends the current vertex, whose neighbours were all seen.
+    // Ends the current vertex, whose neighbours were all seen: its parent becomes current and takes over its low
+    // point.
     #[inline(always)]
     fn end(&mut self)
         requires vertex { self.old.current < length self.old.lists.now }
@@ -152,7 +153,7 @@ impl<'a> Search<'a> {
         place
     }
 
-    // Sees the next vertex, or ends the current one.
+    // Sees the next unseen neighbour of the current vertex, or ends that vertex.
     #[inline(always)]
     fn step(&mut self)
         requires { self.old.current < length self.old.lists.now }
@@ -170,7 +171,7 @@ impl<'a> Search<'a> {
         }
     }
 
-    // Goes on from the current vertex until none is open.
+    // Takes steps until no vertex is current: the tree is finished.
     #[inline(always)]
     fn search_on(&mut self)
         ensures lists { self.new.lists.now ≡ self.old.lists.now }
@@ -203,7 +204,7 @@ impl<'a> Search<'a> {
         }
     }
 
-    /// Returns the tables.
+    /// Returns the tables that the search has filled.
     #[inline(always)]
     pub(crate) fn into_tables(self) -> SearchTables
         ensures order { result.forest.order.items ≡ self.entry.order.items }

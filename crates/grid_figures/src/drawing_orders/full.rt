@@ -1,4 +1,4 @@
-//! A record that is a triangulation already: found by its counts, and ordered by its lists, with no map made of them.
+//! Records that are triangulations already: recognized by their counts, and ordered by their lists, with no map made.
 ghost use Rattle.std.specs.Prelude.{◌≡◌, slice_index, Some, None, IfOk, IfErr, OnOk};
 ghost use Rattle.std.specs.Bool.{OnTrue};
 ghost use Rattle.map_theory.specs.Maps.{list_of};
@@ -13,8 +13,8 @@ use euler_faces::Counter;
 use refusals::Unserved;
 use std::alloc::{AllocError, Global};
 
-/// Whether lists that have as many entries as a triangulation are one, or the first condition that they break. Of lists
-/// with more or fewer entries it answers no at once.
+/// Says whether the lists of `input` are a triangulation, or returns the first condition that they break. Of lists with
+/// more or fewer entries it answers no at once.
 pub(crate) fn is_triangulated(counter: &mut Counter, input: &Record<'_>) -> Result<bool, Unserved>
     ensures triangulation { IfOk result (λ found. OnTrue found (IsTriangulation input.now.lists.now)) }
     ensures served { IfOk result (λ found. OnTrue found (first_refusal 3 input.now.lists.now ≡ None)) }
@@ -27,7 +27,8 @@ pub(crate) fn is_triangulated(counter: &mut Counter, input: &Record<'_>) -> Resu
     Ok(count.m.wrapping_add(6) == 3 * count.n)
 }
 
-/// Orders the triangulation with these lists, for the base from vertex 0 to the first of its list.
+/// Finds the canonical order of the triangulation of `input`, for the base from vertex 0 to the first of its list, and
+/// leaves it in `peeler`.
 pub(crate) fn order_full(
     alloc: Global,
     peeler: &mut Peeler,

@@ -1,4 +1,4 @@
-//! A canonical order of the completion of a record's map, or why there is none.
+//! The public call `drawing_order`, and the tables that complete and order records one after another.
 ghost use Rattle.std.specs.Prelude.{◌≡◌, ◌≤◌, ◌<◌, ℕ, length, if◌then◌else◌, Some, None, IfOk, IfErr, IfSome, IfNone, OnOk};
 ghost use Rattle.map_theory.specs.Maps.{IsPlane, vertex_count};
 ghost use Rattle.plane_laws.specs.Triangulations.{IsTriangulation};
@@ -30,7 +30,8 @@ pub struct DrawingOrder {
     pub order: Order,
 }
 
-// The tables by which records are ordered, kept from one to the next: their counts, maps, lists and orders.
+// The tables by which records are completed and ordered, kept from one to the next: their counts, maps, lists and
+// orders.
 #[derive(Drop)]
 pub(crate) struct Tools {
     pub(crate) alloc: Global,
@@ -54,7 +55,7 @@ fn least_dart(tri: &HalfMap) -> DartId
     unreachable!()
 }
 
-// Returns the base for a drawing of a triangulation: the dart `first`, or else that from vertex 0 to its least neighbour.
+// Returns the base for a drawing of `tri`: the dart `first`, or else that from vertex 0 to its least neighbour.
 fn base_dart(tri: &HalfMap, first: Option<DartId>) -> DartId
     requires triangulation { IsTriangulation tri.now.lists }
     ensures given { IfSome first (λ d. result ≡ d) }
@@ -78,8 +79,8 @@ impl Tools {
         }
     }
 
-    // Completes a map of genus zero with at least three vertices, whose components are known. It answers whether edges
-    // were put in, and then `lists` are those of the completion.
+    // Completes `map`, of genus zero with at least three vertices, whose components are known. Returns whether edges
+    // were added, and then `self.lists` are those of the completion.
     #[inline(always)]
     fn complete_map(&mut self, map: &mut HalfMap) -> Result<bool, AllocError>
         requires plane { IsPlane map.old.lists }
@@ -100,8 +101,8 @@ impl Tools {
         Ok(true)
     }
 
-    // Completes a map of genus zero with these `lists` and at least three vertices, whose components are known, and orders
-    // it. It answers whether edges were put in.
+    // Completes `map`, which has these `lists`, genus zero and at least three vertices and whose components are known,
+    // and orders it. Returns whether edges were added.
     #[inline(always)]
     fn order_map(&mut self, map: &mut HalfMap, lists: &Rotations) -> Result<bool, AllocError>
         requires lists { map.old.lists ≡ lists.now }
@@ -121,8 +122,8 @@ impl Tools {
         Ok(made)
     }
 
-    // Orders a completion of the map of a record, or tells the first condition that the record breaks. It answers whether
-    // edges were put in, and then `lists` are those of the completion.
+    // Completes the map of a record and orders it, or returns the first condition that the record breaks. Returns
+    // whether edges were added, and then `self.lists` are those of the completion.
     #[inline(always)]
     pub(crate) fn order_record(&mut self, input: &Record<'_>) -> Result<bool, Unserved>
         ensures order { IfOk result (λ made. IsOrdered input.now.lists.now (lists_by made self.new.lists input.now.lists.now) self.new.peeler.order) }
@@ -150,9 +151,9 @@ fn some_if(made: bool, lists: Rotations) -> Option<Rotations>
     if made { Some(lists) } else { None }
 }
 
-/// The completion of the map of a record with these lists, which are from 1 to 4095, and a canonical order of
-/// it. The base of the order goes from vertex 0 to the first of its list, or to its least neighbour in the
-/// completion where the list is empty.
+/// Returns the completion of the map of a record with these `lists`, which are from 1 to 4095, and a canonical order of
+/// it. The base of the order goes from vertex 0 to the first of its list, or to its least neighbour in the completion
+/// where the list is empty.
 ///
 /// `Err` names the first condition that the lists break, of these in this order: the four faults of a map,
 /// each with the least vertices; fewer than three vertices; a genus above zero. Or there was not enough

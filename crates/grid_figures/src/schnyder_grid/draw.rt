@@ -1,4 +1,4 @@
-//! Drawings by Schnyder's coordinates.
+//! The public calls that draw a triangulation by Schnyder's coordinates, and `WoodDrawer`, which keeps its memory.
 ghost use Rattle.std.specs.Prelude.{◌≡◌, ◌<◌, ◌+◌, ◌*◌, ◌-◌, ℕ, length, replicate, All, OnOk, IfOk};
 ghost use Rattle.map_theory.specs.Maps.{Dart};
 ghost use Rattle.plane_laws.specs.Triangulations.{IsTriangulation};
@@ -29,7 +29,7 @@ pub struct WoodDrawer {
 }
 
 impl WoodDrawer {
-    /// A drawer that has drawn nothing yet. It takes no memory.
+    /// Returns a drawer that has drawn nothing yet. It takes no memory.
     pub fn new(alloc: Global) -> WoodDrawer {
         WoodDrawer {
             alloc,
@@ -40,7 +40,7 @@ impl WoodDrawer {
         }
     }
 
-    // Zeros for `n` vertices.
+    // Resets the tables to zeros for `n` vertices.
     fn clear(&mut self, n: usize) -> Result<(), AllocError>
         requires { n < 4096 }
         ensures gaps { OnOk result (self.new.gaps.items ≡ replicate (3 * n) 0) }
@@ -52,7 +52,7 @@ impl WoodDrawer {
         Ok(())
     }
 
-    // The points of a run, by its rows, for vertices of these ranks.
+    // Returns the points of a construction sequence, by its `rows`, for vertices of these `ranks`.
     fn points(&mut self, rows: &Rotations, ranks: &Counts) -> Result<Points, AllocError>
         requires few { length ranks.now < 4096 }
         requires rows { length rows.now + 2 ≡ length ranks.now }
@@ -69,7 +69,7 @@ impl WoodDrawer {
         Ok(points)
     }
 
-    /// Keeps the memory of a figure that is done with.
+    /// Keeps the memory of `figure`, which is done with.
     pub fn keep(&mut self, figure: GridFigure) {
         self.spent = figure.points;
     }
@@ -96,8 +96,8 @@ impl WoodDrawer {
     }
 }
 
-/// The drawing of a triangulation by Schnyder's coordinates over a canonical order of it: a simple map of
-/// genus zero with n >= 3 vertices and 3n - 6 edges.
+/// Returns the drawing of `tri` by Schnyder's coordinates over its canonical `order`. `tri` is a triangulation: a
+/// simple map of genus zero with n >= 3 vertices and 3n - 6 edges.
 ///
 /// It is plane and keeps the rotations, in the grid n - 2 by n - 2. The order's first vertex stands at
 /// (n - 2, 1), its second at (0, n - 2) and its last at (1, 0); of all faces that of the base alone is drawn

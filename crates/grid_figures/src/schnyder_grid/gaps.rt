@@ -1,4 +1,5 @@
-//! Schnyder's coordinates, each kept as a difference from another vertex.
+//! Schnyder's coordinates of all vertices, each kept as differences (drops and rises) from another vertex and added up
+//! at the end.
 //!
 //! A vertex of the contour has as its drop and its rise how far coordinate one falls and coordinate two rises
 //! to it from the one before it. One that has gone under another has as its rise how far it stands above that
@@ -18,8 +19,8 @@ use order_drawings::order_tables::points_at;
 use pg_plane::Points;
 use std::alloc::AllocError;
 
-// Goes along the vertices of a row, which `v` covers now, and returns the sum of their drops. Each one gets as its drop
-// the sum up to it, and 1 more, and so as its rise.
+// Makes `v` cover the vertices of `row`, and returns the sum of their drops. Each one gets as its drop the sum up to it
+// plus 1, and so as its rise.
 fn pass(drops: &mut [u32], rises: &mut [u32], covers: &mut [u16], row: &[u16], v: u16) -> u32
     requires drops { All (λ u. u < length drops.old) row.now }
     requires rises { All (λ u. u < length rises.old) row.now }
@@ -44,7 +45,8 @@ fn pass(drops: &mut [u32], rises: &mut [u32], covers: &mut [u16], row: &[u16], v
     far
 }
 
-// Puts `v` over a row of the contour: all but the first of its vertices are passed, and the last is no longer covered.
+// Adds vertex `v` over `row`, an interval of the contour. All but its first vertex are passed, and the last is no
+// longer covered.
 fn put_over(
     drops: &mut [u32],
     rises: &mut [u32],
@@ -67,7 +69,7 @@ fn put_over(
     drops[q as usize] = 1;
 }
 
-// Adds the drops and the rises up, each from the last vertex on.
+// Replaces the differences in `drops` and `rises` by coordinates one and two, from the last vertex down.
 fn add_up(drops: &mut [u32], rises: &mut [u32], spans: &[u32], covers: &[u16])
     requires tables { AreTables (length drops.old) drops.old rises.old spans.now covers.now }
     requires last { (g : Stage) × (at : Coordinates) × AreLastGaps g at drops.old rises.old spans.now covers.now }
@@ -88,8 +90,9 @@ fn add_up(drops: &mut [u32], rises: &mut [u32], spans: &[u32], covers: &[u16])
     }
 }
 
-/// Returns the points of a run, by its rows, for vertices of these ranks, in the memory of `spent`; the first three tables
-/// have zeros. The vertices from the third on are put over the rows, one after another, and then the gaps are added up.
+/// Returns the points of a construction sequence, by its `rows`, for vertices of these `ranks`, in the memory of
+/// `spent`. The first three tables have zeros. The vertices from the third on are added over the rows, and then the
+/// differences are added up.
 pub(crate) fn wood_points(
     spent: Points,
     drops: &mut [u32],

@@ -1,4 +1,4 @@
-//! The figure of a record, or why it has none.
+//! The figure of a record by the shift method: the public call `shift_figure`, and its steps in kept memory.
 ghost use Rattle.std.specs.Prelude.{◌≡◌, ◌<◌, length, Some, None, IfOk, IfErr, OnOk};
 ghost use Rattle.map_theory.specs.Maps.{Dart};
 ghost use Rattle.plane_laws.specs.Triangulations.{IsTriangulation};
@@ -17,7 +17,7 @@ use pg_plane::GridFigure;
 use refusals::Unserved;
 use std::alloc::{AllocError, Global};
 
-// Draws a triangulation by a canonical order.
+// Draws the triangulation with these `lists` by its canonical `order`.
 fn order_figure(
     shifter: &mut Shifter,
     lists: &Rotations,
@@ -68,7 +68,7 @@ pub(crate) fn drawn_record(
     Ok(figure)
 }
 
-/// The figure of a record with these lists, which are from 1 to 4095: a plane drawing of its map that keeps
+/// Returns the figure of a record with these `lists`, which are from 1 to 4095: a plane drawing of its map that keeps
 /// the rotations, in the grid 2n - 4 by n - 2.
 ///
 /// Vertex 0 stands at (2n - 4, 0), a vertex at (0, 0), which is the first of vertex 0's list where it has

@@ -1,4 +1,4 @@
-//! A figure of which some lines have come.
+//! A figure of which some lines have been read, and the line that is due next in it.
 ghost use Rattle.std.specs.Prelude.{◌<◌, length};
 ghost use Rattle.line_inputs.specs.declared.figure_lines.head.Head.TheVariants.{Bars as BarsHead};
 ghost use Rattle.line_inputs.specs.Given.{AreDrawn};
@@ -7,7 +7,7 @@ use crate::figure_lines::held::Held;
 use crate::figure_lines::rows::Rows;
 use figure_text::Draft;
 
-/// A figure of which the first line has come, and not the last.
+/// A figure whose first line has been read, but not its last.
 #[derive(Drop)]
 pub struct Begun {
     /// The number of its first line.
@@ -16,7 +16,7 @@ pub struct Begun {
     pub due: Due,
 }
 
-/// The line that is due in a figure, with what the lines before it have given.
+/// The kind of line that is due in a figure, with what the lines before it have given.
 #[derive(Drop)]
 pub enum Due {
     /// That of a vertex, or of branches or a path.
@@ -25,7 +25,7 @@ pub enum Due {
     Columns(AllBars),
 }
 
-/// A figure of which the lines of some vertices, or of branches and paths, are there.
+/// A figure of which the lines of some vertices, or of branches and paths, have been read, and others are due.
 #[derive(Drop)]
 pub struct SomeRows {
     /// The content of those lines and of the first.
@@ -35,7 +35,7 @@ pub struct SomeRows {
     ghost drawn: { AreDrawn held.head held.draft },
 }
 
-/// Bars of which the lines of all vertices are there.
+/// A visibility drawing of which the lines of all vertices have been read, and the line of columns is due.
 #[derive(Drop)]
 pub struct AllBars {
     /// The content of those lines.

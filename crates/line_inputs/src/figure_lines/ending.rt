@@ -1,4 +1,4 @@
-//! How an input of figures ends.
+//! How an input of figures ends: well, at a bad line, past a limit, or inside a figure.
 
 /// How an input of figures ends.
 #[derive(Clone, Copy, PartialEq, Eq)]

@@ -1,4 +1,4 @@
-//! The first line of a figure.
+//! The first line of a figure: its kind and, for a witness, its graph.
 ghost use Rattle.std.specs.Prelude.{◌≡◌, Some, IfOk};
 ghost use Rattle.figure_text.specs.Lines.{TailInRange};
 ghost use Rattle.line_inputs.specs.Heads.{head_kind, HasGraph};

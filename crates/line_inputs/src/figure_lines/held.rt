@@ -1,10 +1,10 @@
-//! A value that stays at its place in memory, so that it is moved as one pointer.
+//! A boxed value, which is moved as one pointer.
 ghost use Rattle.std.specs.Prelude.{◌≡◌, IfOk};
 
 use std::alloc::{AllocError, Global};
 use std::marker::Model;
 
-/// A value that stays at its place in memory. Contracts see it as just that value.
+/// A boxed value, which stays at its address in memory. Contracts see it as just that value.
 #[derive(Drop)]
 pub struct Held<T: Drop> {
     pub(crate) inside: Box<T>,
@@ -17,7 +17,7 @@ impl<T: Drop> Model for Held<T> {
 }
 
 impl<T: Drop> Held<T> {
-    /// Puts a value at its place in memory.
+    /// Puts `value` in a box. It fails only when out of memory.
     pub fn new(alloc: Global, value: T) -> Result<Held<T>, AllocError>
         ensures { IfOk result (λ held. held ≡ value) }
     {
@@ -27,7 +27,7 @@ impl<T: Drop> Held<T> {
         }
     }
 
-    /// Moves the value out.
+    /// Moves the value out of its box.
     pub fn into_inner(self) -> T
         ensures { result ≡ self }
     {

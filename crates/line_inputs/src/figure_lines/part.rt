@@ -1,4 +1,4 @@
-//! A part of a piece, up to the end of a line.
+//! Bytes of an input of figures joined to its open line, which is judged where they close it.
 ghost use Rattle.std.specs.Prelude.{◌+◌, ◌≤◌, List, ℕ, length, IfOk};
 ghost use Rattle.record_runs.specs.Texts.{input_limit};
 ghost use Rattle.line_inputs.specs.FigureLinesProgress.{Progress};
@@ -12,7 +12,7 @@ use crate::whole_lines::{chosen, join};
 use figure_text::{Word, line_length};
 use std::alloc::{AllocError, Global};
 
-/// The outcome of a part of a piece for the open line.
+/// The outcome of reading a part of a piece into the open line.
 #[derive(Drop)]
 pub enum Line {
     /// It is open still, and the whole part joined it.
@@ -23,8 +23,9 @@ pub enum Line {
     Ran(Run),
 }
 
-/// Takes lines of a figure at the front of a part, or else a part to the end of the open line, which is then judged, or to
-/// its own end. A line that stands whole in the part is judged where it stands.
+/// Reads whole vertex lines of a figure from the front of `part`. Where there are none, it reads the rest of the open
+/// line and judges it, or all where no line ends. A line that stands whole in `part` is judged there. `pending` holds
+/// the open line's bytes, `before` the figure begun, `line` its number. It fails only when out of memory.
 pub fn take_part(
     alloc: Global,
     found: &mut Vec<Word>,

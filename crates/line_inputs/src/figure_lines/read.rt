@@ -1,4 +1,4 @@
-//! Figures of a text that is all there.
+//! Figures read from a text that is all in memory, one at an offset.
 ghost use Rattle.std.specs.Prelude.{◌≡◌, ◌≤◌, length};
 ghost use Rattle.figure_text.specs.Laws.{IsAnswer};
 ghost use Rattle.line_inputs.specs.FigureLinesProgress.{IsAtLine, fault_at, end_fault as end_fault_by};
@@ -9,7 +9,7 @@ use crate::figure_lines::step::{After, ClosedLine};
 use figure_text::{Item, TextFault, next_line};
 use std::alloc::Global;
 
-// Returns the fault of a line that is closed.
+// Converts the ending at a closed line that is bad or past a limit into a fault of the text.
 fn fault_of(ending: Ending) -> TextFault
     requires { IsAtLine ending }
     ensures { result ≡ fault_at ending }
@@ -23,7 +23,7 @@ fn fault_of(ending: Ending) -> TextFault
     }
 }
 
-// Returns the fault of a text that ends in this figure, or in the line `line` outside one.
+// Returns the fault of a text that ends inside the figure `begun`, or in the line number `line` outside a figure.
 fn end_fault(begun: Option<Begun>, line: u32) -> TextFault
     ensures { result ≡ end_fault_by begun line }
 {

@@ -1,4 +1,4 @@
-//! A reader of figures, piece by piece.
+//! The reader of figures, fed piece by piece, as a format of the main loop.
 ghost use Rattle.std.specs.Prelude.{◌≡◌, ◌+◌, ◌≤◌, []};
 
 use crate::figure_lines::begun::Begun;
@@ -65,7 +65,8 @@ impl FigureReader {
     }
 }
 
-// Puts a figure in the place of the one before. As a function of its own, it costs no line that ends no figure.
+// Replaces `figure` by the boxed figure `held`. As a function of its own, it costs nothing for a line that ends no
+// figure.
 fn keep(figure: &mut Figure, held: Held<Figure>)
     ensures { figure.new ≡ held }
 {
@@ -134,10 +135,12 @@ impl Format for FigureReader {
         }
     }
 
+    // Returns the figure that was completed last.
     fn record(&self) -> &Figure {
         &self.figure
     }
 
+    // Returns how the input ends if it ends here.
     fn end(&self) -> Ending {
         match &self.begun {
             Some(begun) => Ending::EndInFigure(begun.first),
@@ -151,13 +154,16 @@ impl Format for FigureReader {
         }
     }
 
+    // Returns the ending of an input that is longer than the limit.
     fn too_long(&self) -> Ending {
         Ending::TooLong
     }
 
+    // Says whether `end` is the good ending.
     fn is_well(end: &Ending) -> bool {
         matches!(end, Ending::Well)
     }
 
+    // Does nothing. Its contract is the laws of the format.
     fn lawful() {}
 }

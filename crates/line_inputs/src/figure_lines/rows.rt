@@ -1,4 +1,4 @@
-//! The lines of vertices, or of branches and paths, of a figure, as they come.
+//! The vertex lines of a figure, or the lines of branches and paths of a witness, read one by one.
 ghost use Rattle.std.specs.Prelude.{◌≡◌, ◌+◌, ◌<◌, false, length, IfOk, IfSome, nat_lt};
 ghost use Rattle.std.specs.Bool.{OnTrue};
 ghost use Rattle.figure_text.specs.Words.{words_of};
@@ -14,7 +14,7 @@ use map_lists::ItemLists;
 use pg_plane::{Ints, Points};
 use std::alloc::{AllocError, Global};
 
-/// A figure of which some lines of vertices, or of branches and paths, have come.
+/// A figure of which some vertex lines, or some lines of branches and paths, have been read.
 #[derive(Drop)]
 pub struct Rows {
     /// The content of the first line.
@@ -44,7 +44,8 @@ impl Rows {
         }
     }
 
-    // Judges the line that is due, and keeps what a good one gives.
+    // Judges `line` as the next one due, and keeps its content if it is good. Returns None when out of memory.
+    // `found` is room for its words.
     fn row(&mut self, found: &mut Vec<Word>, line: &[u8]) -> Option<Judged>
         requires { length self.old.draft.lists < self.old.n }
         ensures judged { IfSome result (λ judged. Judges (IsRow (head_kind self.old.head) (length self.old.draft.lists + 1) (words_of line.now))
@@ -58,7 +59,7 @@ impl Rows {
         row.judge(found, &mut self.draft)
     }
 
-    // Says whether a line is due behind that which is due next.
+    // Says whether at least two more lines are due.
     fn are_two_due(&self) -> bool
         requires { length self.now.draft.lists < self.now.n }
         ensures { OnTrue result (length self.now.draft.lists + 1 < self.now.n) }
@@ -67,7 +68,8 @@ impl Rows {
         self.draft.lists.len() + 1 < n
     }
 
-    // Keeps what the line that is due gives, where it is found good at sight, and says whether it is.
+    // Keeps the content of `line`, the next one due, if a quick test finds it good, and says whether it does. It
+    // fails only when out of memory.
     #[inline(always)]
     fn quick(&mut self, found: &mut Vec<Word>, line: &[u8]) -> Result<bool, AllocError>
         requires { length self.old.draft.lists < self.old.n }
@@ -85,7 +87,8 @@ impl Rows {
 }
 
 impl Held<Rows> {
-    /// Judges the line that is due, and keeps what a good one gives.
+    /// Judges `line` as the next one due, and keeps its content if it is good. Returns None when out of memory.
+    /// `found` is room for its words.
     pub fn row(&mut self, found: &mut Vec<Word>, line: &[u8]) -> Option<Judged>
         requires { length self.old.draft.lists < self.old.n }
         ensures judged { IfSome result (λ judged. Judges (IsRow (head_kind self.old.head) (length self.old.draft.lists + 1) (words_of line.now))
@@ -96,7 +99,8 @@ impl Held<Rows> {
         self.inside.row(found, line)
     }
 
-    /// Keeps what the line that is due gives, where it is found good at sight, and says whether it is.
+    /// Keeps the content of `line`, the next one due, if a quick test finds it good, and says whether it does. It
+    /// fails only when out of memory.
     #[inline(always)]
     pub fn quick(&mut self, found: &mut Vec<Word>, line: &[u8]) -> Result<bool, AllocError>
         requires { length self.old.draft.lists < self.old.n }
@@ -109,7 +113,7 @@ impl Held<Rows> {
         self.inside.quick(found, line)
     }
 
-    /// Says whether a line is due behind that which is due next.
+    /// Says whether at least two more lines are due.
     pub fn are_two_due(&self) -> bool
         requires { length self.now.draft.lists < self.now.n }
         ensures { OnTrue result (length self.now.draft.lists + 1 < self.now.n) }
@@ -117,7 +121,7 @@ impl Held<Rows> {
         self.inside.are_two_due()
     }
 
-    /// Says whether a line more is due.
+    /// Says whether at least one more line is due.
     pub fn is_due(&self) -> bool
         ensures { result ≡ nat_lt (length self.now.draft.lists) self.now.n }
     {

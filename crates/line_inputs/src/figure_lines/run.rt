@@ -1,4 +1,5 @@
-//! Lines of vertices that stand one behind another in a part: taken with no step of the reader between them.
+//! Whole vertex lines at the front of a part, read in one loop by the quick test, with no step of the reader between
+//! them.
 ghost use Rattle.std.specs.Prelude.{◌≡◌, ◌+◌, ◌≤◌, [], Some, List, ℕ, length, IfOk};
 ghost use Rattle.record_runs.specs.Texts.{input_limit};
 ghost use Rattle.line_inputs.specs.FigureLinesProgress.{Progress};
@@ -10,7 +11,7 @@ use crate::figure_lines::begun::{Begun, Due, SomeRows};
 use figure_text::{Word, line_length};
 use std::alloc::AllocError;
 
-/// Whole lines of a figure at the front of a part, behind which it goes on.
+/// Whole vertex lines at the front of a part that were read at once, and the figure after them.
 #[derive(Drop)]
 pub struct Run {
     /// The figure.
@@ -21,7 +22,7 @@ pub struct Run {
     pub lines: usize,
 }
 
-/// The outcome of a part for the lines of vertices at its front.
+/// The outcome of trying to read vertex lines at the front of a part.
 #[derive(Drop)]
 pub enum Front {
     /// Some were taken.
@@ -30,7 +31,7 @@ pub enum Front {
     NoLine(Option<Begun>),
 }
 
-// The rows of a figure behind a line of a part, or before it.
+// A figure after one more line of a part, or none: its rows, and how many bytes and lines were read.
 #[derive(Drop)]
 struct Step {
     rows: SomeRows,
@@ -38,7 +39,7 @@ struct Step {
     lines: usize,
 }
 
-// Takes no line.
+// Returns `rows` with no bytes and no lines read.
 fn no_step(rows: SomeRows) -> Step
     ensures { result ≡ record { rows = rows; bytes = 0; lines = 0 } }
 {
@@ -49,7 +50,8 @@ fn no_step(rows: SomeRows) -> Step
     }
 }
 
-// Takes the line at the front of a part, where it is whole, is found good at sight, and is not the last that is due.
+// Reads the line at the front of `part` into `rows`, if it is whole, passes the quick test, and is not the last one
+// due. It fails only when out of memory.
 #[inline(always)]
 fn with_line(found: &mut Vec<Word>, rows: SomeRows, part: &[u8]) -> Result<Step, AllocError>
     ensures within { IfOk result (λ step. step.bytes ≤ length part.now) }
@@ -77,7 +79,8 @@ fn with_line(found: &mut Vec<Word>, rows: SomeRows, part: &[u8]) -> Result<Step,
     }
 }
 
-// Makes a run of so many lines of so many bytes, behind which the figure has these rows.
+// Returns the batch of `lines` lines of `bytes` bytes, after which the figure that began at line `first` has these
+// `rows`.
 fn run_to(first: u32, rows: SomeRows, bytes: usize, lines: usize) -> Run
     ensures { result ≡ record { begun = record { first = first; due = Row rows }; bytes = bytes; lines = lines } }
 {
@@ -91,7 +94,8 @@ fn run_to(first: u32, rows: SomeRows, bytes: usize, lines: usize) -> Run
     }
 }
 
-// Takes lines so, one after another.
+// Reads lines from the front of `part` into `rows` by `with_line`, as long as it takes one. It fails only when out of
+// memory.
 fn rows_run(
     found: &mut Vec<Word>,
     first: u32,
@@ -121,8 +125,8 @@ fn rows_run(
     Ok(run_to(first, rows, bytes, lines))
 }
 
-/// Takes lines of vertices at the front of a part, where a figure has begun and nothing has come of the line that is due: as
-/// long as they are whole, are found good at sight, and are not the last that is due.
+/// Reads vertex lines at the front of `part`, where a figure has begun and the line due has no bytes yet. It goes on
+/// while lines are whole, pass the quick test, and are not the last one due. It fails only when out of memory.
 pub fn first_lines(
     found: &mut Vec<Word>,
     pending: &[u8],

@@ -1,4 +1,5 @@
-//! One step of a reader of figures: a closed line joins the lines before it.
+//! A closed line judged as the next one of an input of figures: it begins, continues or completes a figure, is a
+//! note, or is bad.
 ghost use Rattle.std.specs.Prelude.{◌≡◌, ◌+◌, ◌<◌, ◌≤◌, ◌++◌, ◌∷◌, [], List, ℕ, length, IfOk};
 ghost use Rattle.figure_text.specs.Reading.{IsPlain};
 ghost use Rattle.line_inputs.specs.Given.{IsGiven, AreDrawn};
@@ -29,7 +30,7 @@ pub struct ClosedLine<'a> {
     pub text: &'a [u8],
 }
 
-/// The outcome of a closed line, with what had come before it.
+/// The outcome of a closed line, given the figure that had begun before it.
 #[derive(Drop)]
 pub enum After {
     /// The figure goes on, or none has begun.
@@ -40,7 +41,8 @@ pub enum After {
     Bad(Ending),
 }
 
-// Ends a figure of which all lines of vertices, or of branches and paths, are there.
+// Completes a figure whose vertex lines, or lines of branches and paths, have all been read. Bars are then still due
+// their line of columns. It fails only when out of memory.
 fn all_drawn(alloc: Global, first: u32, rows: Rows) -> Result<After, AllocError>
     requires some { 0 < length rows.draft.lists }
     requires few { length rows.draft.lists < 4096 }
@@ -75,7 +77,8 @@ fn all_drawn(alloc: Global, first: u32, rows: Rows) -> Result<After, AllocError>
     }
 }
 
-// Goes on with a figure of which some of them are there.
+// Continues a figure after one more of its lines: more are due, or it is completed by `all_drawn`. It fails only when
+// out of memory.
 #[inline(always)]
 fn grown(alloc: Global, first: u32, held: Held<Rows>) -> Result<After, AllocError>
     requires some { 0 < held.n }
@@ -96,7 +99,7 @@ fn grown(alloc: Global, first: u32, held: Held<Rows>) -> Result<After, AllocErro
 }
 
 impl ClosedLine<'_> {
-    // Takes it as a line outside a figure.
+    // Judges the line as one outside a figure: it begins one, is a note, or is bad. It fails only when out of memory.
     fn after_front(&self) -> Result<After, AllocError>
         ensures whole { IfOk result IsWhole }
         ensures makes { IsPlain self.now.text.now → IfOk result (Makes self.now.number self.now.number (self.now.text.now ++ 10 ∷ [])) }
@@ -116,7 +119,8 @@ impl ClosedLine<'_> {
         }
     }
 
-    // Takes it as the next line of vertices, or of branches and paths, of a figure.
+    // Judges the line as the next vertex line, or line of branches and paths, of the figure `rows`. It fails only
+    // when out of memory.
     #[inline(always)]
     fn after_row(
         &self,
@@ -140,7 +144,7 @@ impl ClosedLine<'_> {
         }
     }
 
-    // Takes it as the line of the columns of bars.
+    // Judges the line as the line of columns that completes `bars`. It fails only when out of memory.
     fn after_columns(&self, bars: AllBars) -> Result<After, AllocError>
         ensures whole { IfOk result IsWhole }
         ensures makes { (text : List ℕ) (start : ℕ) → IsPlain self.now.text.now → IsDue (Due.Columns bars) start self.now.number text self.now.text.now
@@ -167,7 +171,8 @@ impl ClosedLine<'_> {
         }
     }
 
-    /// Takes it, with what has come before it. The vector is for its words, and keeps its memory for those of the next line.
+    /// Judges the line, given the figure `before` that had begun. `found` is room for its words, and keeps its memory
+    /// for the next line. It fails only when out of memory.
     #[inline(always)]
     pub fn after(&self, found: &mut Vec<Word>, before: Option<Begun>) -> Result<After, AllocError>
         ensures whole { IfOk result IsWhole }

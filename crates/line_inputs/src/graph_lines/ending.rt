@@ -1,4 +1,4 @@
-//! How an input of lines ends.
+//! How an input of graph6 lines ends: well, at a bad line, or past a limit.
 
 /// How an input of graph6 lines ends.
 #[derive(Clone, Copy, PartialEq, Eq)]

@@ -1,4 +1,4 @@
-//! A part of a piece, up to the end of a line.
+//! Bytes of an input of graph6 joined to its open line, which is judged where they close it: header, graph or bad.
 ghost use Rattle.std.specs.Prelude.{◌≡◌, ◌+◌, ◌<◌, ◌≤◌, ◌++◌, ◌∷◌, [], List, ℕ, length, drop, IfOk, OnOk, OnErr, Bool, ◌↔◌, IsTrue};
 ghost use Rattle.record_runs.specs.Texts.{input_limit};
 ghost use Rattle.graph6_text.specs.Graphs.{EdgeGraph};
@@ -13,7 +13,7 @@ use figure_text::line_length;
 use graph6_text::{G6Fault, Graph, after_graph_header, read_line_into};
 use std::alloc::AllocError;
 
-/// A closed line, judged.
+/// The verdict on a closed graph6 line.
 #[derive(Drop)]
 pub enum Judged {
     /// The header.
@@ -24,7 +24,7 @@ pub enum Judged {
     Bad(Ending),
 }
 
-/// The line that is open.
+/// The position of the open line: its number, and whether it is the first.
 #[derive(Clone, Copy)]
 pub struct OpenLine {
     /// Its number.
@@ -33,7 +33,7 @@ pub struct OpenLine {
     pub first: bool,
 }
 
-/// The outcome of a part of a piece for the open line.
+/// The outcome of reading a part of a piece into the open line.
 #[derive(Drop)]
 pub enum Line {
     /// It is open still, and the whole part joined it.
@@ -42,14 +42,14 @@ pub enum Line {
     Closed(usize, Judged),
 }
 
-// Says whether a line is the header, which only the first one may be.
+// Says whether `line` is the graph6 header and is the first line, as `first` says.
 fn is_header(first: bool, line: &[u8]) -> bool
     ensures { IsTrue result ↔ (IsTrue first × (line.now ≡ graph_header)) }
 {
     first && line == b">>graph6<<".as_slice()
 }
 
-/// Returns a line without the header, where it is the first one.
+/// Returns `line` without the header `>>graph6<<` in front, if it is the first line.
 pub fn behind_header(first: bool, line: &[u8]) -> &[u8]
     ensures { result.now ≡ line_behind first line.now }
 {
@@ -60,7 +60,8 @@ pub fn behind_header(first: bool, line: &[u8]) -> &[u8]
     }
 }
 
-// Returns how an input ends with a line that has this fault; without memory there is no answer.
+// Converts the fault of line `number` into the ending of the input. Returns None for out of memory, which is no
+// ending.
 fn fault_ending(fault: G6Fault, number: u32) -> Option<Ending>
     ensures { (line : List ℕ) → NamesFault line fault → Judges number line fault result }
 {
@@ -71,7 +72,8 @@ fn fault_ending(fault: G6Fault, number: u32) -> Option<Ending>
     }
 }
 
-// Judges a closed line, which is given without the byte 10 that closes it; its graph in the memory of `spent`.
+// Judges a closed `line`, without its byte 10. A graph is made in the memory of `spent`. It fails only when out of
+// memory.
 fn judged_line(spent: Graph, line: &[u8], at: OpenLine) -> Result<Judged, AllocError>
     ensures { (consumed : List ℕ) (graphs : List EdgeGraph) → Progress consumed graphs at.number at.first line.now
         → length consumed < input_limit → IfOk result (Closes (consumed ++ 10 ∷ []) graphs at.number) }
@@ -88,8 +90,8 @@ fn judged_line(spent: Graph, line: &[u8], at: OpenLine) -> Result<Judged, AllocE
     }
 }
 
-/// Takes a part to the end of the open line, which is then judged, or to its own end. A line that stands whole in the
-/// part is judged where it stands. Its graph is in the memory of `spent`.
+/// Reads from `part` the rest of the open line, which is then judged, or all where no line ends. A line that stands
+/// whole in `part` is judged there. A graph is made in the memory of `spent`. It fails only when out of memory.
 pub fn take_line(
     spent: Graph,
     pending: &mut Vec<u8>,

@@ -1,4 +1,4 @@
-//! A reader of lines, piece by piece.
+//! The reader of graph6 lines, fed piece by piece, as a format of the main loop.
 ghost use Rattle.std.specs.Prelude.{◌≡◌, ◌+◌, ◌≤◌, []};
 
 use crate::graph_lines::ending::Ending;
@@ -103,10 +103,12 @@ impl Format for GraphReader {
         }
     }
 
+    // Returns the graph that was read last.
     fn record(&self) -> &Graph {
         &self.graph
     }
 
+    // Returns how the input ends if it ends here.
     fn end(&self) -> Ending {
         if behind_header(self.first, &self.pending).is_empty() {
             Ending::Well
@@ -115,13 +117,16 @@ impl Format for GraphReader {
         }
     }
 
+    // Returns the ending of an input that is longer than the limit.
     fn too_long(&self) -> Ending {
         Ending::TooLong
     }
 
+    // Says whether `end` is the good ending.
     fn is_well(end: &Ending) -> bool {
         matches!(end, Ending::Well)
     }
 
+    // Does nothing. Its contract is the laws of the format.
     fn lawful() {}
 }

@@ -1,4 +1,4 @@
-//! The points of vertices, by two numbers for each place of an order.
+//! The points of all vertices, from an x and a y for each rank of an order.
 ghost use Rattle.std.specs.Prelude.{◌≡◌, ◌<◌, ◌^◌, ℕ, length, slice_index, All, pos, IfOk};
 ghost use Rattle.order_drawings.specs.Points.{ArePointsAt};
 
@@ -6,7 +6,7 @@ use half_edges::Counts;
 use pg_plane::{Point, Points};
 use std::alloc::AllocError;
 
-// A number as a coordinate.
+// Converts an unsigned number to a coordinate.
 fn coordinate(number: u32) -> i32
     requires { number < 2 ^ 20 }
     ensures { result ≡ pos number }
@@ -14,7 +14,7 @@ fn coordinate(number: u32) -> i32
     number as i32
 }
 
-// The point of the vertex of rank k.
+// Returns the point of the vertex of rank `k`: its coordinates in `xs` and `ys`.
 fn point_at(xs: &[u32], ys: &[u32], k: usize) -> Point
     requires xs { k < length xs.now }
     requires ys { k < length ys.now }
@@ -27,7 +27,8 @@ fn point_at(xs: &[u32], ys: &[u32], k: usize) -> Point
     }
 }
 
-/// The points of vertices, by their ranks, in the memory of `spent`: each stands at the two numbers at its rank.
+/// Returns the points of all vertices, in the memory of `spent`: a vertex of rank k has the coordinates `xs[k]` and
+/// `ys[k]`. It fails only when out of memory.
 pub fn points_at(
     spent: Points,
     xs: &[u32],

@@ -1,4 +1,5 @@
-//! The list of a vertex, with the ranks of its entries.
+//! `RankedList`: the neighbour list of a vertex with the ranks of its entries in an order, searched for earlier and
+//! later ones.
 ghost use Rattle.std.specs.Prelude.{◌≡◌, ◌<◌, ◌≤◌, ℕ, length, All};
 ghost use Rattle.order_drawings.specs.Rows.{rank_at};
 
@@ -9,7 +10,7 @@ use half_edges::Counts;
 pub struct RankedList<'a> {
     /// The neighbours of the vertex, clockwise.
     pub list: &'a [u16],
-    /// For each vertex its place in the order.
+    /// For each vertex its rank: its index in the order.
     pub ranks: &'a Counts,
     /// The rank of the vertex itself.
     pub k: u32,
@@ -26,7 +27,8 @@ impl RankedList<'_> {
         self.ranks.get(self.list[i] as usize)
     }
 
-    /// Finds the first place from `from` on whose entry has rank `k` or a later one, or the length where there is none.
+    /// Finds the first index from `from` on whose entry has rank `k` or a later one, or the length where there is
+    /// none.
     #[inline(always)]
     pub fn first_later(&self, from: usize) -> usize
         requires { from ≤ length self.now.list.now }
@@ -44,7 +46,7 @@ impl RankedList<'_> {
         ranked.list.len()
     }
 
-    /// Finds the first place from `from` on whose entry has a rank below `k`, or the length where there is none.
+    /// Finds the first index from `from` on whose entry has a rank below `k`, or the length where there is none.
     #[inline(always)]
     pub fn first_earlier(&self, from: usize) -> usize
         requires { from ≤ length self.now.list.now }

@@ -1,4 +1,5 @@
-//! The rows of the contour over which the vertices of an order are put, by their lists.
+//! For each vertex of a canonical order its row: the interval of the contour that it covers, as ranks, read off the
+//! neighbour lists.
 ghost use Rattle.std.specs.Prelude.{vec_len, vec_capacity, ◌≡◌, ◌<◌, ◌≤◌, ◌+◌, ◌^◌, ◌↔◌, ◌⊎◌, ℕ, List, length, map, slice_index, All, IsTrue, IfOk};
 ghost use Rattle.map_theory.specs.Maps.{Dart, list_of};
 ghost use Rattle.plane_laws.specs.Triangulations.{IsTriangulation};
@@ -10,7 +11,7 @@ use canon_order::Order;
 use half_edges::{Counts, HalfMap, Rotations, VertexList};
 use std::alloc::{AllocError, Global};
 
-// The place before a place of a list of n, cyclically.
+// Returns the index before `i` in a list of `n` entries, cyclically.
 fn before(n: usize, i: usize) -> usize
     requires { i < n }
     ensures place { result ≡ place_before n i }
@@ -19,7 +20,7 @@ fn before(n: usize, i: usize) -> usize
     if i == 0 { n - 1 } else { i - 1 }
 }
 
-// The place after it.
+// Returns the index after `i` in a list of `n` entries, cyclically.
 fn after(n: usize, i: usize) -> usize
     requires { i < n }
     ensures place { result ≡ place_after n i }
@@ -28,7 +29,8 @@ fn after(n: usize, i: usize) -> usize
     if i + 1 < n { i + 1 } else { 0 }
 }
 
-// Whether a row ends at an entry of this rank, where `before` is that of the entry before it and `k` that of the vertex.
+// Says whether the row of the vertex of rank `k` ends at an entry of this `rank`, where the entry before it in the
+// list has rank `before`.
 fn is_last(rank: u32, before: u32, k: u32) -> bool
     ensures { IsTrue result ↔ ((rank ≡ 1) ⊎ (k ≤ before)) }
 {
@@ -36,7 +38,7 @@ fn is_last(rank: u32, before: u32, k: u32) -> bool
 }
 
 impl RankedList<'_> {
-    // Whether the row of the vertex begins at place `i` of its list.
+    // Says whether the row of the vertex begins at index `i` of its list.
     fn is_first(&self, i: usize) -> bool
         requires { i < length self.now.list.now }
         ensures { IsTrue result ↔ IsFirstPlace self.now.list.now self.now.ranks.now self.now.k i }
@@ -47,8 +49,8 @@ impl RankedList<'_> {
         rank < self.k && (rank == 0 || self.k <= next)
     }
 
-    // Finds where the row begins: before an entry that is later, where there is one. Where none is, the vertex is the last one,
-    // and each place is tested.
+    // Finds the index in the list at which the row begins: before an entry of a later rank, if there is one. Where
+    // there is none, the vertex is the last, and each index is tested.
     #[inline(always)]
     fn first_place(&self) -> usize
         requires { 0 < length self.now.list.now }
@@ -74,7 +76,8 @@ impl RankedList<'_> {
         0
     }
 
-    // Appends the ranks of the row, which goes backwards in the list from place `start` on, and for which there is room.
+    // Appends to `entries`, which has room, the ranks of the vertex's row. The row goes backwards in the list from
+    // index `start` on.
     #[inline(always)]
     fn put_row(&self, entries: &mut Vec<u16>, start: usize)
         requires start { start < length self.now.list.now }
@@ -98,7 +101,8 @@ impl RankedList<'_> {
     }
 }
 
-// The rows in lists, from that of the third vertex of an order on, in the memory of `spent`.
+// Returns the rows of all vertices from the third of the order on, in the memory of `spent`. `at` is the order, and
+// `ranks` has each vertex's index in it. It fails only when out of memory.
 #[inline(always)]
 fn listed_rows(
     spent: Rotations,
@@ -135,12 +139,11 @@ fn listed_rows(
     Ok(Rotations::from_parts(entries, ends))
 }
 
-/// The rows of the contour over which the vertices of a canonical order of a triangulation are put, from that
-/// of its third vertex on. Each names the vertices by their ranks, from the first one under the new vertex to
-/// the last one.
+/// Returns for each vertex of a canonical order, from the third on, its row: the interval of the contour that it
+/// covers. A row names vertices by their ranks, from the first one under the new vertex to the last.
 ///
-/// It fails only when out of memory. The map and the order stay as they are. The time is linear in the
-/// entries of the map.
+/// It fails only when out of memory. The map and the order stay as they are. The time is linear in the entries of the
+/// map.
 pub fn order_rows(alloc: Global, tri: &HalfMap, order: &Order) -> Result<Rotations, AllocError>
     requires triangulation { IsTriangulation tri.now.lists }
     requires order { (base : Dart) × IsCanonicalOrder tri.now.lists base (vertices_of order.now) }

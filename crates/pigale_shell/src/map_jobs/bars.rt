@@ -1,4 +1,4 @@
-//! The job `bars`.
+//! The job `bars`: visibility drawings.
 use crate::form::FormPrinter;
 use crate::method::{MapRecord, Method};
 use half_edges::Rotations;
@@ -7,7 +7,7 @@ use refusals::Unserved;
 use std::alloc::{AllocError, Global};
 use visibility::bar_figures::BarDrawer;
 
-/// Draws by bars that see each other.
+/// The method of the job `bars`: it draws vertices as bars that see each other.
 #[derive(Drop)]
 pub struct Bars {
     drawer: BarDrawer,
@@ -25,6 +25,7 @@ impl Method for Bars {
 
     ghost IsFigure = { IsBarFigure };
 
+    // Makes the method, before the first map. It takes no memory.
     fn new(alloc: Global) -> Bars {
         Bars {
             drawer: BarDrawer::new(alloc),
@@ -32,10 +33,12 @@ impl Method for Bars {
         }
     }
 
+    // Draws the map of `lists` by bars, or returns the first condition that they break.
     fn figure(&mut self, lists: &Rotations) -> Result<BarFigure, Unserved> {
         self.drawer.figure(lists)
     }
 
+    // Appends the drawing to `out`, as text or SVG.
     fn print(
         &mut self,
         given: &MapRecord<'_>,
@@ -45,10 +48,12 @@ impl Method for Bars {
         self.printer.print_bars(given, figure, out)
     }
 
+    // Takes over the memory of a figure that was printed.
     fn keep(&mut self, figure: BarFigure) {
         self.drawer.keep(figure);
     }
 
+    // Does nothing but call the laws of the job's class.
     fn lawful() {
         conn_parts::biconnected_maps::biconnected_break_nothing();
         verdict_laws::one_break();

@@ -1,4 +1,4 @@
-//! The job `convex`.
+//! The job `convex`: drawings with convex faces.
 use crate::form::FormPrinter;
 use crate::method::{MapRecord, Method};
 use convex_draw::convex_figures::ConvexDrawer;
@@ -8,7 +8,7 @@ use pg_plane::GridFigure;
 use refusals::Unserved;
 use std::alloc::{AllocError, Global};
 
-/// Draws with convex faces.
+/// The method of the job `convex`: it draws with convex faces.
 #[derive(Drop)]
 pub struct Convex {
     drawer: ConvexDrawer,
@@ -26,6 +26,7 @@ impl Method for Convex {
 
     ghost IsFigure = { IsConvexFigure };
 
+    // Makes the method, before the first map. It takes no memory.
     fn new(alloc: Global) -> Convex {
         Convex {
             drawer: ConvexDrawer::new(alloc),
@@ -33,11 +34,13 @@ impl Method for Convex {
         }
     }
 
+    // Draws the map of `lists` with convex faces, or returns the first condition that they break.
     fn figure(&mut self, lists: &Rotations) -> Result<GridFigure, Unserved> {
         let figure = self.drawer.figure(lists)?;
         Ok(figure)
     }
 
+    // Appends the drawing to `out`, as text or SVG.
     fn print(
         &mut self,
         given: &MapRecord<'_>,
@@ -48,8 +51,10 @@ impl Method for Convex {
             .print_grid(given, GridJob::Convex, &figure.points, out)
     }
 
+    // Drops the figure.
     fn keep(&mut self, _figure: GridFigure) {}
 
+    // Does nothing but call the laws of the job's class.
     fn lawful() {
         convex_class::convex_maps::three_connected_break_nothing();
         verdict_laws::one_convex_break();

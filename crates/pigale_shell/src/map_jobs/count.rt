@@ -1,4 +1,4 @@
-//! The job `count`.
+//! The job `count`: numbers of vertices, edges, faces and components, and the genus.
 use crate::lines::count_line;
 use crate::method::{MapRecord, Method};
 use euler_faces::{Counter, EulerCount};
@@ -6,7 +6,7 @@ use half_edges::Rotations;
 use refusals::Unserved;
 use std::alloc::{AllocError, Global};
 
-/// Counts vertices, edges, faces and components.
+/// The method of the job `count`: it counts vertices, edges, faces and components.
 #[derive(Drop)]
 pub struct Count {
     alloc: Global,
@@ -26,6 +26,7 @@ impl Method for Count {
     ghost IsFigure = { λ lists count. (count.n ≡ vertex_count lists) × (count.m ≡ edge_count lists)
         × (count.f ≡ face_count lists) × (count.c ≡ component_count lists) };
 
+    // Makes the method, before the first map. It takes no memory.
     fn new(alloc: Global) -> Count {
         Count {
             alloc,
@@ -33,11 +34,13 @@ impl Method for Count {
         }
     }
 
+    // Counts the map of `lists`, or returns the first condition that they break.
     fn figure(&mut self, lists: &Rotations) -> Result<EulerCount, Unserved> {
         let count = self.counter.count(lists)?;
         Ok(count)
     }
 
+    // Appends the count line to `out`.
     fn print(
         &mut self,
         given: &MapRecord<'_>,
@@ -48,7 +51,9 @@ impl Method for Count {
         out.extend_from_slice(&line)
     }
 
+    // Does nothing.
     fn keep(&mut self, _figure: EulerCount) {}
 
+    // Does nothing.
     fn lawful() {}
 }

@@ -1,4 +1,4 @@
-//! The job `rect`.
+//! The job `rect`: rectangular duals.
 use crate::form::FormPrinter;
 use crate::method::{MapRecord, Method};
 use half_edges::Rotations;
@@ -7,7 +7,7 @@ use rect_dual::figures::RectDrawer;
 use refusals::Unserved;
 use std::alloc::{AllocError, Global};
 
-/// Draws a rectangle for each vertex.
+/// The method of the job `rect`: it draws a rectangle for each vertex.
 #[derive(Drop)]
 pub struct Rect {
     drawer: RectDrawer,
@@ -25,6 +25,7 @@ impl Method for Rect {
 
     ghost IsFigure = { IsRectFigure };
 
+    // Makes the method, before the first map. It takes no memory.
     fn new(alloc: Global) -> Rect {
         Rect {
             drawer: RectDrawer::new(alloc),
@@ -32,10 +33,12 @@ impl Method for Rect {
         }
     }
 
+    // Draws the map of `lists` as a rectangular dual, or returns the first condition that they break.
     fn figure(&mut self, lists: &Rotations) -> Result<RectFigure, Unserved> {
         self.drawer.figure(lists)
     }
 
+    // Appends the drawing to `out`, as text or SVG.
     fn print(
         &mut self,
         given: &MapRecord<'_>,
@@ -45,8 +48,10 @@ impl Method for Rect {
         self.printer.print_rects(given, figure, out)
     }
 
+    // Drops the figure.
     fn keep(&mut self, _figure: RectFigure) {}
 
+    // Does nothing but call the laws of the job's class.
     fn lawful() {
         rect_class::biconnected_break_nothing();
         verdict_laws::one_rect_break();

@@ -1,4 +1,4 @@
-//! The job `schnyder`.
+//! The job `schnyder`: drawings by Schnyder's coordinates.
 use crate::form::FormPrinter;
 use crate::method::{MapRecord, Method};
 use figure_text::GridJob;
@@ -8,7 +8,7 @@ use pg_plane::GridFigure;
 use refusals::Unserved;
 use std::alloc::{AllocError, Global};
 
-/// Draws by Schnyder's coordinates.
+/// The method of the job `schnyder`: it draws by Schnyder's coordinates.
 #[derive(Drop)]
 pub struct Schnyder {
     drawer: Drawer,
@@ -26,6 +26,7 @@ impl Method for Schnyder {
 
     ghost IsFigure = { IsSchnyderFigure };
 
+    // Makes the method, before the first map. It takes no memory.
     fn new(alloc: Global) -> Schnyder {
         Schnyder {
             drawer: Drawer::new(alloc),
@@ -33,10 +34,12 @@ impl Method for Schnyder {
         }
     }
 
+    // Draws the map of `lists` by Schnyder's coordinates, or returns the first condition that they break.
     fn figure(&mut self, lists: &Rotations) -> Result<GridFigure, Unserved> {
         self.drawer.schnyder_figure(lists)
     }
 
+    // Appends the drawing to `out`, as text or SVG.
     fn print(
         &mut self,
         given: &MapRecord<'_>,
@@ -48,9 +51,11 @@ impl Method for Schnyder {
             .print_grid(given, GridJob::Schnyder, &figure.points, out)
     }
 
+    // Takes over the memory of a figure that was printed.
     fn keep(&mut self, figure: GridFigure) {
         self.drawer.keep_schnyder(figure);
     }
 
+    // Does nothing.
     fn lawful() {}
 }

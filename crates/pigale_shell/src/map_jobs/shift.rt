@@ -1,4 +1,4 @@
-//! The job `shift`.
+//! The job `shift`: drawings by the shift method.
 use crate::form::FormPrinter;
 use crate::method::{MapRecord, Method};
 use figure_text::GridJob;
@@ -8,7 +8,7 @@ use pg_plane::GridFigure;
 use refusals::Unserved;
 use std::alloc::{AllocError, Global};
 
-/// Draws by the shift method.
+/// The method of the job `shift`: it draws by the shift method.
 #[derive(Drop)]
 pub struct Shift {
     drawer: Drawer,
@@ -26,6 +26,7 @@ impl Method for Shift {
 
     ghost IsFigure = { IsShiftFigure };
 
+    // Makes the method, before the first map. It takes no memory.
     fn new(alloc: Global) -> Shift {
         Shift {
             drawer: Drawer::new(alloc),
@@ -33,10 +34,12 @@ impl Method for Shift {
         }
     }
 
+    // Draws the map of `lists` by the shift method, or returns the first condition that they break.
     fn figure(&mut self, lists: &Rotations) -> Result<GridFigure, Unserved> {
         self.drawer.shift_figure(lists)
     }
 
+    // Appends the drawing to `out`, as text or SVG.
     fn print(
         &mut self,
         given: &MapRecord<'_>,
@@ -48,9 +51,11 @@ impl Method for Shift {
             .print_grid(given, GridJob::Shift, &figure.points, out)
     }
 
+    // Takes over the memory of a figure that was printed.
     fn keep(&mut self, figure: GridFigure) {
         self.drawer.keep_shift(figure);
     }
 
+    // Does nothing.
     fn lawful() {}
 }

@@ -1,4 +1,4 @@
-//! The lines of a sweep.
+//! `Line`: an edge of a drawing as the sweep sees it, by the ranks of its two ends.
 
 /// An edge of a drawing by the numbers of its two ends in the order of the sweep, in which the vertices
 /// are numbered from 0. The sweep comes to the low end before it comes to the high end.

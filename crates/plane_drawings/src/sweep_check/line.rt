@@ -1,4 +1,4 @@
-//! Where vertices stand to lines.
+//! On which side of a line of the sweep a vertex lies, and whether two neighbouring lines end in their order.
 ghost use Rattle.std.specs.Prelude.{◌≡◌, ◌<◌, length, All};
 ghost use Rattle.std.specs.Bool.{OnTrue};
 ghost use Rattle.pg_plane.specs.Range.{IsInRange};
@@ -8,7 +8,7 @@ ghost use Rattle.plane_drawings.specs.PlaneSweepLines.{IsLine, rise, Ends};
 use crate::plane_sweep::Line;
 use pg_plane::{Point, area2};
 
-// Returns the point of the vertex at place `i` in the order of the sweep.
+// Returns the point of the vertex of rank `i` in the order of the sweep.
 fn point_at(places: &[Point], i: u16) -> Point
     requires in_range { All IsInRange places.now }
     requires within { i < length places.now }
@@ -18,8 +18,8 @@ fn point_at(places: &[Point], i: u16) -> Point
     places[i as usize]
 }
 
-// Returns how far the vertex at place `w` is above the line: positive where it is strictly above, zero where it is
-// on the straight line through both ends.
+// Returns twice the area of the triangle of the line and the vertex of rank `w`: positive where the vertex is above
+// the line, zero where it is on it.
 pub(crate) fn rise(places: &[Point], line: Line, w: u16) -> i64
     requires in_range { All IsInRange places.now }
     requires line { IsLine (length places.now) line }

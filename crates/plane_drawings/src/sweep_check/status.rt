@@ -1,4 +1,5 @@
-//! The status of a sweep, which is the lines that it meets, bottom to top; and a step over a vertex.
+//! The status of a sweep, the lines that it meets from bottom to top, with a gap in the array, and its step over a
+//! vertex.
 ghost use Rattle.std.specs.Prelude.{◌≡◌, ℕ, ◌+◌, ◌-◌, ◌<◌, ◌≤◌, ◌++◌, length, take, drop, slice_index_or, All, pos, ◌<ℤ◌, IfSome};
 ghost use Rattle.std.specs.Bool.{OnTrue};
 ghost use Rattle.pg_plane.specs.Range.{IsInRange};
@@ -10,15 +11,14 @@ use crate::plane_sweep::Line;
 use crate::sweep_check::line::{end_apart, rise};
 use pg_plane::Point;
 
-// Where the lines of a status are: those before `begin`, and those from `end` on. Between is room.
+// The gap in the array of a status: its lines are those before `begin` and those from `end` on.
 #[derive(Clone, Copy)]
 pub(crate) struct Gap {
     pub(crate) begin: usize,
     pub(crate) end: usize,
 }
 
-// The points of the vertices in the order of a sweep, and the vertex that it is at, by its place there, with the lines
-// that begin at it.
+// The vertex that a sweep is at: the points in its order, the vertex's rank, and the lines that begin there.
 #[derive(Clone, Copy)]
 pub(crate) struct AtVertex<'a> {
     pub(crate) places: &'a [Point],
@@ -29,7 +29,7 @@ pub(crate) struct AtVertex<'a> {
     pub(crate) ghost lines: { All (IsLine (length places.now)) fresh.now },
 }
 
-// Returns the end of the run of lines that end at the vertex, of those from `begin` on.
+// Returns the first index from `begin` on whose line does not end at the vertex of rank `v`.
 fn run_end(status: &[Line], begin: usize, v: u16) -> usize
     requires { begin ≤ length status.now }
     ensures order { begin ≤ result }
@@ -44,7 +44,7 @@ fn run_end(status: &[Line], begin: usize, v: u16) -> usize
     status.len()
 }
 
-// Moves the gap behind the first `place` lines, and returns where it ends then.
+// Moves the gap so that it begins at index `place`, and returns where it ends then.
 fn move_gap(status: &mut [Line], gap: Gap, place: usize) -> usize
     requires order { gap.begin ≤ gap.end }
     requires within { gap.end ≤ length status.old }
@@ -65,7 +65,8 @@ fn move_gap(status: &mut [Line], gap: Gap, place: usize) -> usize
 }
 
 impl AtVertex<'_> {
-    // Counts how many lines round a gap the vertex is above, if it is above the lower ones and no others.
+    // Returns how many of the lines on both sides of the gap the vertex is above, by a binary search. It requires
+    // that these are the lowest ones.
     fn count_around(&self, lower: &[Line], upper: &[Line]) -> usize
         requires lower { All (IsLine (length self.now.places.now)) lower.now }
         requires upper { All (IsLine (length self.now.places.now)) upper.now }
@@ -107,8 +108,8 @@ impl AtVertex<'_> {
         end == status.len() || rise(self.places, status[end], self.v) < 0
     }
 
-    // Says whether each line from `begin` on, with the next one, ends in its order; if not, the ends of two that do not are
-    // suspects.
+    // Says whether of each two neighbouring lines from index `begin` on the one that ends first ends on its side. If
+    // not, their ends are written to `suspects`.
     fn all_end_apart(&self, status: &[Line], begin: usize, suspects: &mut [u16; 4]) -> bool
         requires lines { All (IsLine (length self.now.places.now)) status.now }
         ensures { OnTrue result ((k : ℕ) (d : Line) → begin ≤ k → k + 1 < length status.now
@@ -124,8 +125,8 @@ impl AtVertex<'_> {
         true
     }
 
-    // Says whether the last of some lines and the first of those behind them end in their order; if not, their ends
-    // are suspects.
+    // Says whether the last line of `lower` and the first of `upper` end on their sides of each other. If not, their
+    // ends are written to `suspects`.
     fn is_seam_apart(&self, lower: &[Line], upper: &[Line], suspects: &mut [u16; 4]) -> bool
         requires lower { All (IsLine (length self.now.places.now)) lower.now }
         requires upper { All (IsLine (length self.now.places.now)) upper.now }
@@ -144,9 +145,9 @@ impl AtVertex<'_> {
         false
     }
 
-    // Takes the lines round a gap over the vertex, where the gap is behind the lines that the vertex is above: the gap
-    // afterwards, or None where a test fails or there is no room. Where one fails, the ends of the lines at fault are
-    // suspects.
+    // Replaces the lines that end at the vertex by those that begin there, where the gap follows the lines below the
+    // vertex. Returns the new gap, or None where a test fails or there is no room. `suspects` then has the ends of
+    // the lines at fault.
     fn pass(&self, status: &mut [Line], gap: Gap, suspects: &mut [u16; 4]) -> Option<Gap>
         requires order { gap.begin ≤ gap.end }
         requires within { gap.end ≤ length status.old }
@@ -182,7 +183,7 @@ impl AtVertex<'_> {
         }
     }
 
-    // Takes the lines round a gap over the vertex as `pass` does, wherever the gap is.
+    // Moves the gap to the vertex, and then replaces lines as `pass` does.
     pub(crate) fn step(&self, status: &mut [Line], gap: Gap, suspects: &mut [u16; 4]) -> Option<Gap>
         requires order { gap.begin ≤ gap.end }
         requires within { gap.end ≤ length status.old }

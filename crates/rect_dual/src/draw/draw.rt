@@ -1,4 +1,4 @@
-//! Rectangular duals of maps.
+//! The public calls that draw a rectangular dual, and the box of each vertex by its rank.
 ghost use Rattle.std.specs.Prelude.{◌≡◌, ◌<◌, ◌^◌, ℕ, length, slice_index, Some, All, IfOk, pos};
 ghost use Rattle.map_theory.specs.Maps.{follows};
 ghost use Rattle.half_edges.specs.Map.{IsLive, dart_at};
@@ -15,7 +15,7 @@ use pg_plane::{Ints, RectFigure};
 use rect_orders::rect_order::{Frame, frame_of};
 use std::alloc::{AllocError, Global};
 
-// A number as a coordinate.
+// Converts an unsigned number to a coordinate.
 fn coordinate(number: u32) -> i32
     requires { number < 2 ^ 20 }
     ensures { result ≡ pos number }
@@ -23,7 +23,7 @@ fn coordinate(number: u32) -> i32
     number as i32
 }
 
-// The number at the rank of each vertex.
+// Returns for each vertex the entry of `numbers` at its rank. It fails only when out of memory.
 fn numbers_at(alloc: Global, numbers: &[u32], ranks: &Counts) -> Result<Ints, AllocError>
     requires ranks { All (λ k. k < length numbers.now) ranks.now }
     requires small { (k : ℕ) → k < length numbers.now → slice_index numbers.now k < 2 ^ 20 }
@@ -36,7 +36,7 @@ fn numbers_at(alloc: Global, numbers: &[u32], ranks: &Counts) -> Result<Ints, Al
     Ok(Ints::from_vec(made))
 }
 
-// Each box at its vertex.
+// Returns the figure in which each vertex has the box of its rank. It fails only when out of memory.
 fn figure_at(alloc: Global, tables: &BoxTables, ranks: &Counts) -> Result<RectFigure, AllocError>
     requires ranks { All (λ k. k < length ranks.now) ranks.now }
     requires sizes { AreSized (length ranks.now) tables.now.left.items tables.now.right.items tables.now.low.items tables.now.high.items }
@@ -53,7 +53,8 @@ fn figure_at(alloc: Global, tables: &BoxTables, ranks: &Counts) -> Result<RectFi
     Ok(RectFigure { x1, x2, y1, y2 })
 }
 
-// The dual of the map with these lists and this frame.
+// Returns the rectangular dual of the map with these `lists`, whose outer face has the vertices of `frame`. It fails
+// only when out of memory.
 pub(crate) fn framed(
     alloc: Global,
     lists: &Rotations,
@@ -77,11 +78,12 @@ pub(crate) fn framed(
     Ok(figure)
 }
 
-/// A rectangular dual of a map of the class of the job `rect`, whose outer face is that of the base dart: a
-/// rectangle for each vertex, which together fill one of at most n - 2 by n - 2, and of which two share a side of
-/// positive length just where their vertices are adjacent. The outer face is walked by the left, the upper, the
-/// right and the lower rectangle, of which the base dart leaves the first. Each edge off that face is a run or a rise of
-/// an edge labelling: along a run the one rectangle ends on the right where the other begins, along a rise above.
+/// Returns a rectangular dual of a map of the class of the job `rect`, whose outer face is that of the dart `base`.
+/// It has a rectangle for each vertex. Together they fill one of at most n - 2 by n - 2, and two share a side of
+/// positive length exactly where their vertices are adjacent. The outer face is walked by the left, the upper, the
+/// right and the lower rectangle, of which the base dart leaves the first. Each edge off that face is a run
+/// (horizontal) or a rise (vertical) of a regular edge labelling. Along a run one rectangle ends on the right where
+/// the other begins, along a rise above.
 ///
 /// It fails only when out of memory, and the map stays as it is.
 ///

@@ -1,4 +1,4 @@
-//! The boxes of a rectangular run, from its rows.
+//! The four sides of all boxes of a rectangular dual, by ranks: `BoxTables`.
 ghost use Rattle.std.specs.Prelude.{◌≡◌, ◌<◌, ◌≤◌, ◌+◌, ℕ, List, length, slice_index, IfOk};
 ghost use Rattle.contour_runs.specs.Runs.{Step};
 ghost use Rattle.rect_runs.specs.Labels.{IsLabelledRun};
@@ -15,7 +15,7 @@ use crate::side_lines::{RowNumbers, row_numbers};
 use map_lists::Rotations;
 use std::alloc::{AllocError, Global};
 
-// The four sides of boxes.
+// The sides of the boxes, by the ranks of their vertices.
 #[derive(Drop)]
 pub(crate) struct BoxTables {
     pub left: Vec<u32>,
@@ -24,21 +24,21 @@ pub(crate) struct BoxTables {
     pub high: Vec<u32>,
 }
 
-// The right and the upper sides alone.
+// The right and the upper sides of boxes, by rank.
 #[derive(Drop)]
 struct Sides {
     right: Vec<u32>,
     high: Vec<u32>,
 }
 
-// How wide the grid of the boxes is, and how high up to the last box.
+// The width of the grid of the boxes, and the height at which the last box begins.
 #[derive(Clone, Copy)]
 struct Grid {
     width: u32,
     ceiling: u32,
 }
 
-// Returns how many turns are runs.
+// Returns how many of the turns `runs` are at a horizontal edge.
 fn run_count(runs: &[bool]) -> u32
     requires few { length runs.now < 4096 }
     ensures count { (steps : ℕ → Step) (places : List ℕ) → AreTurns steps (length runs.now) places runs.now → result ≡ run_turns steps (length runs.now) }
@@ -51,7 +51,8 @@ fn run_count(runs: &[bool]) -> u32
     count
 }
 
-// Returns the right and the upper sides of a run, by the numbers of its left and its lower ones, in a grid.
+// Returns the right and the upper sides of all boxes but the last, by the numbers of the left and the lower ones. It
+// fails only when out of memory.
 fn lower_sides(
     alloc: Global,
     turned: &TurnedRows<'_>,
@@ -71,7 +72,8 @@ fn lower_sides(
     Ok(Sides { right, high })
 }
 
-// The boxes of a run with these rows, and the one over all of them.
+// Returns the boxes over a construction sequence with these rows, and the last box over all of them. It fails only
+// when out of memory.
 pub(crate) fn box_tables(alloc: Global, rows: &Rotations) -> Result<BoxTables, AllocError>
     requires run { (steps : ℕ → Step) × AreRows steps rows.now }
     ensures left { IfOk result (λ tables. length tables.left.items ≡ length rows.now + 3) }

@@ -1,4 +1,4 @@
-//! The figure of a record, or why it has none.
+//! The rectangular dual of one record, or the condition that it breaks.
 ghost use Rattle.std.specs.Prelude.{◌≡◌, ◌<◌, length, Some, IfOk, IfErr, OnOk};
 ghost use Rattle.half_edges.specs.Map.{IsLive, dart_at};
 ghost use Rattle.rect_check.specs.Duals.{top_vertex};
@@ -14,7 +14,7 @@ use rect_class::rect_map;
 use refusals::Unserved;
 use std::alloc::{AllocError, Global};
 
-// The dart from vertex 0 to the first of its list.
+// Returns the dart from vertex 0 to its first neighbour, which it has.
 fn first_dart(map: &HalfMap) -> DartId
     requires class { IsRectMap map.now.lists }
     ensures live { IsLive map.now result.0 }
@@ -26,10 +26,10 @@ fn first_dart(map: &HalfMap) -> DartId
     }
 }
 
-/// The figure of a record with these lists, which are from 1 to 4095: a rectangle for each vertex, which together fill
-/// one of at most n - 2 by n - 2, and two of which share a side just where their vertices are adjacent. The outer face,
-/// that of the dart from vertex 0 to the first of its list, is walked by the left, the upper, the right and the lower
-/// rectangle.
+/// Returns the rectangular dual of a record with these `lists`, from 1 to 4095: a rectangle for each vertex. Together
+/// they fill one of at most n - 2 by n - 2, and two share a side exactly where their vertices are adjacent. The outer
+/// face, that of the dart from vertex 0 to the first of its list, is walked by the left, the upper, the right and the
+/// lower rectangle.
 ///
 /// `Err` names the first condition that the lists break, of these in this order: the four faults of a map, each
 /// with the least vertices; fewer than three vertices; a genus above zero; more than one component; a cut vertex,

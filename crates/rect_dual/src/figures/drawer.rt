@@ -1,4 +1,4 @@
-//! Figures of records, one after another, by a drawer that keeps its tables from one to the next.
+//! `RectDrawer`: rectangular duals of records, one after another, in tables that are kept.
 ghost use Rattle.std.specs.Prelude.{◌<◌, length, IfOk, IfErr, OnOk};
 ghost use Rattle.refusals.specs.Conditions.{IfRefused};
 ghost use Rattle.rect_check.specs.Loops.{IsFrame};
@@ -16,7 +16,7 @@ use rect_orders::rect_order::Frame;
 use refusals::Unserved;
 use std::alloc::{AllocError, Global};
 
-// The rectangles of a map of the class with this outer face.
+// Draws a map of the class whose outer face is `four`. It fails only when out of memory.
 fn drawn(alloc: Global, lists: &Rotations, four: OuterFour) -> Result<RectFigure, AllocError>
     requires class { IsRectMap lists.now }
     requires frame { IsFrame lists.now four.top.0 four.right.0 four.bottom.0 }
@@ -36,7 +36,7 @@ fn drawn(alloc: Global, lists: &Rotations, four: OuterFour) -> Result<RectFigure
     Ok(figure)
 }
 
-/// Draws records, one after another, and keeps its tables for the next.
+/// Draws the rectangular duals of records, one after another, and keeps its tables for the next.
 #[derive(Drop)]
 pub struct RectDrawer {
     alloc: Global,
@@ -44,7 +44,7 @@ pub struct RectDrawer {
 }
 
 impl RectDrawer {
-    /// A drawer that has drawn nothing yet. It takes no memory.
+    /// Returns a drawer that has drawn nothing yet. It takes no memory.
     pub fn new(alloc: Global) -> RectDrawer {
         RectDrawer {
             alloc,
@@ -52,7 +52,7 @@ impl RectDrawer {
         }
     }
 
-    /// The figure of a record, as `rect_figure` has it. After `NoMemory` the drawer serves as before.
+    /// Returns the figure of a record, as `rect_figure` has it. After `NoMemory` the drawer serves as before.
     pub fn figure(&mut self, lists: &Rotations) -> Result<RectFigure, Unserved>
         requires some_list { 0 < length lists.now }
         ensures figure { IfOk result (IsRectFigure lists.now) }

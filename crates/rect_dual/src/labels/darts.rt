@@ -1,4 +1,4 @@
-//! The labels of darts.
+//! The label of each dart, by the ranks of its ends in a rectangular order.
 ghost use Rattle.std.specs.Prelude.{◌≡◌, ◌<◌, ◌↔◌, ℕ, Some, length, All, IsTrue, IfOk};
 ghost use Rattle.half_edges.specs.Map.{dart_at, id_bound};
 ghost use Rattle.rect_orders.specs.Labellings.{IsSide, IsFrameEdge};
@@ -11,14 +11,14 @@ use half_edges::{Counts, DartId, HalfMap, VertexId};
 use rect_orders::rect_order::Frame;
 use std::alloc::{AllocError, Global};
 
-// Whether u is a and v is b.
+// Says whether `u` is `a` and `v` is `b`.
 fn are(u: VertexId, v: VertexId, a: VertexId, b: VertexId) -> bool
     ensures { IsTrue result ↔ ((u.0 ≡ a.0) × (v.0 ≡ b.0)) }
 {
     u.0 == a.0 && v.0 == b.0
 }
 
-// Whether v comes after u along the outer face.
+// Says whether `v` comes directly after `u` along the outer face.
 fn is_side(frame: &Frame, u: VertexId, v: VertexId) -> bool
     ensures { IsTrue result ↔ IsSide frame.now.left.0 frame.now.top.0 frame.now.right.0 frame.now.bottom.0 u.0 v.0 }
 {
@@ -27,7 +27,7 @@ fn is_side(frame: &Frame, u: VertexId, v: VertexId) -> bool
             || (are(u, v, frame.right, frame.bottom) || are(u, v, frame.bottom, frame.left)))
 }
 
-// Whether u and v are the ends of an edge of the outer face.
+// Says whether `u` and `v` are the ends of an edge of the outer face.
 fn is_frame_edge(frame: &Frame, u: VertexId, v: VertexId) -> bool
     ensures { IsTrue result ↔ IsFrameEdge frame.now.left.0 frame.now.top.0 frame.now.right.0 frame.now.bottom.0 u.0 v.0 }
 {
@@ -35,7 +35,7 @@ fn is_frame_edge(frame: &Frame, u: VertexId, v: VertexId) -> bool
 }
 
 impl RunTables {
-    // Says whether the edge from `i` to the later vertex `j`, by their ranks, is a run.
+    // Says whether the edge from rank `i` to the later rank `j` is horizontal.
     fn is_run_to(&self, i: u32, j: u32) -> bool
         requires first { j < length self.now.first.items }
         requires left { i < length self.now.left.items }
@@ -44,7 +44,7 @@ impl RunTables {
         self.first[j as usize] == i || self.left[i as usize] == j
     }
 
-    // Returns the label of the dart from `i` to `j`, by their ranks, where its edge is none of the outer face.
+    // Returns the label of the dart from rank `i` to rank `j`, whose edge is not on the outer face.
     fn inner_label(&self, i: u32, j: u32) -> Label
         requires i { i < length self.now.first.items }
         requires j { j < length self.now.first.items }
@@ -66,7 +66,8 @@ impl RunTables {
     }
 }
 
-// A map with the frame of its outer face, the rank of each vertex, and the tables by which runs are told from rises.
+// A map with its outer vertices, the rank of each vertex, and the tables that tell horizontal edges from vertical
+// ones.
 #[derive(Clone, Copy)]
 pub(crate) struct Ranked<'a> {
     pub(crate) map: &'a HalfMap,
@@ -78,7 +79,7 @@ pub(crate) struct Ranked<'a> {
 }
 
 impl Ranked<'_> {
-    // Returns the label of the dart with an id, or any label where there is none.
+    // Returns the label of the dart `d`, or `Frame` where no dart has this id.
     fn dart_label(&self, d: DartId) -> Label
         ensures { (u v : ℕ) → dart_at self.now.map.now d.0 ≡ Some (u, v) → IsLabelOf self.now.frame.now.left.0 self.now.frame.now.top.0 self.now.frame.now.right.0 self.now.frame.now.bottom.0
             (end_by self.now.tables.now.first.items self.now.tables.now.left.items self.now.ranks.now) u v result }
@@ -96,7 +97,7 @@ impl Ranked<'_> {
             .inner_label(self.ranks.get(u.0 as usize), self.ranks.get(v.0 as usize))
     }
 
-    // Makes the labels of all ids.
+    // Returns the labels of all ids. It fails only when out of memory.
     pub(crate) fn dart_labels(&self, alloc: Global) -> Result<Vec<Label>, AllocError>
         ensures count { IfOk result (λ labels. length labels.items ≡ id_bound self.now.map.now) }
         ensures labels { IfOk result (λ labels. AreLabelsOf self.now.map.now self.now.frame.now.left.0 self.now.frame.now.top.0 self.now.frame.now.right.0 self.now.frame.now.bottom.0

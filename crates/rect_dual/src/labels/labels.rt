@@ -1,20 +1,22 @@
-//! Labels of darts, and tables of them.
+//! `Label`: whether an edge at a vertex is vertical or horizontal, in or out, and `Labelling`: the labels of all
+//! darts.
 ghost use Rattle.std.specs.Prelude.{◌≡◌, ◌<◌, length};
 ghost use Rattle.rect_dual.specs.Labellings.{label_in};
 
 use map_lists::DartId;
 use std::marker::Model;
 
-/// How an edge stands at the vertex that one of its darts leaves.
+/// How an edge of a regular edge labelling leads at the vertex that one of its darts leaves. A rise is a vertical
+/// edge, a run a horizontal one.
 #[derive(Clone, Copy, PartialEq, Eq)]
 pub enum Label {
-    /// A rise that leaves the vertex.
+    /// A vertical edge that leaves the vertex, upwards.
     RiseOut,
-    /// A rise that enters it.
+    /// A vertical edge that enters it, from below.
     RiseIn,
-    /// A run that leaves it.
+    /// A horizontal edge that leaves it, to the right.
     RunOut,
-    /// A run that enters it.
+    /// A horizontal edge that enters it, from the left.
     RunIn,
     /// An edge of the outer face, which is neither.
     Frame,
@@ -37,15 +39,15 @@ impl Model for Labelling {
 }
 
 impl Labelling {
-    /// How many ids have a label: those with lesser numbers. It takes no memory.
+    /// Returns the number of ids that have a label: those with lesser numbers. It takes no memory.
     pub fn len(&self) -> usize
         ensures { result ≡ length self.now }
     {
         self.labels.len()
     }
 
-    /// The label of a dart that was live in the map: `Frame` exactly for both darts of the edges of the base's face. It
-    /// takes no memory.
+    /// Returns the label of a dart that was live in the map: `Frame` exactly for both darts of the edges of the
+    /// base's face. It takes no memory.
     pub fn of(&self, d: DartId) -> Label
         requires { d.0 < length self.now }
         ensures { result ≡ label_in self.now d.0 }

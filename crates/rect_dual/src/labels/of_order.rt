@@ -1,4 +1,4 @@
-//! The edge labelling of a map.
+//! The public call `edge_labels`, which finds the edge labelling of a map by a rectangular order.
 ghost use Rattle.std.specs.Prelude.{◌≡◌, ◌<◌, ◌-◌, ℕ, length, Some, IfOk};
 ghost use Rattle.map_theory.specs.Maps.{follows};
 ghost use Rattle.half_edges.specs.Map.{IsLive, dart_at};
@@ -14,7 +14,7 @@ use half_edges::{DartId, HalfMap};
 use rect_orders::rect_order::{Frame, frame_of};
 use std::alloc::{AllocError, Global};
 
-// The labelling of a map with this frame.
+// Returns the labelling of `map` whose outer face has the vertices of `frame`. It fails only when out of memory.
 fn framed(alloc: Global, map: &HalfMap, frame: Frame) -> Result<Labelling, AllocError>
     requires class { IsRectMap map.now.lists frame.left.0 frame.top.0 frame.right.0 frame.bottom.0 }
     requires inner { frame.inner.0 ≡ follows map.now.lists frame.bottom.0 frame.left.0 }
@@ -43,11 +43,11 @@ fn framed(alloc: Global, map: &HalfMap, frame: Frame) -> Result<Labelling, Alloc
     Ok(Labelling { labels })
 }
 
-/// An edge labelling of a map of the class of the job `rect`, whose outer face is that of the base dart. Each edge off
-/// that face is a run or a rise, with a direction. Clockwise round each vertex inside stand entering runs, leaving
-/// rises, leaving runs and entering rises, at least one of each. Of the four vertices of the outer face, along which it
-/// is walked from the one that the base dart leaves, runs alone leave the first, rises alone enter the second, runs
-/// alone enter the third, and rises alone leave the fourth.
+/// Returns an edge labelling of a map of the class of the job `rect`, whose outer face is that of the base dart. Each
+/// edge off that face is horizontal (a run) or vertical (a rise), with a direction. Clockwise round each vertex
+/// inside stand entering runs, leaving rises, leaving runs and entering rises, at least one of each. The outer face
+/// is walked along four vertices, from the one that the base dart leaves: runs alone leave the first, rises alone
+/// enter the second, runs alone enter the third, and rises alone leave the fourth.
 ///
 /// It fails only when out of memory, and the map stays as it is. The time is linear in the map: two tables over the
 /// vertices, from the rows and turns of a rectangular order, tell the label of each dart.

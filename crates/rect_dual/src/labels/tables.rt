@@ -1,4 +1,4 @@
-//! The two tables by which runs are told from rises.
+//! Two tables by ranks that tell horizontal edges (runs) from vertical ones (rises).
 ghost use Rattle.std.specs.Prelude.{◌≡◌, ◌<◌, ◌+◌, ℕ, length, slice_index, vec_len, IfOk};
 ghost use Rattle.rect_dual.specs.EdgeLabelsTables.{AreFirsts, AreLefts};
 
@@ -6,7 +6,7 @@ use crate::rect_sides::put_side;
 use crate::rect_turns::TurnedRows;
 use std::alloc::{AllocError, Global};
 
-/// For each vertex, by its rank, the vertex with which its row begins, and the last one to whose left it stands.
+/// For each vertex, by its rank, the first vertex of its row, and the last vertex put on to whose left it stands.
 #[derive(Drop)]
 pub(crate) struct RunTables {
     pub first: Vec<u32>,
@@ -14,7 +14,7 @@ pub(crate) struct RunTables {
     ghost size: { vec_len left ≡ vec_len first },
 }
 
-// Fills both tables, which have zeros at first.
+// Fills both tables, which are zeros at first, from the rows and their turns.
 fn fill_tables(first: &mut [u32], left: &mut [u32], turned: &TurnedRows<'_>)
     requires first { length first.old ≡ length turned.now.rows.now + 3 }
     requires left { length left.old ≡ length turned.now.rows.now + 3 }

@@ -1,4 +1,5 @@
-//! The four vertices of the outer face, and the lists with an edge more between the top and the bottom.
+//! `Frame`: the four outer vertices of a map with a rectangular dual, and its lists with an edge added between top
+//! and bottom.
 ghost use Rattle.std.specs.Prelude.{◌≡◌, ℕ, Some, IfOk};
 ghost use Rattle.half_edges.specs.Map.{IsLive, dart_at};
 ghost use Rattle.rect_orders.specs.Maps.{IsRectMap, closed};
@@ -23,7 +24,7 @@ pub struct Frame {
     pub inner: VertexId,
 }
 
-/// The vertices of the outer face, which is that of the base dart.
+/// Returns the vertices of the outer face, that of the dart `base`, and one inside.
 pub fn frame_of(map: &HalfMap, base: DartId) -> Frame
     requires { IsLive map.now base.0 }
     ensures { (s d p t : ℕ) → dart_at map.now base.0 ≡ Some (s, d) → IsRectMap map.now.lists s d p t → IsFrameOf map.now.lists result s d p t }

@@ -1,4 +1,4 @@
-//! The outer cycle of what is left, while vertices are taken off it one by one.
+//! The outer cycle of the vertices that are left, and which of its vertices may be taken off next.
 //!
 //! `marked` says of each vertex whether it is on that cycle, `gone` whether it was taken off; `near` counts its
 //! neighbours that are marked, `away` those that are gone. Each vertex that may be taken off next is on `stack`,
@@ -19,7 +19,8 @@ pub(crate) struct Cycle<'a> {
 }
 
 impl Cycle<'_> {
-    // Says whether a vertex may be taken off next.
+    // Says whether `v` may be taken off next. It is on the cycle with two neighbours there, at least two neighbours
+    // are gone, and it is not one of the two that stay.
     fn is_removable(&self, v: u16) -> bool
         requires { v < length self.now.marked.now }
         ensures { IsTrue result ↔ LooksRemovable self.now.bottom self.now.left self.now.marked.now self.now.near.now self.now.away.now v }
@@ -31,7 +32,7 @@ impl Cycle<'_> {
             && self.away[v as usize] >= 2
     }
 
-    // Returns a vertex that may be taken off next, where there is one. What stands on the stack above it is taken away.
+    // Returns the top vertex of `stack` that may be taken off next, and pops those above it.
     pub(crate) fn removable_vertex(&self, stack: &mut Vec<u16>) -> u16
         requires stacked { IsStacked self.now.bottom self.now.left self.now.marked.now self.now.near.now self.now.away.now stack.old.items }
         requires some { (v : ℕ) × LooksRemovable self.now.bottom self.now.left self.now.marked.now self.now.near.now self.now.away.now v }

@@ -1,4 +1,4 @@
-//! Rectangular orders.
+//! The public call `rect_order`: vertices taken off the outer cycle one by one, from the last to the first.
 ghost use Rattle.std.specs.Prelude.{◌≡◌, ◌<◌, ℕ, false, true, [], ◌∷◌, length, reverse, IfOk};
 ghost use Rattle.map_lists.specs.Lists.{Lists};
 ghost use Rattle.map_theory.specs.Maps.{IsSimpleMap};
@@ -14,7 +14,7 @@ use canon_order::{Order, push_three, turned_order};
 use half_edges::Rotations;
 use std::alloc::{AllocError, Global};
 
-// The lists of a closed map, with the vertices of its outer face.
+// The lists of a map with the edge between top and bottom added, and the vertices of its outer face.
 #[derive(Clone, Copy)]
 struct Closed<'a> {
     lists: &'a Rotations,
@@ -29,7 +29,8 @@ impl Closed<'_> {
         ensures { IsSimpleMap self.now.lists.now }
     {}
 
-    // Takes a vertex off that is on the outer cycle: its neighbours that are left are on it now.
+    // Takes the vertex `v` off the outer cycle, and puts its remaining neighbours on it, with all marks and counts.
+    // It fails only when out of memory.
     fn take_off(
         &self,
         marked: &mut [bool],
@@ -56,8 +57,8 @@ impl Closed<'_> {
         Ok(())
     }
 
-    // Takes all vertices off, from the last one of an order to the first: the top and the right vertex, then others until
-    // three are left, and those too.
+    // Takes all vertices off, and appends them to `taken` from the last to the first. After the top and the right one
+    // come others until three are left, and then those. It fails only when out of memory.
     fn take_all(
         &self,
         marked: &mut [bool],
@@ -100,7 +101,7 @@ impl Closed<'_> {
         push_three(taken, frame.inner.0, frame.bottom.0, frame.left.0)
     }
 
-    // Returns the vertices from the last one of an order to the first.
+    // Returns all vertices from the last of a rectangular order to the first. It fails only when out of memory.
     fn taken_off(&self, alloc: Global) -> Result<Vec<u16>, AllocError>
         requires class { (map : Lists) × IsClosedAt self.now.lists.now map self.now.frame }
         ensures { IfOk result (λ taken. IsOrderAt self.now.lists.now self.now.frame (reverse taken.items)) }
@@ -126,9 +127,10 @@ impl Closed<'_> {
     }
 }
 
-/// A rectangular order of the map of which `more` are the lists of the closed one, with the outer face `frame`: the
-/// left vertex is the first, the bottom the second, the right one the last but one, and the top the last. Each other
-/// vertex has two later neighbours or more. `rank` has the place of each vertex in `at`.
+/// Returns a rectangular order of the map with the outer face `frame`, where `more` are its lists with the edge
+/// between top and bottom added. The left vertex is the first, the bottom the second, the right one the last but one,
+/// and the top the last. Each other vertex has two later neighbours or more. `rank` has the index of each vertex in
+/// `at`.
 ///
 /// It fails only when out of memory. The lists stay as they are. The time is linear in the vertices: they are taken
 /// off from the last one on, each goes onto the outer cycle and off it once, and its neighbours count how many of

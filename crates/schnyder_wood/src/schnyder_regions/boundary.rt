@@ -1,4 +1,4 @@
-//! The closed path of a region.
+//! The closed path that bounds a region of a Schnyder wood: made, and asked for edges and vertices.
 ghost use Rattle.std.specs.Prelude.{◌≡◌, ◌<◌, ◌⊎◌, ◌↔◌, ℕ, IsTrue, IfOk, length, slice_index};
 ghost use Rattle.wood_runs.specs.Parents.{next, previous};
 ghost use Rattle.schnyder_wood.specs.Parents.{kind, count_in, parent_in, IsInnerIn};
@@ -10,7 +10,7 @@ use crate::{Colour, Wood};
 use map_lists::VertexId;
 use std::alloc::{AllocError, Global};
 
-// The parent of an inner vertex.
+// Returns the parent of the inner vertex `v` in `colour`.
 fn parent_of(wood: &Wood, colour: Colour, v: VertexId) -> VertexId
     requires { IsInnerIn wood.now v.0 }
     ensures { result.0 ≡ parent_in wood.now (kind colour) v.0 }
@@ -21,7 +21,7 @@ fn parent_of(wood: &Wood, colour: Colour, v: VertexId) -> VertexId
     }
 }
 
-// Notes for each vertex of a path where it leads.
+// Sets `ups[u]`, for each vertex `u` on the path of `colour` from `v` to its root, to the next vertex on it.
 fn note_path(ups: &mut [u16], wood: &Wood, v: VertexId, colour: Colour)
     requires inner { IsInnerIn wood.now v.0 }
     requires count { length ups.old ≡ count_in wood.now }
@@ -42,7 +42,7 @@ fn note_path(ups: &mut [u16], wood: &Wood, v: VertexId, colour: Colour)
     unreachable!()
 }
 
-// The colour after another.
+// Returns the colour after `colour`, cyclically.
 fn next_colour(colour: Colour) -> Colour
     ensures { kind result ≡ next (kind colour) }
 {
@@ -53,7 +53,7 @@ fn next_colour(colour: Colour) -> Colour
     }
 }
 
-// The colour before another.
+// Returns the colour before `colour`, cyclically.
 fn previous_colour(colour: Colour) -> Colour
     ensures { kind result ≡ previous (kind colour) }
 {
@@ -64,7 +64,8 @@ fn previous_colour(colour: Colour) -> Colour
     }
 }
 
-// The path of a colour, noted for each vertex: where it leads from those on it, and all others at their own place.
+// Returns a table of the path of `colour` from `v`: for each vertex on it the next one, and for all others
+// themselves. It fails only when out of memory.
 fn noted_path(
     alloc: Global,
     wood: &Wood,
@@ -82,7 +83,7 @@ fn noted_path(
     Ok(ups)
 }
 
-// The closed path of a region of an inner vertex.
+// Returns the closed path of the region of the inner vertex `v` for `colour`. It fails only when out of memory.
 pub(crate) fn closed_path(
     alloc: Global,
     wood: &Wood,
@@ -102,7 +103,7 @@ pub(crate) fn closed_path(
     })
 }
 
-// Whether an edge is one of the path.
+// Says whether the edge between `x` and `y` is on the path of the table `ups`.
 fn is_along(ups: &[u16], x: u16, y: u16) -> bool
     requires x_in { x < length ups.now }
     requires y_in { y < length ups.now }
@@ -117,7 +118,8 @@ impl ClosedPath {
         ensures { length self.now.previouses.items ≡ length self.now.nexts.items }
     {}
 
-    // Whether an edge is one of the closed path: along one of its two, or between the roots.
+    // Says whether the edge between `x` and `y` is on the closed path: along one of its two paths, or between the
+    // roots.
     pub(crate) fn has_edge(&self, x: u16, y: u16) -> bool
         requires x_in { x < length self.now.nexts.items }
         requires y_in { y < length self.now.nexts.items }
@@ -132,7 +134,7 @@ impl ClosedPath {
             || (x == b && y == a)
     }
 
-    // Whether a vertex is on the closed path: one of the two leads on from it, or it is a root.
+    // Says whether `u` is on the closed path: one of its two paths leads on from it, or it is a root.
     pub(crate) fn has_vertex(&self, u: u16) -> bool
         requires { u < length self.now.nexts.items }
         ensures { IsTrue result ↔ IsVertexOf self.now u }

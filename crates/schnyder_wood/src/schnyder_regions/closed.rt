@@ -1,10 +1,10 @@
-//! The closed path of a region, as the code holds it.
+//! `ClosedPath`: the type of the closed path that bounds a region.
 ghost use Rattle.std.specs.Prelude.{◌≡◌, length};
 
 use map_lists::VertexId;
 
-// The closed path of a region: for each vertex where it leads along the paths of the next colour and of the one
-// before, and the roots of both.
+// The closed path that bounds a region: for each vertex the next one along the path of the next colour and of the
+// previous one, and the roots of both.
 #[derive(Drop)]
 pub(crate) struct ClosedPath {
     pub(crate) nexts: Vec<u16>,

@@ -1,4 +1,4 @@
-//! How many vertices a region has.
+//! The number of vertices of a region of a Schnyder wood, by a search of the faces.
 ghost use Rattle.std.specs.Prelude.{◌≡◌, ◌<◌, ◌*◌, ℕ, false, true, Some, length, IfOk};
 ghost use Rattle.map_theory.specs.Maps.{Dart, HasDart};
 ghost use Rattle.half_edges.specs.Map.{IsLive, dart_at, id_bound};
@@ -19,7 +19,7 @@ use half_edges::{DartId, HalfMap};
 use map_lists::VertexId;
 use std::alloc::{AllocError, Global};
 
-// The region of a closed path of a map, which notes all vertices, and the dart at which chains of faces start.
+// A region of a map by its closed path, and the dart at which the search of the faces starts.
 #[derive(Clone, Copy)]
 struct Region<'a> {
     map: &'a HalfMap,
@@ -35,7 +35,7 @@ impl Region<'_> {
         ensures { length self.now.path.now.nexts.items ≡ length self.now.map.now.lists }
     {}
 
-    // Whether the edge of a dart is one of the closed path.
+    // Says whether the edge of the dart `d` is on the closed path.
     fn crosses(&self, d: DartId) -> bool
         requires { IsLive self.now.map.now d.0 }
         ensures { IsCrossed self.now.map.now self.now.path.now d.0 result }
@@ -45,7 +45,7 @@ impl Region<'_> {
         self.path.has_edge(self.map.tail(d).0, self.map.head(d).0)
     }
 
-    // Marks the vertices that a dart leaves whose face is met with an odd number.
+    // Marks in `inside` the tails of all darts whose face is reached by an odd number of crossings, as `met` says.
     fn mark_tails(&self, met: &[bool], inside: &mut [bool])
         requires marks { length met.now ≡ 2 * id_bound self.now.map.now }
         requires count { length inside.old ≡ length self.now.map.now.lists }
@@ -67,7 +67,7 @@ impl Region<'_> {
         }
     }
 
-    // Marks the vertices on the closed path.
+    // Marks in `inside` the vertices on the closed path.
     fn mark_boundary(&self, inside: &mut [bool])
         requires { length inside.old ≡ length self.now.map.now.lists }
         ensures { MarksMore (IsVertexOf self.now.path.now) inside.old inside.new }
@@ -83,8 +83,9 @@ impl Region<'_> {
         }
     }
 
-    // How many vertices the region has, on the side of the closed path that is not met from the start, given no marks: first
-    // all faces are met to which chains from the start come, with an even or an odd number of crossings each.
+    // Returns the number of vertices of the region. `met` and `inside` are unset marks: first for each face whether
+    // it is reached from the start with an even or odd number of crossings, then the vertices. It fails only when out
+    // of memory.
     fn count(&self, alloc: Global, met: &mut [bool], inside: &mut [bool]) -> Result<u32, AllocError>
         requires marks { length met.old ≡ 2 * id_bound self.now.map.now }
         requires unset { (i : ℕ) → mark_at met.old i ≡ false }
@@ -106,7 +107,7 @@ impl Region<'_> {
     }
 }
 
-// The base of a wood: the dart from root two to root one.
+// Returns the dart from root two to root one.
 fn base_dart(map: &HalfMap, wood: &Wood) -> DartId
     requires { HasDart map.now.lists (root_in wood.now two) (root_in wood.now one) }
     ensures { dart_at map.now result.0 ≡ Some (base_in wood.now) }
@@ -118,8 +119,8 @@ fn base_dart(map: &HalfMap, wood: &Wood) -> DartId
     }
 }
 
-/// The number of vertices in the region of an inner vertex opposite the root of a colour, those on its borders
-/// included.
+/// Returns the number of vertices in the region of the inner vertex `v` opposite the root of `colour`, those on its
+/// boundary included.
 ///
 /// The region is bounded by the paths of the two other colours and by the outer edge between their roots. It
 /// has the vertices on these, and those on a face to which a chain of faces from the outer one, each sharing an

@@ -1,4 +1,4 @@
-//! The figure of a record, or why it has none.
+//! The visibility drawing of one record, or the condition that it breaks.
 ghost use Rattle.std.specs.Prelude.{◌≡◌, ◌<◌, length, Some, IfOk, IfErr, OnOk};
 ghost use Rattle.half_edges.specs.Map.{IsLive, dart_at, first_dart as first_of};
 ghost use Rattle.refusals.specs.Conditions.{IfRefused};
@@ -13,7 +13,7 @@ use refusals::Unserved;
 use st_orders::st_ranks;
 use std::alloc::Global;
 
-// The dart from vertex 0 to the first of its list.
+// Returns the dart from vertex 0 to its first neighbour, which it has.
 fn first_dart(map: &HalfMap) -> DartId
     requires biconnected { IsBiconnectedMap 3 map.now.lists }
     ensures live { IsLive map.now result.0 }
@@ -25,8 +25,8 @@ fn first_dart(map: &HalfMap) -> DartId
     }
 }
 
-/// The figure of a record with these lists, which are from 1 to 4095: each vertex as a level bar, each edge as a
-/// column between the bars of its ends, over a width of one less than the number of faces.
+/// Returns the visibility drawing of a record with these `lists`, from 1 to 4095. Each vertex is a horizontal bar,
+/// and each edge a column between the bars of its ends, over a width of one less than the number of faces.
 ///
 /// The heights are an st-order from vertex 0 to the first of its list, the columns are its dual numbers, and each
 /// bar reaches from its least column to its greatest.

@@ -1,4 +1,4 @@
-//! Figures of records by bars, one after another, by a drawer that keeps its tables from one to the next.
+//! `BarDrawer`: visibility drawings of records, one after another, in tables that are kept.
 ghost use Rattle.std.specs.Prelude.{◌≡◌, ◌<◌, ◌≤◌, ◌^◌, ℕ, map, pos, length, slice_index, Some, IsTrue, IfOk, IfErr, OnOk};
 ghost use Rattle.map_theory.specs.Maps.{IsSimpleMap, HasDart, darts, list_of, component_count};
 ghost use Rattle.simple_maps.specs.Tables.{AreTwins};
@@ -37,14 +37,14 @@ struct DualTables {
     y: Vec<i32>,
 }
 
-// All tables. What they hold before a record says nothing.
+// The tables of a search and of the drawing after it. What they hold before a record does not matter.
 #[derive(Drop)]
 struct Tables {
     search: SearchTables,
     dual: DualTables,
 }
 
-// A map by its lists and the twins of its darts, with the first vertex in the list of vertex 0.
+// A map by its lists and the twins of its darts, with the first neighbour of vertex 0.
 #[derive(Clone, Copy)]
 struct Rooted<'a> {
     lists: &'a Rotations,
@@ -60,7 +60,7 @@ impl Rooted<'_> {
     {}
 }
 
-// Whether a search saw all vertices before it was done with vertex 0.
+// Says whether a search has seen all vertices before it ended vertex 0: the map is connected.
 fn sees_all(forest: &Forest) -> bool
     requires some { 0 < length forest.now.last.items }
     ensures { IsTrue result → slice_index forest.now.last.items 0 ≡ length forest.now.last.items }
@@ -68,7 +68,8 @@ fn sees_all(forest: &Forest) -> bool
     forest.last[0] as usize == forest.last.len()
 }
 
-// Numbers the faces of a map with ranks.
+// Numbers the faces of `map` into `tables`, with arcs from each face to those on the right of its edges by `rank`. It
+// fails only when out of memory.
 fn find_faces(
     tables: &mut FaceTables,
     alloc: Global,
@@ -93,7 +94,7 @@ fn find_faces(
     Ok(())
 }
 
-// The first number of a table.
+// Returns the first number of a table.
 fn first_of(numbers: &[u32]) -> u32
     requires { 0 < length numbers.now }
     ensures { result ≡ slice_index numbers.now 0 }
@@ -101,7 +102,7 @@ fn first_of(numbers: &[u32]) -> u32
     numbers[0]
 }
 
-// Writes ranks as heights.
+// Writes the ranks as heights to `made`.
 fn put_heights(made: &mut [i32], rank: &[u16])
     requires { length made.old ≡ length rank.now }
     ensures { made.new ≡ map pos rank.now }
@@ -111,7 +112,7 @@ fn put_heights(made: &mut [i32], rank: &[u16])
     }
 }
 
-// Fills a table with ranks as heights.
+// Makes `made` a table of the ranks as heights. It fails only when out of memory.
 fn fill_heights(made: &mut Vec<i32>, rank: &[u16]) -> Result<(), AllocError>
     ensures { IfOk result (λ _. made.new.items ≡ map pos rank.now) }
 {
@@ -120,14 +121,14 @@ fn fill_heights(made: &mut Vec<i32>, rank: &[u16]) -> Result<(), AllocError>
     Ok(())
 }
 
-// Takes whole numbers out of a table, which is empty then.
+// Moves the numbers out of `table`, which is then empty.
 fn taken(alloc: Global, table: &mut Vec<i32>) -> Ints
     ensures { result ≡ table.old.items }
 {
     Ints::from_vec(mem::replace(table, Vec::new(alloc)))
 }
 
-// An answer for a map, by its lists, twins and search.
+// The answer for a map by its lists, twins and search, as far as it is found.
 enum Found {
     // its figure
     Drawn(BarFigure),
@@ -138,7 +139,7 @@ enum Found {
 }
 
 impl DualTables {
-    // Tables of no record. They take no memory.
+    // Returns the tables of no record. They take no memory.
     fn new(alloc: Global) -> DualTables {
         DualTables {
             ranges: Ranges::new(alloc),
@@ -149,7 +150,8 @@ impl DualTables {
         }
     }
 
-    // Draws a connected map without cut vertex by a search of it, if the map has genus zero.
+    // Draws a connected map without cut vertex by a search of it. It returns `Nothing` where the genus is not zero.
+    // It fails only when out of memory.
     fn draw(
         &mut self,
         alloc: Global,
@@ -190,7 +192,8 @@ impl DualTables {
         Ok(Found::Drawn(BarFigure { y, x1, x2, column }))
     }
 
-    // Finds the least cut vertex of a connected map by a search of it, if the map has genus zero.
+    // Finds the least cut vertex of a connected map by a search of it. It returns `Nothing` where the genus is not
+    // zero. It fails only when out of memory.
     fn cut(
         &mut self,
         alloc: Global,
@@ -213,7 +216,8 @@ impl DualTables {
         }
     }
 
-    // Finds the answer to a map by a search of it, where it is connected and has genus zero.
+    // Finds the answer to a map by a search of it. It returns `Nothing` where the map is not connected or not of
+    // genus zero. It fails only when out of memory.
     fn find(
         &mut self,
         alloc: Global,
@@ -235,7 +239,7 @@ impl DualTables {
 }
 
 impl Tables {
-    // Tables of no record. They take no memory.
+    // Returns the tables of no record. They take no memory.
     fn new(alloc: Global) -> Tables {
         Tables {
             search: SearchTables::new(alloc),
@@ -243,8 +247,9 @@ impl Tables {
         }
     }
 
-    // Finds the answer to a map by the twins of its darts, where it is connected and has genus zero, by a search from
-    // vertex 0 that sees the first of its list next.
+    // Finds the answer to a map by the twins of its darts, by a search from vertex 0 that sees its first neighbour
+    // next. It returns `Nothing` where the map is not connected or not of genus zero. It fails only when out of
+    // memory.
     fn find(&mut self, alloc: Global, lists: &Rotations, twins: &[u32]) -> Result<Found, AllocError>
         requires simple { IsSimpleMap lists.now }
         requires twins { AreTwins (darts lists.now) twins.now (length (darts lists.now)) }
@@ -261,7 +266,7 @@ impl Tables {
     }
 }
 
-/// Draws records, one after another, and keeps its tables for the next.
+/// Draws the visibility drawings of records, one after another, and keeps its tables for the next.
 ///
 /// They take some forty bytes for each dart of the largest record so far.
 #[derive(Drop)]
@@ -275,7 +280,7 @@ pub struct BarDrawer {
 }
 
 impl BarDrawer {
-    /// A drawer that has drawn nothing yet. It takes no memory.
+    /// Returns a drawer that has drawn nothing yet. It takes no memory.
     pub fn new(alloc: Global) -> BarDrawer {
         BarDrawer {
             alloc,
@@ -287,7 +292,7 @@ impl BarDrawer {
         }
     }
 
-    /// Keeps the memory of a figure that is done with.
+    /// Takes over the memory of `figure`, which is no longer needed.
     pub fn keep(&mut self, figure: BarFigure) {
         let BarFigure { y, x1, x2, column } = figure;
         self.tables.dual.y = y.into_vec();
@@ -296,7 +301,8 @@ impl BarDrawer {
         self.tables.dual.spans.x2 = x2.into_vec();
     }
 
-    // The figure of a record by the exact search for the first condition that it breaks.
+    // Returns the figure of a record after the exact search for the first condition that it breaks, or that
+    // condition.
     fn exact_figure(&mut self, lists: &Rotations) -> Result<BarFigure, Unserved>
         requires some_list { 0 < length lists.now }
         ensures figure { IfOk result (IsBarFigure lists.now) }
@@ -313,7 +319,7 @@ impl BarDrawer {
         }
     }
 
-    /// The figure of a record, as `bar_figure` has it. After `NoMemory` the drawer serves as before.
+    /// Returns the figure of a record, as `bar_figure` has it. After `NoMemory` the drawer serves as before.
     // a caller that has it inside spills what it prints with
     #[inline(never)]
     pub fn figure(&mut self, lists: &Rotations) -> Result<BarFigure, Unserved>
