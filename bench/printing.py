@@ -26,7 +26,7 @@ def twice(folder):
     """The program that prints each figure twice, and writes it once."""
     copy = os.path.join(folder, "pigale")
     shutil.copytree(os.path.join(HERE, ".."), copy, symlinks=True, ignore=shutil.ignore_patterns(".git"))
-    path = os.path.join(copy, "crates", "pigale_shell", "src", "form.rt")
+    path = os.path.join(copy, "crates", "pigale_shell", "src", "form_printer.rt")
     with open(path, encoding="utf-8") as file:
         text = file.read()
     assert text.count(CALL) == 1, path

@@ -7,7 +7,7 @@ use Rattle.plane_laws.specs.MapEditsCompleted.{IsExtended}
 use Rattle.plane_laws.specs.WithEdge.{with_edge_at, with_edge_after}
 use Rattle.half_edges.specs.Map.{Map, IsHalfMap, dart_at}
 use Rattle.half_edges.specs.Edges.{corner_place, IsCorner, with_entry}
-use Rattle.half_edges.specs.declared.edges.Corner.{Corner}
+use Rattle.half_edges.specs.declared.edge_edits.Corner.{Corner}
 
 -- A map of genus zero with at least three vertices, and room for as many edges as such a map can have.
 pub record IsRoomy (map : Map) : Type 0 where

@@ -7,8 +7,8 @@ ghost use Rattle.plane_laws.specs.MapEditsCompleted.{IsExtended};
 ghost use Rattle.half_edges.specs.Map.{IsHalfMap, dart_at};
 ghost use Rattle.conn_parts.specs.Parts.{ArePartsOf};
 
-use crate::fill::fill;
-use crate::join::join_parts;
+use crate::face_filling::fill;
+use crate::joined_components::join_parts;
 use conn_parts::{Parts, components};
 use half_edges::HalfMap;
 use std::alloc::{AllocError, Global};

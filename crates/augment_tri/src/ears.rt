@@ -36,7 +36,7 @@ fn can_join(map: &HalfMap, u: VertexId, v: VertexId) -> bool
 
 // Four consecutive vertices along a face of `map`, from `a` over `b` and `c` to `x`.
 #[derive(Clone, Copy)]
-struct Row<'a> {
+struct FacePath<'a> {
     map: &'a HalfMap,
     a: VertexId,
     b: VertexId,
@@ -48,7 +48,7 @@ struct Row<'a> {
     ghost x_in: { x.0 < vertex_count map.now.lists },
 }
 
-impl Row<'_> {
+impl FacePath<'_> {
     // Says whether an edge may join `a` and `c`, given that one may join these or `b` and `x`. It searches the shorter
     // one of the lists of `b` and `c`.
     fn is_first(&self) -> bool
@@ -78,7 +78,7 @@ fn ear_near(map: &HalfMap, d: DartId) -> DartId
     let b = map.tail(e);
     let c = map.tail(f);
     let x = map.head(f);
-    let row = Row { map, a, b, c, x };
+    let row = FacePath { map, a, b, c, x };
     if x.0 == a.0 {
         f
     } else if row.is_first() {
@@ -108,7 +108,7 @@ fn cut_ear(map: &mut HalfMap, d: DartId) -> DartId
 }
 
 // Returns the dart at which to continue with the face of `d` after its ear at dart `ear` was cut by dart `new`.
-fn next_at(d: DartId, ear: DartId, new: DartId) -> DartId
+fn dart_after_cut(d: DartId, ear: DartId, new: DartId) -> DartId
     ensures { result.0 ≡ (if ear.0 == d.0 then new.0 else d.0) }
 {
     if ear.0 == d.0 { new } else { d }
@@ -129,5 +129,5 @@ pub(crate) fn cut_near(map: &mut HalfMap, d: DartId) -> DartId
 {
     let ear = ear_near(map, d);
     let new = cut_ear(map, ear);
-    next_at(d, ear, new)
+    dart_after_cut(d, ear, new)
 }

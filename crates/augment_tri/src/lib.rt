@@ -3,7 +3,7 @@
 
 mod complete;
 mod ears;
-mod fill;
-mod join;
+mod face_filling;
+mod joined_components;
 
 pub use complete::{complete_parts, triangulate, triangulate_parts};

@@ -5,7 +5,7 @@ use Rattle.map_lists.specs.Lists.{Lists}
 use Rattle.map_theory.specs.Maps.{IsSimpleMap, list_of, follows, entry_after}
 use Rattle.simple_maps.specs.Faults.{first_fault}
 use Rattle.simple_maps.proofs.FaultLemmas.{IsSimpleMap-from_first_fault}
-use Rattle.pg_plane.specs.declared.figure.BarFigure.{BarFigure}
+use Rattle.pg_plane.specs.declared.figures.BarFigure.{BarFigure}
 use Rattle.vertex_rounds.specs.Rounds.{HasEdge}
 use Rattle.bar_check.specs.Bars.{number_at, edges_until, edges_before, edge_number, column_of, IsNewHeight, IsBar, IsColumn, IsStruck, IsEarlier, IsBreak, GoesOnceRound}
 use Rattle.bar_check.specs.Faults.{GoesThrough}

@@ -5,7 +5,7 @@ use Rattle.std.specs.Option.{MatchOption}
 use Rattle.map_lists.specs.Lists.{Lists}
 use Rattle.map_lists.specs.declared.ids.VertexId.{VertexId}
 use Rattle.std.specs.Prelude.{length}
-use Rattle.pg_plane.specs.declared.figure.BarFigure.{BarFigure}
+use Rattle.pg_plane.specs.declared.figures.BarFigure.{BarFigure}
 use Rattle.vertex_rounds.specs.Least.{IsLeast}
 use Rattle.vertex_rounds.specs.Rounds.{HasEdge}
 use Rattle.bar_check.specs.Bars.{column_of}

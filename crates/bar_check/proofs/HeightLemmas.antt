@@ -3,7 +3,7 @@ use Rattle.std.proofs.Common.{◌≡◌, ◌≢◌, ℕ, ◌+◌, ◌<◌, Bool,
 use Rattle.std.proofs.lemmas.Bool.{cases_eq, true≢false}
 use Rattle.std.proofs.lemmas.Int.{ints}
 use Rattle.map_lists.specs.Lists.{Lists}
-use Rattle.pg_plane.specs.declared.figure.BarFigure.{BarFigure}
+use Rattle.pg_plane.specs.declared.figures.BarFigure.{BarFigure}
 use Rattle.bar_check.specs.Bars.{number_at, IsNewHeight}
 use Rattle.bar_check.specs.Tables.{AreSeen, IsFree}
 

@@ -3,7 +3,7 @@ use Rattle.std.proofs.Common.{◌⊎◌, ℕ, ◌<◌, ◌≤◌, length, ℤ, �
 use Rattle.std.proofs.lemmas.Int.{ints, by_lt_z}
 use Rattle.map_lists.specs.Lists.{Lists}
 use Rattle.map_theory.specs.Maps.{IsSimpleMap, list_of, entry_after}
-use Rattle.pg_plane.specs.declared.figure.BarFigure.{BarFigure}
+use Rattle.pg_plane.specs.declared.figures.BarFigure.{BarFigure}
 use Rattle.map_theory.proofs.DartLemmas.{Contains-entry_after}
 use Rattle.plane_laws.proofs.RoundOrder.{sorted_from_once, once_from_sorted}
 use Rattle.bar_check.specs.Bars.{number_at, column_between, IsAbove, IsEarlier, GoesOnceRound}

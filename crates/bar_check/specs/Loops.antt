@@ -1,7 +1,7 @@
 -- What the loops of the check go over: edges with a bar in their way.
 use Rattle.std.specs.Prelude.{ℕ, ◌<◌, ◌≡◌, length, ℤ}
 use Rattle.map_lists.specs.Lists.{Lists}
-use Rattle.pg_plane.specs.declared.figure.BarFigure.{BarFigure}
+use Rattle.pg_plane.specs.declared.figures.BarFigure.{BarFigure}
 use Rattle.vertex_rounds.specs.Rounds.{HasEdge}
 use Rattle.bar_check.specs.Bars.{column_of, IsStruck, IsBreak}
 

@@ -4,7 +4,7 @@ use Rattle.map_lists.specs.Lists.{Lists}
 use Rattle.map_lists.specs.declared.items.Ends.{Ends}
 use Rattle.map_theory.specs.Maps.{list_of, place_of}
 use Rattle.half_edges.specs.Map.{Map, IsLive, dart_at}
-use Rattle.pg_plane.specs.declared.figure.BarFigure.{BarFigure}
+use Rattle.pg_plane.specs.declared.figures.BarFigure.{BarFigure}
 use Rattle.vertex_rounds.specs.Rounds.{HasEdge, dart_of}
 use Rattle.vertex_rounds.specs.Least.{IsLeastPair}
 use Rattle.bar_check.specs.Faults.{HasBadColumn}

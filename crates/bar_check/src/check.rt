@@ -6,13 +6,13 @@ ghost use Rattle.bar_check.specs.Bars.{HasBars, IsValidBars};
 ghost use Rattle.bar_check.specs.Verdicts.{HasShape, HasHeights, AreBars, NoneThrough, NoneOverlap, KeepsTurns, IsBarVerdict};
 
 use crate::BarVerdict;
-use crate::clear::fill_order;
-use crate::drawing::{Bars, Drawing, Ordered};
-use crate::heights::{first_bad_bar, first_bad_height};
+use crate::drawing::{BarDrawing, Bars, OrderedBars};
+use crate::exact_sweep::fill_order;
+use crate::heights_and_bars::{first_bad_bar, first_bad_height};
 use half_edges::HalfMap;
 use pg_plane::BarFigure;
 
-impl Drawing<'_> {
+impl BarDrawing<'_> {
     // Returns `Turned` for the least vertex whose list is not in the order of its edges, or `Yes` where there is none.
     fn first_of_turns(&self) -> BarVerdict
         requires through { NoneThrough self.now.map.now.lists self.now.fig.now }
@@ -43,7 +43,7 @@ impl Drawing<'_> {
         let mut blocks = [0; BLOCKS];
         let mut superblocks = [0; SUPERBLOCKS];
         fill_order(self.fig, &mut order[..n]);
-        let ordered = Ordered {
+        let ordered = OrderedBars {
             drawing: *self,
             order: &order[..n],
         };
@@ -51,7 +51,7 @@ impl Drawing<'_> {
     }
 }
 
-impl Ordered<'_> {
+impl OrderedBars<'_> {
     // Returns the first edge with a bar in its way, found by the exact sweep, or else the first fault of a list. The
     // tables have room for `COLUMNS` columns and `DARTS` darts.
     fn first_struck_of<const COLUMNS: usize, const DARTS: usize>(&self) -> BarVerdict
@@ -113,7 +113,7 @@ impl Bars<'_> {
         let mut columns = [0; DARTS];
         match self.fill_columns(&mut next[..n], &mut columns) {
             Some(e) => BarVerdict::BadColumn(e),
-            None => Drawing {
+            None => BarDrawing {
                 map,
                 fig,
                 width,

@@ -23,7 +23,7 @@ pub(crate) struct Bars<'a> {
 /// Such bars with the columns of the edges, at the ids of their darts as far as the table reaches: each is within the
 /// bars of both ends.
 #[derive(Clone, Copy)]
-pub(crate) struct Drawing<'a> {
+pub(crate) struct BarDrawing<'a> {
     pub(crate) map: &'a HalfMap,
     pub(crate) fig: &'a BarFigure,
     pub(crate) width: i32,
@@ -45,8 +45,8 @@ pub(crate) struct GreaterEnd<'a> {
 
 /// Such a drawing with its vertices in an order, which a sweep compares with that of their heights.
 #[derive(Clone, Copy)]
-pub(crate) struct Ordered<'a> {
-    pub(crate) drawing: Drawing<'a>,
+pub(crate) struct OrderedBars<'a> {
+    pub(crate) drawing: BarDrawing<'a>,
     pub(crate) order: &'a [u16],
     ghost size: { length order.now ≡ length drawing.map.now.lists },
 }
@@ -54,7 +54,7 @@ pub(crate) struct Ordered<'a> {
 /// The bar of a vertex in such a drawing, and its height.
 #[derive(Clone, Copy)]
 pub(crate) struct Bar<'a> {
-    pub(crate) drawing: Drawing<'a>,
+    pub(crate) drawing: BarDrawing<'a>,
     pub(crate) h: u16,
     pub(crate) v: VertexId,
     ghost stands: { StandsAt (length drawing.map.now.lists) drawing.fig.now h v.0 },
@@ -64,7 +64,7 @@ pub(crate) struct Bar<'a> {
 /// edges have no bar in their way.
 #[derive(Clone, Copy)]
 pub(crate) struct LesserEnd<'a> {
-    pub(crate) drawing: Drawing<'a>,
+    pub(crate) drawing: BarDrawing<'a>,
     pub(crate) clear: &'a [bool],
     pub(crate) a: VertexId,
     pub(crate) before: u32,

@@ -5,15 +5,15 @@
 
 ghost use Rattle.bar_check.specs.Laws.{EdgeNumbers, OnceIsInOrder, OverlapIsNever, YesIsValid};
 
+mod blocked_edges;
 mod check;
-mod clear;
-mod columns;
+mod column_table;
 mod drawing;
-mod edges;
-mod heights;
-mod reach;
-mod table;
-mod turns;
+mod edge_indices;
+mod exact_sweep;
+mod heights_and_bars;
+mod list_rotation;
+mod quick_sweep;
 mod verdict;
 
 pub use check::check_bars;

@@ -9,7 +9,7 @@ use Rattle.map_theory.specs.Maps.{Dart, HasDart, list_of, follows, dart_number, 
 use Rattle.map_theory.proofs.DartLemmas.{get_or-dart_number, HasDart-follows}
 use Rattle.map_theory.proofs.DartPermutations.{dart_of, rotation, twin}
 use Rattle.plane_laws.proofs.DartPaths.{twin-number, rotation-number, numbers_apart}
-use Rattle.pg_plane.specs.declared.figure.BarFigure.{BarFigure}
+use Rattle.pg_plane.specs.declared.figures.BarFigure.{BarFigure}
 use Rattle.vertex_rounds.specs.Rounds.{HasEdge}
 use Rattle.bar_check.specs.Bars.{number_at, edge_number, column_of, column_between, IsNewHeight, IsBar, Holds, IsColumn, IsStruck, IsAbove, IsEarlier, IsBreak, GoesOnceRound, IsValidBars}
 use Rattle.bar_check.proofs.OverlapLemmas.{valid_bars}

@@ -6,7 +6,7 @@ use Rattle.map_theory.specs.Maps.{Dart, HasDart, vertex_count, follows}
 use Rattle.plane_peeling.specs.Restricted.{restricted, IsFaceOfThree, IsDartOfThree}
 use Rattle.plane_peeling.specs.NearTriangulations.{IsOuterCycle}
 use Rattle.plane_peeling.specs.Peeled.{IsFan}
-use Rattle.canon_order.specs.declared.numbered.Order.{Order}
+use Rattle.canon_order.specs.declared.vertex_order.Order.{Order}
 pub use Rattle.canon_order.specs.Ranks.{IsRankOf}
 
 -- whether v stands in a list

@@ -8,7 +8,7 @@ ghost use Rattle.std.specs.Prelude.{◌≡◌, ◌≢◌, ◌<◌, ◌⊎◌, �
 ghost use Rattle.map_theory.specs.Maps.{IsSimpleMap, list_of};
 ghost use Rattle.canon_order.specs.Marks.{is_set, IsTally, IsUnmarked, IsNoted};
 
-use crate::lists::{lower_noting, note, raise, raise_noting};
+use crate::vertex_list_tools::{lower_noting, note, raise, raise_noting};
 use half_edges::Rotations;
 use std::alloc::AllocError;
 

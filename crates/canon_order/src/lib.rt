@@ -4,18 +4,18 @@
 
 ghost use Rattle.canon_order.specs.Laws.{LastCycle, RowEnds, SomeOrder};
 
-mod base;
-mod contour;
 pub mod cycle_marks;
 mod fault;
-mod lists;
-mod numbered;
 mod order;
+mod removable_vertices;
+mod triangulation_base;
+mod vertex_list_tools;
+mod vertex_order;
 
 pub use fault::OrderFault;
-pub use lists::push_three;
-pub use numbered::Order;
 pub use order::{Peeler, canon_order, turned_order};
+pub use vertex_list_tools::push_three;
+pub use vertex_order::Order;
 
 /// States the law that each triangulation has a canonical order for each base dart.
 pub fn some_order()

@@ -7,12 +7,12 @@ ghost use Rattle.half_edges.specs.Map.{IsLive, dart_at};
 ghost use Rattle.canon_order.specs.Marks.{is_set, IsUnmarked};
 ghost use Rattle.canon_order.specs.Orders.{IsCanonicalOrder, vertices_of};
 
-use crate::base::Base;
-use crate::contour::{mark_base, removable_vertex};
 use crate::cycle_marks::AtVertex;
 use crate::fault::OrderFault;
-use crate::lists::{entry_behind, resized, turned_vertices};
-use crate::numbered::Order;
+use crate::removable_vertices::{mark_base, removable_vertex};
+use crate::triangulation_base::Base;
+use crate::vertex_list_tools::{entry_behind, resized, turned_vertices};
+use crate::vertex_order::Order;
 use half_edges::{Counts, DartId, HalfMap, Rotations, VertexId, VertexList};
 use std::alloc::{AllocError, Global};
 use std::mem;

@@ -5,7 +5,7 @@ use Rattle.map_lists.specs.Lists.{Lists}
 use Rattle.map_theory.specs.Maps.{component_count}
 use Rattle.map_lists.specs.declared.ids.VertexId.{VertexId}
 use Rattle.conn_parts.specs.BiconnectedMaps.{IsBiconnectedMap, BreaksFirst}
-use Rattle.refusals.specs.declared.refusal.Refusal.TheVariants.{CutVertex}
+use Rattle.refusals.specs.declared.conditions.Refusal.TheVariants.{CutVertex}
 
 -- two paths of three vertices each
 abbrev two_paths : Lists

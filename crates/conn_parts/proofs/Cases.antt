@@ -6,7 +6,7 @@ use Rattle.map_lists.specs.Lists.{Lists}
 use Rattle.map_theory.specs.Maps.{entry_after, face_count, component_count}
 use Rattle.simple_maps.specs.Faults.{first_fault}
 use Rattle.conn_parts.specs.BiconnectedMaps.{BreaksFirst}
-use Rattle.refusals.specs.declared.refusal.Refusal.TheVariants.{NotConnected}
+use Rattle.refusals.specs.declared.conditions.Refusal.TheVariants.{NotConnected}
 
 abbrev two_triangles : Lists
 two_triangles = (1 ∷ 2 ∷ []) ∷ (2 ∷ 0 ∷ []) ∷ (0 ∷ 1 ∷ []) ∷ (4 ∷ 5 ∷ []) ∷ (5 ∷ 3 ∷ []) ∷ (3 ∷ 4 ∷ []) ∷ []

@@ -3,8 +3,8 @@ use Rattle.std.proofs.Common.{◌≡◌, ℕ}
 use Rattle.std.specs.Prelude.{None}
 use Rattle.map_lists.specs.Lists.{Lists}
 use Rattle.refusals.specs.Conditions.{first_refusal}
-use Rattle.refusals.specs.declared.refusal.Refusal.{Refusal}
-use Rattle.refusals.specs.declared.refusal.Refusal.TheVariants.{NotConnected, CutVertex}
+use Rattle.refusals.specs.declared.conditions.Refusal.{Refusal}
+use Rattle.refusals.specs.declared.conditions.Refusal.TheVariants.{NotConnected, CutVertex}
 use Rattle.conn_parts.specs.BiconnectedMaps.{IsBiconnectedMap, BreaksFirst}
 
 pub nothing_broken : (least : ℕ) (lists : Lists) (refusal : Refusal) → first_refusal least lists ≡ None → IsBiconnectedMap least lists → ¬ BreaksFirst least lists refusal

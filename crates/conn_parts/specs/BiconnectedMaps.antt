@@ -4,8 +4,8 @@ use Rattle.map_lists.specs.Lists.{Lists}
 use Rattle.map_theory.specs.Maps.{IsSimpleMap, IsPlane, vertex_count, component_count}
 use Rattle.graph_search.specs.Cuts.{IsCutVertex, IsLeastCutVertex}
 use Rattle.refusals.specs.Conditions.{first_refusal}
-use Rattle.refusals.specs.declared.refusal.Refusal.{Refusal}
-use Rattle.refusals.specs.declared.refusal.Refusal.TheVariants.{NotConnected, CutVertex}
+use Rattle.refusals.specs.declared.conditions.Refusal.{Refusal}
+use Rattle.refusals.specs.declared.conditions.Refusal.TheVariants.{NotConnected, CutVertex}
 
 -- The lists are a connected map of genus zero with at least so many vertices, none of which is a cut vertex.
 pub record IsBiconnectedMap (least : ℕ) (lists : Lists) : Type 0 where

@@ -2,9 +2,9 @@
 use Rattle.std.specs.Prelude.{◌≡◌}
 use Rattle.map_lists.specs.Lists.{Lists}
 use Rattle.map_theory.specs.Maps.{IsSimpleMap, vertex_count, edge_count, face_count, component_count}
-use Rattle.euler_faces.specs.declared.count.EulerCount.{EulerCount}
+use Rattle.euler_faces.specs.declared.euler_counts.EulerCount.{EulerCount}
 use Rattle.conn_parts.specs.Parts.{ArePartsOf}
-use Rattle.conn_parts.specs.declared.counted.CountedMap.{CountedMap}
+use Rattle.conn_parts.specs.declared.counted_maps.CountedMap.{CountedMap}
 
 -- how many vertices, edges, faces and components the map of the lists has
 pub record IsCountOf (lists : Lists) (count : EulerCount) : Type 0 where

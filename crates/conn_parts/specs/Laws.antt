@@ -1,7 +1,7 @@
 -- A biconnected map breaks no condition.
 use Rattle.std.specs.Prelude.{ℕ, ◌<◌, length}
 use Rattle.map_lists.specs.Lists.{Lists}
-use Rattle.refusals.specs.declared.refusal.Refusal.{Refusal}
+use Rattle.refusals.specs.declared.conditions.Refusal.{Refusal}
 use Rattle.conn_parts.specs.BiconnectedMaps.{IsBiconnectedMap, BreaksFirst}
 
 -- Lists of a biconnected map break no condition first.

@@ -2,11 +2,11 @@
 #![tactic(auto)]
 
 pub mod biconnected_maps;
-mod counted;
+mod component_numbers;
+mod counted_maps;
 pub mod graph_cuts;
-mod parts;
 
-pub use counted::{CountedMaker, CountedMap, counted_map, plane_count};
+pub use component_numbers::{Parts, components, list_components, numbered_parts};
+pub use counted_maps::{CountedMaker, CountedMap, counted_map, plane_count};
 pub use graph_cuts::{graph_components, graph_cut_vertex, graph_separating_pair};
 pub use graph_search::map_cuts::{cut_vertex, separating_pair};
-pub use parts::{Parts, components, list_components, numbered_parts};

@@ -1,7 +1,7 @@
 -- The first and the last of points on a triangle are corners.
 use Rattle.std.proofs.Common.{◌≡◌, ◌≢◌, ◌⊎◌, pos, ◌<ℤ◌, List, Contains, sym, ap, ◌∙◌, subst, inl, inr, arith}
 use Rattle.std.proofs.lemmas.Int.{ints, by_lt_z}
-use Rattle.pg_plane.specs.declared.point.Point.{Point}
+use Rattle.pg_plane.specs.declared.segments.Point.{Point}
 use Rattle.pg_plane.specs.Geometry.{area, IsOnSegment}
 use Rattle.pg_plane.proofs.Identities.{area_turned}
 use Rattle.pg_plane.proofs.Crossing.{flat_first, area_back}

@@ -7,7 +7,7 @@ use Rattle.map_theory.specs.Paths.{SameFace}
 use Rattle.half_edges.specs.Map.{Map, IsLive, dart_at}
 use Rattle.euler_faces.specs.FaceWalks.{walk_at, AreFaces}
 use Rattle.euler_faces.proofs.NumberLemmas.{live_from}
-use Rattle.pg_plane.specs.declared.point.Point.{Point}
+use Rattle.pg_plane.specs.declared.segments.Point.{Point}
 use Rattle.pg_plane.specs.Geometry.{area}
 use Rattle.pg_plane.specs.Range.{IsInRange}
 use Rattle.plane_drawings.specs.Drawing.{place}

@@ -1,7 +1,7 @@
 -- A point on a triangle that lies as far from a side as the third corner is that corner.
 use Rattle.std.proofs.Common.{◌≡◌, ℤ, pos, neg_ℤ, ◌+ℤ◌, ◌-ℤ◌, ◌*ℤ◌, ◌≤ℤ◌, ◌<ℤ◌, refl, sym, ap, ◌∙◌, subst, inl, inr, arith}
 use Rattle.std.proofs.lemmas.Int.{ints, by_lt_z}
-use Rattle.pg_plane.specs.declared.point.Point.{Point}
+use Rattle.pg_plane.specs.declared.segments.Point.{Point}
 use Rattle.pg_plane.specs.Geometry.{vector, cross, area, IsBetween}
 use Rattle.pg_plane.proofs.Ring.{ring, sums, mul_neg, neg_mul, product_not_negative, product_positive}
 use Rattle.pg_plane.proofs.Identities.{heights, cross_back}

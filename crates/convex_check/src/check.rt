@@ -6,7 +6,7 @@ ghost use Rattle.vertex_rounds.specs.Rounds.{dart_of};
 ghost use Rattle.convex_check.specs.Verdicts.{IsConvexVerdict};
 
 use crate::ConvexVerdict;
-use crate::drawing::Drawing;
+use crate::drawing::BasedDrawing;
 use euler_faces::faces;
 use half_edges::{DartId, HalfMap};
 use pg_plane::{GridFigure, Points};
@@ -32,7 +32,7 @@ pub fn check_convex_points(
 {
     map.facts();
     let faces = faces(alloc, map)?;
-    let drawing = Drawing { map, points, base };
+    let drawing = BasedDrawing { map, points, base };
     if let Some((a, b, c)) = drawing.first_bent(&faces) {
         return Ok(ConvexVerdict::Bent(a, b, c));
     }

@@ -7,7 +7,7 @@ use pg_plane::Points;
 
 /// A map with a base dart, and a point for each of its vertices, within the range of coordinates.
 #[derive(Clone, Copy)]
-pub(crate) struct Drawing<'a> {
+pub(crate) struct BasedDrawing<'a> {
     pub(crate) map: &'a HalfMap,
     pub(crate) points: &'a Points,
     pub(crate) base: DartId,

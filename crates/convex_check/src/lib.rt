@@ -6,10 +6,10 @@ pub mod triangle_corners;
 
 ghost use Rattle.convex_check.specs.Laws.{YesIsConvex};
 
-mod bends;
 mod check;
 mod drawing;
-mod outer;
+mod inward_bends;
+mod outer_face;
 mod verdict;
 
 pub use check::{check_convex, check_convex_points};

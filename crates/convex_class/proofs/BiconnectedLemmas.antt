@@ -3,8 +3,8 @@ use Rattle.std.proofs.Common.{ℕ, arith}
 use Rattle.map_lists.specs.Lists.{Lists}
 use Rattle.map_theory.specs.Maps.{IsPlane}
 use Rattle.graph_search.specs.Cuts.{IsSeparatingPair}
-use Rattle.refusals.specs.declared.refusal.Refusal.{Refusal}
-use Rattle.refusals.specs.declared.refusal.Refusal.TheVariants.{SeparatingPair}
+use Rattle.refusals.specs.declared.conditions.Refusal.{Refusal}
+use Rattle.refusals.specs.declared.conditions.Refusal.TheVariants.{SeparatingPair}
 use Rattle.conn_parts.specs.BiconnectedMaps.{IsBiconnectedMap}
 use Rattle.conn_parts.specs.Laws.{BiconnectedBreakNothing}
 use Rattle.convex_peeling.specs.Polyhedral.{IsThreeConnected}

@@ -11,7 +11,7 @@ use Rattle.euler_faces.proofs.NumberLemmas.{live_from}
 use Rattle.vertex_rounds.specs.Rounds.{dart_of}
 use Rattle.vertex_rounds.proofs.DartIds.{dart_of-live}
 use Rattle.convex_class.specs.Stamps.{IsStamped, AreStamped}
-use Rattle.convex_class.specs.declared.face_pairs.meetings.Meeting.{Meeting}
+use Rattle.convex_class.specs.declared.face_pairs.face_meetings.Meeting.{Meeting}
 use Rattle.convex_class.specs.Meetings.{IsHere, IsMet}
 use Rattle.convex_class.specs.Clear.{IsRing, IsNumber, IsOffAt, IsOff, IsClearVertex, IsAcross, IsSide, IsCorner, IsOffPlace, MeetsAt, IsClearFace, after_place}
 use Rattle.convex_class.proofs.WalkMarks.{get_or-ids, length-ids}

@@ -1,7 +1,7 @@
 -- Which condition lists break first, on a worked case.
 use Rattle.std.specs.Prelude.{[], ◌∷◌, refl}
 use Rattle.simple_maps.specs.Faults.{first_fault}
-use Rattle.refusals.specs.declared.refusal.Refusal.TheVariants.{Small}
+use Rattle.refusals.specs.declared.conditions.Refusal.TheVariants.{Small}
 use Rattle.convex_class.specs.Convexity.{BreaksConvex}
 
 -- a triangle has too few vertices

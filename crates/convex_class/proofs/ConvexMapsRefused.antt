@@ -4,7 +4,7 @@ use Rattle.map_lists.specs.Lists.{Lists}
 use Rattle.map_lists.specs.declared.ids.VertexId.{VertexId}
 use Rattle.convex_peeling.specs.Polyhedral.{IsThreeConnected}
 use Rattle.convex_class.specs.Convexity.{BreaksConvex}
-use Rattle.refusals.specs.declared.refusal.Refusal.TheVariants.{SeparatingPair}
+use Rattle.refusals.specs.declared.conditions.Refusal.TheVariants.{SeparatingPair}
 
 -- the greater vertex of a separating pair is named first
 greater_vertex_first : (lists : Lists) (u v : VertexId) → v.0 < u.0 → ¬ BreaksConvex lists (SeparatingPair u v)

@@ -3,7 +3,7 @@ use Rattle.std.proofs.Common.{◌≡◌, ◌≢◌, ◌<◌, ◌≤◌, ◌⊎�
 use Rattle.std.proofs.lemmas.Bool.{cases_eq}
 use Rattle.half_edges.specs.Map.{Map}
 use Rattle.convex_class.specs.Passing.{IsMarked}
-use Rattle.convex_class.specs.declared.face_pairs.meetings.Meeting.{Meeting}
+use Rattle.convex_class.specs.declared.face_pairs.face_meetings.Meeting.{Meeting}
 use Rattle.convex_class.specs.Stamps.{IsStamped}
 use Rattle.convex_class.specs.Meetings.{IsMet, meeting_at}
 use Rattle.convex_class.specs.Clear.{IsOff}

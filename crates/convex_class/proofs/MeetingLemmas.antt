@@ -1,7 +1,7 @@
 -- Meetings of fewer edges, of a step more, and what two of one face tell.
 use Rattle.std.proofs.Common.{◌≡◌, ◌≢◌, ◌⊎◌, ℕ, ◌+◌, ◌<◌, ◌≤◌, List, refl, sym, ap, ◌∙◌, subst, inl, inr, arith}
 use Rattle.std.proofs.lemmas.Bool.{cases_lt, cases_eq}
-use Rattle.convex_class.specs.declared.face_pairs.meetings.Meeting.{Meeting}
+use Rattle.convex_class.specs.declared.face_pairs.face_meetings.Meeting.{Meeting}
 use Rattle.convex_class.specs.Meetings.{ArePartedBy, IsMet, meeting_at}
 
 -- a lesser number

@@ -1,7 +1,7 @@
 -- A three-connected map of genus zero breaks no condition.
 use Rattle.map_lists.specs.Lists.{Lists}
 use Rattle.map_theory.specs.Maps.{IsPlane}
-use Rattle.refusals.specs.declared.refusal.Refusal.{Refusal}
+use Rattle.refusals.specs.declared.conditions.Refusal.{Refusal}
 use Rattle.convex_peeling.specs.Polyhedral.{IsThreeConnected}
 use Rattle.convex_class.specs.Convexity.{BreaksConvex}
 

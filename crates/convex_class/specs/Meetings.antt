@@ -1,6 +1,6 @@
 -- Where faces meet the face of a round first, and what each later place tells.
 use Rattle.std.specs.Prelude.{ℕ, ◌≤◌, ◌≡◌, ◌≢◌, ◌⊎◌, List, slice_index_or}
-use Rattle.convex_class.specs.declared.face_pairs.meetings.Meeting.{Meeting}
+use Rattle.convex_class.specs.declared.face_pairs.face_meetings.Meeting.{Meeting}
 
 -- where face z met that of the round first
 abbrev pub meeting_at : List Meeting → ℕ → Meeting

@@ -2,9 +2,9 @@
 
 ghost use Rattle.convex_class.specs.Laws.{ThreeConnectedBreakNothing};
 
-mod biconnected;
+mod three_connected;
 
-pub use biconnected::{ConvexMap, convex_map, convex_map_with_faces};
+pub use three_connected::{ConvexMap, convex_map, convex_map_with_faces};
 
 /// States the law that a three-connected map of genus zero breaks no condition.
 pub fn three_connected_break_nothing()

@@ -5,14 +5,14 @@
 //! two faces that stand on each other one has the most darts, and from there the other three are found by going over
 //! vertices and faces with no more darts.
 
-mod corners;
-mod least;
-mod marks;
-mod meetings;
-mod pairs;
-mod rings;
-mod stamps;
-mod uncut;
-mod vertices;
+mod darts_of_vertex;
+mod face_meetings;
+mod first_pair_search;
+mod least_vertex;
+mod partner_marks;
+mod twice_met_faces;
+mod twice_met_vertices;
+mod uncut_map;
+mod vertex_stamps;
 
-pub use pairs::separating_pair_by;
+pub use first_pair_search::separating_pair_by;

@@ -3,10 +3,10 @@ use Rattle.std.proofs.Common.{◌≡◌, ℕ, ◌+◌, ◌-◌, ◌<◌, ◌≤�
 use Rattle.map_lists.specs.Lists.{Lists}
 use Rattle.map_theory.specs.Maps.{IsPlane, HasDart, list_of, face_count}
 use Rattle.convex_peeling.proofs.Neighbours.{three_neighbours}
-use Rattle.convex_orders.specs.declared.tables.Tables.{Tables}
+use Rattle.convex_orders.specs.declared.map_tables.Tables.{Tables}
 use Rattle.std.proofs.lemmas.List.Elements.{Contains-get_or}
-use Rattle.pg_plane.specs.declared.point.Point.{Point}
-use Rattle.pg_plane.specs.declared.figure.GridFigure.{GridFigure}
+use Rattle.pg_plane.specs.declared.segments.Point.{Point}
+use Rattle.pg_plane.specs.declared.figures.GridFigure.{GridFigure}
 use Rattle.convex_counts.specs.Counts.{face_counts}
 use Rattle.convex_counts.specs.Turns.{well_turned}
 use Rattle.convex_peeling.specs.Polyhedral.{IsThreeConnected}

@@ -3,7 +3,7 @@ use Rattle.std.proofs.Common.{◌≡◌, [], length, ap, arith}
 use Rattle.std.specs.Prelude.{slice_index}
 use Rattle.map_lists.specs.Lists.{Lists}
 use Rattle.map_theory.specs.Maps.{list_of}
-use Rattle.pg_plane.specs.declared.figure.GridFigure.{GridFigure}
+use Rattle.pg_plane.specs.declared.figures.GridFigure.{GridFigure}
 use Rattle.convex_peeling.specs.Polyhedral.{IsThreeConnected}
 use Rattle.convex_peeling.proofs.Neighbours.{three_neighbours}
 use Rattle.convex_draw.specs.Grids.{IsConvexGrid}

@@ -3,7 +3,7 @@ use Rattle.std.specs.Prelude.{ℕ, ◌-◌, ◌≡◌, length, pos}
 use Rattle.map_lists.specs.Lists.{Lists}
 use Rattle.map_theory.specs.Maps.{HasDart, face_count}
 use Rattle.map_theory.specs.Paths.{SameFace}
-use Rattle.pg_plane.specs.declared.figure.GridFigure.{GridFigure}
+use Rattle.pg_plane.specs.declared.figures.GridFigure.{GridFigure}
 use Rattle.plane_drawings.specs.Drawing.{place}
 use Rattle.draw_check.specs.Laws.{IsValid}
 use Rattle.convex_counts.specs.declared.face_woods.axis.Axis.{Axis}

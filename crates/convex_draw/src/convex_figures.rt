@@ -3,7 +3,7 @@
 
 mod draw;
 mod drawer;
-mod numbers;
+mod face_numbers_by_twins;
 
 pub use draw::convex_figure;
 pub use drawer::ConvexDrawer;

@@ -1,11 +1,11 @@
 //! The points of vertices by counts of faces over a construction sequence with faces of any size (Felsner, 2001), in
 //! linear time.
 
-mod down;
-mod points;
-mod run;
+mod face_run;
+mod point_calls;
 mod spots;
+mod summed_differences;
 
-pub(crate) use points::coordinate;
-pub use points::{SpotTable, count_points, count_points_again};
-pub use run::FaceRun;
+pub use face_run::FaceRun;
+pub(crate) use point_calls::coordinate;
+pub use point_calls::{SpotTable, count_points, count_points_again};

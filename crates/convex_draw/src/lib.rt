@@ -3,6 +3,6 @@
 
 pub mod convex_figures;
 pub mod convex_points;
-mod draw;
+mod map_drawing;
 
-pub use draw::{convex_draw, figure_by_faces, run_figure};
+pub use map_drawing::{convex_draw, figure_by_faces, run_figure};

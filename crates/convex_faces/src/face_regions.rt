@@ -3,11 +3,11 @@
 
 ghost use Rattle.convex_faces.specs.FaceRegionsLaws.{RegionsAreCoordinates};
 
-mod passing;
-mod region;
+mod counted_regions;
+mod region_boundary;
 
 pub use convex_laws::face_regions::{regions_are_one, rising_woods_draw};
-pub use region::face_region;
+pub use counted_regions::face_region;
 
 /// States the law that the numbers of `face_region` for the wood of a call of `convex_wood` are coordinates. They are
 /// those of a figure that meets the contract of `convex_draw` for the same map and base. Axis one gives x, axis two y,

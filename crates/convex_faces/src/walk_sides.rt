@@ -1,5 +1,5 @@
 //! Counts the faces inside a closed walk, by a search of the faces.
 
-mod count;
+mod faces_inside;
 
-pub use count::inside_count;
+pub use faces_inside::inside_count;

@@ -1,10 +1,10 @@
 //! Convex realizers of three-connected plane maps (Felsner, 2001), from any base, in linear time.
 
-mod of_run;
-mod outs;
-mod signs;
-mod woods;
+mod axis_darts;
+mod axis_directions;
+mod wood_of_map;
+mod wood_type;
 
 pub use convex_counts::face_woods::Axis;
-pub use of_run::convex_wood;
-pub use woods::ConvexWood;
+pub use wood_of_map::convex_wood;
+pub use wood_type::ConvexWood;

@@ -1,7 +1,7 @@
 -- A drawing is plane where it is plane three times as large.
 use Rattle.std.proofs.Common.{◌≡◌, ℕ, ℤ, pos, ◌+ℤ◌, ◌-ℤ◌, ◌*ℤ◌, ◌<ℤ◌, sym, ap, ap₂, subst, ◌∙◌, inl, inr, ⊎_elim, arith}
 use Rattle.std.proofs.lemmas.Int.{ints}
-use Rattle.pg_plane.specs.declared.point.Point.{Point}
+use Rattle.pg_plane.specs.declared.segments.Point.{Point}
 use Rattle.pg_plane.specs.Geometry.{vector, cross, area, IsBetween, IsOnSegment, AreOpposite, DoCross, IsFirstHalf, IsClockBefore}
 use Rattle.pg_plane.specs.Law.{direction}
 use Rattle.pg_plane.proofs.Ring.{ring, sums}

@@ -8,7 +8,7 @@ use Rattle.map_lists.specs.Lists.{Lists}
 use Rattle.map_theory.specs.Maps.{Dart, HasDart, follows, dart_number, dart_count}
 use Rattle.map_theory.proofs.DartLemmas.{HasDart-follows}
 use Rattle.map_theory.proofs.DartPermutations.{dart_of, tail_of, twin, dart_of-number, IsPairing-twin, tail_of-rotation}
-use Rattle.pg_plane.specs.declared.point.Point.{Point}
+use Rattle.pg_plane.specs.declared.segments.Point.{Point}
 use Rattle.pg_plane.specs.Geometry.{area, IsOnSegment}
 use Rattle.plane_drawings.specs.Drawing.{place}
 use Rattle.contour_runs.specs.Wood.{Coordinates, point_of}

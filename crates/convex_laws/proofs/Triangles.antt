@@ -1,7 +1,7 @@
 -- Each dart with the middle of its face as a triangle, over three blocks of numbers: the darts, those from their heads to the middles, and those from the middles to their tails.
 use Rattle.std.proofs.Common.{◌≡◌, ◌≢◌, ◌⊎◌, ℕ, ◌+◌, ◌-◌, ◌*◌, ◌<◌, false, if◌then◌else◌, ltb, pos, ◌<ℤ◌, sym, ap, subst, ◌∙◌, inl, inr, arith}
 use Rattle.std.proofs.lemmas.Bool.{cases_lt, cond-true, cond-false, lt-ltb, le-ltb, true≢false}
-use Rattle.pg_plane.specs.declared.point.Point.{Point}
+use Rattle.pg_plane.specs.declared.segments.Point.{Point}
 use Rattle.pg_plane.specs.Geometry.{area}
 use Rattle.classes.proofs.Orbits.{IsPermuting}
 use Rattle.pg_plane.specs.Faced.{in_base, IsFaced, IsTailed}

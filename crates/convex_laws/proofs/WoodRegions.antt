@@ -10,7 +10,7 @@ use Rattle.map_lists.specs.Lists.{Lists}
 use Rattle.map_theory.specs.Maps.{Dart, HasDart, IsSimpleMap, IsPlane, face_classes, face_images, face_count, dart_count, dart_number, component_count}
 use Rattle.map_theory.proofs.DartLemmas.{dart_number-lt, get_or-dart_number, length-face_images, IsPermutationOfBelow-face_images, HasDart-face_step}
 use Rattle.map_theory.proofs.DartPermutations.{dart_of, dart_of-number}
-use Rattle.pg_plane.specs.declared.point.Point.{Point}
+use Rattle.pg_plane.specs.declared.segments.Point.{Point}
 use Rattle.plane_drawings.specs.Drawing.{place}
 use Rattle.contour_runs.specs.Wood.{Coordinates, point_of}
 use Rattle.contour_runs.specs.FaceRuns.{Step, stage_after, IsRun, IsDartOf, faces_made}

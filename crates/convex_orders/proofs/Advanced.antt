@@ -14,9 +14,9 @@ use Rattle.convex_orders.specs.FaceNumbers.{entry, AreFaceNumbers}
 use Rattle.convex_peeling.proofs.PolyhedralLemmas.{three_connected_is_polyhedral}
 use Rattle.convex_laws.specs.declared.convex_rows.rows.ConvexRows.{ConvexRows}
 use Rattle.convex_laws.specs.Removed.{IsRowMore}
-use Rattle.convex_orders.specs.declared.counts.Counts.{Counts}
-use Rattle.convex_orders.specs.declared.rims.Rims.{Rims}
-use Rattle.convex_orders.specs.declared.way.Way.TheVariants.{Comes, Goes}
+use Rattle.convex_orders.specs.declared.contour_counts.ContourCounts.{ContourCounts}
+use Rattle.convex_orders.specs.declared.contour_tracing.Rims.{Rims}
+use Rattle.convex_orders.specs.declared.count_direction.Way.TheVariants.{Comes, Goes}
 use Rattle.convex_orders.specs.Contours.{contour_of, AreEdges, AreInner, inner_number, number_at}
 use Rattle.convex_orders.specs.Counts.{met_at, met_below, met_between, edges_between, AreCounts}
 use Rattle.convex_orders.specs.Moved.{CanMoveAll, AreMoved}
@@ -253,7 +253,7 @@ module _ (lists own other : Lists) (count s d : ℕ) (based : IsBased lists s d)
           cuts_same (edge_number lists own us) first (length us - 1) o.faces o.cut places (number_at rims'.outer.items us)
           (λ p l m. ap (slice_index rims'.outer.items) (list.each p (omega arith)) ∙ (noted.outer.here p l (omega arith) ∙ sym (ap₂ (entry lists own) (list.each p (omega arith)) (list.each (suc p) (omega arith)))))
 
-      module _ (few : length lists < 4096) (was now : Counts) (counts : AreCounts lists own count ws was.places.items was.edges.items) (less : AreMoved lists own count Goes ws first end was now) where
+      module _ (few : length lists < 4096) (was now : ContourCounts) (counts : AreCounts lists own count ws was.places.items was.edges.items) (less : AreMoved lists own count Goes ws first end was now) where
         pub can_come : CanMoveAll lists own count Comes us first (length us - 1) now
         can_come = record {
           places = λ f l.
@@ -267,7 +267,7 @@ module _ (lists own other : Lists) (count s d : ℕ) (based : IsBased lists s d)
               omega (arith, counts.edges_are f r l (sym long), less.edges f l, edges_same f, edges_spliced lists own ws (contour_of us right) first end o.last spliced f r o.places (sym long) (sym long'), most);
         }
 
-        pub new_counts : (new : Counts) → AreMoved lists own count Comes us first (length us - 1) now new → AreCounts lists own count (contour_of us right) new.places.items new.edges.items
+        pub new_counts : (new : ContourCounts) → AreMoved lists own count Comes us first (length us - 1) now new → AreCounts lists own count (contour_of us right) new.places.items new.edges.items
         new_counts new more =
             counts_spliced lists own ws (contour_of us right) first end o.last spliced count was now new counts less
             (record {

@@ -3,10 +3,10 @@ use Rattle.std.proofs.Common.{◌≡◌, ℕ, suc, ◌-◌, ◌<◌, Bool, List,
 use Rattle.convex_peeling.specs.Removals.{Removal}
 use Rattle.convex_laws.specs.declared.convex_rows.rows.ConvexRows.{ConvexRows}
 use Rattle.convex_laws.specs.Removed.{IsRowMore}
-use Rattle.convex_orders.specs.declared.rims.Rims.{Rims}
-use Rattle.convex_orders.specs.declared.rounds.RowTables.{RowTables}
-use Rattle.convex_orders.specs.declared.tables.Tables.{Tables}
-use Rattle.convex_orders.specs.declared.way.Way.TheVariants.{Comes, Goes}
+use Rattle.convex_orders.specs.declared.contour_tracing.Rims.{Rims}
+use Rattle.convex_orders.specs.declared.removals.RowTables.{RowTables}
+use Rattle.convex_orders.specs.declared.map_tables.Tables.{Tables}
+use Rattle.convex_orders.specs.declared.count_direction.Way.TheVariants.{Comes, Goes}
 use Rattle.convex_orders.specs.Contours.{contour_of, vertices_of, AreInner, number_at}
 use Rattle.convex_orders.specs.Counts.{AreCounts}
 use Rattle.convex_orders.specs.Cuts.{AreCutPlaces, IsPutIn, IsTakenOut}

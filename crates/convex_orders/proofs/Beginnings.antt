@@ -1,9 +1,9 @@
 -- The first contour by the tables: where just the face of the base is taken off.
 use Rattle.std.proofs.Common.{◌≡◌, ℕ, ◌<◌, Bool, false, List, [], ◌∷◌, ◌++◌, length, set, length-set, ap, ◌∙◌, arith}
 use Rattle.convex_peeling.specs.Contours.{IsFirst}
-use Rattle.convex_orders.specs.declared.rims.Rims.{Rims}
-use Rattle.convex_orders.specs.declared.rounds.RowTables.{RowTables}
-use Rattle.convex_orders.specs.declared.tables.Tables.{Tables}
+use Rattle.convex_orders.specs.declared.contour_tracing.Rims.{Rims}
+use Rattle.convex_orders.specs.declared.removals.RowTables.{RowTables}
+use Rattle.convex_orders.specs.declared.map_tables.Tables.{Tables}
 use Rattle.convex_orders.specs.FaceNumbers.{entry}
 use Rattle.convex_orders.specs.Contours.{AreInner}
 use Rattle.convex_orders.specs.Counts.{met_below}

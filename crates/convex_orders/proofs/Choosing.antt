@@ -3,8 +3,8 @@ use Rattle.std.proofs.Common.{◌≡◌, ℕ, suc, Bool, List, length, sym, ◌�
 use Rattle.convex_laws.specs.Removed.{IsRowMore}
 use Rattle.convex_peeling.specs.Removals.{Removal}
 use Rattle.convex_orders.specs.declared.contour.Contour.{Contour}
-use Rattle.convex_orders.specs.declared.rounds.RowTables.{RowTables}
-use Rattle.convex_orders.specs.declared.tables.Tables.{Tables}
+use Rattle.convex_orders.specs.declared.removals.RowTables.{RowTables}
+use Rattle.convex_orders.specs.declared.map_tables.Tables.{Tables}
 use Rattle.convex_orders.specs.Contours.{vertices_of, AreInner}
 use Rattle.convex_orders.specs.Counts.{AreCounts}
 use Rattle.convex_orders.specs.Moved.{HaveSize}

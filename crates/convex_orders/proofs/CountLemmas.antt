@@ -1,4 +1,4 @@
--- Counts along lists, one vertex or edge more at a time, and after a part went and another came.
+-- ContourCounts along lists, one vertex or edge more at a time, and after a part went and another came.
 use Rattle.std.proofs.Common.{◌≡◌, ℕ, suc, ◌+◌, ◌-◌, ◌<◌, ◌≤◌, cond, eqb, List, length, get_or, slice_index, take, set, get_or-set_same, get_or-set_other, count_by, All, refl, sym, ap, ◌∙◌, subst, inl, inr, arith, eq-eqb, ne_eqb}
 use Rattle.std.specs.Prelude.{slice_range, ◌++◌}
 use Rattle.std.proofs.Math.Seq.{take-append_seam}
@@ -12,9 +12,9 @@ use Rattle.map_lists.specs.Lists.{Lists}
 use Rattle.map_theory.specs.Maps.{list_of}
 use Rattle.map_theory.proofs.DartCounts.{sum_below, sum_below-same}
 use Rattle.convex_orders.specs.FaceNumbers.{entry, IsTable}
-use Rattle.convex_orders.specs.declared.counts.Counts.{Counts}
-use Rattle.convex_orders.specs.declared.way.Way.{Way}
-use Rattle.convex_orders.specs.declared.way.Way.TheVariants.{Comes, Goes}
+use Rattle.convex_orders.specs.declared.contour_counts.ContourCounts.{ContourCounts}
+use Rattle.convex_orders.specs.declared.count_direction.Way.{Way}
+use Rattle.convex_orders.specs.declared.count_direction.Way.TheVariants.{Comes, Goes}
 use Rattle.convex_orders.specs.Contours.{inner_number, number_at, AreInner}
 use Rattle.convex_orders.specs.Counts.{met_at, met_below, numbered_below, edges_below, met_between, edges_between, AreCounts}
 use Rattle.convex_orders.specs.Moved.{AreMoved}
@@ -143,7 +143,7 @@ numbered_le number n f = count_below-le (λ k. eqb (number k) f) n
 pub lent : {A : Type 0} (n : ℕ) (new rest : List A) → n ≡ length new → take n (new ++ rest) ≡ new
 lent n new rest e = ap (λ m. take m (new ++ rest)) e ∙ take-append_seam new rest
 
-pub AreMoved-lent : (lists own : Lists) (count : ℕ) (way : Way) (ws : List ℕ) (first last : ℕ) (old new : Counts) (places edges : List ℕ) → new.places.items ≡ places → new.edges.items ≡ edges → length places ≡ count → length edges ≡ count
+pub AreMoved-lent : (lists own : Lists) (count : ℕ) (way : Way) (ws : List ℕ) (first last : ℕ) (old new : ContourCounts) (places edges : List ℕ) → new.places.items ≡ places → new.edges.items ≡ edges → length places ≡ count → length edges ≡ count
     → ((f : ℕ) → f < count → IsMoved way (slice_index old.places.items f) (met_between own ws first last f) (slice_index places f))
     → ((f : ℕ) → f < count → IsMoved way (slice_index old.edges.items f) (edges_between lists own ws first last f) (slice_index edges f))
     → AreMoved lists own count way ws first last old new
@@ -210,7 +210,7 @@ module _ (lists own : Lists) (ws us : List ℕ) (first end last : ℕ) (s : IsSp
       omega (arith, old, new, front, back)
 
   -- THE COUNTS after a part went and another came
-  pub counts_spliced : (count : ℕ) (old mid new : Counts) → AreCounts lists own count ws old.places.items old.edges.items → AreMoved lists own count Goes ws first end old mid → AreMoved lists own count Comes us first last mid new → AreCounts lists own count us new.places.items new.edges.items
+  pub counts_spliced : (count : ℕ) (old mid new : ContourCounts) → AreCounts lists own count ws old.places.items old.edges.items → AreMoved lists own count Goes ws first end old mid → AreMoved lists own count Comes us first last mid new → AreCounts lists own count us new.places.items new.edges.items
   counts_spliced count old mid new are less more =
       let order = s.order in
       let within = s.within in

@@ -7,7 +7,7 @@ use Rattle.map_theory.specs.Maps.{list_of, HasDart, IsSimpleMap}
 use Rattle.map_theory.proofs.DartLemmas.{place_of-lt-length, Contains-from_place_of}
 use Rattle.convex_orders.specs.Contours.{AreInner}
 use Rattle.convex_orders.specs.Shown.{IsBased}
-use Rattle.convex_orders.specs.declared.tables.Tables.{Tables}
+use Rattle.convex_orders.specs.declared.map_tables.Tables.{Tables}
 
 HasDart-known : (lists : Lists) (v u : ℕ) → ∥ HasDart lists v u ∥₁ → HasDart lists v u
 HasDart-known lists v u h = (

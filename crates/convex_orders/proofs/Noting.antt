@@ -3,7 +3,7 @@ use Rattle.std.proofs.Common.{◌≡◌, ◌≢◌, ℕ, suc, ◌<◌, ◌≤◌
 use Rattle.std.proofs.lemmas.Bool.{cases_eq}
 use Rattle.std.proofs.lemmas.List.{get_or-set_same, get_or-set_other}
 use Rattle.map_lists.specs.Lists.{Lists}
-use Rattle.convex_orders.specs.declared.rims.Rims.{Rims}
+use Rattle.convex_orders.specs.declared.contour_tracing.Rims.{Rims}
 use Rattle.convex_orders.specs.FaceNumbers.{entry}
 use Rattle.convex_orders.specs.Noted.{AreRims, IsSeen, IsNoted, AreNoted}
 

@@ -8,9 +8,9 @@ use Rattle.classes.proofs.Counting.{count_below_same}
 use Rattle.map_lists.specs.Lists.{Lists}
 use Rattle.map_theory.specs.Maps.{HasDart}
 use Rattle.map_theory.proofs.DartCounts.{sum_below-same}
-use Rattle.convex_orders.specs.declared.counts.Counts.{Counts}
-use Rattle.convex_orders.specs.declared.way.Way.{Way}
-use Rattle.convex_orders.specs.declared.way.Way.TheVariants.{Goes}
+use Rattle.convex_orders.specs.declared.contour_counts.ContourCounts.{ContourCounts}
+use Rattle.convex_orders.specs.declared.count_direction.Way.{Way}
+use Rattle.convex_orders.specs.declared.count_direction.Way.TheVariants.{Goes}
 use Rattle.convex_orders.specs.FaceNumbers.{entry}
 use Rattle.convex_orders.specs.Contours.{contour_of, AreEdges, AreInner, inner_number}
 use Rattle.convex_orders.specs.Counts.{met_at, met_between, edges_between, AreCounts}
@@ -60,7 +60,7 @@ module _ (ws left right : List ℕ) (same : contour_of left right ≡ ws) where
       }
 
   module _ (lists own : Lists) (count first end : ℕ) (order : first < end) (within : end < length left) where
-    pub can_go : (old : Counts) → AreCounts lists own count ws old.places.items old.edges.items → CanMoveAll lists own count Goes left first end old
+    pub can_go : (old : ContourCounts) → AreCounts lists own count ws old.places.items old.edges.items → CanMoveAll lists own count Goes left first end old
     can_go old counts =
         let long = part_long in
         let inside : end < length ws = omega arith in
@@ -69,7 +69,7 @@ module _ (ws left right : List ℕ) (same : contour_of left right ≡ ws) where
           edges = λ f l. omega (arith, edges_prefix lists own first end f within, edges_some lists own count ws old.places.items old.edges.items first end counts order inside f l);
         }
 
-    pub gone_all : (way : Way) (old new : Counts) → AreMoved lists own count way left first end old new → AreMoved lists own count way ws first end old new
+    pub gone_all : (way : Way) (old new : ContourCounts) → AreMoved lists own count way left first end old new → AreMoved lists own count way ws first end old new
     gone_all way old new m = record {
       size = m.size;
       places = λ f l. subst (λ n. IsMoved way (slice_index old.places.items f) n (slice_index new.places.items f)) (met_prefix own first end f within) (m.places f l);

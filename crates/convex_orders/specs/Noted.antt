@@ -1,7 +1,7 @@
 -- What is noted of a contour at its vertices.
 use Rattle.std.specs.Prelude.{ℕ, suc, ◌<◌, ◌≤◌, ◌≡◌, ◌≢◌, List, length, slice_index, slice_set}
 use Rattle.map_lists.specs.Lists.{Lists}
-use Rattle.convex_orders.specs.declared.rims.Rims.{Rims}
+use Rattle.convex_orders.specs.declared.contour_tracing.Rims.{Rims}
 use Rattle.convex_orders.specs.FaceNumbers.{entry}
 
 -- three numbers for each of n vertices

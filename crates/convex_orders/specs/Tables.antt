@@ -1,8 +1,8 @@
 -- What the removals read of a map, and how far they have come by it.
 use Rattle.std.specs.Prelude.{ℕ, ◌<◌, ◌≡◌, Bool, true, List, [], length}
 use Rattle.convex_laws.specs.Removed.{HasRows}
-use Rattle.convex_orders.specs.declared.tables.Tables.{Tables}
-use Rattle.convex_orders.specs.declared.rounds.RowTables.{RowTables}
+use Rattle.convex_orders.specs.declared.map_tables.Tables.{Tables}
+use Rattle.convex_orders.specs.declared.removals.RowTables.{RowTables}
 use Rattle.convex_orders.specs.Contours.{vertices_of, AreInner}
 use Rattle.convex_orders.specs.Counts.{AreCounts}
 use Rattle.convex_orders.specs.Moved.{HaveSize, AreNone}

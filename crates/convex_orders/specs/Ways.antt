@@ -1,7 +1,7 @@
 -- How counts rise where a part of a contour comes, and fall where it goes.
 use Rattle.std.specs.Prelude.{ℕ, ◌<◌, ◌≤◌, ◌≡◌, ◌+◌}
-use Rattle.convex_orders.specs.declared.way.Way.{Way}
-use Rattle.convex_orders.specs.declared.way.Way.TheVariants.{Comes, Goes}
+use Rattle.convex_orders.specs.declared.count_direction.Way.{Way}
+use Rattle.convex_orders.specs.declared.count_direction.Way.TheVariants.{Comes, Goes}
 
 -- a count has room for so many more, or has so many
 abbrev pub CanMove : Way → ℕ → ℕ → Type 0

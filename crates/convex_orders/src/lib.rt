@@ -5,21 +5,21 @@
 //! about as many steps as the map has darts.
 #![tactic(auto)]
 
-mod choice;
 mod contour;
-mod counts;
-mod cuts;
-mod edges;
+mod contour_counts;
+mod contour_interval;
+mod contour_tracing;
+mod count_direction;
 pub mod face_numbers;
-mod marked;
-mod orders;
-mod rims;
-mod rounds;
-mod stretch;
-mod tables;
-mod vectors;
-mod way;
+mod interval_cuts;
+mod map_tables;
+mod next_removal;
+mod remaining_faces;
+mod removals;
+mod removed_faces;
+mod row_calls;
+mod slice_tools;
 
-pub use orders::{rows_again, rows_by_faces, tables_of};
-pub use rounds::RowTables;
-pub use tables::Tables;
+pub use map_tables::Tables;
+pub use removals::RowTables;
+pub use row_calls::{rows_again, rows_by_faces, tables_of};

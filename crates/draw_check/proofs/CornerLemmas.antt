@@ -9,7 +9,7 @@ use Rattle.map_theory.specs.Paths.{SameFace}
 use Rattle.map_theory.proofs.DartLemmas.{HasDart-face_step, get_or-place_of, place_of-lt-length, entry_after-place, place_of-entry_after, place_of-get_or, place_after}
 use Rattle.half_edges.specs.Map.{first_dart}
 use Rattle.plane_laws.specs.Triangulations.{IsTriangulation}
-use Rattle.pg_plane.specs.declared.point.Point.{Point}
+use Rattle.pg_plane.specs.declared.segments.Point.{Point}
 use Rattle.plane_drawings.specs.Drawing.{IsCounterclockwise}
 use Rattle.draw_check.specs.Corners.{IsCornerWell, IsRoundWell}
 use Rattle.draw_check.specs.FaceVerdicts.{IsDrawnWell}

@@ -11,7 +11,7 @@ use Rattle.map_theory.specs.Paths.{SameFace}
 use Rattle.map_theory.proofs.DartLemmas.{dart_number-lt, get_or-dart_number, dart_number-injective, HasDart-face_step, length-face_images, get_or-face_images, IsPermutationOfBelow-face_images}
 use Rattle.plane_laws.specs.Triangulations.{IsTriangulation}
 use Rattle.plane_laws.proofs.Triangles.{triangles_where_met}
-use Rattle.pg_plane.specs.declared.point.Point.{Point}
+use Rattle.pg_plane.specs.declared.segments.Point.{Point}
 use Rattle.pg_plane.specs.Geometry.{area}
 use Rattle.pg_plane.specs.Faced.{in_base}
 use Rattle.pg_plane.proofs.Near.{IsOnFace}

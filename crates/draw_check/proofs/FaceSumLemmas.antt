@@ -14,7 +14,7 @@ use Rattle.half_edges.specs.Map.{Map, IsHalfMap, IsLive, dart_at}
 use Rattle.euler_faces.specs.Numbers.{number_at}
 use Rattle.euler_faces.specs.FaceWalks.{walk_at, first_number, AreFaces}
 use Rattle.euler_faces.proofs.NumberLemmas.{number_at-is, number_at-lt, few_darts, live_from}
-use Rattle.pg_plane.specs.declared.point.Point.{Point}
+use Rattle.pg_plane.specs.declared.segments.Point.{Point}
 use Rattle.pg_plane.specs.Range.{IsWithin}
 use Rattle.draw_check.specs.Loops.{IsDrawn}
 use Rattle.vertex_rounds.specs.Rounds.{dart_of}

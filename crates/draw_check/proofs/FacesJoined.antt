@@ -8,7 +8,7 @@ use Rattle.map_lists.specs.Lists.{Lists}
 use Rattle.map_theory.specs.Maps.{Dart, HasDart, IsSimpleMap, darts, dart_number, face_classes}
 use Rattle.map_theory.specs.Paths.{SameFace}
 use Rattle.plane_laws.specs.Laws.{IsMergedFaces}
-use Rattle.pg_plane.specs.declared.point.Point.{Point}
+use Rattle.pg_plane.specs.declared.segments.Point.{Point}
 use Rattle.draw_check.specs.Outer.{swept, face_sum, AreOthersPositive}
 use Rattle.draw_check.proofs.DartTotals.{total, sum_over-total, total-add, total-darts}
 

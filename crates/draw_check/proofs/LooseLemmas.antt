@@ -4,7 +4,7 @@ use Rattle.std.proofs.lemmas.Bool.{cases_Bool, cases_lt}
 use Rattle.map_lists.specs.Lists.{Lists}
 use Rattle.map_lists.specs.declared.ids.VertexId.{VertexId}
 use Rattle.map_theory.specs.Maps.{HasDart, IsSimpleMap}
-use Rattle.pg_plane.specs.declared.point.Point.{Point}
+use Rattle.pg_plane.specs.declared.segments.Point.{Point}
 use Rattle.pg_plane.proofs.Segments.{IsOnSegment-back, DoCross-second_back}
 use Rattle.plane_drawings.specs.Drawing.{place, IsPlaneDrawing}
 use Rattle.plane_drawings.specs.SweepCheckLines.{is_among, is_firm, firm_lists}
@@ -14,8 +14,8 @@ use Rattle.draw_check.specs.Verdicts.{NoneShareAPlace}
 use Rattle.draw_check.specs.Loops.{Meets, Touches}
 use Rattle.draw_check.specs.OnEdges.{BoundsStar, BoundsCrowd}
 use Rattle.vertex_rounds.proofs.LeastLemmas.{place_in}
-use Rattle.draw_check.specs.declared.edges.Probe.{Probe}
-use Rattle.draw_check.specs.declared.edges.Probe.TheVariants.{Vertex, Edge}
+use Rattle.draw_check.specs.declared.edge_meetings.Probe.{Probe}
+use Rattle.draw_check.specs.declared.edge_meetings.Probe.TheVariants.{Vertex, Edge}
 
 -- an edge that is not firm has a loose end
 loose_end : (a b : Bool) → (not a && not b) ≡ false → (a ≡ true) ⊎ (b ≡ true)

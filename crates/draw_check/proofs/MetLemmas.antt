@@ -5,7 +5,7 @@ use Rattle.map_lists.specs.Lists.{Lists}
 use Rattle.map_lists.specs.declared.ids.VertexId.{VertexId}
 use Rattle.map_lists.specs.declared.ids.DartId.{DartId}
 use Rattle.map_lists.specs.declared.items.Ends.{Ends}
-use Rattle.pg_plane.specs.declared.point.Point.{Point}
+use Rattle.pg_plane.specs.declared.segments.Point.{Point}
 use Rattle.map_theory.specs.Maps.{Dart}
 use Rattle.half_edges.specs.Map.{Map, IsHalfMap, IsLive, dart_at}
 use Rattle.vertex_rounds.specs.First.{FindsFirst}
@@ -16,8 +16,8 @@ use Rattle.draw_check.specs.Faults.{EdgesCross, LiesOnEdge}
 use Rattle.draw_check.specs.Loops.{IsMet, IsMetFrom}
 use Rattle.vertex_rounds.proofs.FirstLemmas.{Decides, least_pair}
 use Rattle.vertex_rounds.proofs.LeastLemmas.{IsLeastPair-alike}
-use Rattle.draw_check.specs.declared.edges.Probe.{Probe}
-use Rattle.draw_check.specs.declared.edges.Probe.TheVariants.{Edge, Vertex}
+use Rattle.draw_check.specs.declared.edge_meetings.Probe.{Probe}
+use Rattle.draw_check.specs.declared.edge_meetings.Probe.TheVariants.{Edge, Vertex}
 
 -- the head of a dart is one of as many vertices as there are lists
 pub head_below : (map : Map) → IsHalfMap map → (d u n : ℕ) → IsLive map d → option_map (λ (x : Dart). x.1) (dart_at map d) ≡ Some u → n ≡ length map.lists → u < n

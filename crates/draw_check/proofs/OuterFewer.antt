@@ -19,7 +19,7 @@ use Rattle.plane_laws.proofs.EdgeFaces.{bridge_test, faces_merged}
 use Rattle.plane_laws.proofs.EdgeRemoved.{edge_removed}
 use Rattle.plane_laws.specs.MapEditsCompleted.{IsExtended}
 use Rattle.plane_laws.proofs.KeptEdges.{filter-all, all_or_some}
-use Rattle.pg_plane.specs.declared.point.Point.{Point}
+use Rattle.pg_plane.specs.declared.segments.Point.{Point}
 use Rattle.pg_plane.proofs.Identities.{cross_back}
 use Rattle.plane_drawings.specs.Drawing.{place, IsCounterclockwise}
 use Rattle.draw_check.specs.Outer.{swept, AreOthersPositive, HasOuterFace}

@@ -2,7 +2,7 @@
 use Rattle.std.proofs.Common.{◌≡◌, ◌⊎◌, Bool, true, false, cond, ℤ, pos, neg_ℤ, ◌-ℤ◌, ◌*ℤ◌, ◌≤ℤ◌, ◌<ℤ◌, sym, subst, inl, inr, arith}
 use Rattle.std.specs.Int.{int_min, int_max}
 use Rattle.std.proofs.lemmas.Int.{ints, by_lt_z}
-use Rattle.pg_plane.specs.declared.point.Point.{Point}
+use Rattle.pg_plane.specs.declared.segments.Point.{Point}
 use Rattle.pg_plane.specs.Geometry.{area, AreOpposite, IsBetween, IsOnSegment, DoCross}
 use Rattle.pg_plane.specs.Range.{IsWithin}
 use Rattle.pg_plane.proofs.Ring.{ring, sums, product_signs}
@@ -10,7 +10,7 @@ use Rattle.pg_plane.proofs.Identities.{area_turned}
 use Rattle.pg_plane.proofs.Crossing.{area_back}
 use Rattle.pg_plane.proofs.Segments.{IsOnSegment-back, DoCross-first_back, DoCross-second_back, DoCross-exchanged}
 use Rattle.plane_drawings.proofs.Areas.{disjoint}
-use Rattle.draw_check.specs.declared.spans.Span.{Span}
+use Rattle.draw_check.specs.declared.bounding_boxes.BoundingBox.{BoundingBox}
 use Rattle.draw_check.specs.Spans.{IsIn, IsApart, IsLeftOf, IsStrictlyLeftOf, MissesStar, MissesFan}
 
 or_less : (s t : ℤ) → (s ≤ℤ t) ⊎ (t ≤ℤ s)
@@ -49,7 +49,7 @@ low_uncrossed : (a b c d : Point) → a.y ≤ℤ c.y → a.y ≤ℤ d.y → b.y 
 low_uncrossed a b c d ac ad bc bd h = left_uncrossed (turned a) (turned b) (turned c) (turned d) ac ad bc bd (DoCross-turned a b c d h)
 
 -- A segment on one side of a box crosses none in the box.
-pub apart_uncrossed : (span : Span) (a b c d : Point) → IsApart span a b → IsIn span c → IsIn span d → ¬ DoCross a b c d
+pub apart_uncrossed : (span : BoundingBox) (a b c d : Point) → IsApart span a b → IsIn span c → IsIn span d → ¬ DoCross a b c d
 apart_uncrossed span a b c d apart p q h =
     let pl = p.left in
     let pr = p.right in
@@ -115,11 +115,11 @@ not_opposite_down s t a b (inl h) = let k = h.1 in omega (arith, ints)
 not_opposite_down s t a b (inr h) = let k = h.0 in omega (arith, ints)
 
 -- Neither the box nor the point is to the right of the segment's line.
-pub past_missed : (span : Span) (r p q : Point) → pos 0 ≤ℤ area p q r → IsLeftOf span p q → MissesStar span r p q
+pub past_missed : (span : BoundingBox) (r p q : Point) → pos 0 ≤ℤ area p q r → IsLeftOf span p q → MissesStar span r p q
 past_missed span r p q point box u inside h = not_opposite_up (area p q r) (area p q u) point (box u inside) h.ends_of_second
 
 -- Seen from r both ends are to the left of the box.
-pub left_missed : (span : Span) (r p q : Point) → IsLeftOf span p r → IsLeftOf span q r → MissesStar span r p q
+pub left_missed : (span : BoundingBox) (r p q : Point) → IsLeftOf span p r → IsLeftOf span q r → MissesStar span r p q
 left_missed span r p q first second u inside h =
     not_opposite_up (area r u p) (area r u q) (subst (λ a. pos 0 ≤ℤ a) (sym (area_turned p r u)) (first u inside)) (subst (λ a. pos 0 ≤ℤ a) (sym (area_turned q r u)) (second u inside)) h.ends_of_first
 
@@ -128,12 +128,12 @@ turned_down : (r p u : Point) → pos 0 ≤ℤ area r p u → area r u p ≤ℤ 
 turned_down r p u h = let back = area_back p r u in let turn = area_turned p r u in omega (arith, ints, back, turn)
 
 -- Seen from r both ends are to the right of the box.
-pub right_missed : (span : Span) (r p q : Point) → IsLeftOf span r p → IsLeftOf span r q → MissesStar span r p q
+pub right_missed : (span : BoundingBox) (r p q : Point) → IsLeftOf span r p → IsLeftOf span r q → MissesStar span r p q
 right_missed span r p q first second u inside h =
     not_opposite_down (area r u p) (area r u q) (turned_down r p u (first u inside)) (turned_down r q u (second u inside)) h.ends_of_first
 
 -- the segment the other way round
-pub missed_back : (span : Span) (r p q : Point) → MissesStar span r q p → MissesStar span r p q
+pub missed_back : (span : BoundingBox) (r p q : Point) → MissesStar span r q p → MissesStar span r p q
 missed_back span r p q missed u inside h = missed u inside (DoCross-first_back p q r u h)
 
 -- what lies between two numbers is within what holds both
@@ -142,15 +142,15 @@ between_bounds l h a b p la ah lb bh (inl (x, y)) = (omega (arith, ints), omega 
 between_bounds l h a b p la ah lb bh (inr (x, y)) = (omega (arith, ints), omega (arith, ints))
 
 -- Seen from r the point is to the right of the box.
-right_off : (span : Span) (r p : Point) → ((u : Point) → IsIn span u → pos 0 <ℤ area r p u) → MissesFan span r p
+right_off : (span : BoundingBox) (r p : Point) → ((u : Point) → IsIn span u → pos 0 <ℤ area r p u) → MissesFan span r p
 right_off span r p box u inside on = let up = box u inside in let line = on.on_line in let back = area_back p r u in let turn = area_turned p r u in omega (arith, ints, back, turn)
 
 -- Seen from r the point is to the left of the box.
-left_off : (span : Span) (r p : Point) → ((u : Point) → IsIn span u → pos 0 <ℤ area p r u) → MissesFan span r p
+left_off : (span : BoundingBox) (r p : Point) → ((u : Point) → IsIn span u → pos 0 <ℤ area p r u) → MissesFan span r p
 left_off span r p box u inside on = let up = box u inside in let line = on.on_line in let turn = area_turned p r u in omega (arith, ints, turn)
 
 -- a point in a box that reaches from one corner of another to the opposite one
-pub in_joined : (span other : Span) (low high u : Point) → low.x ≡ other.left → low.y ≡ other.bottom → high.x ≡ other.right → high.y ≡ other.top → IsIn span low → IsIn span high → IsIn other u → IsIn span u
+pub in_joined : (span other : BoundingBox) (low high u : Point) → low.x ≡ other.left → low.y ≡ other.bottom → high.x ≡ other.right → high.y ≡ other.top → IsIn span low → IsIn span high → IsIn other u → IsIn span u
 in_joined span other low high u left bottom right top first last inside = record {
   left = let a = first.left in let b = inside.left in omega (arith, ints, left);
   right = let a = last.right in let b = inside.right in omega (arith, ints, right);
@@ -159,7 +159,7 @@ in_joined span other low high u left bottom right top first last inside = record
 }
 
 -- the corners of a box
-pub record AreCorners (span : Span) (low_left low_right high_left high_right : Point) : Type 0 where
+pub record AreCorners (span : BoundingBox) (low_left low_right high_left high_right : Point) : Type 0 where
   pub low_left_x : low_left.x ≡ span.left
   pub low_left_y : low_left.y ≡ span.bottom
   pub low_right_x : low_right.x ≡ span.right
@@ -170,7 +170,7 @@ pub record AreCorners (span : Span) (low_left low_right high_left high_right : P
   pub high_right_y : high_right.y ≡ span.top
 
 -- what is to the left of a way by four corners is so by any point of their box
-pub corners_left : (span : Span) (a b c d : Point) (r u : Point) → AreCorners span a b c d → pos 0 <ℤ area r u a → pos 0 <ℤ area r u b → pos 0 <ℤ area r u c → pos 0 <ℤ area r u d → (p : Point) → IsIn span p → pos 0 <ℤ area r u p
+pub corners_left : (span : BoundingBox) (a b c d : Point) (r u : Point) → AreCorners span a b c d → pos 0 <ℤ area r u a → pos 0 <ℤ area r u b → pos 0 <ℤ area r u c → pos 0 <ℤ area r u d → (p : Point) → IsIn span p → pos 0 <ℤ area r u p
 corners_left span a b c d r u at la lb lc ld p inside =
     let e = inside.left in
     let f = inside.right in
@@ -189,19 +189,19 @@ corners_left span a b c d r u at la lb lc ld p inside =
     ]
 
 -- so of ways from r to points of a box
-ways_left : (span other : Span) (a b c d : Point) (r : Point) → AreCorners other a b c d → IsStrictlyLeftOf span r a → IsStrictlyLeftOf span r b → IsStrictlyLeftOf span r c → IsStrictlyLeftOf span r d → (p : Point) → IsIn other p → IsStrictlyLeftOf span r p
+ways_left : (span other : BoundingBox) (a b c d : Point) (r : Point) → AreCorners other a b c d → IsStrictlyLeftOf span r a → IsStrictlyLeftOf span r b → IsStrictlyLeftOf span r c → IsStrictlyLeftOf span r d → (p : Point) → IsIn other p → IsStrictlyLeftOf span r p
 ways_left span other a b c d r at la lb lc ld p inside u held =
     let turn : (k : Point) → pos 0 <ℤ area r k u → pos 0 <ℤ area u r k = λ k h. subst (λ z. pos 0 <ℤ z) (area_turned u r k) h in
     subst (λ z. pos 0 <ℤ z) (sym (area_turned u r p)) (corners_left other a b c d u r at (turn a (la u held)) (turn b (lb u held)) (turn c (lc u held)) (turn d (ld u held)) p inside)
 
 -- and of ways to r
-ways_left_back : (span other : Span) (a b c d : Point) (r : Point) → AreCorners other a b c d → IsStrictlyLeftOf span a r → IsStrictlyLeftOf span b r → IsStrictlyLeftOf span c r → IsStrictlyLeftOf span d r → (p : Point) → IsIn other p → IsStrictlyLeftOf span p r
+ways_left_back : (span other : BoundingBox) (a b c d : Point) (r : Point) → AreCorners other a b c d → IsStrictlyLeftOf span a r → IsStrictlyLeftOf span b r → IsStrictlyLeftOf span c r → IsStrictlyLeftOf span d r → (p : Point) → IsIn other p → IsStrictlyLeftOf span p r
 ways_left_back span other a b c d r at la lb lc ld p inside u held =
     let turn : (k : Point) → pos 0 <ℤ area k r u → pos 0 <ℤ area r u k = λ k h. subst (λ z. pos 0 <ℤ z) (sym (area_turned k r u)) h in
     subst (λ z. pos 0 <ℤ z) (area_turned p r u) (corners_left other a b c d r u at (turn a (la u held)) (turn b (lb u held)) (turn c (lc u held)) (turn d (ld u held)) p inside)
 
 -- what is to the left of a way is not to its right
-not_right : (span : Span) (p q : Point) → IsStrictlyLeftOf span p q → IsLeftOf span p q
+not_right : (span : BoundingBox) (p q : Point) → IsStrictlyLeftOf span p q → IsLeftOf span p q
 not_right span p q left u inside = let h = left u inside in omega (arith, ints)
 
 -- a point on one side of a box that holds both ends is on no segment between them
@@ -213,7 +213,7 @@ apart_off s t v l h ls sh lt th between out =
     elim out [ inl x ↦ omega (arith, ints) | inr x ↦ omega (arith, ints) ]
 
 -- a point on one side of a box is on no segment in it
-pub apart_missed : (span : Span) (r u p : Point) → IsIn span r → IsIn span u → IsApart span p p → ¬ IsOnSegment p r u
+pub apart_missed : (span : BoundingBox) (r u p : Point) → IsIn span r → IsIn span u → IsApart span p p → ¬ IsOnSegment p r u
 apart_missed span r u p here there apart on = elim apart [
   | inl (x, y) ↦ apart_off r.x u.x p.x span.left span.right here.left here.right there.left there.right on.between_x (inl x)
   | inr other ↦ elim other [
@@ -235,7 +235,7 @@ between_off_above s t v h (a, b) (inl (x, y)) l = omega (arith, ints)
 between_off_above s t v h (a, b) (inr (x, y)) l = omega (arith, ints)
 
 -- no point of a box is on a segment on one side of it
-pub apart_segment : (span : Span) (p q u : Point) → IsApart span p q → IsIn span u → ¬ IsOnSegment u p q
+pub apart_segment : (span : BoundingBox) (p q u : Point) → IsApart span p q → IsIn span u → ¬ IsOnSegment u p q
 apart_segment span p q u apart inside on = elim apart [
   | inl left ↦ between_off p.x q.x u.x span.left left on.between_x inside.left
   | inr other ↦ elim other [
@@ -248,19 +248,19 @@ apart_segment span p q u apart inside on = elim apart [
 ]
 
 -- no point to the left of a way is on it, in either direction
-pub left_segment : (span : Span) (p q u : Point) → IsStrictlyLeftOf span p q → IsIn span u → ¬ IsOnSegment u p q
+pub left_segment : (span : BoundingBox) (p q u : Point) → IsStrictlyLeftOf span p q → IsIn span u → ¬ IsOnSegment u p q
 left_segment span p q u left inside on = let up = left u inside in let line = on.on_line in omega (arith, ints)
 
-pub right_segment : (span : Span) (p q u : Point) → IsStrictlyLeftOf span q p → IsIn span u → ¬ IsOnSegment u p q
+pub right_segment : (span : BoundingBox) (p q u : Point) → IsStrictlyLeftOf span q p → IsIn span u → ¬ IsOnSegment u p q
 right_segment span p q u left inside on = left_segment span q p u left inside (IsOnSegment-back u p q on)
 
 -- Seen from r all corners of a box are on one side of another: no segment in the box crosses one from r into the other, and no point of it is on one.
-pub ways_missed : (span other : Span) (a b c d : Point) (r : Point) → AreCorners other a b c d → IsStrictlyLeftOf span r a → IsStrictlyLeftOf span r b → IsStrictlyLeftOf span r c → IsStrictlyLeftOf span r d → ((p q : Point) → IsIn other p → IsIn other q → MissesStar span r p q) × ((p : Point) → IsIn other p → MissesFan span r p)
+pub ways_missed : (span other : BoundingBox) (a b c d : Point) (r : Point) → AreCorners other a b c d → IsStrictlyLeftOf span r a → IsStrictlyLeftOf span r b → IsStrictlyLeftOf span r c → IsStrictlyLeftOf span r d → ((p q : Point) → IsIn other p → IsIn other q → MissesStar span r p q) × ((p : Point) → IsIn other p → MissesFan span r p)
 ways_missed span other a b c d r at la lb lc ld =
     let left = ways_left span other a b c d r at la lb lc ld in
     ((λ p q first second. right_missed span r p q (not_right span r p (left p first)) (not_right span r q (left q second))), λ p first. right_off span r p (left p first))
 
-pub ways_missed_back : (span other : Span) (a b c d : Point) (r : Point) → AreCorners other a b c d → IsStrictlyLeftOf span a r → IsStrictlyLeftOf span b r → IsStrictlyLeftOf span c r → IsStrictlyLeftOf span d r → ((p q : Point) → IsIn other p → IsIn other q → MissesStar span r p q) × ((p : Point) → IsIn other p → MissesFan span r p)
+pub ways_missed_back : (span other : BoundingBox) (a b c d : Point) (r : Point) → AreCorners other a b c d → IsStrictlyLeftOf span a r → IsStrictlyLeftOf span b r → IsStrictlyLeftOf span c r → IsStrictlyLeftOf span d r → ((p q : Point) → IsIn other p → IsIn other q → MissesStar span r p q) × ((p : Point) → IsIn other p → MissesFan span r p)
 ways_missed_back span other a b c d r at la lb lc ld =
     let left = ways_left_back span other a b c d r at la lb lc ld in
     ((λ p q first second. left_missed span r p q (not_right span p r (left p first)) (not_right span q r (left q second))), λ p first. left_off span r p (left p first))

@@ -14,7 +14,7 @@ use Rattle.map_lists.specs.declared.items.Ends.{Ends}
 use Rattle.map_theory.specs.Maps.{HasDart, IsSimpleMap, list_of}
 use Rattle.map_theory.proofs.DartCounts.{length-le-below}
 use Rattle.map_theory.proofs.EntryLemmas.{Contains-filter, Contains-from_filter}
-use Rattle.pg_plane.specs.declared.point.Point.{Point}
+use Rattle.pg_plane.specs.declared.segments.Point.{Point}
 use Rattle.plane_drawings.specs.Drawing.{place}
 use Rattle.vertex_rounds.specs.Least.{IsLeast, IsLeastPair}
 use Rattle.vertex_rounds.specs.Rounds.{HasEdge, ComesBefore}
@@ -24,8 +24,8 @@ use Rattle.draw_check.specs.Loops.{Meets, IsCrossed}
 use Rattle.draw_check.specs.Spans.{IsIn, MissesStar}
 use Rattle.draw_check.specs.Stars.{HoldsHeads, AreHeads, Reaches, IsAhead, IsCrossedBy, IsBest, IsLowered, run_at}
 use Rattle.draw_check.proofs.RunLemmas.{run, by_run}
-use Rattle.draw_check.specs.declared.edges.Probe.TheVariants.{Edge}
-use Rattle.draw_check.specs.declared.spans.Span.{Span}
+use Rattle.draw_check.specs.declared.edge_meetings.Probe.TheVariants.{Edge}
+use Rattle.draw_check.specs.declared.bounding_boxes.BoundingBox.{BoundingBox}
 
 -- one neighbour more, which is x
 pub heads-more : (from : ℕ) (us : List ℕ) (k x : ℕ) (old new : List ℕ) → k < length us → get_or us k 0 ≡ x → old ≡ filter (nat_le from) (take k us) → new ≡ old ++ cond (nat_le from x) (x ∷ []) [] → new ≡ filter (nat_le from) (take (k + 1) us)
@@ -50,9 +50,9 @@ heads_sorted lists v from old new p h u = (
 )
 
 -- the boxes of runs, one written more
-pub runs-more : (runs : List Span) (k : ℕ) (x : Span) (P : ℕ → Span → Type 0) → k < length runs → P k x → ((j : ℕ) → j < k → P j (run_at runs j)) → (j : ℕ) → j < k + 1 → P j (run_at (set runs k x) j)
+pub runs-more : (runs : List BoundingBox) (k : ℕ) (x : BoundingBox) (P : ℕ → BoundingBox → Type 0) → k < length runs → P k x → ((j : ℕ) → j < k → P j (run_at runs j)) → (j : ℕ) → j < k + 1 → P j (run_at (set runs k x) j)
 runs-more runs k x P l here before j less =
-    let none : Span = record { left = pos 0; right = pos 0; bottom = pos 0; top = pos 0 } in
+    let none : BoundingBox = record { left = pos 0; right = pos 0; bottom = pos 0; top = pos 0 } in
     elim (cases_eq j k) [
       | inl e ↦ subst (λ i. P i (run_at (set runs k x) i)) (sym e) (subst (P k) (sym (get_or-set_same runs k x none l)) here)
       | inr ne ↦ subst (P j) (sym (get_or-set_other runs k j x none ne)) (before j (omega arith))
@@ -179,7 +179,7 @@ module _ (lists : Lists) (points : List Point) where
   }
 
 -- a box of the heads and of the vertex has what its edges reach
-pub reaches_from : (lists : Lists) (points : List Point) (v : ℕ) (heads : List ℕ) (span wide : Span) → AreHeads lists v (v + 1) heads → ((i : ℕ) → i < length heads → IsIn span (place points (get_or heads i 0))) → IsIn wide (place points v) → ((u : Point) → IsIn span u → IsIn wide u) → Reaches lists points wide v
+pub reaches_from : (lists : Lists) (points : List Point) (v : ℕ) (heads : List ℕ) (span wide : BoundingBox) → AreHeads lists v (v + 1) heads → ((i : ℕ) → i < length heads → IsIn span (place points (get_or heads i 0))) → IsIn wide (place points v) → ((u : Point) → IsIn span u → IsIn wide u) → Reaches lists points wide v
 reaches_from lists points v heads span wide are held vertex more = record {
   vertex = vertex;
   heads = λ u edge.
@@ -189,11 +189,11 @@ reaches_from lists points v heads span wide are held vertex more = record {
 }
 
 -- in a wider box
-pub reaches_more : (lists : Lists) (points : List Point) (span wide : Span) (v : ℕ) → ((u : Point) → IsIn span u → IsIn wide u) → Reaches lists points span v → Reaches lists points wide v
+pub reaches_more : (lists : Lists) (points : List Point) (span wide : BoundingBox) (v : ℕ) → ((u : Point) → IsIn span u → IsIn wide u) → Reaches lists points span v → Reaches lists points wide v
 reaches_more lists points span wide v more h = record { vertex = more (place points v) h.vertex; heads = λ u edge. more (place points u) (h.heads u edge) }
 
 -- a run that misses a block crosses no edge of it
-pub block_uncrossed : (lists : Lists) (points : List Point) (v : ℕ) (heads : List ℕ) (best : Option Ends) (span block : Span) → HoldsHeads points heads span 0 (length heads) → ((p q : Point) → IsIn block p → IsIn block q → MissesStar span (place points v) p q) → (a b : ℕ) → Reaches lists points block a → ¬ IsCrossedBy lists points v heads best a b
+pub block_uncrossed : (lists : Lists) (points : List Point) (v : ℕ) (heads : List ℕ) (best : Option Ends) (span block : BoundingBox) → HoldsHeads points heads span 0 (length heads) → ((p q : Point) → IsIn block p → IsIn block q → MissesStar span (place points v) p q) → (a b : ℕ) → Reaches lists points block a → ¬ IsCrossedBy lists points v heads best a b
 block_uncrossed lists points v heads best span block held misses a b reach x =
     misses (place points a) (place points b) reach.vertex (reach.heads b x.edge) (place points (get_or heads x.place 0)) (held x.place (omega arith) x.within) x.meets.4
 

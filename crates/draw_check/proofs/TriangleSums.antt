@@ -7,7 +7,7 @@ use Rattle.map_theory.specs.Maps.{Dart, HasDart, follows, darts, dart_number}
 use Rattle.map_theory.specs.Paths.{SameFace}
 use Rattle.map_theory.proofs.DartLemmas.{dart_number-injective, HasDart-face_step}
 use Rattle.plane_laws.specs.Triangulations.{IsTriangulation}
-use Rattle.pg_plane.specs.declared.point.Point.{Point}
+use Rattle.pg_plane.specs.declared.segments.Point.{Point}
 use Rattle.pg_plane.specs.Geometry.{cross, area}
 use Rattle.pg_plane.proofs.Ring.{ring, sums}
 use Rattle.plane_drawings.specs.Drawing.{place, IsCounterclockwise}

@@ -7,7 +7,7 @@ use Rattle.map_theory.specs.Maps.{HasDart, IsSimpleMap, list_of, entry_after}
 use Rattle.map_theory.specs.Paths.{from_entry}
 use Rattle.map_theory.proofs.EntryLemmas.{Contains-from_filter}
 use Rattle.plane_laws.specs.MapEditsCompleted.{IsExtended}
-use Rattle.pg_plane.specs.declared.point.Point.{Point}
+use Rattle.pg_plane.specs.declared.segments.Point.{Point}
 use Rattle.pg_plane.specs.Geometry.{vector, IsClockBefore}
 use Rattle.plane_drawings.specs.Drawing.{place, GoesOnceRound, IsPlaneDrawing, KeepsRotations}
 use Rattle.draw_check.specs.Laws.{IsValid}

@@ -2,13 +2,13 @@
 use Rattle.std.specs.Prelude.{ℕ, ◌<◌, ◌≤◌, ◌≢◌, List}
 use Rattle.map_lists.specs.Lists.{Lists}
 use Rattle.half_edges.specs.Map.{Map, IsHalfMap}
-use Rattle.pg_plane.specs.declared.point.Point.{Point}
+use Rattle.pg_plane.specs.declared.segments.Point.{Point}
 use Rattle.pg_plane.specs.Geometry.{IsOnSegment, DoCross}
 use Rattle.plane_drawings.specs.Drawing.{place, IsBreak}
 use Rattle.draw_check.specs.Faults.{HasPlaces, EdgesCross}
 use Rattle.vertex_rounds.specs.Rounds.{HasEdge}
-use Rattle.draw_check.specs.declared.edges.Probe.{Probe}
-use Rattle.draw_check.specs.declared.edges.Probe.TheVariants.{Vertex, Edge}
+use Rattle.draw_check.specs.declared.edge_meetings.Probe.{Probe}
+use Rattle.draw_check.specs.declared.edge_meetings.Probe.TheVariants.{Vertex, Edge}
 
 -- a half-edge map, and a point for each vertex
 pub record IsDrawn (map : Map) (points : List Point) : Type 0 where

@@ -2,10 +2,10 @@
 use Rattle.std.specs.Prelude.{ℕ, ◌<◌, ◌≤◌, List, length, slice_index, Contains}
 use Rattle.map_lists.specs.Lists.{Lists}
 use Rattle.map_theory.specs.Maps.{HasDart}
-use Rattle.pg_plane.specs.declared.point.Point.{Point}
+use Rattle.pg_plane.specs.declared.segments.Point.{Point}
 use Rattle.draw_check.specs.Faults.{LiesOnEdge}
 use Rattle.draw_check.specs.Loops.{Meets}
-use Rattle.draw_check.specs.declared.edges.Probe.TheVariants.{Vertex}
+use Rattle.draw_check.specs.declared.edge_meetings.Probe.TheVariants.{Vertex}
 
 -- the vertices of a crowd that lie on the edge from a to b, and are none of its ends, are not below `best`
 abbrev pub BoundsEdge : List Point → List ℕ → ℕ → ℕ → ℕ → Type 0

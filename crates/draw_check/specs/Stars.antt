@@ -3,36 +3,36 @@ use Rattle.std.specs.Prelude.{ℕ, ◌+◌, ◌*◌, ◌<◌, ◌≤◌, ◌≡�
 use Rattle.map_lists.specs.Lists.{Lists}
 use Rattle.map_lists.specs.declared.items.Ends.{Ends}
 use Rattle.map_theory.specs.Maps.{HasDart}
-use Rattle.pg_plane.specs.declared.point.Point.{Point}
+use Rattle.pg_plane.specs.declared.segments.Point.{Point}
 use Rattle.plane_drawings.specs.Drawing.{place}
 use Rattle.vertex_rounds.specs.Rounds.{HasEdge, ComesBefore}
 use Rattle.draw_check.specs.Faults.{EdgesCross}
 use Rattle.draw_check.specs.Loops.{Meets, IsCrossed}
 use Rattle.draw_check.specs.Spans.{IsIn, IsBoxInRange}
-use Rattle.draw_check.specs.declared.spans.Span.{Span}
-use Rattle.draw_check.specs.declared.edges.Probe.TheVariants.{Edge}
+use Rattle.draw_check.specs.declared.bounding_boxes.BoundingBox.{BoundingBox}
+use Rattle.draw_check.specs.declared.edge_meetings.Probe.TheVariants.{Edge}
 
 -- a box holds the heads from place `begin` on and before place `end`
-abbrev pub HoldsHeads : List Point → List ℕ → Span → ℕ → ℕ → Type 0
+abbrev pub HoldsHeads : List Point → List ℕ → BoundingBox → ℕ → ℕ → Type 0
 HoldsHeads points heads span begin end = (i : ℕ) → begin ≤ i → i < end → IsIn span (place points (slice_index heads i))
 
 -- the box of a run
-abbrev pub run_at : List Span → ℕ → Span
+abbrev pub run_at : List BoundingBox → ℕ → BoundingBox
 run_at runs k = slice_index_or runs k (record { left = pos 0; right = pos 0; bottom = pos 0; top = pos 0 })
 
 -- each run of 16 heads has a box within the range of coordinates
-pub record AreRuns (points : List Point) (heads : List ℕ) (runs : List Span) : Type 0 where
+pub record AreRuns (points : List Point) (heads : List ℕ) (runs : List BoundingBox) : Type 0 where
   pub enough : length heads ≤ 16 * length runs
   pub in_range : (k : ℕ) → k < length runs → IsBoxInRange (run_at runs k)
   pub held : (k i : ℕ) → k < length runs → 16 * k ≤ i → i < 16 * (k + 1) → i < length heads → IsIn (run_at runs k) (place points (slice_index heads i))
 
 -- a vertex and its greater neighbours lie in a box
-pub record Reaches (lists : Lists) (points : List Point) (span : Span) (v : ℕ) : Type 0 where
+pub record Reaches (lists : Lists) (points : List Point) (span : BoundingBox) (v : ℕ) : Type 0 where
   pub vertex : IsIn span (place points v)
   pub heads : (u : ℕ) → HasEdge lists v u → IsIn span (place points u)
 
 -- each block of 16 vertices has a box of what their edges reach
-pub record AreBlocks (lists : Lists) (points : List Point) (blocks : List Span) : Type 0 where
+pub record AreBlocks (lists : Lists) (points : List Point) (blocks : List BoundingBox) : Type 0 where
   pub in_range : (k : ℕ) → k < length blocks → IsBoxInRange (run_at blocks k)
   pub reach : (k v : ℕ) → k < length blocks → 16 * k ≤ v → v < 16 * (k + 1) → v < length lists → Reaches lists points (run_at blocks k) v
 

@@ -5,13 +5,13 @@ ghost use Rattle.pg_plane.specs.Range.{IsInRange};
 ghost use Rattle.plane_drawings.specs.Drawing.{place};
 ghost use Rattle.draw_check.specs.Faults.{HasPlaces};
 
-use crate::places::place_at;
+use crate::vertex_points::place_at;
 use half_edges::{HalfMap, VertexId};
 use pg_plane::{Points, area2};
 
 /// A map, and a point for each of its vertices, within the range of coordinates.
 #[derive(Clone, Copy)]
-pub(crate) struct Drawing<'a> {
+pub(crate) struct PointDrawing<'a> {
     pub(crate) map: &'a HalfMap,
     pub(crate) points: &'a Points,
     ghost places: { HasPlaces map.now.lists points.now },

@@ -6,28 +6,28 @@
 ghost use Rattle.draw_check.specs.FaceLaws.{FacesYesForFewer, FacesYesIsYes};
 ghost use Rattle.draw_check.specs.Laws.{ValidWithFewer, YesIsValid};
 
-mod blocks;
-mod corners;
-mod crossings;
+mod bounding_boxes;
+mod corner_check;
+mod crossing_edges;
 mod drawing;
-mod edges;
-mod faces;
-mod heads;
-mod loose;
-mod on_edges;
-mod outer;
-mod pairs;
-mod places;
-mod spans;
-mod stars;
-mod sums;
-mod turns;
+mod drawing_check;
+mod edge_meetings;
+mod excluded_vertices;
+mod face_areas;
+mod face_check;
+mod list_rotation;
+mod outer_face;
+mod sorted_neighbours;
+mod star_boxes;
+mod star_crossings;
 mod verdict;
+mod vertex_points;
+mod vertices_on_edges;
 
-pub use corners::is_drawn_well;
-pub use faces::{check_by_faces, check_points_by_faces};
-pub use outer::{check_outer, check_outer_connected};
-pub use pairs::{check, check_points};
+pub use corner_check::is_drawn_well;
+pub use drawing_check::{check, check_points};
+pub use face_check::{check_by_faces, check_points_by_faces};
+pub use outer_face::{check_outer, check_outer_connected};
 use plane_drawings::drawings::counterclockwise_is_plane;
 pub use verdict::{FaceVerdict, OuterVerdict, Verdict};
 

@@ -2,8 +2,8 @@
 
 use crate::{bars, convex, orders, pictures, rects, verdicts};
 use half_edges::HalfMap;
+use row_texts::fault_texts::tell_fault;
 use row_texts::lists::lists_of;
-use row_texts::refusal::tell_fault;
 use row_texts::reply::Reply;
 use row_texts::rows::{Answers, Row};
 

@@ -6,13 +6,13 @@ use bar_check::{BarVerdict, check_bars};
 use bipolar::dual_orders::dual_numbers;
 use conn_parts::biconnected_maps::biconnected_map;
 use half_edges::{DartId, HalfMap};
+use row_texts::fault_texts::tell_no_memory;
 use row_texts::lists::{SomeLists, put_counts, put_vertices};
 use row_texts::maps::dart_between;
 use row_texts::points::{bars_of, integer, put_integers};
-use row_texts::refusal::tell_no_memory;
 use row_texts::reply::Reply;
+use row_texts::row_arguments::behind;
 use row_texts::rows::Row;
-use row_texts::text::behind;
 use st_orders::st_order;
 use visibility::bars;
 

@@ -2,9 +2,9 @@
 use augment_tri::triangulate;
 use conn_parts::CountedMaker;
 use half_edges::{HalfMap, Rotations};
+use row_texts::fault_texts::tell_no_memory;
 use row_texts::lists::{SomeLists, put_lists};
 use row_texts::maps::put_size;
-use row_texts::refusal::tell_no_memory;
 use row_texts::reply::Reply;
 
 // Says whether the entries of each list of `old` stand in that of `new` in the same order.

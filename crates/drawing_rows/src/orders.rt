@@ -15,13 +15,13 @@ use grid_figures::shift_figures::shift_figure;
 use half_edges::{DartId, HalfMap};
 use pg_plane::GridFigure;
 use refusals::Unserved;
+use row_texts::fault_texts::{tell_no_memory, tell_unserved};
 use row_texts::lists::{SomeLists, put_counts, put_vertices};
 use row_texts::maps::dart_between;
 use row_texts::points::put_points;
-use row_texts::refusal::{tell_no_memory, tell_unserved};
 use row_texts::reply::Reply;
+use row_texts::row_arguments::pair;
 use row_texts::rows::Row;
-use row_texts::text::pair;
 use std::alloc::{AllocError, Global};
 
 // Returns the triangulation of the given lists, and its canonical order for a dart from vertex 0.

@@ -7,8 +7,8 @@ use half_edges::HalfMap;
 use row_texts::bytes::put_bytes;
 use row_texts::points::{bars_of, points_of};
 use row_texts::reply::Reply;
+use row_texts::row_arguments::behind;
 use row_texts::rows::Row;
-use row_texts::text::behind;
 use std::alloc::Global;
 use svg_out::svg;
 

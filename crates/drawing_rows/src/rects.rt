@@ -5,10 +5,10 @@ use half_edges::HalfMap;
 use rect_class::rect_map;
 use rect_dual::labels::{Label, Labelling, edge_labels};
 use rect_dual::rect_draw;
+use row_texts::fault_texts::tell_no_memory;
 use row_texts::lists::SomeLists;
 use row_texts::maps::{dart_between, first_base};
 use row_texts::points::put_integers;
-use row_texts::refusal::tell_no_memory;
 use row_texts::reply::Reply;
 use row_texts::rows::Row;
 

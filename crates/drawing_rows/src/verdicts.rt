@@ -9,12 +9,12 @@ use draw_check::{FaceVerdict, OuterVerdict, Verdict, check, check_by_faces, chec
 use half_edges::HalfMap;
 use pg_plane::GridFigure;
 use plane_drawings::sweep_check::is_plane_by_sweep;
+use row_texts::fault_texts::tell_no_memory;
 use row_texts::maps::dart_between;
 use row_texts::points::{are_in_range, integer, points_of};
-use row_texts::refusal::tell_no_memory;
 use row_texts::reply::Reply;
+use row_texts::row_arguments::{halves, pair};
 use row_texts::rows::Row;
-use row_texts::text::{halves, pair};
 use std::alloc::Global;
 
 // Returns the figure that `row` gives to `map`, if it has a point for each vertex.

@@ -5,7 +5,7 @@ use Rattle.graph6_text.specs.Graphs.{EdgeGraph, IsGraph, has_edge}
 use Rattle.graph6_text.proofs.EdgeLemmas.{joined_is, has_edge-turned}
 use Rattle.embed_theorem.specs.Embedding.{IsProper, MapOrWitness, PlanarExactly}
 use Rattle.grid_figures.specs.SchnyderFiguresLaws.{SomeSchnyderFigure}
-use Rattle.embed_graph.specs.declared.embed_figures.draw.EmbedFigure.TheVariants.{Drawn, NotPlanar}
+use Rattle.embed_graph.specs.declared.embed_figures.embedder.EmbedFigure.TheVariants.{Drawn, NotPlanar}
 use Rattle.embed_graph.specs.Laws.{SomeEmbedFigure, DrawnExactly}
 
 -- the ends of an edge are two vertices

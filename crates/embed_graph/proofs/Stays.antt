@@ -13,8 +13,8 @@ use Rattle.embed_witnesses.proofs.ContractedLemmas.{edge_within}
 use Rattle.embed_witnesses.specs.Kept.{HasPlain, IsKept}
 use Rattle.embed_witnesses.proofs.Kept.{plain_or_kept}
 use Rattle.embed_graph.specs.Found.{IsTested}
-use Rattle.embed_graph.specs.declared.answer.Tested.{Tested}
-use Rattle.embed_graph.specs.declared.answer.Tested.TheVariants.{Map, NoMap}
+use Rattle.embed_graph.specs.declared.fast_embeddings.Tested.{Tested}
+use Rattle.embed_graph.specs.declared.fast_embeddings.Tested.TheVariants.{Map, NoMap}
 use Rattle.embed_graph.proofs.Figured.{proper}
 
 -- a map and a witness are not both there

@@ -1,12 +1,12 @@
 -- The figure of a graph: a map of it as it is drawn, or a witness that there is none.
 use Rattle.map_lists.specs.Lists.{Lists}
-use Rattle.pg_plane.specs.declared.figure.GridFigure.{GridFigure}
+use Rattle.pg_plane.specs.declared.figures.GridFigure.{GridFigure}
 use Rattle.graph6_text.specs.Graphs.{EdgeGraph}
 use Rattle.kuratowski.specs.Witnesses.{IsWitness}
 use Rattle.embed_theorem.specs.Expanded.{IsMapOf}
 use Rattle.grid_figures.specs.SchnyderFiguresFigures.{IsSchnyderFigure}
-use Rattle.embed_graph.specs.declared.embed_figures.draw.EmbedFigure.{EmbedFigure}
-use Rattle.embed_graph.specs.declared.embed_figures.draw.EmbedFigure.TheVariants.{Drawn, NotPlanar}
+use Rattle.embed_graph.specs.declared.embed_figures.embedder.EmbedFigure.{EmbedFigure}
+use Rattle.embed_graph.specs.declared.embed_figures.embedder.EmbedFigure.TheVariants.{Drawn, NotPlanar}
 
 -- a map of genus zero with exactly the edges of the graph, and a figure that is valid for it
 pub record IsDrawnMap (graph : EdgeGraph) (lists : Lists) (figure : GridFigure) : Type 0 where

@@ -2,8 +2,8 @@
 use Rattle.map_lists.specs.Lists.{Lists}
 use Rattle.graph6_text.specs.Graphs.{EdgeGraph}
 use Rattle.embed_theorem.specs.Expanded.{IsMapOf}
-use Rattle.embed_graph.specs.declared.answer.Tested.{Tested}
-use Rattle.embed_graph.specs.declared.answer.Tested.TheVariants.{Map, NoMap}
+use Rattle.embed_graph.specs.declared.fast_embeddings.Tested.{Tested}
+use Rattle.embed_graph.specs.declared.fast_embeddings.Tested.TheVariants.{Map, NoMap}
 
 -- a map of the graph, or that there is none
 abbrev pub IsTested : EdgeGraph → Tested → Type 0

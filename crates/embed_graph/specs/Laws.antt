@@ -1,11 +1,11 @@
 -- Figures of all graphs, and of which kind.
 use Rattle.std.specs.Prelude.{◌≤◌, ◌↔◌}
 use Rattle.map_lists.specs.Lists.{Lists}
-use Rattle.pg_plane.specs.declared.figure.GridFigure.{GridFigure}
+use Rattle.pg_plane.specs.declared.figures.GridFigure.{GridFigure}
 use Rattle.graph6_text.specs.Graphs.{EdgeGraph, IsGraph}
 use Rattle.embed_contraction.specs.Traces.{HasWitness}
 use Rattle.embed_graph.specs.Figures.{IsDrawnMap, IsEmbedFigure}
-use Rattle.embed_graph.specs.declared.embed_figures.draw.EmbedFigure.{EmbedFigure}
+use Rattle.embed_graph.specs.declared.embed_figures.embedder.EmbedFigure.{EmbedFigure}
 
 -- Each graph with at least three vertices has a figure: a map as it is drawn, or a witness.
 abbrev pub SomeEmbedFigure : Type 0

@@ -1,5 +1,5 @@
 //! The answer of the job `embed` to a graph, as a value: a map of it with a drawing, or a Kuratowski witness.
 
-mod draw;
+mod embedder;
 
-pub use draw::{EmbedFigure, Embedder};
+pub use embedder::{EmbedFigure, Embedder};

@@ -4,15 +4,15 @@
 //! of which the test tells which to take. Where the lists of the search are not accepted, those made by sides are.
 #![tactic(auto)]
 
-mod answer;
 pub mod contracted_embeddings;
+mod edge_test;
 pub mod embed_figures;
 pub mod embed_laws;
+mod fast_embeddings;
 pub mod graph_embeddings;
-mod marks;
 
-pub use answer::embed;
 pub use embed_witnesses::contracted_graphs::contract;
 pub use embed_witnesses::graph_contractions::contractible_edge;
 pub use embed_witnesses::lifted_witnesses::lift;
+pub use fast_embeddings::embed;
 pub use graph_embeddings::Embedding;

@@ -1,5 +1,5 @@
 //! A nonplanar part of a graph as a kernel: its paths through vertices of degree two are replaced by single edges.
-use crate::marks::{IN_PART, turn_of};
+use crate::conflict_marks::{IN_PART, turn_of};
 use left_right_test::{ByDart, ByEdge, ByVertex, Edges, Links, NONE, minus, plus, twice};
 
 /// The kernel, and the tables for its reduction. Its vertices are numbered anew.

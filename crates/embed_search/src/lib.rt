@@ -5,11 +5,11 @@
 //! promised but that they come: whoever calls checks them.
 #![tactic(auto)]
 
-mod calls;
+mod conflict_marks;
 mod kernel;
-mod marks;
+mod search_tables;
 mod shrink;
-mod small;
-mod trace;
+mod small_graphs;
+mod witness_tracing;
 
-pub use calls::{Tables, find_witness, planar_lists};
+pub use search_tables::{Tables, find_witness, planar_lists};

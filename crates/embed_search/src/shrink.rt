@@ -1,7 +1,7 @@
 //! Shrinks a nonplanar part of a graph until it is planar without any path of its own.
+use crate::conflict_marks::ConflictMarks;
 use crate::kernel::Kernel;
-use crate::marks::ConflictMarks;
-use crate::small::{has_few_vertices, is_planar_without};
+use crate::small_graphs::{has_few_vertices, is_planar_without};
 use left_right_test::{LeftRightTest, NONE, minus, plus};
 
 // How many tests there are at most.

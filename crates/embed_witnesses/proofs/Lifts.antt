@@ -23,9 +23,9 @@ use Rattle.embed_contraction.proofs.Separations.{from_name, to_name, ends_at_x, 
 use Rattle.embed_contraction.proofs.Lifted.{AreTwoLone, frame', off', no_branch', steps', four, is_branch, not_six, separating_five, IsSeparating, five_names, small_frame, small_steps, small_off, small_no_branch}
 use Rattle.embed_witnesses.specs.Merged.{merged}
 use Rattle.embed_witnesses.proofs.MergedLemmas.{merged_is_contracted}
-use Rattle.embed_witnesses.specs.declared.lifted_witnesses.changes.Splitting.{Splitting}
-use Rattle.embed_witnesses.specs.declared.lifted_witnesses.changes.Change.{Change}
-use Rattle.embed_witnesses.specs.declared.lifted_witnesses.changes.Change.TheVariants.{Mended, Split}
+use Rattle.embed_witnesses.specs.declared.lifted_witnesses.change_kinds.Splitting.{Splitting}
+use Rattle.embed_witnesses.specs.declared.lifted_witnesses.change_kinds.Change.{Change}
+use Rattle.embed_witnesses.specs.declared.lifted_witnesses.change_kinds.Change.TheVariants.{Mended, Split}
 use Rattle.embed_witnesses.specs.Changes.{step_count, named_branch, path_between, link_between, split_count, split_place, split_branch, kind_in, branch_in, count_in, vertex_in, branches_in, path_in, paths_in, IsRight}
 
 -- ---- lists that agree with functions

@@ -10,10 +10,10 @@ use Rattle.kuratowski.specs.declared.witness.Witness.{Witness}
 use Rattle.embed_contraction.specs.Traces.{path_count}
 use Rattle.embed_contraction.proofs.Traces.{vertices_of}
 use Rattle.embed_witnesses.specs.Merged.{exchanged_number}
-use Rattle.embed_witnesses.specs.declared.lifted_witnesses.changes.Mending.{Mending}
-use Rattle.embed_witnesses.specs.declared.lifted_witnesses.changes.Splitting.{Splitting}
-use Rattle.embed_witnesses.specs.declared.lifted_witnesses.changes.Change.{Change}
-use Rattle.embed_witnesses.specs.declared.lifted_witnesses.changes.Change.TheVariants.{Mended, Split}
+use Rattle.embed_witnesses.specs.declared.lifted_witnesses.change_kinds.Mending.{Mending}
+use Rattle.embed_witnesses.specs.declared.lifted_witnesses.change_kinds.Splitting.{Splitting}
+use Rattle.embed_witnesses.specs.declared.lifted_witnesses.change_kinds.Change.{Change}
+use Rattle.embed_witnesses.specs.declared.lifted_witnesses.change_kinds.Change.TheVariants.{Mended, Split}
 
 -- how many steps path p has
 abbrev pub step_count : List (List VertexId) → ℕ → ℕ

@@ -1,11 +1,11 @@
 //! Lifts a Kuratowski witness of a graph with an edge contracted to one of the graph.
 
-mod changed;
-mod changes;
-mod lifted;
-mod lifting;
-mod mended;
-mod numbers;
-mod split;
+mod change_kinds;
+mod changed_vertices;
+mod changed_witness;
+mod lifting_call;
+mod mended_paths;
+mod split_branches;
+mod tried_changes;
 
-pub use lifted::lift;
+pub use lifting_call::lift;

@@ -1,7 +1,7 @@
 //! Finds K5 or K3,3 as a subgraph: a witness all of whose paths are single edges.
 
-mod numbers;
-mod search;
-mod written;
+mod branch_pairs;
+mod chosen_branches;
+mod subgraph_search;
 
-pub use search::plain_witness;
+pub use subgraph_search::plain_witness;

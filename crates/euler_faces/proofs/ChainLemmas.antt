@@ -11,29 +11,29 @@ use Rattle.euler_faces.specs.Numbers.{mark_at}
 use Rattle.euler_faces.proofs.SearchLemmas.{unmarked_below-set}
 use Rattle.euler_faces.proofs.NumberLemmas.{live_from}
 use Rattle.euler_faces.specs.Chains.{GoesOn, along, over, ReachesBy, Reaches}
-use Rattle.euler_faces.specs.declared.chains.Side.{Side}
+use Rattle.euler_faces.specs.declared.face_chains.FaceSide.{FaceSide}
 use Rattle.euler_faces.specs.ChainSearch.{place, IsMet, Tells, Meets, before, now, work, GoesFrom, AreReached, IsChaining}
 use Rattle.euler_faces.proofs.SideMarks.{mark-same, mark-other, place_same, place_live, live_after, not_in_none, some_pair, dart_in}
 
 -- what has been marked stays so
-pub met_stays : (met : List Bool) (sides : List Side) (side : Side) (met' : List Bool) (sides' : List Side) → Meets met sides side met' sides' → (i : ℕ) → mark_at met i ≡ true → mark_at met' i ≡ true
+pub met_stays : (met : List Bool) (sides : List FaceSide) (side : FaceSide) (met' : List Bool) (sides' : List FaceSide) → Meets met sides side met' sides' → (i : ℕ) → mark_at met i ≡ true → mark_at met' i ≡ true
 met_stays met sides side met' sides' (before a e f) i m = ap (λ met. mark_at met i) e ∙ m
 met_stays met sides side met' sides' (now a e f) i m = elim (cases_eq i (place side.dart.0 side.odd)) [
   | inl z ↦ absurd (true≢false (sym m ∙ ap (mark_at met) z ∙ a))
   | inr z ↦ ap (λ met. mark_at met i) e ∙ mark-other met (place side.dart.0 side.odd) i z ∙ m
 ]
 
-pub met_long : (met : List Bool) (sides : List Side) (side : Side) (met' : List Bool) (sides' : List Side) → Meets met sides side met' sides' → length met' ≡ length met
+pub met_long : (met : List Bool) (sides : List FaceSide) (side : FaceSide) (met' : List Bool) (sides' : List FaceSide) → Meets met sides side met' sides' → length met' ≡ length met
 met_long met sides side met' sides' (before a e f) = ap (λ (m : List Bool). length m) e
 met_long met sides side met' sides' (now a e f) = ap (λ (m : List Bool). length m) e ∙ length-set met (place side.dart.0 side.odd) true
 
 -- the side is met now
-pub met_now : (met : List Bool) (sides : List Side) (side : Side) (met' : List Bool) (sides' : List Side) → Meets met sides side met' sides' → place side.dart.0 side.odd < length met → IsMet met' side.dart.0 side.odd
+pub met_now : (met : List Bool) (sides : List FaceSide) (side : FaceSide) (met' : List Bool) (sides' : List FaceSide) → Meets met sides side met' sides' → place side.dart.0 side.odd < length met → IsMet met' side.dart.0 side.odd
 met_now met sides side met' sides' (before a e f) l = ap (λ met. mark_at met (place side.dart.0 side.odd)) e ∙ a
 met_now met sides side met' sides' (now a e f) l = ap (λ met. mark_at met (place side.dart.0 side.odd)) e ∙ mark-same met (place side.dart.0 side.odd) l
 
 -- there is no more to do
-pub met_work : (met : List Bool) (sides : List Side) (side : Side) (met' : List Bool) (sides' : List Side) → Meets met sides side met' sides' → place side.dart.0 side.odd < length met → work met' sides' ≤ work met sides
+pub met_work : (met : List Bool) (sides : List FaceSide) (side : FaceSide) (met' : List Bool) (sides' : List FaceSide) → Meets met sides side met' sides' → place side.dart.0 side.odd < length met → work met' sides' ≤ work met sides
 met_work met sides side met' sides' (before a e f) l = let h = ap₂ work e f in omega (arith, h)
 met_work met sides side met' sides' (now a e f) l =
     let fewer = unmarked_below-set met (place side.dart.0 side.odd) (length met) l l a in
@@ -43,21 +43,21 @@ met_work met sides side met' sides' (now a e f) l =
     let long : length (sides ++ side ∷ []) ≡ length sides + 1 = length-push sides side in
     omega (arith, h, fewer, same, long)
   where
-    length-push : (sides : List Side) (side : Side) → length (sides ++ side ∷ []) ≡ length sides + 1
+    length-push : (sides : List FaceSide) (side : FaceSide) → length (sides ++ side ∷ []) ≡ length sides + 1
     length-push [] side = refl
     length-push (s ∷ sides) side = omega (arith, length-push sides side)
 
 -- what waits now waited before, or is the side
-waits_cases : (met : List Bool) (sides : List Side) (side : Side) (met' : List Bool) (sides' : List Side) → Meets met sides side met' sides' → (s : Side) → Contains sides' s → Contains sides s ⊎ (side ≡ s)
+waits_cases : (met : List Bool) (sides : List FaceSide) (side : FaceSide) (met' : List Bool) (sides' : List FaceSide) → Meets met sides side met' sides' → (s : FaceSide) → Contains sides' s → Contains sides s ⊎ (side ≡ s)
 waits_cases met sides side met' sides' (before a e f) s m = inl (subst (λ x. Contains x s) f m)
 waits_cases met sides side met' sides' (now a e f) s m = Contains-push_cases sides side s (subst (λ x. Contains x s) f m)
 
-pub waits_stay : (met : List Bool) (sides : List Side) (side : Side) (met' : List Bool) (sides' : List Side) → Meets met sides side met' sides' → (s : Side) → Contains sides s → Contains sides' s
+pub waits_stay : (met : List Bool) (sides : List FaceSide) (side : FaceSide) (met' : List Bool) (sides' : List FaceSide) → Meets met sides side met' sides' → (s : FaceSide) → Contains sides s → Contains sides' s
 waits_stay met sides side met' sides' (before a e f) s m = subst (λ x. Contains x s) (sym f) m
 waits_stay met sides side met' sides' (now a e f) s m = subst (λ x. Contains x s) (sym f) (Contains-append_left sides (side ∷ []) s m)
 
 -- what is met now was met before, or is the side, and waits
-met_cases : (met : List Bool) (sides : List Side) (side : Side) (met' : List Bool) (sides' : List Side) → Meets met sides side met' sides' → (d : ℕ) (odd : Bool) → IsMet met' d odd → IsMet met d odd ⊎ ((side.dart.0 ≡ d) × (side.odd ≡ odd) × Contains sides' side)
+met_cases : (met : List Bool) (sides : List FaceSide) (side : FaceSide) (met' : List Bool) (sides' : List FaceSide) → Meets met sides side met' sides' → (d : ℕ) (odd : Bool) → IsMet met' d odd → IsMet met d odd ⊎ ((side.dart.0 ≡ d) × (side.odd ≡ odd) × Contains sides' side)
 met_cases met sides side met' sides' (before a e f) d odd m = inl (ap (λ met. mark_at met (place d odd)) (sym e) ∙ m)
 met_cases met sides side met' sides' (now a e f) d odd m = elim (cases_eq (place d odd) (place side.dart.0 side.odd)) [
   | inl z ↦ let p = place_same d side.dart.0 odd side.odd z in inr (sym p.0, sym p.1, subst (λ x. Contains x side) (sym f) (Contains-push sides side))
@@ -65,7 +65,7 @@ met_cases met sides side met' sides' (now a e f) d odd m = elim (cases_eq (place
 ]
 
 module _ (map : Map) (known : IsHalfMap map) (base : Dart) (counts : ℕ → ℕ → Bool) where
-  abbrev Searching : List Bool → List Side → (ℕ → Bool → Type 0) → Type 0
+  abbrev Searching : List Bool → List FaceSide → (ℕ → Bool → Type 0) → Type 0
   Searching = IsChaining map base counts
 
   abbrev Goes : ℕ → ℕ → Bool → ℕ → ℕ → Bool → Type 0
@@ -75,7 +75,7 @@ module _ (map : Map) (known : IsHalfMap map) (base : Dart) (counts : ℕ → ℕ
   Reached = Reaches map.lists counts base
 
   -- one side more is met
-  pub meets_on : (met : List Bool) (sides : List Side) (side : Side) (met' : List Bool) (sides' : List Side) (open_at : ℕ → Bool → Type 0) → Meets met sides side met' sides' → place side.dart.0 side.odd < length met → ((x y : ℕ) → dart_at map side.dart.0 ≡ Some (x, y) → Reached x y side.odd) → Searching met sides open_at → Searching met' sides' open_at
+  pub meets_on : (met : List Bool) (sides : List FaceSide) (side : FaceSide) (met' : List Bool) (sides' : List FaceSide) (open_at : ℕ → Bool → Type 0) → Meets met sides side met' sides' → place side.dart.0 side.odd < length met → ((x y : ℕ) → dart_at map side.dart.0 ≡ Some (x, y) → Reached x y side.odd) → Searching met sides open_at → Searching met' sides' open_at
   meets_on met sides side met' sides' open_at m l reached h = record {
     sound = λ d odd x y e on. elim (met_cases met sides side met' sides' m d odd on) [
       | inl a ↦ h.sound d odd x y e a
@@ -97,13 +97,13 @@ module _ (map : Map) (known : IsHalfMap map) (base : Dart) (counts : ℕ → ℕ
   }
 
   -- a side is taken off the stack
-  pub taken : (met : List Bool) (sides : List Side) (side : Side) → Searching met (sides ++ side ∷ []) (λ d odd. ⊥) → Searching met sides (λ d odd. (side.dart.0 ≡ d) × (side.odd ≡ odd))
+  pub taken : (met : List Bool) (sides : List FaceSide) (side : FaceSide) → Searching met (sides ++ side ∷ []) (λ d odd. ⊥) → Searching met sides (λ d odd. (side.dart.0 ≡ d) × (side.odd ≡ odd))
   taken met sides side h = record {
     sound = h.sound;
     closed = λ d odd x y e on. elim (h.closed d odd x y e on) [
       | inl w ↦ elim (Contains-push_cases sides side w.0 w.1) [
         | inl a ↦ inl (w.0, a, w.2, w.3)
-        | inr a ↦ inr (inl (ap (λ (s : Side). s.dart.0) a ∙ w.2, ap (λ (s : Side). s.odd) a ∙ w.3))
+        | inr a ↦ inr (inl (ap (λ (s : FaceSide). s.dart.0) a ∙ w.2, ap (λ (s : FaceSide). s.odd) a ∙ w.3))
       ]
       | inr (inl o) ↦ absurd o
       | inr (inr all) ↦ inr (inr all)
@@ -113,7 +113,7 @@ module _ (map : Map) (known : IsHalfMap map) (base : Dart) (counts : ℕ → ℕ
   }
 
   -- it is done with
-  pub closes : (met : List Bool) (sides : List Side) (side : Side) → Searching met sides (λ d odd. (side.dart.0 ≡ d) × (side.odd ≡ odd)) → ((x y : ℕ) → dart_at map side.dart.0 ≡ Some (x, y) → (d' : ℕ) (odd' : Bool) (x' y' : ℕ) → dart_at map d' ≡ Some (x', y') → Goes x y side.odd x' y' odd' → IsMet met d' odd') → Searching met sides (λ d odd. ⊥)
+  pub closes : (met : List Bool) (sides : List FaceSide) (side : FaceSide) → Searching met sides (λ d odd. (side.dart.0 ≡ d) × (side.odd ≡ odd)) → ((x y : ℕ) → dart_at map side.dart.0 ≡ Some (x, y) → (d' : ℕ) (odd' : Bool) (x' y' : ℕ) → dart_at map d' ≡ Some (x', y') → Goes x y side.odd x' y' odd' → IsMet met d' odd') → Searching met sides (λ d odd. ⊥)
   closes met sides side h all = record {
     sound = h.sound;
     closed = λ d odd x y e on. elim (h.closed d odd x y e on) [
@@ -135,7 +135,7 @@ module _ (map : Map) (known : IsHalfMap map) (base : Dart) (counts : ℕ → ℕ
       by d (over ex ey e) = subst (λ x. HasDart map.lists x y) (sym ex) (subst (HasDart map.lists y') (sym ey) (known.simple.both_ways x' y' d))
 
   -- all is met in the end
-  pub finished : (met : List Bool) (sides : List Side) → HasDart map.lists base.0 base.1 → sides ≡ [] → Searching met sides (λ d odd. ⊥) → AreReached map base counts met
+  pub finished : (met : List Bool) (sides : List FaceSide) → HasDart map.lists base.0 base.1 → sides ≡ [] → Searching met sides (λ d odd. ⊥) → AreReached map base counts met
   finished met sides base_has none h = λ d odd x y e. (h.sound d odd x y e, λ r. all r.0 d odd x y e r.1)
     where
       all : (k : ℕ) (d : ℕ) (odd : Bool) (x y : ℕ) → dart_at map d ≡ Some (x, y) → ReachesBy map.lists counts base k x y odd → IsMet met d odd
@@ -149,11 +149,11 @@ module _ (map : Map) (known : IsHalfMap map) (base : Dart) (counts : ℕ → ℕ
             | inr (inr go) ↦ go d odd x y e g
           ]
         where
-          nothing : (s : Side) → ¬ Contains [] s
+          nothing : (s : FaceSide) → ¬ Contains [] s
           nothing s m = absurd (not_in_none m)
 
   -- from a side that is taken off
-  module _ (says : DartId → Bool → Type 0) (tells : Tells map says counts) (side : Side) (met : List Bool) (sides : List Side) (met' : List Bool) (sides' : List Side) (from : GoesFrom map says side met sides met' sides') (long : length met ≡ 2 * id_bound map) (x y : ℕ) (dart : dart_at map side.dart.0 ≡ Some (x, y)) where
+  module _ (says : DartId → Bool → Type 0) (tells : Tells map says counts) (side : FaceSide) (met : List Bool) (sides : List FaceSide) (met' : List Bool) (sides' : List FaceSide) (from : GoesFrom map says side met sides met' sides') (long : length met ≡ 2 * id_bound map) (x y : ℕ) (dart : dart_at map side.dart.0 ≡ Some (x, y)) where
     first_dart : dart_at map from.first.dart.0 ≡ Some (y, follows map.lists y x)
     first_dart = from.along.dart ∙ ap (option_map (face_step map.lists)) dart
 
@@ -192,7 +192,7 @@ module _ (map : Map) (known : IsHalfMap map) (base : Dart) (counts : ℕ → ℕ
             subst (λ d. IsMet met' d odd') (sym id) (subst (IsMet met' from.second.dart.0) (second_odd ∙ sym eo) on2)
 
   -- the start
-  pub starts : (met : List Bool) (side : Side) (met' : List Bool) (sides' : List Side) → dart_at map side.dart.0 ≡ Some base → side.odd ≡ false → ((i : ℕ) → mark_at met i ≡ false) → length met ≡ 2 * id_bound map → Meets met [] side met' sides' → Searching met' sides' (λ d odd. ⊥)
+  pub starts : (met : List Bool) (side : FaceSide) (met' : List Bool) (sides' : List FaceSide) → dart_at map side.dart.0 ≡ Some base → side.odd ≡ false → ((i : ℕ) → mark_at met i ≡ false) → length met ≡ 2 * id_bound map → Meets met [] side met' sides' → Searching met' sides' (λ d odd. ⊥)
   starts met side met' sides' dart even unset long m =
       let small : place side.dart.0 side.odd < length met = let p = place_live map known side.dart.0 side.odd base dart in omega arith in
       let on = met_now met [] side met' sides' m small in
@@ -215,10 +215,10 @@ module _ (map : Map) (known : IsHalfMap map) (base : Dart) (counts : ℕ → ℕ
       }
 
 -- what waits is live
-pub live_first : (map : Map) (met : List Bool) (side : Side) (met' : List Bool) (sides' : List Side) → IsLive map side.dart.0 → Meets met [] side met' sides' → (s : Side) → Contains sides' s → IsLive map s.dart.0
+pub live_first : (map : Map) (met : List Bool) (side : FaceSide) (met' : List Bool) (sides' : List FaceSide) → IsLive map side.dart.0 → Meets met [] side met' sides' → (s : FaceSide) → Contains sides' s → IsLive map s.dart.0
 live_first map met side met' sides' l m s q = elim (waits_cases met [] side met' sides' m s q) [ inl a ↦ absurd (not_in_none a) | inr a ↦ subst (λ s. IsLive map s.dart.0) a l ]
 
-pub live_on : (map : Map) (known : IsHalfMap map) (says : DartId → Bool → Type 0) (side : Side) (met : List Bool) (sides : List Side) (met' : List Bool) (sides' : List Side) → GoesFrom map says side met sides met' sides' → IsLive map side.dart.0 → ((s : Side) → Contains sides s → IsLive map s.dart.0) → (s : Side) → Contains sides' s → IsLive map s.dart.0
+pub live_on : (map : Map) (known : IsHalfMap map) (says : DartId → Bool → Type 0) (side : FaceSide) (met : List Bool) (sides : List FaceSide) (met' : List Bool) (sides' : List FaceSide) → GoesFrom map says side met sides met' sides' → IsLive map side.dart.0 → ((s : FaceSide) → Contains sides s → IsLive map s.dart.0) → (s : FaceSide) → Contains sides' s → IsLive map s.dart.0
 live_on map known says side met sides met' sides' from l h s q =
     let one = live_after map known side.dart.0 from.first.dart.0 (face_step map.lists) l from.along.dart in
     let two = live_after map known side.dart.0 from.second.dart.0 twin_dart l from.across.dart in
@@ -231,7 +231,7 @@ live_on map known says side met sides met' sides' from l h s q =
     ]
 
 -- there is less to do
-pub work_less : (map : Map) (known : IsHalfMap map) (says : DartId → Bool → Type 0) (side : Side) (met : List Bool) (sides : List Side) (met' : List Bool) (sides' : List Side) → GoesFrom map says side met sides met' sides' → IsLive map side.dart.0 → length met ≡ 2 * id_bound map → (length met' ≡ length met) × (work met' sides' ≤ work met sides)
+pub work_less : (map : Map) (known : IsHalfMap map) (says : DartId → Bool → Type 0) (side : FaceSide) (met : List Bool) (sides : List FaceSide) (met' : List Bool) (sides' : List FaceSide) → GoesFrom map says side met sides met' sides' → IsLive map side.dart.0 → length met ≡ 2 * id_bound map → (length met' ≡ length met) × (work met' sides' ≤ work met sides)
 work_less map known says side met sides met' sides' from l long =
     let one = live_after map known side.dart.0 from.first.dart.0 (face_step map.lists) l from.along.dart in
     let two = live_after map known side.dart.0 from.second.dart.0 twin_dart l from.across.dart in
@@ -244,9 +244,9 @@ work_less map known says side met sides met' sides' from l long =
     (l2 ∙ l1, omega arith)
 
 -- a side less on the stack
-pub work_taken : (met : List Bool) (sides : List Side) (side : Side) → work met (sides ++ side ∷ []) ≡ work met sides + 1
+pub work_taken : (met : List Bool) (sides : List FaceSide) (side : FaceSide) → work met (sides ++ side ∷ []) ≡ work met sides + 1
 work_taken met sides side = omega (arith, length_of sides side)
   where
-    length_of : (sides : List Side) (side : Side) → length (sides ++ side ∷ []) ≡ length sides + 1
+    length_of : (sides : List FaceSide) (side : FaceSide) → length (sides ++ side ∷ []) ≡ length sides + 1
     length_of [] side = refl
     length_of (s ∷ sides) side = omega (arith, length_of sides side)

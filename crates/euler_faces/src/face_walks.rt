@@ -1,113 +1,100 @@
-//! Makes the faces of a half-edge map: walks along the face step, numbered by their first darts.
-ghost use Rattle.std.specs.Prelude.{◌≡◌, ◌<◌, ◌+◌, ℕ, [], length, false, IfOk, OnOk};
-ghost use Rattle.classes.specs.Classes.{class_count};
-ghost use Rattle.map_theory.specs.Maps.{darts_before, face_classes};
-ghost use Rattle.half_edges.specs.Map.{IsLive, id_bound};
-ghost use Rattle.euler_faces.specs.Numbers.{number_at, mark_at};
-ghost use Rattle.euler_faces.specs.FaceWalks.{AreFaces, AreNumbered};
-ghost use Rattle.euler_faces.specs.FaceSearch.{AreWalked, with_face};
+//! The faces of a map as the type `Faces`: the walk of each face, and the face of each dart.
+ghost use Rattle.std.specs.Prelude.{◌≡◌, ◌<◌, ℕ, [], ◌∷◌, ◌++◌, length, All, Contains, OnOk};
+ghost use Rattle.euler_faces.specs.FaceWalks.{ids_of, walk_at};
 
-use crate::walks::{Faces, Walk};
-use half_edges::{DartId, HalfMap, VertexId};
+use half_edges::{DartId, FaceId};
+use smallvec::SmallVec;
 use std::alloc::{AllocError, Global};
+use std::marker::Model;
 
-// Stands in place of the face of a dart that was not met yet.
-const NO_FACE: u32 = u32::MAX;
-
-// A map whose faces are walked, and what their walks get memory from.
-#[derive(Clone, Copy)]
-struct Walking<'a> {
-    alloc: Global,
-    map: &'a HalfMap,
+// Darts in the order of a walk, at most four with no memory of their own. Contracts see the numbers of
+// their ids.
+#[derive(Drop)]
+pub(crate) struct Walk {
+    darts: SmallVec<DartId, 4>,
 }
 
-impl Walking<'_> {
-    // Appends the walk of the face of `start` to `walks`, if that has no face in `of` yet, and writes its number at its
-    // darts' ids. Where the darts before `start` have their faces, it is the least dart of its own.
-    fn add_dart(
-        &self,
-        of: &mut [u32],
-        walks: &mut Vec<Walk>,
-        start: DartId,
-    ) -> Result<(), AllocError>
-        requires live { IsLive self.now.map.now start.0 }
-        requires walking { AreWalked self.now.map.now walks.old.items of.old (number_at self.now.map.now start.0) }
-        ensures { OnOk result (AreWalked self.now.map.now walks.new.items of.new (number_at self.now.map.now start.0 + 1)) }
+impl Model for Walk {
+    ghost use Rattle.std.specs.Prelude.{ℕ, List};
+    ghost use Rattle.euler_faces.specs.FaceWalks.{ids_of};
+
+    ghost Value = { List ℕ };
+
+    ghost view = { λ w. ids_of w.darts.items };
+}
+
+impl Walk {
+    // Returns a walk of no darts. It takes no memory.
+    pub(crate) fn new(alloc: Global) -> Walk
+        ensures { result ≡ [] }
     {
-        let map = self.map;
-        map.facts();
-        if of[start.0 as usize] != NO_FACE {
-            return Ok(());
+        Walk {
+            darts: SmallVec::new(alloc),
         }
-        let f = walks.len() as u32;
-        let mut walk = Walk::new(self.alloc);
-        let mut d = start;
-        while of[d.0 as usize] == NO_FACE {
-            of[d.0 as usize] = f;
-            walk.push(d)?;
-            d = map.face_step(d);
-        }
-        walks.push(walk)?;
+    }
+
+    // Appends dart `d`.
+    pub(crate) fn push(&mut self, d: DartId) -> Result<(), AllocError>
+        ensures { OnOk result (self.new ≡ self.old ++ d.0 ∷ []) }
+    {
+        self.darts.push(d)?;
         Ok(())
     }
 
-    // Appends the walks of the faces whose least dart is one of those from `v` to `walks`, and numbers them in `of`.
-    // The darts of the vertices before have their faces.
-    fn add_vertex(
-        &self,
-        of: &mut [u32],
-        walks: &mut Vec<Walk>,
-        v: VertexId,
-    ) -> Result<(), AllocError>
-        requires v_in { v.0 < length self.now.map.now.lists }
-        requires walking { AreWalked self.now.map.now walks.old.items of.old (darts_before self.now.map.now.lists v.0) }
-        ensures { OnOk result (AreWalked self.now.map.now walks.new.items of.new (darts_before self.now.map.now.lists (v.0 + 1))) }
+    // Returns the darts in the order of the walk.
+    pub(crate) fn as_slice(&self) -> &[DartId]
+        ensures { ids_of result.now ≡ self.now }
     {
-        self.map.facts();
-        let Some(first) = self.map.first_dart(v) else {
-            return Ok(());
-        };
-        let mut d = first;
-        'round: loop {
-            self.add_dart(of, walks, d)?;
-            d = self.map.next(d);
-            if d.0 == first.0 {
-                return Ok(());
-            }
-        }
-    }
-
-    // Appends the walks of all faces to `walks`, which is empty, and numbers them in `of`, which has no face yet.
-    fn add_all(&self, of: &mut [u32], walks: &mut Vec<Walk>) -> Result<(), AllocError>
-        requires size { length of.old ≡ id_bound self.now.map.now }
-        requires unset { (i : ℕ) → mark_at (with_face of.old) i ≡ false }
-        requires none { walks.old.items ≡ [] }
-        ensures faces { OnOk result (AreFaces self.now.map.now walks.new.items) }
-        ensures count { OnOk result (length walks.new.items ≡ class_count (face_classes self.now.map.now.lists)) }
-        ensures numbered { OnOk result (AreNumbered walks.new.items of.new) }
-    {
-        self.map.facts();
-        for v in 0..self.map.n() {
-            self.add_vertex(of, walks, VertexId(v))?;
-        }
-        Ok(())
+        self.darts.as_slice()
     }
 }
 
-/// Returns the faces of a map. It fails only when out of memory. The time is linear in the darts, and so is the memory.
+/// The faces of a map: the orbits of the face step, each as a walk along it.
 ///
-/// Each walk begins at its first dart in the order of the lists, and the walks stand in the order of those
-/// darts.
-pub fn faces(alloc: Global, map: &HalfMap) -> Result<Faces, AllocError>
-    ensures walks { IfOk result (AreFaces map.now) }
-    ensures count { IfOk result (λ faces. length faces ≡ class_count (face_classes map.now.lists)) }
-{
-    let ids = 2 * (map.m() as usize + map.spare() as usize);
-    let mut of = vec![in alloc; NO_FACE; ids]?;
-    // a connected map of genus zero has just so many faces
-    let faces = (map.m() as usize + 2).saturating_sub(map.n() as usize);
-    let mut walks = Vec::with_capacity(alloc, faces)?;
-    let walking = Walking { alloc, map };
-    walking.add_all(&mut of, &mut walks)?;
-    Ok(Faces { walks, of })
+/// Contracts see the walks as lists of the numbers of ids. An isolated vertex has no dart, so its face
+/// has no walk. A face keeps its id as long as the `Faces` lives, and an edit of the map leaves the walks
+/// as they were.
+#[derive(Drop)]
+pub struct Faces {
+    pub(crate) walks: Vec<Walk>,
+    // for each id of a dart the number of its face
+    pub(crate) of: Vec<u32>,
+}
+
+impl Model for Faces {
+    ghost use Rattle.std.specs.Prelude.{ℕ, List};
+    ghost use Rattle.euler_faces.specs.FaceWalks.{AreNumbered};
+
+    ghost Value = { List (List ℕ) };
+
+    ghost view = { λ faces. faces.walks.items };
+
+    ghost invariant = { λ faces. AreNumbered faces.walks.items faces.of.items };
+}
+
+impl Faces {
+    /// Returns the number of walks. Faces have the ids with the numbers below it.
+    pub fn count(&self) -> u32
+        ensures { result ≡ length self.now }
+    {
+        self.walks.len() as u32
+    }
+
+    /// Returns the face of dart `d`, which was live in the map.
+    pub fn of_dart(&self, d: DartId) -> FaceId
+        requires { (f : ℕ) × (f < length self.now) × Contains (walk_at self.now f) d.0 }
+        ensures face { result.0 < length self.now }
+        ensures stands { Contains (walk_at self.now result.0) d.0 }
+    {
+        FaceId(self.of[d.0 as usize])
+    }
+
+    /// Returns the darts of face `f` in the order of the face step, from the first in the order of the lists.
+    pub fn walk(&self, f: FaceId) -> &[DartId]
+        requires { f.0 < length self.now }
+        ensures walk { ids_of result.now ≡ walk_at self.now f.0 }
+        ensures stands { All (λ d. Contains (walk_at self.now f.0) d.0) result.now }
+    {
+        self.walks[f.0 as usize].as_slice()
+    }
 }

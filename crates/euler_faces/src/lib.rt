@@ -2,18 +2,18 @@
 //! faces of a map as walks along the face step, and a search of them by chains of faces.
 #![tactic(auto)]
 
-mod chains;
-mod components;
-mod count;
+mod component_search;
+mod euler_counts;
+mod face_chains;
+mod face_counts;
 mod face_walks;
-mod map_faces;
-mod orbits;
-mod slots;
-mod walks;
+mod found_faces;
+mod half_map_counts;
+mod stored_map;
 
-pub use chains::mark_reached;
-pub use components::{UNMET, number_components};
-pub use count::{Counter, EulerCount, count_lists, euler, euler_by_twins};
-pub use face_walks::faces;
-pub use map_faces::euler_by_components;
-pub use walks::Faces;
+pub use component_search::{UNMET, number_components};
+pub use euler_counts::{Counter, EulerCount, count_lists, euler, euler_by_twins};
+pub use face_chains::mark_reached;
+pub use face_walks::Faces;
+pub use found_faces::faces;
+pub use half_map_counts::euler_by_components;

@@ -6,7 +6,7 @@ use Rattle.std.specs.List.{sum_by}
 use Rattle.std.proofs.lemmas.List.{drop-drop, drop_more}
 use Rattle.std.proofs.lemmas.List.Sums.{sum_by_more}
 use Rattle.map_lists.specs.Lists.{Lists}
-use Rattle.figure_text.specs.declared.piece.Piece.{Piece}
+use Rattle.figure_text.specs.declared.front_pieces.Piece.{Piece}
 use Rattle.figure_text.specs.Text.{joined, first_line, vertex_line, vertex_lines, fronts_room}
 use Rattle.figure_text.proofs.TextLemmas.{vertex_lines-more}
 

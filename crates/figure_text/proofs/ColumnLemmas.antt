@@ -3,9 +3,9 @@ use Rattle.std.proofs.Common.{◌≡◌, ℕ, ℤ, List, [], ◌∷◌, ◌++◌
 use Rattle.std.specs.Prelude.{codes, All, IsTrue}
 use Rattle.std.specs.Fmt.{signed_decimal}
 use Rattle.std.proofs.lemmas.List.Elements.{All-map, All-weaker, All-head, All-tail}
-use Rattle.figure_text.specs.declared.words.Word.{Word}
-use Rattle.figure_text.specs.declared.words.Word.TheVariants.{Number, Named}
-use Rattle.figure_text.specs.declared.words.Name.TheVariants.{Columns}
+use Rattle.figure_text.specs.declared.line_words.Word.{Word}
+use Rattle.figure_text.specs.declared.line_words.Word.TheVariants.{Number, Named}
+use Rattle.figure_text.specs.declared.line_words.Name.TheVariants.{Columns}
 use Rattle.figure_text.specs.Words.{word_of, words_of}
 use Rattle.figure_text.specs.Lines.{is_number, IsInside, IsColumnsLine, ColumnsInRange, integer_of}
 use Rattle.figure_text.specs.Reading.{IsPlain}

@@ -7,15 +7,15 @@ use Rattle.std.proofs.Math.ListN.{get_or-append}
 use Rattle.std.proofs.Math.Seq.{get_or-append_seam, drop-append_seam}
 use Rattle.std.specs.Prelude.{All, IsTrue}
 use Rattle.map_lists.specs.Lists.{Lists}
-use Rattle.figure_text.specs.declared.judge.Kind.{Kind}
-use Rattle.figure_text.specs.declared.judge.Kind.TheVariants.{Grid, Bars, Rects, Witness}
-use Rattle.figure_text.specs.declared.line_front.LineFront.{LineFront}
-use Rattle.figure_text.specs.declared.piece.Piece.{Piece}
-use Rattle.figure_text.specs.declared.piece.Piece.TheVariants.{Place, Literal, Row, Value, Last}
-use Rattle.figure_text.specs.declared.rows.Draft.{Draft}
-use Rattle.figure_text.specs.declared.words.Next.{Next}
-use Rattle.figure_text.specs.declared.words.Word.{Word}
-use Rattle.figure_text.specs.declared.words.Word.TheVariants.{Other}
+use Rattle.figure_text.specs.declared.line_shapes.Kind.{Kind}
+use Rattle.figure_text.specs.declared.line_shapes.Kind.TheVariants.{Grid, Bars, Rects, Witness}
+use Rattle.figure_text.specs.declared.vertex_fronts.LineFront.{LineFront}
+use Rattle.figure_text.specs.declared.front_pieces.Piece.{Piece}
+use Rattle.figure_text.specs.declared.front_pieces.Piece.TheVariants.{Place, Literal, Row, Value, Last}
+use Rattle.figure_text.specs.declared.vertex_lines.Draft.{Draft}
+use Rattle.figure_text.specs.declared.line_words.Next.{Next}
+use Rattle.figure_text.specs.declared.line_words.Word.{Word}
+use Rattle.figure_text.specs.declared.line_words.Word.TheVariants.{Other}
 use Rattle.figure_text.specs.Words.{word_at, words_left, words_of}
 use Rattle.figure_text.specs.Lines.{size, is_natural, integer_of, vertex_of, IsVertex}
 use Rattle.figure_text.specs.Pieces.{pieces, front_length, Fits, IsWithin, Along, is_long}

@@ -5,15 +5,15 @@ use Rattle.std.proofs.lemmas.Bool.{cases_lt, true≢false}
 use Rattle.std.proofs.lemmas.List.{get_or-drop}
 use Rattle.std.proofs.lemmas.List.Elements.{All-get_or}
 use Rattle.std.specs.Prelude.{All, IsTrue}
-use Rattle.figure_text.specs.declared.piece.Piece.{Piece}
-use Rattle.figure_text.specs.declared.piece.Piece.TheVariants.{Place, Literal, Row, Value, Last}
-use Rattle.figure_text.specs.declared.words.Name.{Name}
-use Rattle.figure_text.specs.declared.words.Word.{Word}
-use Rattle.figure_text.specs.declared.words.Word.TheVariants.{Number, Closing, Named, Other}
-use Rattle.figure_text.specs.declared.judge.Judged.{Judged}
-use Rattle.figure_text.specs.declared.judge.Judged.TheVariants.{Good, Bad, Limit}
-use Rattle.figure_text.specs.declared.judge.Kind.{Kind}
-use Rattle.figure_text.specs.declared.judge.Kind.TheVariants.{Grid, Bars, Rects, Witness}
+use Rattle.figure_text.specs.declared.front_pieces.Piece.{Piece}
+use Rattle.figure_text.specs.declared.front_pieces.Piece.TheVariants.{Place, Literal, Row, Value, Last}
+use Rattle.figure_text.specs.declared.line_words.Name.{Name}
+use Rattle.figure_text.specs.declared.line_words.Word.{Word}
+use Rattle.figure_text.specs.declared.line_words.Word.TheVariants.{Number, Closing, Named, Other}
+use Rattle.figure_text.specs.declared.line_shapes.Judged.{Judged}
+use Rattle.figure_text.specs.declared.line_shapes.Judged.TheVariants.{Good, Bad, Limit}
+use Rattle.figure_text.specs.declared.line_shapes.Kind.{Kind}
+use Rattle.figure_text.specs.declared.line_shapes.Kind.TheVariants.{Grid, Bars, Rects, Witness}
 use Rattle.figure_text.specs.Words.{word_at, words_of, HasOther}
 use Rattle.figure_text.specs.Lines.{is_natural, is_number, is_closing, row_name, kind_of, IsTail, IsFirstLine, IsColumnsLine}
 use Rattle.figure_text.specs.Pieces.{pieces, front_length, Fits}

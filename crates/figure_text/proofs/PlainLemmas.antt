@@ -5,10 +5,10 @@ use Rattle.std.proofs.lemmas.List.Elements.{All-push, All-weaker}
 use Rattle.std.specs.Prelude.{min, ℤ, pos, All, IsTrue, false}
 use Rattle.std.proofs.lemmas.Bool.Decides.{nat_tests}
 use Rattle.map_lists.specs.Lists.{Lists}
-use Rattle.figure_text.specs.declared.words.Digits.{Digits}
-use Rattle.figure_text.specs.declared.words.Word.{Word}
-use Rattle.figure_text.specs.declared.words.Word.TheVariants.{Number, Named}
-use Rattle.figure_text.specs.declared.words.Name.TheVariants.{Columns}
+use Rattle.figure_text.specs.declared.line_words.Digits.{Digits}
+use Rattle.figure_text.specs.declared.line_words.Word.{Word}
+use Rattle.figure_text.specs.declared.line_words.Word.TheVariants.{Number, Named}
+use Rattle.figure_text.specs.declared.line_words.Name.TheVariants.{Columns}
 use Rattle.figure_text.specs.Words.{words_left, words_of}
 use Rattle.figure_text.specs.Lines.{is_number, vertex_of, integer_of, IsInside, IsColumnsLine, ColumnsInRange}
 use Rattle.figure_text.specs.Plain.{IsVertexAt, IsNeighbour, IsCoordinateAt, IsCoordinateWord}

@@ -4,13 +4,13 @@ use Rattle.std.specs.Prelude.{codes, decimal, min, All, IsTrue}
 use Rattle.std.specs.Fmt.{signed_decimal}
 use Rattle.std.proofs.lemmas.List.{map-append}
 use Rattle.std.proofs.lemmas.List.Elements.{All-nil, All-cons, All-append, All-map, All-weaker, All-head, All-tail, All-from_recursion}
-use Rattle.figure_text.specs.declared.judge.Kind.{Kind}
-use Rattle.figure_text.specs.declared.piece.Piece.{Piece}
-use Rattle.figure_text.specs.declared.piece.Piece.TheVariants.{Place, Literal, Row, Value, Last}
-use Rattle.figure_text.specs.declared.words.Name.{Name}
-use Rattle.figure_text.specs.declared.words.Name.TheVariants as name
-use Rattle.figure_text.specs.declared.words.Word.{Word}
-use Rattle.figure_text.specs.declared.words.Word.TheVariants.{Number, Closing, Named}
+use Rattle.figure_text.specs.declared.line_shapes.Kind.{Kind}
+use Rattle.figure_text.specs.declared.front_pieces.Piece.{Piece}
+use Rattle.figure_text.specs.declared.front_pieces.Piece.TheVariants.{Place, Literal, Row, Value, Last}
+use Rattle.figure_text.specs.declared.line_words.Name.{Name}
+use Rattle.figure_text.specs.declared.line_words.Name.TheVariants as name
+use Rattle.figure_text.specs.declared.line_words.Word.{Word}
+use Rattle.figure_text.specs.declared.line_words.Word.TheVariants.{Number, Closing, Named}
 use Rattle.figure_text.specs.Words.{word_of, words_of, parts_of}
 use Rattle.figure_text.specs.Lines.{is_natural, row_name, vertex_of, signed_value, IsVertex}
 use Rattle.figure_text.specs.Pieces.{pieces, front_length, Fits, IsWithin, Along, is_long}

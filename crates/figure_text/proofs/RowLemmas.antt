@@ -5,9 +5,9 @@ use Rattle.std.proofs.lemmas.List.Elements.{All-push}
 use Rattle.std.proofs.lemmas.Grind.{flat_map-append}
 use Rattle.std.proofs.Math.ListN.{get_or-append}
 use Rattle.std.proofs.Math.Seq.{get_or-append_seam}
-use Rattle.figure_text.specs.declared.judge.Kind.{Kind}
-use Rattle.figure_text.specs.declared.judge.Kind.TheVariants.{Grid, Bars, Rects, Witness}
-use Rattle.figure_text.specs.declared.words.Word.{Word}
+use Rattle.figure_text.specs.declared.line_shapes.Kind.{Kind}
+use Rattle.figure_text.specs.declared.line_shapes.Kind.TheVariants.{Grid, Bars, Rects, Witness}
+use Rattle.figure_text.specs.declared.line_words.Word.{Word}
 use Rattle.figure_text.specs.Words.{words_of}
 use Rattle.figure_text.specs.Reading.{closed, IsPlain, IsGoodRow, Rows, of_lines}
 use Rattle.figure_text.specs.Drafts.{drafted, with_row}

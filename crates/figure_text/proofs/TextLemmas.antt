@@ -5,10 +5,10 @@ use Rattle.std.proofs.lemmas.Bool.Decides.{nat_tests}
 use Rattle.std.proofs.lemmas.Grind.{flat_map-append}
 use Rattle.map_lists.specs.Lists.{Lists}
 use Rattle.map_lists.specs.declared.ids.VertexId.{VertexId}
-use Rattle.figure_text.specs.declared.piece.Piece.{Piece}
+use Rattle.figure_text.specs.declared.front_pieces.Piece.{Piece}
 use Rattle.kuratowski.specs.declared.witness.Witness.{Witness}
-use Rattle.figure_text.specs.declared.words.Name.{Name}
-use Rattle.figure_text.specs.declared.words.Name.TheVariants as name
+use Rattle.figure_text.specs.declared.line_words.Name.{Name}
+use Rattle.figure_text.specs.declared.line_words.Name.TheVariants as name
 use Rattle.figure_text.specs.Lines.{row_name}
 use Rattle.figure_text.specs.Pieces.{row_front}
 use Rattle.figure_text.specs.Text.{joined, name_text, front_words, vertex_line, vertex_lines, vertex_numbers, witness_lists, witness_lines}

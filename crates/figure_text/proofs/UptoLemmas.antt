@@ -4,8 +4,8 @@ use Rattle.std.proofs.lemmas.List.{take_more}
 use Rattle.std.proofs.lemmas.List.Elements.{All-nil, All-push}
 use Rattle.std.proofs.lemmas.Grind.{flat_map-append}
 use Rattle.std.specs.Prelude.{All}
-use Rattle.figure_text.specs.declared.judge.Kind.{Kind}
-use Rattle.figure_text.specs.declared.words.Word.{Word}
+use Rattle.figure_text.specs.declared.line_shapes.Kind.{Kind}
+use Rattle.figure_text.specs.declared.line_words.Word.{Word}
 use Rattle.figure_text.specs.Words.{words_of}
 use Rattle.figure_text.specs.Text.{texts}
 use Rattle.figure_text.specs.Reading.{closed, IsPlain, IsGoodRow, Rows, of_lines}

@@ -14,8 +14,8 @@ use Rattle.kuratowski.specs.declared.witness.Kind.TheVariants.{K5 as FiveJoined,
 use Rattle.kuratowski.specs.declared.witness.Witness.{Witness as AWitness}
 use Rattle.kuratowski.specs.Witnesses.{branch_count, pairs_of}
 use Rattle.figure_text.specs.declared.figure.Figure.TheVariants.{Witness as WitnessFigure}
-use Rattle.figure_text.specs.declared.words.Name.TheVariants as name
-use Rattle.figure_text.specs.declared.judge.Kind.TheVariants.{Witness}
+use Rattle.figure_text.specs.declared.line_words.Name.TheVariants as name
+use Rattle.figure_text.specs.declared.line_shapes.Kind.TheVariants.{Witness}
 use Rattle.figure_text.specs.Words.{word_of, parts_of, part_at}
 use Rattle.figure_text.specs.Lines.{kind_of, is_graph_shaped, IsTail, TailInRange}
 use Rattle.figure_text.specs.Reading.{IsPlain}

@@ -1,9 +1,9 @@
 -- What lines have given while they are read one by one.
 use Rattle.std.specs.Prelude.{ℕ, ℤ, List, [], ◌∷◌, ◌++◌}
-use Rattle.figure_text.specs.declared.judge.Kind.{Kind}
-use Rattle.figure_text.specs.declared.judge.Kind.TheVariants.{Grid, Bars, Rects, Witness}
-use Rattle.figure_text.specs.declared.rows.Draft.{Draft}
-use Rattle.figure_text.specs.declared.words.Word.{Word}
+use Rattle.figure_text.specs.declared.line_shapes.Kind.{Kind}
+use Rattle.figure_text.specs.declared.line_shapes.Kind.TheVariants.{Grid, Bars, Rects, Witness}
+use Rattle.figure_text.specs.declared.vertex_lines.Draft.{Draft}
+use Rattle.figure_text.specs.declared.line_words.Word.{Word}
 use Rattle.figure_text.specs.Words.{word_at}
 use Rattle.figure_text.specs.Lines.{integer_of}
 use Rattle.figure_text.specs.Pieces.{front_length}

@@ -1,18 +1,18 @@
 -- The reading of a text from an offset on: a figure, a note, the end, or a bad place.
 use Rattle.std.specs.Prelude.{ℕ, ℤ, ◌+◌, ◌<◌, ◌≤◌, ◌≡◌, ◌⊎◌, IsTrue, IsFalse, List, [], ◌∷◌, ◌++◌, length, drop, map, slice_index_or, Some}
-use Rattle.pg_plane.specs.declared.figure.BarFigure.{BarFigure}
-use Rattle.pg_plane.specs.declared.figure.RectFigure.{RectFigure}
+use Rattle.pg_plane.specs.declared.figures.BarFigure.{BarFigure}
+use Rattle.pg_plane.specs.declared.figures.RectFigure.{RectFigure}
 use Rattle.figure_text.specs.declared.figure.Figure.{Figure}
 use Rattle.figure_text.specs.declared.figure.Figure.TheVariants.{Grid as GridFigure, Bars as BarsFigure, Rects as RectsFigure, Witness as WitnessFigure}
-use Rattle.figure_text.specs.declared.words.Word.{Word}
-use Rattle.figure_text.specs.declared.judge.Kind.{Kind}
-use Rattle.figure_text.specs.declared.judge.Kind.TheVariants.{Grid, Bars, Rects, Witness}
+use Rattle.figure_text.specs.declared.line_words.Word.{Word}
+use Rattle.figure_text.specs.declared.line_shapes.Kind.{Kind}
+use Rattle.figure_text.specs.declared.line_shapes.Kind.TheVariants.{Grid, Bars, Rects, Witness}
 use Rattle.figure_text.specs.declared.fault.TextFault.{TextFault}
 use Rattle.figure_text.specs.declared.fault.TextFault.TheVariants.{BadLine, EndInFigure, Limit, NoMemory}
-use Rattle.figure_text.specs.declared.read.Item.{Item}
-use Rattle.figure_text.specs.declared.read.Item.TheVariants.{Drawn, Note, End}
-use Rattle.figure_text.specs.declared.read.Columns.{Columns}
-use Rattle.figure_text.specs.declared.read.Columns.TheVariants.{Good as GoodColumns, Bad as BadColumns, Limit as FarColumns, NoMemory as NoColumns}
+use Rattle.figure_text.specs.declared.figure_ends.Item.{Item}
+use Rattle.figure_text.specs.declared.figure_ends.Item.TheVariants.{Drawn, Note, End}
+use Rattle.figure_text.specs.declared.figure_ends.Columns.{Columns}
+use Rattle.figure_text.specs.declared.figure_ends.Columns.TheVariants.{Good as GoodColumns, Bad as BadColumns, Limit as FarColumns, NoMemory as NoColumns}
 use Rattle.map_lists.specs.Lists.{Lists}
 use Rattle.map_lists.specs.declared.ids.VertexId.{VertexId}
 use Rattle.graph6_text.specs.Graphs.{EdgeGraph}

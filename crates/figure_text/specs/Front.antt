@@ -2,9 +2,9 @@
 use Rattle.std.specs.Prelude.{ℕ, ◌≡◌, ◌≤◌, IsTrue, IsFalse, List, Some}
 use Rattle.graph6_text.specs.Graphs.{EdgeGraph}
 use Rattle.graph6_text.specs.Lines.{IsLine as IsGraphLine}
-use Rattle.figure_text.specs.declared.judge.Kind.{Kind}
-use Rattle.figure_text.specs.declared.front.Front.{Front}
-use Rattle.figure_text.specs.declared.front.Front.TheVariants.{Note, Begins, Limit, Bad}
+use Rattle.figure_text.specs.declared.line_shapes.Kind.{Kind}
+use Rattle.figure_text.specs.declared.first_lines.Front.{Front}
+use Rattle.figure_text.specs.declared.first_lines.Front.TheVariants.{Note, Begins, Limit, Bad}
 use Rattle.figure_text.specs.Words.{words_of, part_at}
 use Rattle.figure_text.specs.Lines.{rows_due, kind_of, IsFirstLine, FirstInRange}
 use Rattle.figure_text.specs.Reading.{is_note}

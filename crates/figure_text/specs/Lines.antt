@@ -1,16 +1,16 @@
 -- Which shape a line of a figure has, by its words, and the ranges of its numbers.
 use Rattle.std.specs.Prelude.{ℕ, ℤ, pos, neg_ℤ, ◌+◌, ◌-◌, ◌≡◌, ◌≤◌, ◌==◌, nat_lt, Bool, true, false, not, min, if◌then◌else◌, IsTrue, List, length, drop, All, Option, Some, None, option_map}
 use Rattle.figure_text.specs.declared.figure.GridJob.TheVariants.{Shift as ByShift, Schnyder as BySchnyder, Convex as ByConvex}
-use Rattle.figure_text.specs.declared.words.Signed.{Signed}
-use Rattle.figure_text.specs.declared.words.Word.{Word}
-use Rattle.figure_text.specs.declared.words.Word.TheVariants.{Number, Closing, Named, Other}
-use Rattle.figure_text.specs.declared.words.Name.{Name}
-use Rattle.figure_text.specs.declared.words.Name.TheVariants.{Figure, Shift, Schnyder, Convex, Bars, Rect, Columns, Witness, K5, K33, Branch, Path}
-use Rattle.figure_text.specs.declared.judge.Kind.{Kind}
-use Rattle.figure_text.specs.declared.judge.Kind.TheVariants.{Grid, Bars as BarKind, Rects as RectKind, Witness as WitnessKind}
+use Rattle.figure_text.specs.declared.line_words.Signed.{Signed}
+use Rattle.figure_text.specs.declared.line_words.Word.{Word}
+use Rattle.figure_text.specs.declared.line_words.Word.TheVariants.{Number, Closing, Named, Other}
+use Rattle.figure_text.specs.declared.line_words.Name.{Name}
+use Rattle.figure_text.specs.declared.line_words.Name.TheVariants.{Figure, Shift, Schnyder, Convex, Bars, Rect, Columns, Witness, K5, K33, Branch, Path}
+use Rattle.figure_text.specs.declared.line_shapes.Kind.{Kind}
+use Rattle.figure_text.specs.declared.line_shapes.Kind.TheVariants.{Grid, Bars as BarKind, Rects as RectKind, Witness as WitnessKind}
 use Rattle.graph6_text.specs.Faults.{line_fault}
-use Rattle.graph6_text.specs.declared.line.G6Fault.{G6Fault}
-use Rattle.graph6_text.specs.declared.line.G6Fault.TheVariants.{TooMany}
+use Rattle.graph6_text.specs.declared.graph6_lines.G6Fault.{G6Fault}
+use Rattle.graph6_text.specs.declared.graph6_lines.G6Fault.TheVariants.{TooMany}
 use Rattle.kuratowski.specs.declared.witness.Kind.{Kind as Subdivided}
 use Rattle.kuratowski.specs.declared.witness.Kind.TheVariants.{K5 as FiveJoined, K33 as ThreeByThree}
 use Rattle.kuratowski.specs.Witnesses.{branch_count, pairs_of}

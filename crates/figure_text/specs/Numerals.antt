@@ -1,6 +1,6 @@
 -- The texts of small numbers behind a space, at the end of seven bytes.
 use Rattle.std.specs.Prelude.{ℕ, ◌≡◌, ◌-◌, ◌<◌, ◌≤◌, List, ◌∷◌, length, drop, decimal, slice_index_or}
-use Rattle.figure_text.specs.declared.numerals.Numeral.{Numeral}
+use Rattle.figure_text.specs.declared.number_texts.Numeral.{Numeral}
 
 -- the text of a number behind a space
 pub record IsNumeral (number : ℕ) (text : Numeral) : Type 0 where

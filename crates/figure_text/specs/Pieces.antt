@@ -1,12 +1,12 @@
 -- What stands before the neighbours in the line of a vertex: one description for each kind of figure.
 use Rattle.std.specs.Prelude.{ℕ, ◌≡◌, ◌<◌, Bool, true, IsTrue, List, [], ◌∷◌, length, slice_index_or}
-use Rattle.figure_text.specs.declared.judge.Kind.{Kind}
-use Rattle.figure_text.specs.declared.judge.Kind.TheVariants.{Grid, Bars, Rects, Witness}
-use Rattle.figure_text.specs.declared.piece.Piece.{Piece}
-use Rattle.figure_text.specs.declared.piece.Piece.TheVariants.{Place, Literal, Row, Value, Last}
-use Rattle.figure_text.specs.declared.words.Word.{Word}
-use Rattle.figure_text.specs.declared.words.Word.TheVariants.{Named}
-use Rattle.figure_text.specs.declared.words.Name.TheVariants.{At, X, Y}
+use Rattle.figure_text.specs.declared.line_shapes.Kind.{Kind}
+use Rattle.figure_text.specs.declared.line_shapes.Kind.TheVariants.{Grid, Bars, Rects, Witness}
+use Rattle.figure_text.specs.declared.front_pieces.Piece.{Piece}
+use Rattle.figure_text.specs.declared.front_pieces.Piece.TheVariants.{Place, Literal, Row, Value, Last}
+use Rattle.figure_text.specs.declared.line_words.Word.{Word}
+use Rattle.figure_text.specs.declared.line_words.Word.TheVariants.{Named}
+use Rattle.figure_text.specs.declared.line_words.Name.TheVariants.{At, X, Y}
 use Rattle.figure_text.specs.Words.{word_at}
 use Rattle.figure_text.specs.Lines.{size, is_natural, is_number, is_closing, row_name, is_row_length, IsInside}
 

@@ -1,12 +1,12 @@
 -- Numbers at the end of a line that are written plainly, and what is taken of them.
 use Rattle.std.specs.Prelude.{ℕ, ℤ, false, ◌+◌, ◌<◌, ◌≡◌, ◌≤◌, IsTrue, List, ◌∷◌, ◌++◌, length, slice_index, slice_index_or}
-use Rattle.figure_text.specs.declared.words.Digits.{Digits}
-use Rattle.figure_text.specs.declared.words.Word.{Word}
-use Rattle.figure_text.specs.declared.words.Word.TheVariants.{Number, Closing}
-use Rattle.figure_text.specs.declared.words.Next.{Next}
-use Rattle.figure_text.specs.declared.piece.Piece.{Piece}
-use Rattle.figure_text.specs.declared.piece.Piece.TheVariants.{Place, Literal, Row, Value, Last}
-use Rattle.figure_text.specs.declared.line_front.LineFront.{LineFront}
+use Rattle.figure_text.specs.declared.line_words.Digits.{Digits}
+use Rattle.figure_text.specs.declared.line_words.Word.{Word}
+use Rattle.figure_text.specs.declared.line_words.Word.TheVariants.{Number, Closing}
+use Rattle.figure_text.specs.declared.line_words.Next.{Next}
+use Rattle.figure_text.specs.declared.front_pieces.Piece.{Piece}
+use Rattle.figure_text.specs.declared.front_pieces.Piece.TheVariants.{Place, Literal, Row, Value, Last}
+use Rattle.figure_text.specs.declared.vertex_fronts.LineFront.{LineFront}
 use Rattle.figure_text.specs.Words.{word_at, words_left, words_of}
 use Rattle.figure_text.specs.Lines.{size, is_natural, is_number, integer_of, signed_value, IsInside, IsVertex}
 use Rattle.figure_text.specs.Pieces.{Fits, IsWithin, Along}

@@ -1,10 +1,10 @@
 -- The reading of the text of figures: closed lines one after another, each with the shape that is due.
 use Rattle.std.specs.Prelude.{ℕ, ◌+◌, ◌<◌, ◌≡◌, ◌≢◌, Bool, ◌||◌, IsTrue, bytes_eq, List, [], ◌∷◌, ◌++◌, length, take, drop, map, flat_map, slice_index_or, All, codes}
-use Rattle.pg_plane.specs.declared.point.Point.{Point}
-use Rattle.figure_text.specs.declared.words.Word.{Word}
-use Rattle.figure_text.specs.declared.judge.Kind.{Kind}
-use Rattle.figure_text.specs.declared.judge.Judged.{Judged}
-use Rattle.figure_text.specs.declared.judge.Judged.TheVariants.{Bad, Limit as BeyondLimit, Good}
+use Rattle.pg_plane.specs.declared.segments.Point.{Point}
+use Rattle.figure_text.specs.declared.line_words.Word.{Word}
+use Rattle.figure_text.specs.declared.line_shapes.Kind.{Kind}
+use Rattle.figure_text.specs.declared.line_shapes.Judged.{Judged}
+use Rattle.figure_text.specs.declared.line_shapes.Judged.TheVariants.{Bad, Limit as BeyondLimit, Good}
 use Rattle.figure_text.specs.declared.fault.TextFault.{TextFault}
 use Rattle.figure_text.specs.declared.fault.TextFault.TheVariants.{BadLine, EndInFigure, Limit, NoMemory}
 use Rattle.figure_text.specs.Words.{words_of, word_at}

@@ -8,13 +8,13 @@ use Rattle.kuratowski.specs.declared.witness.Kind.{Kind as Subdivided}
 use Rattle.kuratowski.specs.declared.witness.Kind.TheVariants.{K5, K33}
 use Rattle.kuratowski.specs.declared.witness.Witness.{Witness}
 use Rattle.kuratowski.specs.Witnesses.{branch_count, pairs_of}
-use Rattle.pg_plane.specs.declared.point.Point.{Point}
-use Rattle.pg_plane.specs.declared.figure.BarFigure.{BarFigure}
-use Rattle.pg_plane.specs.declared.figure.RectFigure.{RectFigure}
-use Rattle.figure_text.specs.declared.piece.Piece.{Piece}
-use Rattle.figure_text.specs.declared.piece.Piece.TheVariants.{Place, Literal, Row, Value, Last}
-use Rattle.figure_text.specs.declared.words.Name.{Name}
-use Rattle.figure_text.specs.declared.words.Name.TheVariants as name
+use Rattle.pg_plane.specs.declared.segments.Point.{Point}
+use Rattle.pg_plane.specs.declared.figures.BarFigure.{BarFigure}
+use Rattle.pg_plane.specs.declared.figures.RectFigure.{RectFigure}
+use Rattle.figure_text.specs.declared.front_pieces.Piece.{Piece}
+use Rattle.figure_text.specs.declared.front_pieces.Piece.TheVariants.{Place, Literal, Row, Value, Last}
+use Rattle.figure_text.specs.declared.line_words.Name.{Name}
+use Rattle.figure_text.specs.declared.line_words.Name.TheVariants as name
 use Rattle.figure_text.specs.Lines.{row_name}
 use Rattle.figure_text.specs.Pieces.{grid_front, bar_front, rect_front, row_front}
 use Rattle.figure_text.specs.declared.figure.GridJob.{GridJob}

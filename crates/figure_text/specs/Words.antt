@@ -1,10 +1,10 @@
 -- The words of a line, and the numbers among them.
 use Rattle.std.specs.Prelude.{ℕ, ◌+◌, ◌-◌, ◌*◌, Bool, true, false, not, ◌&&◌, ◌==◌, nat_lt, min, if◌then◌else◌, List, [], ◌∷◌, ◌++◌, ◌≡◌, length, take, drop, map, slice_index, slice_index_or, codes, bytes_eq, Option, Some, None, option_map}
 use Rattle.std.specs.List.{slice_split}
-use Rattle.figure_text.specs.declared.words.Signed.{Signed}
-use Rattle.figure_text.specs.declared.words.Word.{Word}
-use Rattle.figure_text.specs.declared.words.Word.TheVariants.{Number, Closing, Named, Other}
-use Rattle.figure_text.specs.declared.words.Name.TheVariants.{Figure, Shift, Schnyder, Convex, Bars, Rect, At, Y, X, Columns, Witness, K5, K33, Branch, Path}
+use Rattle.figure_text.specs.declared.line_words.Signed.{Signed}
+use Rattle.figure_text.specs.declared.line_words.Word.{Word}
+use Rattle.figure_text.specs.declared.line_words.Word.TheVariants.{Number, Closing, Named, Other}
+use Rattle.figure_text.specs.declared.line_words.Name.TheVariants.{Figure, Shift, Schnyder, Convex, Bars, Rect, At, Y, X, Columns, Witness, K5, K33, Branch, Path}
 
 -- what numbers beyond all ranges are taken for
 abbrev pub far : ℕ

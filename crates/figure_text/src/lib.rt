@@ -8,32 +8,32 @@
 //! answer at an offset.
 #![tactic(auto)]
 
-mod backward;
+mod backward_writing;
 pub mod decimals;
 mod fault;
 mod figure;
-mod front;
-mod judge;
+mod figure_ends;
+mod first_lines;
+mod front_pieces;
 pub mod laws;
-mod line_front;
-mod lines;
-mod numerals;
-mod piece;
-mod plain;
+mod line_shapes;
+mod line_words;
+mod number_texts;
+mod plain_numbers;
 mod print;
-mod read;
-mod rows;
+mod text_lines;
+mod vertex_fronts;
+mod vertex_lines;
 mod vertex_print;
 mod witness_print;
-mod words;
 
 pub use fault::TextFault;
 pub use figure::{Figure, GridJob};
-pub use front::{Front, front_graph, front_line};
-pub use judge::{Judged, Kind};
-pub use lines::{line_length, next_line};
+pub use figure_ends::{Columns, Item, columns_line, draft_rects, draft_witness};
+pub use first_lines::{Front, front_graph, front_line};
+pub use line_shapes::{Judged, Kind};
+pub use line_words::{Name, Signed, Word};
 pub use print::{Printer, print_figure};
-pub use read::{Columns, Item, columns_line, draft_rects, draft_witness};
-pub use rows::{Draft, VertexLine};
+pub use text_lines::{line_length, next_line};
+pub use vertex_lines::{Draft, VertexLine};
 pub use witness_print::print_witness;
-pub use words::{Name, Signed, Word};

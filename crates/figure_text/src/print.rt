@@ -4,8 +4,8 @@ ghost use Rattle.graph6_text.specs.Lines.{IsLine};
 ghost use Rattle.figure_text.specs.Pieces.{bar_front};
 ghost use Rattle.figure_text.specs.Text.{first_line, vertex_lines, columns_line, bar_numbers, fronts_room, job_word, grid_text, bars_text, rects_text, witness_text, IsText, IsWhole, HasBars, HasRects};
 
-use crate::backward::{write_columns, write_first};
-use crate::numerals::{Numerals, Texts};
+use crate::backward_writing::{write_columns, write_first};
+use crate::number_texts::{Numerals, Texts};
 use crate::vertex_print::{Numbered, write_lines};
 use crate::witness_print::push_witness;
 use crate::{Figure, GridJob};

@@ -1,10 +1,12 @@
 //! Prints the vertex lines of drawings, backwards, from the last vertex to the first.
 ghost use Rattle.std.specs.Prelude.{◌≡◌, ◌+◌, ◌*◌, ◌<◌, ◌≤◌, ◌++◌, List, ℕ, ℤ, length, drop, sum_by};
-ghost use Rattle.figure_text.specs.declared.piece.Piece.{Piece};
+ghost use Rattle.figure_text.specs.declared.front_pieces.Piece.{Piece};
 ghost use Rattle.figure_text.specs.Text.{integer_at, point_at, joined, front_words, vertex_line, vertex_lines, fronts_room};
 
-use crate::backward::{write_byte, write_letter, write_number, write_signed, write_vertices};
-use crate::numerals::Texts;
+use crate::backward_writing::{
+    write_byte, write_letter, write_number, write_signed, write_vertices,
+};
+use crate::number_texts::Texts;
 use map_lists::Rotations;
 use pg_plane::{BarFigure, Ints, Point, Points, RectFigure};
 

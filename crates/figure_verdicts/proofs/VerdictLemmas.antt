@@ -5,12 +5,12 @@ use Rattle.map_lists.specs.Lists.{Lists}
 use Rattle.map_theory.specs.Maps.{HasDart, IsSimpleMap, list_of, component_count}
 use Rattle.plane_peeling.proofs.Counted.{marks_everywhere}
 use Rattle.simple_maps.specs.Laws.{NoFaultIsSimple}
-use Rattle.pg_plane.specs.declared.figure.BarFigure.{BarFigure}
+use Rattle.pg_plane.specs.declared.figures.BarFigure.{BarFigure}
 use Rattle.bar_check.specs.Laws.{YesIsValid as BarsYesIsValid}
 use Rattle.convex_check.specs.Laws.{YesIsConvex}
 use Rattle.rect_check.specs.Laws.{YesIsDual}
 use Rattle.rect_check.specs.declared.verdict.RectVerdict.TheVariants.{Yes as NoRectFault}
-use Rattle.pg_plane.specs.declared.figure.RectFigure.{RectFigure}
+use Rattle.pg_plane.specs.declared.figures.RectFigure.{RectFigure}
 use Rattle.half_edges.specs.Map.{first_dart}
 use Rattle.kuratowski.proofs.VerdictLemmas.{yes_of_witness}
 use Rattle.draw_check.specs.Laws.{YesIsValid}
@@ -21,14 +21,14 @@ use Rattle.figure_verdicts.specs.Validity.{IsValidFigure, IsValidGrid, grid_widt
 use Rattle.std.specs.Prelude.{ℤ, Option, None, ◌≢◌}
 use Rattle.std.proofs.lemmas.Int.{ints}
 use Rattle.simple_maps.specs.Faults.{Fault}
-use Rattle.simple_maps.specs.declared.fault.MapFault.{MapFault}
-use Rattle.simple_maps.specs.declared.fault.MapFault.TheVariants.{OutOfRange, Loop, Repeated, OneSided, NoMemory}
+use Rattle.simple_maps.specs.declared.map_fault.MapFault.{MapFault}
+use Rattle.simple_maps.specs.declared.map_fault.MapFault.TheVariants.{OutOfRange, Loop, Repeated, OneSided, NoMemory}
 use Rattle.draw_check.specs.Verdicts.{IsVerdict}
 use Rattle.draw_check.specs.declared.verdict.Verdict.{Verdict}
 use Rattle.draw_check.specs.declared.verdict.Verdict.TheVariants.{OutOfGrid, SamePlace, OnEdge, Cross, Turned, Yes as NoFault}
 use Rattle.figure_verdicts.specs.Verdicts.{IsFirstFault}
 use Rattle.simple_maps.specs.Faults.{first_fault}
-use Rattle.pg_plane.specs.declared.point.Point.{Point}
+use Rattle.pg_plane.specs.declared.segments.Point.{Point}
 use Rattle.figure_text.specs.declared.figure.GridJob.{GridJob}
 use Rattle.figure_text.specs.declared.figure.GridJob.TheVariants.{Shift, Schnyder, Convex}
 use Rattle.figure_verdicts.specs.Verdicts.{IsFigureVerdict, IsJobVerdict, IsFittingVerdict, IsGridVerdict, IsColumnsVerdict, IsBarsVerdict, IsTiledVerdict, IsRectsVerdict}

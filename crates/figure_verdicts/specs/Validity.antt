@@ -3,9 +3,9 @@ use Rattle.std.specs.Prelude.{ℕ, ◌*◌, ℤ, pos, ◌-ℤ◌, List, length}
 use Rattle.map_lists.specs.Lists.{Lists}
 use Rattle.map_theory.specs.Maps.{HasDart, IsSimpleMap, face_count}
 use Rattle.half_edges.specs.Map.{first_dart}
-use Rattle.pg_plane.specs.declared.point.Point.{Point}
-use Rattle.pg_plane.specs.declared.figure.BarFigure.{BarFigure}
-use Rattle.pg_plane.specs.declared.figure.RectFigure.{RectFigure}
+use Rattle.pg_plane.specs.declared.segments.Point.{Point}
+use Rattle.pg_plane.specs.declared.figures.BarFigure.{BarFigure}
+use Rattle.pg_plane.specs.declared.figures.RectFigure.{RectFigure}
 use Rattle.convex_check.specs.Convex.{IsConvex}
 use Rattle.rect_check.specs.Duals.{IsRectangularDual}
 use Rattle.bar_check.specs.Bars.{IsValidBars}

@@ -3,13 +3,13 @@
 
 ghost use Rattle.figure_verdicts.specs.Laws.{ValidIsYes, YesIsValidFigure};
 
-mod convex;
-mod drawn;
-mod judge;
+mod convex_verdicts;
+mod drawing_verdicts;
 mod verdict;
+mod verdict_by_kind;
 
-pub use judge::figure_verdict;
 pub use verdict::FigureVerdict;
+pub use verdict_by_kind::figure_verdict;
 
 /// States the law that the verdict is `Yes` exactly where the figure is valid. Its lists are a simple map. Of a
 /// straight-line drawing all points lie in the grid, the drawing is plane and keeps the rotations. For a connected map

@@ -1,7 +1,7 @@
 -- The grid, the three corners, and the face of the base.
 use Rattle.std.proofs.Common.{◌≡◌, ℕ, zero, suc, ◌+◌, ◌-◌, ◌*◌, ◌<◌, ◌≤◌, pos, neg_ℤ, ◌<ℤ◌, refl, ap, ◌∙◌, inl, arith}
 use Rattle.std.proofs.lemmas.Int.{ints}
-use Rattle.pg_plane.specs.declared.point.Point.{Point}
+use Rattle.pg_plane.specs.declared.segments.Point.{Point}
 use Rattle.pg_plane.specs.Geometry.{area}
 use Rattle.pg_plane.proofs.Ring.{ring, sums}
 use Rattle.contour_runs.specs.Runs.{Step, Stage, stage_after, IsStep, IsRun}

@@ -5,10 +5,10 @@ use Rattle.std.proofs.lemmas.Int.{ints}
 use Rattle.std.proofs.lemmas.Bool.{cases_lt}
 use Rattle.std.proofs.Math.Seq.{get_or-append_seam}
 use Rattle.classes.proofs.Counting.{count_below_all, count_below_into}
-use Rattle.fpp_shift.specs.declared.offset_trees.nodes.Node.{Node}
+use Rattle.fpp_shift.specs.declared.offset_trees.tree_nodes.Node.{Node}
 use Rattle.fpp_shift.specs.Nodes.{node_at, LeadsTo}
 use Rattle.pg_plane.specs.Range.{IsWithin}
-use Rattle.pg_plane.specs.declared.point.Point.{Point}
+use Rattle.pg_plane.specs.declared.segments.Point.{Point}
 use Rattle.plane_drawings.specs.Drawing.{place}
 use Rattle.fpp_shift.specs.Ways.{IsWay, sum_x, IsTree, ArePointsOf}
 use Rattle.fpp_shift.specs.Sums.{link_of, link_number, IsMet, IsLinked, sum_at, AreMet, IsNext, own_point, point_beside}

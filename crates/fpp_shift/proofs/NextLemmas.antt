@@ -8,7 +8,7 @@ use Rattle.contour_runs.proofs.Stages.{IsStage-run, IsRun-less, count-stage_afte
 use Rattle.fpp_shift.specs.Shift.{Places, shift_points, x_after, y_after}
 use Rattle.fpp_shift.specs.Contours.{IsShift}
 use Rattle.fpp_shift.proofs.Steps.{IsShift-run, top_across, top_along}
-use Rattle.fpp_shift.specs.declared.offset_trees.nodes.Node.{Node}
+use Rattle.fpp_shift.specs.declared.offset_trees.tree_nodes.Node.{Node}
 use Rattle.fpp_shift.specs.Nodes.{node_at, right_of}
 use Rattle.fpp_shift.specs.OffsetTreesRows.{IsRow, far}
 use Rattle.fpp_shift.specs.Next.{IsNextStep, IsTop}

@@ -2,8 +2,8 @@
 use Rattle.std.proofs.Common.{◌≡◌, ◌≢◌, ◌<◌, ℕ, zero, suc, List, [], ◌∷◌, Option, Some, None, true, ℤ, pos, refl, sym, ◌∙◌, inr, arith}
 use Rattle.std.specs.Prelude.{slice_index}
 use Rattle.std.proofs.lemmas.Int.{ints}
-use Rattle.fpp_shift.specs.declared.offset_trees.nodes.Node.{Node}
-use Rattle.pg_plane.specs.declared.point.Point.{Point}
+use Rattle.fpp_shift.specs.declared.offset_trees.tree_nodes.Node.{Node}
+use Rattle.pg_plane.specs.declared.segments.Point.{Point}
 use Rattle.fpp_shift.specs.Nodes.{right_of}
 use Rattle.fpp_shift.specs.Sums.{AreMet}
 use Rattle.fpp_shift.specs.Next.{CoversFrom}

@@ -1,7 +1,7 @@
 -- Rows along right links, number by number.
 use Rattle.std.proofs.Common.{◌≡◌, ◌≢◌, ℕ, suc, ◌<◌, List, length, Some, ℤ, ◌+ℤ◌, sym, ap, ap₂, ◌∙◌, inl, inr, arith}
 use Rattle.std.proofs.lemmas.Bool.{cases_eq}
-use Rattle.fpp_shift.specs.declared.offset_trees.nodes.Node.{Node}
+use Rattle.fpp_shift.specs.declared.offset_trees.tree_nodes.Node.{Node}
 use Rattle.fpp_shift.specs.Nodes.{node_at, right_of}
 use Rattle.fpp_shift.specs.OffsetTreesRows.{IsRow, far}
 

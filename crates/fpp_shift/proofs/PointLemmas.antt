@@ -12,7 +12,7 @@ use Rattle.order_drawings.specs.OrderRuns.{IsOrderRun}
 use Rattle.pg_plane.specs.Range.{IsWithin}
 use Rattle.fpp_shift.specs.Shift.{Places, shift_points}
 use Rattle.fpp_shift.proofs.Corners.{in_grid, cornered}
-use Rattle.fpp_shift.specs.declared.offset_trees.nodes.Node.{Node}
+use Rattle.fpp_shift.specs.declared.offset_trees.tree_nodes.Node.{Node}
 use Rattle.fpp_shift.specs.Nodes.{node_at, left_of, right_of, LeadsTo}
 use Rattle.fpp_shift.specs.Ways.{IsWay, sum_x, IsTree}
 use Rattle.fpp_shift.specs.Grown.{Links, links_of, IsFrom, IsOffsetTree}

@@ -6,7 +6,7 @@ use Rattle.contour_runs.specs.Runs.{Step, Stage, stage_after, IsStep}
 use Rattle.contour_runs.specs.Laws.{IsStage}
 use Rattle.fpp_shift.specs.Shift.{Places, shift_points, x_after, y_after}
 use Rattle.fpp_shift.proofs.Steps.{x_after-contour, y_after-new, shift-between, shift-high}
-use Rattle.fpp_shift.specs.declared.offset_trees.nodes.Node.{Node}
+use Rattle.fpp_shift.specs.declared.offset_trees.tree_nodes.Node.{Node}
 use Rattle.fpp_shift.specs.Nodes.{node_at, left_of, right_of}
 use Rattle.fpp_shift.specs.Grown.{links_of, first_covered, IsGrown, IsWritten}
 use Rattle.fpp_shift.specs.Writes.{SetsX, SetsRight, SetsNode}

@@ -13,7 +13,7 @@ use Rattle.contour_runs.specs.Runs.{Step, stage_after, faces_made}
 use Rattle.contour_runs.specs.Laws.{FaceCount}
 use Rattle.contour_runs.proofs.Stages.{IsRun-less}
 use Rattle.order_drawings.specs.OrderRuns.{IsOrderRun, OrderIsRun}
-use Rattle.fpp_shift.specs.declared.offset_trees.nodes.Node.{Node}
+use Rattle.fpp_shift.specs.declared.offset_trees.tree_nodes.Node.{Node}
 use Rattle.fpp_shift.specs.Grown.{links_of, IsGrown, IsOffsetTree}
 use Rattle.fpp_shift.specs.Next.{IsNextStep}
 use Rattle.fpp_shift.specs.OffsetTreesLaws.{GrownIsOffsetTree}

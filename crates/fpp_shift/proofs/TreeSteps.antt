@@ -7,7 +7,7 @@ use Rattle.canon_order.specs.Orders.{IsCanonicalOrder, IsRankOf}
 use Rattle.contour_runs.specs.Runs.{Step}
 use Rattle.contour_runs.specs.Laws.{FaceCount}
 use Rattle.order_drawings.specs.OrderRuns.{IsOrderRun, OrderIsRun}
-use Rattle.fpp_shift.specs.declared.offset_trees.nodes.Node.{Node}
+use Rattle.fpp_shift.specs.declared.offset_trees.tree_nodes.Node.{Node}
 use Rattle.fpp_shift.specs.Grown.{links_of, IsGrown}
 use Rattle.fpp_shift.specs.Next.{IsNextStep}
 use Rattle.fpp_shift.specs.OffsetTreesLaws.{GrownIsOffsetTree}

@@ -2,7 +2,7 @@
 use Rattle.std.specs.Prelude.{ℕ, suc, ◌+◌, ◌<◌, ◌≡◌, ◌≢◌, nat_lt, if◌then◌else◌, List, slice_index, Option, Some, None, ℤ, pos, ◌+ℤ◌}
 use Rattle.contour_runs.specs.Runs.{Step, Stage, stage_after}
 use Rattle.fpp_shift.specs.Shift.{Places, shift_points, top_y, x_after}
-use Rattle.fpp_shift.specs.declared.offset_trees.nodes.Node.{Node}
+use Rattle.fpp_shift.specs.declared.offset_trees.tree_nodes.Node.{Node}
 use Rattle.fpp_shift.specs.Nodes.{node_at, left_of, right_of}
 
 -- What the nodes of the vertices of a run say, each by its rank; links lead to vertices by their names.

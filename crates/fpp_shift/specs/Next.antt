@@ -1,7 +1,7 @@
 -- The next step of a run, by the nodes before it.
 use Rattle.std.specs.Prelude.{ℕ, suc, ◌+◌, ◌*◌, ◌^◌, ◌<◌, ◌≡◌, ◌≢◌, List, length, slice_index, Option, Some, None, ℤ, pos, ◌+ℤ◌}
 use Rattle.contour_runs.specs.Runs.{Step, stage_after, IsRun}
-use Rattle.fpp_shift.specs.declared.offset_trees.nodes.Node.{Node}
+use Rattle.fpp_shift.specs.declared.offset_trees.tree_nodes.Node.{Node}
 use Rattle.fpp_shift.specs.Nodes.{node_at, right_of}
 use Rattle.fpp_shift.specs.Grown.{links_of, IsGrown}
 use Rattle.fpp_shift.specs.Writes.{SetsX, SetsRight}

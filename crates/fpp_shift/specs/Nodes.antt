@@ -1,6 +1,6 @@
 -- The nodes of a tree of offsets, and where its links lead.
 use Rattle.std.specs.Prelude.{ℕ, ◌≡◌, ◌⊎◌, List, slice_index_or, Option, Some, None, option_map, pos}
-use Rattle.fpp_shift.specs.declared.offset_trees.nodes.Node.{Node}
+use Rattle.fpp_shift.specs.declared.offset_trees.tree_nodes.Node.{Node}
 
 -- a node of zeros and no links
 abbrev pub empty_node : Node

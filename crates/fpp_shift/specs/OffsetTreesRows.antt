@@ -1,7 +1,7 @@
 -- Rows of vertices along right links.
 use Rattle.std.specs.Prelude.{ℕ, zero, suc, ◌<◌, ◌≤◌, ◌≡◌, ◌≢◌, List, length, Some, ℤ, pos, ◌+ℤ◌}
 use Rattle.pg_plane.specs.Range.{IsWithin}
-use Rattle.fpp_shift.specs.declared.offset_trees.nodes.Node.{Node}
+use Rattle.fpp_shift.specs.declared.offset_trees.tree_nodes.Node.{Node}
 use Rattle.fpp_shift.specs.Nodes.{node_at, right_of}
 
 -- how far number i of a row stands to the right of number 0

@@ -2,13 +2,13 @@
 use Rattle.std.specs.Prelude.{ℕ, ◌-◌, ◌<◌, ◌≡◌, List, length, slice_index}
 use Rattle.map_lists.specs.Lists.{Lists}
 use Rattle.map_theory.specs.Maps.{Dart}
-use Rattle.pg_plane.specs.declared.point.Point.{Point}
+use Rattle.pg_plane.specs.declared.segments.Point.{Point}
 use Rattle.plane_laws.specs.Triangulations.{IsTriangulation}
 use Rattle.canon_order.specs.Orders.{IsCanonicalOrder}
 use Rattle.order_drawings.specs.OrderRuns.{IsOrderRun}
 use Rattle.contour_runs.specs.Runs.{Step}
 use Rattle.fpp_shift.specs.Shift.{shift_points, point_of}
-use Rattle.fpp_shift.specs.declared.offset_trees.nodes.Node.{Node}
+use Rattle.fpp_shift.specs.declared.offset_trees.tree_nodes.Node.{Node}
 use Rattle.plane_drawings.specs.Drawing.{place}
 use Rattle.fpp_shift.specs.Ways.{IsTree, ArePointsOf}
 use Rattle.fpp_shift.specs.Trees.{IsTreeOf}

@@ -5,7 +5,7 @@ use Rattle.map_theory.specs.Maps.{Dart}
 use Rattle.canon_order.specs.Orders.{IsCanonicalOrder}
 use Rattle.order_drawings.specs.OrderRuns.{IsOrderRun}
 use Rattle.contour_runs.specs.Runs.{Step}
-use Rattle.fpp_shift.specs.declared.offset_trees.nodes.Node.{Node}
+use Rattle.fpp_shift.specs.declared.offset_trees.tree_nodes.Node.{Node}
 use Rattle.fpp_shift.specs.Grown.{links_of, IsOffsetTree}
 
 -- The nodes are the tree of offsets of the run of each canonical order that the vertices `at` are.

@@ -1,6 +1,6 @@
 -- What a write to one node of a tree leaves.
 use Rattle.std.specs.Prelude.{ℕ, ◌≡◌, ◌≢◌, List, length, Option, ℤ}
-use Rattle.fpp_shift.specs.declared.offset_trees.nodes.Node.{Node}
+use Rattle.fpp_shift.specs.declared.offset_trees.tree_nodes.Node.{Node}
 use Rattle.fpp_shift.specs.Nodes.{node_at, left_of, right_of}
 
 -- the node of u has this offset, and all else is as before

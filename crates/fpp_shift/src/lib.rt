@@ -2,14 +2,14 @@
 //! the tree of offsets by which they are made.
 #![tactic(auto)]
 
-mod draw;
 mod fault;
 pub mod offset_trees;
+mod shift_drawer;
 pub mod shift_drawings;
 pub mod shift_points;
 pub mod shift_trees;
 
-pub use draw::{Shifter, shift_draw};
 pub use fault::ShiftFault;
 pub use offset_trees::{Node, Offsets, sum_offsets};
+pub use shift_drawer::{Shifter, shift_draw};
 pub use shift_trees::offset_tree;

@@ -3,15 +3,15 @@
 
 ghost use Rattle.fpp_shift.specs.OffsetTreesLaws.{TreeGrows, GrownIsOffsetTree};
 
-mod grow;
-mod nodes;
-mod sums;
-mod writes;
+mod node_writes;
+mod summed_points;
+mod tree_growth;
+mod tree_nodes;
 
-pub use grow::{begin_tree, put_over};
-pub use nodes::{Node, Offsets};
-pub(crate) use sums::SumMemory;
-pub use sums::sum_offsets;
+pub(crate) use summed_points::SumMemory;
+pub use summed_points::sum_offsets;
+pub use tree_growth::{begin_tree, put_over};
+pub use tree_nodes::{Node, Offsets};
 
 /// States the law that the tree of a run grows by at most five writes. Where a step of a run writes these nodes, they
 /// are the tree of the run with that step.

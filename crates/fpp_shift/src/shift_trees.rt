@@ -2,12 +2,12 @@
 
 ghost use Rattle.fpp_shift.specs.ShiftTreesLaws.{OffsetTreeAddsUp};
 
-mod listed;
-mod rows;
-mod tree;
+mod attachment_intervals;
+mod trees_by_lists;
+mod trees_by_map;
 
-pub(crate) use listed::list_tree;
-pub use tree::offset_tree;
+pub(crate) use trees_by_lists::list_tree;
+pub use trees_by_map::offset_tree;
 
 /// States the law that the tree of offsets of an order adds up to the shift points of the order. Its links are those of
 /// a tree.

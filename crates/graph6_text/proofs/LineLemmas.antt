@@ -11,8 +11,8 @@ use Rattle.graph6_text.specs.Graphs.{Edge, EdgeGraph, AreEdges, joins}
 use Rattle.graph6_text.specs.Lines.{pair_count, body_length, has_bit, is_set, IsLineByte, IsBody, IsLine, edges_of, count_form}
 use Rattle.graph6_text.specs.Faults.{is_bad_byte, four_byte_start, long_rest, long_start, line_start, is_padded, body_fault, rest_fault, fault_from, line_fault}
 use Rattle.graph6_text.specs.Laws.{OneGraph, OneLine, LinesAreGraphs}
-use Rattle.graph6_text.specs.declared.line.G6Fault.{G6Fault}
-use Rattle.graph6_text.specs.declared.line.G6Fault.TheVariants.{LongCount, TooMany}
+use Rattle.graph6_text.specs.declared.graph6_lines.G6Fault.{G6Fault}
+use Rattle.graph6_text.specs.declared.graph6_lines.G6Fault.TheVariants.{LongCount, TooMany}
 use Rattle.graph6_text.proofs.BitLemmas.{below_six, byte_by_bits, pair_at, body_length-bounds}
 use Rattle.graph6_text.proofs.EdgeLemmas.{is_set-past, AreEdges-edges_of, joined_as_bit}
 

@@ -5,12 +5,12 @@
 #![tactic(auto)]
 
 pub mod bits;
+mod file_header;
 mod graph;
-mod header;
+mod graph6_lines;
 mod laws;
-mod line;
 
+pub use file_header::after_graph_header;
 pub use graph::Graph;
-pub use header::after_graph_header;
+pub use graph6_lines::{G6Fault, read_line, read_line_into, write_line};
 pub use laws::{lines_are_graphs, one_graph, one_line};
-pub use line::{G6Fault, read_line, read_line_into, write_line};

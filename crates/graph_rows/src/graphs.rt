@@ -9,10 +9,10 @@ use embed_witnesses::graph_contractions::{contractible_edge, is_three_connected}
 use graph6_text::{Graph, after_graph_header, read_line, write_line};
 use map_lists::{Ends, VertexId};
 use row_texts::bytes::{lines_of, put_bytes};
-use row_texts::refusal::{put_pair, put_vertex, tell_line_fault, tell_no_memory};
+use row_texts::fault_texts::{put_pair, put_vertex, tell_line_fault, tell_no_memory};
 use row_texts::reply::Reply;
+use row_texts::row_arguments::pair;
 use row_texts::rows::Row;
-use row_texts::text::pair;
 use std::alloc::{AllocError, Global};
 
 // Writes the graph6 line of `graph`.

@@ -8,7 +8,7 @@ use embed_witnesses::lifted_witnesses::lift;
 use graph6_text::Graph;
 use kuratowski::{Kind, Witness, WitnessVerdict, check_witness};
 use map_lists::Ends;
-use row_texts::refusal::tell_no_memory;
+use row_texts::fault_texts::tell_no_memory;
 use row_texts::reply::Reply;
 use row_texts::rows::Row;
 use row_texts::witnesses::witness_of;

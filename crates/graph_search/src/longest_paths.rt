@@ -1,6 +1,6 @@
 //! Longest paths from one vertex of a directed graph whose cycles all pass through it, and a topological order of its
 //! vertices.
 
-mod paths;
+mod arc_queue;
 
-pub use paths::{PathTables, longest_paths, topological_order};
+pub use arc_queue::{PathTables, longest_paths, topological_order};

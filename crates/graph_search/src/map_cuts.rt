@@ -4,11 +4,11 @@
 //! vertices are a separating pair where they do so together. The calls on lists serve maps and graphs alike: all that
 //! they require is that adjacency goes both ways.
 
-mod flags;
-mod least;
-mod pairs;
-mod without;
+mod cut_vertex_flags;
+mod least_cut_vertex;
+mod lists_without_vertex;
+mod separating_pairs;
 
-pub use flags::{cut_flags, is_uncut};
-pub use least::{cut_vertex, list_cut_vertex, searched_cut_vertex};
-pub use pairs::{list_separating_pair, separating_pair};
+pub use cut_vertex_flags::{cut_flags, is_uncut};
+pub use least_cut_vertex::{cut_vertex, list_cut_vertex, searched_cut_vertex};
+pub use separating_pairs::{list_separating_pair, separating_pair};

@@ -4,10 +4,10 @@
 //! The search keeps no stack: the way back from a vertex is its parent.
 
 mod forest;
-mod lows;
+mod lowpoints;
+mod search_steps;
 mod searched;
-mod steps;
 
 pub use forest::{Forest, SearchTables, search_forest, search_forest_along, size};
-pub use lows::low_points;
+pub use lowpoints::low_points;
 pub(crate) use searched::Searched;

@@ -7,7 +7,7 @@ use Rattle.half_edges.specs.Map.{Map, dart_at}
 use Rattle.canon_order.specs.Orders.{vertices_of}
 use Rattle.grid_figures.specs.DrawingOrdersBases.{LeadsToLeast}
 use Rattle.grid_figures.specs.Orders.{IsDrawingOrder}
-use Rattle.grid_figures.specs.declared.drawing_orders.order.DrawingOrder.{DrawingOrder}
+use Rattle.grid_figures.specs.declared.drawing_orders.completed_records.DrawingOrder.{DrawingOrder}
 
 -- the base leads from vertex 1, and vertex 0 is not the second of the order
 base_at_another_vertex : (lists : Lists) (found : DrawingOrder) → slice_index (vertices_of found.order) 1 ≡ 1 → IsDrawingOrder lists found → ⊥

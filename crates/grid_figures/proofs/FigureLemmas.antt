@@ -3,12 +3,12 @@ use Rattle.std.proofs.Common.{◌≡◌, ℕ, ℤ, ◌*◌, ◌-◌, ◌<◌, Li
 use Rattle.map_lists.specs.Lists.{Lists}
 use Rattle.map_theory.specs.Maps.{Dart, HasDart, follows}
 use Rattle.map_theory.proofs.DartLemmas.{HasDart-follows}
-use Rattle.pg_plane.specs.declared.point.Point.{Point}
-use Rattle.pg_plane.specs.declared.figure.GridFigure.{GridFigure}
+use Rattle.pg_plane.specs.declared.segments.Point.{Point}
+use Rattle.pg_plane.specs.declared.figures.GridFigure.{GridFigure}
 use Rattle.plane_laws.specs.Triangulations.{IsTriangulation}
 use Rattle.plane_drawings.specs.Drawing.{place, IsInGrid, IsPlaneDrawing, KeepsRotations, IsCounterclockwise}
 use Rattle.canon_order.specs.Orders.{IsCanonicalOrder, vertices_of}
-use Rattle.canon_order.specs.declared.numbered.Order.{Order}
+use Rattle.canon_order.specs.declared.vertex_order.Order.{Order}
 use Rattle.canon_order.specs.Laws.{SomeOrder}
 use Rattle.order_drawings.specs.SchnyderDrawings.{AreWoodPoints, IsSchnyderDrawing, SomeWoodPoints, WoodPointsDraw}
 use Rattle.fpp_shift.specs.ShiftDrawings.{AreShiftPoints, IsShiftDrawing, SomeShiftPoints, ShiftPointsDraw}

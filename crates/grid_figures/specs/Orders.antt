@@ -5,8 +5,8 @@ use Rattle.map_theory.specs.Maps.{HasDart, IsSimpleMap, list_of}
 use Rattle.plane_laws.specs.Triangulations.{IsTriangulation}
 use Rattle.plane_laws.specs.MapEditsCompleted.{IsExtended}
 use Rattle.canon_order.specs.Orders.{IsCanonicalOrder, IsRankOf, vertices_of}
-use Rattle.canon_order.specs.declared.numbered.Order.{Order}
-use Rattle.grid_figures.specs.declared.drawing_orders.order.DrawingOrder.{DrawingOrder}
+use Rattle.canon_order.specs.declared.vertex_order.Order.{Order}
+use Rattle.grid_figures.specs.declared.drawing_orders.completed_records.DrawingOrder.{DrawingOrder}
 
 -- The base for the map of `lists` in its completion `more` goes from vertex 0 to the first entry of its list there, or to its least neighbour in the completion where the list is empty.
 pub record IsBaseTo (lists more : Lists) (to : ℕ) : Type 0 where

@@ -1,7 +1,7 @@
 -- The figure of a record by Schnyder's coordinates.
 use Rattle.std.specs.Prelude.{◌-◌}
 use Rattle.map_lists.specs.Lists.{Lists}
-use Rattle.pg_plane.specs.declared.figure.GridFigure.{GridFigure}
+use Rattle.pg_plane.specs.declared.figures.GridFigure.{GridFigure}
 use Rattle.order_drawings.specs.SchnyderDrawings.{AreWoodPoints}
 use Rattle.grid_figures.specs.Forms.{Form, point_at, IsFigure}
 

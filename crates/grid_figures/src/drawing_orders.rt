@@ -3,12 +3,12 @@
 
 ghost use Rattle.grid_figures.specs.DrawingOrdersLaws.{CompletionDraws, SomeCompletion};
 
-mod full;
-mod order;
+mod completed_records;
+mod triangulated_records;
 
-pub(crate) use full::{is_triangulated, order_full};
-pub(crate) use order::{Tools, made_or};
-pub use order::{DrawingOrder, drawing_order};
+pub(crate) use completed_records::{Tools, made_or};
+pub use completed_records::{DrawingOrder, drawing_order};
+pub(crate) use triangulated_records::{is_triangulated, order_full};
 
 /// States the law that a plane drawing of a completion of a map in a grid is a valid drawing of the map. Its outer face
 /// is kept.

@@ -1,6 +1,6 @@
 //! Drawings of triangulations by Schnyder's coordinates (1990), in linear time.
 
+mod coordinate_gaps;
 mod draw;
-mod gaps;
 
 pub use draw::{WoodDrawer, wood_draw};

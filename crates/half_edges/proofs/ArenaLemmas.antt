@@ -10,8 +10,8 @@ use Rattle.map_theory.proofs.DartLemmas.{darts_before_more, darts_before_end, pl
 use Rattle.map_theory.proofs.DartCounts.{dart_count-edge_count}
 use Rattle.half_edges.specs.Map.{Map, dart_at, IsLive, IsHalfMap, next_dart}
 use Rattle.half_edges.specs.Arena.{no_record, no_vertex, vertex_at, twin_of, next_of, prev_of, tail_of, live_of, head_of, dart_of_record, dart_in, steps, walk, IsWalkable, arena_lists, arena_map, IsLinked, IsArena}
-use Rattle.half_edges.specs.declared.arena.DartRecord.{DartRecord}
-use Rattle.half_edges.specs.declared.arena.VertexRecord.{VertexRecord}
+use Rattle.half_edges.specs.declared.dart_records.DartRecord.{DartRecord}
+use Rattle.half_edges.specs.declared.dart_records.VertexRecord.{VertexRecord}
 
 get_or-map_default : (f : DartRecord → Option Dart) → f no_record ≡ None → (records : List DartRecord) (d : ℕ) → get_or (map f records) d None ≡ f (get_or records d no_record)
 get_or-map_default f e [] d = sym e

@@ -4,7 +4,7 @@ use Rattle.map_lists.specs.Lists.{Lists}
 use Rattle.map_theory.specs.Edges.{without_edge}
 use Rattle.half_edges.specs.Edges.{corner_place, with_edge}
 use Rattle.half_edges.specs.Induced.{induced_lists}
-use Rattle.half_edges.specs.declared.edges.Corner.TheVariants.{After}
+use Rattle.half_edges.specs.declared.edge_edits.Corner.TheVariants.{After}
 
 k4 : Lists
 k4 = (1 ∷ 2 ∷ 3 ∷ []) ∷ (0 ∷ 3 ∷ 2 ∷ []) ∷ (0 ∷ 1 ∷ 3 ∷ []) ∷ (0 ∷ 2 ∷ 1 ∷ []) ∷ []

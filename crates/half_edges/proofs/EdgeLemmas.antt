@@ -10,10 +10,10 @@ use Rattle.map_theory.proofs.DartCounts.{dart_count-edge_count, few_darts-simple
 use Rattle.half_edges.specs.Map.{Map, dart_at, IsLive}
 use Rattle.half_edges.specs.Arena.{tail_of, head_of, dart_in, arena_lists, arena_map, IsArena, IsWired}
 use Rattle.half_edges.specs.Edges.{corner_place, IsCorner, corner_tail, corner_entry, IsCornerIn, AreCornersIn}
-use Rattle.half_edges.specs.declared.edges.Corner.{Corner}
-use Rattle.half_edges.specs.declared.edges.Corner.TheVariants.{After, Only}
-use Rattle.half_edges.specs.declared.arena.DartRecord.{DartRecord}
-use Rattle.half_edges.specs.declared.arena.VertexRecord.{VertexRecord}
+use Rattle.half_edges.specs.declared.edge_edits.Corner.{Corner}
+use Rattle.half_edges.specs.declared.edge_edits.Corner.TheVariants.{After, Only}
+use Rattle.half_edges.specs.declared.dart_records.DartRecord.{DartRecord}
+use Rattle.half_edges.specs.declared.dart_records.VertexRecord.{VertexRecord}
 use Rattle.half_edges.proofs.ArenaLemmas.{arena_lists_are, dart_at-arena, dart_at-in, dart_here, same_lists, live_here, dart_in-live, IsDartAt, IsDartAt-from}
 
 -- a list was lent whole, and comes back whole

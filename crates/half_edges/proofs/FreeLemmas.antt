@@ -3,8 +3,8 @@ use Rattle.std.proofs.Common.{ℕ, zero, suc, ◌<◌, ◌≤◌, ◌≡◌, fal
 use Rattle.map_lists.specs.Lists.{Lists}
 use Rattle.map_theory.specs.Maps.{Dart, list_of}
 use Rattle.half_edges.specs.Arena.{twin_of, next_of, prev_of, live_of, record_at, IsLinked, IsPaired, AreFree, IsArena, IsWired}
-use Rattle.half_edges.specs.declared.arena.DartRecord.{DartRecord}
-use Rattle.half_edges.specs.declared.arena.VertexRecord.{VertexRecord}
+use Rattle.half_edges.specs.declared.dart_records.DartRecord.{DartRecord}
+use Rattle.half_edges.specs.declared.dart_records.VertexRecord.{VertexRecord}
 use Rattle.half_edges.proofs.ArenaLemmas.{prev_is}
 
 -- what the threads read of a record

@@ -12,10 +12,10 @@ use Rattle.map_theory.proofs.DartLemmas.{place_of-lt-length}
 use Rattle.half_edges.specs.Arena.{vertex_at, twin_of, next_of, prev_of, tail_of, live_of, head_of, dart_in, arena_lists, IsLinked, IsPaired, AreFree, IsArena, IsWired}
 use Rattle.half_edges.specs.Links.{IsSpliced}
 use Rattle.half_edges.specs.Edges.{IsPut, IsPutWithin, with_entry, with_edge, corner_tail, corner_entry, IsCornerIn, AreCornersIn}
-use Rattle.half_edges.specs.declared.edges.Corner.{Corner}
-use Rattle.half_edges.specs.declared.edges.Corner.TheVariants.{After, Only}
-use Rattle.half_edges.specs.declared.arena.DartRecord.{DartRecord}
-use Rattle.half_edges.specs.declared.arena.VertexRecord.{VertexRecord}
+use Rattle.half_edges.specs.declared.edge_edits.Corner.{Corner}
+use Rattle.half_edges.specs.declared.edge_edits.Corner.TheVariants.{After, Only}
+use Rattle.half_edges.specs.declared.dart_records.DartRecord.{DartRecord}
+use Rattle.half_edges.specs.declared.dart_records.VertexRecord.{VertexRecord}
 use Rattle.half_edges.proofs.ArenaLemmas.{dart_in-live, dart_in-dead, dart-lt}
 use Rattle.half_edges.proofs.FreeLemmas.{IsSameFree, AreFree-frame}
 use Rattle.half_edges.proofs.LinkLemmas.{IsDartMore, set_dart, set_dart-here, set_dart-other}

@@ -8,8 +8,8 @@ use Rattle.map_theory.specs.Maps.{Dart, list_of, HasDart, follows}
 use Rattle.map_theory.proofs.EntryMore.{AreEntryMore, has_up, has_down, distinct_up, distinct_down, follows_same, follows_skip}
 use Rattle.half_edges.specs.Arena.{vertex_at, next_of, prev_of, IsLinked}
 use Rattle.half_edges.specs.Links.{IsVertexSet}
-use Rattle.half_edges.specs.declared.arena.DartRecord.{DartRecord}
-use Rattle.half_edges.specs.declared.arena.VertexRecord.{VertexRecord}
+use Rattle.half_edges.specs.declared.dart_records.DartRecord.{DartRecord}
+use Rattle.half_edges.specs.declared.dart_records.VertexRecord.{VertexRecord}
 
 pub tails_same : (a v b u : ℕ) (dart : Option Dart) → dart ≡ Some (a, b) → dart ≡ Some (v, u) → (a ≡ v) × (b ≡ u)
 tails_same a v b u dart one other = some_pair_parts a v b u (sym one ∙ other)

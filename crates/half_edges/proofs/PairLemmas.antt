@@ -5,8 +5,8 @@ use Rattle.std.proofs.lemmas.Bool.{cases_eq, cases_Bool}
 use Rattle.map_lists.specs.Lists.{Lists}
 use Rattle.map_theory.specs.Maps.{HasDart, IsSimpleMap}
 use Rattle.half_edges.specs.Arena.{dart_in, twin_of, tail_of, head_of, live_of, IsLinked, IsPaired}
-use Rattle.half_edges.specs.declared.arena.DartRecord.{DartRecord}
-use Rattle.half_edges.specs.declared.arena.VertexRecord.{VertexRecord}
+use Rattle.half_edges.specs.declared.dart_records.DartRecord.{DartRecord}
+use Rattle.half_edges.specs.declared.dart_records.VertexRecord.{VertexRecord}
 use Rattle.half_edges.proofs.ArenaLemmas.{dart_in-live, dart_in-dead, IsDartAt-from, dart-lt, live-lt}
 
 -- the records of d and its twin are now live, or now not, and all else of tails and lives stays; twins stay

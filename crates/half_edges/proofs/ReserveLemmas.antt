@@ -4,8 +4,8 @@ use Rattle.std.proofs.lemmas.List.{get_or_append_left, get_or_push, get_or_past,
 use Rattle.std.proofs.lemmas.Bool.{cases_lt, cases_eq}
 use Rattle.half_edges.specs.Arena.{no_record, record_at, twin_of, prev_of, tail_of, live_of, head_of, dart_in, dart_of_record, arena_lists, IsLinked, IsPaired, AreFree, IsArena}
 use Rattle.half_edges.specs.Links.{IsFreer}
-use Rattle.half_edges.specs.declared.arena.DartRecord.{DartRecord}
-use Rattle.half_edges.specs.declared.arena.VertexRecord.{VertexRecord}
+use Rattle.half_edges.specs.declared.dart_records.DartRecord.{DartRecord}
+use Rattle.half_edges.specs.declared.dart_records.VertexRecord.{VertexRecord}
 use Rattle.half_edges.proofs.ArenaLemmas.{IsLinked-same, arena_lists_are, live-lt, IsDartAt-from}
 use Rattle.half_edges.proofs.FreeLemmas.{IsSameFree, AreFree-frame, IsLinked-frame}
 

@@ -14,8 +14,8 @@ use Rattle.half_edges.specs.Rounds.{round_record, AreRounds, AreRoundVertices}
 use Rattle.half_edges.specs.Tables.{table_record, AreTableRecords, AreTableVertices, AreLinked}
 use Rattle.half_edges.proofs.TableArena.{few_entries}
 use Rattle.map_theory.proofs.DartCounts.{few_darts-simple}
-use Rattle.half_edges.specs.declared.arena.DartRecord.{DartRecord}
-use Rattle.half_edges.specs.declared.arena.VertexRecord.{VertexRecord}
+use Rattle.half_edges.specs.declared.dart_records.DartRecord.{DartRecord}
+use Rattle.half_edges.specs.declared.dart_records.VertexRecord.{VertexRecord}
 
 -- the round of one vertex more
 pub AreRounds-more : (ends : List ℕ) (old darts new : List DartRecord) (start end v next : ℕ) → AreRounds ends old darts v → ((w : ℕ) → w < v → get_or ends w 0 ≤ start) → start ≡ get_or (0 ∷ ends) v 0 → end ≡ get_or ends v 0 → start ≤ end → length new ≡ length darts

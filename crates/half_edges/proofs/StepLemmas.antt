@@ -14,10 +14,10 @@ use Rattle.map_theory.proofs.EntryMore.{IsEntryMore, AreEntryMore, AreEntryMore-
 use Rattle.half_edges.specs.Arena.{vertex_at, next_of, prev_of, tail_of, IsLinked}
 use Rattle.half_edges.specs.Links.{IsSpliced, IsVertexSet}
 use Rattle.half_edges.specs.Edges.{moved_first, with_entry, IsPut, IsTakenOut}
-use Rattle.half_edges.specs.declared.edges.Corner.{Corner}
-use Rattle.half_edges.specs.declared.edges.Corner.TheVariants.{After, Only}
-use Rattle.half_edges.specs.declared.arena.DartRecord.{DartRecord}
-use Rattle.half_edges.specs.declared.arena.VertexRecord.{VertexRecord}
+use Rattle.half_edges.specs.declared.edge_edits.Corner.{Corner}
+use Rattle.half_edges.specs.declared.edge_edits.Corner.TheVariants.{After, Only}
+use Rattle.half_edges.specs.declared.dart_records.DartRecord.{DartRecord}
+use Rattle.half_edges.specs.declared.dart_records.VertexRecord.{VertexRecord}
 use Rattle.half_edges.proofs.ArenaLemmas.{prev_is}
 use Rattle.half_edges.proofs.LinkLemmas.{tails_same, IsDartMore, AreVertices, AreVertices-set, IsLinked-more, IsLinked-less}
 

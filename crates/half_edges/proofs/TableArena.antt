@@ -12,8 +12,8 @@ use Rattle.half_edges.specs.Map.{next_dart}
 use Rattle.simple_maps.specs.Tables.{AreTables}
 use Rattle.half_edges.specs.Tables.{map_of, table_record, AreTableRecords, AreTableVertices}
 use Rattle.half_edges.specs.Arena.{no_record, record_at, vertex_at, twin_of, next_of, prev_of, tail_of, live_of, head_of, dart_of_record, dart_in, arena_lists, IsLinked, IsPaired, IsArena}
-use Rattle.half_edges.specs.declared.arena.DartRecord.{DartRecord}
-use Rattle.half_edges.specs.declared.arena.VertexRecord.{VertexRecord}
+use Rattle.half_edges.specs.declared.dart_records.DartRecord.{DartRecord}
+use Rattle.half_edges.specs.declared.dart_records.VertexRecord.{VertexRecord}
 use Rattle.simple_maps.proofs.TwinLemmas.{HasDart-from_slice_get, slice_get-dart_number}
 use Rattle.half_edges.proofs.ArenaLemmas.{IsLinked-same, arena_lists_are}
 use Rattle.half_edges.proofs.MapLemmas.{dart_at-map_of, IsHalfMap-map_of, from_start, below_end, next_at, first_at}

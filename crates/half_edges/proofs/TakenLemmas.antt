@@ -10,8 +10,8 @@ use Rattle.map_theory.proofs.WithoutEdge.{IsSimpleMap-without_edge, length-witho
 use Rattle.half_edges.specs.Arena.{vertex_at, twin_of, prev_of, tail_of, live_of, head_of, dart_in, IsLinked, IsPaired, AreFree, IsWired}
 use Rattle.half_edges.specs.Links.{IsThreaded}
 use Rattle.half_edges.specs.Edges.{IsTakenOut}
-use Rattle.half_edges.specs.declared.arena.DartRecord.{DartRecord}
-use Rattle.half_edges.specs.declared.arena.VertexRecord.{VertexRecord}
+use Rattle.half_edges.specs.declared.dart_records.DartRecord.{DartRecord}
+use Rattle.half_edges.specs.declared.dart_records.VertexRecord.{VertexRecord}
 use Rattle.half_edges.proofs.ArenaLemmas.{dart_in-live, dart_in-dead, IsDartAt-from, dart-lt, live-lt, prev_is}
 use Rattle.half_edges.proofs.FreeLemmas.{IsSameFree, AreFree-frame, IsLinked-frame, IsDartWithin, dart_within}
 use Rattle.half_edges.proofs.LinkLemmas.{tails_same, IsDartMore, set_dart, set_dart-here, set_dart-other}

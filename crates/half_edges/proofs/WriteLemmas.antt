@@ -5,7 +5,7 @@ use Rattle.std.proofs.lemmas.Bool.{cases_lt, cases_eq, cond-true, cond-false, eq
 use Rattle.std.proofs.lemmas.Bool.Decides.{nat_tests}
 use Rattle.half_edges.specs.Arena.{no_record, record_at, twin_of, next_of, prev_of, tail_of, live_of}
 use Rattle.half_edges.specs.Links.{IsSpliced, IsUnspliced, IsThreaded}
-use Rattle.half_edges.specs.declared.arena.DartRecord.{DartRecord}
+use Rattle.half_edges.specs.declared.dart_records.DartRecord.{DartRecord}
 
 -- a part that the written record has as before is as before at each place
 same_at : {A : Type 0} (part : DartRecord → A) (darts : List DartRecord) (i : ℕ) (r : DartRecord) (z : ℕ) → part r ≡ part (record_at darts i) → part (record_at (set darts i r) z) ≡ part (record_at darts z)

@@ -6,10 +6,10 @@ use Rattle.map_theory.specs.Maps.{HasDart, list_of, place_of}
 use Rattle.half_edges.specs.Map.{Map, dart_at, IsLive}
 use Rattle.half_edges.specs.Arena.{vertex_at, next_of, tail_of, head_of, live_of}
 use Rattle.half_edges.specs.Links.{IsSpliced, IsUnspliced, IsVertexSet}
-use Rattle.half_edges.specs.declared.arena.DartRecord.{DartRecord}
-use Rattle.half_edges.specs.declared.arena.VertexRecord.{VertexRecord}
-use Rattle.half_edges.specs.declared.edges.Corner.{Corner}
-use Rattle.half_edges.specs.declared.edges.Corner.TheVariants.{After, Only}
+use Rattle.half_edges.specs.declared.dart_records.DartRecord.{DartRecord}
+use Rattle.half_edges.specs.declared.dart_records.VertexRecord.{VertexRecord}
+use Rattle.half_edges.specs.declared.edge_edits.Corner.{Corner}
+use Rattle.half_edges.specs.declared.edge_edits.Corner.TheVariants.{After, Only}
 
 -- the place of a corner: its vertex, and the entry of the list behind which it stands, if the list has any
 abbrev pub corner_place : Map → Corner → Option (ℕ × Option ℕ)

@@ -1,8 +1,8 @@
 -- What one write to the records of an arena changes.
 use Rattle.std.specs.Prelude.{ℕ, ◌+◌, ◌*◌, ◌<◌, ◌≤◌, ◌≡◌, ◌≢◌, true, false, List, length}
 use Rattle.half_edges.specs.Arena.{record_at, vertex_at, twin_of, next_of, prev_of, tail_of, live_of, IsPaired, AreFree}
-use Rattle.half_edges.specs.declared.arena.DartRecord.{DartRecord}
-use Rattle.half_edges.specs.declared.arena.VertexRecord.{VertexRecord}
+use Rattle.half_edges.specs.declared.dart_records.DartRecord.{DartRecord}
+use Rattle.half_edges.specs.declared.dart_records.VertexRecord.{VertexRecord}
 
 -- the record of d was put between e and n, round this tail
 pub record IsSpliced (old new : List DartRecord) (d e n tail : ℕ) : Type 0 where

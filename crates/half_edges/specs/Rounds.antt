@@ -1,8 +1,8 @@
 -- The darts of each vertex linked into a round, where they stand one after another.
 use Rattle.std.specs.Prelude.{ℕ, ◌+◌, ◌-◌, ◌<◌, ◌≤◌, ◌≡◌, ◌==◌, nat_lt, if◌then◌else◌, true, List, ◌∷◌, length, slice_index, slice_index_or}
 use Rattle.half_edges.specs.Arena.{record_at, vertex_at, twin_of, tail_of}
-use Rattle.half_edges.specs.declared.arena.DartRecord.{DartRecord}
-use Rattle.half_edges.specs.declared.arena.VertexRecord.{VertexRecord}
+use Rattle.half_edges.specs.declared.dart_records.DartRecord.{DartRecord}
+use Rattle.half_edges.specs.declared.dart_records.VertexRecord.{VertexRecord}
 
 -- the record of dart d stands between the one before, where there is one, and the one after it
 pub record IsInLine (r : DartRecord) (d : ℕ) : Type 0 where

@@ -4,8 +4,8 @@ use Rattle.map_lists.specs.Lists.{Lists}
 use Rattle.map_theory.specs.Maps.{Dart, list_of}
 use Rattle.half_edges.specs.Map.{Map}
 use Rattle.half_edges.specs.Arena.{record_at, vertex_at}
-use Rattle.half_edges.specs.declared.arena.DartRecord.{DartRecord}
-use Rattle.half_edges.specs.declared.arena.VertexRecord.{VertexRecord}
+use Rattle.half_edges.specs.declared.dart_records.DartRecord.{DartRecord}
+use Rattle.half_edges.specs.declared.dart_records.VertexRecord.{VertexRecord}
 use Rattle.simple_maps.specs.Tables.{AreTables}
 
 -- the map of these tables: a dart's id is its number

@@ -7,7 +7,7 @@ ghost use Rattle.half_edges.specs.Map.{IsHalfMap, IsLive, dart_at, first_dart, n
 ghost use Rattle.simple_maps.specs.MapFault.{Names};
 ghost use Rattle.simple_maps.specs.Tables.{AreSlots};
 
-use crate::arena::{DartRecord, VertexRecord, dart_to, link_darts, push_heads};
+use crate::dart_records::{DartRecord, VertexRecord, dart_to, link_darts, push_heads};
 use map_lists::{DartId, Rotations, VertexId};
 use simple_maps::{MapFault, fill_twins, put_slots};
 use std::alloc::{AllocError, Global};

@@ -5,12 +5,12 @@
 //! `HalfMap` as its lists, its spare room and which id is which dart, and never what an id is made of.
 #![tactic(auto)]
 
-mod arena;
-mod edges;
+mod dart_records;
+mod edge_edits;
 mod half_map;
-mod parts;
+mod submaps;
 
-pub use edges::Corner;
+pub use edge_edits::Corner;
 pub use half_map::{HalfMap, MapMaker, MapMemory};
 pub use map_lists::{
     Counts, DartId, EdgeList, Ends, FaceId, PathList, Rotations, VertexId, VertexList,

@@ -5,9 +5,9 @@ ghost use Rattle.kuratowski.specs.Verdicts.{IsVerdict, NoBadBranch};
 
 use crate::Witness;
 use crate::branches::bad_branch;
-use crate::inner::shared;
+use crate::inner_vertices::shared;
+use crate::path_edges::missing_edge;
 use crate::shape::has_shape;
-use crate::steps::missing_edge;
 use graph6_text::Graph;
 use map_lists::VertexId;
 

@@ -4,9 +4,9 @@
 
 mod branches;
 mod check;
-mod inner;
+mod inner_vertices;
+mod path_edges;
 mod shape;
-mod steps;
 mod witness;
 
 pub use check::{WitnessVerdict, check_witness};

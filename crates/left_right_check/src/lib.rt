@@ -2,10 +2,10 @@
 //! side and to different sides.
 #![tactic(auto)]
 
-mod five;
+mod complete_five;
 mod forests;
-mod ties;
+mod side_ties;
 
-pub use five::is_k5;
+pub use complete_five::is_k5;
 pub use forests::{ReturnEdge, RootedForest, after_steps, entry, is_forest};
-pub use ties::{Fork, Pair, turned};
+pub use side_ties::{Fork, Pair, turned};

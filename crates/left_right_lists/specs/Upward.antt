@@ -4,7 +4,7 @@ use Rattle.map_theory.specs.Maps.{Dart}
 use Rattle.graph6_text.specs.Graphs.{EdgeGraph}
 use Rattle.left_right_lists.specs.Trees.{IsTreeOf}
 use Rattle.left_right_lists.specs.Groups.{IsRising}
-use Rattle.left_right_lists.specs.declared.returns.Upward.{Upward}
+use Rattle.left_right_lists.specs.declared.return_edges.Upward.{Upward}
 
 pub record IsUpward (graph : EdgeGraph) (up : Upward) : Type 0 where
   pub tree : IsTreeOf graph up.tree

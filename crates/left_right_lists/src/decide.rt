@@ -4,8 +4,8 @@ ghost use Rattle.map_lists.specs.Lists.{Lists};
 ghost use Rattle.embed_theorem.specs.Expanded.{IsMapOf};
 ghost use Rattle.left_right_lists.specs.Decided.{HasMap};
 
-use crate::returns::{RootedGraph, upward_of};
-use crate::sides::sides_of;
+use crate::fork_demands::sides_of;
+use crate::return_edges::{RootedGraph, upward_of};
 use graph6_text::Graph;
 use map_lists::Rotations;
 use std::alloc::{AllocError, Global};

@@ -5,17 +5,17 @@
 //! the vertices are placed one by one, the last of the tree's order first, and their entries are the lists of a map.
 #![tactic(auto)]
 
-mod blocks;
+mod child_edges;
 mod decide;
-mod edges;
-mod forest;
-mod groups;
+mod edge_orders;
+mod entry_blocks;
+mod fork_demands;
+mod lists_of_entries;
 mod one_tree;
-mod order;
 mod placing;
-mod returns;
-mod rows;
-mod sides;
+mod return_edges;
+mod search_depths;
+mod side_groups;
 mod tree;
 
 pub use decide::{has_map, map_of_graph};

@@ -7,8 +7,8 @@ ghost use Rattle.left_right_lists.specs.Trees.{IsTreeOf, AreSides};
 ghost use Rattle.left_right_lists.specs.Groups.{side_in};
 ghost use Rattle.left_right_lists.specs.Placing.{AreRows};
 
-use crate::edges::TreeVertex;
-use crate::returns::RootedGraph;
+use crate::child_edges::TreeVertex;
+use crate::return_edges::RootedGraph;
 use left_right_check::entry;
 use map_lists::ItemLists;
 use std::alloc::{AllocError, Global};

@@ -2,8 +2,8 @@
 ghost use Rattle.std.specs.Prelude.{◌<◌, IfOk};
 ghost use Rattle.left_right_lists.specs.Trees.{IsTreeOf};
 
-use crate::forest::depths_of;
 use crate::one_tree::OneTree;
+use crate::search_depths::depths_of;
 use conn_parts::graph_cuts::graph_lists;
 use graph_search::search_forests::search_forest;
 use graph6_text::Graph;

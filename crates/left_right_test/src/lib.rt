@@ -5,24 +5,24 @@
 //! the caller checks them.
 #![tactic(auto)]
 
-mod conflicts;
-mod edges;
-mod few;
-mod links;
-mod orient;
-mod placing;
-mod ring;
-mod row;
-mod search;
-mod shown;
-mod signs;
-mod test;
-mod ties;
+mod conflict_pairs;
+mod conflict_proof;
+mod conflict_ring;
+mod dart_lists;
+mod embedding;
+mod fixed_tables;
+mod graph_edges;
+mod orientation;
+mod planarity_test;
+mod search_tables;
+mod settled_sides;
+mod side_ties;
+mod small_graphs;
 
-pub use edges::Edges;
-pub use links::Links;
-pub use placing::ends_of;
-pub use ring::{OddRing, branch_of, near_edge};
-pub use row::{ByDart, ByEdge, ByVertex, NONE, minus, plus, twice};
-pub use search::Search;
-pub use test::LeftRightTest;
+pub use conflict_ring::{OddRing, branch_of, near_edge};
+pub use dart_lists::Links;
+pub use embedding::ends_of;
+pub use fixed_tables::{ByDart, ByEdge, ByVertex, NONE, minus, plus, twice};
+pub use graph_edges::Edges;
+pub use planarity_test::LeftRightTest;
+pub use search_tables::Search;

@@ -4,7 +4,7 @@ use Rattle.std.specs.Prelude.{neg_ℤ}
 use Rattle.std.proofs.lemmas.Int.{ints}
 use Rattle.std.proofs.Math.ListN.{get_or-append}
 use Rattle.std.proofs.Math.Seq.{get_or-append_seam}
-use Rattle.pg_plane.specs.declared.point.Point.{Point}
+use Rattle.pg_plane.specs.declared.segments.Point.{Point}
 use Rattle.pg_plane.specs.Range.{IsInRange, IsWithin}
 use Rattle.std.proofs.lemmas.List.{length-map, length-drop, drop-drop}
 use Rattle.std.proofs.lemmas.List.Elements.{All-nil}
@@ -13,15 +13,15 @@ use Rattle.std.specs.Prelude.{Ok, Option, Some, None, IsTrue, IsFalse, ◌⊎◌
 use Rattle.record_runs.specs.Texts.{input_limit}
 use Rattle.figure_text.specs.declared.figure.Figure.{Figure}
 use Rattle.figure_text.specs.declared.figure.Figure.TheVariants.{Grid as GridFigure, Bars as BarsFigure, Rects as RectsFigure, Witness as WitnessFigure}
-use Rattle.figure_text.specs.declared.judge.Kind.{Kind}
-use Rattle.figure_text.specs.declared.judge.Kind.TheVariants.{Grid, Bars, Rects, Witness}
-use Rattle.figure_text.specs.declared.rows.Draft.{Draft}
+use Rattle.figure_text.specs.declared.line_shapes.Kind.{Kind}
+use Rattle.figure_text.specs.declared.line_shapes.Kind.TheVariants.{Grid, Bars, Rects, Witness}
+use Rattle.figure_text.specs.declared.vertex_lines.Draft.{Draft}
 use Rattle.figure_text.specs.declared.fault.TextFault.{TextFault}
 use Rattle.figure_text.specs.declared.fault.TextFault.TheVariants as fault
-use Rattle.figure_text.specs.declared.read.Item.TheVariants.{Drawn, Note}
+use Rattle.figure_text.specs.declared.figure_ends.Item.TheVariants.{Drawn, Note}
 use Rattle.figure_text.specs.Words.{words_of, word_at}
-use Rattle.figure_text.specs.declared.words.Word.{Word}
-use Rattle.figure_text.specs.declared.words.Word.TheVariants.{Number, Closing, Named, Other}
+use Rattle.figure_text.specs.declared.line_words.Word.{Word}
+use Rattle.figure_text.specs.declared.line_words.Word.TheVariants.{Number, Closing, Named, Other}
 use Rattle.figure_text.specs.Text.{point_at}
 use Rattle.figure_text.specs.Lines.{IsFirstLine, FirstInRange, rows_due, IsColumnsLine, ColumnsInRange, integer_of, signed_value}
 use Rattle.figure_text.specs.Reading.{IsPlain, IsLine, Rows, RowsFail, IsRow, RowInRange, IsGoodRow, is_note, vertices_from, point_of}
@@ -33,19 +33,19 @@ use Rattle.figure_text.proofs.RowLemmas.{Rows-more as Rows-push, drafted-more}
 use Rattle.figure_text.specs.Laws.{IsAnswer}
 use Rattle.line_inputs.specs.FigureLinesReading.{AreItems, EndsAs, IsReading}
 use Rattle.line_inputs.specs.Heads.{head_kind, HasGraph}
-use Rattle.line_inputs.specs.declared.figure_lines.head.Head.{Head}
-use Rattle.line_inputs.specs.declared.figure_lines.head.Head.TheVariants.{Grid as GridHead, Bars as BarsHead, Rects as RectsHead, Witness as WitnessHead}
+use Rattle.line_inputs.specs.declared.figure_lines.first_line.Head.{Head}
+use Rattle.line_inputs.specs.declared.figure_lines.first_line.Head.TheVariants.{Grid as GridHead, Bars as BarsHead, Rects as RectsHead, Witness as WitnessHead}
 use Rattle.line_inputs.specs.Given.{AreDrawn}
 use Rattle.line_inputs.specs.FigureLinesProgress.{IsBegun, IsDue, Progress, Makes, Closes}
-use Rattle.line_inputs.specs.declared.figure_lines.rows.Rows.{Rows as Content}
+use Rattle.line_inputs.specs.declared.figure_lines.vertex_lines.Rows.{Rows as Content}
 use Rattle.line_inputs.specs.Steps.{no_lines, GoesOn, IsMadeOf, IsGrown}
-use Rattle.line_inputs.specs.declared.figure_lines.step.After.{After}
-use Rattle.line_inputs.specs.declared.figure_lines.step.After.TheVariants.{Goes, Whole, Bad}
+use Rattle.line_inputs.specs.declared.figure_lines.closed_line.After.{After}
+use Rattle.line_inputs.specs.declared.figure_lines.closed_line.After.TheVariants.{Goes, Whole, Bad}
 use Rattle.line_inputs.specs.declared.figure_lines.ending.Ending.{Ending}
 use Rattle.line_inputs.specs.declared.figure_lines.ending.Ending.TheVariants.{Well, BadLine, Limit, EndInFigure, TooLong}
-use Rattle.line_inputs.specs.declared.figure_lines.begun.Begun.{Begun}
-use Rattle.line_inputs.specs.declared.figure_lines.begun.Due.{Due}
-use Rattle.line_inputs.specs.declared.figure_lines.begun.Due.TheVariants.{Row, Columns}
+use Rattle.line_inputs.specs.declared.figure_lines.begun_figure.Begun.{Begun}
+use Rattle.line_inputs.specs.declared.figure_lines.begun_figure.Due.{Due}
+use Rattle.line_inputs.specs.declared.figure_lines.begun_figure.Due.TheVariants.{Row, Columns}
 use Rattle.line_inputs.proofs.MoreLemmas.{drop-more, within-more, IsLine-more, Rows-more}
 use Rattle.line_inputs.proofs.ItemLemmas.{AreItems-more, AreItems-drawn, AreItems-note, figures_of-drawn, figures_of-note}
 

@@ -5,13 +5,13 @@ use Rattle.std.proofs.lemmas.List.Elements.{All-append, All-from_get_or}
 use Rattle.std.specs.Prelude.{Option, Some, None, Bool, true, false, if◌then◌else◌}
 use Rattle.record_runs.specs.Texts.{input_limit}
 use Rattle.figure_text.specs.declared.figure.Figure.{Figure}
-use Rattle.line_inputs.specs.declared.figure_lines.head.Head.TheVariants.{Bars}
+use Rattle.line_inputs.specs.declared.figure_lines.first_line.Head.TheVariants.{Bars}
 use Rattle.figure_text.specs.Reading.{IsPlain}
 use Rattle.line_inputs.specs.FigureLinesProgress.{IsDue, IsOpen, Progress, Makes, Closes}
-use Rattle.line_inputs.specs.declared.figure_lines.begun.Begun.{Begun}
-use Rattle.line_inputs.specs.declared.figure_lines.begun.Due.{Due}
-use Rattle.line_inputs.specs.declared.figure_lines.begun.Due.TheVariants.{Row, Columns}
-use Rattle.line_inputs.specs.declared.figure_lines.step.After.{After}
+use Rattle.line_inputs.specs.declared.figure_lines.begun_figure.Begun.{Begun}
+use Rattle.line_inputs.specs.declared.figure_lines.begun_figure.Due.{Due}
+use Rattle.line_inputs.specs.declared.figure_lines.begun_figure.Due.TheVariants.{Row, Columns}
+use Rattle.line_inputs.specs.declared.figure_lines.closed_line.After.{After}
 use Rattle.line_inputs.proofs.MoreLemmas.{drop-more, within-more}
 use Rattle.line_inputs.proofs.ItemLemmas.{AreItems-more}
 use Rattle.line_inputs.proofs.FigureLinesLineLemmas.{IsBegun-more, closes}

@@ -5,7 +5,7 @@ use Rattle.std.proofs.Math.Seq.{take-append-add}
 use Rattle.std.specs.Prelude.{Option, Some, None, Err}
 use Rattle.record_runs.specs.Texts.{input_limit}
 use Rattle.figure_text.specs.declared.figure.Figure.{Figure}
-use Rattle.figure_text.specs.declared.judge.Kind.TheVariants.{Bars}
+use Rattle.figure_text.specs.declared.line_shapes.Kind.TheVariants.{Bars}
 use Rattle.figure_text.specs.declared.fault.TextFault.TheVariants as fault
 use Rattle.figure_text.specs.Reading.{IsPlain}
 use Rattle.figure_text.specs.Laws.{IsAnswer}
@@ -13,9 +13,9 @@ use Rattle.line_inputs.specs.FigureLinesReading.{AreItems, EndsAs, BeginsWith, I
 use Rattle.line_inputs.specs.Heads.{head_kind}
 use Rattle.line_inputs.specs.FigureLinesProgress.{IsDue, IsOpen}
 use Rattle.line_inputs.specs.FigureLinesState.{State, IsAt, ending_by}
-use Rattle.line_inputs.specs.declared.figure_lines.begun.Begun.{Begun}
-use Rattle.line_inputs.specs.declared.figure_lines.begun.Due.{Due}
-use Rattle.line_inputs.specs.declared.figure_lines.begun.Due.TheVariants.{Row, Columns}
+use Rattle.line_inputs.specs.declared.figure_lines.begun_figure.Begun.{Begun}
+use Rattle.line_inputs.specs.declared.figure_lines.begun_figure.Due.{Due}
+use Rattle.line_inputs.specs.declared.figure_lines.begun_figure.Due.TheVariants.{Row, Columns}
 use Rattle.line_inputs.specs.declared.figure_lines.ending.Ending.{Ending}
 use Rattle.line_inputs.specs.declared.figure_lines.ending.Ending.TheVariants.{TooLong}
 use Rattle.line_inputs.proofs.ItemLemmas.{AreItems-more}

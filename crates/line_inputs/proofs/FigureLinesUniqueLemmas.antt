@@ -6,8 +6,8 @@ use Rattle.record_runs.specs.Texts.{input_limit}
 use Rattle.figure_text.specs.declared.figure.Figure.{Figure}
 use Rattle.figure_text.specs.declared.fault.TextFault.{TextFault}
 use Rattle.figure_text.specs.declared.fault.TextFault.TheVariants as fault
-use Rattle.figure_text.specs.declared.read.Item.{Item}
-use Rattle.figure_text.specs.declared.read.Item.TheVariants.{Drawn, Note, End}
+use Rattle.figure_text.specs.declared.figure_ends.Item.{Item}
+use Rattle.figure_text.specs.declared.figure_ends.Item.TheVariants.{Drawn, Note, End}
 use Rattle.figure_text.specs.Reading.{IsPlain}
 use Rattle.figure_text.proofs.UniqueFigures.{one-answer}
 use Rattle.figure_text.specs.Laws.{IsAnswer}

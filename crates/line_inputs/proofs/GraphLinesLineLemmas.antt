@@ -8,7 +8,7 @@ use Rattle.record_runs.specs.Texts.{input_limit}
 use Rattle.graph6_text.specs.Graphs.{EdgeGraph}
 use Rattle.graph6_text.specs.Header.{graph_header, header_length}
 use Rattle.graph6_text.specs.Lines.{IsLine}
-use Rattle.graph6_text.specs.declared.line.G6Fault.{G6Fault}
+use Rattle.graph6_text.specs.declared.graph6_lines.G6Fault.{G6Fault}
 use Rattle.figure_text.specs.Reading.{IsPlain, closed}
 use Rattle.figure_text.proofs.RowLemmas.{closed-more}
 use Rattle.line_inputs.specs.GraphLinesReading.{first_bytes, lines_in, AreLines, HasLines, EndsAs}
@@ -16,8 +16,8 @@ use Rattle.line_inputs.specs.GraphLinesFormat.{IsBad}
 use Rattle.line_inputs.specs.GraphLinesProgress.{IsSettled, Stands, Progress, behind_header, Judges, IsJudged, Closes}
 use Rattle.line_inputs.specs.declared.graph_lines.ending.Ending.{Ending}
 use Rattle.line_inputs.specs.declared.graph_lines.ending.Ending.TheVariants.{Well, BadLine, Limit, TooLong}
-use Rattle.line_inputs.specs.declared.graph_lines.line.Judged.{Judged}
-use Rattle.line_inputs.specs.declared.graph_lines.line.Judged.TheVariants.{Header, Graph, Bad}
+use Rattle.line_inputs.specs.declared.graph_lines.open_line.Judged.{Judged}
+use Rattle.line_inputs.specs.declared.graph_lines.open_line.Judged.TheVariants.{Header, Graph, Bad}
 use Rattle.line_inputs.proofs.HeaderLemmas.{header-of-line, header-within, settled-line, settled-more}
 
 -- a line more

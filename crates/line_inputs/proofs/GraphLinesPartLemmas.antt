@@ -5,7 +5,7 @@ use Rattle.record_runs.specs.Texts.{input_limit}
 use Rattle.graph6_text.specs.Graphs.{EdgeGraph}
 use Rattle.line_inputs.proofs.FigureLinesPartLemmas.{IsPlain-front}
 use Rattle.line_inputs.specs.GraphLinesProgress.{Progress, Closes}
-use Rattle.line_inputs.specs.declared.graph_lines.line.Judged.{Judged}
+use Rattle.line_inputs.specs.declared.graph_lines.open_line.Judged.{Judged}
 use Rattle.line_inputs.proofs.GraphLinesLineLemmas.{Progress-joined}
 
 -- a part that holds no byte 10

@@ -1,6 +1,6 @@
 -- An ending that a wrong body would give.
 use Rattle.std.proofs.Common.{ℕ, List, Some}
-use Rattle.graph6_text.specs.declared.line.G6Fault.TheVariants.{TooMany}
+use Rattle.graph6_text.specs.declared.graph6_lines.G6Fault.TheVariants.{TooMany}
 use Rattle.line_inputs.specs.GraphLinesProgress.{Judges}
 use Rattle.line_inputs.specs.declared.graph_lines.ending.Ending.TheVariants.{BadLine}
 

@@ -6,8 +6,8 @@ use Rattle.record_runs.specs.Texts.{input_limit}
 use Rattle.graph6_text.specs.Graphs.{EdgeGraph}
 use Rattle.graph6_text.specs.Lines.{IsLine}
 use Rattle.graph6_text.specs.Faults.{line_fault}
-use Rattle.graph6_text.specs.declared.line.G6Fault.{G6Fault}
-use Rattle.graph6_text.specs.declared.line.G6Fault.TheVariants.{BadByte, LongCount, TooMany, ShortLine, ExtraByte, Padding, NoMemory}
+use Rattle.graph6_text.specs.declared.graph6_lines.G6Fault.{G6Fault}
+use Rattle.graph6_text.specs.declared.graph6_lines.G6Fault.TheVariants.{BadByte, LongCount, TooMany, ShortLine, ExtraByte, Padding, NoMemory}
 use Rattle.graph6_text.proofs.LineLemmas.{one_graph, lines_are_graphs, graph-said}
 use Rattle.figure_text.specs.Reading.{IsPlain, IsLine as IsClosed, closed}
 use Rattle.figure_text.proofs.UniqueRows.{front-unique, closed-cons, plain-front}

@@ -2,8 +2,8 @@
 use Rattle.std.proofs.Common.{◌≡◌, ℕ, ◌≤◌, List, [], ◌∷◌, ◌++◌, length, refl, ap}
 use Rattle.std.specs.Prelude.{Ok}
 use Rattle.figure_text.specs.declared.figure.Figure.{Figure}
-use Rattle.figure_text.specs.declared.read.Item.{Item}
-use Rattle.figure_text.specs.declared.read.Item.TheVariants.{Drawn, Note, End}
+use Rattle.figure_text.specs.declared.figure_ends.Item.{Item}
+use Rattle.figure_text.specs.declared.figure_ends.Item.TheVariants.{Drawn, Note, End}
 use Rattle.figure_text.specs.Laws.{IsAnswer}
 use Rattle.line_inputs.specs.FigureLinesReading.{AreItems, figures_of}
 use Rattle.line_inputs.proofs.MoreLemmas.{drawn-more, note-more}

@@ -2,15 +2,15 @@
 use Rattle.std.proofs.Common.{◌≡◌, ℕ, ◌+◌, ◌-◌, ◌<◌, ◌≤◌, List, [], ◌∷◌, ◌++◌, length, drop, refl, sym, ap, ◌∙◌, subst, arith, append_assoc, length-append, length-drop}
 use Rattle.std.specs.Prelude.{Option, Some, None, Ok, Err}
 use Rattle.figure_text.specs.declared.figure.Figure.{Figure}
-use Rattle.figure_text.specs.declared.read.Item.TheVariants.{Drawn, Note}
+use Rattle.figure_text.specs.declared.figure_ends.Item.TheVariants.{Drawn, Note}
 use Rattle.figure_text.specs.Reading.{IsPlain, IsLine}
 use Rattle.figure_text.specs.Laws.{IsAnswer}
 use Rattle.line_inputs.specs.FigureLinesProgress.{IsDue, IsOpen, Makes, IsReadTo, fault_at, end_fault}
-use Rattle.line_inputs.specs.declared.figure_lines.begun.Begun.{Begun}
-use Rattle.line_inputs.specs.declared.figure_lines.begun.Due.{Due}
-use Rattle.line_inputs.specs.declared.figure_lines.begun.Due.TheVariants.{Row, Columns}
+use Rattle.line_inputs.specs.declared.figure_lines.begun_figure.Begun.{Begun}
+use Rattle.line_inputs.specs.declared.figure_lines.begun_figure.Due.{Due}
+use Rattle.line_inputs.specs.declared.figure_lines.begun_figure.Due.TheVariants.{Row, Columns}
 use Rattle.line_inputs.specs.declared.figure_lines.ending.Ending.{Ending}
-use Rattle.line_inputs.specs.declared.figure_lines.step.After.TheVariants.{Goes, Whole, Bad}
+use Rattle.line_inputs.specs.declared.figure_lines.closed_line.After.TheVariants.{Goes, Whole, Bad}
 use Rattle.line_inputs.proofs.MoreLemmas.{drawn-more, note-more}
 use Rattle.line_inputs.proofs.FigureLinesLineLemmas.{lists-lines, drawn-at, note-at}
 use Rattle.line_inputs.proofs.FigureLinesPartLemmas.{open-more}

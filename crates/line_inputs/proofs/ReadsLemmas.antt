@@ -7,9 +7,9 @@ use Rattle.record_runs.specs.Texts.{input_limit}
 use Rattle.figure_text.specs.declared.figure.Figure.{Figure}
 use Rattle.figure_text.specs.declared.figure.Figure.TheVariants.{Grid as GridFigure, Bars as BarsFigure, Rects as RectsFigure, Witness as WitnessFigure}
 use Rattle.figure_text.specs.declared.figure.GridJob.TheVariants.{Shift}
-use Rattle.figure_text.specs.declared.judge.Kind.{Kind}
-use Rattle.figure_text.specs.declared.judge.Kind.TheVariants.{Grid, Bars, Rects, Witness}
-use Rattle.figure_text.specs.declared.rows.Draft.{Draft}
+use Rattle.figure_text.specs.declared.line_shapes.Kind.{Kind}
+use Rattle.figure_text.specs.declared.line_shapes.Kind.TheVariants.{Grid, Bars, Rects, Witness}
+use Rattle.figure_text.specs.declared.vertex_lines.Draft.{Draft}
 use Rattle.kuratowski.specs.declared.witness.Kind.{Kind as Subdivided}
 use Rattle.kuratowski.specs.declared.witness.Kind.TheVariants.{K5, K33}
 use Rattle.figure_text.specs.Words.{words_of, part_at}
@@ -20,18 +20,18 @@ use Rattle.figure_text.specs.Figures.{IsHead, columns_of, witness_of}
 use Rattle.graph6_text.proofs.LineLemmas.{graph-said}
 use Rattle.line_inputs.specs.FigureLinesReading.{IsReading}
 use Rattle.line_inputs.specs.Heads.{head_kind, HasGraph}
-use Rattle.line_inputs.specs.declared.figure_lines.head.Head.{Head}
-use Rattle.line_inputs.specs.declared.figure_lines.head.Head.TheVariants.{Grid as GridHead, Bars as BarsHead, Rects as RectsHead, Witness as WitnessHead}
+use Rattle.line_inputs.specs.declared.figure_lines.first_line.Head.{Head}
+use Rattle.line_inputs.specs.declared.figure_lines.first_line.Head.TheVariants.{Grid as GridHead, Bars as BarsHead, Rects as RectsHead, Witness as WitnessHead}
 use Rattle.line_inputs.specs.Given.{AreDrawn}
 use Rattle.line_inputs.specs.FigureLinesProgress.{IsDue, IsOpen, Progress, Makes, Closes}
 use Rattle.line_inputs.specs.Steps.{no_lines, IsGrown}
-use Rattle.line_inputs.specs.declared.figure_lines.begun.Begun.{Begun}
-use Rattle.line_inputs.specs.declared.figure_lines.begun.Due.{Due}
-use Rattle.line_inputs.specs.declared.figure_lines.begun.Due.TheVariants.{Row, Columns}
-use Rattle.line_inputs.specs.declared.figure_lines.begun.SomeRows.{SomeRows}
-use Rattle.line_inputs.specs.declared.figure_lines.begun.AllBars.{AllBars}
-use Rattle.line_inputs.specs.declared.figure_lines.step.After.{After}
-use Rattle.line_inputs.specs.declared.figure_lines.step.After.TheVariants.{Goes, Whole, Bad}
+use Rattle.line_inputs.specs.declared.figure_lines.begun_figure.Begun.{Begun}
+use Rattle.line_inputs.specs.declared.figure_lines.begun_figure.Due.{Due}
+use Rattle.line_inputs.specs.declared.figure_lines.begun_figure.Due.TheVariants.{Row, Columns}
+use Rattle.line_inputs.specs.declared.figure_lines.begun_figure.SomeRows.{SomeRows}
+use Rattle.line_inputs.specs.declared.figure_lines.begun_figure.AllBars.{AllBars}
+use Rattle.line_inputs.specs.declared.figure_lines.closed_line.After.{After}
+use Rattle.line_inputs.specs.declared.figure_lines.closed_line.After.TheVariants.{Goes, Whole, Bad}
 use Rattle.line_inputs.specs.declared.figure_lines.ending.Ending.{Ending}
 use Rattle.line_inputs.specs.declared.figure_lines.ending.Ending.TheVariants.{BadLine, Limit, TooLong}
 use Rattle.line_inputs.specs.FigureLinesState.{State, IsAt, ending_by}

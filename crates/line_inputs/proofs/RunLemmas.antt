@@ -5,17 +5,17 @@ use Rattle.std.proofs.Math.Seq.{take-add}
 use Rattle.std.specs.Prelude.{Some}
 use Rattle.record_runs.specs.Texts.{input_limit}
 use Rattle.figure_text.specs.declared.figure.Figure.{Figure}
-use Rattle.figure_text.specs.declared.rows.Draft.{Draft}
+use Rattle.figure_text.specs.declared.vertex_lines.Draft.{Draft}
 use Rattle.figure_text.specs.Words.{words_of}
 use Rattle.figure_text.specs.Drafts.{with_row}
 use Rattle.figure_text.specs.Reading.{IsRow, RowInRange}
 use Rattle.line_inputs.specs.Heads.{head_kind}
 use Rattle.line_inputs.specs.FigureLinesProgress.{Progress}
 use Rattle.line_inputs.specs.FigureLinesState.{TakesRun}
-use Rattle.line_inputs.specs.declared.figure_lines.begun.Begun.{Begun}
-use Rattle.line_inputs.specs.declared.figure_lines.begun.SomeRows.{SomeRows}
-use Rattle.line_inputs.specs.declared.figure_lines.begun.Due.TheVariants.{Row}
-use Rattle.line_inputs.specs.declared.figure_lines.step.After.TheVariants.{Goes}
+use Rattle.line_inputs.specs.declared.figure_lines.begun_figure.Begun.{Begun}
+use Rattle.line_inputs.specs.declared.figure_lines.begun_figure.SomeRows.{SomeRows}
+use Rattle.line_inputs.specs.declared.figure_lines.begun_figure.Due.TheVariants.{Row}
+use Rattle.line_inputs.specs.declared.figure_lines.closed_line.After.TheVariants.{Goes}
 use Rattle.line_inputs.proofs.FigureLinesLineLemmas.{makes-grown, lists-with_row}
 use Rattle.line_inputs.proofs.FigureLinesPartLemmas.{closes-line}
 

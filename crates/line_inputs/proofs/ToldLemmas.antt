@@ -4,16 +4,16 @@ use Rattle.std.proofs.lemmas.Bool.{cases_lt, cases_eq}
 use Rattle.std.proofs.lemmas.List.Elements.{All-nil, All-cons, All-head, All-tail}
 use Rattle.std.specs.Prelude.{◌⊎◌, All, IsTrue, Option, Some, None}
 use Rattle.graph6_text.specs.Faults.{line_fault}
-use Rattle.graph6_text.specs.declared.line.G6Fault.{G6Fault}
-use Rattle.figure_text.specs.declared.judge.Kind.{Kind}
-use Rattle.figure_text.specs.declared.judge.Kind.TheVariants.{Grid, Bars, Rects, Witness}
-use Rattle.figure_text.specs.declared.piece.Piece.{Piece}
-use Rattle.figure_text.specs.declared.piece.Piece.TheVariants.{Place, Literal, Value, Last}
-use Rattle.figure_text.specs.declared.piece.Piece.TheVariants as piece
-use Rattle.figure_text.specs.declared.words.Word.{Word}
-use Rattle.figure_text.specs.declared.words.Word.TheVariants.{Number, Closing, Named, Other}
-use Rattle.figure_text.specs.declared.words.Name.{Name}
-use Rattle.figure_text.specs.declared.words.Name.TheVariants as name
+use Rattle.graph6_text.specs.declared.graph6_lines.G6Fault.{G6Fault}
+use Rattle.figure_text.specs.declared.line_shapes.Kind.{Kind}
+use Rattle.figure_text.specs.declared.line_shapes.Kind.TheVariants.{Grid, Bars, Rects, Witness}
+use Rattle.figure_text.specs.declared.front_pieces.Piece.{Piece}
+use Rattle.figure_text.specs.declared.front_pieces.Piece.TheVariants.{Place, Literal, Value, Last}
+use Rattle.figure_text.specs.declared.front_pieces.Piece.TheVariants as piece
+use Rattle.figure_text.specs.declared.line_words.Word.{Word}
+use Rattle.figure_text.specs.declared.line_words.Word.TheVariants.{Number, Closing, Named, Other}
+use Rattle.figure_text.specs.declared.line_words.Name.{Name}
+use Rattle.figure_text.specs.declared.line_words.Name.TheVariants as name
 use Rattle.figure_text.specs.Words.{words_of, word_at, part_at}
 use Rattle.figure_text.specs.Lines.{size, is_natural, is_number, is_closing, is_graph_shaped, kind_of, row_name, IsTail, TailInRange, IsInside, IsVertex, IsFirstLine, FirstInRange, IsColumnsLine, ColumnsInRange}
 use Rattle.figure_text.specs.Pieces.{pieces, front_length, Fits, IsWithin, is_long}

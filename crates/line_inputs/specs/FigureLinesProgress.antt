@@ -1,9 +1,9 @@
 -- How far the bytes consumed so far have been read.
 use Rattle.std.specs.Prelude.{ℕ, ◌+◌, ◌≤◌, ◌≡◌, List, [], ◌∷◌, ◌++◌, length, drop, Option, Some, None, Ok, Err}
 use Rattle.figure_text.specs.declared.figure.Figure.{Figure}
-use Rattle.figure_text.specs.declared.rows.Draft.{Draft}
-use Rattle.figure_text.specs.declared.read.Item.{Item}
-use Rattle.figure_text.specs.declared.read.Item.TheVariants.{Drawn, Note}
+use Rattle.figure_text.specs.declared.vertex_lines.Draft.{Draft}
+use Rattle.figure_text.specs.declared.figure_ends.Item.{Item}
+use Rattle.figure_text.specs.declared.figure_ends.Item.TheVariants.{Drawn, Note}
 use Rattle.figure_text.specs.declared.fault.TextFault.{TextFault}
 use Rattle.figure_text.specs.declared.fault.TextFault.TheVariants as fault
 use Rattle.figure_text.specs.Laws.{IsAnswer}
@@ -16,13 +16,13 @@ use Rattle.line_inputs.specs.Given.{IsGiven}
 use Rattle.line_inputs.specs.Heads.{head_kind, HasGraph}
 use Rattle.line_inputs.specs.declared.figure_lines.ending.Ending.{Ending}
 use Rattle.line_inputs.specs.declared.figure_lines.ending.Ending.TheVariants.{Well, BadLine, Limit, EndInFigure, TooLong}
-use Rattle.line_inputs.specs.declared.figure_lines.head.Head.{Head}
-use Rattle.line_inputs.specs.declared.figure_lines.head.Head.TheVariants.{Bars}
-use Rattle.line_inputs.specs.declared.figure_lines.begun.Begun.{Begun}
-use Rattle.line_inputs.specs.declared.figure_lines.begun.Due.{Due}
-use Rattle.line_inputs.specs.declared.figure_lines.begun.Due.TheVariants.{Row, Columns}
-use Rattle.line_inputs.specs.declared.figure_lines.step.After.{After}
-use Rattle.line_inputs.specs.declared.figure_lines.step.After.TheVariants.{Goes, Whole, Bad}
+use Rattle.line_inputs.specs.declared.figure_lines.first_line.Head.{Head}
+use Rattle.line_inputs.specs.declared.figure_lines.first_line.Head.TheVariants.{Bars}
+use Rattle.line_inputs.specs.declared.figure_lines.begun_figure.Begun.{Begun}
+use Rattle.line_inputs.specs.declared.figure_lines.begun_figure.Due.{Due}
+use Rattle.line_inputs.specs.declared.figure_lines.begun_figure.Due.TheVariants.{Row, Columns}
+use Rattle.line_inputs.specs.declared.figure_lines.closed_line.After.{After}
+use Rattle.line_inputs.specs.declared.figure_lines.closed_line.After.TheVariants.{Goes, Whole, Bad}
 
 -- A figure begins at the front of a text, on the line with the number `first`, with its first line and some of its n lines of
 -- vertices, or of branches and paths, of which this is the draft. What is left is the line with the number `line`.

@@ -3,8 +3,8 @@ use Rattle.std.specs.Prelude.{ℕ, ◌<◌, ◌≤◌, ◌≡◌, ◌⊎◌, Lis
 use Rattle.record_runs.specs.Texts.{input_limit}
 use Rattle.figure_text.specs.declared.figure.Figure.{Figure}
 use Rattle.figure_text.specs.declared.fault.TextFault.TheVariants as fault
-use Rattle.figure_text.specs.declared.read.Item.{Item}
-use Rattle.figure_text.specs.declared.read.Item.TheVariants.{Drawn, Note, End}
+use Rattle.figure_text.specs.declared.figure_ends.Item.{Item}
+use Rattle.figure_text.specs.declared.figure_ends.Item.TheVariants.{Drawn, Note, End}
 use Rattle.figure_text.specs.Reading.{IsPlain}
 use Rattle.figure_text.specs.Laws.{IsAnswer}
 use Rattle.line_inputs.specs.declared.figure_lines.ending.Ending.{Ending}

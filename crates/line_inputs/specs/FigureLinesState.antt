@@ -4,11 +4,11 @@ use Rattle.figure_text.specs.declared.figure.Figure.{Figure}
 use Rattle.line_inputs.specs.FigureLinesProgress.{Progress, Closes, IsWhole}
 use Rattle.line_inputs.specs.declared.figure_lines.ending.Ending.{Ending}
 use Rattle.line_inputs.specs.declared.figure_lines.ending.Ending.TheVariants.{Well, BadLine, EndInFigure}
-use Rattle.line_inputs.specs.declared.figure_lines.begun.Begun.{Begun}
-use Rattle.line_inputs.specs.declared.figure_lines.part.Line.{Line}
-use Rattle.line_inputs.specs.declared.figure_lines.part.Line.TheVariants.{Open, Closed, Ran}
-use Rattle.line_inputs.specs.declared.figure_lines.run.Front.{Front}
-use Rattle.line_inputs.specs.declared.figure_lines.run.Front.TheVariants.{Lines, NoLine}
+use Rattle.line_inputs.specs.declared.figure_lines.begun_figure.Begun.{Begun}
+use Rattle.line_inputs.specs.declared.figure_lines.open_line.Line.{Line}
+use Rattle.line_inputs.specs.declared.figure_lines.open_line.Line.TheVariants.{Open, Closed, Ran}
+use Rattle.line_inputs.specs.declared.figure_lines.line_batch.Front.{Front}
+use Rattle.line_inputs.specs.declared.figure_lines.line_batch.Front.TheVariants.{Lines, NoLine}
 
 -- A reader: how many bytes it has consumed, the number of the open line and what has come of it, the figure that has begun,
 -- and the one that became whole last.

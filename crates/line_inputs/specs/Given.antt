@@ -1,17 +1,17 @@
 -- What holds of each figure that is read.
 use Rattle.std.specs.Prelude.{ℕ, ◌<◌, ◌≡◌, List, [], length}
 use Rattle.map_lists.specs.Lists.{Lists}
-use Rattle.pg_plane.specs.declared.point.Point.{Point}
-use Rattle.pg_plane.specs.declared.figure.BarFigure.{BarFigure}
-use Rattle.pg_plane.specs.declared.figure.RectFigure.{RectFigure}
+use Rattle.pg_plane.specs.declared.segments.Point.{Point}
+use Rattle.pg_plane.specs.declared.figures.BarFigure.{BarFigure}
+use Rattle.pg_plane.specs.declared.figures.RectFigure.{RectFigure}
 use Rattle.pg_plane.specs.Range.{IsInRange}
 use Rattle.figure_text.specs.declared.figure.GridJob.{GridJob}
 use Rattle.figure_text.specs.declared.figure.Figure.{Figure}
 use Rattle.figure_text.specs.declared.figure.Figure.TheVariants.{Grid, Bars, Rects, Witness}
-use Rattle.figure_text.specs.declared.rows.Draft.{Draft}
+use Rattle.figure_text.specs.declared.vertex_lines.Draft.{Draft}
 use Rattle.figure_text.specs.Text.{point_at, HasBars, HasRects}
-use Rattle.line_inputs.specs.declared.figure_lines.head.Head.{Head}
-use Rattle.line_inputs.specs.declared.figure_lines.head.Head.TheVariants.{Grid as GridHead, Bars as BarsHead, Rects as RectsHead}
+use Rattle.line_inputs.specs.declared.figure_lines.first_line.Head.{Head}
+use Rattle.line_inputs.specs.declared.figure_lines.first_line.Head.TheVariants.{Grid as GridHead, Bars as BarsHead, Rects as RectsHead}
 
 -- a point for each list, within the range of coordinates
 pub record HasPoints (lists : Lists) (points : List Point) : Type 0 where

@@ -4,14 +4,14 @@ use Rattle.graph6_text.specs.Graphs.{EdgeGraph}
 use Rattle.graph6_text.specs.Header.{header_length}
 use Rattle.graph6_text.specs.Lines.{IsLine}
 use Rattle.graph6_text.specs.Faults.{line_fault}
-use Rattle.graph6_text.specs.declared.line.G6Fault.{G6Fault}
+use Rattle.graph6_text.specs.declared.graph6_lines.G6Fault.{G6Fault}
 use Rattle.figure_text.specs.Reading.{IsPlain}
 use Rattle.line_inputs.specs.GraphLinesReading.{lines_in, HasLines, IsTooMany, IsReading}
 use Rattle.line_inputs.specs.GraphLinesFormat.{IsBad}
 use Rattle.line_inputs.specs.declared.graph_lines.ending.Ending.{Ending}
 use Rattle.line_inputs.specs.declared.graph_lines.ending.Ending.TheVariants.{Well, BadLine, Limit, TooLong}
-use Rattle.line_inputs.specs.declared.graph_lines.line.Judged.{Judged}
-use Rattle.line_inputs.specs.declared.graph_lines.line.Judged.TheVariants.{Header, Graph, Bad}
+use Rattle.line_inputs.specs.declared.graph_lines.open_line.Judged.{Judged}
+use Rattle.line_inputs.specs.declared.graph_lines.open_line.Judged.TheVariants.{Header, Graph, Bad}
 
 -- the header is the same however the bytes go on
 pub record IsSettled (bytes : List ℕ) : Type 0 where

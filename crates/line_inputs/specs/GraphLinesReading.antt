@@ -5,8 +5,8 @@ use Rattle.graph6_text.specs.Graphs.{EdgeGraph}
 use Rattle.graph6_text.specs.Header.{header_length}
 use Rattle.graph6_text.specs.Lines.{IsLine}
 use Rattle.graph6_text.specs.Faults.{line_fault}
-use Rattle.graph6_text.specs.declared.line.G6Fault.{G6Fault}
-use Rattle.graph6_text.specs.declared.line.G6Fault.TheVariants.{BadByte, LongCount, TooMany, ShortLine, ExtraByte, Padding, NoMemory}
+use Rattle.graph6_text.specs.declared.graph6_lines.G6Fault.{G6Fault}
+use Rattle.graph6_text.specs.declared.graph6_lines.G6Fault.TheVariants.{BadByte, LongCount, TooMany, ShortLine, ExtraByte, Padding, NoMemory}
 use Rattle.figure_text.specs.Reading.{IsPlain, closed}
 use Rattle.line_inputs.specs.declared.graph_lines.ending.Ending.{Ending}
 use Rattle.line_inputs.specs.declared.graph_lines.ending.Ending.TheVariants.{Well, BadLine, Limit, TooLong}

@@ -4,8 +4,8 @@ use Rattle.graph6_text.specs.Graphs.{EdgeGraph}
 use Rattle.line_inputs.specs.GraphLinesProgress.{Progress, Closes, behind_header}
 use Rattle.line_inputs.specs.declared.graph_lines.ending.Ending.{Ending}
 use Rattle.line_inputs.specs.declared.graph_lines.ending.Ending.TheVariants.{Well, BadLine}
-use Rattle.line_inputs.specs.declared.graph_lines.line.Line.{Line}
-use Rattle.line_inputs.specs.declared.graph_lines.line.Line.TheVariants.{Open, Closed}
+use Rattle.line_inputs.specs.declared.graph_lines.open_line.Line.{Line}
+use Rattle.line_inputs.specs.declared.graph_lines.open_line.Line.TheVariants.{Open, Closed}
 
 -- A reader: how many bytes it has consumed, the number of the open line, whether it is the first one, what has come of it, and the graph that was read last.
 pub record State : Type 0 where

@@ -1,10 +1,10 @@
 -- What the first line of a figure says.
 use Rattle.std.specs.Prelude.{ℕ, List}
-use Rattle.figure_text.specs.declared.judge.Kind.{Kind}
-use Rattle.figure_text.specs.declared.judge.Kind.TheVariants.{Grid as GridKind, Bars as BarKind, Rects as RectKind, Witness as WitnessKind}
+use Rattle.figure_text.specs.declared.line_shapes.Kind.{Kind}
+use Rattle.figure_text.specs.declared.line_shapes.Kind.TheVariants.{Grid as GridKind, Bars as BarKind, Rects as RectKind, Witness as WitnessKind}
 use Rattle.figure_text.specs.Front.{IsGraphOf}
-use Rattle.line_inputs.specs.declared.figure_lines.head.Head.{Head}
-use Rattle.line_inputs.specs.declared.figure_lines.head.Head.TheVariants.{Grid, Bars, Rects, Witness}
+use Rattle.line_inputs.specs.declared.figure_lines.first_line.Head.{Head}
+use Rattle.line_inputs.specs.declared.figure_lines.first_line.Head.TheVariants.{Grid, Bars, Rects, Witness}
 
 -- the kind of the figure
 abbrev pub head_kind : Head → Kind

@@ -3,13 +3,13 @@ use Rattle.std.specs.Prelude.{ℕ, ◌<◌, ◌≤◌, ◌≡◌, [], length, So
 use Rattle.figure_text.specs.declared.figure.Figure.{Figure}
 use Rattle.figure_text.specs.declared.figure.Figure.TheVariants.{Grid as GridFigure, Rects as RectsFigure, Witness as WitnessFigure}
 use Rattle.figure_text.specs.Figures.{witness_of}
-use Rattle.line_inputs.specs.declared.figure_lines.head.Head.{Head}
-use Rattle.line_inputs.specs.declared.figure_lines.head.Head.TheVariants.{Grid, Bars, Rects, Witness}
-use Rattle.figure_text.specs.declared.rows.Draft.{Draft}
-use Rattle.line_inputs.specs.declared.figure_lines.begun.Due.{Due}
-use Rattle.line_inputs.specs.declared.figure_lines.begun.Due.TheVariants.{Row, Columns}
-use Rattle.line_inputs.specs.declared.figure_lines.step.After.{After}
-use Rattle.line_inputs.specs.declared.figure_lines.step.After.TheVariants.{Goes, Whole, Bad}
+use Rattle.line_inputs.specs.declared.figure_lines.first_line.Head.{Head}
+use Rattle.line_inputs.specs.declared.figure_lines.first_line.Head.TheVariants.{Grid, Bars, Rects, Witness}
+use Rattle.figure_text.specs.declared.vertex_lines.Draft.{Draft}
+use Rattle.line_inputs.specs.declared.figure_lines.begun_figure.Due.{Due}
+use Rattle.line_inputs.specs.declared.figure_lines.begun_figure.Due.TheVariants.{Row, Columns}
+use Rattle.line_inputs.specs.declared.figure_lines.closed_line.After.{After}
+use Rattle.line_inputs.specs.declared.figure_lines.closed_line.After.TheVariants.{Goes, Whole, Bad}
 
 -- no line of a vertex has come
 abbrev pub no_lines : Draft

@@ -5,18 +5,18 @@
 //! line and what the lines of a figure have given, and looks at no byte twice. `read_figure` answers what stands at an
 //! offset of a text that is all there.
 
-mod begun;
+mod begun_figure;
+mod boxed;
+mod closed_line;
 mod ending;
-mod head;
-mod held;
+mod first_line;
 pub mod laws;
-mod part;
-mod read;
+mod line_batch;
+mod open_line;
 mod reader;
-mod rows;
-mod run;
-mod step;
+mod vertex_lines;
+mod whole_text;
 
 pub use ending::Ending;
-pub use read::read_figure;
 pub use reader::FigureReader;
+pub use whole_text::read_figure;

@@ -6,7 +6,7 @@
 
 mod ending;
 pub mod laws;
-mod line;
+mod open_line;
 mod reader;
 
 pub use ending::Ending;

@@ -1,6 +1,6 @@
 //! Rotation lists with an edge more, as calls over lists.
 #![tactic(auto)]
 
-mod edges;
+mod edge_insertion;
 
-pub use edges::with_edge_after;
+pub use edge_insertion::with_edge_after;

@@ -7,7 +7,7 @@ use Rattle.map_gen.specs.Stacked.{Face, Stacking, with_vertex, face_at, next_num
 use Rattle.map_gen.specs.Faces.{IsFaceOf}
 use Rattle.map_gen.proofs.VertexPut.{IsStacked}
 use Rattle.map_gen.specs.Darts.{HasDarts, IsVertexPut}
-use Rattle.map_gen.specs.declared.stack.FaceDarts.{FaceDarts}
+use Rattle.map_gen.specs.declared.stacked_maps.FaceDarts.{FaceDarts}
 use Rattle.map_gen.proofs.Stackings.{IsStacked-stacking, each_face, length-with_faces}
 
 -- the lists, the number, and the faces under the ids of their darts

@@ -8,12 +8,12 @@ use Rattle.map_lists.specs.declared.ids.VertexId.{VertexId}
 use Rattle.map_theory.specs.Maps.{Dart, list_of, place_of, HasDart, IsSimpleMap, twin_dart}
 use Rattle.half_edges.specs.Map.{Map, dart_at}
 use Rattle.half_edges.specs.Edges.{with_edge, corner_place}
-use Rattle.half_edges.specs.declared.edges.Corner.{Corner}
-use Rattle.half_edges.specs.declared.edges.Corner.TheVariants.{After, Only}
+use Rattle.half_edges.specs.declared.edge_edits.Corner.{Corner}
+use Rattle.half_edges.specs.declared.edge_edits.Corner.TheVariants.{After, Only}
 use Rattle.map_gen.specs.Stacked.{Face}
 use Rattle.map_gen.specs.Faces.{IsFaceOf}
 use Rattle.map_gen.specs.Darts.{HasDarts, IsVertexPut}
-use Rattle.map_gen.specs.declared.stack.FaceDarts.{FaceDarts}
+use Rattle.map_gen.specs.declared.stacked_maps.FaceDarts.{FaceDarts}
 use Rattle.map_gen.proofs.VertexPut.{first, second, third_is, far2, far3, not_to_k, b_k, c_k}
 
 -- the place of a corner behind a dart

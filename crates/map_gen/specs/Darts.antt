@@ -2,7 +2,7 @@
 use Rattle.std.specs.Prelude.{ℕ, ◌≡◌, Some}
 use Rattle.half_edges.specs.Map.{Map, dart_at}
 use Rattle.map_gen.specs.Stacked.{Face, with_vertex}
-use Rattle.map_gen.specs.declared.stack.FaceDarts.{FaceDarts}
+use Rattle.map_gen.specs.declared.stacked_maps.FaceDarts.{FaceDarts}
 
 -- the ids have the darts of the face, in its order
 pub record HasDarts (map : Map) (ids : FaceDarts) (f : Face) : Type 0 where

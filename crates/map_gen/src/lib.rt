@@ -4,9 +4,9 @@
 
 ghost use Rattle.map_gen.specs.Laws.{StackedIsTriangulation};
 
-mod stack;
+mod stacked_maps;
 
-pub use stack::stacked;
+pub use stacked_maps::stacked;
 
 /// Each map of n vertices that the generator makes, n at least three, has exactly n vertices and is a triangulation.
 /// It is a simple map of genus zero with 3n - 6 edges, and so all its faces are triangles.

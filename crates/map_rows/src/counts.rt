@@ -2,8 +2,8 @@
 use conn_parts::components;
 use euler_faces::{Counter, EulerCount, Faces, count_lists, euler, euler_by_components, faces};
 use half_edges::{FaceId, HalfMap, MapFault, VertexId};
+use row_texts::fault_texts::{tell_fault, tell_no_memory};
 use row_texts::lists::{SomeLists, lists_of};
-use row_texts::refusal::{tell_fault, tell_no_memory};
 use row_texts::reply::Reply;
 use row_texts::rows::Row;
 use std::alloc::{AllocError, Global};

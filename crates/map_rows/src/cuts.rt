@@ -1,7 +1,7 @@
 //! Test rows on cut vertices and separating pairs of a map.
 use graph_search::map_cuts::{cut_vertex, separating_pair};
 use half_edges::HalfMap;
-use row_texts::refusal::{put_pair, put_vertex};
+use row_texts::fault_texts::{put_pair, put_vertex};
 use row_texts::reply::Reply;
 
 /// Appends to `out` the least cut vertex of `map`, or its least separating pair, as `call` says.

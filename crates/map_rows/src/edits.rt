@@ -4,11 +4,11 @@ ghost use Rattle.map_theory.specs.Maps.{vertex_count};
 ghost use Rattle.half_edges.specs.Edges.{IsCorner, corner_place};
 
 use half_edges::{Corner, DartId, HalfMap, Rotations, VertexId};
+use row_texts::fault_texts::tell_no_memory;
 use row_texts::lists::put_lists;
 use row_texts::maps::{dart_between, first_base, put_dart};
-use row_texts::refusal::tell_no_memory;
 use row_texts::reply::Reply;
-use row_texts::text::{halves, number, pair};
+use row_texts::row_arguments::{halves, number, pair};
 
 // Returns the corner at `v` after `entry` in its list, or where `v` is isolated and there is no entry. Returns None
 // where there is no such corner.
@@ -66,7 +66,7 @@ fn join_places(map: &mut HalfMap, places: &str) -> Option<DartId> {
 }
 
 // Adds an edge and removes it again. Returns false where it cannot be added.
-fn turn(map: &mut HalfMap, places: &str) -> bool {
+fn add_and_remove(map: &mut HalfMap, places: &str) -> bool {
     match join_places(map, places) {
         Some(d) if map.is_live(d) => {
             map.remove_edge(d);
@@ -77,10 +77,10 @@ fn turn(map: &mut HalfMap, places: &str) -> bool {
 }
 
 // Adds and removes an edge a thousand times, and appends to `out` how often that succeeded.
-fn turns(map: &mut HalfMap, places: &str, out: &mut Reply) {
+fn thousand_turns(map: &mut HalfMap, places: &str, out: &mut Reply) {
     let mut count: u64 = 0;
     for _ in 0..1000 {
-        if turn(map, places) {
+        if add_and_remove(map, places) {
             count = count.wrapping_add(1);
         }
     }
@@ -126,7 +126,7 @@ fn edit(map: &mut HalfMap, text: &str, out: &mut Reply) {
                 None => out.put("refused"),
             }
         }
-        "turn" => turns(map, rest, out),
+        "turn" => thousand_turns(map, rest, out),
         _ => spokes(map, out),
     }
 }

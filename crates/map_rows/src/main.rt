@@ -2,14 +2,14 @@
 //! answer look like is told in `row_texts`.
 #![tactic(auto)]
 
-mod answers;
 mod counts;
 mod cuts;
+mod dispatch;
 mod edits;
 mod maps;
 mod orbits;
 
-use answers::Rows;
+use dispatch::Rows;
 use row_texts::rows::answer_rows;
 use std::io;
 

@@ -2,12 +2,12 @@
 ghost use Rattle.half_edges.specs.Map.{IsLive};
 
 use half_edges::{DartId, HalfMap, Rotations, VertexId};
+use row_texts::fault_texts::tell_no_memory;
 use row_texts::lists::put_lists;
 use row_texts::maps::{dart_between, put_dart, put_size};
-use row_texts::refusal::tell_no_memory;
 use row_texts::reply::Reply;
+use row_texts::row_arguments::pair;
 use row_texts::rows::Row;
-use row_texts::text::pair;
 use std::alloc::{AllocError, Global};
 
 // Appends to `out` the numbers of vertices and edges of `map`, its spare room, and its lists.

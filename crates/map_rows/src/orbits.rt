@@ -2,10 +2,10 @@
 ghost use Rattle.std.specs.Prelude.{◌<◌, length};
 
 use pg_perm::{Perm, PermFault};
-use row_texts::refusal::tell_no_memory;
+use row_texts::fault_texts::tell_no_memory;
 use row_texts::reply::Reply;
+use row_texts::row_arguments::{number, pair};
 use row_texts::rows::Row;
-use row_texts::text::{number, pair};
 
 // Appends to `out` the length of `perm`, its images and the number of its orbits.
 fn put_perm(perm: &Perm, out: &mut Reply) {

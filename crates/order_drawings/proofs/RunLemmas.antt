@@ -3,7 +3,7 @@ use Rattle.std.proofs.Common.{◌≡◌, ℕ, suc, ◌+◌, ◌-◌, ◌<◌, �
 use Rattle.std.specs.List.{range_with_len}
 use Rattle.std.proofs.lemmas.List.{get_or_default}
 use Rattle.std.proofs.lemmas.List.FromFn.{length-map-range_with_len, get_or-map-range_with_len}
-use Rattle.pg_plane.specs.declared.point.Point.{Point}
+use Rattle.pg_plane.specs.declared.segments.Point.{Point}
 use Rattle.pg_plane.specs.Geometry.{area}
 use Rattle.pg_plane.proofs.Identities.{area_turned}
 use Rattle.map_lists.specs.Lists.{Lists}

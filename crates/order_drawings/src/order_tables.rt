@@ -3,13 +3,13 @@
 
 ghost use Rattle.order_drawings.specs.Ranks.{RanksArePlaces};
 
-mod points;
-mod ranked;
-mod rows;
+mod contour_rows;
+mod points_by_rank;
+mod ranked_lists;
 
-pub use points::points_at;
-pub use ranked::RankedList;
-pub use rows::{list_rows, order_rows, rows_into};
+pub use contour_rows::{list_rows, order_rows, rows_into};
+pub use points_by_rank::points_at;
+pub use ranked_lists::RankedList;
 
 /// The rank of each vertex in a canonical order is an index of the order, below the number of vertices.
 pub fn ranks_are_places()

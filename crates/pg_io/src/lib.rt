@@ -11,14 +11,14 @@
 
 mod adapters;
 mod memory;
-mod put;
-mod steps;
-mod sure;
+mod never_failing;
+mod step_counts;
 mod traits;
+mod whole_writes;
 
 pub use adapters::{ReadAdapter, WriteAdapter};
 pub use memory::{MemSink, MemSource};
-pub use put::put_all;
-pub use steps::Steps;
-pub use sure::{SureSink, SureSource};
+pub use never_failing::{SureSink, SureSource};
+pub use step_counts::Steps;
 pub use traits::{ReadFailed, Sink, Source, WriteFailed};
+pub use whole_writes::put_all;

@@ -6,11 +6,11 @@
 #![tactic(auto)]
 
 mod fault;
-mod law;
-mod marks;
+mod orbit_marks;
 mod perm;
-mod repeat;
+mod repeated_image;
+mod swap_law;
 
 pub use fault::PermFault;
-pub use law::one_swap;
 pub use perm::Perm;
+pub use swap_law::one_swap;

@@ -5,8 +5,8 @@ ghost use Rattle.classes.specs.Classes.{IsPermutationOfBelow, image, orbits, orb
 ghost use Rattle.pg_perm.specs.Repeat.{NamesFault};
 
 use crate::PermFault;
-use crate::marks::count_orbits;
-use crate::repeat::first_repeat;
+use crate::orbit_marks::count_orbits;
+use crate::repeated_image::first_repeat;
 use std::alloc::{AllocError, Global};
 use std::marker::Model;
 

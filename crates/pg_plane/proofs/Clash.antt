@@ -3,7 +3,7 @@ use Rattle.std.proofs.Common.{◌≡◌, ◌≢◌, ℕ, ◌+◌, ◌<◌, ◌�
 use Rattle.std.proofs.lemmas.Bool.{cases_Bool, cases_eq, true≢false, or_cases}
 use Rattle.std.proofs.lemmas.Int.{ints}
 use lib.Signed.{lt_z}
-use Rattle.pg_plane.specs.declared.point.Point.{Point}
+use Rattle.pg_plane.specs.declared.segments.Point.{Point}
 use Rattle.pg_plane.specs.Geometry.{vector, cross, area}
 use Rattle.classes.specs.Classes.{count_below}
 use Rattle.classes.proofs.Counting.{one_if}

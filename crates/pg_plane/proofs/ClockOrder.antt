@@ -1,7 +1,7 @@
 -- The clockwise order of directions from west: it can be decided, no two directions come before each other, and it chains.
 use Rattle.std.proofs.Common.{◌≡◌, ◌⊎◌, ℤ, pos, ◌*ℤ◌, ◌<ℤ◌, ◌≤ℤ◌, ap, ◌∙◌, inl, inr, ⊎_elim, arith}
 use Rattle.std.proofs.lemmas.Int.{ints, by_lt_z}
-use Rattle.pg_plane.specs.declared.point.Point.{Point}
+use Rattle.pg_plane.specs.declared.segments.Point.{Point}
 use Rattle.pg_plane.specs.Geometry.{cross, IsFirstHalf, IsClockBefore}
 use Rattle.pg_plane.proofs.Ring.{sums, mul_neg, product_signs}
 use Rattle.pg_plane.proofs.Identities.{heights, cross_back}

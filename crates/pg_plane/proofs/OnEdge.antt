@@ -4,7 +4,7 @@ use Rattle.std.proofs.lemmas.Int.{ints, by_lt_z}
 use Rattle.std.proofs.lemmas.Bool.{cases_Bool, true≢false}
 use Rattle.std.specs.Int.RustNames.{unsigned_abs}
 use Rattle.std.proofs.Math.IntN.{*ℤ-zero, zero-*ℤ}
-use Rattle.pg_plane.specs.declared.point.Point.{Point}
+use Rattle.pg_plane.specs.declared.segments.Point.{Point}
 use Rattle.pg_plane.specs.Geometry.{vector, cross, area, IsBetween, IsOnSegment}
 use Rattle.pg_plane.specs.Faced.{in_base, IsFaced, IsTailed, turn}
 use Rattle.pg_plane.proofs.Faces.{face_back, face_then}

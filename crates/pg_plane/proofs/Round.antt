@@ -6,7 +6,7 @@ use Rattle.std.proofs.lemmas.Bool.{cases_Bool, true≢false, and_parts, cases_lt
 use Rattle.std.proofs.Math.Bool.{and-false, and-true}
 use lib.Signed.{lt_z}
 use borrow.Author.Differences.{true_is_lt, false_is_lt}
-use Rattle.pg_plane.specs.declared.point.Point.{Point}
+use Rattle.pg_plane.specs.declared.segments.Point.{Point}
 use Rattle.pg_plane.specs.Geometry.{vector, cross, area}
 use Rattle.classes.proofs.Orbits.{IsPermuting, marks_back}
 use Rattle.pg_plane.specs.Faced.{in_base, IsFaced, IsTailed, turn}

@@ -4,7 +4,7 @@ use Rattle.std.proofs.lemmas.Int.{ints, by_lt_z}
 use Rattle.std.proofs.lemmas.Nat.{mul-le}
 use Rattle.std.proofs.lemmas.Bool.{cases_Bool, cases_lt, true≢false}
 use Rattle.std.specs.Int.RustNames.{unsigned_abs}
-use Rattle.pg_plane.specs.declared.point.Point.{Point}
+use Rattle.pg_plane.specs.declared.segments.Point.{Point}
 use Rattle.pg_plane.specs.Geometry.{vector, cross, area, IsFirstHalf, IsClockBefore}
 use Rattle.pg_plane.specs.Faced.{in_base, IsFaced, IsTailed, turn}
 use Rattle.pg_plane.proofs.Ring.{sums, ring, product_positive, product_signs}

@@ -5,8 +5,8 @@
 #![tactic(auto)]
 
 pub mod face_geometry;
-mod figure;
-mod point;
+mod figures;
+mod segments;
 
-pub use figure::{BarFigure, GridFigure, Ints, Points, RectFigure};
-pub use point::{Point, area2, clock_before, crosses, on_segment};
+pub use figures::{BarFigure, GridFigure, Ints, Points, RectFigure};
+pub use segments::{Point, area2, clock_before, crosses, on_segment};

@@ -2,9 +2,9 @@
 //! and exits by its status. Its stored run is on three solids.
 #![tactic(auto)]
 
-mod edge;
+mod command_line;
 
-use edge::{exit_code, words_of};
+use command_line::{exit_code, words_of};
 use pg_io::{ReadAdapter, WriteAdapter};
 use pigale_shell::{Status, pigale};
 use std::env;

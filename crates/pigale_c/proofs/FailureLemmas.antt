@@ -1,8 +1,8 @@
 -- Failures of calls on records that are not served.
 use Rattle.refusals.specs.Conditions.{IfRefused}
-use Rattle.refusals.specs.declared.refusal.Refusal.{Refusal}
-use Rattle.refusals.specs.declared.refusal.Unserved.{Unserved}
-use Rattle.refusals.specs.declared.refusal.Unserved.TheVariants.{Refused, NoMemory}
+use Rattle.refusals.specs.declared.conditions.Refusal.{Refusal}
+use Rattle.refusals.specs.declared.conditions.Unserved.{Unserved}
+use Rattle.refusals.specs.declared.conditions.Unserved.TheVariants.{Refused, NoMemory}
 use Rattle.pigale_c.specs.Failures.{failure_for, Fails}
 
 -- the condition of a call below is the one that the failure names

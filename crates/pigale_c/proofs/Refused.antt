@@ -1,13 +1,13 @@
 -- Wrong bodies that the clauses exclude.
 use Rattle.std.proofs.Common.{◌≡◌, ℕ, List, [], ◌∷◌, ℤ, pos, refl, ap, ◌∙◌, arith, lit<}
-use Rattle.pg_plane.specs.declared.point.Point.{Point}
+use Rattle.pg_plane.specs.declared.segments.Point.{Point}
 use Rattle.plane_drawings.specs.Drawing.{place}
 use Rattle.draw_check.specs.declared.verdict.Verdict.TheVariants.{Yes}
 use Rattle.pigale_c.specs.Counted.{IsCounted}
 use Rattle.pigale_c.specs.Drawn.{IsSchnyderDrawn}
 use Rattle.pigale_c.specs.Judged.{IsJudged}
 use Rattle.pigale_c.specs.Embedded.{IsEmbedded}
-use Rattle.refusals.specs.declared.refusal.Refusal.TheVariants.{Small}
+use Rattle.refusals.specs.declared.conditions.Refusal.TheVariants.{Small}
 use Rattle.pigale_c.specs.declared.counts.Counts.{Counts}
 use Rattle.pigale_c.specs.declared.edges.EdgeEnds.{EdgeEnds}
 use Rattle.pigale_c.specs.declared.outcome.Failure.TheVariants.{Refused}

@@ -2,7 +2,7 @@
 use Rattle.std.proofs.Common.{◌≡◌, ℕ, List, [], Option, Some, inl, inr, arith}
 use Rattle.pg_io.specs.Io.{WhereTold, HasRisen}
 use Rattle.pigale_shell.specs.JobInput.{left_of}
-use Rattle.pigale_shell.specs.declared.kinds.JobKind.{JobKind}
+use Rattle.pigale_shell.specs.declared.job_kinds.JobKind.{JobKind}
 use Rattle.pigale_c.specs.Run.{OfJob}
 
 -- a fact of a run, without what is left in the source

@@ -5,7 +5,7 @@ use Rattle.map_theory.specs.Maps.{edge_count}
 use Rattle.refusals.specs.Conditions.{fault_refusal}
 use Rattle.conn_parts.specs.BiconnectedMaps.{IsBiconnectedMap, BreaksFirst}
 use Rattle.visibility.specs.Figures.{IsBarFigure}
-use Rattle.pg_plane.specs.declared.figure.BarFigure.{BarFigure}
+use Rattle.pg_plane.specs.declared.figures.BarFigure.{BarFigure}
 use Rattle.bar_check.specs.Verdicts.{IsBarVerdict}
 use Rattle.pigale_c.specs.Arrays.{lists_in, IsGivenMap}
 use Rattle.pigale_c.specs.Failures.{Fails}

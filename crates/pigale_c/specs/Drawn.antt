@@ -3,8 +3,8 @@ use Rattle.std.specs.Prelude.{ℕ, ◌≡◌, List, length, ℤ, Some, None}
 use Rattle.map_lists.specs.Lists.{Lists}
 use Rattle.map_theory.specs.Maps.{IsPlane}
 use Rattle.refusals.specs.Conditions.{first_refusal}
-use Rattle.refusals.specs.declared.refusal.Refusal.{Refusal}
-use Rattle.pg_plane.specs.declared.figure.GridFigure.{GridFigure}
+use Rattle.refusals.specs.declared.conditions.Refusal.{Refusal}
+use Rattle.pg_plane.specs.declared.figures.GridFigure.{GridFigure}
 use Rattle.convex_peeling.specs.Polyhedral.{IsThreeConnected}
 use Rattle.convex_class.specs.Convexity.{BreaksConvex}
 use Rattle.grid_figures.specs.ShiftFiguresFigures.{IsShiftFigure}

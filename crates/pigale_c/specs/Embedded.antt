@@ -3,13 +3,13 @@ use Rattle.std.specs.Prelude.{ℕ, ◌<◌, ◌≤◌, ◌≡◌, List, [], ◌�
 use Rattle.map_lists.specs.Cuts.{joined, ends_from}
 use Rattle.map_lists.specs.Lists.{Lists}
 use Rattle.map_lists.specs.declared.ids.VertexId.{VertexId}
-use Rattle.pg_plane.specs.declared.figure.GridFigure.{GridFigure}
+use Rattle.pg_plane.specs.declared.figures.GridFigure.{GridFigure}
 use Rattle.graph6_text.specs.Graphs.{Edge, EdgeGraph, IsGraph, ComesBefore}
 use Rattle.kuratowski.specs.Witnesses.{IsWitness}
 use Rattle.kuratowski.specs.declared.witness.Kind.{Kind}
 use Rattle.embed_graph.specs.Figures.{IsDrawnMap}
-use Rattle.refusals.specs.declared.refusal.Refusal.{Refusal}
-use Rattle.refusals.specs.declared.refusal.Refusal.TheVariants.{Small}
+use Rattle.refusals.specs.declared.conditions.Refusal.{Refusal}
+use Rattle.refusals.specs.declared.conditions.Refusal.TheVariants.{Small}
 use Rattle.pigale_c.specs.Arrays.{points_in}
 use Rattle.pigale_c.specs.Failures.{Fails}
 use Rattle.pigale_c.specs.Run.{written_over}

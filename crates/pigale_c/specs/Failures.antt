@@ -1,7 +1,7 @@
 -- Why a call has no answer.
-use Rattle.refusals.specs.declared.refusal.Refusal.{Refusal}
-use Rattle.refusals.specs.declared.refusal.Unserved.{Unserved}
-use Rattle.refusals.specs.declared.refusal.Unserved.TheVariants as unserved
+use Rattle.refusals.specs.declared.conditions.Refusal.{Refusal}
+use Rattle.refusals.specs.declared.conditions.Unserved.{Unserved}
+use Rattle.refusals.specs.declared.conditions.Unserved.TheVariants as unserved
 use Rattle.pigale_c.specs.declared.outcome.Failure.{Failure}
 use Rattle.pigale_c.specs.declared.outcome.Failure.TheVariants.{Refused, NoMemory, BadArgument}
 

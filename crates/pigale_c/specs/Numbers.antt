@@ -1,7 +1,7 @@
 -- The status of an outcome, and the numbers beside it.
 use Rattle.std.specs.Prelude.{ℕ, ◌≡◌, Result, Ok, Err}
-use Rattle.refusals.specs.declared.refusal.Refusal.{Refusal}
-use Rattle.refusals.specs.declared.refusal.Refusal.TheVariants.{OutOfRange, Loop, Repeated, OneSided, Small, Genus, NotConnected, CutVertex, SeparatingPair, OuterNotQuad, NotTriangle, SeparatingTriangle, NoInner}
+use Rattle.refusals.specs.declared.conditions.Refusal.{Refusal}
+use Rattle.refusals.specs.declared.conditions.Refusal.TheVariants.{OutOfRange, Loop, Repeated, OneSided, Small, Genus, NotConnected, CutVertex, SeparatingPair, OuterNotQuad, NotTriangle, SeparatingTriangle, NoInner}
 use Rattle.draw_check.specs.declared.verdict.Verdict.{Verdict}
 use Rattle.draw_check.specs.declared.verdict.Verdict.TheVariants.{OutOfGrid, SamePlace, OnEdge, Cross, Turned, Yes}
 use Rattle.convex_check.specs.declared.verdict.ConvexVerdict.{ConvexVerdict}

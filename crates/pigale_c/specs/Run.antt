@@ -5,7 +5,7 @@ use Rattle.pigale_shell.specs.Text.{bad_words_line}
 use Rattle.pigale_shell.specs.JobInput.{RecordOf, EndingOf, reads_of, left_of}
 use Rattle.pigale_shell.specs.Kinds.{kind_named}
 use Rattle.pigale_shell.specs.Outcome.{Writes, GrowsByText, MayEnd}
-use Rattle.pigale_shell.specs.declared.kinds.JobKind.{JobKind}
+use Rattle.pigale_shell.specs.declared.job_kinds.JobKind.{JobKind}
 use Rattle.pigale_words.specs.Status.{status_number}
 use Rattle.pigale_words.specs.declared.job.Status.{Status}
 use Rattle.pigale_words.specs.declared.job.Status.TheVariants.{Done, SomeRefused, BadWords, BadInput, ReadFault, WriteFault, NoMemory}

@@ -7,7 +7,7 @@ ghost use Rattle.pigale_c.specs.BarArrays.{bars_in, AreBarsFor, IsGivenBars, Are
 ghost use Rattle.pigale_c.specs.Failures.{Fails};
 ghost use Rattle.pigale_c.specs.Numbers.{Reports, outcome_of};
 
-use crate::arrays::{MapArrays, lists_of};
+use crate::map_arrays::{MapArrays, lists_of};
 use crate::outcome::{Failure, Numbers, Outcome, report};
 use bar_check::check_bars;
 use half_edges::HalfMap;

@@ -8,7 +8,7 @@ ghost use Rattle.pigale_c.specs.Judged.{IsBendVerdict, IsJudged, IsJudgedConvex}
 ghost use Rattle.pigale_c.specs.Failures.{Fails};
 ghost use Rattle.pigale_c.specs.Numbers.{Reports, outcome_of};
 
-use crate::arrays::{MapArrays, lists_of, points_of};
+use crate::map_arrays::{MapArrays, lists_of, points_of};
 use crate::outcome::{Failure, Numbers, Outcome, report};
 use convex_check::{ConvexVerdict, check_convex_points};
 use draw_check::{Verdict, check_points};

@@ -2,7 +2,7 @@
 ghost use Rattle.pigale_c.specs.Counted.{IsCounted};
 ghost use Rattle.pigale_c.specs.Numbers.{Reports, outcome_of};
 
-use crate::arrays::lists_of;
+use crate::map_arrays::lists_of;
 use crate::outcome::{Failure, Numbers, Outcome, report};
 use euler_faces::count_lists;
 use std::alloc::Global;

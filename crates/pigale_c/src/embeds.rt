@@ -5,8 +5,8 @@ ghost use Rattle.pigale_c.specs.Embedded.{graph_in, number, IsGivenGraph, IsSmal
 ghost use Rattle.pigale_c.specs.Failures.{Fails};
 ghost use Rattle.pigale_c.specs.Numbers.{Reports};
 
-use crate::arrays::{put_front, put_points};
 use crate::edges::{EdgeEnds, GraphArrays, graph_of};
+use crate::map_arrays::{put_front, put_points};
 use crate::outcome::{Failure, Numbers, Outcome, report};
 use embed_graph::embed_figures::{EmbedFigure, Embedder};
 use map_lists::VertexId;

@@ -5,7 +5,7 @@ ghost use Rattle.pigale_c.specs.Drawn.{IsGivenGrid, IsShiftDrawn, IsSchnyderDraw
 ghost use Rattle.pigale_c.specs.Failures.{IsBadOnly};
 ghost use Rattle.pigale_c.specs.Numbers.{Reports, outcome_of};
 
-use crate::arrays::{MapArrays, lists_of, put_points};
+use crate::map_arrays::{MapArrays, lists_of, put_points};
 use crate::outcome::{Failure, Numbers, Outcome, report};
 use convex_draw::convex_figures::convex_figure;
 use grid_figures::schnyder_figures::schnyder_figure;

@@ -100,7 +100,7 @@ pub struct Answer {
 }
 
 // Returns the answer with this `status` and these `numbers`.
-fn told(status: u8, numbers: Numbers) -> Answer
+fn answer_of(status: u8, numbers: Numbers) -> Answer
     ensures { result ≡ record { status = status; numbers = numbers } }
 {
     Answer { status, numbers }
@@ -163,19 +163,19 @@ fn refusal_answer(refusal: Refusal) -> Answer
     ensures { result ≡ refusal_answer_of refusal }
 {
     match refusal {
-        Refusal::OutOfRange(v, u) => told(1, four(u32::from(v), u32::from(u), 0, 0)),
-        Refusal::Loop(v) => told(2, four(u32::from(v), 0, 0, 0)),
-        Refusal::Repeated(v, u) => told(3, four(u32::from(v), u32::from(u), 0, 0)),
-        Refusal::OneSided(v, u) => told(4, four(u32::from(v), u32::from(u), 0, 0)),
-        Refusal::Small(n) => told(5, four(u32::from(n), 0, 0, 0)),
-        Refusal::Genus(g) => told(6, four(g, 0, 0, 0)),
-        Refusal::NotConnected => told(7, none()),
-        Refusal::CutVertex(v) => told(8, one(v)),
-        Refusal::SeparatingPair(u, v) => told(9, two(u, v)),
-        Refusal::OuterNotQuad => told(10, none()),
-        Refusal::NotTriangle(v, u) => told(11, two(v, u)),
-        Refusal::SeparatingTriangle(a, b, c) => told(12, three(a, b, c)),
-        Refusal::NoInner => told(13, none()),
+        Refusal::OutOfRange(v, u) => answer_of(1, four(u32::from(v), u32::from(u), 0, 0)),
+        Refusal::Loop(v) => answer_of(2, four(u32::from(v), 0, 0, 0)),
+        Refusal::Repeated(v, u) => answer_of(3, four(u32::from(v), u32::from(u), 0, 0)),
+        Refusal::OneSided(v, u) => answer_of(4, four(u32::from(v), u32::from(u), 0, 0)),
+        Refusal::Small(n) => answer_of(5, four(u32::from(n), 0, 0, 0)),
+        Refusal::Genus(g) => answer_of(6, four(g, 0, 0, 0)),
+        Refusal::NotConnected => answer_of(7, none()),
+        Refusal::CutVertex(v) => answer_of(8, one(v)),
+        Refusal::SeparatingPair(u, v) => answer_of(9, two(u, v)),
+        Refusal::OuterNotQuad => answer_of(10, none()),
+        Refusal::NotTriangle(v, u) => answer_of(11, two(v, u)),
+        Refusal::SeparatingTriangle(a, b, c) => answer_of(12, three(a, b, c)),
+        Refusal::NoInner => answer_of(13, none()),
     }
 }
 
@@ -184,12 +184,12 @@ fn drawing_answer(verdict: Verdict) -> Answer
     ensures { result ≡ drawing_answer_of verdict }
 {
     match verdict {
-        Verdict::OutOfGrid(v) => told(32, one(v)),
-        Verdict::SamePlace(u, v) => told(33, two(u, v)),
-        Verdict::OnEdge(v, e) => told(34, three(v, e.a, e.b)),
-        Verdict::Cross(e, f) => told(35, ends(e, f)),
-        Verdict::Turned(v) => told(36, one(v)),
-        Verdict::Yes => told(0, none()),
+        Verdict::OutOfGrid(v) => answer_of(32, one(v)),
+        Verdict::SamePlace(u, v) => answer_of(33, two(u, v)),
+        Verdict::OnEdge(v, e) => answer_of(34, three(v, e.a, e.b)),
+        Verdict::Cross(e, f) => answer_of(35, ends(e, f)),
+        Verdict::Turned(v) => answer_of(36, one(v)),
+        Verdict::Yes => answer_of(0, none()),
     }
 }
 
@@ -198,14 +198,14 @@ fn bars_answer(verdict: BarVerdict) -> Answer
     ensures { result ≡ bars_answer_of verdict }
 {
     match verdict {
-        BarVerdict::BadShape => told(48, none()),
-        BarVerdict::BadHeight(v) => told(49, one(v)),
-        BarVerdict::BadBar(v) => told(50, one(v)),
-        BarVerdict::BadColumn(e) => told(51, two(e.a, e.b)),
-        BarVerdict::Through(e, v) => told(52, three(e.a, e.b, v)),
-        BarVerdict::Overlap(e, f) => told(53, ends(e, f)),
-        BarVerdict::Turned(v) => told(54, one(v)),
-        BarVerdict::Yes => told(0, none()),
+        BarVerdict::BadShape => answer_of(48, none()),
+        BarVerdict::BadHeight(v) => answer_of(49, one(v)),
+        BarVerdict::BadBar(v) => answer_of(50, one(v)),
+        BarVerdict::BadColumn(e) => answer_of(51, two(e.a, e.b)),
+        BarVerdict::Through(e, v) => answer_of(52, three(e.a, e.b, v)),
+        BarVerdict::Overlap(e, f) => answer_of(53, ends(e, f)),
+        BarVerdict::Turned(v) => answer_of(54, one(v)),
+        BarVerdict::Yes => answer_of(0, none()),
     }
 }
 
@@ -214,13 +214,13 @@ fn rects_answer(verdict: RectVerdict) -> Answer
     ensures { result ≡ rects_answer_of verdict }
 {
     match verdict {
-        RectVerdict::BadRect(v) => told(64, one(v)),
-        RectVerdict::Meet(u, v) => told(65, two(u, v)),
-        RectVerdict::Gap => told(66, none()),
-        RectVerdict::Contact(u, v) => told(67, two(u, v)),
-        RectVerdict::NoFrame => told(68, none()),
-        RectVerdict::Frame(v) => told(69, one(v)),
-        RectVerdict::Yes => told(0, none()),
+        RectVerdict::BadRect(v) => answer_of(64, one(v)),
+        RectVerdict::Meet(u, v) => answer_of(65, two(u, v)),
+        RectVerdict::Gap => answer_of(66, none()),
+        RectVerdict::Contact(u, v) => answer_of(67, two(u, v)),
+        RectVerdict::NoFrame => answer_of(68, none()),
+        RectVerdict::Frame(v) => answer_of(69, one(v)),
+        RectVerdict::Yes => answer_of(0, none()),
     }
 }
 
@@ -229,18 +229,18 @@ fn outcome_answer(outcome: Outcome) -> Answer
     ensures { result ≡ answer_of outcome }
 {
     match outcome {
-        Outcome::Served => told(0, none()),
+        Outcome::Served => answer_of(0, none()),
         Outcome::Failed(Failure::Refused(refusal)) => refusal_answer(refusal),
-        Outcome::Failed(Failure::NoMemory) => told(16, none()),
-        Outcome::Failed(Failure::BadArgument) => told(17, none()),
+        Outcome::Failed(Failure::NoMemory) => answer_of(16, none()),
+        Outcome::Failed(Failure::BadArgument) => answer_of(17, none()),
         Outcome::Drawing(verdict) => drawing_answer(verdict),
-        Outcome::Convex(ConvexVerdict::Bent(a, b, c)) => told(40, three(a, b, c)),
-        Outcome::Convex(ConvexVerdict::OuterBent) => told(41, none()),
-        Outcome::Convex(ConvexVerdict::Yes) => told(0, none()),
+        Outcome::Convex(ConvexVerdict::Bent(a, b, c)) => answer_of(40, three(a, b, c)),
+        Outcome::Convex(ConvexVerdict::OuterBent) => answer_of(41, none()),
+        Outcome::Convex(ConvexVerdict::Yes) => answer_of(0, none()),
         Outcome::Bars(verdict) => bars_answer(verdict),
         Outcome::Rects(verdict) => rects_answer(verdict),
-        Outcome::NotPlanar(Kind::K5) => told(80, none()),
-        Outcome::NotPlanar(Kind::K33) => told(81, none()),
+        Outcome::NotPlanar(Kind::K5) => answer_of(80, none()),
+        Outcome::NotPlanar(Kind::K33) => answer_of(81, none()),
     }
 }
 

@@ -8,7 +8,7 @@ ghost use Rattle.pigale_c.specs.RectArrays.{rects_in, AreRectsFor, IsGivenRects,
 ghost use Rattle.pigale_c.specs.Failures.{Fails};
 ghost use Rattle.pigale_c.specs.Numbers.{Reports, outcome_of};
 
-use crate::arrays::{MapArrays, lists_of};
+use crate::map_arrays::{MapArrays, lists_of};
 use crate::outcome::{Failure, Numbers, Outcome, report};
 use half_edges::HalfMap;
 use pg_plane::{Ints, RectFigure};

@@ -1,9 +1,9 @@
 //! The call for C that runs the program's words over an input in memory.
 ghost use Rattle.pigale_c.specs.Run.{RunsText, RunsTo};
 
-use crate::arrays::put_front;
+use crate::map_arrays::put_front;
 use crate::ports::{LentSource, TextSink};
-use crate::words::words_of;
+use crate::word_split::words_of;
 use pigale_shell::{Status, pigale};
 use std::alloc::{AllocError, Global};
 

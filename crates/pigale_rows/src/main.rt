@@ -25,18 +25,18 @@
 //! a function owns several values or returns early by `?`.
 #![tactic(auto)]
 
-mod cells;
-mod families;
-mod given;
-mod graphs;
-mod judged;
-mod pieces;
+mod cell_grids;
+mod graph_inputs;
+mod input_pieces;
+mod judged_runs;
+mod map_families;
+mod run_settings;
 mod runs;
-mod table;
-mod watched;
+mod table_lines;
+mod watched_runs;
 
 use std::io::{self, Write};
-use table::Table;
+use table_lines::Table;
 
 // Answers the lines on standard input one by one, on standard output.
 fn main(rt: HostRuntime) -> io::Result<()> {

@@ -1,5 +1,5 @@
 //! Test runs of the top call over a source and a sink in memory, and their text and status.
-use crate::given::{Cut, Given};
+use crate::run_settings::{Cut, Given};
 use map_lists::Rotations;
 use pg_io::{MemSink, MemSource, Sink, Source};
 use pigale_shell::{Job, answer_record, pigale};

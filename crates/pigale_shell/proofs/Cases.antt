@@ -11,7 +11,7 @@ use Rattle.pigale_words.specs.Words.{given, job_of}
 use Rattle.pigale_words.specs.declared.job.Job.TheVariants.{Count, Shift, Gen, Verify, Embed}
 use Rattle.pigale_words.specs.Numbers.{number_in}
 use Rattle.pigale_shell.specs.Made.{sums_line}
-use Rattle.pigale_words.specs.declared.form.Form.TheVariants as forms
+use Rattle.pigale_words.specs.declared.output_form.Form.TheVariants as forms
 use Rattle.pigale_shell.specs.Forms.{commented, line_in}
 use Rattle.line_inputs.specs.declared.figure_lines.ending.Ending.TheVariants.{BadLine}
 use Rattle.pigale_shell.specs.Verify.{verdict_line, verify_last_line}
@@ -21,7 +21,7 @@ use Rattle.pigale_shell.specs.Text.{counts_line, refusal_line, end_line}
 use Rattle.pigale_shell.specs.Answer.{IsMapBlock}
 use Rattle.pigale_shell.specs.Kinds.{says_of}
 use Rattle.pigale_shell.specs.declared.map_jobs.MapJob.TheVariants as maps
-use Rattle.refusals.specs.declared.refusal.Refusal.TheVariants.{OutOfRange, Loop, Repeated, OneSided, Small}
+use Rattle.refusals.specs.declared.conditions.Refusal.TheVariants.{OutOfRange, Loop, Repeated, OneSided, Small}
 
 -- lists with vertices numbered from 1, as they are printed
 abbrev from_one : Lists → Lists

@@ -4,14 +4,14 @@ use Rattle.std.proofs.Math.Seq.{take-suc}
 use Rattle.std.proofs.lemmas.Int.{ints}
 use Rattle.std.proofs.lemmas.List.{append-nil}
 use Rattle.std.proofs.lemmas.Option.{slice_get_within, get_or_from_slice_get}
-use Rattle.pg_plane.specs.declared.point.Point.{Point}
+use Rattle.pg_plane.specs.declared.segments.Point.{Point}
 use Rattle.map_gen.specs.Stacked.{stacked}
 use Rattle.map_lists.specs.Lists.{Lists}
 use Rattle.pg_io.specs.Io.{Grows, GrowsByPrefix, HasRisen}
 use Rattle.pg_io.proofs.Growth.{GrowsByPrefix-none}
 use Rattle.record_runs.specs.Texts.{AreBlocks}
 use Rattle.record_runs.specs.Outcome.{ports, Outcome}
-use Rattle.record_runs.specs.declared.run.RunEnd.TheVariants.{Done, WriteFault, NoMemory}
+use Rattle.record_runs.specs.declared.main_loop.RunEnd.TheVariants.{Done, WriteFault, NoMemory}
 use Rattle.planar_code.specs.Reading.{well}
 use Rattle.pigale_shell.specs.Text.{last_line}
 use Rattle.pigale_shell.specs.Made.{total, IsMadeBlock, made, made_answers}

@@ -4,14 +4,14 @@ use Rattle.std.specs.Prelude.{unwrap_or}
 use Rattle.map_lists.specs.Lists.{Lists}
 use Rattle.pg_io.specs.Io.{Grows}
 use Rattle.record_runs.specs.Texts.{Answers, AreBlocks, Refuses}
-use Rattle.refusals.specs.declared.refusal.Refusal.{Refusal}
-use Rattle.refusals.specs.declared.refusal.Unserved.{Unserved}
-use Rattle.refusals.specs.declared.refusal.Unserved.TheVariants.{Refused as UnservedFor, NoMemory}
+use Rattle.refusals.specs.declared.conditions.Refusal.{Refusal}
+use Rattle.refusals.specs.declared.conditions.Unserved.{Unserved}
+use Rattle.refusals.specs.declared.conditions.Unserved.TheVariants.{Refused as UnservedFor, NoMemory}
 use Rattle.figure_text.specs.declared.figure.Figure.{Figure}
 use Rattle.figure_verdicts.specs.declared.verdict.FigureVerdict.{FigureVerdict}
 use Rattle.figure_verdicts.specs.declared.verdict.FigureVerdict.TheVariants.{Refused, Drawing, Inside, Convex, Bars, Rects, Witness, Yes}
 use Rattle.verdict_laws.specs.Laws.{OneFigureVerdict}
-use Rattle.pigale_words.specs.declared.form.Form.{Form}
+use Rattle.pigale_words.specs.declared.output_form.Form.{Form}
 use Rattle.pigale_shell.specs.Blocks.{IsLawful}
 use Rattle.pigale_shell.specs.Text.{refusal_line}
 use Rattle.pigale_shell.specs.Forms.{line_in}
@@ -23,8 +23,8 @@ use Rattle.pigale_shell.specs.Outcome.{Writes}
 use Rattle.pigale_shell.specs.OneText.{OneText, OneRefusalLine, OneGraphRefusalLine}
 use Rattle.pigale_shell.specs.declared.map_jobs.MapJob.{MapJob}
 use Rattle.pigale_shell.specs.declared.map_jobs.MapJob.TheVariants.{Count}
-use Rattle.pigale_shell.specs.declared.kinds.JobKind.{JobKind}
-use Rattle.pigale_shell.specs.declared.kinds.JobKind.TheVariants.{Maps, Figures}
+use Rattle.pigale_shell.specs.declared.job_kinds.JobKind.{JobKind}
+use Rattle.pigale_shell.specs.declared.job_kinds.JobKind.TheVariants.{Maps, Figures}
 use Rattle.pigale_shell.proofs.OutcomeLemmas.{one_ending, one_records}
 
 -- blocks one by one, and how many are refused

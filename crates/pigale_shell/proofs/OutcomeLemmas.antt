@@ -11,21 +11,21 @@ use Rattle.line_inputs.proofs.GraphLinesReadLemmas.{begins-none as begins-no-gra
 use Rattle.pg_io.specs.Io.{HasRisen}
 use Rattle.pg_io.proofs.Growth.{GrowsByPrefix-none}
 use Rattle.record_runs.specs.Outcome.{Ports, ports, Outcome as RunOutcome}
-use Rattle.record_runs.specs.declared.run.RunEnd.{RunEnd}
-use Rattle.record_runs.specs.declared.run.RunEnd.TheVariants as ended
+use Rattle.record_runs.specs.declared.main_loop.RunEnd.{RunEnd}
+use Rattle.record_runs.specs.declared.main_loop.RunEnd.TheVariants as ended
 use Rattle.pigale_shell.specs.Text.{bad_words_line}
 use Rattle.pigale_shell.specs.Lines.{ending_of}
-use Rattle.pigale_shell.specs.declared.lines.Ending.{Ending}
-use Rattle.pigale_shell.specs.declared.lines.Ending.TheVariants.{Well, EndInRecord, BadCount, TooLong}
+use Rattle.pigale_shell.specs.declared.output_lines.Ending.{Ending}
+use Rattle.pigale_shell.specs.declared.output_lines.Ending.TheVariants.{Well, EndInRecord, BadCount, TooLong}
 use Rattle.pigale_shell.specs.Answer.{planar_answers}
 use Rattle.pigale_shell.specs.Kinds.{says_of}
 use Rattle.pigale_shell.specs.PlanarCode.{planar_code}
 use Rattle.pigale_shell.specs.declared.map_jobs.MapJob.{MapJob}
-use Rattle.pigale_words.specs.declared.form.Form.{Form}
+use Rattle.pigale_words.specs.declared.output_form.Form.{Form}
 use Rattle.pigale_shell.specs.JobInput.{RecordOf, EndingOf, reads_of, answers_of, left_of}
 use Rattle.pigale_shell.specs.Outcome.{Outcome, GrowsByText, MayEnd, status_of}
-use Rattle.pigale_shell.specs.declared.kinds.JobKind.{JobKind}
-use Rattle.pigale_shell.specs.declared.kinds.JobKind.TheVariants.{Maps, Graphs, Figures, Made}
+use Rattle.pigale_shell.specs.declared.job_kinds.JobKind.{JobKind}
+use Rattle.pigale_shell.specs.declared.job_kinds.JobKind.TheVariants.{Maps, Graphs, Figures, Made}
 use Rattle.pigale_words.specs.declared.job.Status.{Status}
 use Rattle.pigale_words.specs.declared.job.Status.TheVariants.{Done, SomeRefused, BadWords, BadInput, ReadFault, WriteFault, NoMemory}
 

@@ -5,8 +5,8 @@ use Rattle.planar_code.specs.Reading.{Ending as SpokenEnding, IsRecord}
 use Rattle.planar_code.specs.Ends.{ending_by, ending_here}
 use Rattle.planar_code.specs.State.{State}
 use Rattle.planar_code.specs.Taken.{Takes}
-use Rattle.planar_code.specs.declared.reader.Taken.{Taken}
-use Rattle.planar_code.specs.declared.reader.Taken.TheVariants.{More, Ended, Bad}
+use Rattle.planar_code.specs.declared.record_reader.Taken.{Taken}
+use Rattle.planar_code.specs.declared.record_reader.Taken.TheVariants.{More, Ended, Bad}
 use Rattle.planar_code.proofs.PieceLemmas.{joined-moves, ended-moves}
 use Rattle.pigale_shell.specs.Lines.{ending_of}
 use Rattle.pigale_shell.specs.PlanarCode.{end_by, end_here, IsGiven}

@@ -9,13 +9,13 @@ use Rattle.figure_verdicts.specs.Verdicts.{IsFigureVerdict}
 use Rattle.figure_verdicts.specs.declared.verdict.FigureVerdict.{FigureVerdict}
 use Rattle.figure_verdicts.specs.declared.verdict.FigureVerdict.TheVariants.{Refused, Drawing, Inside, Convex, Bars, Rects, Witness as WitnessFault, Yes}
 use Rattle.line_inputs.specs.declared.graph_lines.ending.Ending.TheVariants as graph
-use Rattle.pigale_words.specs.declared.form.Form.{Form}
-use Rattle.pigale_words.specs.declared.form.Form.TheVariants.{Text}
+use Rattle.pigale_words.specs.declared.output_form.Form.{Form}
+use Rattle.pigale_words.specs.declared.output_form.Form.TheVariants.{Text}
 use Rattle.pigale_shell.specs.declared.map_jobs.MapJob.TheVariants.{Count}
-use Rattle.pigale_shell.specs.declared.kinds.JobKind.TheVariants.{Maps, Graphs}
+use Rattle.pigale_shell.specs.declared.job_kinds.JobKind.TheVariants.{Maps, Graphs}
 use Rattle.pigale_words.specs.declared.job.Status.TheVariants.{Done, BadInput, ReadFault, WriteFault}
-use Rattle.pigale_shell.specs.declared.lines.Ending.{Ending}
-use Rattle.pigale_shell.specs.declared.lines.Ending.TheVariants.{Well}
+use Rattle.pigale_shell.specs.declared.output_lines.Ending.{Ending}
+use Rattle.pigale_shell.specs.declared.output_lines.Ending.TheVariants.{Well}
 use Rattle.pigale_shell.specs.EmbedText.{embed_answers}
 use Rattle.pigale_shell.specs.Outcome.{MayEnd}
 use Rattle.pigale_shell.specs.Verify.{verdict_line, numbers_line, IsVerifyBlock, WritesVerdict}

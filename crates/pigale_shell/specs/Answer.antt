@@ -2,15 +2,15 @@
 use Rattle.std.specs.Prelude.{ℕ, ◌↔◌, Bool, true, false, IsTrue, List}
 use Rattle.map_lists.specs.Lists.{Lists}
 use Rattle.record_runs.specs.Texts.{Answers}
-use Rattle.pigale_words.specs.declared.form.Form.{Form}
+use Rattle.pigale_words.specs.declared.output_form.Form.{Form}
 use Rattle.pigale_shell.specs.Blocks.{IsJobBlock, Says}
 use Rattle.pigale_shell.specs.Forms.{line_in}
 use Rattle.pigale_shell.specs.Kinds.{says_of}
 use Rattle.pigale_shell.specs.Lines.{ending_of}
 use Rattle.pigale_shell.specs.Text.{last_line}
-use Rattle.pigale_shell.specs.declared.lines.Ending.{Ending}
-use Rattle.pigale_shell.specs.declared.kinds.JobKind.{JobKind}
-use Rattle.pigale_shell.specs.declared.kinds.JobKind.TheVariants.{Maps}
+use Rattle.pigale_shell.specs.declared.output_lines.Ending.{Ending}
+use Rattle.pigale_shell.specs.declared.job_kinds.JobKind.{JobKind}
+use Rattle.pigale_shell.specs.declared.job_kinds.JobKind.TheVariants.{Maps}
 
 -- the text is the answer for record k, in a form
 abbrev pub IsMapBlock : Says → Form → ℕ → Lists → List ℕ → Type 0

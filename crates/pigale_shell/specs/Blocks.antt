@@ -1,8 +1,8 @@
 -- The block of a record: what it is where the record is served, and the line that names the first condition that it breaks.
 use Rattle.std.specs.Prelude.{ℕ, ◌<◌, ◌≡◌, ◌⊎◌, List, ◌++◌, length}
 use Rattle.map_lists.specs.Lists.{Lists}
-use Rattle.refusals.specs.declared.refusal.Refusal.{Refusal}
-use Rattle.pigale_words.specs.declared.form.Form.{Form}
+use Rattle.refusals.specs.declared.conditions.Refusal.{Refusal}
+use Rattle.pigale_words.specs.declared.output_form.Form.{Form}
 use Rattle.pigale_shell.specs.Text.{refusal_line}
 use Rattle.pigale_shell.specs.Forms.{line_in}
 

@@ -2,7 +2,7 @@
 use Rattle.std.specs.Prelude.{ℕ, ◌<◌, ◌≤◌, ◌≡◌, ◌⊎◌, ◌↔◌, IsTrue, List, codes}
 use Rattle.record_runs.specs.Texts.{Answers}
 use Rattle.map_lists.specs.Lists.{Lists}
-use Rattle.pg_plane.specs.declared.figure.GridFigure.{GridFigure}
+use Rattle.pg_plane.specs.declared.figures.GridFigure.{GridFigure}
 use Rattle.graph6_text.specs.Graphs.{EdgeGraph}
 use Rattle.graph6_text.specs.Lines.{IsLine as IsGraphLine}
 use Rattle.kuratowski.specs.Witnesses.{IsWitness}
@@ -12,14 +12,14 @@ use Rattle.line_inputs.specs.declared.graph_lines.ending.Ending.TheVariants.{Wel
 use Rattle.figure_text.specs.Text.{witness_text}
 use Rattle.figure_text.specs.declared.figure.GridJob.TheVariants.{Schnyder}
 use Rattle.svg_out.specs.Svg.{IsWitnessSvg}
-use Rattle.refusals.specs.declared.refusal.Refusal.{Refusal}
-use Rattle.refusals.specs.declared.refusal.Refusal.TheVariants.{Small}
+use Rattle.refusals.specs.declared.conditions.Refusal.{Refusal}
+use Rattle.refusals.specs.declared.conditions.Refusal.TheVariants.{Small}
 use Rattle.embed_graph.specs.Figures.{IsDrawnMap}
 use Rattle.pigale_shell.specs.Text.{word_and_number, line, end_line}
 use Rattle.pigale_shell.specs.Blocks.{IsJobBlock}
 use Rattle.pigale_shell.specs.Forms.{line_in, grid_in}
-use Rattle.pigale_words.specs.declared.form.Form.{Form}
-use Rattle.pigale_words.specs.declared.form.Form.TheVariants.{Text, Svg}
+use Rattle.pigale_words.specs.declared.output_form.Form.{Form}
+use Rattle.pigale_words.specs.declared.output_form.Form.TheVariants.{Text, Svg}
 
 -- figure k, a witness: its text with the line of the graph, which is a comment where pictures are drawn
 abbrev pub WritesWitness : Form → ℕ → EdgeGraph → Witness → List ℕ → Type 0

@@ -1,14 +1,14 @@
 -- The form in which a job that draws writes: figures as text, or as SVG with all other lines as comments.
 use Rattle.std.specs.Prelude.{ℕ, ◌-◌, List, [], ◌∷◌, ◌++◌, length, take, codes}
 use Rattle.map_lists.specs.Lists.{Lists}
-use Rattle.pg_plane.specs.declared.point.Point.{Point}
-use Rattle.pg_plane.specs.declared.figure.BarFigure.{BarFigure}
-use Rattle.pg_plane.specs.declared.figure.RectFigure.{RectFigure}
+use Rattle.pg_plane.specs.declared.segments.Point.{Point}
+use Rattle.pg_plane.specs.declared.figures.BarFigure.{BarFigure}
+use Rattle.pg_plane.specs.declared.figures.RectFigure.{RectFigure}
 use Rattle.figure_text.specs.Text.{grid_text, bars_text, rects_text}
 use Rattle.figure_text.specs.declared.figure.GridJob.{GridJob}
 use Rattle.svg_out.specs.Svg.{grid_svg, bars_svg, rects_svg}
-use Rattle.pigale_words.specs.declared.form.Form.{Form}
-use Rattle.pigale_words.specs.declared.form.Form.TheVariants.{Text, Svg}
+use Rattle.pigale_words.specs.declared.output_form.Form.{Form}
+use Rattle.pigale_words.specs.declared.output_form.Form.TheVariants.{Text, Svg}
 
 -- a closed line as a comment, which is closed too
 unfoldable pub commented : List ℕ → List ℕ

@@ -2,9 +2,9 @@
 use Rattle.std.specs.Prelude.{ℕ, ◌<◌, ◌≤◌, ◌≡◌, List, Option, Some, None, option_map}
 use Rattle.map_theory.specs.Maps.{IsPlane}
 use Rattle.simple_maps.specs.Faults.{first_fault}
-use Rattle.pg_plane.specs.declared.figure.GridFigure.{GridFigure}
-use Rattle.pg_plane.specs.declared.figure.BarFigure.{BarFigure}
-use Rattle.pg_plane.specs.declared.figure.RectFigure.{RectFigure}
+use Rattle.pg_plane.specs.declared.figures.GridFigure.{GridFigure}
+use Rattle.pg_plane.specs.declared.figures.BarFigure.{BarFigure}
+use Rattle.pg_plane.specs.declared.figures.RectFigure.{RectFigure}
 use Rattle.refusals.specs.Conditions.{fault_refusal, first_refusal}
 use Rattle.conn_parts.specs.BiconnectedMaps.{IsBiconnectedMap, BreaksFirst}
 use Rattle.convex_peeling.specs.Polyhedral.{IsThreeConnected}
@@ -18,7 +18,7 @@ use Rattle.convex_draw.specs.Figures.{IsConvexFigure}
 use Rattle.rect_dual.specs.Figures.{IsRectFigure}
 use Rattle.figure_text.specs.declared.figure.GridJob.TheVariants as grid
 use Rattle.pigale_words.specs.Words.{job_of}
-use Rattle.pigale_words.specs.declared.form.Form.TheVariants.{Text}
+use Rattle.pigale_words.specs.declared.output_form.Form.TheVariants.{Text}
 use Rattle.pigale_words.specs.declared.job.Job.{Job}
 use Rattle.pigale_words.specs.declared.job.Job.TheVariants as job
 use Rattle.pigale_shell.specs.Blocks.{IsPrinted, Says}
@@ -26,8 +26,8 @@ use Rattle.pigale_shell.specs.Forms.{grid_in, bars_in, rects_in}
 use Rattle.pigale_shell.specs.Text.{count_line}
 use Rattle.pigale_shell.specs.declared.map_jobs.MapJob.{MapJob}
 use Rattle.pigale_shell.specs.declared.map_jobs.MapJob.TheVariants as maps
-use Rattle.pigale_shell.specs.declared.kinds.JobKind.{JobKind}
-use Rattle.pigale_shell.specs.declared.kinds.JobKind.TheVariants.{Maps, Graphs, Figures, Made}
+use Rattle.pigale_shell.specs.declared.job_kinds.JobKind.{JobKind}
+use Rattle.pigale_shell.specs.declared.job_kinds.JobKind.TheVariants.{Maps, Graphs, Figures, Made}
 
 abbrev pub kind_of : Job → JobKind
 kind_of job.Count = Maps maps.Count Text

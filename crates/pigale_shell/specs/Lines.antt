@@ -1,7 +1,7 @@
 -- The endings of planar_code, by the code's own enum.
 use Rattle.planar_code.specs.Reading.{Ending as SpokenEnding, well, end_in_record, bad_count, too_long}
-use Rattle.pigale_shell.specs.declared.lines.Ending.{Ending}
-use Rattle.pigale_shell.specs.declared.lines.Ending.TheVariants.{Well, EndInRecord, BadCount, TooLong}
+use Rattle.pigale_shell.specs.declared.output_lines.Ending.{Ending}
+use Rattle.pigale_shell.specs.declared.output_lines.Ending.TheVariants.{Well, EndInRecord, BadCount, TooLong}
 
 -- the ending, as a reading has it
 abbrev pub ending_of : Ending → SpokenEnding

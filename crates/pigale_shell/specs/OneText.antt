@@ -2,7 +2,7 @@
 use Rattle.std.specs.Prelude.{ℕ, ◌<◌, ◌≡◌, List, length, Some}
 use Rattle.map_lists.specs.Lists.{Lists}
 use Rattle.graph6_text.specs.Graphs.{EdgeGraph}
-use Rattle.pigale_words.specs.declared.form.Form.{Form}
+use Rattle.pigale_words.specs.declared.output_form.Form.{Form}
 use Rattle.pigale_shell.specs.Answer.{IsMapBlock}
 use Rattle.pigale_shell.specs.Blocks.{IsRefused}
 use Rattle.pigale_shell.specs.EmbedText.{IsTooSmall, IsEmbedBlock}
@@ -11,8 +11,8 @@ use Rattle.pigale_shell.specs.Kinds.{says_of}
 use Rattle.pigale_shell.specs.Outcome.{Writes}
 use Rattle.pigale_shell.specs.declared.map_jobs.MapJob.{MapJob}
 use Rattle.pigale_shell.specs.declared.map_jobs.MapJob.TheVariants.{Count}
-use Rattle.pigale_shell.specs.declared.kinds.JobKind.{JobKind}
-use Rattle.pigale_shell.specs.declared.kinds.JobKind.TheVariants.{Maps, Figures}
+use Rattle.pigale_shell.specs.declared.job_kinds.JobKind.{JobKind}
+use Rattle.pigale_shell.specs.declared.job_kinds.JobKind.TheVariants.{Maps, Figures}
 
 -- it draws nothing: it counts, or it judges what others drew
 abbrev pub DrawsNothing : JobKind → Type 0

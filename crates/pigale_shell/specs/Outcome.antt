@@ -1,12 +1,12 @@
 -- What was taken and written when a run ended with a status.
 use Rattle.std.specs.Prelude.{ℕ, ◌≡◌, List, Option, Some, None}
 use Rattle.record_runs.specs.Outcome.{Writes as RunWrites, WritesPart as RunWritesPart, WritesTaken as RunWritesTaken, Ports, Outcome as RunOutcome}
-use Rattle.record_runs.specs.declared.run.RunEnd.{RunEnd}
-use Rattle.record_runs.specs.declared.run.RunEnd.TheVariants as ended
+use Rattle.record_runs.specs.declared.main_loop.RunEnd.{RunEnd}
+use Rattle.record_runs.specs.declared.main_loop.RunEnd.TheVariants as ended
 use Rattle.pigale_shell.specs.Text.{bad_words_line}
 use Rattle.pg_io.specs.Io.{WhereTold, GrowsByPrefix}
 use Rattle.pigale_shell.specs.JobInput.{EndingOf, reads_of, answers_of, left_of}
-use Rattle.pigale_shell.specs.declared.kinds.JobKind.{JobKind}
+use Rattle.pigale_shell.specs.declared.job_kinds.JobKind.{JobKind}
 use Rattle.pigale_words.specs.declared.job.Status.{Status}
 use Rattle.pigale_words.specs.declared.job.Status.TheVariants.{Done, SomeRefused, BadWords, BadInput, ReadFault, WriteFault, NoMemory}
 

@@ -5,8 +5,8 @@ use Rattle.record_runs.specs.Texts.{Reads}
 use Rattle.planar_code.specs.Reading.{IsReading, BeginsWith}
 use Rattle.planar_code.specs.State.{State}
 use Rattle.pigale_shell.specs.Lines.{ending_of}
-use Rattle.pigale_shell.specs.declared.lines.Ending.{Ending}
-use Rattle.pigale_shell.specs.declared.lines.Ending.TheVariants.{Well, EndInRecord, BadCount, TooLong}
+use Rattle.pigale_shell.specs.declared.output_lines.Ending.{Ending}
+use Rattle.pigale_shell.specs.declared.output_lines.Ending.TheVariants.{Well, EndInRecord, BadCount, TooLong}
 
 -- an input that does not end well
 abbrev pub IsBad : Ending → Type 0

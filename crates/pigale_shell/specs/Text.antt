@@ -2,8 +2,8 @@
 use Rattle.std.specs.Prelude.{ℕ, ◌+◌, List, [], ◌∷◌, ◌++◌, codes, decimal}
 use Rattle.map_lists.specs.Lists.{Lists}
 use Rattle.map_theory.specs.Maps.{vertex_count, edge_count, face_count, component_count, genus}
-use Rattle.refusals.specs.declared.refusal.Refusal.{Refusal}
-use Rattle.refusals.specs.declared.refusal.Refusal.TheVariants.{OutOfRange, Loop, Repeated, OneSided, Small, Genus, NotConnected, CutVertex, SeparatingPair, OuterNotQuad, NotTriangle, SeparatingTriangle, NoInner}
+use Rattle.refusals.specs.declared.conditions.Refusal.{Refusal}
+use Rattle.refusals.specs.declared.conditions.Refusal.TheVariants.{OutOfRange, Loop, Repeated, OneSided, Small, Genus, NotConnected, CutVertex, SeparatingPair, OuterNotQuad, NotTriangle, SeparatingTriangle, NoInner}
 use Rattle.planar_code.specs.Reading.{Ending, well, end_in_record, bad_count, too_long}
 
 -- a word, a space and a number

@@ -18,10 +18,10 @@ use Rattle.figure_verdicts.specs.Validity.{IsValidFigure}
 use Rattle.figure_verdicts.specs.Verdicts.{IsFigureVerdict}
 use Rattle.figure_verdicts.specs.declared.verdict.FigureVerdict.{FigureVerdict}
 use Rattle.figure_verdicts.specs.declared.verdict.FigureVerdict.TheVariants.{Refused, Drawing, Inside, Convex, Bars, Rects, Witness, Yes}
-use Rattle.simple_maps.specs.declared.fault.MapFault.{MapFault}
+use Rattle.simple_maps.specs.declared.map_fault.MapFault.{MapFault}
 use Rattle.refusals.specs.Conditions.{unserved_for}
-use Rattle.refusals.specs.declared.refusal.Refusal.{Refusal}
-use Rattle.refusals.specs.declared.refusal.Unserved.TheVariants.{Refused as UnservedFor}
+use Rattle.refusals.specs.declared.conditions.Refusal.{Refusal}
+use Rattle.refusals.specs.declared.conditions.Unserved.TheVariants.{Refused as UnservedFor}
 use Rattle.pigale_shell.specs.Text.{word_and_number, line, refusal_line, end_line}
 
 -- vertices, each after a space and numbered from 1

@@ -2,10 +2,10 @@
 ghost use Rattle.std.specs.Prelude.{◌≡◌, IfOk};
 ghost use Rattle.pigale_shell.specs.EmbedText.{embed_last_line as last_line_of};
 
-use super::answer::refused_line;
-use super::form::{FormPrinter, line_in};
-use super::lines::{end_line, stop_line};
+use super::form_printer::{FormPrinter, line_in};
 use super::method::GraphRecord;
+use super::output_lines::{end_line, stop_line};
+use super::record_answers::refused_line;
 use embed_graph::embed_figures::Embedder;
 use graph6_text::Graph;
 use line_inputs::graph_lines::{Ending, GraphReader};

@@ -1,21 +1,21 @@
 //! The jobs of Pigale, and the top call that runs the words of a command over any source and any sink.
 #![tactic(auto)]
 
-mod answer;
 mod embed;
-mod form;
-mod kinds;
+mod form_printer;
+mod gen_job;
+mod job_kinds;
+mod job_runs;
 mod laws;
-mod lines;
-mod made;
 mod map_jobs;
 mod method;
-mod planar;
-mod run;
-mod top;
+mod output_lines;
+mod planar_jobs;
+mod record_answers;
+mod top_call;
 mod verify;
 
-pub use answer::answer_record;
 pub use laws::{one_graph_refusal_line, one_refusal_line, one_text};
 pub use pigale_words::{Form, Job, Status, WordFault, job_words, words_to_job};
-pub use top::pigale;
+pub use record_answers::answer_record;
+pub use top_call::pigale;

@@ -12,9 +12,9 @@ mod rect;
 mod schnyder;
 mod shift;
 
-use super::answer::answer_with;
-use super::kinds::JobKind;
+use super::job_kinds::JobKind;
 use super::method::{MapRecord, Method};
+use super::record_answers::answer_with;
 pub(crate) use bars::Bars;
 pub(crate) use convex::Convex;
 pub(crate) use count::Count;

@@ -2,7 +2,7 @@
 ghost use Rattle.std.specs.Prelude.{◌≡◌, ◌++◌, OnOk, IfOk};
 ghost use Rattle.pigale_shell.specs.Verify.{numbers, verdict_line as verdict_line_of, verdict_words, bars_words, rects_words, spaced, numbers_line as numbers_line_of, witness_words, WritesVerdict};
 
-use super::lines::{end_line, push_number, refusal_line, stop_line};
+use super::output_lines::{end_line, push_number, refusal_line, stop_line};
 use bar_check::BarVerdict;
 use convex_check::ConvexVerdict;
 use draw_check::Verdict;

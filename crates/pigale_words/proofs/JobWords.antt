@@ -12,8 +12,8 @@ use Rattle.pigale_words.specs.Numbers.{number_in, within}
 use Rattle.figure_text.specs.Words.{canonical, decimal_from, is_digit}
 use Rattle.pigale_words.specs.declared.job.Job.{Job}
 use Rattle.pigale_words.specs.declared.job.Job.TheVariants.{Count, Gen}
-use Rattle.pigale_words.specs.declared.form.Form.{Form}
-use Rattle.pigale_words.specs.declared.form.Form.TheVariants as forms
+use Rattle.pigale_words.specs.declared.output_form.Form.{Form}
+use Rattle.pigale_words.specs.declared.output_form.Form.TheVariants as forms
 use Rattle.pigale_words.proofs.WordRows.{Which, Which.the_job, Which.the_form, Which.the_size, Which.the_number, put, get, Held_text.no_text}
 use Rattle.pigale_words.proofs.WordSteps.{is_job}
 use Rattle.pigale_words.proofs.SpellLemmas.{Adds, Found, found_by, Plain, plain_first, AllPlain, ends_by, ends_of, given_of}

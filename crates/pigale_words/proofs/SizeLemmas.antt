@@ -11,7 +11,7 @@ use Rattle.pigale_words.specs.Spelling.{Fits, IsNamed}
 use Rattle.pigale_words.specs.Jobs.{HasSize}
 use Rattle.pigale_words.specs.declared.job.Job.{Job}
 use Rattle.pigale_words.specs.declared.job.Job.TheVariants.{Gen}
-use Rattle.pigale_words.specs.declared.form.Form.TheVariants as forms
+use Rattle.pigale_words.specs.declared.output_form.Form.TheVariants as forms
 use Rattle.pigale_words.proofs.JobWords.{job_words-law, found_is, only, not_true, and_left, and_right}
 
 within-range : (least most n m : ℕ) → within least most n ≡ Some m → (least ≤ m) × (m ≤ most)

@@ -3,8 +3,8 @@ use Rattle.std.specs.Prelude.{◌≡◌, ◌⊎◌, ◌↔◌, ℕ, List, [], �
 use Rattle.clap.specs.Walk.{Text}
 use Rattle.pigale_words.specs.Numbers.{number_in}
 use Rattle.pigale_words.specs.Words.{Takes, Takes.no_option, Takes.a_form, Takes.two_numbers, taken_by, job_of}
-use Rattle.pigale_words.specs.declared.form.Form.{Form}
-use Rattle.pigale_words.specs.declared.form.Form.TheVariants as forms
+use Rattle.pigale_words.specs.declared.output_form.Form.{Form}
+use Rattle.pigale_words.specs.declared.output_form.Form.TheVariants as forms
 use Rattle.pigale_words.specs.declared.job.Job.{Job}
 use Rattle.pigale_words.specs.declared.job.Job.TheVariants.{Gen}
 

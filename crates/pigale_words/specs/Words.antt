@@ -6,8 +6,8 @@ use Rattle.clap.specs.Simple.{App, Shape, matches_of, new_app, new_rule, on_top,
 use Rattle.clap.specs.Kinds.{Kinds}
 use Rattle.clap.specs.Faults.{fault_of}
 use Rattle.pigale_words.specs.Numbers.{number_in}
-use Rattle.pigale_words.specs.declared.form.Form.{Form}
-use Rattle.pigale_words.specs.declared.form.Form.TheVariants as forms
+use Rattle.pigale_words.specs.declared.output_form.Form.{Form}
+use Rattle.pigale_words.specs.declared.output_form.Form.TheVariants as forms
 use Rattle.pigale_words.specs.declared.job.Job.{Job}
 use Rattle.pigale_words.specs.declared.job.Job.TheVariants.{Count, Shift, Schnyder, Bars, Convex, Rect, Gen, Verify, Embed}
 

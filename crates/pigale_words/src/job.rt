@@ -2,7 +2,7 @@
 ghost use Rattle.std.specs.Prelude.{◌≡◌};
 ghost use Rattle.pigale_words.specs.Status.{status_number};
 
-use super::form::Form;
+use super::output_form::Form;
 
 /// The job of a run: how each record of its input is answered.
 #[derive(Clone, Copy, PartialEq, Eq)]

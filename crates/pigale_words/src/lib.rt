@@ -1,11 +1,11 @@
 //! The words of the program's command line: which job they name, with its form and numbers, and how a run can end.
 #![tactic(auto)]
 
-mod form;
+mod command_words;
+mod decimal_numbers;
 mod job;
-mod numbers;
-mod words;
+mod output_form;
 
-pub use form::Form;
+pub use command_words::{job_words, words_to_job};
 pub use job::{Job, Status, WordFault};
-pub use words::{job_words, words_to_job};
+pub use output_form::Form;

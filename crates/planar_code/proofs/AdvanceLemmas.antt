@@ -7,10 +7,10 @@ use Rattle.std.proofs.lemmas.Bool.Decides.{nat_tests}
 use Rattle.std.specs.Prelude.{◌⊎◌, nat_le, IsTrue, IsFalse}
 use Rattle.map_lists.specs.Lists.{Lists}
 use Rattle.planar_code.specs.Reading.{record_numbers, two_bytes, IsRecord, is_bad_count}
-use Rattle.planar_code.specs.declared.scan.Phase.{Phase}
-use Rattle.planar_code.specs.declared.scan.Phase.TheVariants.{Start, WideStart, WideHigh, Narrow, Wide, WideHalf}
-use Rattle.planar_code.specs.declared.scan.Scanned.{Scanned}
-use Rattle.planar_code.specs.declared.scan.Scanned.TheVariants.{More, Ended, Bad}
+use Rattle.planar_code.specs.declared.record_scanner.Phase.{Phase}
+use Rattle.planar_code.specs.declared.record_scanner.Phase.TheVariants.{Start, WideStart, WideHigh, Narrow, Wide, WideHalf}
+use Rattle.planar_code.specs.declared.record_scanner.Scanned.{Scanned}
+use Rattle.planar_code.specs.declared.record_scanner.Scanned.TheVariants.{More, Ended, Bad}
 use Rattle.planar_code.specs.Open.{Open, numbers_of, IsOpen, Gathers, Collects}
 use Rattle.planar_code.specs.Scan.{bytes_of, IsScanned, GoesOn, Passes, room_of, most_lists, Advances}
 use Rattle.planar_code.proofs.GatherLemmas.{GathersWide, gathers-none, gathers-more, wide-room}

@@ -6,7 +6,7 @@ use Rattle.map_lists.specs.Lists.{Lists}
 use Rattle.planar_code.specs.Reading.{header, is_header, input_limit, IsReading, bad_count}
 use Rattle.planar_code.specs.State.{State, with_byte, after_more, after_record}
 use Rattle.planar_code.specs.Taken.{after_all, AllJoin, Takes}
-use Rattle.planar_code.specs.declared.reader.Taken.TheVariants.{More, Ended, Bad}
+use Rattle.planar_code.specs.declared.record_reader.Taken.TheVariants.{More, Ended, Bad}
 use Rattle.planar_code.specs.Progress.{Progress}
 use Rattle.planar_code.proofs.SplitLemmas.{take-next, split-next}
 use Rattle.planar_code.proofs.ProgressLemmas.{Progress-more, Progress-record, Progress-bad}

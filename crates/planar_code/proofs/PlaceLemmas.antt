@@ -10,14 +10,14 @@ use Rattle.planar_code.specs.State.{State, with_byte, after_more}
 use Rattle.planar_code.specs.Scan.{Scan, Passes, Scans, Exhausts}
 use Rattle.planar_code.specs.Front.{is_front, IsCounted}
 use Rattle.planar_code.specs.Fed.{Feeds}
-use Rattle.planar_code.specs.declared.reader.Fed.TheVariants.{Bad as FedBad, Record as FedRecord}
+use Rattle.planar_code.specs.declared.record_reader.Fed.TheVariants.{Bad as FedBad, Record as FedRecord}
 use Rattle.planar_code.specs.Taken.{after_all, AllJoin, StopsAt, Takes, shifted}
 use Rattle.planar_code.specs.Place.{state_of, moved, told}
-use Rattle.planar_code.specs.declared.reader.Place.{Place}
-use Rattle.planar_code.specs.declared.scan.Scanned.{Scanned}
-use Rattle.planar_code.specs.declared.scan.Scanned.TheVariants.{More as ScannedMore, Ended as ScannedEnded, Bad as ScannedBad}
-use Rattle.planar_code.specs.declared.reader.Taken.{Taken}
-use Rattle.planar_code.specs.declared.reader.Taken.TheVariants.{More, Ended, Bad}
+use Rattle.planar_code.specs.declared.record_reader.Place.{Place}
+use Rattle.planar_code.specs.declared.record_scanner.Scanned.{Scanned}
+use Rattle.planar_code.specs.declared.record_scanner.Scanned.TheVariants.{More as ScannedMore, Ended as ScannedEnded, Bad as ScannedBad}
+use Rattle.planar_code.specs.declared.record_reader.Taken.{Taken}
+use Rattle.planar_code.specs.declared.record_reader.Taken.TheVariants.{More, Ended, Bad}
 use Rattle.planar_code.proofs.FrontLemmas.{front-shorter, header-longer, after-no_header, counted-push, ends-header}
 use Rattle.planar_code.proofs.SplitLemmas.{take-next}
 use Rattle.planar_code.proofs.ScansLemmas.{take-parts}

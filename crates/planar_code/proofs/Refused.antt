@@ -5,7 +5,7 @@ use Rattle.std.proofs.lemmas.List.{length-append}
 use Rattle.map_lists.specs.Lists.{Lists}
 use Rattle.planar_code.specs.Reading.{IsRecord, IsReading, header, end_in_record}
 use Rattle.planar_code.specs.Step.{StandsAt}
-use Rattle.planar_code.specs.declared.next.Step.TheVariants.{Lists as Stands}
+use Rattle.planar_code.specs.declared.whole_input.Step.TheVariants.{Lists as Stands}
 
 -- entries are as they are printed, from 1
 entry_as_printed : IsRecord (2 ∷ 2 ∷ 0 ∷ 1 ∷ 0 ∷ []) ((2 ∷ []) ∷ (1 ∷ []) ∷ []) → ⊥

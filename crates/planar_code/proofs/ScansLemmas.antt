@@ -4,8 +4,8 @@ use Rattle.std.proofs.lemmas.List.{length-drop, take-append-drop, length-take-le
 use Rattle.std.proofs.Math.Seq.{take-append-add}
 use Rattle.std.specs.Prelude.{IsTrue, IsFalse}
 use Rattle.planar_code.specs.Reading.{IsRecord, is_bad_count}
-use Rattle.planar_code.specs.declared.scan.Scanned.{Scanned}
-use Rattle.planar_code.specs.declared.scan.Scanned.TheVariants.{More, Ended, Bad}
+use Rattle.planar_code.specs.declared.record_scanner.Scanned.{Scanned}
+use Rattle.planar_code.specs.declared.record_scanner.Scanned.TheVariants.{More, Ended, Bad}
 use Rattle.planar_code.specs.Scan.{Scan, Passes, PassesBefore, Scans}
 use Rattle.planar_code.proofs.PassLemmas.{Passes-append}
 

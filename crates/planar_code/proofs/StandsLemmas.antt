@@ -7,10 +7,10 @@ use Rattle.std.proofs.Math.Seq.{drop-append_seam, take-append_seam}
 use Rattle.map_lists.specs.Lists.{Lists}
 use Rattle.planar_code.specs.Reading.{IsRecord, has_bad_count}
 use Rattle.planar_code.specs.Step.{StandsAt, FailsAt}
-use Rattle.planar_code.specs.declared.next.Step.{Step}
-use Rattle.planar_code.specs.declared.next.Step.TheVariants as found
-use Rattle.planar_code.specs.declared.next.CodeFault.{CodeFault}
-use Rattle.planar_code.specs.declared.next.CodeFault.TheVariants.{EndInRecord, BadCount, NoMemory}
+use Rattle.planar_code.specs.declared.whole_input.Step.{Step}
+use Rattle.planar_code.specs.declared.whole_input.Step.TheVariants as found
+use Rattle.planar_code.specs.declared.whole_input.CodeFault.{CodeFault}
+use Rattle.planar_code.specs.declared.whole_input.CodeFault.TheVariants.{EndInRecord, BadCount, NoMemory}
 use Rattle.planar_code.proofs.ReadingLemmas.{record-unique, record-no_bad_count, record-positive}
 
 module _ (front bytes rest : List ℕ) (lists : Lists) (is : IsRecord bytes lists) where

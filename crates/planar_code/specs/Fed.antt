@@ -3,8 +3,8 @@ use Rattle.std.specs.Prelude.{ℕ, ◌≡◌, [], IsTrue, IsFalse}
 use Rattle.map_lists.specs.Lists.{Lists}
 use Rattle.planar_code.specs.Reading.{IsRecord, is_bad_count}
 use Rattle.planar_code.specs.State.{State, with_byte, after_more, after_record}
-use Rattle.planar_code.specs.declared.reader.Fed.{Fed}
-use Rattle.planar_code.specs.declared.reader.Fed.TheVariants.{Bad, Record, More}
+use Rattle.planar_code.specs.declared.record_reader.Fed.{Fed}
+use Rattle.planar_code.specs.declared.record_reader.Fed.TheVariants.{Bad, Record, More}
 
 -- The first of three that applies: a bad count, a record that ends with the byte, whose lists are handed over, or
 -- neither.

@@ -3,10 +3,10 @@ use Rattle.std.specs.Prelude.{ℕ, ◌+◌, ◌≡◌, List, ◌++◌, length}
 use Rattle.map_lists.specs.Lists.{Lists}
 use Rattle.planar_code.specs.Reading.{IsRecord, IsReading, Ending}
 use Rattle.planar_code.specs.Step.{StandsAt, FailsAt}
-use Rattle.planar_code.specs.declared.next.Step.{Step}
-use Rattle.planar_code.specs.declared.next.Step.TheVariants as found
-use Rattle.planar_code.specs.declared.next.CodeFault.{CodeFault}
-use Rattle.planar_code.specs.declared.next.CodeFault.TheVariants.{NoMemory}
+use Rattle.planar_code.specs.declared.whole_input.Step.{Step}
+use Rattle.planar_code.specs.declared.whole_input.Step.TheVariants as found
+use Rattle.planar_code.specs.declared.whole_input.CodeFault.{CodeFault}
+use Rattle.planar_code.specs.declared.whole_input.CodeFault.TheVariants.{NoMemory}
 
 -- each input is read in one way at most
 abbrev pub OneReading : Type 0

@@ -4,11 +4,11 @@ use Rattle.planar_code.specs.Reading.{input_limit}
 use Rattle.planar_code.specs.Front.{IsCounted}
 use Rattle.planar_code.specs.State.{State}
 use Rattle.planar_code.specs.Scan.{Scan}
-use Rattle.planar_code.specs.declared.scan.Scanned.{Scanned}
-use Rattle.planar_code.specs.declared.scan.Scanned.TheVariants.{More, Ended, Bad}
-use Rattle.planar_code.specs.declared.reader.Taken.{Taken}
-use Rattle.planar_code.specs.declared.reader.Taken.TheVariants.{More as TakenMore, Ended as TakenEnded, Bad as TakenBad}
-use Rattle.planar_code.specs.declared.reader.Place.{Place}
+use Rattle.planar_code.specs.declared.record_scanner.Scanned.{Scanned}
+use Rattle.planar_code.specs.declared.record_scanner.Scanned.TheVariants.{More, Ended, Bad}
+use Rattle.planar_code.specs.declared.record_reader.Taken.{Taken}
+use Rattle.planar_code.specs.declared.record_reader.Taken.TheVariants.{More as TakenMore, Ended as TakenEnded, Bad as TakenBad}
+use Rattle.planar_code.specs.declared.record_reader.Place.{Place}
 
 -- what contracts see of a reader with these parts
 abbrev pub state_of : Scan → Place → State

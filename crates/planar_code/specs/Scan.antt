@@ -3,10 +3,10 @@ use Rattle.std.specs.Prelude.{ℕ, ◌+◌, ◌-◌, ◌<◌, ◌≤◌, ◌≡�
 use Rattle.map_lists.specs.Lists.{Lists}
 use Rattle.planar_code.specs.Reading.{IsRecord, is_bad_count, two_bytes}
 use Rattle.planar_code.specs.Open.{Open, numbers_of, IsOpen}
-use Rattle.planar_code.specs.declared.scan.Phase.{Phase}
-use Rattle.planar_code.specs.declared.scan.Phase.TheVariants.{Start, WideStart, WideHigh, Narrow, Wide, WideHalf}
-use Rattle.planar_code.specs.declared.scan.Scanned.{Scanned}
-use Rattle.planar_code.specs.declared.scan.Scanned.TheVariants.{More, Ended, Bad}
+use Rattle.planar_code.specs.declared.record_scanner.Phase.{Phase}
+use Rattle.planar_code.specs.declared.record_scanner.Phase.TheVariants.{Start, WideStart, WideHigh, Narrow, Wide, WideHalf}
+use Rattle.planar_code.specs.declared.record_scanner.Scanned.{Scanned}
+use Rattle.planar_code.specs.declared.record_scanner.Scanned.TheVariants.{More, Ended, Bad}
 
 pub record Scan : Type 0 where
   -- the bytes of the record that has begun

@@ -1,10 +1,10 @@
 -- What stands at a place of the bytes of a file.
 use Rattle.std.specs.Prelude.{ℕ, ◌<◌, ◌≤◌, ◌≡◌, List, length, drop, slice_range, IsTrue, IsFalse}
 use Rattle.planar_code.specs.Reading.{IsRecord, NoRecord, has_bad_count}
-use Rattle.planar_code.specs.declared.next.Step.{Step}
-use Rattle.planar_code.specs.declared.next.Step.TheVariants.{Lists, End}
-use Rattle.planar_code.specs.declared.next.CodeFault.{CodeFault}
-use Rattle.planar_code.specs.declared.next.CodeFault.TheVariants.{EndInRecord, BadCount, NoMemory}
+use Rattle.planar_code.specs.declared.whole_input.Step.{Step}
+use Rattle.planar_code.specs.declared.whole_input.Step.TheVariants.{Lists, End}
+use Rattle.planar_code.specs.declared.whole_input.CodeFault.{CodeFault}
+use Rattle.planar_code.specs.declared.whole_input.CodeFault.TheVariants.{EndInRecord, BadCount, NoMemory}
 
 -- a record that reaches to an offset, or the end of the bytes
 abbrev pub StandsAt : List ℕ → ℕ → Step → Type 0

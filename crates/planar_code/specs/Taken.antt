@@ -2,9 +2,9 @@
 use Rattle.std.specs.Prelude.{ℕ, ◌+◌, ◌-◌, ◌<◌, ◌≤◌, ◌≡◌, List, [], ◌∷◌, length, take, slice_index}
 use Rattle.planar_code.specs.State.{State, with_byte, after_more}
 use Rattle.planar_code.specs.Fed.{Feeds}
-use Rattle.planar_code.specs.declared.reader.Fed.TheVariants.{Bad as FedBad, Record as FedRecord, More as FedMore}
-use Rattle.planar_code.specs.declared.reader.Taken.{Taken}
-use Rattle.planar_code.specs.declared.reader.Taken.TheVariants.{More, Ended, Bad}
+use Rattle.planar_code.specs.declared.record_reader.Fed.TheVariants.{Bad as FedBad, Record as FedRecord, More as FedMore}
+use Rattle.planar_code.specs.declared.record_reader.Taken.{Taken}
+use Rattle.planar_code.specs.declared.record_reader.Taken.TheVariants.{More, Ended, Bad}
 
 -- the state once these bytes have joined those pending
 abbrev pub after_all : State → List ℕ → State

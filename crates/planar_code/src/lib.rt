@@ -7,16 +7,16 @@
 //! all inputs that each is read, and in one way at most.
 #![tactic(auto)]
 
-mod gather;
 pub mod laws;
-mod next;
-mod open;
-mod reader;
-mod scan;
+mod number_gathering;
+mod open_lists;
+mod record_reader;
+mod record_scanner;
+mod whole_input;
 mod write;
 
-pub use next::{CodeFault, Step, after_header, next_record};
-pub use reader::{Fed, RecordReader, Taken};
+pub use record_reader::{Fed, RecordReader, Taken};
+pub use whole_input::{CodeFault, Step, after_header, next_record};
 pub use write::write_record;
 
 /// The bytes with which a file may begin.

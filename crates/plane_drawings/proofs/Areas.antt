@@ -1,7 +1,7 @@
 -- Points over and under two segments, and segments that do not cross, by signs of areas.
 use Rattle.std.proofs.Common.{◌≡◌, ℤ, pos, neg_ℤ, ◌+ℤ◌, ◌-ℤ◌, ◌*ℤ◌, ◌≤ℤ◌, ◌<ℤ◌, ◌⊎◌, inl, inr, sym, ap, arith}
 use Rattle.std.proofs.lemmas.Int.{ints, by_lt_z}
-use Rattle.pg_plane.specs.declared.point.Point.{Point}
+use Rattle.pg_plane.specs.declared.segments.Point.{Point}
 use Rattle.pg_plane.specs.Geometry.{vector, cross, area, AreOpposite, IsOnSegment, DoCross}
 use Rattle.pg_plane.proofs.Ring.{ring, sums, mul_neg, neg_mul, product_signs}
 use Rattle.pg_plane.proofs.Crossing.{one_crossing, one_weight, flat_last, flat_ends}

@@ -4,7 +4,7 @@ use Rattle.std.specs.List.{All, AllPairs, Contains}
 use Rattle.std.proofs.lemmas.Int.{ints}
 use Rattle.std.proofs.lemmas.Bool.{cases_lt}
 use Rattle.std.proofs.lemmas.List.Elements.{All-nil, All-append, All-contains, All-contains_itself, Contains-append_left, Contains-append_right, Contains-append_cases, at_from_Contains}
-use Rattle.pg_plane.specs.declared.point.Point.{Point}
+use Rattle.pg_plane.specs.declared.segments.Point.{Point}
 use Rattle.pg_plane.proofs.Crossing.{flat_last, flat_ends}
 use Rattle.pg_plane.proofs.Segments.{DoCross-exchanged}
 use Rattle.plane_drawings.specs.declared.plane_sweep.line.Line.{Line}

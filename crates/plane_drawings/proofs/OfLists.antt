@@ -6,7 +6,7 @@ use Rattle.map_theory.specs.Maps.{Dart, HasDart, is_empty_list, list_of, follows
 use Rattle.map_theory.proofs.DartLemmas.{dart_number-lt, HasDart-at, get_or-dart_number}
 use Rattle.map_theory.proofs.DartPermutations.{dart_of, tail_of, rotation, twin, dart_of-number, dart_of-twin, dart_of-rotation, IsPermuting-rotation, IsPairing-twin, tail_of-rotation, count_by-count_below}
 use Rattle.plane_laws.proofs.EdgeBound.{none_isolated, met_connected}
-use Rattle.pg_plane.specs.declared.point.Point.{Point}
+use Rattle.pg_plane.specs.declared.segments.Point.{Point}
 use Rattle.pg_plane.specs.Geometry.{vector, IsClockBefore}
 use Rattle.pg_plane.specs.Faced.{turn}
 use Rattle.pg_plane.specs.Law.{IsPlaneByDarts, direction}

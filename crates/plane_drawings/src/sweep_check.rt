@@ -1,11 +1,11 @@
 //! A left-to-right sweep over the vertices of a drawing that shows it plane, or plane without the edges of a few
 //! excluded vertices.
 
-mod fresh;
-mod line;
-mod order;
-mod status;
+mod line_sides;
+mod new_lines;
 mod sweep;
+mod sweep_order;
+mod sweep_status;
 
-pub use fresh::is_among;
+pub use new_lines::is_among;
 pub use sweep::{is_plane_by_sweep, loose_vertices};

@@ -6,7 +6,7 @@ ghost use Rattle.rect_class.specs.RectMaps.{IsRectMap};
 ghost use Rattle.rect_class.specs.Refusals.{BreaksRect};
 ghost use Rattle.rect_dual.specs.Figures.{IsRectFigure};
 ghost use Rattle.rect_dual.specs.Labellings.{IsLabellingIn, label_in};
-ghost use Rattle.rect_dual.specs.declared.labels.labels.Label.{Label};
+ghost use Rattle.rect_dual.specs.declared.labels.label_types.Label.{Label};
 ghost use Rattle.rect_orders.specs.Figures.{IsDualFor};
 ghost use Rattle.rect_orders.specs.Labellings.{IsByLabelling};
 ghost use Rattle.rect_orders.specs.Maps.{IsRectMap as IsFramedMap};

@@ -5,7 +5,7 @@ ghost use Rattle.fpp_shift.specs.Nodes.{empty_node, node_at};
 ghost use Rattle.fpp_shift.specs.ShiftDrawings.{IsShiftOf};
 ghost use Rattle.fpp_shift.specs.Trees.{IsTreeOf};
 ghost use Rattle.fpp_shift.specs.Ways.{IsTree, ArePointsOf};
-ghost use Rattle.fpp_shift.specs.declared.offset_trees.nodes.Node.{Node};
+ghost use Rattle.fpp_shift.specs.declared.offset_trees.tree_nodes.Node.{Node};
 ghost use Rattle.grid_figures.specs.ShiftFiguresFigures.{IsShiftFigure};
 ghost use Rattle.map_theory.specs.Maps.{Dart, vertex_count};
 ghost use Rattle.plane_laws.specs.Triangulations.{IsTriangulation};

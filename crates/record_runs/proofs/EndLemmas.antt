@@ -6,11 +6,11 @@ use Rattle.pg_io.proofs.Growth.{Takes-then, Takes-gives, TakesAtMost-taken, Grow
 use Rattle.record_runs.specs.Texts.{Reads, Answers, input_limit}
 use Rattle.record_runs.specs.Outcome.{Writes, WritesPart, Ports, ports, Outcome}
 use Rattle.record_runs.specs.Run.{IsCounted, IsAt, EndsAs, IsFront, Stops, Wrote, Stands, IsAllConsumed, FailsAt, end_of}
-use Rattle.record_runs.specs.declared.run.RunEnd.TheVariants.{Done, SomeRefused, BadInput, ReadFault, WriteFault, NoMemory}
-use Rattle.record_runs.specs.declared.run.Failure.{Failure}
-use Rattle.record_runs.specs.declared.run.Failure.TheVariants as failure
-use Rattle.record_runs.specs.declared.run.Stop.{Stop}
-use Rattle.record_runs.specs.declared.run.Stop.TheVariants as stop
+use Rattle.record_runs.specs.declared.main_loop.RunEnd.TheVariants.{Done, SomeRefused, BadInput, ReadFault, WriteFault, NoMemory}
+use Rattle.record_runs.specs.declared.main_loop.Failure.{Failure}
+use Rattle.record_runs.specs.declared.main_loop.Failure.TheVariants as failure
+use Rattle.record_runs.specs.declared.main_loop.Stop.{Stop}
+use Rattle.record_runs.specs.declared.main_loop.Stop.TheVariants as stop
 
 module _ {Record Ending : Type 0} (format : Reads Record Ending) (job : Answers Record Ending) where
   -- the whole text was written

@@ -5,7 +5,7 @@ use Rattle.std.proofs.lemmas.List.{length-append}
 use Rattle.pg_io.specs.Io.{TakesAtMost}
 use Rattle.record_runs.specs.Texts.{Reads, Answers, AreBlocks, Refuses, input_limit}
 use Rattle.record_runs.specs.Outcome.{Outcome, ports}
-use Rattle.record_runs.specs.declared.run.RunEnd.TheVariants.{Done, SomeRefused, ReadFault}
+use Rattle.record_runs.specs.declared.main_loop.RunEnd.TheVariants.{Done, SomeRefused, ReadFault}
 
 -- each byte is a record
 abbrev bytes : Reads ℕ (Unit {0})

@@ -3,8 +3,8 @@ use Rattle.std.proofs.Common.{◌≡◌, ℕ, ◌+◌, ◌<◌, Bool, List, [], 
 use Rattle.std.proofs.lemmas.List.{take-append-drop, drop_more}
 use Rattle.record_runs.specs.Texts.{Reads, Answers, input_limit}
 use Rattle.record_runs.specs.Run.{IsAt, EndsAs, Stops}
-use Rattle.record_runs.specs.declared.run.Stop.{Stop}
-use Rattle.record_runs.specs.declared.run.Stop.TheVariants.{Bad, NoMemory}
+use Rattle.record_runs.specs.declared.main_loop.Stop.{Stop}
+use Rattle.record_runs.specs.declared.main_loop.Stop.TheVariants.{Bad, NoMemory}
 use Rattle.record_runs.proofs.BlockLemmas.{IsAnswered-push}
 
 -- the bytes up to a place of a piece, some more, and the rest of the piece

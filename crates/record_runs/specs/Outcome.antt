@@ -2,8 +2,8 @@
 use Rattle.std.specs.Prelude.{ℕ, ◌<◌, ◌≡◌, ◌⊎◌, List, [], ◌++◌, length, Option, Some}
 use Rattle.pg_io.specs.Io.{WhereTold, Grows, GrowsByPrefix, HasRisen}
 use Rattle.record_runs.specs.Texts.{Reads, Answers, AreBlocks, Refuses}
-use Rattle.record_runs.specs.declared.run.RunEnd.{RunEnd}
-use Rattle.record_runs.specs.declared.run.RunEnd.TheVariants.{Done, SomeRefused, BadInput, ReadFault, WriteFault, NoMemory}
+use Rattle.record_runs.specs.declared.main_loop.RunEnd.{RunEnd}
+use Rattle.record_runs.specs.declared.main_loop.RunEnd.TheVariants.{Done, SomeRefused, BadInput, ReadFault, WriteFault, NoMemory}
 
 -- The input has this ending, the job refuses this many of its records, and the sink grew by the whole text:
 -- one block for each record, in order, and the last line.

@@ -5,12 +5,12 @@ use Rattle.record_runs.specs.Texts.{Reads, Answers, AreBlocks, Refuses, input_li
 use Rattle.record_runs.specs.Outcome.{Ports}
 use Rattle.record_runs.specs.declared.format.Taken.{Taken}
 use Rattle.record_runs.specs.declared.format.Taken.TheVariants.{Goes, Ended, Bad as BadPlace}
-use Rattle.record_runs.specs.declared.run.Stop.{Stop}
-use Rattle.record_runs.specs.declared.run.Stop.TheVariants.{Bad, NoMemory}
-use Rattle.record_runs.specs.declared.run.RunEnd.{RunEnd}
-use Rattle.record_runs.specs.declared.run.RunEnd.TheVariants as ended
-use Rattle.record_runs.specs.declared.run.Failure.{Failure}
-use Rattle.record_runs.specs.declared.run.Failure.TheVariants as failure
+use Rattle.record_runs.specs.declared.main_loop.Stop.{Stop}
+use Rattle.record_runs.specs.declared.main_loop.Stop.TheVariants.{Bad, NoMemory}
+use Rattle.record_runs.specs.declared.main_loop.RunEnd.{RunEnd}
+use Rattle.record_runs.specs.declared.main_loop.RunEnd.TheVariants as ended
+use Rattle.record_runs.specs.declared.main_loop.Failure.{Failure}
+use Rattle.record_runs.specs.declared.main_loop.Failure.TheVariants as failure
 
 -- how far a reader moved, and that a record which ended is one that jobs may be given
 abbrev pub Moves : {Record End : Type 0} → (Record → Type 0) → ℕ → ℕ → Record → List ℕ → Taken End → Type 0

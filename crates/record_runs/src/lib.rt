@@ -8,12 +8,12 @@
 
 mod format;
 mod job;
-mod run;
-mod step;
+mod main_loop;
+mod piece_steps;
 
 pub use format::{Format, Taken};
 pub use job::Job;
-pub use run::{RunEnd, run_records};
+pub use main_loop::{RunEnd, run_records};
 
 /// The most bytes of an input that are read.
 pub const INPUT_LIMIT: usize = 16777216;

@@ -3,7 +3,7 @@ use Rattle.std.proofs.Common.{◌≡◌, ℕ, ◌+◌, ◌<◌, List, [], ◌∷
 use Rattle.std.specs.Int.{int_max}
 use Rattle.std.proofs.lemmas.List.{take_more}
 use Rattle.std.proofs.lemmas.List.Sums.{fold-append}
-use Rattle.pg_plane.specs.declared.figure.RectFigure.{RectFigure}
+use Rattle.pg_plane.specs.declared.figures.RectFigure.{RectFigure}
 use Rattle.rect_check.specs.Duals.{area_at, area_of, greatest}
 
 -- one rectangle more

@@ -3,7 +3,7 @@ use Rattle.std.specs.Prelude.{ℕ, zero, suc, ◌<◌, ◌≡◌, ◌≢◌, ◌
 use Rattle.std.specs.Int.{int_max}
 use Rattle.map_lists.specs.Lists.{Lists}
 use Rattle.map_theory.specs.Maps.{HasDart, list_of, follows}
-use Rattle.pg_plane.specs.declared.figure.RectFigure.{RectFigure}
+use Rattle.pg_plane.specs.declared.figures.RectFigure.{RectFigure}
 
 -- number v of a list, or 0 behind its end
 abbrev pub number_at : List ℤ → ℕ → ℤ

@@ -1,7 +1,7 @@
 -- The law of the verdict: it is Yes exactly where the figure is a rectangular dual.
 use Rattle.std.specs.Prelude.{◌≡◌, ◌↔◌}
 use Rattle.map_lists.specs.Lists.{Lists}
-use Rattle.pg_plane.specs.declared.figure.RectFigure.{RectFigure}
+use Rattle.pg_plane.specs.declared.figures.RectFigure.{RectFigure}
 use Rattle.rect_check.specs.Duals.{IsRectangularDual}
 use Rattle.rect_check.specs.Verdicts.{IsRectVerdict}
 use Rattle.rect_check.specs.declared.verdict.RectVerdict.{RectVerdict}

@@ -1,7 +1,7 @@
 -- What the two passes go over that mark the rectangles which meet others.
 use Rattle.std.specs.Prelude.{ℕ, ◌<◌, Bool, true, false, List, length, slice_index, ℤ, pos, ◌-ℤ◌, ◌≤ℤ◌}
 use Rattle.map_lists.specs.Lists.{Lists}
-use Rattle.pg_plane.specs.declared.figure.RectFigure.{RectFigure}
+use Rattle.pg_plane.specs.declared.figures.RectFigure.{RectFigure}
 use Rattle.rect_check.specs.Duals.{left_of, right_of, DoMeet}
 use Rattle.rect_check.specs.Loops.{IsMarked, HasRow}
 

@@ -9,7 +9,7 @@ ghost use Rattle.rect_check.specs.Loops.{IsFrame};
 ghost use Rattle.rect_check.specs.Verdicts.{AreRects, NoneMeet, DoFill, HasContacts, IsUnframed, IsRectVerdict};
 
 use crate::RectVerdict;
-use crate::frame::{first_unframed, outer_four};
+use crate::outer_frame::{first_unframed, outer_four};
 use crate::rects::{Rects, first_bad_rect};
 use half_edges::{HalfMap, VertexId};
 use pg_plane::RectFigure;

@@ -7,18 +7,18 @@ ghost use Rattle.rect_check.specs.Laws.{YesIsDual};
 
 mod areas;
 mod check;
-mod edges;
-mod frame;
-mod meets;
-mod order;
-mod pairs;
+mod least_pairs;
+mod meeting_marks;
+mod missed_edges;
+mod outer_frame;
 mod rects;
-mod sides;
+mod shared_sides;
 mod sweep;
+mod sweep_order;
 mod verdict;
 
 pub use check::check_rects;
-pub use frame::{OuterFour, outer_four};
+pub use outer_frame::{OuterFour, outer_four};
 pub use verdict::RectVerdict;
 
 /// A verdict is `Yes` exactly where the figure is a rectangular dual.

@@ -1,8 +1,8 @@
 -- The laws of the class.
 use Rattle.std.proofs.Common.{◌<◌, length}
 use Rattle.map_lists.specs.Lists.{Lists}
-use Rattle.refusals.specs.declared.refusal.Refusal.{Refusal}
-use Rattle.refusals.specs.declared.refusal.Refusal.TheVariants.{OuterNotQuad, NotTriangle, SeparatingTriangle, NoInner}
+use Rattle.refusals.specs.declared.conditions.Refusal.{Refusal}
+use Rattle.refusals.specs.declared.conditions.Refusal.TheVariants.{OuterNotQuad, NotTriangle, SeparatingTriangle, NoInner}
 use Rattle.conn_parts.specs.Laws.{BiconnectedBreakNothing}
 use Rattle.rect_check.specs.Duals.{top_vertex, right_vertex, bottom_vertex}
 use Rattle.rect_class.specs.RectMaps.{IsRectMap}

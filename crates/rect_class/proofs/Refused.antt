@@ -5,7 +5,7 @@ use Rattle.map_lists.specs.declared.ids.VertexId.{VertexId}
 use Rattle.plane_peeling.specs.Restricted.{IsFaceOfThree}
 use Rattle.rect_class.specs.RectMaps.{IsOuter, HasLargeFace, IsRectMap}
 use Rattle.rect_class.specs.Refusals.{BreaksRect}
-use Rattle.refusals.specs.declared.refusal.Refusal.TheVariants.{NotTriangle, SeparatingTriangle, NoInner}
+use Rattle.refusals.specs.declared.conditions.Refusal.TheVariants.{NotTriangle, SeparatingTriangle, NoInner}
 use Rattle.rect_class.proofs.Cases.{square, no_inner}
 
 -- four vertices are taken for a map with one inside

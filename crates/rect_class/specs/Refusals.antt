@@ -4,8 +4,8 @@ use Rattle.vertex_rounds.specs.Least.{IsLeastPair, IsLeastTriple}
 use Rattle.conn_parts.specs.BiconnectedMaps.{IsBiconnectedMap, BreaksFirst}
 use Rattle.rect_check.specs.Duals.{HasFrame}
 use Rattle.rect_class.specs.RectMaps.{HasLargeFace, HasTriangles, IsSeparating, NoneSeparating, HasInner}
-use Rattle.refusals.specs.declared.refusal.Refusal.{Refusal}
-use Rattle.refusals.specs.declared.refusal.Refusal.TheVariants.{OuterNotQuad, NotTriangle, SeparatingTriangle, NoInner}
+use Rattle.refusals.specs.declared.conditions.Refusal.{Refusal}
+use Rattle.refusals.specs.declared.conditions.Refusal.TheVariants.{OuterNotQuad, NotTriangle, SeparatingTriangle, NoInner}
 
 -- The condition is the first one that the lists break, of those on biconnected maps, and then of the outer face, the other faces, the triangles and the vertices inside.
 abbrev pub BreaksRect : Lists → Refusal → Type 0

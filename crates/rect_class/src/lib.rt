@@ -3,16 +3,16 @@
 
 ghost use Rattle.rect_class.specs.Laws.{RectMapsBreakNothing, BiconnectedAreRectMaps};
 
-mod biconnected;
-mod corners;
-mod faces;
-mod finder;
-mod ring;
-mod triangles;
-mod upper;
+mod class_conditions;
+mod cyclic_lists;
+mod frame_finder;
+mod large_faces;
+mod separating_triangles;
+mod triangle_corners;
+mod upper_neighbours;
 
-pub use biconnected::rect_map;
-pub use finder::{FrameFinder, next_on_face};
+pub use class_conditions::rect_map;
+pub use frame_finder::{FrameFinder, next_on_face};
 
 /// A map of the class breaks no condition.
 pub fn biconnected_break_nothing()

@@ -9,8 +9,8 @@ use Rattle.half_edges.specs.Map.{Map, IsHalfMap, dart_at, id_bound}
 use Rattle.euler_faces.proofs.NumberLemmas.{live_from, live-lt}
 use Rattle.rect_runs.specs.Corners.{End}
 use Rattle.rect_orders.specs.Labellings.{IsFrameEdge, IsEdgeLabelling}
-use Rattle.rect_dual.specs.declared.labels.labels.Label.{Label}
-use Rattle.rect_dual.specs.declared.labels.labels.Label.TheVariants.{Frame}
+use Rattle.rect_dual.specs.declared.labels.label_types.Label.{Label}
+use Rattle.rect_dual.specs.declared.labels.label_types.Label.TheVariants.{Frame}
 use Rattle.rect_dual.specs.Labellings.{label_of, IsLabelOf, AreLabelsOf, IsLabellingIn}
 
 -- the head of a dart

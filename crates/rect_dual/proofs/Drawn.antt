@@ -1,7 +1,7 @@
 -- The boxes of an order's run at the vertices of its map.
 use Rattle.std.proofs.Common.{◌≡◌, ℕ, suc, ◌+◌, ◌-◌, ◌<◌, List, length, get_or, All, pos, ap, ◌∙◌, subst, arith}
 use Rattle.map_lists.specs.Lists.{Lists}
-use Rattle.pg_plane.specs.declared.figure.RectFigure.{RectFigure}
+use Rattle.pg_plane.specs.declared.figures.RectFigure.{RectFigure}
 use Rattle.contour_runs.specs.Runs.{Step}
 use Rattle.order_drawings.specs.OrderRuns.{IsOrderRun, OrderIsRun}
 use Rattle.order_drawings.specs.Rows.{AreRows}

@@ -1,6 +1,6 @@
 -- The figure of a record by rectangles.
 use Rattle.map_lists.specs.Lists.{Lists}
-use Rattle.pg_plane.specs.declared.figure.RectFigure.{RectFigure}
+use Rattle.pg_plane.specs.declared.figures.RectFigure.{RectFigure}
 use Rattle.rect_check.specs.Duals.{HasRects, IsRectangularDual, top_vertex, right_vertex, bottom_vertex}
 use Rattle.rect_orders.specs.Labellings.{IsByLabelling}
 

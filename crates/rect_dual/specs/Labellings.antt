@@ -3,8 +3,8 @@ use Rattle.std.specs.Prelude.{ℕ, ◌<◌, ◌≡◌, List, slice_index_or, Som
 use Rattle.half_edges.specs.Map.{Map, dart_at}
 use Rattle.rect_runs.specs.Corners.{End, run_in, rise_out, run_out, rise_in}
 use Rattle.rect_orders.specs.Labellings.{IsFrameEdge, IsEdgeLabelling}
-use Rattle.rect_dual.specs.declared.labels.labels.Label.{Label}
-use Rattle.rect_dual.specs.declared.labels.labels.Label.TheVariants.{RiseOut, RiseIn, RunOut, RunIn, Frame}
+use Rattle.rect_dual.specs.declared.labels.label_types.Label.{Label}
+use Rattle.rect_dual.specs.declared.labels.label_types.Label.TheVariants.{RiseOut, RiseIn, RunOut, RunIn, Frame}
 
 -- the label of a dart whose edge stands so at the vertex that the dart leaves
 abbrev pub label_of : End → Label

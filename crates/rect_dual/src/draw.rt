@@ -1,8 +1,8 @@
 //! Rectangular duals of maps drawn for any base dart (Kant, He 1997), by a rectangular order and the sides of its
 //! boxes.
 
-mod draw;
-mod tables;
+mod box_sides;
+mod drawing;
 
-pub(crate) use draw::framed;
-pub use draw::{rect_draw, rect_draw_by_lists};
+pub(crate) use drawing::framed;
+pub use drawing::{rect_draw, rect_draw_by_lists};

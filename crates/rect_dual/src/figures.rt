@@ -1,8 +1,8 @@
 //! The answer of the job `rect` to a record, as a value: a rectangular dual, or the first condition that the record
 //! breaks.
 
-mod draw;
 mod drawer;
+mod record_figure;
 
-pub use draw::rect_figure;
 pub use drawer::RectDrawer;
+pub use record_figure::rect_figure;

@@ -1,10 +1,10 @@
 //! Regular edge labellings (transversal structures) of maps that have rectangular duals, for any base dart (Kant, He
 //! 1997).
 
-mod darts;
-mod labels;
-mod of_order;
-mod tables;
+mod horizontal_edges;
+mod label_types;
+mod labelled_darts;
+mod order_labels;
 
-pub use labels::{Label, Labelling};
-pub use of_order::edge_labels;
+pub use label_types::{Label, Labelling};
+pub use order_labels::edge_labels;

@@ -4,9 +4,9 @@
 
 pub mod draw;
 pub mod figures;
+mod framed_orders;
 pub mod labels;
 pub mod line_lists;
-mod orders;
 mod rect_sides;
 pub mod rect_turns;
 pub mod side;

@@ -6,7 +6,7 @@ use Rattle.std.proofs.lemmas.Int.{ints, fold-int_max_bounds, fold-int_max_reache
 use Rattle.std.proofs.lemmas.List.{get_or_default}
 use Rattle.map_lists.specs.Lists.{Lists}
 use Rattle.map_theory.specs.Maps.{HasDart, follows}
-use Rattle.pg_plane.specs.declared.figure.RectFigure.{RectFigure}
+use Rattle.pg_plane.specs.declared.figures.RectFigure.{RectFigure}
 use Rattle.contour_runs.specs.Runs.{Step}
 use Rattle.canon_order.specs.Orders.{IsRankOf}
 use Rattle.canon_order.proofs.Counters.{all_of_them}

@@ -3,7 +3,7 @@ use Rattle.std.specs.Prelude.{ℕ, ◌<◌, ◌≤◌, ◌≡◌, ◌≢◌, ◌
 use Rattle.map_lists.specs.Lists.{Lists}
 use Rattle.map_theory.specs.Maps.{follows}
 use Rattle.canon_order.specs.Marks.{is_set, kept_of, IsTally, IsUnmarked}
-use Rattle.rect_orders.specs.declared.rect_order.closing.Frame.{Frame}
+use Rattle.rect_orders.specs.declared.rect_order.outer_frame.Frame.{Frame}
 use Rattle.rect_orders.specs.Maps.{IsRectMap, closed}
 use Rattle.rect_orders.specs.Orders.{IsRectOrder}
 use Rattle.rect_orders.specs.Lefts.{IsRectLeft}

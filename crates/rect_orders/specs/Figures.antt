@@ -2,7 +2,7 @@
 use Rattle.std.specs.Prelude.{ℕ, ◌-◌, ◌<◌, ◌≡◌, ◌↔◌, List, length, slice_index, pos, ◌*ℤ◌}
 use Rattle.map_lists.specs.Lists.{Lists}
 use Rattle.map_theory.specs.Maps.{HasDart}
-use Rattle.pg_plane.specs.declared.figure.RectFigure.{RectFigure}
+use Rattle.pg_plane.specs.declared.figures.RectFigure.{RectFigure}
 use Rattle.contour_runs.specs.Runs.{Step}
 use Rattle.canon_order.specs.Orders.{IsRankOf}
 use Rattle.rect_runs.specs.Boxes.{Boxes, boxes}

@@ -2,7 +2,7 @@
 use Rattle.std.specs.Prelude.{ℕ, ◌≡◌}
 use Rattle.map_lists.specs.Lists.{Lists}
 use Rattle.map_theory.specs.Maps.{follows}
-use Rattle.rect_orders.specs.declared.rect_order.closing.Frame.{Frame}
+use Rattle.rect_orders.specs.declared.rect_order.outer_frame.Frame.{Frame}
 
 -- they are s, d, p and t, and `inner` is on a face with the left one and the bottom
 pub record IsFrameOf (lists : Lists) (frame : Frame) (s d p t : ℕ) : Type 0 where

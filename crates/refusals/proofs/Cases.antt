@@ -4,7 +4,7 @@ use Rattle.classes.specs.Classes.{merge}
 use Rattle.map_theory.specs.Maps.{entry_after, face_count, component_count}
 use Rattle.simple_maps.specs.Faults.{first_fault}
 use Rattle.refusals.specs.Conditions.{first_refusal}
-use Rattle.refusals.specs.declared.refusal.Refusal.TheVariants.{OneSided, Small, Genus}
+use Rattle.refusals.specs.declared.conditions.Refusal.TheVariants.{OneSided, Small, Genus}
 
 -- three isolated vertices, and two triangles, break none of the first six
 isolated_three : first_refusal 3 ([] ∷ [] ∷ [] ∷ []) ≡ None

@@ -7,8 +7,8 @@ use Rattle.map_theory.specs.Maps.{IsSimpleMap, IsPlane, vertex_count, genus}
 use Rattle.map_theory.specs.Bound.{EulerBound}
 use Rattle.simple_maps.specs.Faults.{Fault, first_fault}
 use Rattle.refusals.specs.Conditions.{map_refusal, refusal_after, first_refusal}
-use Rattle.refusals.specs.declared.refusal.Refusal.{Refusal}
-use Rattle.refusals.specs.declared.refusal.Refusal.TheVariants.{Small, Genus}
+use Rattle.refusals.specs.declared.conditions.Refusal.{Refusal}
+use Rattle.refusals.specs.declared.conditions.Refusal.TheVariants.{Small, Genus}
 
 -- of two choices neither is taken
 neither : {A : Type 0} → (a b : Bool) (x y : A) → cond a (Some x) (cond b (Some y) None) ≡ None → (a ≡ false) × (b ≡ false)

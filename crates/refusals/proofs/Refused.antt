@@ -6,9 +6,9 @@ use Rattle.map_lists.specs.Lists.{Lists}
 use Rattle.map_theory.specs.Maps.{vertex_count, genus}
 use Rattle.simple_maps.specs.Faults.{Fault, out_of_range, loop_at, repeated, one_sided, first_fault}
 use Rattle.refusals.specs.Conditions.{map_refusal, refusal_after, first_refusal, IfRefused}
-use Rattle.refusals.specs.declared.refusal.Refusal.{Refusal}
-use Rattle.refusals.specs.declared.refusal.Refusal.TheVariants.{Small, Genus}
-use Rattle.refusals.specs.declared.refusal.Unserved.TheVariants.{Refused}
+use Rattle.refusals.specs.declared.conditions.Refusal.{Refusal}
+use Rattle.refusals.specs.declared.conditions.Refusal.TheVariants.{Small, Genus}
+use Rattle.refusals.specs.declared.conditions.Unserved.TheVariants.{Refused}
 
 -- each genus above 0 called 1
 every_genus_is_one : IfRefused (λ refusal. ◌≡◌ {A = Option Refusal} (Some (Genus 2)) (Some refusal)) (Refused (Genus 1)) → ⊥

@@ -3,12 +3,12 @@ use Rattle.std.specs.Prelude.{ℕ, nat_lt, if◌then◌else◌, Option, Some, No
 use Rattle.map_lists.specs.Lists.{Lists}
 use Rattle.map_theory.specs.Maps.{vertex_count, genus}
 use Rattle.simple_maps.specs.Faults.{Fault, out_of_range, loop_at, repeated, one_sided, first_fault}
-use Rattle.simple_maps.specs.declared.fault.MapFault.{MapFault}
-use Rattle.simple_maps.specs.declared.fault.MapFault.TheVariants as map
-use Rattle.refusals.specs.declared.refusal.Refusal.{Refusal}
-use Rattle.refusals.specs.declared.refusal.Refusal.TheVariants.{OutOfRange, Loop, Repeated, OneSided, Small, Genus}
-use Rattle.refusals.specs.declared.refusal.Unserved.{Unserved}
-use Rattle.refusals.specs.declared.refusal.Unserved.TheVariants.{Refused, NoMemory}
+use Rattle.simple_maps.specs.declared.map_fault.MapFault.{MapFault}
+use Rattle.simple_maps.specs.declared.map_fault.MapFault.TheVariants as map
+use Rattle.refusals.specs.declared.conditions.Refusal.{Refusal}
+use Rattle.refusals.specs.declared.conditions.Refusal.TheVariants.{OutOfRange, Loop, Repeated, OneSided, Small, Genus}
+use Rattle.refusals.specs.declared.conditions.Unserved.{Unserved}
+use Rattle.refusals.specs.declared.conditions.Unserved.TheVariants.{Refused, NoMemory}
 
 -- the refusal for a fault of lists
 abbrev pub refusal_for : Fault → Refusal

@@ -4,9 +4,9 @@
 
 ghost use Rattle.refusals.specs.Laws.{NoRefusalIsPlane};
 
-mod refusal;
+mod conditions;
 
-pub use refusal::{Refusal, Unserved};
+pub use conditions::{Refusal, Unserved};
 
 /// Lists of at least one vertex break none of the first six conditions exactly where they are a simple map of genus
 /// zero with as many vertices as are wanted.

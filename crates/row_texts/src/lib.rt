@@ -16,11 +16,11 @@
 #![tactic(auto)]
 
 pub mod bytes;
+pub mod fault_texts;
 pub mod lists;
 pub mod maps;
 pub mod points;
-pub mod refusal;
 pub mod reply;
+pub mod row_arguments;
 pub mod rows;
-pub mod text;
 pub mod witnesses;

@@ -2,7 +2,7 @@
 ghost use Rattle.std.specs.Prelude.{◌<◌, length};
 
 use crate::reply::Reply;
-use crate::text::{halves, numbers, pair};
+use crate::row_arguments::{halves, numbers, pair};
 use half_edges::{Counts, Rotations, VertexList};
 use map_gen::stacked;
 use map_lists::ItemLists;

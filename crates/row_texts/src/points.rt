@@ -4,7 +4,7 @@ ghost use Rattle.pg_plane.specs.Range.{IsInRange};
 ghost use Rattle.plane_drawings.specs.Drawing.{place};
 
 use crate::reply::Reply;
-use crate::text::{halves, part};
+use crate::row_arguments::{halves, part};
 use pg_plane::{BarFigure, Ints, Point, Points};
 use std::alloc::Global;
 

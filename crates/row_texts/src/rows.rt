@@ -1,6 +1,6 @@
 //! The loop over test rows on standard input, and the trait of a program that answers them.
 use crate::reply::Reply;
-use crate::text::{behind, halves, number, part};
+use crate::row_arguments::{behind, halves, number, part};
 use std::io::{self, Write};
 
 /// A test row parsed: the family of its call, the call, and its arguments.

@@ -1,5 +1,5 @@
 //! Kuratowski witnesses parsed from the text of a row.
-use crate::text::number;
+use crate::row_arguments::number;
 use kuratowski::{Kind, Witness};
 use map_lists::{PathList, VertexId, VertexList};
 use std::alloc::Global;

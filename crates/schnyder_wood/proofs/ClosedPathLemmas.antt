@@ -7,7 +7,7 @@ use Rattle.wood_laws.specs.Woods.{root, IsInner, LeadsBy}
 use Rattle.schnyder_wood.specs.Parents.{Parents, root_in, parent_in, IsRoot, IsInnerIn, LeadsIn, IsRooted, IsWoodOf}
 use Rattle.wood_laws.specs.Regions.{IsOnPath, IsPathEdge, IsBoundaryEdge, on_next, on_previous, on_outer, IsOnBoundary}
 use Rattle.schnyder_wood.specs.Boundaries.{NotesPath, base_in}
-use Rattle.schnyder_wood.specs.declared.schnyder_regions.closed.ClosedPath.{ClosedPath}
+use Rattle.schnyder_wood.specs.declared.schnyder_regions.closed_paths.ClosedPath.{ClosedPath}
 use Rattle.schnyder_wood.specs.ClosedPaths.{IsClosedPath, IsEdgeOf, IsVertexOf}
 use Rattle.schnyder_wood.specs.Search.{HasEdges}
 use Rattle.schnyder_wood.specs.Counting.{HasVertices}

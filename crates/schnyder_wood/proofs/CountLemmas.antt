@@ -9,7 +9,7 @@ use Rattle.euler_faces.specs.Numbers.{mark_at}
 use Rattle.euler_faces.proofs.NumberLemmas.{live-lt, live_from, some_of}
 use Rattle.euler_faces.specs.ChainSearch.{IsMet}
 use Rattle.wood_laws.specs.Regions.{IsRegionCount, IsInRegion}
-use Rattle.schnyder_wood.specs.declared.schnyder_regions.closed.ClosedPath.{ClosedPath}
+use Rattle.schnyder_wood.specs.declared.schnyder_regions.closed_paths.ClosedPath.{ClosedPath}
 use Rattle.schnyder_wood.specs.ClosedPaths.{IsVertexOf}
 use Rattle.schnyder_wood.specs.Search.{AreReached}
 use Rattle.schnyder_wood.specs.Counting.{HasOdd, MarksMore, HasVertices}

@@ -11,7 +11,7 @@ use Rattle.euler_faces.specs.Chains.{GoesOn as ChainGoesOn, along as chain_along
 use Rattle.euler_faces.specs.ChainSearch.{AreReached as ChainsReach}
 use Rattle.wood_runs.specs.Parents.{Colour}
 use Rattle.wood_laws.specs.Regions.{IsBoundaryEdge, GoesOn, along, over, past, ReachesBy}
-use Rattle.schnyder_wood.specs.declared.schnyder_regions.closed.ClosedPath.{ClosedPath}
+use Rattle.schnyder_wood.specs.declared.schnyder_regions.closed_paths.ClosedPath.{ClosedPath}
 use Rattle.schnyder_wood.specs.ClosedPaths.{IsEdgeOf}
 use Rattle.schnyder_wood.specs.Search.{IsCrossed, HasEdges, AreReached}
 

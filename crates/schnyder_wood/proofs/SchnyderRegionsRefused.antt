@@ -7,7 +7,7 @@ use Rattle.schnyder_wood.specs.Parents.{Parents, count_in}
 use Rattle.schnyder_wood.specs.Boundaries.{NotesPath}
 use Rattle.schnyder_wood.specs.ClosedPaths.{IsEdgeOf}
 use Rattle.schnyder_wood.specs.Search.{IsCrossed}
-use Rattle.schnyder_wood.specs.declared.schnyder_regions.closed.ClosedPath.{ClosedPath}
+use Rattle.schnyder_wood.specs.declared.schnyder_regions.closed_paths.ClosedPath.{ClosedPath}
 
 -- one table notes a path: that of another colour does not
 NotesPath-unique : (wood : Parents) (c : Colour) (v : ℕ) (ups ups' : List ℕ) (u : ℕ) → u < count_in wood → NotesPath wood c v ups → NotesPath wood c v ups' → slice_index ups u ≡ slice_index ups' u

@@ -3,7 +3,7 @@ use Rattle.std.specs.Prelude.{ℕ, ◌≡◌, ◌≢◌, ◌⊎◌, slice_index}
 use Rattle.wood_runs.specs.Parents.{Colour, next, previous}
 use Rattle.schnyder_wood.specs.Parents.{Parents, root_in}
 use Rattle.schnyder_wood.specs.Boundaries.{NotesPath}
-use Rattle.schnyder_wood.specs.declared.schnyder_regions.closed.ClosedPath.{ClosedPath}
+use Rattle.schnyder_wood.specs.declared.schnyder_regions.closed_paths.ClosedPath.{ClosedPath}
 
 -- the paths of the two other colours are noted, and their roots
 pub record IsClosedPath (wood : Parents) (c : Colour) (v : ℕ) (path : ClosedPath) : Type 0 where

@@ -6,7 +6,7 @@ use Rattle.half_edges.specs.Map.{Map, dart_at}
 use Rattle.wood_runs.specs.Parents.{Colour}
 use Rattle.euler_faces.specs.Numbers.{mark_at}
 use Rattle.wood_laws.specs.Regions.{IsOnBoundary}
-use Rattle.schnyder_wood.specs.declared.schnyder_regions.closed.ClosedPath.{ClosedPath}
+use Rattle.schnyder_wood.specs.declared.schnyder_regions.closed_paths.ClosedPath.{ClosedPath}
 use Rattle.schnyder_wood.specs.ClosedPaths.{IsVertexOf}
 use Rattle.euler_faces.specs.ChainSearch.{IsMet}
 

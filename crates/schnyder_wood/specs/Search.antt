@@ -6,7 +6,7 @@ use Rattle.half_edges.specs.Map.{Map, dart_at}
 use Rattle.euler_faces.specs.ChainSearch.{IsMet}
 use Rattle.wood_runs.specs.Parents.{Colour}
 use Rattle.wood_laws.specs.Regions.{IsBoundaryEdge, Reaches}
-use Rattle.schnyder_wood.specs.declared.schnyder_regions.closed.ClosedPath.{ClosedPath}
+use Rattle.schnyder_wood.specs.declared.schnyder_regions.closed_paths.ClosedPath.{ClosedPath}
 use Rattle.schnyder_wood.specs.ClosedPaths.{IsEdgeOf}
 
 -- the answer is whether the edge of a dart is one of the closed path

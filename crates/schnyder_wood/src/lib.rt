@@ -3,14 +3,14 @@
 #![tactic(auto)]
 
 mod colour;
-mod of_order;
-mod path;
+mod parents_by_rank;
+mod path_lengths;
 pub mod schnyder_regions;
-mod tables;
+mod wood_of_order;
 mod woods;
 
 pub use colour::Colour;
-pub use of_order::wood;
-pub use path::path_len;
+pub use path_lengths::path_len;
 pub use schnyder_regions::region_count;
+pub use wood_of_order::wood;
 pub use woods::Wood;

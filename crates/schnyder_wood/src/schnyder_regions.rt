@@ -1,7 +1,7 @@
 //! The regions of a Schnyder wood (1990), whose vertices are counted by a search of the faces.
 
-mod boundary;
-mod closed;
-mod count;
+mod boundary_paths;
+mod closed_paths;
+mod region_counts;
 
-pub use count::region_count;
+pub use region_counts::region_count;

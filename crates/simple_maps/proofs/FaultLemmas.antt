@@ -8,8 +8,8 @@ use Rattle.map_lists.specs.Lists.{Lists}
 use Rattle.map_theory.specs.Maps.{list_of, HasDart, IsSimpleMap}
 use Rattle.simple_maps.specs.Faults.{Fault, out_of_range, loop_at, repeated, one_sided, lesser_of, least_where, or_from, first_from, least_out_of_range, own_number, least_repeated, least_one_sided, fault_or, first_fault}
 use Rattle.simple_maps.specs.MapFault.{Names}
-use Rattle.simple_maps.specs.declared.fault.MapFault.{MapFault}
-use Rattle.simple_maps.specs.declared.fault.MapFault.TheVariants.{OutOfRange, Loop, Repeated, OneSided, NoMemory}
+use Rattle.simple_maps.specs.declared.map_fault.MapFault.{MapFault}
+use Rattle.simple_maps.specs.declared.map_fault.MapFault.TheVariants.{OutOfRange, Loop, Repeated, OneSided, NoMemory}
 use Rattle.map_theory.proofs.EntryLemmas.{Contains-here, Contains-there, Contains-cons_cases, count_of, one-le-count_of, Contains-from_count_of, count_of-le-one, AllPairs-from_counts, Contains-from_list_any, list_any-from_Contains, count_of-push, count_of-push_same, count_of-push_other}
 
 -- the least number of which P holds, where there is one

@@ -4,7 +4,7 @@ use Rattle.simple_maps.specs.Faults.{first_fault}
 use Rattle.simple_maps.specs.MapFault.{Names}
 use Rattle.simple_maps.specs.Tables.{AreSlots}
 use Rattle.simple_maps.specs.Pass.{AreMutual, ArePairedTo}
-use Rattle.simple_maps.specs.declared.fault.MapFault.TheVariants.{Loop}
+use Rattle.simple_maps.specs.declared.map_fault.MapFault.TheVariants.{Loop}
 
 -- a loop named before a number that is no vertex
 loop_before_range : Names (first_fault ((0 ∷ 1 ∷ []) ∷ [])) (Loop 0) → ⊥

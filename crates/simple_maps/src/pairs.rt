@@ -8,7 +8,7 @@ ghost use Rattle.map_lists.specs.Cuts.{joined};
 ghost use Rattle.simple_maps.specs.Tables.{AreSlots};
 ghost use Rattle.simple_maps.specs.Pass.{AreTailsPut, ArePairedTo};
 
-use crate::pass::{NO_PLACE, are_paired};
+use crate::twin_pass::{NO_PLACE, are_paired};
 use map_lists::Rotations;
 
 /// The greatest number of vertices, and how many cells each has.

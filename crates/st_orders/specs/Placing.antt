@@ -5,7 +5,7 @@ use Rattle.graph_search.specs.Forests.{Holds, IsForest}
 use Rattle.graph_search.specs.Lows.{IsWithin, IsLow}
 use Rattle.graph_search.specs.declared.search_forests.forest.Forest.{Forest}
 use Rattle.st_orders.specs.StOrders.{IsStOrder}
-use Rattle.st_orders.specs.declared.places.Ranges.{Ranges}
+use Rattle.st_orders.specs.declared.place_ranges.Ranges.{Ranges}
 
 -- A search of a connected map without cut vertices, from s, with t next: s alone has no parent and t alone is its child, and each further vertex has a low point before its parent.
 pub record IsWholeForest (lists : Lists) (order number last parent low : ℕ → ℕ) (s t : ℕ) : Type 0 where

@@ -6,7 +6,7 @@
 #![tactic(auto)]
 
 mod orders;
-mod places;
+mod place_ranges;
 
 pub use orders::{StOrder, fill_places, st_order, st_ranks};
-pub use places::Ranges;
+pub use place_ranges::Ranges;

@@ -8,7 +8,7 @@ ghost use Rattle.graph_search.specs.Cuts.{IsCutVertex};
 ghost use Rattle.st_orders.specs.StOrders.{IsStOrder, IsStOrderOf};
 ghost use Rattle.st_orders.specs.Placing.{ArePlaces};
 
-use crate::places::{LowSearch, Ranges};
+use crate::place_ranges::{LowSearch, Ranges};
 use graph_search::search_forests::{Forest, low_points, search_forest_along};
 use half_edges::{Counts, DartId, HalfMap, Rotations, VertexId, VertexList};
 use std::alloc::{AllocError, Global};

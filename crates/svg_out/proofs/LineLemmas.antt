@@ -1,7 +1,7 @@
 -- One line more.
 use Rattle.std.proofs.Common.{◌≡◌, ℕ, ℤ, ◌+◌, List, ◌++◌, refl, add-one}
-use Rattle.pg_plane.specs.declared.figure.BarFigure.{BarFigure}
-use Rattle.pg_plane.specs.declared.figure.RectFigure.{RectFigure}
+use Rattle.pg_plane.specs.declared.figures.BarFigure.{BarFigure}
+use Rattle.pg_plane.specs.declared.figures.RectFigure.{RectFigure}
 use Rattle.map_theory.specs.Maps.{Dart}
 use Rattle.figure_text.specs.Text.{integer_at}
 use Rattle.svg_out.specs.Svg.{bar, upright, bar_marks, column_marks, edge_at, tile, tiles}

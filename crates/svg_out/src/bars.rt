@@ -6,8 +6,8 @@ ghost use Rattle.figure_text.specs.Text.{integer_at, HasBars};
 ghost use Rattle.svg_out.specs.Edges.{AreBelow};
 ghost use Rattle.svg_out.specs.Svg.{across as far_right, down as far_down, greatest, thick as the_width, bar, upright, bar_marks, column_marks, bars_body, bars_svg, HasColumns};
 
-use crate::edges::edges;
-use crate::tags::{Spot, across, down, push_closing, push_opening, push_segment};
+use crate::sorted_edges::edges;
+use crate::svg_tags::{Spot, across, down, push_closing, push_opening, push_segment};
 use map_lists::Rotations;
 use pg_plane::{BarFigure, Ints};
 use std::alloc::{AllocError, Global};

@@ -5,8 +5,8 @@ ghost use Rattle.figure_text.specs.Text.{point_at};
 ghost use Rattle.svg_out.specs.Edges.{edges as the_edges, AreBelow};
 ghost use Rattle.svg_out.specs.Svg.{across as far_right, down as far_down, greatest, straight_edge, dot, grid_body, grid_svg};
 
-use crate::edges::edges;
-use crate::tags::{Spot, across, down, push_closing, push_dot, push_opening, push_segment};
+use crate::sorted_edges::edges;
+use crate::svg_tags::{Spot, across, down, push_closing, push_dot, push_opening, push_segment};
 use map_lists::Rotations;
 use pg_plane::{Point, Points};
 use std::alloc::{AllocError, Global};

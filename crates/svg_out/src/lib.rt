@@ -6,11 +6,11 @@
 #![tactic(auto)]
 
 mod bars;
-mod edges;
 mod grid;
 mod picture;
 mod rects;
-mod tags;
+mod sorted_edges;
+mod svg_tags;
 mod witness;
 
 pub use bars::svg_bars;

@@ -4,7 +4,7 @@ ghost use Rattle.figure_text.specs.Text.{HasRects};
 ghost use Rattle.svg_out.specs.Svg.{greatest, unfilled as the_style, tiles, rects_svg};
 
 use crate::bars::{greatest_from, integer};
-use crate::tags::{Spot, across, down, extent, push_closing, push_opening, push_sides};
+use crate::svg_tags::{Spot, across, down, extent, push_closing, push_opening, push_sides};
 use map_lists::Rotations;
 use pg_plane::RectFigure;
 use std::alloc::{AllocError, Global};

@@ -2,12 +2,12 @@
 //! like is told in `row_texts`.
 #![tactic(auto)]
 
-mod answers;
+mod dispatch;
 mod points;
 mod records;
 mod texts;
 
-use answers::Rows;
+use dispatch::Rows;
 use row_texts::rows::answer_rows;
 use std::io;
 

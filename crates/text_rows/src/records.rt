@@ -6,11 +6,11 @@ use half_edges::Rotations;
 use planar_code::{
     CodeFault, Fed, RecordReader, Step, Taken, after_header, next_record, write_record,
 };
+use row_texts::fault_texts::tell_no_memory;
 use row_texts::lists::{SomeLists, lists_of, put_lists};
-use row_texts::refusal::tell_no_memory;
 use row_texts::reply::Reply;
+use row_texts::row_arguments::{number, numbers};
 use row_texts::rows::Row;
-use row_texts::text::{number, numbers};
 use std::alloc::{AllocError, Global};
 
 // Appends to `bytes` the pieces of `text` between spaces: `=` and a text, or bytes in hexadecimal, `*` and how often.

@@ -7,12 +7,12 @@ use half_edges::Rotations;
 use line_inputs::read_figure;
 use pg_plane::Points;
 use row_texts::bytes::{lines_of, put_bytes};
+use row_texts::fault_texts::{tell_line_fault, tell_no_memory};
 use row_texts::lists::lists_of;
 use row_texts::points::{bars_of, points_of};
-use row_texts::refusal::{tell_line_fault, tell_no_memory};
 use row_texts::reply::Reply;
+use row_texts::row_arguments::behind;
 use row_texts::rows::Row;
-use row_texts::text::behind;
 use row_texts::witnesses::witness_of;
 
 // Appends the text of `figure` with this number to `out`.

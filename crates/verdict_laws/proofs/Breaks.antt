@@ -7,8 +7,8 @@ use Rattle.map_theory.specs.Maps.{component_count}
 use Rattle.graph_search.specs.Cuts.{IsLeastCutVertex, IsLeastPair}
 use Rattle.vertex_rounds.specs.Least as ids
 use Rattle.refusals.specs.Conditions.{first_refusal}
-use Rattle.refusals.specs.declared.refusal.Refusal.{Refusal}
-use Rattle.refusals.specs.declared.refusal.Refusal.TheVariants.{OutOfRange, Loop, Repeated, OneSided, Small, Genus, NotConnected, CutVertex, SeparatingPair, OuterNotQuad, NotTriangle, SeparatingTriangle, NoInner}
+use Rattle.refusals.specs.declared.conditions.Refusal.{Refusal}
+use Rattle.refusals.specs.declared.conditions.Refusal.TheVariants.{OutOfRange, Loop, Repeated, OneSided, Small, Genus, NotConnected, CutVertex, SeparatingPair, OuterNotQuad, NotTriangle, SeparatingTriangle, NoInner}
 use Rattle.conn_parts.specs.BiconnectedMaps.{IsBiconnectedMap, BreaksFirst}
 use Rattle.conn_parts.specs.Laws.{BiconnectedBreakNothing}
 use Rattle.convex_class.specs.Convexity.{BreaksConvex}

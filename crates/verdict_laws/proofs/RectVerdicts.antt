@@ -2,7 +2,7 @@
 use Rattle.std.proofs.Common.{◌≡◌, ℕ, inl, inr, refl, sym, ap, ap₂, ◌∙◌}
 use Rattle.map_lists.specs.Lists.{Lists}
 use Rattle.map_lists.specs.declared.ids.VertexId.{VertexId}
-use Rattle.pg_plane.specs.declared.figure.RectFigure.{RectFigure}
+use Rattle.pg_plane.specs.declared.figures.RectFigure.{RectFigure}
 use Rattle.vertex_rounds.specs.Least.{IsLeast, IsLeastPair}
 use Rattle.rect_check.specs.Duals.{IsFramed, HasFrame, top_vertex, right_vertex, bottom_vertex}
 use Rattle.rect_check.specs.Faults.{HasBadRect, RectsMeet, HasWrongContact, IsFirstUnframed}

@@ -3,9 +3,9 @@ use Rattle.std.specs.Prelude.{ℕ, ◌<◌, List, length, ℤ}
 use Rattle.map_lists.specs.Lists.{Lists}
 use Rattle.map_lists.specs.declared.ids.VertexId.{VertexId}
 use Rattle.map_theory.specs.Maps.{Dart}
-use Rattle.pg_plane.specs.declared.point.Point.{Point}
-use Rattle.pg_plane.specs.declared.figure.BarFigure.{BarFigure}
-use Rattle.pg_plane.specs.declared.figure.RectFigure.{RectFigure}
+use Rattle.pg_plane.specs.declared.segments.Point.{Point}
+use Rattle.pg_plane.specs.declared.figures.BarFigure.{BarFigure}
+use Rattle.pg_plane.specs.declared.figures.RectFigure.{RectFigure}
 use Rattle.draw_check.specs.Verdicts.{IsVerdict}
 use Rattle.draw_check.specs.Outer.{IsOuterVerdict}
 use Rattle.draw_check.specs.declared.verdict.Verdict.{Verdict}
@@ -23,7 +23,7 @@ use Rattle.kuratowski.specs.declared.check.WitnessVerdict.{WitnessVerdict}
 use Rattle.figure_text.specs.declared.figure.Figure.{Figure}
 use Rattle.figure_verdicts.specs.Verdicts.{IsFigureVerdict}
 use Rattle.figure_verdicts.specs.declared.verdict.FigureVerdict.{FigureVerdict}
-use Rattle.refusals.specs.declared.refusal.Refusal.{Refusal}
+use Rattle.refusals.specs.declared.conditions.Refusal.{Refusal}
 use Rattle.conn_parts.specs.BiconnectedMaps.{BreaksFirst}
 use Rattle.convex_class.specs.Convexity.{BreaksConvex}
 use Rattle.rect_class.specs.Refusals.{BreaksRect}

@@ -1,10 +1,10 @@
 //! Rounds of the vertices of a map, entry by entry, and searches for the first dart that passes a test.
 #![tactic(auto)]
 
-mod first;
-mod rounds;
-mod turns;
+mod first_passing;
+mod list_steps;
+mod one_turn;
 
-pub use first::{first_dart, first_dart_from, least_head};
-pub use rounds::{is_below, later_dart};
-pub use turns::turns_once;
+pub use first_passing::{first_dart, first_dart_from, least_head};
+pub use list_steps::{is_below, later_dart};
+pub use one_turn::turns_once;

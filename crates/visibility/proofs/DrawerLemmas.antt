@@ -3,7 +3,7 @@ use Rattle.std.proofs.Common.{◌≡◌, ℕ, ◌+◌, ◌/◌, ◌<◌, List, l
 use Rattle.map_lists.specs.Lists.{Lists}
 use Rattle.map_theory.specs.Maps.{dart_count, dart_number, list_of, component_count}
 use Rattle.map_theory.proofs.DartLemmas.{length-darts, dart_number-lt, darts_before_none, place_of-lt-length, place_of-get_or}
-use Rattle.pg_plane.specs.declared.figure.BarFigure.{BarFigure}
+use Rattle.pg_plane.specs.declared.figures.BarFigure.{BarFigure}
 use Rattle.graph_search.specs.Arcs.{IsAcyclic, AreLongest}
 use Rattle.graph_search.specs.Cuts.{IsCutVertex}
 use Rattle.st_orders.specs.StOrders.{IsStOrder}

@@ -11,7 +11,7 @@ use Rattle.classes.proofs.Bound.{after}
 use Rattle.map_theory.specs.Maps.{HasDart, list_of, place_of, dart_count, face_count}
 use Rattle.map_theory.proofs.DartLemmas.{place_of-lt-length, place_of-get_or}
 use Rattle.map_theory.proofs.DartPermutations.{rotation, twin, two_m}
-use Rattle.pg_plane.specs.declared.figure.BarFigure.{BarFigure}
+use Rattle.pg_plane.specs.declared.figures.BarFigure.{BarFigure}
 use Rattle.half_edges.specs.Map.{Map, IsHalfMap, IsLive, dart_at}
 use Rattle.euler_faces.proofs.NumberLemmas.{some_of}
 use Rattle.bar_check.specs.Bars.{column_between}

@@ -5,7 +5,7 @@ use Rattle.map_lists.specs.Lists.{Lists}
 use Rattle.std.proofs.lemmas.List.Elements.{Contains-get_or}
 use Rattle.map_theory.specs.Maps.{HasDart, IsPlane, component_count, list_of}
 use Rattle.plane_peeling.proofs.Counted.{marks_everywhere}
-use Rattle.pg_plane.specs.declared.figure.BarFigure.{BarFigure}
+use Rattle.pg_plane.specs.declared.figures.BarFigure.{BarFigure}
 use Rattle.half_edges.specs.Map.{Map, dart_at, first_dart}
 use Rattle.conn_parts.specs.BiconnectedMaps.{IsBiconnectedMap}
 use Rattle.st_orders.specs.StOrders.{IsStOrder}

@@ -1,7 +1,7 @@
 -- The bars of an st-order.
 use Rattle.std.specs.Prelude.{ℕ, ◌-◌, ◌≡◌, List, Some, pos}
 use Rattle.map_theory.specs.Maps.{face_count}
-use Rattle.pg_plane.specs.declared.figure.BarFigure.{BarFigure}
+use Rattle.pg_plane.specs.declared.figures.BarFigure.{BarFigure}
 use Rattle.half_edges.specs.Map.{Map, dart_at}
 use Rattle.st_orders.specs.StOrders.{IsStOrder}
 use Rattle.bar_check.specs.Bars.{HasBars, IsValidBars}

@@ -3,7 +3,7 @@ use Rattle.std.specs.Prelude.{⊤, ℕ, ◌<◌, ◌≤◌, ◌≡◌, List, len
 use Rattle.map_lists.specs.Lists.{Lists}
 use Rattle.map_theory.specs.Maps.{IsSimpleMap, HasDart, list_of, darts}
 use Rattle.simple_maps.specs.Tables.{AreTwins}
-use Rattle.refusals.specs.declared.refusal.Refusal.TheVariants.{CutVertex}
+use Rattle.refusals.specs.declared.conditions.Refusal.TheVariants.{CutVertex}
 use Rattle.conn_parts.specs.BiconnectedMaps.{IsBiconnectedMap, BreaksFirst}
 use Rattle.visibility.specs.Figures.{IsBarFigure}
 use Rattle.visibility.specs.declared.bar_figures.drawer.Found.{Found}

@@ -1,8 +1,8 @@
 //! The answer of the job `bars` to a record, as a value: a visibility drawing, or the first condition that the record
 //! breaks.
 
-mod draw;
 mod drawer;
+mod record_figure;
 
-pub use draw::bar_figure;
 pub use drawer::BarDrawer;
+pub use record_figure::bar_figure;

@@ -1,10 +1,10 @@
 //! Visibility drawings of plane maps: horizontal bars for vertices, and vertical segments for edges.
 #![tactic(auto)]
 
+mod bar_ends;
 pub mod bar_figures;
-mod ends;
-mod figure;
-mod spans;
+mod column_pass;
+mod st_bars;
 
 pub use bar_check::{BarVerdict, check_bars};
-pub use figure::{bars, bars_of_order, bars_of_ranks};
+pub use st_bars::{bars, bars_of_order, bars_of_ranks};

@@ -3,16 +3,16 @@ ghost use Rattle.std.specs.Prelude.{◌≡◌, ◌+◌, ◌*◌, ◌<◌, ◌≤
 ghost use Rattle.map_theory.specs.Maps.{IsSimpleMap, IsPlane, darts, list_of, face_count};
 ghost use Rattle.simple_maps.specs.Tables.{AreTwins};
 ghost use Rattle.refusals.specs.Conditions.{IfRefused};
-ghost use Rattle.pg_plane.specs.declared.figure.GridFigure.{GridFigure as Figure};
+ghost use Rattle.pg_plane.specs.declared.figures.GridFigure.{GridFigure as Figure};
 ghost use Rattle.convex_peeling.specs.Polyhedral.{IsThreeConnected};
 ghost use Rattle.convex_orders.specs.FaceNumbers.{AreFaceNumbers};
 ghost use Rattle.convex_class.specs.Convexity.{BreaksConvex};
 ghost use Rattle.convex_draw.specs.Figures.{IsConvexFigure};
 
 use crate::convex_figures::draw::convex_figure;
-use crate::convex_figures::numbers::{NumberTables, numbers_again};
+use crate::convex_figures::face_numbers_by_twins::{NumberTables, numbers_again};
 use crate::convex_points::{FaceRun, SpotTable, count_points_again};
-use crate::draw::in_square;
+use crate::map_drawing::in_square;
 use conn_parts::{Parts, numbered_parts};
 use convex_orders::{RowTables, Tables, rows_again, tables_of};
 use half_edges::{Rotations, VertexId};
@@ -25,7 +25,7 @@ use std::mem;
 // The tables that are filled from the numbers of faces to the points: lists, rows of the construction sequence, and
 // spots.
 #[derive(Drop)]
-struct RunTables {
+struct PointTables {
     lists: Rotations,
     rows: RowTables,
     spots: SpotTable,
@@ -38,7 +38,7 @@ struct DrawTables {
     // room for the search of components
     queue: Vec<u16>,
     faces: NumberTables,
-    run: RunTables,
+    run: PointTables,
 }
 
 impl DrawTables {
@@ -48,7 +48,7 @@ impl DrawTables {
             parts: Parts::new(alloc),
             queue: Vec::new(alloc),
             faces: NumberTables::new(alloc),
-            run: RunTables {
+            run: PointTables {
                 lists: Rotations::new(alloc),
                 rows: RowTables::new(alloc),
                 spots: SpotTable::new(alloc),
@@ -111,7 +111,7 @@ fn run_again(
         rank,
         arcs,
     };
-    let run = RunTables {
+    let run = PointTables {
         lists: kept,
         rows,
         spots,

@@ -5,7 +5,7 @@ ghost use Rattle.graph_search.specs.Forests.{IsAdjacency, IsForestOf};
 ghost use Rattle.graph_search.specs.Lows.{AreLows};
 ghost use Rattle.graph_search.specs.UnderWay.{AreCleared};
 
-use crate::search_forests::steps::Search;
+use crate::search_forests::search_steps::Search;
 use map_lists::Rotations;
 use std::alloc::{AllocError, Global};
 use std::mem;

@@ -8,7 +8,7 @@ ghost use Rattle.order_drawings.specs.Rows.{AreAllRows};
 ghost use Rattle.order_drawings.specs.SchnyderDrawings.{IsSchnyderOf};
 ghost use Rattle.grid_figures.specs.Points.{ArePoints};
 
-use crate::schnyder_grid::gaps::wood_points;
+use crate::schnyder_grid::coordinate_gaps::wood_points;
 use canon_order::Order;
 use half_edges::{Counts, HalfMap, Rotations};
 use order_drawings::order_tables::rows_into;

@@ -1,11 +1,11 @@
 //! The reader of figures, fed piece by piece, as a format of the main loop.
 ghost use Rattle.std.specs.Prelude.{◌≡◌, ◌+◌, ◌≤◌, []};
 
-use crate::figure_lines::begun::Begun;
+use crate::figure_lines::begun_figure::Begun;
+use crate::figure_lines::boxed::Held;
+use crate::figure_lines::closed_line::After;
 use crate::figure_lines::ending::Ending;
-use crate::figure_lines::held::Held;
-use crate::figure_lines::part::{Line, take_part};
-use crate::figure_lines::step::After;
+use crate::figure_lines::open_line::{Line, take_part};
 use figure_text::{Figure, GridJob, Word};
 use map_lists::Rotations;
 use pg_plane::Points;

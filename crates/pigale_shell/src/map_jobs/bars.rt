@@ -1,5 +1,5 @@
 //! The job `bars`: visibility drawings.
-use crate::form::FormPrinter;
+use crate::form_printer::FormPrinter;
 use crate::method::{MapRecord, Method};
 use half_edges::Rotations;
 use pg_plane::BarFigure;

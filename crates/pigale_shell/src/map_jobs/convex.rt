@@ -1,5 +1,5 @@
 //! The job `convex`: drawings with convex faces.
-use crate::form::FormPrinter;
+use crate::form_printer::FormPrinter;
 use crate::method::{MapRecord, Method};
 use convex_draw::convex_figures::ConvexDrawer;
 use figure_text::GridJob;

@@ -1,6 +1,6 @@
 //! The job `count`: numbers of vertices, edges, faces and components, and the genus.
-use crate::lines::count_line;
 use crate::method::{MapRecord, Method};
+use crate::output_lines::count_line;
 use euler_faces::{Counter, EulerCount};
 use half_edges::Rotations;
 use refusals::Unserved;

@@ -1,5 +1,5 @@
 //! The job `rect`: rectangular duals.
-use crate::form::FormPrinter;
+use crate::form_printer::FormPrinter;
 use crate::method::{MapRecord, Method};
 use half_edges::Rotations;
 use pg_plane::RectFigure;

@@ -1,5 +1,5 @@
 //! The job `schnyder`: drawings by Schnyder's coordinates.
-use crate::form::FormPrinter;
+use crate::form_printer::FormPrinter;
 use crate::method::{MapRecord, Method};
 use figure_text::GridJob;
 use grid_figures::Drawer;

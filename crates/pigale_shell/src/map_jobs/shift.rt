@@ -1,5 +1,5 @@
 //! The job `shift`: drawings by the shift method.
-use crate::form::FormPrinter;
+use crate::form_printer::FormPrinter;
 use crate::method::{MapRecord, Method};
 use figure_text::GridJob;
 use grid_figures::Drawer;

@@ -7,7 +7,7 @@ ghost use Rattle.rect_class.specs.Refusals.{BreaksRect};
 ghost use Rattle.rect_dual.specs.Figures.{IsRectFigure};
 
 use crate::draw::framed;
-use crate::figures::draw::rect_figure;
+use crate::figures::record_figure::rect_figure;
 use half_edges::{Rotations, VertexId};
 use pg_plane::RectFigure;
 use rect_check::OuterFour;

@@ -3,15 +3,15 @@ ghost use Rattle.std.specs.Prelude.{◌≡◌, ◌<◌, ◌≤◌, ◌^◌, ℕ,
 ghost use Rattle.map_theory.specs.Maps.{IsSimpleMap, HasDart, darts, list_of, component_count};
 ghost use Rattle.simple_maps.specs.Tables.{AreTwins};
 ghost use Rattle.refusals.specs.Conditions.{IfRefused};
-ghost use Rattle.pg_plane.specs.declared.figure.BarFigure.{BarFigure as Figure};
+ghost use Rattle.pg_plane.specs.declared.figures.BarFigure.{BarFigure as Figure};
 ghost use Rattle.bipolar.specs.FaceNumbers.{AreFaceNumbers, AreFaceArcs};
 ghost use Rattle.conn_parts.specs.BiconnectedMaps.{IsBiconnectedMap, BreaksFirst};
 ghost use Rattle.visibility.specs.Figures.{IsBarFigure, IsSearchFrom, IsUncutSearch};
 ghost use Rattle.visibility.specs.Found.{IsRooted, IsFound};
 
-use crate::bar_figures::draw::bar_figure;
-use crate::ends::{coordinate, size_ends};
-use crate::spans::{Sides, SpanTables};
+use crate::bar_ends::{coordinate, size_ends};
+use crate::bar_figures::record_figure::bar_figure;
+use crate::column_pass::{Sides, SpanTables};
 use bipolar::dual_orders::{FaceTables, number_faces};
 use conn_parts::plane_count;
 use euler_faces::Counter;

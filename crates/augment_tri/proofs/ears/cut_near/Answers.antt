@@ -30,5 +30,5 @@ returns-clause-covered c = λ first k a b at_d covered v u at_at.
     let map = c.args.map.now in
     let near = c.ear_near-ear.ensures a b at_d in
     let cut = c.cut_ear-new.ensures.cut near.0 near.1 near.2 in
-    near_covered map c.cut_ear-new.new.map c.args.d.0 c.ear_near-ear.result.0 c.cut_ear-new.result.0 c.next_at.result.0 a b near.0 near.1 c.requires.fillable.roomy near.3 cut at_d near.2 near.4
-    (c.cut_ear-new.ensures.dart near.0 near.1 near.2) c.cut_ear-new.ensures.ids c.next_at.ensures first k covered v u at_at
+    near_covered map c.cut_ear-new.new.map c.args.d.0 c.ear_near-ear.result.0 c.cut_ear-new.result.0 c.dart_after_cut.result.0 a b near.0 near.1 c.requires.fillable.roomy near.3 cut at_d near.2 near.4
+    (c.cut_ear-new.ensures.dart near.0 near.1 near.2) c.cut_ear-new.ensures.ids c.dart_after_cut.ensures first k covered v u at_at

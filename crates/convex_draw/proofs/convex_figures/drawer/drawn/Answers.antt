@@ -1,6 +1,6 @@
 use Rattle.std.proofs.Common.{◌≡◌, sym, ap, ◌∙◌, subst}
 use Rattle.std.specs.Prelude.{Option, unwrap_or}
-use Rattle.pg_plane.specs.declared.figure.GridFigure.{GridFigure}
+use Rattle.pg_plane.specs.declared.figures.GridFigure.{GridFigure}
 use Rattle.convex_draw.specs.Figures.{IsConvexFigure}
 use Rattle.convex_draw.proofs.FlatNumbers.{full_count, full_plane, full_three}
 use Rattle.convex_draw.proofs.convex_figures.drawer.drawn.Goals as goal

@@ -4,7 +4,7 @@ use Rattle.map_theory.specs.Maps.{face_count}
 use Rattle.convex_laws.specs.Removed.{AreRowsOfRun}
 use Rattle.convex_laws.specs.declared.convex_rows.rows.ConvexRows.{ConvexRows}
 use Rattle.convex_orders.specs.declared.face_numbers.FaceNumbers.{FaceNumbers}
-use Rattle.convex_orders.specs.declared.tables.Tables.{Tables}
+use Rattle.convex_orders.specs.declared.map_tables.Tables.{Tables}
 use Rattle.convex_draw.specs.Grids.{IsConvexGrid}
 use Rattle.convex_draw.proofs.ByLists.{run, two_faces, one_less, small_side, listed_run, drawn_grid, base_dart, rows_by}
 use Rattle.convex_draw.proofs.FirstDart.{IsConvexFigure-of}

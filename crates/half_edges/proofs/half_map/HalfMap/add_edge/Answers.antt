@@ -3,8 +3,8 @@ use Rattle.map_lists.specs.Lists.{Lists}
 use Rattle.half_edges.specs.Map.{Map, dart_at}
 use Rattle.half_edges.specs.Arena.{arena_lists, arena_map, dart_in, next_of, IsArena, IsWired}
 use Rattle.half_edges.specs.Edges.{with_edge, corner_tail, corner_entry}
-use Rattle.half_edges.specs.declared.arena.DartRecord.{DartRecord}
-use Rattle.half_edges.specs.declared.arena.VertexRecord.{VertexRecord}
+use Rattle.half_edges.specs.declared.dart_records.DartRecord.{DartRecord}
+use Rattle.half_edges.specs.declared.dart_records.VertexRecord.{VertexRecord}
 use Rattle.half_edges.proofs.ArenaLemmas.{known, dart_at-arena, arena_lists_are}
 use Rattle.half_edges.proofs.FreeLemmas.{IsWired-arena}
 use Rattle.half_edges.proofs.EdgeLemmas.{IsLent, lent, through, ids_kept, of_lists, corners_here, place_is}

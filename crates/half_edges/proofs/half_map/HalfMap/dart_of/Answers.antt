@@ -1,8 +1,8 @@
 use Rattle.std.proofs.Common.{◌≡◌, ◌<◌, ℕ, List, subst}
 use Rattle.std.proofs.lemmas.List.{get_or_read}
 use Rattle.half_edges.specs.Arena.{no_vertex, vertex_at, steps, head_of}
-use Rattle.half_edges.specs.declared.arena.DartRecord.{DartRecord}
-use Rattle.half_edges.specs.declared.arena.VertexRecord.{VertexRecord}
+use Rattle.half_edges.specs.declared.dart_records.DartRecord.{DartRecord}
+use Rattle.half_edges.specs.declared.dart_records.VertexRecord.{VertexRecord}
 use Rattle.half_edges.proofs.ArenaLemmas.{walkable, walkable_read, vertex_in, no_dart, dart_to_here}
 use Rattle.half_edges.proofs.half_map.HalfMap.dart_of.Goals as goal
 use Rattle.half_edges.proofs.half_map.HalfMap.dart_of.Goals.{After-dart_to}

@@ -2,7 +2,7 @@ use Rattle.std.proofs.Common.{ap, ◌∙◌}
 use Rattle.std.proofs.lemmas.List.{get_or_read}
 use Rattle.half_edges.specs.Map.{dart_at}
 use Rattle.half_edges.specs.Arena.{no_record}
-use Rattle.half_edges.specs.declared.arena.DartRecord.{DartRecord}
+use Rattle.half_edges.specs.declared.dart_records.DartRecord.{DartRecord}
 use Rattle.half_edges.proofs.ArenaLemmas.{in_darts, next_here}
 use Rattle.half_edges.proofs.half_map.HalfMap.next.Goals as goal
 

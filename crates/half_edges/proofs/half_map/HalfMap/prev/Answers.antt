@@ -2,7 +2,7 @@ use Rattle.std.proofs.Common.{◌≡◌, ap, sym, subst, option_map, ◌∙◌}
 use Rattle.std.proofs.lemmas.List.{get_or_read}
 use Rattle.half_edges.specs.Map.{dart_at, IsLive, next_dart}
 use Rattle.half_edges.specs.Arena.{no_record, record_at}
-use Rattle.half_edges.specs.declared.arena.DartRecord.{DartRecord}
+use Rattle.half_edges.specs.declared.dart_records.DartRecord.{DartRecord}
 use Rattle.half_edges.proofs.ArenaLemmas.{in_darts, prev_live, prev_here}
 use Rattle.half_edges.proofs.half_map.HalfMap.prev.Goals as goal
 use Rattle.half_edges.proofs.half_map.HalfMap.prev.Goals.{After-index}

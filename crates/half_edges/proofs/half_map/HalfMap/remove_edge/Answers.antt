@@ -5,8 +5,8 @@ use Rattle.map_theory.specs.Maps.{HasDart}
 use Rattle.map_theory.specs.Edges.{without_edge}
 use Rattle.half_edges.specs.Map.{Map, dart_at}
 use Rattle.half_edges.specs.Arena.{arena_lists, dart_in, tail_of, head_of, live_of, IsArena, IsWired}
-use Rattle.half_edges.specs.declared.arena.DartRecord.{DartRecord}
-use Rattle.half_edges.specs.declared.arena.VertexRecord.{VertexRecord}
+use Rattle.half_edges.specs.declared.dart_records.DartRecord.{DartRecord}
+use Rattle.half_edges.specs.declared.dart_records.VertexRecord.{VertexRecord}
 use Rattle.half_edges.proofs.ArenaLemmas.{arena_lists_are, known, live_here, IsDartAt}
 use Rattle.half_edges.proofs.FreeLemmas.{IsWired-arena}
 use Rattle.half_edges.proofs.EdgeLemmas.{IsLent, lent, through, ends_are, ids_kept, of_lists, edges_fall, arena_less}

@@ -2,7 +2,7 @@ use Rattle.std.proofs.Common.{◌≡◌, ◌+◌, ◌≤◌, List, refl, sym, ap
 use Rattle.half_edges.specs.Map.{Map}
 use Rattle.half_edges.specs.Arena.{arena_lists, arena_map, IsArena}
 use Rattle.half_edges.specs.Links.{IsFreer}
-use Rattle.half_edges.specs.declared.arena.DartRecord.{DartRecord}
+use Rattle.half_edges.specs.declared.dart_records.DartRecord.{DartRecord}
 use Rattle.half_edges.proofs.ArenaLemmas.{known, dart_at-in, dart_at-arena}
 use Rattle.half_edges.proofs.EdgeLemmas.{few_edges}
 use Rattle.half_edges.proofs.ReserveLemmas.{lists_reserved, arena_reserved, dart_reserved}

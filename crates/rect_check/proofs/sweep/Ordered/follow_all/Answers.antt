@@ -24,13 +24,13 @@ loop-i-preserved c =
     let few : (y : ℕ) → y < n → last.row y ≤ n = λ y m. row-le n l.last l.until last.row last.runs last.vertices y (omega (arith, m, h.runs)) in
     let up = reached.order in
     record {
-      size = c.put_run-in-loop-i.ensures.last ∙ (c.put_run.ensures.last ∙ h.size);
-      runs = c.put_run-in-loop-i.ensures.until ∙ (c.put_run.ensures.until ∙ (f.ensures.runs ∙ h.runs));
+      size = c.put_interval-in-loop-i.ensures.last ∙ (c.put_interval.ensures.last ∙ h.size);
+      runs = c.put_interval-in-loop-i.ensures.until ∙ (c.put_interval.ensures.until ∙ (f.ensures.runs ∙ h.runs));
       last =
           AreLast-put lists f.new.marks (sides axis) axis.spans axis.rows order l.i last.row v refl lv few last.each before low c.natural-high.result (search rules) (search rules) (λ y u m less e. taken.follow y u m (omega (arith, less, up)) e)
-          l.last c.put_run.new.last c.put_run-in-loop-i.new.last l.until f.new.until c.put_run.new.until c.put_run-in-loop-i.new.until c.in-Some.reached c.in-Some.rest
-          (λ y. c.put_run-in-loop-i.ensures.entries n y reached.vertex (c.put_run.ensures.entries n y (omega (arith, lv)) (last.vertices y)))
-          up taken c.put_run.ensures.put c.put_run-in-loop-i.ensures.put;
+          l.last c.put_interval.new.last c.put_interval-in-loop-i.new.last l.until f.new.until c.put_interval.new.until c.put_interval-in-loop-i.new.until c.in-Some.reached c.in-Some.rest
+          (λ y. c.put_interval-in-loop-i.ensures.entries n y reached.vertex (c.put_interval.ensures.entries n y (omega (arith, lv)) (last.vertices y)))
+          up taken c.put_interval.ensures.put c.put_interval-in-loop-i.ensures.put;
       marks = f.ensures.size ∙ h.marks;
       kept = λ u m. f.ensures.kept u (h.kept u m);
       follow = DoFollow-more lists f.new.marks (sides axis) axis.spans axis.rows order l.i last.row v refl lv few last.each before low c.natural-high.result (search rules) (search rules) (λ y u m less e. taken.follow y u m (omega (arith, less, up)) e);

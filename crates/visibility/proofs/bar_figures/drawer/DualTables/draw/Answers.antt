@@ -1,6 +1,6 @@
 use Rattle.std.proofs.Common.{ℕ, ◌/◌, List, length, ap, ◌∙◌, arith}
 use Rattle.map_theory.proofs.DartLemmas.{length-darts}
-use Rattle.pg_plane.specs.declared.figure.BarFigure.{BarFigure}
+use Rattle.pg_plane.specs.declared.figures.BarFigure.{BarFigure}
 use Rattle.visibility.specs.Spans.{AreSides}
 use Rattle.visibility.proofs.DrawerLemmas.{IsFaced, some_face, acyclic_arcs, are_sides, is_figure, is_biconnected}
 use Rattle.visibility.proofs.bar_figures.drawer.DualTables.draw.Goals as goal

@@ -1,6 +1,0 @@
-use Rattle.std.proofs.Common.{arith}
-use Rattle.bar_check.proofs.EdgeLemmas.{edges_before-none}
-use Rattle.bar_check.proofs.edges.edges_before.Goals as goal
-
-pub loop-u-init : goal.loop-u-init
-loop-u-init c = record { count = edges_before-none c.args.map.now.lists; few = omega arith }

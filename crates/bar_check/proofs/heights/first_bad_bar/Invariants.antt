@@ -1,6 +1,0 @@
-use Rattle.std.proofs.Common.{ℕ, ◌<◌}
-use Rattle.bar_check.specs.Bars.{IsBar}
-use Rattle.bar_check.proofs.heights.first_bad_bar.Given as goal
-
-abbrev pub invariant-loop-v : goal.invariant-loop-v
-invariant-loop-v l = (u : ℕ) → u < l.v → IsBar l.fig l.width u

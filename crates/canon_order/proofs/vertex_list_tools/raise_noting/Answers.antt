@@ -1,0 +1,31 @@
+use Rattle.std.proofs.Common.{◌<◌, length, slice_index, arith, get_or-set_other}
+use Rattle.canon_order.proofs.Marks.{noted-more, noted-all}
+use Rattle.canon_order.proofs.Counters.{counted_before, counted_up}
+use Rattle.canon_order.proofs.vertex_list_tools.raise_noting.Goals as goal
+
+pub overflow_add-counts : goal.overflow_add-counts
+overflow_add-counts c =
+    let u = slice_index c.args.entries.now c.loop-u.u-index in
+    let same = c.loop-u.auto.counts in
+    let more = counted_before c.args.entries.now c.loop-u.u-index c.loop-u-test.true in
+    let room = c.requires.room u in
+    let l = c.requires.within c.loop-u.u-index 0 c.loop-u-test.true in
+    let now = c.loop-u.invariant.counts u (omega arith) in
+    omega (arith, more, room, now)
+
+pub loop-u-preserved : goal.loop-u-preserved
+loop-u-preserved c =
+    let h = c.loop-u.invariant in
+    let us = c.args.entries.now in
+    let i = c.loop-u.u-index in
+    let k : slice_index us i < length c.loop-u.counts = omega (arith, c.requires.within i 0 c.loop-u-test.true, c.loop-u.auto.counts) in
+    record {
+      counts = counted_up us c.loop-u.counts c.args.counts.now i c.loop-u-test.true k h.counts;
+      kept = λ w has. c.in_ok-note.ensures.kept w (h.kept w has);
+      vertices = λ n all old. c.in_ok-note.ensures.vertices n (all i 0 c.loop-u-test.true) (h.vertices n all old);
+      noted = noted-more c.args.marked.now us c.loop-u.counts _ c.loop-u.stack.items c.note.new.stack.items i c.loop-u-test.true (λ w ne. get_or-set_other c.loop-u.counts _ w _ 0 ne) c.in_ok-note.ensures.kept c.in_ok-note.ensures.noted h.noted;
+    }
+
+pub returns-clause-noted : goal.returns-clause-noted
+returns-clause-noted c =
+    noted-all c.args.marked.now c.args.entries.now c.loop-u.counts c.loop-u.stack.items c.loop-u.u-index (omega arith) c.loop-u.invariant.noted

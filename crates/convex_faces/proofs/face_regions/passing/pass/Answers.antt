@@ -1,5 +1,0 @@
-use Rattle.convex_faces.proofs.PassLemmas.{pass_dart}
-use Rattle.convex_faces.proofs.face_regions.passing.pass.Goals as goal
-
-pub returns : goal.returns
-returns c = pass_dart c.args.map.now c.facts.ensures c.args.d.0 c.twin-twin.result.0 c.args.marked.now c.requires.live c.twin-twin.ensures c.requires.marks

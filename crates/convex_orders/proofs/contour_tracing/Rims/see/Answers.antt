@@ -1,0 +1,34 @@
+use Rattle.std.proofs.Common.{◌≡◌, ◌<◌, ℕ, List, length, get_or, set, length-set, sym, ap, ◌∙◌, subst}
+use Rattle.map_theory.specs.Maps.{list_of}
+use Rattle.convex_orders.specs.FaceNumbers.{entry}
+use Rattle.convex_orders.specs.Shown.{IsRimIn}
+use Rattle.convex_orders.specs.Splits.{IsRimAt}
+use Rattle.convex_orders.proofs.Known.{based}
+use Rattle.convex_orders.proofs.Rows.{place_rim, place_numbers}
+use Rattle.convex_orders.proofs.contour_tracing.Rims.see.Goals as goal
+
+pub returns-clause-rim : goal.returns-clause-rim
+returns-clause-rim c =
+    let t = c.args.map.now.tables.now in
+    let marks = c.args.map.now.marks.now in
+    let x = c.args.x in
+    let k = c.rim_near-k.result in
+    let at : IsRimAt (list_of t.faces.own x) (list_of t.faces.other x) marks k = subst (λ (z : List ℕ). IsRimAt z (list_of t.faces.other x) marks k) c.list-own.ensures (subst (λ (z : List ℕ). IsRimAt c.list-own.result.now z marks k) c.list-other.ensures c.rim_near-k.ensures) in
+    subst (IsRimIn t.lists t.faces.own t.faces.other marks x) (ap (λ (z : List ℕ). get_or z k 0) (sym c.list.ensures))
+    (place_rim t.lists t.faces.own t.faces.other t.faces.count (based t).three.simple t.numbers marks x k c.requires.some.1.dart.0 at)
+
+pub returns-clause-seen : goal.returns-clause-seen
+returns-clause-seen c =
+    let t = c.args.map.now.tables.now in
+    let s = c.args.self.now in
+    let x = c.args.x in
+    let k = c.rim_near-k.result in
+    let y = get_or (list_of t.lists x) k 0 in
+    let to : y ≡ get_or c.list.result.now k 0 = ap (λ (z : List ℕ). get_or z k 0) (sym c.list.ensures) in
+    let within : k < length (list_of t.faces.own x) = subst (λ (z : List ℕ). k < length z) c.list-own.ensures c.rim_near-k.ensures.within in
+    let numbers = place_numbers t.lists t.faces.own t.faces.other t.faces.count (based t).three.simple t.numbers x k c.requires.some.1.dart.0 within in
+    record {
+      hints = length-set s.hints.items x _;
+      inner = ap (set s.inner.items x) (ap (λ (z : List ℕ). get_or z k 0) c.list-other.ensures ∙ (numbers.1 ∙ ap (λ v. entry t.lists t.faces.own v x) to));
+      outer = ap (set s.outer.items x) (ap (λ (z : List ℕ). get_or z k 0) c.list-own.ensures ∙ (numbers.0 ∙ ap (entry t.lists t.faces.own x) to));
+    }

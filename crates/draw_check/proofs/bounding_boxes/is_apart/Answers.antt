@@ -1,0 +1,29 @@
+use Rattle.std.proofs.Common.{FitsSigned, w32, to_z-of_z, inl, inr, rules}
+use Rattle.draw_check.proofs.bounding_boxes.is_apart.Goals as goal
+
+pub returns-then-are_greater : goal.returns-then-are_greater
+returns-then-are_greater c =
+    let p : FitsSigned w32 c.args.p.point.x = search rules in
+    let q : FitsSigned w32 c.args.q.point.x = search rules in
+    let bound : FitsSigned w32 c.args.span.right = search rules in
+    let h = c.are_greater.ensures.0 c.if-are_greater.true in
+    let there = simp to_z-of_z at h in
+    inr (inl there)
+
+pub returns-then-are_less-2 : goal.returns-then-are_less-2
+returns-then-are_less-2 c =
+    let p : FitsSigned w32 c.args.p.point.y = search rules in
+    let q : FitsSigned w32 c.args.q.point.y = search rules in
+    let bound : FitsSigned w32 c.args.span.bottom = search rules in
+    let h = c.are_less-2.ensures.0 c.if-are_less-2.true in
+    let there = simp to_z-of_z at h in
+    inr (inr (inl there))
+
+pub returns-then-are_greater-2 : goal.returns-then-are_greater-2
+returns-then-are_greater-2 c =
+    let p : FitsSigned w32 c.args.p.point.y = search rules in
+    let q : FitsSigned w32 c.args.q.point.y = search rules in
+    let bound : FitsSigned w32 c.args.span.top = search rules in
+    let h = c.are_greater-2.ensures.0 c.if-are_greater-2.true in
+    let there = simp to_z-of_z at h in
+    inr (inr (inr there))

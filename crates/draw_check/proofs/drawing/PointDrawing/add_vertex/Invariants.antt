@@ -1,0 +1,15 @@
+use Rattle.std.proofs.Common.{◌≡◌, ℕ, ◌-◌, Some}
+use Rattle.map_theory.specs.Maps.{dart_count}
+use Rattle.half_edges.specs.Map.{dart_at}
+use Rattle.euler_faces.specs.Numbers.{number_at}
+use Rattle.draw_check.specs.FaceSums.{AreSumsBelow}
+use Rattle.draw_check.proofs.drawing.PointDrawing.add_vertex.Given as goal
+
+abbrev pub invariant-round : goal.invariant-round
+invariant-round l = record {
+  dart : (u : ℕ) × (dart_at l.self.map.now l.d.0 ≡ Some (l.fn.v.0, u));
+  sums : AreSumsBelow l.self.map.now l.self.points.now l.faces (number_at l.self.map.now l.d.0) l.sums;
+}
+
+abbrev pub decreases-round : goal.decreases-round
+decreases-round l = dart_count l.self.map.now.lists - number_at l.self.map.now l.d.0

@@ -1,0 +1,84 @@
+//! The check of a drawing of a triangulation by the angles between consecutive list entries, with no map made of the
+//! lists.
+ghost use Rattle.std.specs.Prelude.{◌<◌, length};
+ghost use Rattle.std.specs.Bool.{OnTrue};
+ghost use Rattle.half_edges.specs.Map.{first_dart};
+ghost use Rattle.draw_check.specs.Corners.{IsCornerWell, IsRoundWell};
+ghost use Rattle.draw_check.specs.Faults.{HasPlaces};
+ghost use Rattle.draw_check.specs.Outer.{HasOuterFace};
+ghost use Rattle.draw_check.specs.Verdicts.{IsVerdict};
+ghost use Rattle.draw_check.specs.declared.verdict.Verdict.TheVariants.{Yes as NoFault};
+ghost use Rattle.plane_laws.specs.Triangulations.{IsTriangulation};
+
+use crate::drawing::Placed;
+use crate::faces_yes_for_fewer;
+use crate::vertex_points::{is_in_grid, place_at};
+use half_edges::VertexId;
+use map_lists::Rotations;
+use pg_plane::{Point, Points};
+
+/// Lists, and a point for each of them, within the range of coordinates.
+#[derive(Clone, Copy)]
+struct Corners<'a> {
+    lists: &'a Rotations,
+    points: &'a Points,
+    ghost few: { length lists.now < 4096 },
+    ghost places: { HasPlaces lists.now points.now },
+}
+
+impl Corners<'_> {
+    // Says whether the corner at `a` from `c` to `b` opens to the left, or to the right where the face is the outer
+    // one. Of a triangle just the corner at its least vertex is tested; `b` and `c` must be vertices.
+    #[inline(always)]
+    fn is_well(&self, is_outer: bool, a: u16, b: u16, c: u16) -> bool
+        requires { a < length self.now.points.now }
+        ensures { OnTrue result (IsCornerWell self.now.points.now is_outer a b c) }
+    {
+        if b <= a || c <= a {
+            return true;
+        }
+        let n = self.points.len();
+        let placed = Placed {
+            points: self.points,
+        };
+        (b as usize) < n
+            && (c as usize) < n
+            && placed.turns_well(is_outer, VertexId(a), VertexId(b), VertexId(c))
+    }
+
+    // Says whether all corners at `v` open to the right side.
+    fn is_round_well(&self, v: u16) -> bool
+        requires { v < length self.now.lists.now }
+        ensures { OnTrue result (IsRoundWell self.now.lists.now self.now.points.now v) }
+    {
+        let list = self.lists.list(v as usize);
+        if list.is_empty() || !self.is_well(v == 0, v, list[0], list[list.len() - 1]) {
+            return false;
+        }
+        for k in 1..list.len() {
+            if !self.is_well(false, v, list[k], list[k - 1]) {
+                return false;
+            }
+        }
+        true
+    }
+}
+
+/// Says whether a drawing of `lists` at `points` is seen to have no fault, in the grid up to `corner`. Where the lists
+/// are a triangulation, `check_points` answers `Yes` then, and so does `check_outer` for the first vertex's first dart.
+/// Of other lists nothing is promised. It takes no memory, and linear time.
+pub fn is_drawn_well(lists: &Rotations, points: &Points, corner: Point) -> bool
+    requires places { HasPlaces lists.now points.now }
+    ensures { OnTrue result (IsTriangulation lists.now → IsVerdict lists.now points.now corner.x corner.y NoFault
+        × HasOuterFace lists.now points.now (first_dart lists.now 0)) }
+{
+    faces_yes_for_fewer();
+    let corners = Corners { lists, points };
+    for v in 0..lists.len() {
+        let v = v as u16;
+        if !is_in_grid(place_at(points, VertexId(v)), corner) || !corners.is_round_well(v) {
+            return false;
+        }
+    }
+    true
+}

@@ -1,0 +1,88 @@
+//! The public calls `check` and `check_points`, which find the first fault of a straight-line drawing.
+ghost use Rattle.std.specs.Prelude.{IfSome, MatchOption, ℤ};
+ghost use Rattle.plane_drawings.specs.Drawing.{IsPlaneDrawing};
+ghost use Rattle.plane_drawings.specs.SweepCheckLines.{firm_lists};
+ghost use Rattle.draw_check.specs.Faults.{HasPlaces};
+ghost use Rattle.draw_check.specs.Verdicts.{AllInGrid, NoneShareAPlace, NoneOnEdge, NoneCross, IsVerdict};
+
+use crate::Verdict;
+use crate::drawing::PointDrawing;
+use crate::vertex_points::corner_of;
+use half_edges::HalfMap;
+use pg_plane::{GridFigure, Point, Points};
+use plane_drawings::sweep_check::loose_vertices;
+
+/// Returns the first fault of the drawing of `map` at `points`, in the order of the variants of `Verdict`, with the
+/// least ids. `Yes` is returned where all points lie in the grid, the drawing is plane and the rotations are kept.
+///
+/// The grid goes from (0, 0) to `corner`. There is one point for each vertex, and no coordinate is beyond
+/// 2^20 in size. It takes no memory from the heap. Where a sweep finds the drawing plane, or plane without
+/// the edges of a few loose vertices, the time is m log n for n vertices and m edges, besides that in which
+/// the lines that the sweep meets are moved, and that in which the edges of the loose vertices are compared
+/// with all else. Else runs of 16 edges from one vertex are compared with boxes of 16 vertices, and where those
+/// meet, each edge with each vertex; and the edges before the first that a later one crosses are compared with
+/// runs after them, first by a box of what the edges of 16 vertices reach, then one by one.
+pub fn check_points(map: &HalfMap, points: &Points, corner: Point) -> Verdict
+    requires { HasPlaces map.now.lists points.now }
+    ensures { IsVerdict map.now.lists points.now corner.x corner.y result }
+{
+    map.facts();
+    let drawing = PointDrawing { map, points };
+    if let Some(v) = drawing.first_outside(corner) {
+        return Verdict::OutOfGrid(v);
+    }
+    if let Some(verdict) = drawing.first_pair() {
+        return verdict;
+    }
+    match drawing.first_turned() {
+        Some(v) => Verdict::Turned(v),
+        None => Verdict::Yes,
+    }
+}
+
+/// Checks a figure as [`check_points`] does its points, in its grid.
+pub fn check(map: &HalfMap, fig: &GridFigure) -> Verdict
+    requires { HasPlaces map.now.lists fig.now.points }
+    ensures { IsVerdict map.now.lists fig.now.points fig.now.width fig.now.height result }
+{
+    check_points(map, &fig.points, corner_of(fig))
+}
+
+impl PointDrawing<'_> {
+    // Returns the first vertex on an edge or else the first two edges that cross, where all vertices have different
+    // points. Where `loose` is known, the drawing is plane without the edges of these vertices.
+    fn first_meeting(&self, loose: Option<&[u16]>) -> Option<Verdict>
+        requires apart { NoneShareAPlace self.now.map.now.lists self.now.points.now }
+        requires plane { IfSome loose (λ l. IsPlaneDrawing (firm_lists l.now self.now.map.now.lists) self.now.points.now) }
+        ensures { MatchOption result (NoneShareAPlace self.now.map.now.lists self.now.points.now × NoneOnEdge self.now.map.now.lists self.now.points.now × NoneCross self.now.map.now.lists self.now.points.now)
+            (λ verdict. (width height : ℤ) → AllInGrid self.now.map.now.lists self.now.points.now width height → IsVerdict self.now.map.now.lists self.now.points.now width height verdict) }
+    {
+        let from = self.first_on_edges(loose);
+        if let Some((v, e)) = self.first_on_edge(from) {
+            return Some(Verdict::OnEdge(v, e));
+        }
+        match self.first_crossing(loose) {
+            Some((e, f)) => Some(Verdict::Cross(e, f)),
+            None => None,
+        }
+    }
+
+    // Returns the first two vertices at one point, the first vertex on an edge or the first two edges that cross, in
+    // this order. A sweep that finds the drawing plane, or plane without the edges of a few vertices, spares the search
+    // over all pairs.
+    fn first_pair(&self) -> Option<Verdict>
+        ensures { MatchOption result (NoneShareAPlace self.now.map.now.lists self.now.points.now × NoneOnEdge self.now.map.now.lists self.now.points.now × NoneCross self.now.map.now.lists self.now.points.now)
+            (λ verdict. (width height : ℤ) → AllInGrid self.now.map.now.lists self.now.points.now width height → IsVerdict self.now.map.now.lists self.now.points.now width height verdict) }
+    {
+        self.map.facts();
+        let mut loose = [0; 8];
+        match loose_vertices(self.map, self.points, &mut loose) {
+            Some(0) => None,
+            Some(count) => self.first_meeting(Some(&loose[..count])),
+            None => match self.first_shared() {
+                Some((u, v)) => Some(Verdict::SamePlace(u, v)),
+                None => self.first_meeting(None),
+            },
+        }
+    }
+}

@@ -1,4 +1,0 @@
-use Rattle.embed_graph.proofs.contracted_embeddings.lifted.+witness_within.Given as goal
-
-abbrev pub decreases-witness_within : goal.decreases-witness_within
-decreases-witness_within l = l.count

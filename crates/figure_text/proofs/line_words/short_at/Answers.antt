@@ -1,0 +1,20 @@
+-- Digits that end at a space.
+use Rattle.std.proofs.Common.{◌≡◌, ◌+◌, ◌-◌, true, ◌∷◌, take, drop, ap, ◌∙◌, arith, rules}
+use Rattle.figure_text.specs.declared.line_words.Word.{Word}
+use Rattle.figure_text.specs.Words.{canonical, words_left}
+use Rattle.figure_text.proofs.NumeralLemmas.{word_of-digits}
+use Rattle.figure_text.proofs.WordLemmas.{words-next}
+use Rattle.figure_text.proofs.line_words.short_at.Goals as goal
+
+pub returns-then-line-digits-eq32 : goal.returns-then-line-digits-eq32
+returns-then-line-digits-eq32 c =
+    let line = c.args.line.now in
+    let at = c.args.at in
+    let digits = c.first_digits-digits.result in
+    let found = c.first_digits-digits.ensures in
+    let good : canonical (take (digits.end - at) (drop at line)) ≡ true = search rules in
+    record {
+      words = words-next line at digits.end (omega (arith, found.order, found.within)) found.order found.within found.before (λ l. search rules) ∙ ap (λ (w : Word). w ∷ words_left line (digits.end + 1)) (word_of-digits (take (digits.end - at) (drop at line)) digits.value good found.value);
+      order = found.order;
+      within = found.within;
+    }

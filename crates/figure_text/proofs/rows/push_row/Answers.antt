@@ -1,5 +1,0 @@
--- What a line in its ranges has behind its front are vertices.
-use Rattle.figure_text.proofs.rows.push_row.Goals as goal
-
-pub push_vertices-requires : goal.push_vertices-requires
-push_vertices-requires c = rw (c.behind.ensures, c.pieces.ensures.pieces, c.deref.ensures.value) c.requires.vertices

@@ -1,0 +1,123 @@
+//! Reads the numbers at the end of a line one by one, where they are plainly written, without keeping words.
+ghost use Rattle.std.specs.Prelude.{◌≡◌, pos, ◌++◌, ◌∷◌, ◌-◌, ◌≤◌, [], false, map, All, IfOk, IfSome};
+ghost use Rattle.std.specs.Bool.{OnTrue};
+ghost use Rattle.figure_text.specs.Words.{words_left};
+ghost use Rattle.figure_text.specs.Lines.{vertex_of, integer_of};
+ghost use Rattle.figure_text.specs.Plain.{IsVertexAt, IsNeighbour, IsCoordinateAt, IsCoordinateWord};
+
+use crate::line_words::{Digits, plain_at, short_at};
+use map_lists::ItemLists;
+use pg_plane::Ints;
+use std::alloc::AllocError;
+
+// Returns the vertex number that begins at index `at`, where it is plainly written. That it does not begin with 0 is
+// tested first, so that it needs no other test for that.
+#[inline(always)]
+fn vertex_at(line: &[u8], at: usize) -> Option<Digits>
+    ensures { IfSome result (IsVertexAt line.now at) }
+{
+    if line.len() <= at || line[at] == b'0' {
+        return None;
+    }
+    match plain_at(line, at) {
+        Some(digits) if 1 <= digits.value && digits.value <= 65535 => Some(digits),
+        _ => None,
+    }
+}
+
+// Returns the vertex number that begins at index `at`, where a space follows at most four digits. It takes fewer
+// instructions than `vertex_at`.
+#[inline(always)]
+fn short_vertex_at(line: &[u8], at: usize) -> Option<Digits>
+    ensures { IfSome result (IsVertexAt line.now at) }
+{
+    if line.len() < 5 || line.len() - 5 < at || line[at] == b'0' {
+        return None;
+    }
+    match short_at(line, at) {
+        Some(digits) if 1 <= digits.value && digits.value <= 65535 => Some(digits),
+        _ => None,
+    }
+}
+
+// Converts a vertex number from 1 to a vertex from 0.
+fn vertex(number: u32) -> u16
+    requires least { 1 ≤ number }
+    requires most { number ≤ 65535 }
+    ensures { result ≡ number - 1 }
+{
+    (number - 1) as u16
+}
+
+/// Appends to `lists` the list of the vertices that stand in `line` from index `start` on. Returns false, with the
+/// lists as before, where some word there is not a plainly written number of a vertex.
+pub fn push_plain(line: &[u8], start: usize, lists: &mut ItemLists<u16>) -> Result<bool, AllocError>
+    ensures good { IfOk result (λ good. OnTrue good (All (λ w. IsNeighbour w) (words_left line.now start)
+        × (lists.new ≡ lists.old ++ map vertex_of (words_left line.now start) ∷ []))) }
+    ensures bad { IfOk result (λ good. good ≡ false → lists.new ≡ lists.old) }
+{
+    let before = lists.len();
+    lists.open()?;
+    let mut at = start;
+    while let Some(short) = short_vertex_at(line, at) {
+        lists.append(vertex(short.value))?;
+        at = short.end + 1;
+    }
+    while let Some(digits) = vertex_at(line, at) {
+        lists.append(vertex(digits.value))?;
+        at = digits.end + 1;
+    }
+    if line.len() < at {
+        return Ok(true);
+    }
+    lists.truncate(before);
+    Ok(false)
+}
+
+// Returns the coordinate that begins at index `at`, where it is plainly written.
+#[inline(always)]
+fn coordinate_at(line: &[u8], at: usize) -> Option<Digits>
+    ensures { IfSome result (IsCoordinateAt line.now at) }
+{
+    match plain_at(line, at) {
+        Some(digits) if digits.value <= 1_048_576 => Some(digits),
+        _ => None,
+    }
+}
+
+/// Returns the coordinate that begins at index `at`, where a space follows at most four digits.
+#[inline(always)]
+pub fn short_coordinate_at(line: &[u8], at: usize) -> Option<Digits>
+    ensures { IfSome result (IsCoordinateAt line.now at) }
+{
+    match short_at(line, at) {
+        Some(digits) if digits.value <= 1_048_576 => Some(digits),
+        _ => None,
+    }
+}
+
+// Converts a number to a coordinate.
+fn coordinate(number: u32) -> i32
+    requires { number ≤ 1048576 }
+    ensures { result ≡ pos number }
+{
+    number as i32
+}
+
+/// Appends to `list` the numbers that stand in `line` from index `start` on, and says whether all words there are
+/// coordinates, plainly written.
+pub fn push_coordinates(line: &[u8], start: usize, list: &mut Ints) -> Result<bool, AllocError>
+    ensures { IfOk result (λ good. OnTrue good (All (λ w. IsCoordinateWord w) (words_left line.now start)
+        × (list.new ≡ list.old ++ map integer_of (words_left line.now start)))) }
+{
+    let mut at = start;
+    while let Some(short) = short_coordinate_at(line, at) {
+        list.push(coordinate(short.value))?;
+        at = short.end + 1;
+    }
+    while let Some(digits) = coordinate_at(line, at) {
+        list.push(coordinate(digits.value))?;
+        at = digits.end + 1;
+    }
+    Ok(line.len() < at)
+}

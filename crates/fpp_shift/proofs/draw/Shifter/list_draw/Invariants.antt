@@ -1,4 +1,0 @@
-use Rattle.fpp_shift.proofs.draw.Shifter.list_draw.Given as goal
-
-abbrev pub ghosts-points : goal.ghosts-points
-ghosts-points a = record { name = a.blank.name; parts = a.blank.parts }

@@ -1,5 +1,0 @@
-use Rattle.fpp_shift.proofs.WriteLemmas.{SetsRight-set}
-use Rattle.fpp_shift.proofs.offset_trees.writes.set_right.Goals as goal
-
-pub returns-clause-set : goal.returns-clause-set
-returns-clause-set g c = SetsRight-set c.args.tree.now _ c.args.u c.args.link c.get-node.result c.requires c.get-node.ensures.node c.put.ensures.set

@@ -1,7 +1,0 @@
-use Rattle.std.proofs.Common.{◌⊎◌}
-use Rattle.kuratowski.specs.Faults.{Stands, StandsTwice}
-use Rattle.kuratowski.specs.Inner.{IsLeastInner}
-use Rattle.kuratowski.proofs.inner.wrong_inner.Given as goal
-
-abbrev pub invariant-loop-i : goal.invariant-loop-i
-invariant-loop-i l = IsLeastInner l.path (λ v. Stands l.branch v ⊎ StandsTwice l.path v) l.i l.least

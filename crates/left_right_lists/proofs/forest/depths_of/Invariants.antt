@@ -1,5 +1,0 @@
-use Rattle.left_right_lists.specs.Depths.{AreDepths}
-use Rattle.left_right_lists.proofs.forest.depths_of.Given as goal
-
-abbrev pub invariant-loop-k : goal.invariant-loop-k
-invariant-loop-k l = AreDepths l.forest.order.items l.forest.parent.items l.depths.items l.k

@@ -1,0 +1,105 @@
+//! The edges from a tree vertex to its children and its return edges: what returns by each, its entries, and their
+//! order.
+ghost use Rattle.std.specs.Prelude.{◌≡◌, [], IfOk};
+ghost use Rattle.left_right_lists.specs.Blocks.{AreValues};
+ghost use Rattle.left_right_lists.specs.Placing.{HasChildren, IsReady, IsOrderAt, is_item_at, returned_at, block_at};
+
+use crate::edge_orders::Choice;
+use crate::entry_blocks::{push_block, push_middle};
+use crate::return_edges::RootedGraph;
+use left_right_check::entry;
+use map_lists::ItemLists;
+use std::alloc::{AllocError, Global};
+
+/// A vertex of a tree whose children already have their entries.
+#[derive(Clone, Copy)]
+pub(crate) struct TreeVertex<'a> {
+    /// The graph and its tree.
+    pub rooted: RootedGraph<'a>,
+    /// What waits below each of the vertices that are placed, the last ones first.
+    pub opens: &'a ItemLists<(u16, u16)>,
+    /// The vertex.
+    pub v: u16,
+    ghost children: { HasChildren rooted.graph.now.n rooted.tree.now opens.now v },
+}
+
+impl<'a> TreeVertex<'a> {
+    // Says whether an edge leads from the vertex to `u` as a child, or returns to `u` as an ancestor other than the
+    // parent.
+    fn is_item(&self, u: u16) -> bool
+        ensures { result ≡ is_item_at self.now.rooted.graph.now self.now.rooted.tree.now self.now.v u }
+    {
+        if self.rooted.is_child(self.v, u) {
+            return true;
+        }
+        let tree = self.rooted.tree;
+        self.rooted.are_joined(self.v, u)
+            && entry(&tree.depths, u) < entry(&tree.depths, self.v)
+            && u != entry(&tree.parents, self.v)
+    }
+
+    /// Lists for each vertex `u` the return edges by the edge to `u`. It fails only when out of memory.
+    pub(crate) fn returned(&self, alloc: Global) -> Result<ItemLists<(u16, u16)>, AllocError>
+        ensures { IfOk result (λ rows. AreValues (returned_at self.now.rooted.graph.now.n self.now.rooted.tree.now self.now.opens.now self.now.v) [] rows self.now.rooted.graph.now.n) }
+    {
+        let mut rows = ItemLists::new(alloc);
+        for u in 0..self.rooted.graph.n() {
+            if !self.rooted.is_child(self.v, u) {
+                rows.push(&[(self.v, u)])?;
+                continue;
+            }
+            push_middle(&mut rows, self.opens.list(self.rooted.place_of(u)), self.v)?;
+        }
+        Ok(rows)
+    }
+
+    /// Lists for each vertex `u` the entries that stand at this vertex for the edge to `u`. It fails only when out of
+    /// memory.
+    pub(crate) fn blocks(&self, alloc: Global) -> Result<ItemLists<u16>, AllocError>
+        ensures { IfOk result (λ rows. AreValues (block_at self.now.rooted.graph.now.n self.now.rooted.tree.now self.now.opens.now self.now.v) [] rows self.now.rooted.graph.now.n) }
+    {
+        let mut rows = ItemLists::new(alloc);
+        for u in 0..self.rooted.graph.n() {
+            if !self.rooted.is_child(self.v, u) {
+                rows.push(&[u])?;
+                continue;
+            }
+            let mut list = Vec::new(alloc);
+            push_block(
+                &mut list,
+                self.opens.list(self.rooted.place_of(u)),
+                self.v,
+                u,
+            )?;
+            rows.push(&list)?;
+        }
+        Ok(rows)
+    }
+
+    /// Returns the vertices to which the edges lead, in an order in which they may stand, by the sides of edges that return
+    /// and by what returns by each edge, which are `returned`. It fails only when out of memory.
+    pub(crate) fn order(
+        &self,
+        alloc: Global,
+        sides: &[(u32, bool)],
+        returned: &ItemLists<(u16, u16)>,
+    ) -> Result<Vec<u16>, AllocError>
+        requires returned { AreValues (returned_at self.now.rooted.graph.now.n self.now.rooted.tree.now self.now.opens.now self.now.v) [] returned.now self.now.rooted.graph.now.n }
+        requires ready { IsReady self.now.rooted.graph.now self.now.rooted.tree.now sides.now self.now.opens.now self.now.v }
+        ensures { IfOk result (λ us. IsOrderAt self.now.rooted.graph.now self.now.rooted.tree.now sides.now self.now.opens.now self.now.v us.items) }
+    {
+        let n = self.rooted.graph.n();
+        let mut free = Vec::new(alloc);
+        for u in 0..n {
+            free.push(self.is_item(u))?;
+        }
+        let choice = Choice {
+            depths: &self.rooted.tree.depths,
+            sides,
+            returns: returned,
+            n,
+        };
+        let us = choice.order_of(alloc, &mut free)?;
+        Ok(us)
+    }
+}

@@ -1,0 +1,187 @@
+//! The embedding phase (third search): it settles sides and puts the twins of oriented darts into rotation lists.
+ghost use Rattle.std.specs.Prelude.{◌≡◌, ◌<◌, length, IfOk};
+ghost use Rattle.map_lists.specs.Cuts.{AreCuts};
+
+use crate::dart_lists::Links;
+use crate::fixed_tables::{ByArc, ByDart, ByVertex, MANY_DARTS, MANY_STEPS, NONE, minus, plus};
+use crate::search_tables::Search;
+use crate::settled_sides::settle_leaving;
+use map_lists::Rotations;
+use std::alloc::AllocError;
+
+/// Where the twins of return edges stand: next to the dart along which the search came back by them, on its left or
+/// right. Also the rotation lists that are being made.
+#[derive(Drop)]
+pub struct Places {
+    // for each vertex on the way to the search the first return edge whose twin is left of the dart by which the way
+    // leaves it
+    left: ByVertex,
+    // for each such vertex the first one whose twin is right of that dart
+    right: ByVertex,
+    // for each return edge the next one there
+    next: ByArc,
+    // the entries of all lists, one list after another
+    entries: ByDart,
+    // how many there are
+    count: u32,
+    // for each vertex the index of the next entry of its list
+    place: ByVertex,
+}
+
+impl Places {
+    /// Returns tables of no lists.
+    #[inline(always)]
+    pub fn new() -> Places {
+        Places {
+            left: ByVertex::new(),
+            right: ByVertex::new(),
+            next: ByArc::new(),
+            entries: ByDart::new(),
+            count: 0,
+            place: ByVertex::new(),
+        }
+    }
+
+    // Puts the twin of the return edge `dart`, which leads to `head`, on the left or right of the tree dart there.
+    #[inline(always)]
+    fn place_twin(&mut self, search: &Search, head: u32, dart: u32) {
+        if search.side.get(dart) == 0 {
+            self.next.set(dart, self.right.get(head));
+            self.right.set(head, dart);
+        } else {
+            self.next.set(dart, self.left.get(head));
+            self.left.set(head, dart);
+        }
+    }
+
+    // Writes `vertex` as the list entry at index `place`. Returns the next index.
+    #[inline(always)]
+    fn put(&mut self, place: u32, vertex: u32) -> u32 {
+        self.entries.set(place, vertex);
+        plus(place, 1)
+    }
+
+    // Writes, from index `place` on, the vertices from which the return edges chained from `dart` on come. Returns
+    // the next index.
+    #[inline(always)]
+    fn put_tails(&mut self, links: &Links, place: u32, dart: u32) -> u32 {
+        let mut place = place;
+        let mut dart = dart;
+        for _ in 0..MANY_DARTS {
+            if dart == NONE {
+                break;
+            }
+            place = self.put(place, links.tail(dart));
+            dart = self.next.get(dart);
+        }
+        place
+    }
+
+    // Goes from `vertex` to its child `head`, whose first entry is `vertex`. Returns the index of the next entry
+    // there.
+    #[inline(always)]
+    fn go_down(&mut self, vertex: u32, head: u32) -> u32 {
+        self.left.set(vertex, NONE);
+        self.right.set(vertex, NONE);
+        let start = self.place.get(head);
+        self.put(start, vertex)
+    }
+
+    // Goes back from `vertex` to its parent `above`, and writes it there between the twins on its left and right.
+    // Returns the index of the next entry there.
+    #[inline(always)]
+    fn go_up(&mut self, links: &Links, vertex: u32, above: u32) -> u32 {
+        let left = self.left.get(above);
+        let right = self.right.get(above);
+        let start = self.place.get(above);
+        let place = self.put_tails(links, start, left);
+        let place = self.put(place, vertex);
+        self.put_tails(links, place, right)
+    }
+
+    // Writes the lists of all vertices in the tree of `root`, and settles the sides of their darts.
+    fn list_from(&mut self, links: &Links, search: &mut Search, root: u32) {
+        let mut vertex = root;
+        let mut place = self.place.get(root);
+        let mut dart = settle_leaving(search, root);
+        for _ in 0..MANY_STEPS {
+            if dart == NONE {
+                let parent = search.parent.get(vertex);
+                if parent == NONE {
+                    break;
+                }
+                let above = links.tail(parent);
+                self.place.set(vertex, place);
+                place = self.go_up(links, vertex, above);
+                vertex = above;
+                dart = search.chain.get(parent);
+                continue;
+            }
+            let head = links.head.get(dart);
+            if search.parent.get(head) == dart {
+                self.place.set(vertex, place);
+                place = self.go_down(vertex, head);
+                vertex = head;
+                dart = settle_leaving(search, head);
+            } else {
+                place = self.put(place, head);
+                self.place_twin(search, head, dart);
+                dart = search.chain.get(dart);
+            }
+        }
+        self.place.set(root, place);
+    }
+
+    /// Settles the sides of all edges, and makes all lists. Each list has as many places as its vertex has darts.
+    pub fn list_all(&mut self, links: &Links, search: &mut Search) {
+        self.count = 0;
+        for vertex in 0..links.vertices {
+            self.place.set(vertex, self.count);
+            self.count = plus(self.count, links.degree.get(vertex));
+        }
+        for place in 0..search.root_count {
+            let root = search.roots.get(place);
+            self.list_from(links, search, root);
+        }
+    }
+
+    /// Returns the lists that were made, of `n` vertices, in the memory of `spent`. It fails only when out of memory.
+    pub fn lists(&self, spent: Rotations, n: u16) -> Result<Rotations, AllocError>
+        requires { n < 4096 }
+        ensures { IfOk result (λ lists. length lists ≡ n) }
+    {
+        let mut lists = spent;
+        lists.clear();
+        if n == 0 {
+            return Ok(lists);
+        }
+        let (mut entries, spent_ends) = lists.into_parts();
+        entries.extend_from_slice(self.entries.first(self.count))?;
+        let ends = ends_of(&self.place, spent_ends, n, entries.len())?;
+        Ok(Rotations::from_parts(entries, ends))
+    }
+}
+
+/// Returns the end indices of `n` lists of `total` entries, as the table `told` has them, in the memory of `spent`.
+/// The last one is `total`. An end out of order is moved to the one before it. It fails only when out of memory.
+pub fn ends_of(
+    told: &ByVertex,
+    spent: Vec<usize>,
+    n: u16,
+    total: usize,
+) -> Result<Vec<usize>, AllocError>
+    ensures cuts { IfOk result (λ ends. AreCuts 0 ends.items total) }
+    ensures count { 0 < n → IfOk result (λ ends. length ends.items ≡ n) }
+{
+    let mut ends = spent;
+    ends.clear();
+    ends.reserve(n as usize + 1)?;
+    let mut end = 0usize;
+    for vertex in 1..n {
+        let place = told.get(minus(u32::from(vertex), 1)) as usize;
+        end = place.max(end).min(total);
+        ends.push_reserved(end);
+    }
+    ends.push_reserved(total);
+    Ok(ends)
+}

@@ -1,0 +1,130 @@
+//! The vertex lines of a figure, or the lines of branches and paths of a witness, read one by one.
+ghost use Rattle.std.specs.Prelude.{◌≡◌, ◌+◌, ◌<◌, false, length, IfOk, IfSome, nat_lt};
+ghost use Rattle.std.specs.Bool.{OnTrue};
+ghost use Rattle.figure_text.specs.Words.{words_of};
+ghost use Rattle.figure_text.specs.Drafts.{with_row};
+ghost use Rattle.figure_text.specs.Reading.{Judges, IsRow, RowInRange};
+ghost use Rattle.line_inputs.specs.Heads.{head_kind};
+ghost use Rattle.line_inputs.specs.Steps.{no_lines};
+
+use crate::figure_lines::boxed::Held;
+use crate::figure_lines::first_line::Head;
+use figure_text::{Draft, Judged, VertexLine, Word};
+use map_lists::ItemLists;
+use pg_plane::{Ints, Points};
+use std::alloc::{AllocError, Global};
+
+/// A figure of which some vertex lines, or some lines of branches and paths, have been read.
+#[derive(Drop)]
+pub struct Rows {
+    /// The content of the first line.
+    pub head: Head,
+    /// How many such lines the figure has.
+    pub n: usize,
+    /// The content of those lines.
+    pub draft: Draft,
+}
+
+impl Rows {
+    /// Makes a figure of which the first line alone has come.
+    pub fn new(alloc: Global, head: Head, n: usize) -> Rows
+        ensures { result ≡ record { head = head; n = n; draft = no_lines } }
+    {
+        Rows {
+            head,
+            n,
+            draft: Draft {
+                lists: ItemLists::new(alloc),
+                points: Points::new(alloc),
+                y: Ints::new(alloc),
+                x1: Ints::new(alloc),
+                x2: Ints::new(alloc),
+                y2: Ints::new(alloc),
+            },
+        }
+    }
+
+    // Judges `line` as the next one due, and keeps its content if it is good. Returns None when out of memory.
+    // `found` is room for its words.
+    fn row(&mut self, found: &mut Vec<Word>, line: &[u8]) -> Option<Judged>
+        requires { length self.old.draft.lists < self.old.n }
+        ensures judged { IfSome result (λ judged. Judges (IsRow (head_kind self.old.head) (length self.old.draft.lists + 1) (words_of line.now))
+            (RowInRange (head_kind self.old.head) (words_of line.now)) judged
+            × (judged ≡ Judged.Good → self.new.draft ≡ with_row (head_kind self.old.head) self.old.draft (words_of line.now))) }
+        ensures same { (self.new.head ≡ self.old.head) × (self.new.n ≡ self.old.n) }
+    {
+        let kind = self.head.kind();
+        let place = self.draft.lists.len() + 1;
+        let row = VertexLine { kind, place, line };
+        row.judge(found, &mut self.draft)
+    }
+
+    // Says whether at least two more lines are due.
+    fn are_two_due(&self) -> bool
+        requires { length self.now.draft.lists < self.now.n }
+        ensures { OnTrue result (length self.now.draft.lists + 1 < self.now.n) }
+    {
+        let n = self.n;
+        self.draft.lists.len() + 1 < n
+    }
+
+    // Keeps the content of `line`, the next one due, if a quick test finds it good, and says whether it does. It
+    // fails only when out of memory.
+    #[inline(always)]
+    fn quick(&mut self, found: &mut Vec<Word>, line: &[u8]) -> Result<bool, AllocError>
+        requires { length self.old.draft.lists < self.old.n }
+        ensures good { IfOk result (λ good. OnTrue good (IsRow (head_kind self.old.head) (length self.old.draft.lists + 1) (words_of line.now)
+            × RowInRange (head_kind self.old.head) (words_of line.now)
+            × (self.new.draft ≡ with_row (head_kind self.old.head) self.old.draft (words_of line.now)))) }
+        ensures bad { IfOk result (λ good. good ≡ false → self.new.draft ≡ self.old.draft) }
+        ensures same { (self.new.head ≡ self.old.head) × (self.new.n ≡ self.old.n) }
+    {
+        let kind = self.head.kind();
+        let place = self.draft.lists.len() + 1;
+        let row = VertexLine { kind, place, line };
+        row.quick(found, &mut self.draft)
+    }
+}
+
+impl Held<Rows> {
+    /// Judges `line` as the next one due, and keeps its content if it is good. Returns None when out of memory.
+    /// `found` is room for its words.
+    pub fn row(&mut self, found: &mut Vec<Word>, line: &[u8]) -> Option<Judged>
+        requires { length self.old.draft.lists < self.old.n }
+        ensures judged { IfSome result (λ judged. Judges (IsRow (head_kind self.old.head) (length self.old.draft.lists + 1) (words_of line.now))
+            (RowInRange (head_kind self.old.head) (words_of line.now)) judged
+            × (judged ≡ Judged.Good → self.new.draft ≡ with_row (head_kind self.old.head) self.old.draft (words_of line.now))) }
+        ensures same { (self.new.head ≡ self.old.head) × (self.new.n ≡ self.old.n) }
+    {
+        self.inside.row(found, line)
+    }
+
+    /// Keeps the content of `line`, the next one due, if a quick test finds it good, and says whether it does. It
+    /// fails only when out of memory.
+    #[inline(always)]
+    pub fn quick(&mut self, found: &mut Vec<Word>, line: &[u8]) -> Result<bool, AllocError>
+        requires { length self.old.draft.lists < self.old.n }
+        ensures good { IfOk result (λ good. OnTrue good (IsRow (head_kind self.old.head) (length self.old.draft.lists + 1) (words_of line.now)
+            × RowInRange (head_kind self.old.head) (words_of line.now)
+            × (self.new.draft ≡ with_row (head_kind self.old.head) self.old.draft (words_of line.now)))) }
+        ensures bad { IfOk result (λ good. good ≡ false → self.new.draft ≡ self.old.draft) }
+        ensures same { (self.new.head ≡ self.old.head) × (self.new.n ≡ self.old.n) }
+    {
+        self.inside.quick(found, line)
+    }
+
+    /// Says whether at least two more lines are due.
+    pub fn are_two_due(&self) -> bool
+        requires { length self.now.draft.lists < self.now.n }
+        ensures { OnTrue result (length self.now.draft.lists + 1 < self.now.n) }
+    {
+        self.inside.are_two_due()
+    }
+
+    /// Says whether at least one more line is due.
+    pub fn is_due(&self) -> bool
+        ensures { result ≡ nat_lt (length self.now.draft.lists) self.now.n }
+    {
+        self.inside.draft.lists.len() < self.inside.n
+    }
+}

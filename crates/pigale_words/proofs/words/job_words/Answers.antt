@@ -1,5 +1,0 @@
-use Rattle.pigale_words.proofs.JobWords.{job_words-law}
-use Rattle.pigale_words.proofs.words.job_words.Goals as goal
-
-pub returns : goal.returns
-returns c = job_words-law

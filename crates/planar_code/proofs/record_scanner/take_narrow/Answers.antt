@@ -1,0 +1,25 @@
+-- The lists are whole, or go on.
+use Rattle.std.proofs.Common.{ℕ, take, subst, arith}
+use Rattle.planar_code.specs.declared.record_scanner.Phase.TheVariants.{Narrow}
+use Rattle.planar_code.specs.declared.record_scanner.Scanned.TheVariants.{More}
+use Rattle.planar_code.specs.Open.{Gathers}
+use Rattle.planar_code.proofs.AdvanceLemmas.{narrow-more, narrow-ends, Advances-same}
+use Rattle.planar_code.proofs.record_scanner.take_narrow.Goals as goal
+
+pub returns-then-lend_whole : goal.returns-then-lend_whole
+returns-then-lend_whole c =
+    let taken = c.gather_narrow-taken in
+    let whole = c.if-lend_whole.ensures.whole in
+    let P : ℕ → Type 0 = λ n. Gathers 255 n (take taken.result c.args.piece.now) c.args.gathered.now taken.new.gathered in
+    narrow-ends c.args.count c.args.gathered.now taken.new.gathered c.args.lent.now c.args.piece.now taken.result taken.ensures.some taken.ensures.within c.lend_whole.new.gathered c.lend_whole.new.lent c.requires.is
+    (subst P c.from.ensures taken.ensures.gathers) (omega arith) whole.1 whole.2 whole.3
+
+pub returns-else-lend_whole : goal.returns-else-lend_whole
+returns-else-lend_whole c =
+    let taken = c.gather_narrow-taken in
+    let not = c.if-lend_whole.ensures.not in
+    let differs = not.0 in
+    let P : ℕ → Type 0 = λ n. Gathers 255 n (take taken.result c.args.piece.now) c.args.gathered.now taken.new.gathered in
+    Advances-same (Narrow c.args.count) (Narrow c.args.count) c.args.gathered.now c.args.lent.now c.args.piece.now (More taken.result) taken.new.gathered c.lend_whole.new.gathered c.lend_whole.new.lent not.1 not.2
+    (narrow-more c.args.count c.args.gathered.now taken.new.gathered c.args.lent.now c.args.piece.now taken.result taken.ensures.some taken.ensures.within c.requires.is
+    (subst P c.from.ensures taken.ensures.gathers) (λ all. differs (omega arith)))

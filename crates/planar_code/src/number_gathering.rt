@@ -1,0 +1,163 @@
+//! The numbers of a planar_code record, one byte or two bytes each, gathered into lists up to the record's end.
+ghost use Rattle.std.specs.Prelude.{◌≡◌, ◌+◌, ◌-◌, ◌*◌, ◌<◌, ◌≤◌, List, ℕ, [], length, slice_index, take, flat_map, ◌≢◌};
+ghost use Rattle.std.specs.Bool.{OnTrue, OnFalse};
+ghost use Rattle.planar_code.specs.Reading.{two_bytes};
+ghost use Rattle.planar_code.specs.Open.{Gathers};
+ghost use Rattle.planar_code.specs.Scan.{CanGather};
+ghost use Rattle.planar_code.specs.declared.record_scanner.Phase.TheVariants.{Narrow, Wide};
+
+use super::open_lists::OpenLists;
+use map_lists::Rotations;
+
+/// Returns the number of two bytes, the greater first.
+pub fn number_of(high: u8, low: u8) -> u16
+    ensures { result ≡ 256 * high + low }
+{
+    u16::from(high) * 256 + u16::from(low)
+}
+
+/// Appends numbers of one byte each to `gathered`, up to the one that closes list number `count`. Returns how many
+/// bytes of `piece` they were.
+///
+/// The loop has the lists as a value of its own, so that their ends stay in registers.
+pub fn gather_narrow(gathered: &mut OpenLists, count: usize, piece: &[u8]) -> usize
+    requires { CanGather 0 (Narrow count) count gathered.old piece.now }
+    ensures some { 0 < result }
+    ensures within { result ≤ length piece.now }
+    ensures gathers { Gathers 255 count (take result piece.now) gathered.old gathered.new }
+{
+    let mut lists = gathered.take_out();
+    let taken = narrow_numbers(&mut lists, count, piece);
+    *gathered = lists;
+    taken
+}
+
+// Returns the index after the last 0 of `piece`, or 0 where there is none.
+fn behind_last_zero(piece: &[u8]) -> usize
+    ensures within { result ≤ length piece.now }
+    ensures zero { 0 < result → slice_index piece.now (result - 1) ≡ 0 }
+    ensures none { (i : ℕ) → result ≤ i → i < length piece.now → 0 < slice_index piece.now i }
+{
+    let mut end = piece.len();
+    while 0 < end {
+        if piece[end - 1] == 0 {
+            return end;
+        }
+        end -= 1;
+    }
+    0
+}
+
+// Does the loops of `gather_narrow`. While a 0 is still to come no end of the piece is tested, and after the last 0
+// no list is closed.
+#[inline(always)]
+fn narrow_numbers(gathered: &mut OpenLists, count: usize, piece: &[u8]) -> usize
+    requires { CanGather 0 (Narrow count) count gathered.old piece.now }
+    ensures some { 0 < result }
+    ensures within { result ≤ length piece.now }
+    ensures gathers { Gathers 255 count (take result piece.now) gathered.old gathered.new }
+{
+    let end = behind_last_zero(piece);
+    let mut k = 0;
+    'lists: while k < end {
+        'list: while piece[k] != 0 {
+            gathered.collect(u16::from(piece[k]));
+            k += 1;
+        }
+        gathered.collect(0);
+        k += 1;
+        if gathered.closed() == count {
+            return k;
+        }
+    }
+    for i in k..piece.len() {
+        gathered.collect(u16::from(piece[i]));
+    }
+    piece.len()
+}
+
+/// Appends numbers of two bytes each to `gathered`, up to the one that closes list number `count`. Returns how many
+/// bytes of `piece` they were. A last byte alone is not among them.
+pub fn gather_wide(gathered: &mut OpenLists, count: usize, piece: &[u8]) -> usize
+    requires { CanGather 1 (Wide count) count gathered.old piece.now }
+    ensures some { 0 < result }
+    ensures within { result ≤ length piece.now }
+    ensures gathers { (numbers : List ℕ) × (flat_map two_bytes numbers ≡ take result piece.now)
+        × Gathers 65535 count numbers gathered.old gathered.new }
+{
+    let mut lists = gathered.take_out();
+    let taken = wide_numbers(&mut lists, count, piece);
+    *gathered = lists;
+    taken
+}
+
+// Returns the number whose two bytes are pair number `pair` of `piece`.
+fn pair_at(piece: &[u8], pair: usize) -> u16
+    requires { 2 * pair + 1 < length piece.now }
+    ensures { result ≡ 256 * slice_index piece.now (2 * pair) + slice_index piece.now (2 * pair + 1) }
+{
+    number_of(piece[2 * pair], piece[2 * pair + 1])
+}
+
+// Returns the number of pairs of bytes up to the last number 0, or 0 where there is none.
+fn pairs_to_last_zero(piece: &[u8]) -> usize
+    ensures within { 2 * result ≤ length piece.now }
+    ensures zero { 0 < result → 256 * slice_index piece.now (2 * (result - 1)) + slice_index piece.now (2 * (result - 1) + 1) ≡ 0 }
+    ensures none { (i : ℕ) → result ≤ i → 2 * i + 1 < length piece.now → 0 < 256 * slice_index piece.now (2 * i) + slice_index piece.now (2 * i + 1) }
+{
+    let mut pairs = piece.len() / 2;
+    while 0 < pairs {
+        if pair_at(piece, pairs - 1) == 0 {
+            return pairs;
+        }
+        pairs -= 1;
+    }
+    0
+}
+
+// Does the loops of `gather_wide`, like those of `narrow_numbers`.
+#[inline(always)]
+fn wide_numbers(gathered: &mut OpenLists, count: usize, piece: &[u8]) -> usize
+    requires { CanGather 1 (Wide count) count gathered.old piece.now }
+    ensures some { 0 < result }
+    ensures within { result ≤ length piece.now }
+    ensures gathers { (numbers : List ℕ) × (flat_map two_bytes numbers ≡ take result piece.now)
+        × Gathers 65535 count numbers gathered.old gathered.new }
+{
+    let pairs = piece.len() / 2;
+    let end = pairs_to_last_zero(piece);
+    let mut k = 0;
+    'lists: while k < end {
+        let mut number = pair_at(piece, k);
+        'list: while number != 0 {
+            gathered.collect(number);
+            k += 1;
+            number = pair_at(piece, k);
+        }
+        gathered.collect(0);
+        k += 1;
+        if gathered.closed() == count {
+            return 2 * k;
+        }
+    }
+    for i in k..pairs {
+        gathered.collect(pair_at(piece, i));
+    }
+    2 * pairs
+}
+
+/// Exchanges the lists `gathered` with `lent` if `count` of them are closed, and says whether they are.
+pub fn lend_whole(gathered: &mut OpenLists, lent: &mut Rotations, count: usize) -> bool
+    requires whole { length gathered.old.lists ≡ count → gathered.old.last ≡ [] }
+    requires few { count < 4096 }
+    ensures whole { OnTrue result ((length gathered.old.lists ≡ count) × (lent.new ≡ gathered.old.lists)
+        × (gathered.new.lists ≡ []) × (gathered.new.last ≡ [])) }
+    ensures not { OnFalse result ((length gathered.old.lists ≢ count) × (gathered.new ≡ gathered.old) × (lent.new ≡ lent.old)) }
+{
+    if gathered.closed() == count {
+        gathered.exchange(lent);
+        true
+    } else {
+        false
+    }
+}

@@ -1,7 +1,0 @@
-use Rattle.std.proofs.Common.{rules}
-use Rattle.svg_out.specs.Svg.{closing}
-use Rattle.svg_out.proofs.tags.push_closing.Goals as goal
-
-pub returns : goal.returns
-unfolding closing
-returns c = search rules
