@@ -53,7 +53,7 @@ impl Contour {
         }
     }
 
-    /// Moves the current position back by one vertex.
+    /// Moves the current position back by one vertex, before which there has to be one. It fails only when out of memory.
     pub(crate) fn step_back(&mut self) -> Result<(), AllocError>
         requires { 0 < length self.old.left.items }
         ensures same { IfOk result (λ _. vertices_of self.new ≡ vertices_of self.old) }

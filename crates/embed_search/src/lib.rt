@@ -7,9 +7,9 @@
 
 mod conflict_marks;
 mod kernel;
-mod search_tables;
+mod search_calls;
 mod shrink;
 mod small_graphs;
 mod witness_tracing;
 
-pub use search_tables::{Tables, find_witness, planar_lists};
+pub use search_calls::{Tables, find_witness, planar_lists};

@@ -33,7 +33,7 @@ struct Branches {
 }
 
 impl Branches {
-    // Returns a list of no branch vertices.
+    // Returns an empty list of branch vertices.
     #[inline(always)]
     fn new() -> Branches {
         Branches {

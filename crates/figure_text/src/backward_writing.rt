@@ -101,7 +101,7 @@ pub(crate) fn write_first(
 }
 
 // Writes the signed numbers of `list`, each after a space, before index `end` of `bytes`, and returns the index at
-// which they start.
+// which they start. There have to be twelve bytes for each before `end`.
 fn write_integers(texts: &Texts<'_>, list: &[i32], bytes: &mut [u8], end: usize) -> usize
     requires room { 12 * length list.now ≤ end }
     requires end { end ≤ length bytes.old }

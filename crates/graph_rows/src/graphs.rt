@@ -30,7 +30,7 @@ fn put_graph(graph: Result<Graph, AllocError>, out: &mut Reply) {
     }
 }
 
-/// Returns the edge between the two vertices that a text names, the lesser first, if it is one of a graph.
+/// Returns the edge of `graph` between the two vertices that `text` names, the lesser first. None where it is no edge.
 pub fn edge_of(graph: &Graph, text: &str) -> Option<Ends>
     ensures { IfSome result (λ e. has_edge graph.now e.a.0 e.b.0 ≡ true) }
 {

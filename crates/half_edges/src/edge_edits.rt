@@ -44,9 +44,9 @@ impl HalfMap {
         }
     }
 
-    /// Adds an edge between two corners at vertices that are distinct and not adjacent, and returns the dart from the
-    /// first to the second. Each new entry stands directly after the named one. `spare`, which is at least 1, falls
-    /// by one. All other darts keep their ids.
+    /// Adds an edge between the corners `at_u` and `at_v`, at vertices that are distinct and not adjacent. Returns the
+    /// dart from the first to the second. The new entry stands directly after the one that its corner names. The map
+    /// must have room for an edge (`spare`), and has room for one fewer then. All other darts keep their ids.
     #[inline(always)]
     pub fn add_edge(&mut self, at_u: Corner, at_v: Corner) -> DartId
         requires spare { 1 ≤ self.old.spare }

@@ -344,7 +344,8 @@ fn leads_to(links: &Links, interval: Interval, vertex: u32) -> bool {
     !interval.is_empty() && links.head.get(interval.high) == vertex
 }
 
-// Runs the testing phase over the tree at `root`. Returns false where a conflict shows.
+// Runs the testing phase over the depth-first tree with root `root`, behind the orientation phase. It changes the tables of
+// `search`, and returns false where a conflict shows, which they hold then.
 fn agrees_from(links: &Links, search: &mut Search, root: u32) -> bool {
     search.top = 0;
     let mut vertex = root;

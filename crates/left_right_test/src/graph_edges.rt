@@ -1,7 +1,7 @@
 //! The edges of a graph by number, read out of the bits of its graph6 line and chained to darts.
+use crate::bitwise_orientation::{FEW, Few};
 use crate::dart_lists::Links;
 use crate::fixed_tables::{ByEdge, minus, plus, twice};
-use crate::small_graphs::{FEW, Few};
 use graph6_text::Graph;
 
 /// The edges of a graph by number, each with its two ends.

@@ -5,6 +5,7 @@
 //! the caller checks them.
 #![tactic(auto)]
 
+mod bitwise_orientation;
 mod conflict_pairs;
 mod conflict_proof;
 mod conflict_ring;
@@ -17,7 +18,6 @@ mod planarity_test;
 mod search_tables;
 mod settled_sides;
 mod side_ties;
-mod small_graphs;
 
 pub use conflict_ring::{OddRing, branch_of, near_edge};
 pub use dart_lists::Links;

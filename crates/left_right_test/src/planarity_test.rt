@@ -3,6 +3,7 @@
 ghost use Rattle.std.specs.Prelude.{◌≡◌, ◌<◌, length, IfOk, IsTrue};
 ghost use Rattle.left_right_check.specs.Ties.{HasNoMap};
 
+use crate::bitwise_orientation::Few;
 use crate::conflict_pairs::agrees;
 use crate::conflict_proof::Forest;
 use crate::conflict_ring::OddRing;
@@ -12,7 +13,6 @@ use crate::fixed_tables::NONE;
 use crate::graph_edges::Edges;
 use crate::orientation::orient_all;
 use crate::search_tables::Search;
-use crate::small_graphs::Few;
 use graph6_text::Graph;
 use left_right_check::is_k5;
 use map_lists::Rotations;

@@ -25,7 +25,7 @@ fn next_number(number: u32) -> u32
     ((number as u64 * 1103515245 + 12345) % 4294967296) as u32
 }
 
-// Returns the index of the face, below `faces`, that `number` chooses.
+// Returns the index, below the number `faces` of faces, that `number` chooses: its upper half modulo `faces`.
 fn chosen(number: u32, faces: usize) -> usize
     requires { 0 < faces }
     ensures is { result ≡ chosen_of number faces }

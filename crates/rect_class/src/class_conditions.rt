@@ -7,7 +7,7 @@ ghost use Rattle.rect_class.specs.RectMaps.{HasTriangles, NoneSeparating, IsRect
 ghost use Rattle.rect_class.specs.Refusals.{BreaksRect};
 
 use crate::large_faces::first_large;
-use crate::triangle_corners::none_separates;
+use crate::separation_by_corners::none_separates;
 use crate::upper_neighbours::{Upper, upper_rows};
 use conn_parts::biconnected_maps::biconnected_map;
 use half_edges::{HalfMap, Rotations};

@@ -6,7 +6,7 @@ ghost use Rattle.rect_check.specs.Loops.{IsFrame};
 ghost use Rattle.rect_class.specs.RectMaps.{IsRectMap};
 
 use crate::cyclic_lists::Ring;
-use crate::triangle_corners::{are_closed, has_diagonal};
+use crate::separation_by_corners::{are_closed, has_diagonal};
 use conn_parts::plane_count;
 use euler_faces::Counter;
 use half_edges::{Rotations, VertexId};

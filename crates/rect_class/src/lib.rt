@@ -8,7 +8,7 @@ mod cyclic_lists;
 mod frame_finder;
 mod large_faces;
 mod separating_triangles;
-mod triangle_corners;
+mod separation_by_corners;
 mod upper_neighbours;
 
 pub use class_conditions::rect_map;

@@ -1,9 +1,9 @@
 //! A law: the figures of the job `schnyder` are by the regions of a Schnyder wood.
 ghost use Rattle.schnyder_grid.specs.FigureRegions.{FiguresByRegions};
 
-/// Each figure of the job `schnyder` is by the regions of a wood: in some completion of the map, with some wood, the
-/// coordinate of a colour of each inner vertex is by how many vertices its region has more than its path of the
-/// colour before.
+/// Law: for each figure of the job `schnyder` there are a completion of its map to a triangulation and a Schnyder wood
+/// of it with these coordinates. That of a colour, at an inner vertex, is the number of vertices in its region of this
+/// colour less the number of vertices on its path of the colour before.
 pub fn figures_by_regions()
     ensures { FiguresByRegions }
 {

@@ -4,8 +4,9 @@
 
 ghost use Rattle.wood_runs.specs.Rules.{CornersOrdered};
 
-/// At each corner of a vertex the edges follow the order of a Schnyder wood. Counterclockwise it has its parent of
-/// colour one, children of colour three, parent two, children one, parent three, children two.
+/// Law: in the Schnyder wood of a construction sequence the edges come round each vertex counterclockwise thus. The
+/// parent of colour one, the children of colour three, the parent of colour two, the children of colour one, the
+/// parent of colour three, the children of colour two. It is said of each two consecutive edges.
 pub fn corners_ordered()
     ensures { CornersOrdered }
 {}

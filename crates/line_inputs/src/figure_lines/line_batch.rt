@@ -125,8 +125,9 @@ fn rows_run(
     Ok(run_to(first, rows, bytes, lines))
 }
 
-/// Reads vertex lines at the front of `part`, where a figure has begun and the line due has no bytes yet. It goes on
-/// while lines are whole, pass the quick test, and are not the last one due. It fails only when out of memory.
+/// Reads as many whole vertex lines at the front of `part` as pass the quick test, without the last line of the figure,
+/// and returns how far it came. It reads none unless `before` is a begun figure and `pending`, the bytes of the line
+/// due, is empty. `found` is room for words, which it overwrites. It fails only when out of memory.
 pub fn first_lines(
     found: &mut Vec<Word>,
     pending: &[u8],

@@ -4,7 +4,7 @@ use Rattle.std.proofs.lemmas.List.Elements.{Contains-get_or}
 use Rattle.map_theory.specs.Maps.{list_of, entry_after}
 use Rattle.rect_class.specs.Corners.{IsSide, IsClosedOver, ComesBefore}
 use Rattle.rect_class.proofs.CornerLemmas.{IsClosedOver-sides}
-use Rattle.rect_class.proofs.triangle_corners.Star.is_closed_over.Goals as goal
+use Rattle.rect_class.proofs.separation_by_corners.Star.is_closed_over.Goals as goal
 
 pub are_sides-requires : goal.are_sides-requires
 are_sides-requires c = λ j d l.

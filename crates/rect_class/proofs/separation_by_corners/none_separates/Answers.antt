@@ -7,7 +7,7 @@ use Rattle.rect_class.specs.RectMaps.{NoneSeparating}
 use Rattle.rect_class.specs.Corners.{AreClosed}
 use Rattle.rect_class.proofs.InnerLemmas.{vertices_of}
 use Rattle.rect_class.proofs.CornerLemmas.{uncrossed_frame, NoneSeparating-closed}
-use Rattle.rect_class.proofs.triangle_corners.none_separates.Goals as goal
+use Rattle.rect_class.proofs.separation_by_corners.none_separates.Goals as goal
 
 pub has_diagonal-requires-clause-top : goal.has_diagonal-requires-clause-top
 has_diagonal-requires-clause-top c =

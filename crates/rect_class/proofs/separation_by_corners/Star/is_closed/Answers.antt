@@ -1,7 +1,7 @@
 use Rattle.std.proofs.Common.{get_or, below_more}
 use Rattle.map_theory.specs.Maps.{list_of}
 use Rattle.rect_class.specs.Corners.{IsClosedOver, ComesBefore}
-use Rattle.rect_class.proofs.triangle_corners.Star.is_closed.Goals as goal
+use Rattle.rect_class.proofs.separation_by_corners.Star.is_closed.Goals as goal
 
 pub loop-k-preserved : goal.loop-k-preserved
 loop-k-preserved c =

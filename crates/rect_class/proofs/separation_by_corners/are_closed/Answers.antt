@@ -4,7 +4,7 @@ use Rattle.std.proofs.lemmas.List.Elements.{Contains-get_or}
 use Rattle.map_theory.specs.Maps.{list_of}
 use Rattle.rect_class.specs.Corners.{IsClosedOver, ComesBefore}
 use Rattle.rect_class.proofs.CornerLemmas.{AreClosed-before}
-use Rattle.rect_class.proofs.triangle_corners.are_closed.Goals as goal
+use Rattle.rect_class.proofs.separation_by_corners.are_closed.Goals as goal
 
 pub stamp_all-requires : goal.stamp_all-requires
 stamp_all-requires c = λ j d l.
