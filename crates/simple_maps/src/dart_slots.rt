@@ -9,8 +9,8 @@ ghost use Rattle.simple_maps.specs.Tables.{AreSlots};
 ghost use Rattle.simple_maps.specs.Pass.{AreInLine};
 
 use crate::MapFault;
+use crate::dart_cells::{FEW, pairs_twins};
 use crate::exact_search::searched_twins;
-use crate::pairs::{FEW, pairs_twins};
 use crate::twin_pass::{DartSlot, NO_PLACE, finds_twins};
 use map_lists::Rotations;
 use std::alloc::{AllocError, Global};
@@ -32,7 +32,7 @@ fn has_long_list(lists: &Rotations) -> bool {
     false
 }
 
-// Makes room for so many entries.
+// Makes `threads` at least `count` entries long, and leaves those that it has. It fails only when out of memory.
 fn grow(threads: &mut Vec<u32>, count: usize) -> Result<(), AllocError>
     ensures { OnOk result (count ≤ length threads.new.items) }
 {
@@ -42,8 +42,8 @@ fn grow(threads: &mut Vec<u32>, count: usize) -> Result<(), AllocError>
     Ok(())
 }
 
-// Says whether lists are found to be a simple map by one pass over them, and then finds the tails and the twins of their
-// darts.
+// Says whether one pass finds `lists` to be a simple map, and then writes the `tails` and `twins` of their darts. It is the
+// pass by cells for few vertices, and that by threads for more. It fails only when out of memory.
 #[inline(always)]
 fn passes(
     lists: &Rotations,

@@ -1,6 +1,6 @@
 use Rattle.std.proofs.Common.{◌≡◌, length}
 use Rattle.simple_maps.proofs.PairLemmas.{HasPaired}
-use Rattle.simple_maps.proofs.pairs.pairs_twins.Given as goal
+use Rattle.simple_maps.proofs.dart_cells.pairs_twins.Given as goal
 
 abbrev pub invariant-loop-v : goal.invariant-loop-v
 invariant-loop-v l = record {

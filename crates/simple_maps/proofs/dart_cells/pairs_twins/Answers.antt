@@ -3,7 +3,7 @@ use Rattle.std.proofs.lemmas.Bool.{OnTrue_at, OnTrue_from}
 use Rattle.map_lists.proofs.CutLemmas.{AreCuts-at, IsStored, IsStored-cuts, IsStored-cut, length-cut}
 use Rattle.simple_maps.specs.Tables.{AreSlots}
 use Rattle.simple_maps.proofs.PairLemmas.{AreSlots-paired}
-use Rattle.simple_maps.proofs.pairs.pairs_twins.Goals as goal
+use Rattle.simple_maps.proofs.dart_cells.pairs_twins.Goals as goal
 
 pub overflow_cast-list : goal.overflow_cast-list
 overflow_cast-list c =

@@ -1,6 +1,6 @@
 use Rattle.std.proofs.Common.{◌≡◌, length}
 use Rattle.simple_maps.specs.Pass.{AreTailsPut, ArePairedTo}
-use Rattle.simple_maps.proofs.pairs.PairedList.pair.Given as goal
+use Rattle.simple_maps.proofs.dart_cells.PairedList.pair.Given as goal
 
 abbrev pub invariant-loop-d : goal.invariant-loop-d
 invariant-loop-d l = record {

@@ -1,6 +1,6 @@
 use Rattle.std.proofs.Common.{get_or, set, ap, sym, ◌∙◌, arith, length-set}
 use Rattle.simple_maps.proofs.PairLemmas.{AreTailsPut-more, ArePairedTo-back}
-use Rattle.simple_maps.proofs.pairs.PairedList.pair.Goals as goal
+use Rattle.simple_maps.proofs.dart_cells.PairedList.pair.Goals as goal
 
 pub loop-d-preserved : goal.loop-d-preserved
 loop-d-preserved c =

@@ -1,4 +1,5 @@
-//! One pass over lists of few vertices, which finds the twins of their darts by a table with a cell for each two vertices.
+//! The twins of the darts of at most 64 vertices, found in one pass over the lists by a table of cells, one for each two
+//! vertices.
 //!
 //! A dart to a greater vertex leaves its place in the cell of its ends, where the dart back finds it. What a cell says is
 //! tried before it is taken, so cells may hold anything before. Where it fails the pass gives up, as that by threads does.
@@ -11,10 +12,10 @@ ghost use Rattle.simple_maps.specs.Pass.{AreTailsPut, ArePairedTo};
 use crate::twin_pass::{NO_PLACE, are_paired};
 use map_lists::Rotations;
 
-/// The greatest number of vertices, and how many cells each has.
+/// The greatest number of vertices that the table serves, and how many cells it has for each.
 pub(crate) const FEW: usize = 64;
 
-// Returns the cell of a lesser vertex and a greater one.
+// Returns the index of the cell of vertex `v` and a greater one, `u`.
 #[inline(always)]
 fn cell_of(v: u16, u: u16) -> usize
     requires { v < 64 }
@@ -23,7 +24,8 @@ fn cell_of(v: u16, u: u16) -> usize
     FEW * v as usize + u as usize
 }
 
-// The list of `v`, which is one of `count` vertices, as a part of the entries of all lists: from `start` on and before `end`.
+// The list of `v`, which is one of `count` vertices, as a part of the entries of all lists: from index `start` on and
+// before `end`.
 #[derive(Clone, Copy)]
 struct PairedList<'a> {
     entries: &'a [u16],
@@ -39,8 +41,8 @@ struct PairedList<'a> {
 }
 
 impl PairedList<'_> {
-    // Pairs the darts of the list with those to `v` in the lists before, and leaves the others in their cells. It says whether
-    // each dart that leads back was found.
+    // Writes the twins of the darts from `v` to lesser vertices, which their `cells` name, and leaves those to greater ones in
+    // their cells. It puts `v` into `tails` for each. Returns false where a dart back is missing: then the lists have a fault.
     #[inline(always)]
     fn pair(&self, tails: &mut [u16], twins: &mut [u32], cells: &mut [u32]) -> bool
         requires tails { length tails.old ≡ length self.now.entries.now }
@@ -77,7 +79,8 @@ impl PairedList<'_> {
     }
 }
 
-// Says whether lists of few vertices are found to be a simple map, and then finds the tails and the twins of their darts.
+// Says whether the pass finds `lists` of at most 64 vertices to be a simple map, and then writes the `tails` and `twins` of
+// their darts. What `cells` has before does not matter.
 #[inline(never)]
 pub(crate) fn pairs_twins(
     lists: &Rotations,
