@@ -34,12 +34,12 @@ returns-then-a-self c =
     let has = subst (λ (z : ℕ). HasDart map.lists z a) c.requires.tail (has_dart map c.facts.ensures d c.requires.live) in
     let at : dart_at map d ≡ Some (b, a) = dart_of-live map d c.requires.live ∙ ap (λ (z : ℕ). Some (z, a)) c.requires.tail in
     let at_twin : dart_at map c.twin.result.0 ≡ Some (a, b) = c.twin.ensures ∙ ap (option_map twin_dart) at in
-    let x : ℤ = c.number-x.result in
+    let x : ℤ = c.entry_or_zero-x.result in
     let fits : FitsSigned w32 x = search rules in
-    let written : IsWritten d c.twin.result.0 x c.args.columns.now c.put-then-a-self.new.columns = IsWritten-both d c.twin.result.0 x c.args.columns.now c.put.new.columns c.put-then-a-self.new.columns c.put.ensures.size (simp to_z-of_z at c.put.ensures.here) c.put.ensures.elsewhere c.put-then-a-self.ensures.size (simp to_z-of_z at c.put-then-a-self.ensures.here) c.put-then-a-self.ensures.elsewhere in
-    AreFilled-put map bars.fig.now c.facts.ensures b a has next c.args.columns.now c.requires.filled _ c.put-then-a-self.new.columns (subst (λ (z : ℕ). z < b) same c.if-a-self.true) d c.twin.result.0 at at_twin
+    let written : IsWritten d c.twin.result.0 x c.args.columns.now c.put_column-then-a-self.new.columns = IsWritten-both d c.twin.result.0 x c.args.columns.now c.put_column.new.columns c.put_column-then-a-self.new.columns c.put_column.ensures.size (simp to_z-of_z at c.put_column.ensures.here) c.put_column.ensures.elsewhere c.put_column-then-a-self.ensures.size (simp to_z-of_z at c.put_column-then-a-self.ensures.here) c.put_column-then-a-self.ensures.elsewhere in
+    AreFilled-put map bars.fig.now c.facts.ensures b a has next c.args.columns.now c.requires.filled _ c.put_column-then-a-self.new.columns (subst (λ (z : ℕ). z < b) same c.if-a-self.true) d c.twin.result.0 at at_twin
     (ap (λ (z : ℕ). set next z (get_or next z 0 + 1)) same)
-    (subst (λ (z : ℕ). IsWritten d c.twin.result.0 (number_at bars.fig.now.column (get_or next z 0)) c.args.columns.now c.put-then-a-self.new.columns) same (subst (λ (z : ℤ). IsWritten d c.twin.result.0 z c.args.columns.now c.put-then-a-self.new.columns) c.number-x.ensures written))
+    (subst (λ (z : ℕ). IsWritten d c.twin.result.0 (number_at bars.fig.now.column (get_or next z 0)) c.args.columns.now c.put_column-then-a-self.new.columns) same (subst (λ (z : ℤ). IsWritten d c.twin.result.0 z c.args.columns.now c.put_column-then-a-self.new.columns) c.entry_or_zero-x.ensures written))
 
 pub returns-else-a-self : goal.returns-else-a-self
 returns-else-a-self c =

@@ -63,18 +63,18 @@ returns-in-Some c =
 pub returns-then-is_column : goal.returns-then-is_column
 returns-then-is_column c =
     let bars = c.args.self.now.bars in
-    let x : ℤ = c.number-x.result in
+    let x : ℤ = c.entry_or_zero-x.result in
     let fits : FitsSigned w32 x = search rules in
     let good : IsColumn bars.fig.now bars.width c.head-a.result.0 c.args.self.now.b.0 x = simp to_z-of_z at (c.is_column.ensures.0 c.if-is_column.true) in
-    with-good bars.map.now bars.fig.now c.facts.ensures bars.width c.args.self.now.b.0 c.args.d.0 c.head-a.result.0 c.args.next.now x c.requires.live c.requires.tail c.head-a.ensures c.requires.numbers (omega (arith, c.if-self-a.false)) c.number-x.ensures good c.args.found c.requires.found
+    with-good bars.map.now bars.fig.now c.facts.ensures bars.width c.args.self.now.b.0 c.args.d.0 c.head-a.result.0 c.args.next.now x c.requires.live c.requires.tail c.head-a.ensures c.requires.numbers (omega (arith, c.if-self-a.false)) c.entry_or_zero-x.ensures good c.args.found c.requires.found
 
 pub returns-in_default : goal.returns-in_default
 returns-in_default c =
     let bars = c.args.self.now.bars in
-    let x : ℤ = c.number-x.result in
+    let x : ℤ = c.entry_or_zero-x.result in
     let fits : FitsSigned w32 x = search rules in
     let bad : IsColumn bars.fig.now bars.width c.head-a.result.0 c.args.self.now.b.0 x → ⊥ = λ p. false≢true (sym c.if-is_column.false ∙ (simp to_z-of_z at c.is_column.ensures).1 p) in
-    with-bad bars.map.now bars.fig.now c.facts.ensures bars.width c.args.self.now.b.0 c.args.d.0 c.head-a.result.0 c.args.next.now x c.requires.live c.requires.tail c.head-a.ensures c.requires.numbers (omega (arith, c.if-self-a.false)) c.number-x.ensures bad c.args.found c.requires.found
+    with-bad bars.map.now bars.fig.now c.facts.ensures bars.width c.args.self.now.b.0 c.args.d.0 c.head-a.result.0 c.args.next.now x c.requires.live c.requires.tail c.head-a.ensures c.requires.numbers (omega (arith, c.if-self-a.false)) c.entry_or_zero-x.ensures bad c.args.found c.requires.found
     (λ up. elim c.in_default.branch [
       | in_default-via-in-Some+else-e-a w ↦ (let most = rw w.in-Some.is at up in omega (arith, most, w.if-e-a.false))
       | in_default-via-in_default w ↦ rw w.in_default.is at up

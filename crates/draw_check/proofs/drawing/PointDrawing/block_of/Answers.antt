@@ -11,8 +11,8 @@ star_heads-count-requires-clause-room c =
     let few = few_neighbours c.args.self.now.map.now.lists c.loop-v.v c.facts.ensures.simple c.facts.ensures.few_vertices (omega arith) in
     omega arith
 
-pub run_of-star-requires-clause-heads : goal.run_of-star-requires-clause-heads
-run_of-star-requires-clause-heads c = λ k d l.
+pub box_of-star-requires-clause-heads : goal.box_of-star-requires-clause-heads
+box_of-star-requires-clause-heads c = λ k d l.
     let heads = take c.star_heads-count.result c.star_heads-count.new.heads in
     let below = heads_below c.args.self.now.map.now.lists c.loop-v.v (c.loop-v.v + 1) heads c.facts.ensures.simple c.star_heads-count.ensures.heads k d l in
     let n = c.args.self.now.places.count in
@@ -24,8 +24,8 @@ loop-v-preserved c =
     let points = c.args.self.now.points.now in
     let heads = take c.star_heads-count.result c.star_heads-count.new.heads in
     let wide = c.joined-span.ensures in
-    let star : Reaches lists points c.widened.result c.loop-v.v = reaches_from lists points c.loop-v.v heads c.run_of-star.result c.widened.result c.star_heads-count.ensures.heads
-    (λ i l. c.run_of-star.ensures.holds i (omega arith) (omega (arith, l, length-take-le c.star_heads-count.result c.star_heads-count.new.heads c.star_heads-count.ensures.count)))
+    let star : Reaches lists points c.widened.result c.loop-v.v = reaches_from lists points c.loop-v.v heads c.box_of-star.result c.widened.result c.star_heads-count.ensures.heads
+    (λ i l. c.box_of-star.ensures.holds i (omega arith) (omega (arith, l, length-take-le c.star_heads-count.result c.star_heads-count.new.heads c.star_heads-count.ensures.count)))
     (subst (IsIn c.widened.result) c.spot.ensures c.widened.ensures.point) c.widened.ensures.more in
     record {
       range = wide.range;

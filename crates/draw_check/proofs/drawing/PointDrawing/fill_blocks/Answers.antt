@@ -14,7 +14,7 @@ loop-k-preserved c =
     let Held : ℕ → BoundingBox → Type 0 = λ j span. (v : ℕ) → 16 * j ≤ v → v < 16 * (j + 1) → v < length lists → Reaches lists c.args.self.now.points.now span v in
     record {
       in_range = runs-more blocks k c.block_of.result (λ j span. IsBoxInRange span) (omega arith) c.block_of.ensures.range h.in_range;
-      reach = λ j v less. runs-more blocks k c.block_of.result Held (omega arith) (λ u late early within. c.block_of.ensures.reach u late (omega (arith, c.run_begin.ensures, c.n-n.ensures.count, early, within))) (λ m before u. h.reach m u before) j less v;
+      reach = λ j v less. runs-more blocks k c.block_of.result Held (omega arith) (λ u late early within. c.block_of.ensures.reach u late (omega (arith, c.batch_begin.ensures, c.n-n.ensures.count, early, within))) (λ m before u. h.reach m u before) j less v;
     }
 
 pub returns : goal.returns
