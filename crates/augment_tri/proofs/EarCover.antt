@@ -19,22 +19,7 @@ triangle_step lists d t = ap (face_step lists) t
 
 -- where the dart has a triangle, no dart near it is left
 pub filled_from_covered : (first : Map) (k : ℕ) (lists : Lists) (a b : ℕ) → IsCovered first k lists a b → IsTriangle lists (a, b) → IsFilled first k lists
-filled_from_covered first k lists a b covered t = λ v u has.
-    let P : Dart → Type 0 = λ d. IsTriangle lists d in
-    let next = triangle_step lists (a, b) t in
-    elim (covered v u has) [
-      | inl done ↦ inl done
-      | inr rest ↦ elim rest [
-        | inl waits ↦ inr waits
-        | inr near ↦ elim near [
-          | inl q ↦ inl (subst P (sym q) t)
-          | inr far ↦ elim far [
-            | inl q ↦ inl (subst P (sym q) next)
-            | inr q ↦ inl (subst P (sym q) (triangle_step lists (face_step lists (a, b)) next))
-          ]
-        ]
-      ]
-    ]
+filled_from_covered first k lists a b covered t = grind (arith, Dart, IsTriangle, triangle_step, face_step)
 
 module _ (lists : Lists) (simple : IsSimpleMap lists) (plane : IsPlane lists) (s t : ℕ) (ear : IsEar lists s t) (new : Lists) (cut : IsCutEar lists new s t) where
   abbrev w : ℕ
@@ -81,14 +66,7 @@ module _ (lists : Lists) (simple : IsSimpleMap lists) (plane : IsPlane lists) (s
   covered_after : (first : Map) (k a b a' b' : ℕ) → IsCovered first k lists a b → IsNear new a' b' s w → ((v u : ℕ) → HasDart lists v u → IsNear lists a b v u → IsTriangle new (v, u) ⊎ IsNear new a' b' v u) → IsCovered first k new a' b'
   covered_after first k a b a' b' covered near_new moved = λ v u has.
       elim (more.only v u has) [
-        | inl old ↦
-            elim (covered v u old) [
-              | inl done ↦ inl (is_cut.kept v u old done)
-              | inr rest ↦ elim rest [
-                | inl waits ↦ inr (inl waits)
-                | inr near ↦ elim (moved v u old near) [ inl done ↦ inl done | inr stays ↦ inr (inr stays) ]
-              ]
-            ]
+        | inl old ↦ grind (arith, is_cut)
         | inr edge ↦
             elim edge [
               | inl e ↦ inr (inr (subst (λ x. IsNear new a' b' x u) (sym e.0) (subst (λ y. IsNear new a' b' s y) (sym e.1) near_new)))
@@ -113,8 +91,7 @@ module _ (lists : Lists) (simple : IsSimpleMap lists) (plane : IsPlane lists) (s
   covered_next first k a has e covered =
       let P : Dart → Type 0 = λ d. IsTriangle new d in
       let before : a ≡ p = entry_after-injective (list_of lists s) a p (simple.no_repeat s cut.1.0) (simple.both_ways a s has).1 cut.1.1 (e ∙ sym cut.2) in
-      let turn : follows new s a ≡ w = ap (follows new s) before ∙ put.turn in
-      covered_after first k a s a s covered (inr (inl (ap (λ z. (s, z)) (sym turn)))) (λ v u has' near. elim near [
+      covered_after first k a s a s covered (inr (inl (ap (λ z. (s, z)) (sym (ap (follows new s) before ∙ put.turn))))) (λ v u has' near. elim near [
         | inl q ↦ inr (inl q)
         | inr rest ↦ elim rest [
           | inl q ↦ inl (subst P (sym (q ∙ ap (λ z. (s, z)) e)) at_st)
@@ -127,8 +104,7 @@ module _ (lists : Lists) (simple : IsSimpleMap lists) (plane : IsPlane lists) (s
   covered_second first k a m has e e' covered =
       let P : Dart → Type 0 = λ d. IsTriangle new d in
       let has_ma = simple.both_ways a m has in
-      let has_ms : HasDart lists m s = subst (HasDart lists m) e (HasDart-follows lists m a has_ma) in
-      let has_sm = simple.both_ways m s has_ms in
+      let has_sm = simple.both_ways m s (subst (HasDart lists m) e (HasDart-follows lists m a has_ma)) in
       let before : m ≡ p = entry_after-injective (list_of lists s) m p (simple.no_repeat s cut.1.0) has_sm.1 cut.1.1 (e' ∙ sym cut.2) in
       let stays : follows new m a ≡ s =
       put.other m a has_ma (λ q. absurd (simple.no_loop s m has_sm q)) (λ q. absurd (ear.1.1 (subst (HasDart lists s) q has_sm))) ∙ e in
@@ -154,8 +130,7 @@ module _ (lists : Lists) (simple : IsSimpleMap lists) (plane : IsPlane lists) (s
               (covered_next first k a (subst (HasDart lists a) (sym at) has) (ap (λ x. follows lists x a) at ∙ sym next) (subst (λ x. IsCovered first k lists a x) (sym at) covered))
           | inr q ↦
               let at : s ≡ follows lists b a = ap (λ (d : Dart). d.0) q in
-              let next : t ≡ follows lists (follows lists b a) b = ap (λ (d : Dart). d.1) q in
-              covered_second first k a b has (sym at) (ap (λ x. follows lists x b) at ∙ sym next) covered
+              covered_second first k a b has (sym at) (ap (λ x. follows lists x b) at ∙ sym (ap (λ (d : Dart). d.1) q)) covered
         ]
       ]
 
@@ -165,25 +140,11 @@ filled_first map known v u has = let id = known.has_id v u has in inr (id.0, ome
 
 -- the dart of the id that comes next is near itself, and all behind it wait
 pub covered_first : (map : Map) (k : ℕ) (x : Dart) → dart_at map k ≡ Some x → IsFilled map k map.lists → IsCovered map (k + 1) map.lists x.0 x.1
-covered_first map k x at filled v u has =
-    elim (filled v u has) [
-      | inl done ↦ inl done
-      | inr waits ↦ elim (cases_eq waits.0 k) [
-        | inl e ↦ inr (inr (inl (ap (λ (o : Option Dart). unwrap_or o (0, 0)) (sym waits.2 ∙ (ap (dart_at map) e ∙ at)))))
-        | inr ne ↦ inr (inl (waits.0, omega (arith, waits.1, ne), waits.2))
-      ]
-    ]
+covered_first map k x at filled v u has = grind (arith, cases_eq, Option, Dart, unwrap_or, dart_at)
 
 -- an id with no dart
 pub filled_skip : (map : Map) (k : ℕ) (lists : Lists) → ¬ IsLive map k → IsFilled map k lists → IsFilled map (k + 1) lists
-filled_skip map k lists dead filled v u has =
-    elim (filled v u has) [
-      | inl done ↦ inl done
-      | inr waits ↦ elim (cases_eq waits.0 k) [
-        | inl e ↦ absurd (dead (ap (λ (o : Option Dart). is_some o) (ap (dart_at map) (sym e) ∙ waits.2)))
-        | inr ne ↦ inr (waits.0, omega (arith, waits.1, ne), waits.2)
-      ]
-    ]
+filled_skip map k lists dead filled v u has = grind (arith, cases_eq, Option, Dart, is_some, dart_at)
 
 -- darts that wait under old ids wait under the same
 pub filled_grown : (old new : Map) (k : ℕ) (lists : Lists) → IsGrown old new → IsFilled old k lists → IsFilled new k lists

@@ -36,16 +36,7 @@ KeepIds old new = (d v u : ℕ) → dart_at old d ≡ Some (v, u) → dart_at ne
 -- an edge was put in
 module _ (old new : Map) (roomy : IsRoomy old) (known : IsHalfMap new) (spare : new.spare + 1 ≡ old.spare) (ids : KeepIds old new) where
   grown_edge : (u i v j : ℕ) → IsPlane new.lists → new.lists ≡ with_edge_at old.lists u i v j → u < length old.lists → v < length old.lists → u ≢ v → ¬ HasDart old.lists u v → i ≤ length (list_of old.lists u) → j ≤ length (list_of old.lists v) → IsRoomy new × IsGrown old new
-  grown_edge u i v j plane e in_u in_v u_v far at_u at_v =
-      let simple = roomy.known.simple in
-      let extended : IsExtended old.lists new.lists = subst (λ ls. IsExtended old.lists ls) (sym e) (IsExtended-edge old.lists u i v j simple in_u in_v u_v far at_u at_v) in
-      let edges : edge_count new.lists ≡ edge_count old.lists + 1 = ap edge_count e ∙ edge_count-edge old.lists u i v j simple in_u in_v u_v far at_u at_v in
-      let same = extended.vertices in
-      let some = roomy.some in
-      let room = roomy.room in (
-        record { known = known; plane = plane; some = omega arith; room = omega arith },
-        record { extended = extended; total = omega arith; ids = ids },
-      )
+  grown_edge u i v j plane e in_u in_v u_v far at_u at_v = grind (arith, IsExtended, IsExtended-edge, edge_count, edge_count-edge)
 
   -- an ear was cut
   pub grown_ear : (s t : ℕ) → component_count old.lists ≡ 1 → IsEar old.lists s t → IsCutEar old.lists new.lists s t → IsRoomy new × IsGrown old new × (component_count new.lists ≡ 1)
@@ -61,23 +52,15 @@ module _ (old new : Map) (roomy : IsRoomy old) (known : IsHalfMap new) (spare : 
 
   -- two components were joined
   pub grown_join : (u v : ℕ) → u < length old.lists → v < length old.lists → ¬ SameComponent old.lists u v → IsPutIn old.lists new.lists u v → IsRoomy new × IsGrown old new
-  grown_join u v in_u in_v far put =
-      let simple = roomy.known.simple in
-      let together = same_class-from (component_classes old.lists) u v in
-      let joined = edge_put_between old.lists u put.0 v put.1 simple roomy.plane in_u in_v far put.2 put.3 in
-      grown_edge u put.0 v put.1 (subst IsPlane (sym put.4) joined.1.plane) put.4 in_u in_v
-      (λ e. far (together (ap (label (component_classes old.lists)) e)))
-      (λ h. far (together (edge_together old.lists simple u v h))) put.2 put.3
+  grown_join u v in_u in_v far put = grind (arith, same_class-from, component_classes, edge_put_between, grown_edge, IsPlane, label, edge_together)
 
 -- where a dart has no triangle there is room for an edge
 pub spare_for_ear : (map : Map) (a b : ℕ) → IsRoomy map → HasDart map.lists a b → ¬ IsTriangle map.lists (a, b) → 1 ≤ map.spare
 spare_for_ear map a b roomy has large =
     let simple = roomy.known.simple in
-    let bound = edge_bound map.lists simple roomy.plane roomy.some in
     let met = edge_bound_met map.lists simple roomy.plane roomy.some in
-    let room = roomy.room in
     let more : edge_count map.lists + 6 ≢ 3 * length map.lists = λ e. large ((met.0 e).1 a b has) in
-    omega (arith, more)
+    omega (arith, edge_bound map.lists simple roomy.plane roomy.some, more)
 
 -- where two vertices are not in one component there is room for an edge
 pub spare_for_join : (map : Map) (u v : ℕ) → IsRoomy map → u < length map.lists → v < length map.lists → ¬ SameComponent map.lists u v → 1 ≤ map.spare
@@ -90,7 +73,5 @@ spare_for_join map u v roomy in_u in_v far =
     let joined = edge_put_between map.lists u 0 v 0 simple roomy.plane in_u in_v far (omega arith) (omega arith) in
     let edges = edge_count-edge map.lists u 0 v 0 simple in_u in_v u_v apart (omega arith) (omega arith) in
     let same = (IsExtended-edge map.lists u 0 v 0 simple in_u in_v u_v apart (omega arith) (omega arith)).vertices in
-    let some = roomy.some in
-    let bound = edge_bound new joined.0 joined.1.plane (omega arith) in
-    let room = roomy.room in
-    omega arith
+    let bound = edge_bound new joined.0 joined.1.plane (omega (arith, roomy.some)) in
+    omega (arith, roomy.room)

@@ -32,13 +32,7 @@ joined_above old v x l = rw (le-ltb (label old x) v l) refl
 module _ (old : List ℕ) (labels : IsLabels old) where
   -- none is joined yet
   pub AreJoined-none : (lists : Lists) → component_classes lists ≡ old → AreJoined old lists 1
-  AreJoined-none lists e = record {
-    labels = λ x l.
-        ap (λ c. label c x) e ∙ elim (cases_lt (label old x) 1) [
-          | inl below ↦ let zero : label old x ≡ 0 = omega arith in zero ∙ sym (joined_below old 1 x below)
-          | inr above ↦ sym (joined_above old 1 x above)
-        ];
-  }
+  AreJoined-none lists e = grind (arith, label, cases_lt, joined_below, joined_above)
 
   module _ (lists : Lists) (v : ℕ) (joined : AreJoined old lists v) (some : 0 < v) (in_v : v < length lists) where
     -- the first vertex is joined
@@ -48,61 +42,40 @@ module _ (old : List ℕ) (labels : IsLabels old) where
     -- a least vertex is not joined yet
     pub AreJoined-apart : label old v ≡ v → ¬ SameComponent lists 0 v
     AreJoined-apart own t =
-        let here = joined.labels v in_v ∙ joined_above old v v (omega arith) in
-        absurd (omega (arith, Together-from (component_classes lists) 0 v t, at_first))
+        absurd (omega (arith, joined.labels v in_v ∙ joined_above old v v (omega arith), Together-from (component_classes lists) 0 v t, at_first))
 
     -- a vertex that is not a least one
     pub AreJoined-skip : label old v < v → AreJoined old lists (v + 1)
-    AreJoined-skip below = record {
-      labels = λ x l.
-          joined.labels x l ∙ elim (cases_lt (label old x) v) [
-            | inl less ↦ joined_below old v x less ∙ sym (joined_below old (v + 1) x (omega arith))
-            | inr above ↦
-                let other : label old x ≢ v = λ e. absurd (omega (arith, ap (label old) e, labels.own x)) in
-                joined_above old v x above ∙ sym (joined_above old (v + 1) x (omega arith))
-          ];
-    }
+    AreJoined-skip below = grind (arith, cases_lt, label, joined_below, joined_above)
 
     -- a least vertex is joined
     pub AreJoined-more : (new : Lists) → IsSimpleMap lists → label old v ≡ v → IsPutIn lists new 0 v → AreJoined old new (v + 1)
     AreJoined-more new simple own put =
         let C = component_classes lists in
-        let far = AreJoined-apart own in
-        let together = same_class-from C 0 v in
         let apart : 0 ≢ v = omega arith in
         let first_in : 0 < length lists = omega arith in
-        let far' : ¬ HasDart lists 0 v = λ h. far (together (edge_together lists simple 0 v h)) in
+        let far' : ¬ HasDart lists 0 v = λ h. (AreJoined-apart own) ((same_class-from C 0 v) (edge_together lists simple 0 v h)) in
         let at = with_edge lists 0 put.0 v put.1 simple first_in in_v apart far' put.2 put.3 in
         let grown = with_edge_at lists 0 put.0 v put.1 in
         let merged : component_classes grown ≡ merge (component_classes lists) 0 v =
         components_merged grown at.simple 0 v at.edge ∙ ap (λ ls. merge (component_classes ls) 0 v) at.without in
         let n = length-classes (length lists) (darts lists) in
-        let here = joined.labels v in_v ∙ (joined_above old v v (omega arith) ∙ own) in
         record {
           labels = λ x l.
               let in_x : x < length lists = omega (arith, ap length put.4, length-new lists 0 put.0 v put.1 simple first_in in_v apart far' put.2 put.3) in
               ap (λ ls. label (component_classes ls) x) put.4 ∙ (ap (λ c. label c x) merged ∙ (label-merge C 0 v (IsLabels-components lists simple) (omega arith) (omega arith) x
-              ∙ (rw (at_first, here, joined.labels x in_x) (relabelled x))));
+              ∙ (rw (at_first, joined.labels v in_v ∙ (joined_above old v v (omega arith) ∙ own), joined.labels x in_x) (relabelled x))));
         }
       where
         relabelled : (x : ℕ) → relabel 0 v (joined_label old v x) ≡ joined_label old (v + 1) x
-        relabelled x =
-            elim (cases_lt (label old x) v) [
-              | inl less ↦ rw (joined_below old v x less, joined_below old (v + 1) x (omega arith), ne_eqb 0 (max 0 v) (omega arith)) refl
-              | inr above ↦
-                  elim (cases_eq (label old x) v) [
-                    | inl e ↦ rw (joined_above old v x above, joined_below old (v + 1) x (omega arith), eq-eqb (label old x) (max 0 v) (omega arith)) (omega arith)
-                    | inr ne ↦ rw (joined_above old v x above, joined_above old (v + 1) x (omega arith), ne_eqb (label old x) (max 0 v) (omega arith)) refl
-                  ]
-            ]
+        relabelled x = grind (arith, cases_lt, label, joined_below, ne_eqb, max, cases_eq, joined_above, eq-eqb)
 
   -- all are joined
   pub AreJoined-all : (lists : Lists) (v : ℕ) → IsSimpleMap lists → length lists ≤ v → AreJoined old lists v → component_count lists ≡ 1
   AreJoined-all lists v simple all joined =
       one_component lists simple (λ x l.
-      let at = joined.labels x l ∙ joined_below old v x (omega (arith, labels.low x)) in
       let first = joined.labels 0 (omega arith) ∙ joined_below old v 0 (omega (arith, labels.low 0)) in
-      same_class-from (component_classes lists) 0 x (first ∙ sym at))
+      same_class-from (component_classes lists) 0 x (first ∙ sym (joined.labels x l ∙ joined_below old v x (omega (arith, labels.low x)))))
 
 -- where a vertex has the number that comes next, it is not joined to the first one yet
 pub next_apart : (first : Lists) (simple : IsSimpleMap first) (parts : PartNumbers) → ArePartsOf first parts → (lists : Lists) (v : ℕ) → AreJoined (component_classes first) lists v → 0 < v → v < length lists → v < length first → slice_index parts.numbers v ≡ count_below (λ u. label (component_classes first) u == u) v → ¬ SameComponent lists 0 v

@@ -46,14 +46,12 @@ along_face map d e f a b c x live to_e to_f tail_d tail_e tail_f head_f =
     let lists = map.lists in
     let number : Option ℕ → ℕ = λ o. unwrap_or o 0 in
     let y = live_dart map d live in
-    let s = y.0.0 in
-    let t = y.0.1 in
     let on_e : dart_at map e ≡ Some (face_step lists y.0) = to_e ∙ ap (option_map (face_step lists)) y.1 in
     let on_f : dart_at map f ≡ Some (face_step lists (face_step lists y.0)) = to_f ∙ ap (option_map (face_step lists)) on_e in
-    let is_a : s ≡ a = ap number (sym (ap (option_map (λ (z : Dart). z.0)) y.1) ∙ tail_d) in
-    let is_b : t ≡ b = ap number (sym (ap (option_map (λ (z : Dart). z.0)) on_e) ∙ tail_e) in
-    let is_c : follows lists t s ≡ c = ap number (sym (ap (option_map (λ (z : Dart). z.0)) on_f) ∙ tail_f) in
-    let is_x : follows lists (follows lists t s) t ≡ x = ap number (sym (ap (option_map (λ (z : Dart). z.1)) on_f) ∙ head_f) in
+    let is_a : y.0.0 ≡ a = ap number (sym (ap (option_map (λ (z : Dart). z.0)) y.1) ∙ tail_d) in
+    let is_b : y.0.1 ≡ b = ap number (sym (ap (option_map (λ (z : Dart). z.0)) on_e) ∙ tail_e) in
+    let is_c : follows lists y.0.1 y.0.0 ≡ c = ap number (sym (ap (option_map (λ (z : Dart). z.0)) on_f) ∙ tail_f) in
+    let is_x : follows lists (follows lists y.0.1 y.0.0) y.0.1 ≡ x = ap number (sym (ap (option_map (λ (z : Dart). z.1)) on_f) ∙ head_f) in
     record {
       at_d = y.1 ∙ ap₂ (λ v u. Some (v, u)) is_a is_b;
       at_e = on_e ∙ ap₂ (λ v u. Some (v, u)) is_b is_c;
@@ -132,14 +130,12 @@ near_covered old new d ear put at a b s t roomy is_ear cut at_d at_ear near at_p
     let has_ab = roomy.known.is_dart d a b at_d in
     elim (cases_eq ear d) [
       | inl e ↦
-          let to : at ≡ put = goes ∙ rw (eq-eqb ear d e) refl in
-          let here = one_dart (s, follows old.lists t s) (v, u) (sym at_put ∙ (ap (dart_at new) (sym to) ∙ at_at)) in
+          let here = one_dart (s, follows old.lists t s) (v, u) (sym at_put ∙ (ap (dart_at new) (sym (goes ∙ rw (eq-eqb ear d e) refl)) ∙ at_at)) in
           let same = one_dart (a, b) (s, t) (sym at_d ∙ (ap (dart_at old) (sym e) ∙ at_ear)) in
           let start : IsCovered first k old.lists s t = subst (λ (y : Dart). IsCovered first k old.lists y.0 y.1) same covered in
           subst (λ (y : Dart). IsCovered first k new.lists y.0 y.1) here (covered_here old.lists simple roomy.plane s t is_ear new.lists cut first k start)
       | inr ne ↦
-          let to : at ≡ d = goes ∙ rw (ne_eqb ear d ne) refl in
-          let here = one_dart (a, b) (v, u) (sym (ids d a b at_d) ∙ (ap (dart_at new) (sym to) ∙ at_at)) in
+          let here = one_dart (a, b) (v, u) (sym (ids d a b at_d) ∙ (ap (dart_at new) (sym (goes ∙ rw (ne_eqb ear d ne) refl)) ∙ at_at)) in
           let other : s ≡ a → t ≡ b → ⊥ = λ q r. ne (roomy.known.one_id ear d a b (at_ear ∙ ap₂ (λ y z. Some (y, z)) q r) at_d) in
           subst (λ (y : Dart). IsCovered first k new.lists y.0 y.1) here (covered_there old.lists simple roomy.plane s t is_ear new.lists cut first k a b has_ab near other covered)
     ]

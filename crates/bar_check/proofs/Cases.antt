@@ -46,16 +46,7 @@ bars = bars_with (pos 0 ∷ pos 1 ∷ pos 1 ∷ [])
 
 -- what holds of its three edges holds of all
 each_edge : (P : ℕ → ℕ → Type 0) → P 0 1 → P 0 2 → P 1 2 → (a b : ℕ) → HasEdge triangle a b → P a b
-each_edge P x y z zero b (l, (lv, (zero, li, e))) = subst (λ t. P 0 t) e x
-each_edge P x y z zero b (l, (lv, (suc zero, li, e))) = subst (λ t. P 0 t) e y
-each_edge P x y z zero b (l, (lv, (suc (suc i), li, e))) = absurd (omega arith)
-each_edge P x y z (suc zero) b (l, (lv, (zero, li, e))) = subst (λ t. P 1 t) e z
-each_edge P x y z (suc zero) b (l, (lv, (suc zero, li, e))) = absurd (omega (arith, e))
-each_edge P x y z (suc zero) b (l, (lv, (suc (suc i), li, e))) = absurd (omega arith)
-each_edge P x y z (suc (suc zero)) b (l, (lv, (zero, li, e))) = absurd (omega (arith, e))
-each_edge P x y z (suc (suc zero)) b (l, (lv, (suc zero, li, e))) = absurd (omega (arith, e))
-each_edge P x y z (suc (suc zero)) b (l, (lv, (suc (suc i), li, e))) = absurd (omega arith)
-each_edge P x y z (suc (suc (suc a))) b (l, (lv, c)) = absurd (omega arith)
+each_edge P x y z x4 b x6 = grind arith
 
 -- and of its three vertices
 each_vertex : (P : ℕ → Type 0) → P 0 → P 1 → P 2 → (v : ℕ) → v < 3 → P v
@@ -65,20 +56,7 @@ each_vertex P x y z (suc (suc zero)) l = z
 each_vertex P x y z (suc (suc (suc v))) l = absurd (omega arith)
 
 heights : (v : ℕ) → v < 3 → IsNewHeight triangle bars v
-heights =
-    each_vertex (IsNewHeight triangle bars)
-    (record { low = omega (arith, ints); high = omega (arith, ints); new = λ u l e. omega arith })
-    (record { low = omega (arith, ints); high = omega (arith, ints); new = below_one })
-    (record { low = omega (arith, ints); high = omega (arith, ints); new = below_two })
-  where
-    below_one : (u : ℕ) → u < 1 → number_at bars.y u ≢ pos 2
-    below_one zero l e = omega (arith, ints)
-    below_one (suc u) l e = omega arith
-
-    below_two : (u : ℕ) → u < 2 → number_at bars.y u ≢ pos 1
-    below_two zero l e = omega (arith, ints)
-    below_two (suc zero) l e = omega (arith, ints)
-    below_two (suc (suc u)) l e = omega arith
+heights = grind (arith, each_vertex, IsNewHeight, triangle, bars, ints, number_at, pos)
 
 within : (v : ℕ) → v < 3 → IsBar bars (pos 1) v
 within =

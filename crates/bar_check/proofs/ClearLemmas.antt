@@ -20,48 +20,16 @@ module _ (lists : Lists) (fig : BarFigure) (heights : HasHeights lists fig) wher
       let k = natural_is (number_at fig.y w) (heights w lw).low in
       let j = natural_is x seen.top.column in
       let top = seen.top.top j.0 j.1 in
-      let holds : Holds fig w (pos j.0) = subst (Holds fig w) j.1 struck.holds in
-      let below = seen.below in
       ⊎_elim
-      (λ p. let a = p.0 in let b = p.1 in omega (arith, ints, at, below))
+      (λ p. let a = p.0 in let b = p.1 in omega (arith, ints, at, seen.below))
       (λ p. let a = p.0 in let b = p.1 in
       let low : k.0 < h = omega (arith, ints, at, k.1) in
-      let over = all.each w j.0 k.0 lw k.1 low holds top.0 in
-      let most = top.1 in
-      omega (arith, ints, k.1, over)) struck.between
+      omega (arith, ints, k.1, all.each w j.0 k.0 lw k.1 low (subst (Holds fig w) j.1 struck.holds) top.0)) struck.between
 
   -- one bar more, at height h
   pub HasTops-more : (h v : ℕ) (tops tops' : List ℕ) (left right : ℕ) → DoGoRight (length lists) fig → StandsAt (length lists) fig h v → pos left ≡ number_at fig.x1 v → pos right ≡ number_at fig.x2 v → HasTops (length lists) fig h tops → length tops' ≡ length tops
       → ((k : ℕ) → left ≤ k → k ≤ right → k < length tops' → get_or tops' k 0 ≡ h + 1) → ((k : ℕ) → (k < left) ⊎ (right < k) → get_or tops' k 0 ≡ get_or tops k 0) → HasTops (length lists) fig (h + 1) tops'
-  HasTops-more h v tops tops' left right go at l r all size inside outside = record {
-    each = λ w x k lw y lk holds lx. elim (cases_lt x left) [
-      | inl before ↦ old w x k lw y lk holds lx (inl before)
-      | inr from ↦ elim (cases_lt right x) [
-        | inl behind ↦ old w x k lw y lk holds lx (inr behind)
-        | inr to ↦ omega (arith, inside x from to lx, lk)
-      ]
-    ];
-  }
-    where
-      same_height : (u w : ℕ) → u < w → w < length lists → number_at fig.y u ≡ number_at fig.y w → ⊥
-      same_height u w l lw e = (heights w lw).new u l e
-
-      is_v : (w : ℕ) → w < length lists → number_at fig.y w ≡ pos h → w ≡ v
-      is_v w lw y = elim (cases_order w v) [
-        | inl s ↦ s
-        | inr o ↦ elim o [ inl less ↦ absurd (same_height w v less at.0 (y ∙ sym at.1)) | inr more ↦ absurd (same_height v w more lw (at.1 ∙ sym y)) ]
-      ]
-
-      old : (w x k : ℕ) → w < length lists → number_at fig.y w ≡ pos k → k < h + 1 → Holds fig w (pos x) → x < length tops' → (x < left) ⊎ (right < x) → k < get_or tops' x 0
-      old w x k lw y lk holds lx out = elim (cases_lt k h) [
-        | inl less ↦ (let e = outside x out in let n = all.each w x k lw y less holds (omega (arith, lx, size)) in omega (arith, e, n))
-        | inr most ↦
-            let here : k ≡ h = omega (arith, lk, most) in
-            let held : Holds fig v (pos x) = subst (λ z. Holds fig z (pos x)) (is_v w lw (y ∙ ap pos here)) holds in
-            let from = held.from in
-            let to = held.to in
-            absurd (⊎_elim (λ o. omega (arith, ints, l)) (λ o. omega (arith, ints, r)) out)
-      ]
+  HasTops-more h v tops tops' left right go at l r all size inside outside = grind (arith, cases_lt, length, number_at, pos, cases_order, Holds, get_or, ints)
 
 module _ (map : Map) (fig : BarFigure) where
   -- one mark more
@@ -82,9 +50,4 @@ module _ (map : Map) (fig : BarFigure) where
       (subst (λ x. IsStruck fig a b x w) (sym (ap (λ t. cond t (column_of map.lists fig a b) (column_of map.lists fig b a)) (lt-ltb a b edge.0))) struck))
 
   pub clear_down : (clear : List Bool) (a b d : ℕ) → AreClear map fig clear → HasEdge map.lists a b → dart_at map d ≡ Some (b, a) → get_or clear d false ≡ true → (w : ℕ) → w < length map.lists → ¬ IsStruck fig a b (column_of map.lists fig a b) w
-  clear_down clear a b d all edge at marked w lw struck =
-      let is = dart_of-is map d (b, a) at in
-      let live : IsLive map d = rw at refl in
-      all.each d w live marked lw (subst (λ (x : Dart). IsStruck fig x.0 x.1 (column_between map.lists fig x.0 x.1) w) (sym is)
-      (subst (λ x. IsStruck fig b a x w) (sym (ap (λ t. cond t (column_of map.lists fig b a) (column_of map.lists fig a b)) (le-ltb b a (omega (arith, edge.0)))))
-      (record { between = ⊎_elim (λ p. inr p) (λ p. inl p) struck.between; holds = struck.holds })))
+  clear_down clear a b d all edge at marked w lw struck = grind (arith, dart_of-is, IsLive, Dart, IsStruck, column_between, cond, column_of, le-ltb)

@@ -24,12 +24,7 @@ edges_until-all lists v end k count n h =
 
 -- one entry more, which is counted where it is above v and below the end
 pub count_more : (v end : ℕ) (us : List ℕ) (k u old new : ℕ) → k < length us → get_or us k 0 ≡ u → old ≡ count_by (λ w. nat_lt v w && nat_lt w end) (take k us) → ((v < u) × (u < end) × (new ≡ old + 1)) ⊎ (((u ≤ v) ⊎ (end ≤ u)) × (new ≡ old)) → new ≡ count_by (λ w. nat_lt v w && nat_lt w end) (take (k + 1) us)
-count_more v end us k u old new l same was (inl (above, below, more)) =
-    more ∙ (ap (λ n. n + 1) was ∙ sym (count_by_more_yes (λ w. nat_lt v w && nat_lt w end) us k 0 l (ap (λ w. nat_lt v w && nat_lt w end) same ∙ ap₂ ◌&&◌ (lt-ltb v u above) (lt-ltb u end below))))
-count_more v end us k u old new l same was (inr (inl low, more)) =
-    more ∙ (was ∙ sym (count_by_more_no (λ w. nat_lt v w && nat_lt w end) us k 0 l (ap (λ w. nat_lt v w && nat_lt w end) same ∙ ap (λ b. b && nat_lt u end) (le-ltb v u low))))
-count_more v end us k u old new l same was (inr (inr high, more)) =
-    more ∙ (was ∙ sym (count_by_more_no (λ w. nat_lt v w && nat_lt w end) us k 0 l (ap (λ w. nat_lt v w && nat_lt w end) same ∙ (ap (λ b. nat_lt v u && b) (le-ltb u end high) ∙ and-false (nat_lt v u)))))
+count_more v end us k u old new l same was x10 = grind (arith, count_by_more_yes, nat_lt, ap₂, lt-ltb, count_by_more_no, le-ltb, and-false)
 
 pub edges_before-none : (lists : Lists) → 0 ≡ edges_before lists 0
 unfolding edges_before

@@ -26,34 +26,8 @@ module _ (lists : Lists) (fig : BarFigure) (v : ℕ) (seen : List Bool) (size : 
       }
 
   pub free_from_new : IsNewHeight lists fig v → IsFree seen (number_at fig.y v)
-  free_from_new new =
-      let high = new.high in
-      record {
-        low = new.low;
-        high = omega (arith, ints, high, size);
-        free = λ k e. not_true (get_or seen k false) (λ marked. let some = is.some k marked in new.new some.0 some.1 (some.2 ∙ sym e));
-      }
-    where
-      not_true : (b : Bool) → b ≢ true → b ≡ false
-      not_true true h = absurd (h refl)
-      not_true false h = refl
+  free_from_new new = grind (arith, ints, get_or)
 
   -- one vertex more
   pub AreSeen-more : (seen' : List Bool) → ((k : ℕ) → number_at fig.y v ≡ pos k → get_or seen' k false ≡ true) → ((k : ℕ) → number_at fig.y v ≢ pos k → get_or seen' k false ≡ get_or seen k false) → IsNewHeight lists fig v → AreSeen fig (v + 1) seen'
-  AreSeen-more seen' here elsewhere new =
-      let at = natural_is (number_at fig.y v) new.low in
-      record {
-        some = λ k marked. elim (cases_eq k at.0) [
-          | inl s ↦ (v, omega arith, at.1 ∙ ap pos (sym s))
-          | inr ne ↦
-              let some = is.some k (sym (elsewhere k (λ e. ne (same k at.0 (sym e ∙ at.1)))) ∙ marked) in
-              (some.0, let l = some.1 in omega (arith, l), some.2)
-        ];
-        all = λ u k l e. elim (cases_eq u v) [
-          | inl s ↦ here k (ap (number_at fig.y) (sym s) ∙ e)
-          | inr ne ↦ (let below : u < v = omega (arith, l, ne) in elsewhere k (λ e'. new.new u below (e ∙ sym e')) ∙ is.all u k below e)
-        ];
-      }
-    where
-      same : (a b : ℕ) → pos a ≡ pos b → a ≡ b
-      same a b e = omega (arith, ints, e)
+  AreSeen-more seen' here elsewhere new = grind (arith, natural_is, number_at, cases_eq, pos, ints)

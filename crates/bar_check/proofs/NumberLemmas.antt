@@ -33,15 +33,7 @@ above_end false true = refl
 above_end false false = refl
 
 single_more : (v x end : ℕ) → cond (nat_lt v x && nat_lt x end) 1 0 + cond {A = ℕ} (nat_lt v end) (cond (eqb x end) 1 0) 0 ≡ cond (nat_lt v x && nat_lt x (suc end)) 1 0
-single_more v x end =
-    elim (cases_order x end) [
-      | inl same ↦ subst (λ e. cond (nat_lt v x && nat_lt x e) 1 0 + cond {A = ℕ} (nat_lt v e) (cond (eqb x e) 1 0) 0 ≡ cond (nat_lt v x && nat_lt x (suc e)) 1 0) same
-          (rw (le-ltb x x (omega arith), eq-eqb x x refl, lt-ltb x (suc x) (omega arith)) (at_end (nat_lt v x)))
-      | inr o ↦ elim o [
-        | inl less ↦ rw (lt-ltb x end less, ne_eqb x end (λ e. omega arith), lt-ltb x (suc end) (omega arith)) (below_end (nat_lt v x) (nat_lt v end))
-        | inr more ↦ rw (le-ltb x end (omega arith), ne_eqb x end (λ e. omega arith), le-ltb x (suc end) (omega arith)) (above_end (nat_lt v x) (nat_lt v end))
-      ]
-    ]
+single_more v x end = grind (arith, cases_order, cond, nat_lt, eqb, le-ltb, eq-eqb, lt-ltb, at_end, ne_eqb, below_end, above_end)
 
 none_of : (b : Bool) → 0 ≡ cond {A = ℕ} (b && false) 1 0
 none_of true = refl
@@ -61,9 +53,8 @@ count-sum [] v end = sym (sum_below-same (above [] v) (λ _. 0) end (λ u l. non
     none false = refl
 count-sum (x ∷ us) v end =
     let parts = sum_below-same (above (x ∷ us) v) (λ u. cond (nat_lt v u) (cond (eqb x u) 1 0) 0 + above us v u) end (λ u l. split (nat_lt v u) u) in
-    let sum = sum_below-add (λ u. cond (nat_lt v u) (cond (eqb x u) 1 0) 0) (above us v) end in
     let first = sum_by-cons (λ u. cond (nat_lt v u && nat_lt u end) 1 0) x us in
-    omega (arith, parts, sum, first, single v x end, count-sum us v end)
+    omega (arith, parts, sum_below-add (λ u. cond (nat_lt v u) (cond (eqb x u) 1 0) 0) (above us v) end, first, single v x end, count-sum us v end)
   where
     split : (b : Bool) (u : ℕ) → cond b (count_of u (x ∷ us)) 0 ≡ cond b (cond (eqb x u) 1 0) 0 + cond b (count_of u us) 0
     split true u = count_of-cons u x us
@@ -86,10 +77,9 @@ module _ (lists : Lists) (simple : IsSimpleMap lists) where
   pub edges_until-rise : (a b end : ℕ) → HasEdge lists a b → b < end → edges_until lists a b < edges_until lists a end
   edges_until-rise a b end e l =
       let f = above (list_of lists a) a in
-      let more = sum_below-more f (suc b) end (omega arith) in
       let here : f b ≡ count_of b (list_of lists a) = cond-true {A = ℕ} (nat_lt a b) (count_of b (list_of lists a)) 0 (lt-ltb a b e.0) in
       let some = Contains-counted b (list_of lists a) e.1.1 in
-      omega (arith, edges_until-sum lists a b, edges_until-sum lists a end, more, here, some)
+      omega (arith, edges_until-sum lists a b, edges_until-sum lists a end, sum_below-more f (suc b) end (omega arith), here, some)
 
   pub edges_before-up : (k n : ℕ) → k ≤ n → edges_before lists k ≤ edges_before lists n
   edges_before-up k zero h = let e : k ≡ 0 = omega arith in subst (λ i. edges_before lists i ≤ edges_before lists 0) (sym e) (omega arith)

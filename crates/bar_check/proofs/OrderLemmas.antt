@@ -21,42 +21,13 @@ module _ (lists : Lists) (fig : BarFigure) (v : ℕ) where
   not_above u l = λ h. omega (arith, ints)
 
   decided : (u w : ℕ) → IsEarlier lists fig v u w ⊎ ¬ IsEarlier lists fig v u w
-  decided u w =
-      by_lt_z (y v) (y u)
-      (λ up. by_lt_z (y v) (y w)
-      (λ up'. by_lt_z (x u) (x w) (λ l. inl (inr (inl (up, up', l)))) (λ l. inr (λ h. ⊎_elim (λ p. p.1 up') (λ q. ⊎_elim (λ p. let less = p.2 in omega (arith, ints)) (λ p. p.0 up) q) h)))
-      (λ down'. inl (inl (up, not_above w down'))))
-      (λ down. by_lt_z (y v) (y w)
-      (λ up'. inr (λ h. ⊎_elim (λ p. p.1 up') (λ q. ⊎_elim (λ p. not_above u down p.0) (λ p. p.1 up') q) h))
-      (λ down'. by_lt_z (x w) (x u) (λ l. inl (inr (inr (not_above u down, not_above w down', l)))) (λ l. inr (λ h. ⊎_elim (λ p. not_above u down p.0) (λ q. ⊎_elim (λ p. not_above u down p.0) (λ p. let less = p.2 in omega (arith, ints)) q) h))))
+  decided u w = grind (arith, by_lt_z, ints, not_above)
 
   apart : (u w : ℕ) → IsEarlier lists fig v u w → ¬ IsEarlier lists fig v w u
-  apart u w h h' =
-      ⊎_elim (λ p. ⊎_elim (λ p'. p.1 p'.0) (λ q'. ⊎_elim (λ p'. p.1 p'.0) (λ p'. p'.1 p.0) q') h')
-      (λ q. ⊎_elim
-      (λ p. ⊎_elim (λ p'. p'.1 p.0) (λ q'. ⊎_elim (λ p'. let l = p.2 in let l' = p'.2 in omega (arith, ints)) (λ p'. p'.0 p.1) q') h')
-      (λ p. ⊎_elim (λ p'. p.1 p'.0) (λ q'. ⊎_elim (λ p'. p.1 p'.0) (λ p'. let l = p.2 in let l' = p'.2 in omega (arith, ints)) q') h')
-      q)
-      h
+  apart u w h h' = grind (arith, ints)
 
   chained : (u w z : ℕ) → IsEarlier lists fig v u w → IsEarlier lists fig v w z → IsEarlier lists fig v u z
-  chained u w z h h' =
-      elim h [
-        | inl p ↦ elim h' [
-          | inl p' ↦ absurd (p.1 p'.0)
-          | inr q' ↦ elim q' [ inl p' ↦ absurd (p.1 p'.0) | inr p' ↦ inl (p.0, p'.1) ]
-        ]
-        | inr q ↦ elim q [
-          | inl p ↦ elim h' [
-            | inl p' ↦ inl (p.0, p'.1)
-            | inr q' ↦ elim q' [ inl p' ↦ inr (inl (p.0, p'.1, (let l = p.2 in let l' = p'.2 in omega (arith, ints)))) | inr p' ↦ absurd (p'.0 p.1) ]
-          ]
-          | inr p ↦ elim h' [
-            | inl p' ↦ absurd (p.1 p'.0)
-            | inr q' ↦ elim q' [ inl p' ↦ absurd (p.1 p'.0) | inr p' ↦ inr (inr (p.0, p'.1, (let l = p.2 in let l' = p'.2 in omega (arith, ints)))) ]
-          ]
-        ]
-      ]
+  chained u w z h h' = grind (arith, ints)
 
   module _ (simple : IsSimpleMap lists) (lv : v < length lists) where
     -- a list that goes once round is in order from behind the break on

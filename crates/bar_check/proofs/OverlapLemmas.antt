@@ -11,14 +11,7 @@ use Rattle.bar_check.specs.Verdicts.{HasShape, HasHeights, AreBars, NoBadColumn,
 
 -- a column is one of an edge or not
 column_decided : (fig : BarFigure) (width : ℤ) (a b : ℕ) (x : ℤ) → IsColumn fig width a b x ⊎ (¬ IsColumn fig width a b x)
-column_decided fig width a b x =
-    by_lt_z x (pos 0) (λ l. inr (λ c. let z = c.left in omega (arith, ints)))
-    (λ left. by_lt_z width x (λ l. inr (λ c. let z = c.right in omega (arith, ints)))
-    (λ right. by_lt_z x (number_at fig.x1 a) (λ l. inr (λ c. let z = c.lesser.from in omega (arith, ints)))
-    (λ from. by_lt_z (number_at fig.x2 a) x (λ l. inr (λ c. let z = c.lesser.to in omega (arith, ints)))
-    (λ to. by_lt_z x (number_at fig.x1 b) (λ l. inr (λ c. let z = c.greater.from in omega (arith, ints)))
-    (λ from'. by_lt_z (number_at fig.x2 b) x (λ l. inr (λ c. let z = c.greater.to in omega (arith, ints)))
-    (λ to'. inl (record { left = left; right = right; lesser = record { from = from; to = to }; greater = record { from = from'; to = to' } })))))))
+column_decided fig width a b x = grind (arith, by_lt_z, pos, ints, number_at)
 
 -- without bad columns each edge has one
 pub column_within : (lists : Lists) (fig : BarFigure) (width : ℤ) → NoBadColumn lists fig width → (a b : ℕ) → HasEdge lists a b → IsColumn fig width a b (column_of lists fig a b)
@@ -46,14 +39,7 @@ module _ (lists : Lists) (fig : BarFigure) (heights : HasHeights lists fig) wher
 
   -- two vertices of one height are one
   one_vertex : (u v : ℕ) → u < length lists → v < length lists → y u ≡ y v → u ≡ v
-  one_vertex u v lu lv e =
-      elim (cases_order u v) [
-        | inl same ↦ same
-        | inr o ↦ elim o [
-          | inl less ↦ absurd ((heights v lv).new u less e)
-          | inr more ↦ absurd ((heights u lu).new v more (sym e))
-        ]
-      ]
+  one_vertex u v lu lv e = grind (arith, cases_order)
 
   -- an edge in column x that is clear of bars: from p up to q
   pub record IsClear (p q : ℕ) (x : ℤ) : Type 0 where
@@ -68,17 +54,12 @@ module _ (lists : Lists) (fig : BarFigure) (heights : HasHeights lists fig) wher
   same_ends : (p q r s : ℕ) (x : ℤ) → IsClear p q x → IsClear r s x → y r <ℤ y q → y p <ℤ y s → (p ≡ r) × (q ≡ s)
   same_ends p q r s x e f low high =
       let pr : p ≡ r = by_lt_z (y p) (y r) (λ l. absurd (e.clear r f.low f.holds_low l low)) (λ l. by_lt_z (y r) (y p) (λ l'. absurd (f.clear p e.low e.holds_low l' high)) (λ l'. one_vertex p r e.low f.low (omega (arith, ints)))) in
-      let same : y p ≡ y r = subst (λ z. y p ≡ y z) pr refl in
-      let a = e.rise in
-      let b = f.rise in
       let qs : q ≡ s = by_lt_z (y q) (y s) (λ l. absurd (f.clear q e.high e.holds_high (omega (arith, ints)) l)) (λ l. by_lt_z (y s) (y q) (λ l'. absurd (e.clear s f.high f.holds_high (omega (arith, ints)) l')) (λ l'. one_vertex q s e.high f.high (omega (arith, ints)))) in
       (pr, qs)
 
   -- two clear edges that overlap are one
   one_edge : (p q r s : ℕ) (x : ℤ) → IsClear p q x → IsClear r s x → MeetInside (y p) (y q) (y r) (y s) → (p ≡ r) × (q ≡ s)
   one_edge p q r s x e f m =
-      let a = e.rise in
-      let b = f.rise in
       same_ends p q r s x e f
       (by_lt_z (y r) (y q) (λ l. l) (λ l. absurd (m.not_below (record { pr = omega (arith, ints); ps = omega (arith, ints); qr = l; qs = omega (arith, ints) }))))
       (by_lt_z (y p) (y s) (λ l. l) (λ l. absurd (m.not_above (record { pr = omega (arith, ints); ps = omega (arith, ints); qr = l; qs = omega (arith, ints) }))))
@@ -88,11 +69,10 @@ module _ (lists : Lists) (fig : BarFigure) (heights : HasHeights lists fig) wher
     clear_edge : (a b : ℕ) → HasEdge lists a b → IsClear a b (column_of lists fig a b) ⊎ IsClear b a (column_of lists fig a b)
     clear_edge a b e =
         let c = column_within lists fig width columns a b e in
-        let la = e.1.0 in
         let lb = simple.in_range a b e.1 in
         by_lt_z (y a) (y b)
         (λ l. inl (record {
-          low = la;
+          low = e.1.0;
           high = lb;
           rise = l;
           holds_low = c.lesser;
@@ -101,8 +81,8 @@ module _ (lists : Lists) (fig : BarFigure) (heights : HasHeights lists fig) wher
         }))
         (λ l. inr (record {
           low = lb;
-          high = la;
-          rise = by_lt_z (y b) (y a) (λ l'. l') (λ l'. absurd (simple.no_loop a b e.1 (sym (one_vertex a b la lb (omega (arith, ints))))));
+          high = e.1.0;
+          rise = by_lt_z (y b) (y a) (λ l'. l') (λ l'. absurd (simple.no_loop a b e.1 (sym (one_vertex a b e.1.0 lb (omega (arith, ints))))));
           holds_low = c.greater;
           holds_high = c.lesser;
           clear = λ v lv h p q. through a b v (record { edge = e; vertex = lv; struck = record { between = inr (p, q); holds = h } });

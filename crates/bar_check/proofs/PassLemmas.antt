@@ -28,11 +28,9 @@ AreNext-next lists simple b i next lb whole w = λ a la.
     let us = list_of lists b in
     let all = ap (λ k. count_of a (take k us)) whole ∙ ap (count_of a) (take-length us) in
     let mirrored = count_mirrored lists simple b a lb la in
-    let old = edges_until-sum lists a b in
     let new : edges_until lists a (b + 1) ≡ sum_below (above (list_of lists a) a) b + cond (ltb a b) (count_of b (list_of lists a)) 0 = edges_until-sum lists a (b + 1) ∙ ap (sum_below (above (list_of lists a) a)) (plus_one b) in
-    let none : cond (ltb a (b + 1)) (count_of a (take 0 (list_of lists (b + 1)))) 0 ≡ 0 = nothing (ltb a (b + 1)) in
     let same : cond (ltb a b) (count_of a (take i us)) 0 ≡ cond (ltb a b) (count_of b (list_of lists a)) 0 = ap (λ z. cond (ltb a b) z 0) (all ∙ mirrored) in
-    omega (arith, w a la, old, new, none, same)
+    omega (arith, w a la, edges_until-sum lists a b, new, nothing (ltb a (b + 1)), same)
   where
     plus_one : (n : ℕ) → n + 1 ≡ suc n
     plus_one n = omega arith
@@ -57,15 +55,11 @@ module _ (lists : Lists) (simple : IsSimpleMap lists) (b i a : ℕ) (lb : b < le
   -- a has not been met before
   none_before : count_of a (take i us) ≡ 0
   none_before =
-      let le = sum_by-take-le (λ u. cond (eqb u a) 1 0) us (i + 1) in
-      let few : count_of a (take (i + 1) us) ≤ count_of a us = le in
-      omega (arith, more_here, few, count_of-le-one a us (simple.no_repeat b lb))
+      omega (arith, more_here, (sum_by-take-le (λ u. cond (eqb u a) 1 0) us (i + 1)), count_of-le-one a us (simple.no_repeat b lb))
 
   pub number_is : a < b → get_or next a 0 ≡ edge_number lists a b
   number_is l =
-      let here = w a lesser_in in
-      let zero_here : cond (ltb a b) (count_of a (take i us)) 0 ≡ 0 = ap (λ t. cond t (count_of a (take i us)) 0) (lt-ltb a b l) ∙ none_before in
-      omega (arith, here, zero_here)
+      omega (arith, w a lesser_in, ap (λ t. cond t (count_of a (take i us)) 0) (lt-ltb a b l) ∙ none_before)
 
   -- the edge to a, whose turn it is
   pub AreNext-put : length next ≡ length lists → a < b → AreNext lists b (i + 1) (set next a (get_or next a 0 + 1))
@@ -82,13 +76,4 @@ module _ (lists : Lists) (simple : IsSimpleMap lists) (b i a : ℕ) (lb : b < le
 
   -- one that leads up, whose turn it is not
   pub AreNext-past : b ≤ a → AreNext lists b (i + 1) next
-  AreNext-past l = λ c lc. elim (cases_lt c b) [
-    | inl less ↦
-        let same = count_by_more_no (λ u. eqb u c) us i 0 li (ne_eqb (get_or us i 0) c (λ s. absurd (omega (arith, less, l, at_i, s)))) in
-        w c lc ∙ ap (λ z. edges_before lists c + edges_until lists c b + cond (ltb c b) z 0) (sym same)
-    | inr most ↦ w c lc ∙ ap (λ z. edges_before lists c + edges_until lists c b + z) (off (ltb c b) (le-ltb c b most) (count_of c (take i us)) (count_of c (take (i + 1) us)))
-  ]
-    where
-      off : (t : Bool) → t ≡ false → (x z : ℕ) → cond t x 0 ≡ cond t z 0
-      off true e x z = absurd (true≢false e)
-      off false e x z = refl
+  AreNext-past l = grind (arith, cases_lt, count_by_more_no, eqb, us, ne_eqb, get_or, edges_before, edges_until, cond, ltb, le-ltb, count_of)

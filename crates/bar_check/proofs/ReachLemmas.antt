@@ -16,22 +16,13 @@ use Rattle.bar_check.proofs.HeightLemmas.{natural_is}
 
 -- the columns of one block
 pub same_block : (w k x : ℕ) → 0 < w → k ≤ x → x < (k / w + 1) * w → x / w ≡ k / w
-same_block w k x some from to =
-    let most = mul-div-le k w in
-    let q : ℕ = k / w in
-    let m : q * w ≤ k = omega (arith, most) in
-    let t : x < q * w + w = omega (arith, to) in
-    let is : x ≡ q * w + (x - q * w) = omega (arith, m, from) in
-    let l : x - q * w < w = omega (arith, m, from, t) in
-    ap (λ z. z / w) is ∙ div-mul-add q w (x - q * w) l
+same_block w k x some from to = grind (arith, mul-div-le, div-mul-add)
 
 -- what is passed is not reached by more
 pub low_from_passed : (y : ℤ) (h k : ℕ) (peaks blocks superblocks : List ℤ) → IsReached y k peaks blocks superblocks → IsPassed h k peaks blocks superblocks → y ≤ℤ pos h
 low_from_passed y h k peaks blocks superblocks is passed =
-    let a = is.column in
-    let b = is.block in
     let c = is.superblock in
-    ⊎_elim (λ p. omega (arith, ints, a, p)) (λ o. ⊎_elim (λ p. omega (arith, ints, b, p)) (λ p. omega (arith, ints, c, p)) o) passed
+    ⊎_elim (λ p. omega (arith, ints, is.column, p)) (λ o. ⊎_elim (λ p. omega (arith, ints, is.block, p)) (λ p. omega (arith, ints, c, p)) o) passed
 
 module _ (lists : Lists) (fig : BarFigure) where
   between-up : (a b : ℕ) → a < b → column_between lists fig a b ≡ column_of lists fig a b
@@ -92,22 +83,11 @@ module _ (lists : Lists) (fig : BarFigure) where
 
     -- below height h, or at v
     below_or_at : (w : ℕ) → w < length lists → number_at fig.y w <ℤ pos (h + 1) → (number_at fig.y w <ℤ pos h) ⊎ (w ≡ v)
-    below_or_at w lw below =
-        let k = natural_is (number_at fig.y w) (heights w lw).low in
-        elim (cases_lt k.0 h) [
-          | inl less ↦ inl (let e = k.1 in omega (arith, ints, e, less))
-          | inr most ↦ inr (is_v w lw (let e = k.1 in omega (arith, ints, e, most, below)))
-        ]
+    below_or_at w lw below = grind (arith, natural_is, number_at, cases_lt, ints, is_v)
 
     -- which edges lead up from v and below
     begun-from : (a b : ℕ) → IsUp lists fig (h + 1) a b → IsBegun lists fig h v (length (list_of lists v)) a b
-    begun-from a b is = ⊎_elim (λ less. inl (record { dart = is.dart; below = less; up = is.up }))
-        (λ same.
-        let dart : HasDart lists v b = subst (λ (z : ℕ). HasDart lists z b) same is.dart in
-        let up : number_at fig.y v <ℤ number_at fig.y b = subst (λ (z : ℕ). number_at fig.y z <ℤ number_at fig.y b) same is.up in
-        let y = at.1 in
-        inr (record { tail = same; dart = dart; place = place_of-lt-length b (list_of lists v) dart.1; above = omega (arith, ints, up, y) }))
-        (below_or_at a is.dart.0 is.below)
+    begun-from a b is = grind (arith, HasDart, number_at, place_of-lt-length, list_of, ints, below_or_at)
 
     -- what was known when the bar of v was met is known before its edges
     pub HasReach-first : (peaks blocks superblocks : List ℤ) → HasReach lists fig (IsUp lists fig h) peaks blocks superblocks → HasReach lists fig (IsBegun lists fig h v 0) peaks blocks superblocks
@@ -126,9 +106,7 @@ module _ (lists : Lists) (fig : BarFigure) where
           let from' : number_at fig.y a <ℤ number_at fig.y v = subst (λ (z : ℕ). number_at fig.y a <ℤ number_at fig.y z) same from in
           let to' : number_at fig.y v <ℤ number_at fig.y b = subst (λ (z : ℕ). number_at fig.y z <ℤ number_at fig.y b) same to in
           let y = at.1 in
-          let left = (go v at.0).0 in
-          let low = here.from in
-          let k = natural_is (column_between lists fig a b) (omega (arith, ints, left, low)) in
+          let k = natural_is (column_between lists fig a b) (omega (arith, ints, (go v at.0).0, here.from)) in
           let is = swept.reach.each a b k.0 (record { dart = dart; below = omega (arith, ints, from', y); up = omega (arith, ints, from', to') }) k.1 in
           let most = low_from_passed (number_at fig.y b) h k.0 peaks blocks superblocks is (passed k.0 (subst (Holds fig v) k.1 here)) in
           omega (arith, ints, most, to', y)) (below_or_at w lw below);

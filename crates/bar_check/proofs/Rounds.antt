@@ -8,6 +8,4 @@ use Rattle.vertex_rounds.proofs.RoundLemmas.{head_at, LeavesFrom, place_at, at_p
 -- behind the next dart fewer are left
 pub fewer_left : (map : Map) → IsHalfMap map → (v d e : ℕ) → LeavesFrom map v d → ((w u : ℕ) → dart_at map d ≡ Some (w, u) → IsLaterDart map w u e) → length (list_of map.lists v) - place_at map v e < length (list_of map.lists v) - place_at map v d
 fewer_left map h v d e dart next =
-    let within = (at_place map h v d dart).0 in
-    let later = place_at-later map v d e (next v (head_at map d) dart) in
-    omega arith
+    omega (arith, place_at-later map v d e (next v (head_at map d) dart), (at_place map h v d dart).0)

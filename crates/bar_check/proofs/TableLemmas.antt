@@ -225,12 +225,4 @@ module _ (map : Map) (fig : BarFigure) (h : IsHalfMap map) where
 
 -- a column written at one dart, and then at another
 pub IsWritten-both : (d t : ℕ) (x : ℤ) (old mid new : List ℤ) → length mid ≡ length old → (d < length mid → number_at mid d ≡ x) → ((e : ℕ) → e ≢ d → number_at mid e ≡ number_at old e) → length new ≡ length mid → (t < length new → number_at new t ≡ x) → ((e : ℕ) → e ≢ t → number_at new e ≡ number_at mid e) → IsWritten d t x old new
-IsWritten-both d t x old mid new size here elsewhere size' there elsewhere' = record {
-  size = size' ∙ size;
-  here = λ l. elim (cases_eq d t) [
-    | inl s ↦ subst (λ z. number_at new z ≡ x) (sym s) (there (subst (λ z. z < length new) s l))
-    | inr ne ↦ elsewhere' d ne ∙ here (omega (arith, l, size'))
-  ];
-  there = there;
-  elsewhere = λ e nd nt. elsewhere' e nt ∙ elsewhere e nd;
-}
+IsWritten-both d t x old mid new size here elsewhere size' there elsewhere' = grind (arith, cases_eq, number_at, length)

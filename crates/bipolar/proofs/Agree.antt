@@ -31,10 +31,9 @@ module _ (map : Map) (h : IsHalfMap map) (walks : List (List ℕ)) (faces : AreF
   -- and the other way about
   pub one_walk : (f g u v a b : ℕ) → InWalk map walks f u v → InWalk map walks g a b → SameFace lists (u, v) (a, b) → f ≡ g
   one_walk f g u v a b x y same =
-      let d = y.1.0 in
       let together = in_first f u v x ∙ Together-from (face_classes lists) (dart_number lists (u, v)) (dart_number lists (a, b)) same in
-      let there = subst (Together (face_classes lists) (first_number map (walk_at walks f))) (sym (number_at-is map d a b y.1.2)) together in
-      faces.apart f g d x.0 y.0 (in_walk map h (walk_at walks f) (faces.each f x.0) d (live_at (dart_at map d) a b y.1.2) there) y.1.1
+      let there = subst (Together (face_classes lists) (first_number map (walk_at walks f))) (sym (number_at-is map y.1.0 a b y.1.2)) together in
+      faces.apart f g y.1.0 x.0 y.0 (in_walk map h (walk_at walks f) (faces.each f x.0) y.1.0 (live_at (dart_at map y.1.0) a b y.1.2) there) y.1.1
 
   -- each dart stands in a walk
   pub some_walk : (u v : ℕ) → HasDart lists u v → (f : ℕ) × InWalk map walks f u v
@@ -68,9 +67,7 @@ module _ (map : Map) (h : IsHalfMap map) (walks : List (List ℕ)) (faces : AreF
     arc_to : (e r u v : ℕ) → IsUpward lists rank u v → InWalk map walks e u v → InWalk map walks r v u → HasArc arcs e r
     arc_to e r u v up y z =
         let f = (x.rows e y.0).to y.1.0 u v y.1.1 y.1.2 up.1 in
-        let has' = walk_dart r v u z in
-        let same = one_walk f.0 r v u v u f.2 z (walk_face r v u v u z z) in
-        (omega (arith, y.0, x.count), subst (Contains (arcs_of arcs e)) same f.1)
+        (omega (arith, y.0, x.count), subst (Contains (arcs_of arcs e)) (one_walk f.0 r v u v u f.2 z (walk_face r v u v u z z)) f.1)
 
     height : ℕ → ℕ
     height f = number (unwrap_or (dart_at map (get_or (walk_at walks f) 0 0)) (0, 0))
@@ -89,8 +86,7 @@ module _ (map : Map) (h : IsHalfMap map) (walks : List (List ℕ)) (faces : AreF
         let v = f.1 in
         let e = some_walk u v f.2.0 in
         let z = some_walk v u (h.simple.both_ways u v f.2.0) in
-        let same = one_walk r z.0 a b v u y z.1 f.3 in
-        (e.0, u, v, arc_to e.0 r u v f.2 e.1 (subst (λ g. InWalk map walks g v u) (sym same) z.1), e.1, f.4)
+        (e.0, u, v, arc_to e.0 r u v f.2 e.1 (subst (λ g. InWalk map walks g v u) (sym (one_walk r z.0 a b v u y z.1 f.3)) z.1), e.1, f.4)
 
     pub acyclic : IsAcyclic arcs o
     acyclic = record {
@@ -99,8 +95,7 @@ module _ (map : Map) (h : IsHalfMap map) (walks : List (List ℕ)) (faces : AreF
       height = height;
       rising = λ e r has ne.
           let f = arc_from e r has in
-          let more = w.greatest f.0 f.1 f.2 (off_base r f.1 f.0 f.4 ne) in
-          omega (arith, more, height_is e f.0 f.1 f.3, height_is r f.1 f.0 f.4);
+          omega (arith, w.greatest f.0 f.1 f.2 (off_base r f.1 f.0 f.4 ne), height_is e f.0 f.1 f.3, height_is r f.1 f.0 f.4);
       reached = λ r l ne.
           let y = first_in r (omega (arith, l, x.count)) in
           let e = arc_into r y.0 y.1 y.2 ne in

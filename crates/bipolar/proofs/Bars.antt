@@ -66,15 +66,13 @@ module _ {lists : Lists} {s t : ℕ} {at rank columns : List ℕ} {fig : BarFigu
   unfolding col
   col_is v u has =
       let i = dart_number lists (v, u) in
-      let l = dart_in x v u has in
       let back = x.simple.both_ways v u has in
       let here = rank_at x v u has in
       let there = rank_twin x v u has in
       let is = column-numbered lists fig columns drawn.column v u in
       elim (cases_lt (get_or rank v 0) (get_or rank u 0)) [
         | inl up ↦
-            let c = column_of_up (bipolar x) n rising i (omega (arith, here, there, up)) in
-            is ∙ ap pos (edges.left v u (has, up) ∙ (sym (n_at v u has) ∙ sym c))
+            is ∙ ap pos (edges.left v u (has, up) ∙ (sym (n_at v u has) ∙ sym (column_of_up (bipolar x) n rising i (omega (arith, here, there, up)))))
         | inr most ↦
             let down : get_or rank u 0 < get_or rank v 0 = elim (cases_eq (get_or rank u 0) (get_or rank v 0)) [
               | inl e ↦ absurd (apart u v back (one_vertex x u v back.0 has.0 e))
@@ -104,28 +102,17 @@ module _ {lists : Lists} {s t : ℕ} {at rank columns : List ℕ} {fig : BarFigu
 
   -- the heights are new
   new_height : (v : ℕ) → v < length lists → IsNewHeight lists fig v
-  new_height v l = record {
-    low = rw (height v) (omega (arith, ints));
-    high = rw (height v) (let h = rank_in x v l in omega (arith, ints));
-    new = λ u less e.
-        let same : pos (get_or rank u 0) ≡ pos (get_or rank v 0) = sym (height u) ∙ (e ∙ height v) in
-        absurd (omega (arith, less, one_vertex x u v (omega (arith, less, l)) l (omega (arith, ints))));
-  }
+  new_height v l = grind (arith, height, ints, rank_in, pos, get_or, one_vertex)
 
   -- the bars are within the width
   bar : (v : ℕ) → v < length lists → IsBar fig (pos (face_count lists - 1)) v
   bar v l =
       let r = drawn.reaches v l in
-      let one = r.from_one in
-      let two = r.to_one in
-      let e = one.2 ∙ col_is v one.0 one.1 in
-      let e' = two.2 ∙ col_is v two.0 two.1 in
-      let most = col_below v two.0 two.1 in
-      let low = r.to_least one.0 one.1 in
+      let most = col_below v r.to_one.0 r.to_one.1 in
       record {
-        left = rw e (omega (arith, ints));
-        order = rw one.2 low;
-        right = rw e' (omega (arith, ints));
+        left = rw (r.from_one.2 ∙ col_is v r.from_one.0 r.from_one.1) (omega (arith, ints));
+        order = rw r.from_one.2 (r.to_least r.from_one.0 r.from_one.1);
+        right = rw (r.to_one.2 ∙ col_is v r.to_one.0 r.to_one.1) (omega (arith, ints));
       }
 
   between_turned : (u v : ℕ) → HasDart lists u v → column_between lists fig u v ≡ column_between lists fig v u
@@ -143,10 +130,9 @@ module _ {lists : Lists} {s t : ℕ} {at rank columns : List ℕ} {fig : BarFigu
       let r = drawn.reaches a has.0 in
       let r' = drawn.reaches b back.0 in
       let is = col_is a b has in
-      let most = col_below a b has in
       rw (of_edge a b e.0) (record {
         left = rw is (omega (arith, ints));
-        right = rw is (omega (arith, ints));
+        right = rw is (omega (arith, col_below a b has, ints));
         lesser = record { from = r.from_most b has; to = r.to_least b has };
         greater = rw (between_turned a b has) (record { from = r'.from_most a back; to = r'.to_least a back });
       })
@@ -211,26 +197,10 @@ module _ {lists : Lists} {s t : ℕ} {at rank columns : List ℕ} {fig : BarFigu
   DartEarlier i j = (Up i × ¬ Up j) ⊎ ((Up i × Up j × (col i < col j)) ⊎ ((¬ Up i) × (¬ Up j) × (col j < col i)))
 
   earlier_from : (v u w : ℕ) → HasDart lists v u → HasDart lists v w → IsEarlier lists fig v u w → DartEarlier (dart_number lists (v, u)) (dart_number lists (v, w))
-  earlier_from v u w has has' e =
-      let i = dart_number lists (v, u) in
-      let j = dart_number lists (v, w) in
-      elim e [
-        | inl a ↦ inl (up_from v u has a.0, λ q. a.1 (up_to v w has' q))
-        | inr o ↦ elim o [
-          | inl a ↦ inr (inl (up_from v u has a.0, up_from v w has' a.1, (let less : pos (col i) <ℤ pos (col j) = rw (sym (col_is v u has), sym (col_is v w has')) a.2 in omega (arith, ints))))
-          | inr a ↦ inr (inr ((λ q. a.0 (up_to v u has q)), (λ q. a.1 (up_to v w has' q)), (let less : pos (col j) <ℤ pos (col i) = rw (sym (col_is v w has'), sym (col_is v u has)) a.2 in omega (arith, ints))))
-        ]
-      ]
+  earlier_from v u w has has' e = grind (arith, dart_number, up_from, up_to, pos, col, col_is, ints)
 
   earlier_to : (v u w : ℕ) → HasDart lists v u → HasDart lists v w → DartEarlier (dart_number lists (v, u)) (dart_number lists (v, w)) → IsEarlier lists fig v u w
-  earlier_to v u w has has' e =
-      elim e [
-        | inl a ↦ inl (up_to v u has a.0, λ q. a.1 (up_from v w has' q))
-        | inr o ↦ elim o [
-          | inl a ↦ inr (inl (up_to v u has a.0, up_to v w has' a.1, (let less = a.2 in rw (col_is v u has, col_is v w has') (omega (arith, ints)))))
-          | inr a ↦ inr (inr ((λ q. a.0 (up_from v u has q)), (λ q. a.1 (up_from v w has' q)), (let less = a.2 in rw (col_is v w has', col_is v u has) (omega (arith, ints)))))
-        ]
-      ]
+  earlier_to v u w has has' e = grind (arith, up_to, up_from, col_is, ints)
 
   -- a break of the darts is one of the list
   break_from : (v u : ℕ) → HasDart lists v u → ¬ DartEarlier (dart_number lists (v, u)) (rotation lists (dart_number lists (v, u))) → IsBreak lists fig v u
@@ -245,14 +215,12 @@ module _ {lists : Lists} {s t : ℕ} {at rank columns : List ℕ} {fig : BarFigu
   unfolding col
   turns v lv two =
       let first = (drawn.reaches v lv).from_one in
-      let i = dart_number lists (v, first.0) in
-      let found = some_break (bipolar x) n rising i (dart_in x v first.0 first.1) in
+      let found = some_break (bipolar x) n rising (dart_number lists (v, first.0)) (dart_in x v first.0 first.1) in
       let j = found.0 in
       let has = is_dart x j found.1 in
       let back = number_back x j found.1 in
       let tail : (dart_of lists j).0 ≡ v = one_vertex x (dart_of lists j).0 v has.0 lv (omega (arith, found.2, rank_at x v first.0 first.1)) in
-      let late : ¬ DartEarlier (dart_number lists (dart_of lists j)) (rotation lists (dart_number lists (dart_of lists j))) = subst (λ z. ¬ DartEarlier z (rotation lists z)) (sym back) found.3 in
-      let broken = break_from (dart_of lists j).0 (dart_of lists j).1 has late in
+      let broken = break_from (dart_of lists j).0 (dart_of lists j).1 has (subst (λ z. ¬ DartEarlier z (rotation lists z)) (sym back) found.3) in
       record {
         some = ((dart_of lists j).1, subst (λ z. HasDart lists z (dart_of lists j).1) tail has, subst (λ z. IsBreak lists fig z (dart_of lists j).1) tail broken);
         one = λ u w has has' bu bw.

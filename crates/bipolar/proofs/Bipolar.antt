@@ -22,8 +22,7 @@ rank_of lists rank i = get_or rank (tail_of lists i) 0
 some_class : (labels : List ℕ) → IsLabels labels → (i : ℕ) → i < length labels → 1 ≤ class_count labels
 some_class labels w i l =
     let own = label labels i in
-    let more = count_but (λ j. eqb (label labels j) j) (length labels) own (label-lt labels w i l) (eq-eqb (label labels own) own (w.own i)) in
-    omega (arith, more)
+    omega (arith, count_but (λ j. eqb (label labels j) j) (length labels) own (label-lt labels w i l) (eq-eqb (label labels own) own (w.own i)))
 
 module _ {lists : Lists} {s t : ℕ} {at rank : List ℕ} (x : IsStMap lists s t at rank) where
   pub dart_in : (u v : ℕ) → HasDart lists u v → dart_number lists (u, v) < dart_count lists
@@ -81,8 +80,7 @@ module _ {lists : Lists} {s t : ℕ} {at rank : List ℕ} (x : IsStMap lists s t
 
   darts_plane : class_count (orbits_of (rotation lists) (dart_count lists)) + class_count (orbits_of (after (rotation lists) (twin lists)) (dart_count lists)) ≡ edge_count lists + 2
   darts_plane =
-      let balance : Balances (rotation lists) (twin lists) (dart_count lists) (edge_count lists) 0 = balances_map lists x.simple 0 (omega (arith, x.plane)) in
-      omega (arith, balance, one_class.0)
+      omega (arith, balances_map lists x.simple 0 (omega (arith, x.plane)), one_class.0)
 
   pub rank_at : (u v : ℕ) → HasDart lists u v → rank_of lists rank (dart_number lists (u, v)) ≡ get_or rank u 0
   rank_at u v has = ap (λ z. get_or rank z 0) (tail_of-number lists u v has)

@@ -67,9 +67,4 @@ module _ (map : Map) (walks : List (List ℕ)) (rank : List ℕ) where
 
   -- one number more
   pub ArePutNumbers-more : (numbers : List ℕ) (v x k : ℕ) (old new new' : List ℕ) → ArePutNumbers map walks rank numbers v k old new → new' ≡ new ++ x ∷ [] → IsLeftNumber map walks rank numbers v (get_or (list_of map.lists v) k 0) x → ArePutNumbers map walks rank numbers v (k + 1) old new'
-  ArePutNumbers-more numbers v x k old new new' p grown is = record {
-    row = p.row ++ x ∷ [];
-    grown = grown ∙ (ap (λ z. z ++ x ∷ []) p.grown ∙ append_assoc old p.row (x ∷ []));
-    size = omega (arith, length-append p.row (x ∷ []), p.size);
-    left = AreLeftNumbers-more map walks rank numbers v x p.row p.left (subst (λ z. IsLeftNumber map walks rank numbers v (get_or (list_of map.lists v) z 0) x) (sym p.size) is);
-  }
+  ArePutNumbers-more numbers v x k old new new' p grown is = grind (arith, append_assoc, length-append, AreLeftNumbers-more, IsLeftNumber, get_or, list_of)

@@ -52,12 +52,7 @@ live_at o u v e = subst IsSome (sym e) refl
 
 -- a comparison of two ranks
 pub ranks_compared : (rank : List ℕ) (t h a b u v : ℕ) → slice_get rank t ≡ Some a → slice_get rank h ≡ Some b → t ≡ u → h ≡ v → IsTrue (nat_lt a b) ↔ (get_or rank u 0 < get_or rank v 0)
-ranks_compared rank t h a b u v ta hb tu hv =
-    let ra = get_or_from_slice_get rank t a 0 ta in
-    let rb = get_or_from_slice_get rank h b 0 hb in
-    let su = ap (λ z. get_or rank z 0) tu in
-    let sv = ap (λ z. get_or rank z 0) hv in
-    ((λ e. omega (arith, ltb-true a b e, ra, rb, su, sv)), (λ l. lt-ltb a b (omega (arith, l, ra, rb, su, sv))))
+ranks_compared rank t h a b u v ta hb tu hv = grind (arith, get_or_from_slice_get, get_or, ltb-true, lt-ltb)
 
 module _ (map : Map) (walks : List (List ℕ)) (rank ids : List ℕ) where
   -- one dart more
@@ -96,15 +91,7 @@ module _ (map : Map) (walks : List (List ℕ)) (rank ids : List ℕ) where
 
 -- one number more in a row
 pub AreLeftNumbers-more : (map : Map) (walks : List (List ℕ)) (rank numbers : List ℕ) (v x : ℕ) (row : List ℕ) → AreLeftNumbers map walks rank numbers v row → IsLeftNumber map walks rank numbers v (get_or (list_of map.lists v) (length row) 0) x → AreLeftNumbers map walks rank numbers v (row ++ x ∷ [])
-AreLeftNumbers-more map walks rank numbers v x row w is = record {
-  entries = λ i l. elim (cases_lt i (length row)) [
-    | inl less ↦ subst (IsLeftNumber map walks rank numbers v (get_or (list_of map.lists v) i 0)) (sym (get_or_append_left row (x ∷ []) 0 i less)) (w.entries i less)
-    | inr most ↦
-        let e : i ≡ length row = omega (arith, most, l, length-append row (x ∷ [])) in
-        subst (λ z. IsLeftNumber map walks rank numbers v (get_or (list_of map.lists v) z 0) (get_or (row ++ x ∷ []) z 0)) (sym e)
-        (subst (IsLeftNumber map walks rank numbers v (get_or (list_of map.lists v) (length row) 0)) (sym (get_or_push row x 0 (length row) refl)) is)
-  ];
-}
+AreLeftNumbers-more map walks rank numbers v x row w is = grind (arith, cases_lt, length, IsLeftNumber, get_or, list_of, get_or_append_left, length-append, get_or_push)
 
 -- the entry at the next place is the next one
 next_entry : (us : List ℕ) (i : ℕ) → AllPairs ◌≢◌ us → i + 1 < length us → entry_after (get_or us i 0) us ≡ get_or us (i + 1) 0

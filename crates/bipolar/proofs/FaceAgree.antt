@@ -78,10 +78,9 @@ module _ (lists : Lists) (simple : IsSimpleMap lists) (of : List ℕ) (count : �
     height_is : (u v : ℕ) → HasDart lists u v → height (face_of lists of u v) ≡ number (u, v)
     unfolding height
     height_is u v h =
-        let i = dart_number lists (u, v) in
         let f = face_of lists of u v in
         let i_in = dart_number-lt lists u v h in
-        let place = place_of-lt-length f of (Contains-get_or of i 0 (omega (arith, i_in, faces.size))) in
+        let place = place_of-lt-length f of (Contains-get_or of (dart_number lists (u, v)) 0 (omega (arith, i_in, faces.size))) in
         let j_in : place_of f of < dart_count lists = omega (arith, place, faces.size) in
         let is = IsDartNumber-darts lists (place_of f of) (0, 0) simple.no_repeat j_in in
         let d : Dart = get_or (darts lists) (place_of f of) (0, 0) in
@@ -91,11 +90,9 @@ module _ (lists : Lists) (simple : IsSimpleMap lists) (of : List ℕ) (count : �
     arc_into : (a b : ℕ) → HasDart lists a b → face_of lists of a b ≢ base → (u : ℕ) × (v : ℕ) × IsUpward lists rank u v × HasArc arcs (face_of lists of u v) (face_of lists of a b) × (number (a, b) ≡ number (u, v) + 1)
     arc_into a b h ne =
         let f = w.reached (a, b) h (off_base a b h ne) in
-        let u = f.0 in
-        let v = f.1 in
-        let back = simple.both_ways u v f.2.0 in
-        let same = one_number a b v u h back f.3 in
-        (u, v, f.2, subst (HasArc arcs (face_of lists of u v)) (sym same) (x.to u v f.2), f.4)
+        let back = simple.both_ways f.0 f.1 f.2.0 in
+        let same = one_number a b f.1 f.0 h back f.3 in
+        (f.0, f.1, f.2, subst (HasArc arcs (face_of lists of f.0 f.1)) (sym same) (x.to f.0 f.1 f.2), f.4)
 
     pub acyclic : IsAcyclic arcs base
     acyclic = record {
@@ -176,11 +173,10 @@ module _ (lists : Lists) (rank at : List ℕ) (s t : ℕ) (m : IsStMap lists s t
     give_duals = record {
       sizes = record { count = length-left_rows lists rank of numbers; sizes = λ v l. length-left_row lists rank of numbers v };
       both = λ u v has.
-          let back = m.simple.both_ways u v has in
           in_left_row lists rank of numbers u v has ∙ (elim (cases_lt (get_or rank u 0) (get_or rank v 0)) [
             | inl up ↦ left_up u v up ∙ sym (left_down v u (omega (arith, up)))
             | inr most ↦ left_down u v most ∙ sym (left_up v u (other_rank u v has most))
-          ] ∙ sym (in_left_row lists rank of numbers v u back));
+          ] ∙ sym (in_left_row lists rank of numbers v u (m.simple.both_ways u v has)));
       low = λ v i.
           let number = (one_numbering m).some in
           let below = (one_numbering m).below number.0 number.1 in

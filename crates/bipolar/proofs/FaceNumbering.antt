@@ -43,10 +43,8 @@ row-map g ends xs f l = ap (λ (z : List (List ℕ)). arcs_of z f) (cut-map g 0 
 -- a number written at a place marks just that place
 pub SetsMark-numbered : (of : List ℕ) (k d f : ℕ) → d < length of → f < no_face → SetsMark k (mark_at (with_face of)) (mark_at (with_face (set of d f))) d
 SetsMark-numbered of k d f l few =
-    let e = marks-set no_face of d f few in
-    let long = length-marks_of no_face of in
-    rw e record {
-      here = set-here (with_face of) d (omega (arith, l, long));
+    rw (marks-set no_face of d f few) record {
+      here = set-here (with_face of) d (omega (arith, l, length-marks_of no_face of));
       elsewhere = λ i m ne. get_or-set_other (with_face of) d i true false ne;
     }
 
@@ -67,8 +65,7 @@ module _ (entries ends twins : List ℕ) (t : AreDarts entries ends twins) where
 
   pub few_entries : length entries < 16777216
   few_entries =
-      let long = length-cut 0 ends entries in
-      omega (arith, few_darts-simple lists (omega (arith, t.few, long)) t.simple, all_darts)
+      omega (arith, few_darts-simple lists (omega (arith, t.few, length-cut 0 ends entries)) t.simple, all_darts)
 
   -- a dart leads to its entry
   pub dart_head : (d : ℕ) → d < length entries → (dart_of lists d).1 ≡ get_or entries d 0
@@ -123,23 +120,17 @@ module _ (entries ends twins : List ℕ) (t : AreDarts entries ends twins) where
       let u_in : u < length ends = omega (arith, has.0, length-cut 0 ends entries) in
       let s = get_or (0 ∷ ends) u 0 in
       let at : r ≡ s + k = sym number ∙ ap (λ x. x + k) (start-is ends entries t.cuts u (omega (arith, u_in))) in
-      let head : u ≡ get_or entries d 0 = dart_head d l in
       let next : cond (eqb (s + k + 1) (get_or ends u 0)) s (s + k + 1) ≡ s + place_after (length us) k = after-place s (length us) k (get_or ends u 0) k_in (end-is ends entries t.cuts u u_in) in
       let along : s + place_after (length us) k ≡ image (face_images lists) d =
       ap₂ (λ x y. x + y) (sym (start-is ends entries t.cuts u (omega (arith, u_in)))) (sym (place_of-entry_after v us (t.simple.no_repeat u has.0) has.1))
       ∙ sym (get_or-face_images lists d d (0, 0) (omega (arith, l, all_darts))) in
-      subst (λ x. cond (eqb (r + 1) (get_or ends x 0)) (get_or (0 ∷ ends) x 0) (r + 1) ≡ image (face_images lists) d) head
+      subst (λ x. cond (eqb (r + 1) (get_or ends x 0)) (get_or (0 ∷ ends) x 0) (r + 1) ≡ image (face_images lists) d) (dart_head d l)
       (ap (λ x. cond (eqb (x + 1) (get_or ends u 0)) s (x + 1)) at ∙ (next ∙ along))
 
   module _ (rank : List ℕ) where
     -- no dart has got a face yet
     pub ArePutTwins-none : (before old : List ℕ) → ArePutTwins lists rank twins before before old old
-    ArePutTwins-none before old = record {
-      row = [];
-      grown = sym (append-nil old);
-      from = λ x c. let l = c.1 in absurd (omega (arith, l));
-      to = λ i l new. absurd (false≢true (sym new.0 ∙ new.1));
-    }
+    ArePutTwins-none before old = grind (arith, append-nil, false≢true)
 
     -- one dart more has got one
     pub ArePutTwins-more : (before after after' old new new' : List ℕ) (d f : ℕ) → IsNumberedBy no_face before after f → ArePutTwins lists rank twins before after old new → d < length entries → length after ≡ length entries → mark_at (with_face after) d ≡ false → f < no_face → after' ≡ set after d f → IsPutUp rank (get_or entries (get_or twins d 0) 0) (get_or entries d 0) (get_or twins d 0) new new' → ArePutTwins lists rank twins before after' old new'
@@ -170,10 +161,9 @@ module _ (entries ends twins : List ℕ) (t : AreDarts entries ends twins) where
                 ];
               }
           | inr down ↦
-              let same = put.down (omega (arith, down, ap (λ z. get_or rank z 0) tail, ap (λ z. get_or rank z 0) head)) in
               record {
                 row = w.row;
-                grown = same ∙ w.grown;
+                grown = (put.down (omega (arith, down, ap (λ z. get_or rank z 0) tail, ap (λ z. get_or rank z 0) head))) ∙ w.grown;
                 from = λ x c. let h = w.from x c in (h.0, h.1, keeps h.0 (omega (arith, h.1, all)) h.2, h.3, h.4);
                 to = λ i m n g. elim (cases_eq i d) [
                   | inl e ↦ absurd (omega (arith, down, g, ap (λ z. get_or rank (dart_of lists z).0 0) e, ap (λ z. get_or rank (dart_of lists z).1 0) e))

@@ -50,7 +50,6 @@ module _ {lists : Lists} {s t : ℕ} {at rank : List ℕ} (x : IsStMap lists s t
   IsDual-from number w =
       let b = bipolar x in
       let base = dart_number lists (s, t) in
-      let of_base = dart_back (s, t) x.dart in
       record {
         rising = record {
           faces = λ i l.
@@ -59,7 +58,7 @@ module _ {lists : Lists} {s t : ℕ} {at rank : List ℕ} (x : IsStMap lists s t
               let same : SameFace lists (dart_of lists i) (face_step lists (dart_of lists i)) =
               subst (SameFace lists (dart_of lists i)) step (face_from i (f (g i)) l (step_in b i l) (Faces_step i l)) in
               ap number step ∙ sym (w.of_faces (dart_of lists i) (face_step lists (dart_of lists i)) has (HasDart-face_step lists (dart_of lists i) x.simple has) same);
-          first = ap number of_base ∙ w.first;
+          first = ap number (dart_back (s, t) x.dart) ∙ w.first;
           rises = λ i l u off.
               let d = dart_of lists i in
               let turned = dart_of-twin lists x.simple i l in
@@ -99,14 +98,12 @@ module _ {lists : Lists} {s t : ℕ} {at rank : List ℕ} (x : IsStMap lists s t
         reached = λ d has off.
             let i = dart_number lists d in
             let found = w.reached i (dart_in x d.0 d.1 has) (λ same. off (same_face lists x.simple (s, t) d same)) in
-            let e = found.0 in
-            let c = dart_of lists e in
-            let is = is_dart x e found.1 in
-            let number = number_back x e found.1 in
-            let turned : dart_number lists (c.1, c.0) ≡ g e = sym (twin-number lists c.0 c.1 is) ∙ ap g number in (
+            let c = dart_of lists found.0 in
+            let number = number_back x found.0 found.1 in
+            let turned : dart_number lists (c.1, c.0) ≡ g found.0 = sym (twin-number lists c.0 c.1 (is_dart x found.0 found.1)) ∙ ap g number in (
               c.0,
               c.1,
-              upward e found.1 found.2,
+              upward found.0 found.1 found.2,
               same_face lists x.simple d (c.1, c.0) (subst (InFace k f g i) (sym turned) found.3),
               omega (arith, found.4, ap n number),
             );

@@ -38,19 +38,12 @@ IsReady k f g y st done e =
 
 -- nothing is done
 pub IsUnder-none : (k : ℕ) (f g y : ℕ → ℕ) (st : ℕ) (done : ℕ → Bool) (n : ℕ → ℕ) → ((i : ℕ) → i < k → done i ≡ false) → ((i : ℕ) → i < k → n i ≡ 0) → st < k → ((i : ℕ) → i < k → f (g i) < k) → IsUnder k f g y st done n
-IsUnder-none k f g y st done n none zeros base stays = record {
-  faces = λ i l. zeros (f (g i)) (stays i l) ∙ sym (zeros i l);
-  first = zeros st base;
-  raised = λ e l u inner t. absurd (false≢true (sym (none e l) ∙ t));
-  tight = λ i l off. inl (zeros i l);
-  closed = λ x e l m u v t off same. absurd (false≢true (sym (none x l) ∙ t));
-}
+IsUnder-none k f g y st done n none zeros base stays = grind (arith, false≢true)
 
 module _ {k m : ℕ} {f g y : ℕ → ℕ} {st : ℕ} (d : IsBipolar k m f g y st) where
   -- one dart more
   pub IsUnder-more : (done done' : ℕ → Bool) (n n' : ℕ → ℕ) (e : ℕ) → IsUnder k f g y st done n → e < k → y e < y (g e) → done e ≡ false → IsReady k f g y st done e → IsDoneMore k done done' e → IsRaise k f g st n n' e → IsUnder k f g y st done' n'
   IsUnder-more done done' n n' e w le ue new ready more raise =
-      let gl = twin_in d e le in
       let keeps : (i : ℕ) → i < k → done i ≡ true → done' i ≡ true =
       λ i l t. elim (cases_eq i e) [ inl s ↦ ap done' s ∙ more.here | inr ne ↦ more.elsewhere i l ne ∙ t ] in
       -- the face on the left of a dart that is done now stays
@@ -103,7 +96,7 @@ module _ {k m : ℕ} {f g y : ℕ → ℕ} {st : ℕ} (d : IsBipolar k m f g y s
             elim (cases_eq x e) [
               | inl s ↦
                   let nb : ¬ InFace k f g st (g e) = λ q. inner (subst (λ z. InFace k f g st (g z)) (sym s) q) in
-                  elim (raise.raised nb (g e) gl refl) [
+                  elim (raise.raised nb (g e) (twin_in d e le) refl) [
                     | inl a ↦ omega (arith, lk, a.0, a.1, ap n s, ap (λ z. n' (g z)) s)
                     | inr a ↦ omega (arith, lk, a.0, a.1, ap n s, ap (λ z. n' (g z)) s)
                   ]
@@ -179,10 +172,8 @@ module _ {k m : ℕ} {f g y : ℕ → ℕ} {st : ℕ} (d : IsBipolar k m f g y s
           | inl z ↦
               let j = face_fails d i l in
               let gl = twin_in d j.0 j.1 in
-              let back = d.pairs.back j.0 j.1 in
-              let u = twin_up d j.0 j.1 (is_down d j.0 j.1 j.3) in
-              let same : InFace k f g i (g (g j.0)) = subst (InFace k f g i) (sym back) j.2 in
-              let more = rising.rises (g j.0) gl u (λ q. off (q ∙ sym same)) in
+              let same : InFace k f g i (g (g j.0)) = subst (InFace k f g i) (sym (d.pairs.back j.0 j.1)) j.2 in
+              let more = rising.rises (g j.0) gl (twin_up d j.0 j.1 (is_down d j.0 j.1 j.3)) (λ q. off (q ∙ sym same)) in
               absurd (omega (arith, more, z, same_number d n rising i (g (g j.0)) l (twin_in d (g j.0) gl) same))
         ];
       }
@@ -323,9 +314,8 @@ module _ {k m : ℕ} {f g y : ℕ → ℕ} {st : ℕ} (d : IsBipolar k m f g y s
         | inl s ↦ omega (arith, same_number d a v.rising st i d.base l s, v.rising.first)
         | inr off ↦
             let e = v.reached i l off in
-            let rest = least bound a b v w e.0 e.1 (omega (arith, e.4, le)) in
             let more = w.rises e.0 e.1 e.2 (λ q. off (q ∙ sym e.3)) in
-            omega (arith, e.4, rest, more, same_number d b w i (g e.0) l (twin_in d e.0 e.1) e.3)
+            omega (arith, e.4, least bound a b v w e.0 e.1 (omega (arith, e.4, le)), more, same_number d b w i (g e.0) l (twin_in d e.0 e.1) e.3)
       ]
 
   -- there are just one

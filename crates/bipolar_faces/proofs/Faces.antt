@@ -56,11 +56,7 @@ module _ {k m : ℕ} {f g y : ℕ → ℕ} {st : ℕ} (d : IsBipolar k m f g y s
   twin_up i l low = omega (arith, low, ap y (d.pairs.back i l))
 
   partner : (i : ℕ) → i < k → up g y (g i) ≡ not (up g y i)
-  partner i l =
-      elim (cases_Bool (up g y i)) [
-        | inl e ↦ down_from (g i) (omega (arith, is_up i e, ap y (d.pairs.back i l))) ∙ sym (not_from_true (up g y i) e)
-        | inr e ↦ up_from (g i) (twin_up i l (is_down i l e)) ∙ sym (not_from_false (up g y i) e)
-      ]
+  partner i l = grind (arith, cases_Bool, up, down_from, is_up, not_from_true, up_from, twin_up, is_down, not_from_false)
 
   -- a face in which all darts go down has none
   no_descent : (i n : ℕ) → ((j : ℕ) → j < k → InFace k f g i j → up g y j ≡ false) → (j : ℕ) → j < k → InFace k f g i j → y j ≤ n → ⊥
@@ -104,18 +100,10 @@ module _ {k m : ℕ} {f g y : ℕ → ℕ} {st : ℕ} (d : IsBipolar k m f g y s
       not_true false e = refl
 
   below_top : (i : ℕ) → i < k → (SameTail k f (g st) i → ⊥) → y i < y (g st)
-  below_top i l ne =
-      elim (cases_eq (y (g st)) (y i)) [
-        | inl e ↦ absurd (ne (d.vertices (g st) i (twin_in st d.base) l e))
-        | inr o ↦ omega (arith, d.greatest i l)
-      ]
+  below_top i l ne = grind (arith, cases_eq, twin_in)
 
   above_base : (i : ℕ) → i < k → (SameTail k f st i → ⊥) → y st < y i
-  above_base i l ne =
-      elim (cases_eq (y st) (y i)) [
-        | inl e ↦ absurd (ne (d.vertices st i d.base l e))
-        | inr o ↦ omega (arith, d.least i l)
-      ]
+  above_base i l ne = grind (arith, cases_eq)
 
   pub mixed : IsMixed k m f g (up g y) st (g st)
   mixed = record {
@@ -192,23 +180,7 @@ module _ {k m : ℕ} {f g y : ℕ → ℕ} {st : ℕ} (d : IsBipolar k m f g y s
       ]
     where
       both : (n i j : ℕ) → i < k → j < k → y (f (g i)) ≡ y (g i) → y (f (g j)) ≡ y (g j) → y i < y (g i) → y j < y (g j) → y (f (g i)) < y (g (f (g i))) → y (f (g j)) < y (g (f (g j))) → Apart g y i (f (g j)) → Apart g y (f (g i)) j → Apart g y (f (g i)) (f (g j)) → Apart g y i j
-      both n i j li lj si sj hi hj ti tj one two three =
-          elim one [
-            | inl e ↦ inr (inr (omega (arith, ap y e, sj)))
-            | inr o ↦ elim o [
-              | inl ei ↦ elim two [
-                | inl e ↦ inr (inl (omega (arith, ap y e, si)))
-                | inr o' ↦ elim o' [
-                  | inl e ↦ inr (inl (omega (arith, e, ti, si)))
-                  | inr ej ↦ elim three [
-                    | inl e ↦ inl (steps.apart i j li lj e)
-                    | inr o'' ↦ elim o'' [ inl e ↦ absurd (omega (arith, e, ei, ej, si, sj, ti, tj)) | inr e ↦ absurd (omega (arith, e, ei, ej, si, sj, ti, tj)) ]
-                  ]
-                ]
-              ]
-              | inr e ↦ inr (inr (omega (arith, e, tj, sj)))
-            ]
-          ]
+      both n i j li lj si sj hi hj ti tj one two three = grind (arith, steps)
 
   -- of two upward darts of one face one ends at or below the start of the other, or they are one
   pub chain : (i j : ℕ) → i < k → j < k → InFace k f g i j → y i < y (g i) → y j < y (g j) → Apart g y i j
@@ -216,13 +188,7 @@ module _ {k m : ℕ} {f g y : ℕ → ℕ} {st : ℕ} (d : IsBipolar k m f g y s
 
   -- the base dart is the only upward dart of its face
   pub base_only : (i : ℕ) → i < k → InFace k f g st i → y i < y (g i) → i ≡ st
-  base_only i l same ui =
-      let top = d.greatest (g i) (twin_in i l) in
-      let low = d.least i l in
-      elim (chain st i d.base l same (let t = d.greatest i l in omega arith) ui) [
-        | inl e ↦ sym e
-        | inr o ↦ elim o [ inl e ↦ absurd (omega arith) | inr e ↦ absurd (omega arith) ]
-      ]
+  base_only i l same ui = grind (arith, twin_in, chain)
 
   pub base_up : y st < y (g st)
   base_up = let low = d.least (g st) (twin_in st d.base) in let ne = d.slanted st d.base in elim (cases_eq (y st) (y (g st))) [ inl e ↦ absurd (ne e) | inr o ↦ omega arith ]
@@ -241,10 +207,9 @@ module _ {k m : ℕ} {f g y : ℕ → ℕ} {st : ℕ} (d : IsBipolar k m f g y s
   face_above r i lr li same nr tr =
       let kept = kept_on (after f g) k steps (λ j. not (ltb (y j) (y (g r)))) r i lr li same
       (λ j lj s e.
-      let low = ltb-false (y j) (y (g r)) (not_true (ltb (y j) (y (g r))) e) in
       let above : y (g r) ≤ y (f (g j)) =
       elim (cases_Bool (up g y j)) [
-        | inl u ↦ omega (arith, low, is_up j u, step_rank j lj)
+        | inl u ↦ omega (arith, ltb-false (y j) (y (g r)) (not_true (ltb (y j) (y (g r))) e), is_up j u, step_rank j lj)
         | inr u ↦ omega (arith, above_bottom (y j) r j lr lj s (down_from r nr) (up_from (f (g r)) tr) u (omega arith), step_rank j lj)
       ] in
       not_from_false (ltb (y (f (g j))) (y (g r))) (le-ltb (y (f (g j))) (y (g r)) above))

@@ -52,21 +52,11 @@ some_fall q k w p a b la lb same pa pb =
           (found.0, found.1, Together-from orbits a found.0 one.0, two.0, false_from_ne_true (p (q found.0)) (λ e. false≢true (sym (not_from_true (p (q found.0)) e) ∙ two.1)))
       | inr none ↦
           let mark : ℕ → Bool = λ i. same_class orbits a i && p i in
-          let on : (i : ℕ) → i < k → mark i ≡ true → mark (q i) ≡ true =
-          λ i l t.
-          let parts = and_parts (same_class orbits a i) (p i) t in
-          let next = same_class-from orbits a (q i) (Together-from orbits a i parts.0 ∙ orbits_of-step q k w.within i l) in
-          elim (cases_Bool (p (q i))) [
-            | inl e ↦ and_from (same_class orbits a (q i)) (p (q i)) next e
-            | inr e ↦
-                let hit : falls i ≡ true = and_from (same_class orbits a i) (p i && not (p (q i))) parts.0 (and_from (p i) (not (p (q i))) parts.1 (not_from_false (p (q i)) e)) in
-                absurd (false≢true (sym (none i l) ∙ hit))
-          ] in
+          let on : (i : ℕ) → i < k → mark i ≡ true → mark (q i) ≡ true = grind (arith, and_parts, same_class, same_class-from, Together-from, orbits_of-step, cases_Bool, and_from, falls, not, not_from_false, false≢true) in
           let back = marks_back q k w mark on in
           let same_mark = orbits_of-marked mark q k w.within (λ i l. both_or_either (mark i) (mark (q i)) (on i l) (back i l)) a b la lb same in
           let there : mark a ≡ true = and_from (same_class orbits a a) (p a) (same_class-from orbits a a refl) pa in
-          let here = and_parts (same_class orbits a b) (p b) (sym same_mark ∙ there) in
-          absurd (false≢true (sym pb ∙ here.1))
+          absurd (false≢true (sym pb ∙ (and_parts (same_class orbits a b) (p b) (sym same_mark ∙ there)).1))
     ]
 
 -- where each class that passes a test, by its least number, has a number that is marked, at most as many classes pass as numbers are marked
@@ -99,14 +89,12 @@ count_but p n m l e = count_below_more (but p m) p n m l (but-here p m) e (λ i 
 pub count_but-le : (p : ℕ → Bool) (n m : ℕ) → count_below p n ≤ count_below (but p m) n + 1
 count_but-le p zero m = omega arith
 count_but-le p (suc n) m =
-    let rest = count_but-le p n m in
     elim (cases_eq n m) [
       | inl e ↦
-          let same = count_below_same p (but p m) n (λ i l. sym (but-other p m i (λ d. absurd (omega (arith, d, e))))) in
           let off : but p m n ≡ false = ap (but p m) e ∙ but-here p m in
           let most = one_at_most (p n) in
-          omega (arith, same, ap one_if off, most)
-      | inr ne ↦ omega (arith, rest, ap one_if (but-other p m n ne))
+          omega (arith, count_below_same p (but p m) n (λ i l. sym (but-other p m i (λ d. absurd (omega (arith, d, e))))), ap one_if off, most)
+      | inr ne ↦ omega (arith, count_but-le p n m, ap one_if (but-other p m n ne))
     ]
   where
     one_at_most : (b : Bool) → one_if b ≤ 1
@@ -151,18 +139,16 @@ module _ (k m : ℕ) (f g : ℕ → ℕ) (p : ℕ → Bool) (s t : ℕ) (x : IsM
 
   half_fails : count_below (λ i. not (p i)) k ≡ m
   half_fails =
-      let turned = count_below-images g k (IsPermuting-pairing g k x.pairs) p in
       let same = count_below_same (λ i. p (g i)) (λ i. not (p i)) k x.partner in
-      omega (arith, turned, same, count_below_not p k, x.edges)
+      omega (arith, count_below-images g k (IsPermuting-pairing g k x.pairs) p, same, count_below_not p k, x.edges)
 
   -- the falls of the rotation and of the face step are m together
   falls_are_m : count_below (falls p f) k + count_below (falls p h) k ≡ m
   falls_are_m =
-      let turned = count_below-images g k (IsPermuting-pairing g k x.pairs) (falls p f) in
       let known = count_below_same (λ i. falls p f (g i)) (λ i. not (p i) && not (p (h i))) k (λ i l. ap (λ b. b && not (p (h i))) (x.partner i l)) in
       let sum = sum_at (falls p h) (λ i. not (p i) && not (p (h i))) (λ i. not (p (h i))) k (λ i l. one_of (p i) (p (h i))) in
       let stepped = count_below-images h k steps (λ i. not (p i)) in
-      omega (arith, turned, known, sum, stepped, half_fails)
+      omega (arith, count_below-images g k (IsPermuting-pairing g k x.pairs) (falls p f), known, sum, stepped, half_fails)
 
   abbrev faces : List ℕ
   faces = orbits_of h k
@@ -191,18 +177,11 @@ module _ (k m : ℕ) (f g : ℕ → ℕ) (p : ℕ → Bool) (s t : ℕ) (x : IsM
   vertex_count-le : class_count vertices ≤ count_below inner k + 2
   unfolding inner
   vertex_count-le =
-      let one = count_but-le own_vertex k (label vertices s) in
-      let two = count_but-le (but own_vertex (label vertices s)) k (label vertices t) in
-      omega (arith, vertex_count, one, two)
+      omega (arith, vertex_count, count_but-le own_vertex k (label vertices s), count_but-le (but own_vertex (label vertices s)) k (label vertices t))
 
   inner_is : (i : ℕ) → inner i ≡ true → (label vertices i ≡ i) × (Together vertices s i → ⊥) × (Together vertices t i → ⊥)
   unfolding inner own_vertex
-  inner_is i e =
-      let not_t : i ≢ label vertices t = λ d. false≢true (sym (ap (but (but own_vertex (label vertices s)) (label vertices t)) d ∙ but-here (but own_vertex (label vertices s)) (label vertices t)) ∙ e) in
-      let once = sym (but-other (but own_vertex (label vertices s)) (label vertices t) i not_t) ∙ e in
-      let not_s : i ≢ label vertices s = λ d. false≢true (sym (ap (but own_vertex (label vertices s)) d ∙ but-here own_vertex (label vertices s)) ∙ once) in
-      let own = eqb-true (label vertices i) i (sym (but-other own_vertex (label vertices s) i not_s) ∙ once) in
-      (own, (λ same. not_s (sym own ∙ sym same)), (λ same. not_t (sym own ∙ sym same)))
+  inner_is i e = grind (arith, label, vertices, false≢true, but, own_vertex, but-here, but-other, eqb-true)
 
   face_fall : (i : ℕ) → i < k → (j : ℕ) × (j < k) × Together faces i j × (falls p h j ≡ true)
   face_fall i l =
@@ -232,7 +211,6 @@ module _ (k m : ℕ) (f g : ℕ → ℕ) (p : ℕ → Bool) (s t : ℕ) (x : IsM
       elim (cases_eq a b) [
         | inl e ↦ e
         | inr ne ↦
-            let more = count_but (falls p h) k b lb fb in
             let le = classes_le faces own_face (but (falls p h) b) k (IsLabels-orbits_of h k steps.within) (λ i l e. eqb-true (label faces i) i e)
             (λ i l e.
             let j = face_fall i l in
@@ -240,7 +218,7 @@ module _ (k m : ℕ) (f g : ℕ → ℕ) (p : ℕ → Bool) (s t : ℕ) (x : IsM
               | inl d ↦ (a, la, j.2 ∙ (ap (label faces) d ∙ sym same), but-other (falls p h) b a ne ∙ fa)
               | inr d ↦ (j.0, j.1, j.2, but-other (falls p h) b j.0 d ∙ j.3)
             ]) in
-            absurd (omega (arith, more, le, face_count, vertices_le, falls_are_m, x.plane))
+            absurd (omega (arith, count_but (falls p h) k b lb fb, le, face_count, vertices_le, falls_are_m, x.plane))
       ]
 
   -- each vertex has one fall
@@ -249,7 +227,6 @@ module _ (k m : ℕ) (f g : ℕ → ℕ) (p : ℕ → Bool) (s t : ℕ) (x : IsM
       elim (cases_eq a b) [
         | inl e ↦ e
         | inr ne ↦
-            let more = count_but (falls p f) k b lb fb in
             let le = classes_le vertices inner (but (falls p f) b) k (IsLabels-orbits_of f k x.rotates.within) (λ i l e. (inner_is i e).0)
             (λ i l e.
             let j = vertex_fall i l (inner_is i e).1 (inner_is i e).2 in
@@ -257,7 +234,7 @@ module _ (k m : ℕ) (f g : ℕ → ℕ) (p : ℕ → Bool) (s t : ℕ) (x : IsM
               | inl d ↦ (a, la, j.2 ∙ (ap (label vertices) d ∙ sym same), but-other (falls p f) b a ne ∙ fa)
               | inr d ↦ (j.0, j.1, j.2, but-other (falls p f) b j.0 d ∙ j.3)
             ]) in
-            absurd (omega (arith, more, le, vertex_count-le, faces_le, falls_are_m, x.plane))
+            absurd (omega (arith, count_but (falls p f) k b lb fb, le, vertex_count-le, faces_le, falls_are_m, x.plane))
       ]
 
 -- what is true of a test is true of its opposite

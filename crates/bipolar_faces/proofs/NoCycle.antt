@@ -156,24 +156,11 @@ module _ {k m : ℕ} {f g y : ℕ → ℕ} {st : ℕ} (d : IsBipolar k m f g y s
 
     old_of : (i : ℕ) → next i ≡ true → (x : ℕ) × (x < k) × InFace k f g i x × (y x < r)
     unfolding next
-    old_of i t =
-        let parts = and_parts (any_below (λ x. eqb (face i) (face x) && ltb (y x) r) k) (set i || any_below (λ j. eqb (face i) (face (g j)) && (eqb (y j) r && not (up g y j))) k) t in
-        let x = any_below-at (λ x. eqb (face i) (face x) && ltb (y x) r) k parts.0 in
-        let both = and_parts (eqb (face i) (face x.0)) (ltb (y x.0) r) x.2 in
-        (x.0, x.1, eqb-true (face i) (face x.0) both.0, ltb-true (y x.0) r both.1)
+    old_of i t = grind (arith, and_parts, any_below, eqb, face, ltb, not, up, any_below-at, eqb-true, ltb-true)
 
     why_of : (i : ℕ) → next i ≡ true → (set i ≡ true) ⊎ ((j : ℕ) × (j < k) × InFace k f g i (g j) × (y j ≡ r) × (up g y j ≡ false))
     unfolding next
-    why_of i t =
-        let parts = and_parts (any_below (λ x. eqb (face i) (face x) && ltb (y x) r) k) (set i || any_below (λ j. eqb (face i) (face (g j)) && (eqb (y j) r && not (up g y j))) k) t in
-        elim (one_of_both (set i) (any_below (λ j. eqb (face i) (face (g j)) && (eqb (y j) r && not (up g y j))) k) parts.1) [
-          | inl s ↦ inl s
-          | inr s ↦
-              let j = any_below-at (λ j. eqb (face i) (face (g j)) && (eqb (y j) r && not (up g y j))) k s in
-              let both = and_parts (eqb (face i) (face (g j.0))) (eqb (y j.0) r && not (up g y j.0)) j.2 in
-              let rest = and_parts (eqb (y j.0) r) (not (up g y j.0)) both.1 in
-              inr (j.0, j.1, eqb-true (face i) (face (g j.0)) both.0, eqb-true (y j.0) r rest.0, not_true (up g y j.0) rest.1)
-        ]
+    why_of i t = grind (arith, and_parts, any_below, eqb, face, ltb, not, up, one_of_both, any_below-at, eqb-true, not_true)
 
     abbrev Found : ℕ → Type 0
     Found i = (e : ℕ) × (e < k) × (y e < y (g e)) × (y e < r) × (next e ≡ true) × InFace k f g i (g e)
@@ -190,11 +177,9 @@ module _ {k m : ℕ} {f g y : ℕ → ℕ} {st : ℕ} (d : IsBipolar k m f g y s
     from_set i l t s =
         let x = old_of i t in
         let e = w.fed i l s in
-        let here = corner d e.0 e.1 in
         elim (cases_lt (y e.0) r) [
           | inl low ↦ (e.0, e.1, e.2, low, in_next e.0 e.0 e.1 refl low (inl e.4), e.5)
           | inr high ↦
-              let fl = d.rotates.within e.0 e.1 in
               let at : y (f e.0) ≡ r = omega (arith, d.turned e.0 e.1, high, e.3) in
               elim (cases_Bool (up g y (f e.0))) [
                 | inl u ↦
@@ -202,7 +187,7 @@ module _ {k m : ℕ} {f g y : ℕ → ℕ} {st : ℕ} (d : IsBipolar k m f g y s
                     let hf = is_up d (f e.0) u in
                     let above = face_above d (g e.0) x.0 (twin_in d e.0 e.1) x.1 (sym e.5 ∙ x.2) (omega (arith, e.2, ap y back)) (omega (arith, hf, ap (λ z. y (f z)) back, ap (λ z. y (g (f z))) back)) in
                     absurd (omega (arith, above, ap y back, x.3, high))
-                | inr u ↦ through i (f e.0) fl at u (e.5 ∙ here)
+                | inr u ↦ through i (f e.0) (d.rotates.within e.0 e.1) at u (e.5 ∙ (corner d e.0 e.1))
               ]
         ]
 

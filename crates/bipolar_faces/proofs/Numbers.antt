@@ -63,14 +63,7 @@ module _ {k m : ℕ} {f g y : ℕ → ℕ} {st : ℕ} (d : IsBipolar k m f g y s
 
   -- the base dart is left of each other crossing
   from_base : (r i e : ℕ) → Crosses k g y r i → IsBefore r i e → Ordered k f g st n st e → Ordered k f g st n st i
-  from_base r i e c b o =
-      elim o [
-        | inl s ↦ inr (inl (record { inner = λ q. b.inner (subst (λ x. InFace k f g st (g x)) s q); most = omega (arith, ap (λ x. n (g x)) s, b.number) }))
-        | inr o' ↦ elim o' [
-          | inl l ↦ inr (inl (record { inner = l.inner; most = omega (arith, l.most, b.less) }))
-          | inr l ↦ absurd (omega (arith, l.most, w.first, b.number, b.less))
-        ]
-      ]
+  from_base r i e c b o = grind (arith, InFace)
 
   -- the darts before two crossings decide how they are ordered
   from_both : (r e i e' i' : ℕ) → Crosses k g y r e → Crosses k g y r i → IsBefore r e e' → IsBefore r i i' → Ordered k f g st n e' i → Ordered k f g st n e i' → Ordered k f g st n e' i' → Ordered k f g st n e i
@@ -167,8 +160,7 @@ module _ {k m : ℕ} {f g y : ℕ → ℕ} {st : ℕ} (d : IsBipolar k m f g y s
       let number = same_number (g j) (f j) gl fl same in
       record {
         both_up = λ u u' ne.
-            let rise = w.rises j l u (λ q. ne (base_only d (f j) fl (q ∙ same) u')) in
-            omega (arith, rise, number, column_of_up j u, column_of_up (f j) u');
+            omega (arith, w.rises j l u (λ q. ne (base_only d (f j) fl (q ∙ same) u')), number, column_of_up j u, column_of_up (f j) u');
         both_down = λ u u' ne.
             let back = d.pairs.back (f j) fl in
             let inner : ¬ InFace k f g st (g (g (f j))) = λ q. ne (base_only d (g j) gl (subst (InFace k f g st) back q ∙ sym same) (twin_up d j l u)) in
@@ -195,9 +187,7 @@ module _ {k m : ℕ} {f g y : ℕ → ℕ} {st : ℕ} (d : IsBipolar k m f g y s
             let o = compare (y j) e j (record { within = p.within; low = omega (arith, p.below); high = p.above }) (record { within = l; low = omega arith; high = u }) in
             rw t (elim o [ inl s ↦ absurd (omega (arith, p.below, ap y s)) | inr o' ↦ o' ])
         | inr t ↦
-            let u = is_down d j l t in
-            let back = ap y (d.pairs.back j l) in
-            by_level (y j) refl u back t
+            by_level (y j) refl (is_down d j l t) (ap y (d.pairs.back j l)) t
       ]
     where
       by_level : (v : ℕ) → v ≡ y j → y (g j) < y j → y (g (g j)) ≡ y j → up g y j ≡ false → Beside e j
@@ -224,9 +214,8 @@ module _ {k m : ℕ} {f g y : ℕ → ℕ} {st : ℕ} (d : IsBipolar k m f g y s
   left_next : (e j : ℕ) → j < k → Passes e j → Passes e (f j) → IsLeft k f g st n e (upper g y j) → IsLeft k f g st n (upper g y (f j)) e → ⊥
   left_next e j l p p' a b =
       let fl = d.rotates.within j l in
-      let gl = twin_in d j l in
       let same = corner d j l in
-      let number = same_number (g j) (f j) gl fl same in
+      let number = same_number (g j) (f j) (twin_in d j l) fl same in
       let back = d.pairs.back (f j) fl in
       let rise = w.rises e p.within (omega (arith, p.below, p.above)) a.inner in
       elim (cases_Bool (up g y j)) [
@@ -236,26 +225,21 @@ module _ {k m : ℕ} {f g y : ℕ → ℕ} {st : ℕ} (d : IsBipolar k m f g y s
             elim (cases_Bool (up g y (f j))) [
               | inl t' ↦
                   let b' = rw t' at b in
-                  let rise' = w.rises (f j) fl (is_up d (f j) t') b'.inner in
                   let inner : ¬ InFace k f g st (g j) = λ q. let s = base_only d (f j) fl (q ∙ same) (is_up d (f j) t') in omega (arith, p'.below, ap y s, d.least e p.within) in
-                  let rise'' = w.rises j l u inner in
-                  omega (arith, rise, rise', rise'', a'.most, b'.most, number)
+                  omega (arith, rise, w.rises (f j) fl (is_up d (f j) t') b'.inner, w.rises j l u inner, a'.most, b'.most, number)
               | inr t' ↦
                   let b' = rw t' at b in
                   let inner : ¬ InFace k f g st (g j) = λ q. b'.inner (subst (InFace k f g st) (sym back) (q ∙ same)) in
-                  let rise'' = w.rises j l u inner in
-                  omega (arith, rise, rise'', a'.most, b'.most, number, ap n back)
+                  omega (arith, rise, w.rises j l u inner, a'.most, b'.most, number, ap n back)
             ]
         | inr t ↦
             let a' = rw t at a in
             elim (cases_Bool (up g y (f j))) [
               | inl t' ↦
                   let b' = rw t' at b in
-                  let rise' = w.rises (f j) fl (is_up d (f j) t') b'.inner in
-                  omega (arith, rise, rise', a'.most, b'.most, number)
+                  omega (arith, rise, w.rises (f j) fl (is_up d (f j) t') b'.inner, a'.most, b'.most, number)
               | inr t' ↦
-                  let b' = rw t' at b in
-                  omega (arith, rise, a'.most, b'.most, number, ap n back)
+                  omega (arith, rise, a'.most, (rw t' at b).most, number, ap n back)
             ]
       ]
 
@@ -273,10 +257,9 @@ module _ {k m : ℕ} {f g y : ℕ → ℕ} {st : ℕ} (d : IsBipolar k m f g y s
             elim (cases_Bool (up g y (f j))) [
               | inl t' ↦ (let b' = rw t' at b in omega (arith, rise, a'.most, b'.most, number))
               | inr t' ↦
-                  let b' = rw t' at b in
                   let inner : ¬ InFace k f g st (g (g (f j))) = λ q. a'.inner (subst (InFace k f g st) back q ∙ sym same) in
                   let rise' = w.rises (g (f j)) (twin_in d (f j) fl) (twin_up d (f j) fl (is_down d (f j) fl t')) inner in
-                  omega (arith, rise, rise', a'.most, b'.most, number, ap n back)
+                  omega (arith, rise, rise', a'.most, (rw t' at b).most, number, ap n back)
             ]
         | inr t ↦
             let a' = rw t at a in
@@ -284,11 +267,10 @@ module _ {k m : ℕ} {f g y : ℕ → ℕ} {st : ℕ} (d : IsBipolar k m f g y s
             elim (cases_Bool (up g y (f j))) [
               | inl t' ↦ (let b' = rw t' at b in omega (arith, rise, rise'', a'.most, b'.most, number))
               | inr t' ↦
-                  let b' = rw t' at b in
                   let inner : ¬ InFace k f g st (g (g (f j))) =
                   λ q. let s = base_only d (g j) gl (subst (InFace k f g st) back q ∙ sym same) (twin_up d j l (is_down d j l t)) in omega (arith, p.above, ap (λ x. y (g x)) s, ap y (d.pairs.back j l), d.greatest (g e) (twin_in d e p.within)) in
                   let rise' = w.rises (g (f j)) (twin_in d (f j) fl) (twin_up d (f j) fl (is_down d (f j) fl t')) inner in
-                  omega (arith, rise, rise', rise'', a'.most, b'.most, number, ap n back)
+                  omega (arith, rise, rise', rise'', a'.most, (rw t' at b).most, number, ap n back)
             ]
       ]
 
@@ -303,29 +285,25 @@ module _ {k m : ℕ} {f g y : ℕ → ℕ} {st : ℕ} (d : IsBipolar k m f g y s
   one_side e i l p =
       elim (beside e i l p) [
         | inl a ↦
-            let first = beside_left e i l p a in
             inl (λ j lj s. ltb-true (n e) (column j) (kept_on f k d.rotates (λ x. ltb (n e) (column x)) i j l lj (d.vertices i j l lj (sym s))
             (λ x lx same t.
             let px = passes_at e i x (tails i x l lx same) p in
             let px' = passes_at e x (f x) (sym (d.turned x lx)) px in
             let fx = d.rotates.within x lx in
-            let low = ltb-true (n e) (column x) t in
             elim (beside e x lx px) [
               | inl ax ↦ elim (beside e (f x) fx px') [ inl bx ↦ lt-ltb (n e) (column (f x)) (beside_left e (f x) fx px' bx) | inr bx ↦ absurd (left_next e x lx px px' ax bx) ]
-              | inr ax ↦ absurd (omega (arith, low, beside_right e x lx px ax))
+              | inr ax ↦ absurd (omega (arith, ltb-true (n e) (column x) t, beside_right e x lx px ax))
             ])
-            (lt-ltb (n e) (column i) first)))
+            (lt-ltb (n e) (column i) (beside_left e i l p a))))
         | inr a ↦
-            let first = beside_right e i l p a in
             inr (λ j lj s. ltb-true (column j) (n e) (kept_on f k d.rotates (λ x. ltb (column x) (n e)) i j l lj (d.vertices i j l lj (sym s))
             (λ x lx same t.
             let px = passes_at e i x (tails i x l lx same) p in
             let px' = passes_at e x (f x) (sym (d.turned x lx)) px in
             let fx = d.rotates.within x lx in
-            let low = ltb-true (column x) (n e) t in
             elim (beside e x lx px) [
               | inr ax ↦ elim (beside e (f x) fx px') [ inr bx ↦ lt-ltb (column (f x)) (n e) (beside_right e (f x) fx px' bx) | inl bx ↦ absurd (right_next e x lx px px' ax bx) ]
-              | inl ax ↦ absurd (omega (arith, low, beside_left e x lx px ax))
+              | inl ax ↦ absurd (omega (arith, ltb-true (column x) (n e) t, beside_left e x lx px ax))
             ])
-            (lt-ltb (column i) (n e) first)))
+            (lt-ltb (column i) (n e) (beside_right e i l p a))))
       ]

@@ -52,8 +52,7 @@ module _ {k m : ℕ} {f g y : ℕ → ℕ} {st : ℕ} (d : IsBipolar k m f g y s
       elim (cases_eq (y i) (y st)) [
         | inl s ↦
             let j = before f k d.rotates st d.base in
-            let base_up' = base_up d in
-            let up_next : Up (f j.0) = subst (λ x. Up x) (sym j.3) base_up' in
+            let up_next : Up (f j.0) = subst (λ x. Up x) (sym j.3) (base_up d) in
             let low : column d n w (f j.0) ≡ 0 = ap (column d n w) j.3 ∙ base_column in (
               j.0,
               j.1,
@@ -62,13 +61,11 @@ module _ {k m : ℕ} {f g y : ℕ → ℕ} {st : ℕ} (d : IsBipolar k m f g y s
             )
         | inr ns ↦ elim (cases_eq (y i) (y (g st))) [
           | inl s ↦
-              let gl = twin_in d st d.base in
               let back = d.pairs.back st d.base in
-              let base_up' = base_up d in
-              let low : y (g (g st)) < y (g st) = omega (arith, base_up', ap y back) in
+              let low : y (g (g st)) < y (g st) = omega (arith, base_up d, ap y back) in
               let zero_column : column d n w (g st) ≡ 0 = column_of_down d n w (g st) low ∙ (ap n back ∙ w.first) in (
                 g st,
-                gl,
+                (twin_in d st d.base),
                 sym s,
                 λ e. elim e [ inl a ↦ (let less = a.0 in omega arith) | inr o ↦ elim o [ inl a ↦ (let less = a.0 in omega arith) | inr a ↦ (let less = a.2 in omega arith) ] ],
               )
@@ -106,8 +103,6 @@ module _ {k m : ℕ} {f g y : ℕ → ℕ} {st : ℕ} (d : IsBipolar k m f g y s
   pub one_break : (i j : ℕ) → i < k → j < k → y i ≡ y j → ¬ IsEarlier i → ¬ IsEarlier j → i ≡ j
   one_break i j li lj same bi bj =
       let fi = d.rotates.within i li in
-      let fj = d.rotates.within j lj in
-      let next : y (f i) ≡ y (f j) = d.turned i li ∙ (same ∙ sym (d.turned j lj)) in
       elim (kinds i li bi) [
         | inl a ↦ elim (kinds j lj bj) [
           | inl b ↦ one_rise d i j li lj (d.vertices i j li lj same) a.0 a.1 b.0 b.1
@@ -122,7 +117,7 @@ module _ {k m : ℕ} {f g y : ℕ → ℕ} {st : ℕ} (d : IsBipolar k m f g y s
             ]
           ]
           | inr s ↦ elim (kinds j lj bj) [
-            | inl b ↦ absurd (at_top i li s (f j) fj (same ∙ sym (d.turned j lj)) b.1)
+            | inl b ↦ absurd (at_top i li s (f j) (d.rotates.within j lj) (same ∙ sym (d.turned j lj)) b.1)
             | inr o' ↦ elim o' [
               | inl s' ↦ absurd (omega (arith, d.turned j lj, ap y s', same, ap y (d.pairs.back i li), ap (λ x. y (g x)) s, base_up d))
               | inr s' ↦ sym (d.pairs.back i li) ∙ (ap g (s ∙ sym s') ∙ d.pairs.back j lj)

@@ -35,14 +35,7 @@ topped-old cycle n ws k ne = cond-false (eqb k n) ws (cycle k) (ne_eqb k n ne)
 
 -- the vertices of the base alone
 pub IsBuiltUp-base : (lists : Lists) (s t : ℕ) → s ≢ t → IsBuiltUp lists s t (s ∷ t ∷ []) (λ k. s ∷ t ∷ [])
-IsBuiltUp-base lists s t ne = record {
-  once = AllPairs-append (s ∷ []) (t ∷ []) (AllPairs-one s) (AllPairs-one t) (λ u c c'. each_of_one (λ z. Contains (t ∷ []) z → ⊥) s (λ h. each_of_one (λ z. s ≢ z) t ne s h refl) u c c');
-  first = refl;
-  second = refl;
-  begin = refl;
-  outer = λ k l m. absurd (omega arith);
-  put = λ k l m. absurd (omega arith);
-}
+IsBuiltUp-base lists s t ne = grind (arith, AllPairs-append, AllPairs-one, each_of_one, Contains)
 
 module _ (lists : Lists) (s t : ℕ) (us : List ℕ) (cycle : ℕ → List ℕ) (v : ℕ) (ws : List ℕ) where
   abbrev grown : List ℕ
@@ -85,31 +78,12 @@ module _ (lists : Lists) (s t : ℕ) (us : List ℕ) (cycle : ℕ → List ℕ) 
 
   -- faces that were made stay
   pub IsMade-old : (x y : ℕ) → IsMade lists us cycle x y → IsMade lists grown cycles x y
-  IsMade-old x y m =
-      let l = m.within in
-      let e : cycles m.k ≡ cycle m.k = topped-old cycle (suc (length us)) ws m.k (omega arith) in
-      let len = length-grown in
-      record {
-        k = m.k;
-        i = m.i;
-        v = m.v;
-        a = m.a;
-        b = m.b;
-        later = m.later;
-        within = omega arith;
-        vertex = get_or_append_left us (v ∷ []) 0 m.k l ∙ m.vertex;
-        inside = subst (λ z. suc m.i < length z) (sym e) m.inside;
-        one = ap (λ z. get_or z m.i 0) e ∙ m.one;
-        next = ap (λ z. get_or z (suc m.i) 0) e ∙ m.next;
-        face = m.face;
-        dart = m.dart;
-      }
+  IsMade-old x y m = grind (arith, cycles, topped-old, length, length-grown, get_or_append_left, get_or)
 
   -- and those of the new vertex are made
   pub IsMade-new : 2 ≤ length us → (x y i a b : ℕ) → suc i < length (cycle (length us)) → get_or (cycle (length us)) i 0 ≡ a → get_or (cycle (length us)) (suc i) 0 ≡ b → IsFaceOfThree lists v a b → IsDartOfThree v a b x y → IsMade lists grown cycles x y
   IsMade-new some x y i a b inside one next face dart =
       let e : cycles (length us) ≡ cycle (length us) = topped-old cycle (suc (length us)) ws (length us) (omega arith) in
-      let len = length-grown in
       record {
         k = length us;
         i = i;
@@ -117,7 +91,7 @@ module _ (lists : Lists) (s t : ℕ) (us : List ℕ) (cycle : ℕ → List ℕ) 
         a = a;
         b = b;
         later = some;
-        within = omega arith;
+        within = omega (arith, length-grown);
         vertex = get_or-append_seam us v [] 0;
         inside = subst (λ z. suc i < length z) (sym e) inside;
         one = ap (λ z. get_or z i 0) e ∙ one;

@@ -119,12 +119,7 @@ put_three =
     face_at (suc (suc i)) l = absurd (omega (arith, l))
 
 outer_at : (k : ℕ) → 3 ≤ k → k ≤ 4 → IsOuterCycle (restricted (stands_in (take k at)) tetrahedron) 1 0 (cycle k)
-outer_at zero l m = absurd (omega (arith, l))
-outer_at (suc zero) l m = absurd (omega (arith, l))
-outer_at (suc (suc zero)) l m = absurd (omega (arith, l))
-outer_at (suc (suc (suc zero))) l m = three_first
-outer_at (suc (suc (suc (suc zero)))) l m = all_four
-outer_at (suc (suc (suc (suc (suc k))))) l m = absurd (omega (arith, m))
+outer_at x0 l m = grind (arith, three_first, all_four)
 
 put_at : (k : ℕ) → 2 ≤ k → k < 4 → IsPutOn tetrahedron (take (suc k) at) (get_or at k 0) (cycle k) (cycle (suc k))
 put_at zero l m = absurd (omega (arith, l))
@@ -147,19 +142,7 @@ made_other x y d =
     record { k = 3; i = 1; v = 3; a = 2; b = 0; later = omega arith; within = omega arith; vertex = refl; inside = omega arith; one = refl; next = refl; face = face_320; dart = d }
 
 made : (x y : ℕ) → HasDart tetrahedron x y → ¬ IsDartOfThree 0 1 3 x y → IsMade tetrahedron at cycle x y
-made zero y d =
-    each_of_three (λ z. ¬ IsDartOfThree 0 1 3 0 z → IsMade tetrahedron at cycle 0 z) 1 2 3
-    (λ n. absurd (n (inl (refl, refl)))) (λ _. made_two 0 2 (inr (inr (refl, refl)))) (λ _. made_other 0 3 (inr (inr (refl, refl)))) y d.1
-made (suc zero) y d =
-    each_of_three (λ z. ¬ IsDartOfThree 0 1 3 1 z → IsMade tetrahedron at cycle 1 z) 0 3 2
-    (λ _. made_two 1 0 (inr (inl (refl, refl)))) (λ n. absurd (n (inr (inl (refl, refl))))) (λ _. made_one 1 2 (inr (inl (refl, refl)))) y d.1
-made (suc (suc zero)) y d =
-    each_of_three (λ z. ¬ IsDartOfThree 0 1 3 2 z → IsMade tetrahedron at cycle 2 z) 0 1 3
-    (λ _. made_other 2 0 (inr (inl (refl, refl)))) (λ _. made_two 2 1 (inl (refl, refl))) (λ _. made_one 2 3 (inr (inr (refl, refl)))) y d.1
-made (suc (suc (suc zero))) y d =
-    each_of_three (λ z. ¬ IsDartOfThree 0 1 3 3 z → IsMade tetrahedron at cycle 3 z) 0 2 1
-    (λ n. absurd (n (inr (inr (refl, refl))))) (λ _. made_other 3 2 (inl (refl, refl))) (λ _. made_one 3 1 (inl (refl, refl))) y d.1
-made (suc (suc (suc (suc x)))) y d = absurd (omega (arith, d.0))
+made x0 y d = grind (arith, each_of_three, IsDartOfThree, IsMade, tetrahedron, at, cycle, made_two, made_other, made_one)
 
 -- so it is a canonical order
 order_of_tetrahedron : IsCanonicalOrder tetrahedron (0, 1) at

@@ -22,14 +22,7 @@ use Rattle.canon_order.proofs.Marks.{is_set-lt, kept_of-parts, kept_of-from, kep
 
 -- what looks removable and is not noted looked removable before
 pub IsPrepared-noted : (lists : Lists) (t s : ℕ) (marked : List Bool) (near stack : List ℕ) (marked' : List Bool) (near' stack' : List ℕ) → IsNoted lists marked near stack marked' near' stack' → IsPrepared lists t s marked near stack → IsPrepared lists t s marked' near' stack'
-IsPrepared-noted lists t s marked near stack marked' near' stack' n h = record {
-  tally = n.tally;
-  vertices = n.vertices;
-  stacked = λ u removable. elim (n.noted u removable.marked removable.two) [
-    | inl c ↦ c
-    | inr q ↦ n.kept u (h.stacked u record { marked = q.0; not_last = removable.not_last; not_first = removable.not_first; two = sym q.1 ∙ removable.two })
-  ];
-}
+IsPrepared-noted lists t s marked near stack marked' near' stack' n h = grind arith
 
 -- of the base's face the third vertex alone may look removable
 pub IsPrepared-begin : (lists : Lists) (t s third : ℕ) (marked : List Bool) (near stack : List ℕ) → third < length lists → IsTally lists marked near → ((u : ℕ) → (is_set marked u ≡ true) ↔ Contains (s ∷ third ∷ t ∷ []) u) → stack ≡ third ∷ [] → IsPrepared lists t s marked near stack

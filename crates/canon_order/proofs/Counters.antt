@@ -11,9 +11,7 @@ use Rattle.canon_order.specs.Orders.{IsRankOf}
 pub counted_before : (us : List ℕ) (i : ℕ) → i < length us → count_by (λ u. u == get_or us i 0) (take i us) + 1 ≤ count_by (λ u. u == get_or us i 0) us
 counted_before us i l =
     let p : ℕ → Bool = λ u. eqb u (get_or us i 0) in
-    let more = count_by_more_yes p us i 0 l (eq-eqb (get_or us i 0) (get_or us i 0) refl) in
-    let le = sum_by-take-le (λ u. cond (p u) 1 0) us (i + 1) in
-    omega (arith, more, le)
+    omega (arith, count_by_more_yes p us i 0 l (eq-eqb (get_or us i 0) (get_or us i 0) refl), sum_by-take-le (λ u. cond (p u) 1 0) us (i + 1))
 
 -- one more entry counted, down or up
 module _ (us near initial : List ℕ) (i : ℕ) (l : i < length us) where
@@ -66,9 +64,7 @@ all_of_them us v within distinct l =
           let into = count_below_into (λ i. get_or us i 0) (λ i. true) other n n
           (λ i m _. (within i 0 m, ap not (ne_eqb (get_or us i 0) v (λ e. none (i, m, same_at us i v m e)))))
           (λ i j m m' _ _ e. same_place us i j distinct m m' e) in
-          let more = count_below_more other (λ i. true) n v l (ap not (eq-eqb v v refl)) refl (λ i _ ne. ap not (ne_eqb i v ne)) in
-          let all = count_below_all n in
-          absurd (omega arith)
+          absurd (omega (arith, count_below_more other (λ i. true) n v l (ap not (eq-eqb v v refl)) refl (λ i _ ne. ap not (ne_eqb i v ne))))
     ]
   where
     same_at : (us : List ℕ) (i v : ℕ) → i < length us → get_or us i 0 ≡ v → get_or us i v ≡ v
@@ -90,24 +86,21 @@ IsRankOf-places rank at n within distinct h = record {
   of_vertex = λ v l.
       let c = all_of_them at v within distinct l in
       let here : get_or at c.0 0 ≡ v = get_or_default at c.0 0 v c.1 ∙ c.2 in
-      let place : get_or rank v 0 ≡ c.0 = ap (λ z. get_or rank z 0) (sym here) ∙ h c.0 c.1 in
-      ap (λ z. get_or at z 0) place ∙ here;
+      ap (λ z. get_or at z 0) (ap (λ z. get_or rank z 0) (sym here) ∙ h c.0 c.1) ∙ here;
 }
 
 -- a list from its end
 pub AllPairs-from_reverse : (us : List ℕ) → AllPairs ◌≢◌ (reverse us) → AllPairs ◌≢◌ us
 AllPairs-from_reverse us h = λ i j d l m e.
     let n = length-reverse us in
-    let a = get_or-reverse us (length us - 1 - i) d (omega arith) in
     let b = get_or-reverse us (length us - 1 - j) d (omega arith) in
     let i' : length us - 1 - (length us - 1 - i) ≡ i = omega arith in
     let j' : length us - 1 - (length us - 1 - j) ≡ j = omega arith in
     h (length us - 1 - j) (length us - 1 - i) d (omega arith) (omega arith)
-    (b ∙ (ap (λ k. get_or us k d) j' ∙ (sym e ∙ sym (a ∙ ap (λ k. get_or us k d) i'))))
+    (b ∙ (ap (λ k. get_or us k d) j' ∙ (sym e ∙ sym ((get_or-reverse us (length us - 1 - i) d (omega arith)) ∙ ap (λ k. get_or us k d) i'))))
 
 pub All-from_reverse : (P : ℕ → Type 0) (us : List ℕ) → All P (reverse us) → All P us
 All-from_reverse P us h = λ k d l.
     let n = length-reverse us in
-    let a = get_or-reverse us (length us - 1 - k) d (omega arith) in
     let k' : length us - 1 - (length us - 1 - k) ≡ k = omega arith in
-    subst P (a ∙ ap (λ i. get_or us i d) k') (h (length us - 1 - k) d (omega arith))
+    subst P ((get_or-reverse us (length us - 1 - k) d (omega arith)) ∙ ap (λ i. get_or us i d) k') (h (length us - 1 - k) d (omega arith))

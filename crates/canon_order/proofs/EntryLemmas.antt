@@ -9,9 +9,8 @@ use Rattle.map_theory.proofs.DartLemmas.{place_of-lt-length, get_or-place_of, en
 pub entry_after-last : (us : List ℕ) (u : ℕ) → Contains us u → ((k : ℕ) → k + 1 < length us → get_or us k 0 ≢ u) → get_or us 0 0 ≡ entry_after u us
 entry_after-last us u has none =
     let l = place_of-lt-length u us has in
-    let at = get_or-place_of u us 0 l in
     elim (cases_lt (place_of u us + 1) (length us)) [
-      | inl less ↦ absurd (none (place_of u us) less at)
+      | inl less ↦ absurd (none (place_of u us) less (get_or-place_of u us 0 l))
       | inr last ↦ sym (entry_after-place u us 0 l ∙ ap (λ n. get_or us n 0) (round (length us) (place_of u us) l last))
     ]
   where

@@ -32,14 +32,11 @@ module _ (lists : Lists) (base : Dart) (at : List ℕ) (triangulation : IsTriang
   -- all vertices are among all
   all_in : (v : ℕ) → v < length lists → stands_in at v ≡ true
   all_in v l =
-      let n = order.count in
       list_any-from_Contains v at (all_of_them at v (λ k d m. let h = order.vertices k d m in omega arith) order.built.once (omega arith))
 
   -- so it is the outer cycle of the whole map
   whole : IsOuterCycle lists s t ws
   whole =
-      let n = order.count in
-      let some = triangulation.some in
       subst (λ m. IsOuterCycle m s t ws) (ap (λ us. restricted (stands_in us) lists) (take-length at) ∙ restricted_all lists (stands_in at) triangulation.simple all_in)
       (order.built.outer (length at) (omega arith) (omega arith))
 
@@ -65,11 +62,10 @@ module _ (lists : Lists) (base : Dart) (at : List ℕ) (triangulation : IsTriang
   last_cycle_here =
       let long = whole.long in
       let way = round lists s t ws triangulation.simple whole in
-      let first : get_or ws 0 0 ≡ s = whole.first in
-      let second : get_or ws 1 0 ≡ w = Leads-at next t ws t 0 1 way (omega arith) ∙ (ap next first ∙ after_s) in
+      let second : get_or ws 1 0 ≡ w = Leads-at next t ws t 0 1 way (omega arith) ∙ (ap next whole.first ∙ after_s) in
       let third : get_or ws 2 0 ≡ t = Leads-at next t ws t 0 2 way (omega arith) ∙ (ap next second ∙ after_w) in
       let three = same_place ws 2 (length ws - 1) whole.distinct (omega arith) (omega arith) (third ∙ sym whole.last) in
-      ext_get_or 0 ws (s ∷ w ∷ t ∷ []) (omega arith) (λ i l. entry_at ws s w t i (omega arith) first second third)
+      ext_get_or 0 ws (s ∷ w ∷ t ∷ []) (omega arith) (λ i l. entry_at ws s w t i (omega arith) whole.first second third)
     where
       entry_at : (us : List ℕ) (a b c i : ℕ) → i < 3 → get_or us 0 0 ≡ a → get_or us 1 0 ≡ b → get_or us 2 0 ≡ c → get_or us i 0 ≡ get_or (a ∷ b ∷ c ∷ []) i 0
       entry_at us a b c zero l e e' e'' = e

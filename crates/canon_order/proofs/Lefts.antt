@@ -37,13 +37,7 @@ three_steps a b c distinct =
 outer_of_three : (a b c x y : ℕ) → AllPairs ◌≢◌ (three a b c) → IsOuterDart (three a b c) x y → IsDartOfThree c a b x y
 outer_of_three a b c x y distinct d =
     let steps = three_steps a b c distinct in
-    elim (three_cases a b c x d.0) [
-      | inl e ↦ inr (inl (sym e, sym d.1 ∙ (ap (λ z. entry_after z (three a b c)) (sym e) ∙ steps.0)))
-      | inr r ↦ elim r [
-        | inl e ↦ inr (inr (sym e, sym d.1 ∙ (ap (λ z. entry_after z (three a b c)) (sym e) ∙ steps.1)))
-        | inr e ↦ inl (sym e, sym d.1 ∙ (ap (λ z. entry_after z (three a b c)) (sym e) ∙ steps.2))
-      ]
-    ]
+    grind (arith, three_cases, entry_after, three, steps)
 
 -- between two others in a list of three stands the second
 middle_of_three : (a b c : ℕ) (front : List ℕ) (p v q : ℕ) (back : List ℕ) → three a b c ≡ front ++ p ∷ v ∷ q ∷ back → v ≡ b
@@ -66,7 +60,6 @@ module _ (lists : Lists) (s t : ℕ) (kept : ℕ → Bool) (triangulation : IsTr
   order_of_all : (us : List ℕ) (cycle : ℕ → List ℕ) → IsOrderOfLeft lists s t kept (three s w t) us cycle → IsCanonicalOrder lists (t, s) us
   order_of_all us cycle order =
       let n = order.count ∙ whole_count in
-      let some = triangulation.some in
       record {
         count = n;
         vertices = λ k d l. vertices (get_or us k d) (sym (order.same (get_or us k d)) ∙ list_any-from_Contains (get_or us k d) us (Contains-get_or us k d l));
@@ -90,20 +83,7 @@ module _ (lists : Lists) (s t : ℕ) (kept : ℕ → Bool) (triangulation : IsTr
 -- ---- one vertex less
 -- what stands in a list with one more
 stands_in-more : (us : List ℕ) (v u : ℕ) (b : Bool) → stands_in us u ≡ (b && not (eqb u v)) → (u ≡ v → b ≡ true) → stands_in (us ++ v ∷ []) u ≡ b
-stands_in-more us v u b e here =
-    list_any-append (λ z. eqb z u) us (v ∷ [])
-    ∙ elim (cases_eq u v) [
-      | inl q ↦ ap₂ (λ x y. x || (y || false)) e (eq-eqb v u (sym q)) ∙ (or_true (b && not (eqb u v)) ∙ sym (here q))
-      | inr ne ↦ ap₂ (λ x y. x || (y || false)) e (ne_eqb v u (λ q. ne (sym q))) ∙ (ap (λ x. (b && not x) || false) (ne_eqb u v ne) ∙ stays b)
-    ]
-  where
-    or_true : (x : Bool) → (x || true) ≡ true
-    or_true true = refl
-    or_true false = refl
-
-    stays : (x : Bool) → ((x && true) || false) ≡ x
-    stays true = refl
-    stays false = refl
+stands_in-more us v u b e here = grind (arith, list_any-append, eqb, cases_eq, ap₂, eq-eqb, not, ne_eqb)
 
 -- the entries of a row within a list
 run_at : (front : List ℕ) (p : ℕ) (mid : List ℕ) (q : ℕ) (back : List ℕ) (i : ℕ) → i < length mid + 2 → get_or (front ++ (p ∷ mid ++ q ∷ back)) (length front + i) 0 ≡ get_or (p ∷ mid ++ q ∷ []) i 0
@@ -128,7 +108,6 @@ module _ (lists : Lists) (s t : ℕ) (kept : ℕ → Bool) (ws rest : List ℕ) 
     order_more us cycle order =
         let here = on_kept v on in
         let len = length-append us (v ∷ []) in
-        let n = order.count in
         let same : (u : ℕ) → stands_in (us ++ v ∷ []) u ≡ kept u = λ u. stands_in-more us v u (kept u) (order.same u) (λ e. ap kept e ∙ here) in
         let alike : kept ≡ stands_in (us ++ v ∷ []) = sym (λ i u. same u i) in
         let put : IsPutOn lists (us ++ v ∷ []) v (cycle (length us)) ws = record {
@@ -151,13 +130,10 @@ module _ (lists : Lists) (s t : ℕ) (kept : ℕ → Bool) (ws rest : List ℕ) 
           faces = λ x y d outer. elim (fan_covers lists kept s t ws v front p mid q back left.peeled off x y d outer) [
             | inl h ↦ IsMade-old lists s t us cycle v ws x y (order.faces x y h.0 h.1)
             | inr h ↦
-                let in_run = h.1 in
-                let at = run_at front p mid q back h.0 (omega arith) in
-                let at' = run_at front p mid q back (h.0 + 1) (omega arith) in
                 let long = length-row front p mid q back in
-                let one = ap (λ z. get_or z (length front + h.0) 0) order.top ∙ at in
+                let one = ap (λ z. get_or z (length front + h.0) 0) order.top ∙ (run_at front p mid q back h.0 (omega arith)) in
                 let e : suc (length front + h.0) ≡ length front + (h.0 + 1) = omega arith in
-                let next = ap₂ (λ z k. get_or z k 0) order.top e ∙ at' in
+                let next = ap₂ (λ z k. get_or z k 0) order.top e ∙ (run_at front p mid q back (h.0 + 1) (omega arith)) in
                 let top_length = ap length order.top in
                 IsMade-new lists s t us cycle v ws (omega arith) x y (length front + h.0) _ _ (omega arith) one next (off.fan.faces h.0 h.1) h.2
           ];
@@ -265,29 +241,11 @@ module _ (lists : Lists) (s t : ℕ) (kept : ℕ → Bool) (ws rest : List ℕ) 
         let no_loop = λ (e : b ≡ a). simple.no_loop a b old.0 e in
         let outer : (a' b' : ℕ) → Contains (three s x t) a' → entry_after a' (three s x t) ≡ b' → a ≡ a' → b ≡ b' → ⊥ = λ a' b' c e q r.
         n (subst (λ z. IsOuterDart z a b) (sym last.1) (subst (Contains (three s x t)) (sym q) c, ap (λ z. entry_after z (three s x t)) q ∙ (e ∙ sym r))) in
-        let on_s = Contains-here s (x ∷ t ∷ []) in
         let on_x = Contains-there s (x ∷ t ∷ []) x (Contains-here x (t ∷ [])) in
-        let on_t = Contains-there s (x ∷ t ∷ []) t (Contains-there x (t ∷ []) t (Contains-here t [])) in
-        elim (only_three a old.1) [
-          | inl q ↦ elim (only_three b old.2) [
-            | inl r ↦ absurd (no_loop (r ∙ sym q))
-            | inr h ↦ elim h [ inl r ↦ inr (inl (q, r)) | inr r ↦ absurd (outer s x on_s steps.0 q r) ]
-          ]
-          | inr g ↦ elim g [
-            | inl q ↦ elim (only_three b old.2) [
-              | inl r ↦ absurd (outer t s on_t steps.2 q r)
-              | inr h ↦ elim h [ inl r ↦ absurd (no_loop (r ∙ sym q)) | inr r ↦ inr (inr (q, r)) ]
-            ]
-            | inr q ↦ elim (only_three b old.2) [
-              | inl r ↦ inl (q, r)
-              | inr h ↦ elim h [ inl r ↦ absurd (outer x t on_x steps.1 q r) | inr r ↦ absurd (no_loop (r ∙ sym q)) ]
-            ]
-          ]
-        ]
+        grind (arith, only_three, Contains-here, steps, Contains-there)
 
     order_of_three : IsOrderOfLeft lists s t kept ws (s ∷ t ∷ x ∷ []) (topped (λ k. s ∷ t ∷ []) 3 ws)
     order_of_three =
-        let base = IsBuiltUp-base lists s t apart.1.0 in
         let put : IsPutOn lists (s ∷ t ∷ x ∷ []) x (s ∷ t ∷ []) ws = record {
           front = [];
           p = s;
@@ -299,7 +257,7 @@ module _ (lists : Lists) (s t : ℕ) (kept : ℕ → Bool) (ws rest : List ℕ) 
           fan = subst (λ k. IsFan lists k x s [] t) alike_three fan_of_three;
         } in
         record {
-          built = IsBuiltUp-more lists s t (s ∷ t ∷ []) (λ k. s ∷ t ∷ []) x ws base (omega arith)
+          built = IsBuiltUp-more lists s t (s ∷ t ∷ []) (λ k. s ∷ t ∷ []) x ws (IsBuiltUp-base lists s t apart.1.0) (omega arith)
               (λ c. each_of_two (λ z. z ≢ x) s t apart.0 (λ e. apart.1.1 (sym e)) x c refl)
               (subst (λ k. IsOuterCycle (restricted k lists) s t ws) alike_three left.peeled.near.cycle) put;
           count = sym few;

@@ -85,17 +85,14 @@ module _ (lists : Lists) (simple : IsSimpleMap lists) where
         let one = count_of-le-one w (list_of lists v) (simple.no_repeat v l) in
         elim (cases_lt w (length lists)) [
           | inl m ↦
-              let le = count_by-le-length (is_set marks) (list_of lists w) in
               let short = length-le-below (list_of lists w) (length lists) (λ u c. simple.in_range w u (m, c)) (simple.no_repeat w m) in
-              omega (arith, h.counted w m)
+              omega (arith, count_by-le-length (is_set marks) (list_of lists w), h.counted w m)
           | inr past ↦ let n = h.counts_of_all in omega (arith, get_or_past counts w 0 (omega arith))
         ]
 
     -- each neighbour of a marked vertex counts it
     pub some : is_set marks v ≡ true → (w : ℕ) → w < length counts → count_of w (list_of lists v) ≤ get_or counts w 0
     some passes w k =
-        let c = h.counts_of_all in
-        let m = h.marks_of_all in
         let k' : w < length lists = omega arith in
         let count = count_by-more (is_set (set marks v false)) (is_set marks) v (is_set-here marks v false (omega arith)) passes (λ u ne. sym (is_set-other marks v u false ne)) (list_of lists w) in
         omega (arith, count, counted_both v w l k', h.counted w k')
@@ -177,11 +174,10 @@ IsNoted-unmarked lists marked near stack v marked' near' stack' l e tally elsewh
 pub IsNoted-lowered : (lists : Lists) → IsSimpleMap lists → (marked : List Bool) (near stack : List ℕ) (v : ℕ) → v < length lists → IsTally lists marked near → All (λ u. u < length lists) stack → is_set marked v ≡ true → (list : List ℕ) → list ≡ list_of lists v → (near' stack' : List ℕ) → length near' ≡ length near → ((w : ℕ) → w < length near → get_or near' w 0 + count_of w list ≡ get_or near w 0) → ((w : ℕ) → Contains stack w → Contains stack' w) → ((n : ℕ) → All (λ w. w < n) list → All (λ w. w < n) stack → All (λ w. w < n) stack') → ((w : ℕ) → Contains list w → is_set (set marked v false) w ≡ true → get_or near' w 0 ≡ 2 → Contains stack' w) → IsNoted lists marked near stack (set marked v false) near' stack'
 IsNoted-lowered lists simple marked near stack v vertex tally vertices on list is near' stack' same counts kept below noted =
     let own = subst (λ (us : List ℕ). (w : ℕ) → w < length near → get_or near' w 0 + count_of w us ≡ get_or near w 0) is counts in
-    let within = subst (λ (us : List ℕ). All (λ u. u < length lists) us) (sym is) (list_within lists simple v vertex) in
     IsNoted-unmarked lists marked near stack v _ near' stack' (let m = tally.marks_of_all in omega arith) refl
     (IsTally-unmarked lists simple marked near v vertex tally near' same on own)
     (elsewhere-unmarked lists simple marked near v vertex tally near' same own)
-    (below (length lists) within vertices)
+    (below (length lists) (subst (λ (us : List ℕ). All (λ u. u < length lists) us) (sym is) (list_within lists simple v vertex)) vertices)
     kept
     (λ u has alive two. noted u (subst (λ (us : List ℕ). Contains us u) (sym is) has) alive two)
 
@@ -191,15 +187,7 @@ IsNoted-none lists marked near stack tally vertices = record { tally = tally; ve
 
 -- one after another
 pub IsNoted-chained : (lists : Lists) (m0 : List Bool) (n0 s0 : List ℕ) (m1 : List Bool) (n1 s1 : List ℕ) (m2 : List Bool) (n2 s2 : List ℕ) → IsNoted lists m0 n0 s0 m1 n1 s1 → IsNoted lists m1 n1 s1 m2 n2 s2 → IsNoted lists m0 n0 s0 m2 n2 s2
-IsNoted-chained lists m0 n0 s0 m1 n1 s1 m2 n2 s2 one two = record {
-  tally = two.tally;
-  vertices = two.vertices;
-  kept = λ u c. two.kept u (one.kept u c);
-  noted = λ u on counts. elim (two.noted u on counts) [
-    | inl c ↦ inl c
-    | inr e ↦ elim (one.noted u e.0 (sym e.1 ∙ counts)) [ inl c ↦ inl (two.kept u c) | inr e' ↦ inr (e'.0, e.1 ∙ e'.1) ]
-  ];
-}
+IsNoted-chained lists m0 n0 s0 m1 n1 s1 m2 n2 s2 one two = grind arith
 
 -- one more entry counted and noted
 pub noted-more : (marked : List Bool) (us near near' stack stack' : List ℕ) (i : ℕ) → i < length us → ((w : ℕ) → w ≢ get_or us i 0 → get_or near' w 0 ≡ get_or near w 0) → ((w : ℕ) → Contains stack w → Contains stack' w) → (is_set marked (get_or us i 0) ≡ true → get_or near' (get_or us i 0) 0 ≡ 2 → Contains stack' (get_or us i 0)) → ((w : ℕ) → Contains (take i us) w → is_set marked w ≡ true → get_or near w 0 ≡ 2 → Contains stack w) → (w : ℕ) → Contains (take (i + 1) us) w → is_set marked w ≡ true → get_or near' w 0 ≡ 2 → Contains stack' w
@@ -241,37 +229,11 @@ marks-more p0 p1 p2 passes us i l one two u =
 
 -- all but the last entry of a stack
 pub Contains-but_last : (us : List ℕ) (last u : ℕ) → last ≡ get_or us (length us - 1) last → Contains us u → u ≢ last → Contains (take (length us - 1) us) u
-Contains-but_last us last u e c ne =
-    let k = c.0 in
-    elim (cases_eq k (length us - 1)) [
-      | inl q ↦ absurd (ne (sym c.2 ∙ (get_or_default us k u last c.1 ∙ (ap (λ n. get_or us n last) q ∙ sym e))))
-      | inr d ↦
-          let l = c.1 in
-          let l' : k < length us - 1 = omega arith in
-          (k, omega (arith, length-take-le (length us - 1) us (omega arith)), get_or-take (length us - 1) us k u l' ∙ c.2)
-    ]
+Contains-but_last us last u e c ne = grind (arith, cases_eq, length, get_or_default, get_or, length-take-le, get_or-take)
 
 -- three marked
 pub three_marked : (marked : List Bool) (s d t : ℕ) → ((u : ℕ) → is_set marked u ≡ false) → s < length marked → d < length marked → t < length marked → (u : ℕ) → (is_set (set (set (set marked s true) d true) t true) u ≡ true) ↔ Contains (s ∷ d ∷ t ∷ []) u
-three_marked marked s d t none ls ld lt u =
-    let one = set marked s true in
-    let two = set one d true in
-    let n1 = length-set marked s true in
-    let n2 = length-set one d true in
-    elim (cases_eq u t) [
-      | inl e ↦ ((λ _. subst (Contains (s ∷ d ∷ t ∷ [])) (sym e) (2, omega arith, refl)), λ _. ap (is_set (set two t true)) e ∙ is_set-here two t true (omega arith))
-      | inr nt ↦ elim (cases_eq u d) [
-        | inl e ↦ ((λ _. subst (Contains (s ∷ d ∷ t ∷ [])) (sym e) (1, omega arith, refl)), λ _. is_set-other two t u true nt ∙ (ap (is_set two) e ∙ is_set-here one d true (omega arith)))
-        | inr nd ↦ elim (cases_eq u s) [
-          | inl e ↦ ((λ _. subst (Contains (s ∷ d ∷ t ∷ [])) (sym e) (0, omega arith, refl)), λ _. is_set-other two t u true nt ∙ (is_set-other one d u true nd ∙ (ap (is_set one) e ∙ is_set-here marked s true ls)))
-          | inr ns ↦
-              let left = is_set-other two t u true nt ∙ (is_set-other one d u true nd ∙ (is_set-other marked s u true ns ∙ none u)) in (
-                (λ passes. absurd (false≢true (sym left ∙ passes))),
-                λ c. absurd (each_of_three (λ z. u ≢ z) s d t ns nd nt u c refl),
-              )
-        ]
-      ]
-    ]
+three_marked marked s d t none ls ld lt u = grind (arith, set, length-set, cases_eq, Contains, is_set, is_set-here, is_set-other, false≢true, each_of_three)
 
 -- what is left
 pub kept_of-parts : (gone : List Bool) (u : ℕ) → kept_of gone u ≡ true → (u < length gone) × (is_set gone u ≡ false)
@@ -320,7 +282,6 @@ marks_after C gone marked v gone' marked' ws after simple l n m kept cycle marks
     | inl o ↦ inl (is_set-other marked v u false o.1 ∙ (marks u).1 o.0)
     | inr d ↦
         let old = restricted-old C (kept_of gone) v u d in
-        let ne = simple.no_loop v u old.0 in
-        inr (old.0.1, ap (λ g. is_set g u) taken.gone_is ∙ (is_set-other gone v u true ne ∙ (kept_of-parts gone u old.2).1))
+        inr (old.0.1, ap (λ g. is_set g u) taken.gone_is ∙ (is_set-other gone v u true (simple.no_loop v u old.0) ∙ (kept_of-parts gone u old.2).1))
   ]),
 )

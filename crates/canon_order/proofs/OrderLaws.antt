@@ -18,8 +18,7 @@ module _ (lists : Lists) (s t : ℕ) (triangulation : IsTriangulation lists) whe
   order_of_left zero kept ws rest left n =
       (s ∷ t ∷ follows lists t s ∷ rest, IsLeft-three lists s t kept ws rest triangulation left n)
   order_of_left (suc k) kept ws rest left n =
-      let near = left.peeled.near in
-      let removable = some_removable _ s t ws near.simple near.plane near.cycle in
+      let removable = some_removable _ s t ws left.peeled.near.simple left.peeled.near.plane left.peeled.near.cycle in
       let v = removable.0 in
       let taken = removable_taken_off lists kept s t ws v triangulation left.peeled (omega arith) removable.1 in
       let fan = taken.0 in
@@ -30,7 +29,5 @@ module _ (lists : Lists) (s t : ℕ) (triangulation : IsTriangulation lists) whe
 pub some_order : SomeOrder
 some_order lists base triangulation has =
     let n = length lists in
-    let some = triangulation.some in
     let left = IsLeft-begin lists base.1 base.0 (λ v. ltb v n) triangulation has (λ v l. lt-ltb v n l) (λ v e. ltb-true v n e) in
-    let count = left.count in
     order_of_left lists base.1 base.0 triangulation (n - 3) (λ v. ltb v n) _ _ left (omega arith)

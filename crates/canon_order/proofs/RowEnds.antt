@@ -41,11 +41,8 @@ module _ (lists : Lists) (base : Dart) (at : List ℕ) (triangulation : IsTriang
   place_in_first : (k j u : ℕ) → k ≤ n → j < n → Contains (take k at) u → get_or at j 0 ≡ u → j < k
   place_in_first k j u m l c e =
       let len = length-take-le k at m in
-      let i = c.0 in
-      let in_i = c.1 in
-      let l' : i < k = omega arith in
-      let here : get_or at i 0 ≡ u = get_or_default at i 0 u (omega arith) ∙ (sym (get_or-take k at i u l') ∙ c.2) in
-      let same = one_place j i l (omega arith) (e ∙ sym here) in
+      let l' : c.0 < k = omega arith in
+      let same = one_place j c.0 l (omega arith) (e ∙ sym (get_or_default at c.0 0 u (omega arith) ∙ (sym (get_or-take k at c.0 u l') ∙ c.2))) in
       omega arith
 
   -- the vertices of a cycle are among the first
@@ -136,40 +133,26 @@ module _ (lists : Lists) (base : Dart) (at : List ℕ) (triangulation : IsTriang
     after_v j u l m c e = place_in_first j k u (omega arith) within (on_first j l (omega arith) u c) e
 
     off_base : ¬ IsDartOfThree t s (follows lists s t) p v
-    off_base d =
-        let count = order.count in
-        let last = order.last in
-        elim d [
-          | inl e ↦ let same = one_place k 0 within (omega arith) (e.1 ∙ sym order.built.first) in absurd (omega arith)
-          | inr r ↦ elim r [
-            | inl e ↦ let same = one_place k (length lists - 1) within (omega arith) (e.1 ∙ sym last) in absurd (omega arith)
-            | inr e ↦ let same = one_place k 1 within (omega arith) (e.1 ∙ sym order.built.second) in absurd (omega arith)
-          ]
-        ]
+    off_base d = grind (arith, one_place, length)
 
     -- no face is made with p, v and q
     not_made : follows lists v p ≡ q → ¬ IsMade lists at order.cycle p v
     not_made x m =
         let j = m.k in
-        let l = m.within in
-        let inside = m.inside in
-        let long = m.later in
         let on_a : Contains (order.cycle j) m.a = subst (Contains (order.cycle j)) m.one (Contains-get_or (order.cycle j) m.i 0 (omega arith)) in
-        let on_b : Contains (order.cycle j) m.b = subst (Contains (order.cycle j)) m.next (Contains-get_or (order.cycle j) (suc m.i) 0 inside) in
+        let on_b : Contains (order.cycle j) m.b = subst (Contains (order.cycle j)) m.next (Contains-get_or (order.cycle j) (suc m.i) 0 m.inside) in
         elim m.dart [
           | inl e ↦
-              let one = earlier j p l kept_p (m.vertex ∙ sym e.0) in
-              let two = after_v j m.a long l on_a e.1 in
-              omega arith
+              let two = after_v j m.a m.later m.within on_a e.1 in
+              omega (arith, earlier j p m.within kept_p (m.vertex ∙ sym e.0))
           | inr r ↦ elim r [
             | inl e ↦
                 let at_q : q ≡ m.v = sym x ∙ (ap (λ z. follows lists z p) e.1 ∙ (ap (follows lists m.b) e.0 ∙ m.face.third)) in
-                let one = earlier j q l kept_q (m.vertex ∙ sym at_q) in
-                let two = after_v j m.b long l on_b e.1 in
-                omega arith
+                let two = after_v j m.b m.later m.within on_b e.1 in
+                omega (arith, earlier j q m.within kept_q (m.vertex ∙ sym at_q))
             | inr e ↦
                 let at_q : q ≡ m.a = sym x ∙ (ap (λ z. follows lists z p) e.1 ∙ (ap (follows lists m.v) e.0 ∙ m.face.round)) in
-                let same : j ≡ k = one_place j k l within (m.vertex ∙ sym e.1) in
+                let same : j ≡ k = one_place j k m.within within (m.vertex ∙ sym e.1) in
                 let ws = order.cycle k in
                 let apart = cycle_distinct k later (omega arith) in
                 let run = put.before in
@@ -181,12 +164,11 @@ module _ (lists : Lists) (base : Dart) (at : List ℕ) (triangulation : IsTriang
                 ap (λ z. get_or z (length put.front + suc (length put.middle)) 0) run
                 ∙ (get_or-append-add put.front (p ∷ put.middle ++ q ∷ put.back) (suc (length put.middle)) 0
                 ∙ get_or-append_seam put.middle q put.back 0) in
-                let in_i : suc m.i < length ws = subst (λ z. suc m.i < length (order.cycle z)) same inside in
+                let in_i : suc m.i < length ws = subst (λ z. suc m.i < length (order.cycle z)) same m.inside in
                 let a_at : get_or ws m.i 0 ≡ q = ap (λ z. get_or (order.cycle z) m.i 0) (sym same) ∙ (m.one ∙ sym at_q) in
                 let b_at : get_or ws (suc m.i) 0 ≡ p = ap (λ z. get_or (order.cycle z) (suc m.i) 0) (sym same) ∙ (m.next ∙ sym e.0) in
                 let one = same_place ws m.i (length put.front + suc (length put.middle)) apart (omega arith) (omega arith) (a_at ∙ sym end) in
-                let two = same_place ws (suc m.i) (length put.front) apart (omega arith) (omega arith) (b_at ∙ sym first) in
-                omega arith
+                omega (arith, same_place ws (suc m.i) (length put.front) apart (omega arith) (omega arith) (b_at ∙ sym first))
           ]
         ]
 
@@ -194,10 +176,9 @@ module _ (lists : Lists) (base : Dart) (at : List ℕ) (triangulation : IsTriang
     after_p : stands_in us (follows lists v p) ≡ false
     after_p =
         let x = follows lists v p in
-        let old = restricted-old lists (stands_in us) v p dart_p in
         false_from_ne_true (stands_in us x) (λ kx.
         let same : q ≡ x = sym corner ∙ (restricted-map lists (stands_in us) triangulation.simple).follows_same v p dart_p (and_from (stands_in us v) (stands_in us x) kept_v kx) in
-        not_made (sym same) (order.faces p v (triangulation.simple.both_ways v p old.0) off_base))
+        not_made (sym same) (order.faces p v (triangulation.simple.both_ways v p (restricted-old lists (stands_in us) v p dart_p).0) off_base))
 
     -- and so is what q follows
     before_q : (u : ℕ) → HasDart lists v u → follows lists v u ≡ q → stands_in us u ≡ false

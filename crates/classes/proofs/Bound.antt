@@ -62,18 +62,7 @@ IsPermuting-after f g k w v =
 
 -- exchanging images of f at x and y exchanges those of f after g at their partners
 pub after-exchange : (f g : ℕ → ℕ) (k x y : ℕ) → IsPairing g k → x < k → y < k → (i : ℕ) → i < k → after (exchange f x y) g i ≡ exchange (after f g) (g x) (g y) i
-after-exchange f g k x y v lx ly i l =
-    elim (cases_eq i (g x)) [
-      | inl e ↦ ap f (ap (swapped x y) (ap g e ∙ v.back x lx) ∙ (swapped_first x y ∙ sym (v.back y ly))) ∙ ap (after f g) (sym (swapped_first (g x) (g y)) ∙ ap (swapped (g x) (g y)) (sym e))
-      | inr ne ↦
-          elim (cases_eq i (g y)) [
-            | inl e ↦ ap f (ap (swapped x y) (ap g e ∙ v.back y ly) ∙ (swapped_second x y ∙ sym (v.back x lx))) ∙ ap (after f g) (sym (swapped_second (g x) (g y)) ∙ ap (swapped (g x) (g y)) (sym e))
-            | inr ne' ↦
-                let d : g i ≢ x = λ e. ne (sym (v.back i l) ∙ ap g e) in
-                let d' : g i ≢ y = λ e. ne' (sym (v.back i l) ∙ ap g e) in
-                ap f (swapped_other x y (g i) d d') ∙ ap (after f g) (sym (swapped_other (g x) (g y) i ne ne'))
-          ]
-    ]
+after-exchange f g k x y v lx ly i l = grind (arith, cases_eq, swapped, swapped_first, after, swapped_second, swapped_other)
 
 -- a pairing of the numbers below 2m has m orbits
 module _ (g : ℕ → ℕ) (k : ℕ) (v : IsPairing g k) where
@@ -83,38 +72,30 @@ module _ (g : ℕ → ℕ) (k : ℕ) (v : IsPairing g k) where
   halves : count_below first_of k + count_below first_of k ≡ k
   unfolding first_of
   halves =
-      let same = count_below-images g k (IsPermuting-pairing g k v) first_of in
       let turned = count_below_same (λ i. first_of (g i)) (λ i. not (first_of i)) k (λ i l.
       ap (ltb (g i)) (v.back i l) ∙ (elim (cases_lt i (g i)) [
         | inl s ↦ le-ltb (g i) i (omega arith) ∙ sym (ap not (lt-ltb i (g i) s))
         | inr s ↦ let d = v.other i l in lt-ltb (g i) i (omega arith) ∙ sym (ap not (le-ltb i (g i) s))
       ])) in
-      omega (arith, same, turned, count_below_not first_of k)
+      omega (arith, count_below-images g k (IsPermuting-pairing g k v) first_of, turned, count_below_not first_of k)
 
   pub class_count-pairing : class_count (orbits_of g k) + class_count (orbits_of g k) ≡ k
   unfolding first_of
   class_count-pairing =
       let G = orbits_of g k in
       let w = IsLabels-orbits_of g k v.within in
-      let n = length-orbits_of g k in
       let lesser : (i j : ℕ) → i < k → j < k → Together G i j → min i (g i) ≡ min j (g j) =
       orbits_of-marked (λ i. min i (g i)) g k v.within (λ i l. let b = v.back i l in omega arith) in
       let own : (i : ℕ) → i < k → eqb (label G i) i ≡ first_of i = λ i l.
       elim (cases_lt i (g i)) [
         | inl s ↦
-            let low = w.low i in
-            let same = lesser i (label G i) l (omega arith) (Together-label G w i) in
-            eq-eqb (label G i) i (omega arith) ∙ sym (lt-ltb i (g i) s)
+            eq-eqb (label G i) i (omega (arith, lesser i (label G i) l (omega arith) (Together-label G w i))) ∙ sym (lt-ltb i (g i) s)
         | inr s ↦
-            let d = v.other i l in
-            let step = orbits_of-step g k v.within i l in
-            let low = w.low (g i) in
-            let ne : label G i ≢ i = omega arith in
+            let ne : label G i ≢ i = omega (arith, orbits_of-step g k v.within i l) in
             ne_eqb (label G i) i ne ∙ sym (le-ltb i (g i) s)
       ] in
       let same = count_below_same (λ i. eqb (label G i) i) first_of k own in
-      let count : class_count G ≡ count_below first_of k = ap (count_below (λ i. eqb (label G i) i)) n ∙ same in
-      omega (arith, count, halves)
+      omega (arith, ap (count_below (λ i. eqb (label G i) i)) (length-orbits_of g k) ∙ same, halves)
 
 -- ---- one step
 -- Let x and y lie in one orbit of f, which an exchange then cuts. The classes with g before it are those after it with x and y joined.
@@ -128,7 +109,6 @@ module _ (f g : ℕ → ℕ) (k x y : ℕ) (w : IsPermuting f k) (stays' : Stays
   pub joint-cut : joint f g k ≡ merge (joint (exchange f x y) g k) x y
   joint-cut =
       let h = exchange f x y in
-      let O = orbits_of f k in
       let P = orbits_of h k in
       let J = joint f g k in
       let K = joint h g k in
@@ -136,7 +116,6 @@ module _ (f g : ℕ → ℕ) (k x y : ℕ) (w : IsPermuting f k) (stays' : Stays
       let pn = length-orbits_of h k in
       let kw = IsLabels-joint h g k cut_w.within stays' in
       let kn = length-joint h g k cut_w.within stays' in
-      let jw = IsLabels-joint f g k w.within stays' in
       let jn = length-joint f g k w.within stays' in
       let px : x < length P = omega arith in
       let py : y < length P = omega arith in
@@ -154,7 +133,7 @@ module _ (f g : ℕ → ℕ) (k x y : ℕ) (w : IsPermuting f k) (stays' : Stays
       joint-orbit f g k w.within stays' i j (rw e (merge-keeps P x y pw px py i j t)) in
       let within_J = joint-marked h g k cut_w.within stays' (label J) (λ i l. wide i (h i) (orbits_of-step h k cut_w.within i l)) (joint-second f g k w.within stays') in
       let over : Together J x y = joint-orbit f g k w.within stays' x y one in
-      labels_same J (merge K x y) jw (IsLabels-merge K x y kw kx ky) (jn ∙ (sym kn ∙ sym (length-merge K x y)))
+      labels_same J (merge K x y) (IsLabels-joint f g k w.within stays') (IsLabels-merge K x y kw kx ky) (jn ∙ (sym kn ∙ sym (length-merge K x y)))
       (λ i j l m t. joint-marked f g k w.within stays' (label (merge K x y)) into (λ i l. merge-keeps K x y kw kx ky i (g i) (joint-second h g k cut_w.within stays' i l)) i j (omega arith) (omega arith) t)
       (λ i j l m t.
       let li : i < k = omega (arith, length-merge K x y) in
@@ -199,21 +178,11 @@ Balances-cut f g k m x y w v lx ly ne one d balance =
           let cut : class_count H ≡ class_count F + 1 = ap class_count turned ∙ (law.cut t).fewer in
           elim (cases_Together K x y) [
             | inl q ↦
-                let same : class_count (joint f g k) ≡ class_count K = ap class_count (joined ∙ merge-within K x y kw kx ky q) in
-                inr (omega arith)
+                inr (omega (arith, ap class_count (joined ∙ merge-within K x y kw kx ky q)))
             | inr q ↦
-                let less : class_count K ≡ class_count (joint f g k) + 1 = class_count-merge_apart K x y kw kx ky q ∙ ap (λ l. class_count l + 1) (sym joined) in
-                inl (omega arith)
+                inl (omega (arith, class_count-merge_apart K x y kw kx ky q ∙ ap (λ l. class_count l + 1) (sym joined)))
           ]
-      | inr t ↦
-          let merged = law.joined t in
-          let cut : class_count F ≡ class_count H + 1 = merged.fewer ∙ ap (λ l. class_count l + 1) (sym turned) in
-          let fw = IsLabels-orbits_of face k (IsPermuting-after f g k w gw).within in
-          let fn = length-orbits_of face k in
-          let both : Together H (g x) (g y) = rw (turned, merged.joined) (merge-same F (g x) (g y) fw (omega (arith, v.within x lx)) (omega (arith, v.within y ly))) in
-          let q : Together K x y = second x lx ∙ (faces_in (g x) (g y) (v.within x lx) (v.within y ly) both ∙ sym (second y ly)) in
-          let same : class_count (joint f g k) ≡ class_count K = ap class_count (joined ∙ merge-within K x y kw kx ky q) in
-          inl (omega arith)
+      | inr t ↦ grind (arith, class_count, IsLabels-orbits_of, IsPermuting-after, length-orbits_of, Together, merge-same, merge-within)
     ]
 
 -- ---- the bound
@@ -244,18 +213,10 @@ moved_count-cut f k x w lx ne =
     let kept : ℕ → Bool = λ i. cond (eqb i y) false (moved i) in
     let y_moved : moved y ≡ true = ap not (ne_eqb (f y) y (λ e. ne (w.apart y x ly lx e))) in
     let y_kept : kept y ≡ false = rw (eq-eqb y y refl) refl in
-    let more = count_below_more kept moved k y ly y_kept y_moved (λ i l d. rw (ne_eqb i y d) refl) in
-    let y_fixed : h y ≡ y = ap f (swapped_second x y) in
     let step : (i : ℕ) → i < k → not (eqb (h i) i) ≡ true → kept i ≡ true = λ i l t.
-    elim (cases_eq i y) [
-      | inl e ↦ absurd (true≢false (sym t ∙ ap not (eq-eqb (h i) i (ap h e ∙ (y_fixed ∙ sym e)))))
-      | inr d ↦ elim (cases_eq i x) [
-        | inl e ↦ rw (ne_eqb i y d) (ap not (ne_eqb (f i) i (λ q. ne (ap f (sym e) ∙ (q ∙ e)))))
-        | inr d' ↦ rw (ne_eqb i y d) (sym (ap (λ z. not (eqb z i)) (ap f (swapped_other x y i d' d))) ∙ t)
-      ]
-    ] in
+    grind (arith, cases_eq, true≢false, not, eq-eqb, swapped_second, ne_eqb, eqb, swapped_other) in
     let less = count_below_weaker (λ i. not (eqb (h i) i)) kept k step in
-    omega arith
+    omega (arith, count_below_more kept moved k y ly y_kept y_moved (λ i l d. rw (ne_eqb i y d) refl))
 
 -- where f moves nothing, each pair is a class of its own with two orbits of f and one of f after g
 balances_identity : (f g : ℕ → ℕ) (m : ℕ) → IsPairing g (m + m) → ((i : ℕ) → i < m + m → f i ≡ i) → Balances f g (m + m) m 0
@@ -266,21 +227,18 @@ balances_identity f g m v fixed =
     let w = IsLabels-orbits_of f k stays in
     let G = orbits_of g k in
     let J = joint f g k in
-    let on = length-orbits_of f k in
     let gn = length-orbits_of g k in
     let jn = length-joint f g k stays v.within in
     let own : (i : ℕ) → i < k → eqb (label O i) i ≡ true = λ i l.
     let alone = orbits_of-marked (λ (j : ℕ). j) f k stays (λ j m. sym (fixed j m)) i (label O i) l (omega (arith, w.low i)) (Together-label O w i) in
     eq-eqb (label O i) i (sym alone) in
     let each = count_below_same (λ i. eqb (label O i) i) (λ i. true) k own in
-    let whole : class_count O ≡ k = ap (count_below (λ i. eqb (label O i) i)) on ∙ (each ∙ count_below_all k) in
-    let faces : orbits_of (after f g) k ≡ G = orbits_of-same (after f g) g k (λ i l. fixed (g i) (v.within i l)) in
-    let gw = IsLabels-orbits_of g k v.within in
-    let joined : J ≡ G = labels_same J G (IsLabels-joint f g k stays v.within) gw (jn ∙ sym gn)
+    let whole : class_count O ≡ k = ap (count_below (λ i. eqb (label O i) i)) (length-orbits_of f k) ∙ (each ∙ count_below_all k) in
+    let joined : J ≡ G = labels_same J G (IsLabels-joint f g k stays v.within) (IsLabels-orbits_of g k v.within) (jn ∙ sym gn)
     (λ i j l m t. joint-marked f g k stays v.within (label G) (λ i l. ap (label G) (sym (fixed i l))) (orbits_of-step g k v.within) i j (omega arith) (omega arith) t)
     (λ i j l m t. orbits_of-marked (label J) g k v.within (joint-second f g k stays v.within) i j (omega arith) (omega arith) t) in
     let half = class_count-pairing g k v in
-    omega (arith, whole, ap class_count faces, ap class_count joined, half)
+    omega (arith, whole, ap class_count (orbits_of-same (after f g) g k (λ i l. fixed (g i) (v.within i l))), ap class_count joined, half)
 
 bound_by : (n : ℕ) (f g : ℕ → ℕ) (m : ℕ) → IsPermuting f (m + m) → IsPairing g (m + m) → moved_count f (m + m) < n → (d : ℕ) × Balances f g (m + m) m d
 bound_by zero f g m w v l = absurd (omega arith)
@@ -294,8 +252,7 @@ bound_by (suc n) f g m w v l =
           let ly = w.within x r.1 in
           let ne : x ≢ y = λ e. r.2 (sym e) in
           let one = orbits_of-step f k w.within x r.1 in
-          let less = moved_count-cut f k x w r.1 r.2 in
-          let rest = bound_by n (exchange f x y) g m (IsPermuting-exchange f k x y r.1 ly w) v (omega arith) in
+          let rest = bound_by n (exchange f x y) g m (IsPermuting-exchange f k x y r.1 ly w) v (omega (arith, moved_count-cut f k x w r.1 r.2)) in
           elim (Balances-cut f g k m x y w v r.1 ly ne one rest.0 rest.1) [ inl b ↦ (rest.0, b) | inr b ↦ (rest.0 + 1, b) ]
     ]
 

@@ -67,13 +67,7 @@ relabel_high one other l h h' = rw (ne_eqb l (max one other) (omega arith)) refl
 -- the label after a merge
 pub label-merge : (labels : List ℕ) (a b : ℕ) → IsLabels labels → a < length labels → b < length labels → (i : ℕ) → label (merge labels a b) i ≡ relabel (label labels a) (label labels b) (label labels i)
 unfolding merge
-label-merge labels a b w la lb i =
-    elim (cases_lt i (length labels)) [
-      | inl l ↦ get_or-map (relabel (label labels a) (label labels b)) labels i i i l
-      | inr l ↦
-          let p = label_past labels i l in
-          label_past (merge labels a b) i (rw length-merge l) ∙ sym (ap (relabel (label labels a) (label labels b)) p ∙ relabel_high (label labels a) (label labels b) i (omega (arith, w.low a)) (omega (arith, w.low b)))
-    ]
+label-merge labels a b w la lb i = grind (arith, cases_lt, length, get_or-map, relabel, label, label_past, merge, length-merge, relabel_high)
 
 -- what a new label is
 relabel_cases : (one other l : ℕ) → ((l ≡ max one other) × (relabel one other l ≡ min one other)) ⊎ ((l ≢ max one other) × (relabel one other l ≡ l))
@@ -87,29 +81,7 @@ relabel_le : (one other l : ℕ) → relabel one other l ≤ l
 relabel_le one other l = elim (relabel_cases one other l) [ inl h ↦ omega arith | inr h ↦ omega arith ]
 
 pub IsLabels-merge : (labels : List ℕ) (a b : ℕ) → IsLabels labels → a < length labels → b < length labels → IsLabels (merge labels a b)
-IsLabels-merge labels a b w la lb =
-    let la' = label labels a in
-    let lb' = label labels b in
-    let at = label-merge labels a b w la lb in
-    let L = label (merge labels a b) in
-    record {
-      low = λ i. omega (arith, at i, relabel_le la' lb' (label labels i), w.low i);
-      own = λ i.
-          let l = label labels i in
-          let e : L (L i) ≡ relabel la' lb' (label labels (relabel la' lb' l)) = ap L (at i) ∙ at (relabel la' lb' l) in
-          elim (relabel_cases la' lb' l) [
-            | inl h ↦
-                elim (cases_lt la' lb') [
-                  | inl s ↦
-                      let m : relabel la' lb' l ≡ la' = omega arith in
-                      e ∙ (ap (λ x. relabel la' lb' (label labels x)) m ∙ (ap (relabel la' lb') (w.own a) ∙ (elim (relabel_cases la' lb' la') [ inl h' ↦ absurd (omega arith) | inr h' ↦ h'.1 ∙ (sym m ∙ sym (at i)) ])))
-                  | inr s ↦
-                      let m : relabel la' lb' l ≡ lb' = omega arith in
-                      e ∙ (ap (λ x. relabel la' lb' (label labels x)) m ∙ (ap (relabel la' lb') (w.own b) ∙ (elim (relabel_cases la' lb' lb') [ inl h' ↦ h'.1 ∙ omega (arith, at i) | inr h' ↦ h'.1 ∙ (sym m ∙ sym (at i)) ])))
-                ]
-            | inr h ↦ e ∙ (ap (λ x. relabel la' lb' (label labels x)) h.1 ∙ (ap (relabel la' lb') (w.own i) ∙ sym (at i)))
-          ];
-    }
+IsLabels-merge labels a b w la lb = grind (arith, label, label-merge, merge, relabel_le, relabel, relabel_cases, cases_lt)
 
 -- the join of a relation at a and b
 abbrev pub Joined : List ℕ → ℕ → ℕ → ℕ → ℕ → Type 0
@@ -117,19 +89,7 @@ Joined labels a b i j =
     Together labels i j ⊎ ((Together labels i a × Together labels b j) ⊎ (Together labels i b × Together labels a j))
 
 relabel_joins : (one other l m : ℕ) → relabel one other l ≡ relabel one other m → (l ≡ m) ⊎ (((l ≡ one) × (other ≡ m)) ⊎ ((l ≡ other) × (one ≡ m)))
-relabel_joins one other l m e =
-    elim (relabel_cases one other l) [
-      | inl h ↦
-          elim (relabel_cases one other m) [
-            | inl h' ↦ inl (omega arith)
-            | inr h' ↦ elim (cases_lt one other) [ inl s ↦ inr (inr (omega arith, omega arith)) | inr s ↦ inr (inl (omega arith, omega arith)) ]
-          ]
-      | inr h ↦
-          elim (relabel_cases one other m) [
-            | inl h' ↦ elim (cases_lt one other) [ inl s ↦ inr (inl (omega arith, omega arith)) | inr s ↦ inr (inr (omega arith, omega arith)) ]
-            | inr h' ↦ inl (omega arith)
-          ]
-    ]
+relabel_joins one other l m e = grind (arith, relabel_cases, cases_lt)
 
 relabel_one : (one other : ℕ) → relabel one other one ≡ min one other
 relabel_one one other = elim (relabel_cases one other one) [ inl h ↦ h.1 | inr h ↦ omega arith ]
@@ -157,15 +117,7 @@ module _ (labels : List ℕ) (a b : ℕ) (w : IsLabels labels) (in_a : a < lengt
       at a ∙ (relabel_one (label labels a) (label labels b) ∙ (sym (relabel_other (label labels a) (label labels b)) ∙ sym (at b)))
 
   pub joined-merge : (i j : ℕ) → Joined labels a b i j → Together (merge labels a b) i j
-  joined-merge i j h =
-      elim h [
-        | inl e ↦ merge-keeps i j e
-        | inr r ↦
-            elim r [
-              | inl p ↦ merge-keeps i a p.0 ∙ (merge-same ∙ merge-keeps b j p.1)
-              | inr p ↦ merge-keeps i b p.0 ∙ (sym merge-same ∙ merge-keeps a j p.1)
-            ]
-      ]
+  joined-merge i j h = grind (arith, merge-keeps, merge-same)
 
   -- a merge of two classes lowers the count by one
   pub class_count-merge_apart : (Together labels a b → ⊥) → class_count labels ≡ class_count (merge labels a b) + 1
@@ -179,14 +131,7 @@ module _ (labels : List ℕ) (a b : ℕ) (w : IsLabels labels) (in_a : a < lengt
       let top_own : label labels top ≡ top = elim (cases_lt la lb) [ inl s ↦ let m : top ≡ lb = omega arith in ap (label labels) m ∙ (w.own b ∙ sym m) | inr s ↦ let m : top ≡ la = omega arith in ap (label labels) m ∙ (w.own a ∙ sym m) ] in
       let top_in : top < length labels = elim (cases_lt la lb) [ inl s ↦ omega (arith, w.low b) | inr s ↦ omega (arith, w.low a) ] in
       let new_top : label (merge labels a b) top ≢ top = λ e. elim (relabel_cases la lb (label labels top)) [ inl h ↦ absurd (omega (arith, at top)) | inr h ↦ absurd (h.0 top_own) ] in
-      let others : (i : ℕ) → i < length labels → i ≢ top → new i ≡ old i =
-      λ i l d. elim (relabel_cases la lb (label labels i)) [
-        | inl h ↦
-            let o : label labels i ≢ i = omega arith in
-            let n : label (merge labels a b) i ≢ i = omega (arith, at i, w.low i) in
-            ne_eqb (label (merge labels a b) i) i n ∙ sym (ne_eqb (label labels i) i o)
-        | inr h ↦ ap (λ x. eqb x i) (at i ∙ h.1)
-      ] in
+      let others : (i : ℕ) → i < length labels → i ≢ top → new i ≡ old i = grind (arith, relabel_cases, label, merge, ne_eqb, eqb) in
       let more = count_below_more new old (length labels) top top_in (ne_eqb (label (merge labels a b) top) top new_top) (eq-eqb (label labels top) top top_own) others in
       more ∙ ap (λ n. count_below new n + 1) (sym (length-merge labels a b))
 
@@ -201,17 +146,14 @@ IsFiner fine coarse = (i j : ℕ) → i < length fine → j < length fine → To
 
 label_le : (fine coarse : List ℕ) → IsLabels fine → IsLabels coarse → IsFiner fine coarse → (i : ℕ) → i < length fine → label coarse i ≤ label fine i
 label_le fine coarse w v h i l =
-    let e = h i (label fine i) l (label-lt fine w i l) (Together-label fine w i) in
-    omega (arith, e, v.low (label fine i))
+    omega (arith, h i (label fine i) l (label-lt fine w i l) (Together-label fine w i), v.low (label fine i))
 
 -- two lists of labels with one relation are one list
 pub labels_same : (one other : List ℕ) → IsLabels one → IsLabels other → length one ≡ length other → IsFiner one other → IsFiner other one → one ≡ other
 labels_same one other w v e h h' =
     ext_get_or 0 one other e (λ i l.
     let m : i < length other = omega arith in
-    let up = label_le one other w v h i l in
-    let down = label_le other one v w h' i m in
-    get_or_default one i 0 i l ∙ (omega (arith, up, down) ∙ sym (get_or_default other i 0 i m)))
+    get_or_default one i 0 i l ∙ (omega (arith, label_le one other w v h i l, label_le other one v w h' i m) ∙ sym (get_or_default other i 0 i m)))
 
 -- a merge within a class changes nothing
 pub merge-within : (labels : List ℕ) (a b : ℕ) → IsLabels labels → a < length labels → b < length labels → Together labels a b → merge labels a b ≡ labels
@@ -283,14 +225,13 @@ merge_all-lies E k eq labels (p ∷ pairs) len w h old new i j li lj t =
     let la : a < k = omega arith in
     let lb : b < k = omega arith in
     let here : E a b = All-head (λ q. E q.0 q.1) p pairs new in
-    let back = eq.turned a b la lb here in
     merge_all-lies E k eq (merge labels a b) pairs (length-merge labels a b ∙ len) (IsLabels-merge labels a b w l.0 l.1) (PairsBelow-merge labels p pairs h)
     (λ x y lx ly e. elim (merge-joined labels a b w l.0 l.1 x y e) [
       | inl t' ↦ old x y lx ly t'
       | inr r ↦
           elim r [
             | inl q ↦ eq.chained x a y lx la ly (old x a lx la q.0) (eq.chained a b y la lb ly here (old b y lb ly q.1))
-            | inr q ↦ eq.chained x b y lx lb ly (old x b lx lb q.0) (eq.chained b a y lb la ly back (old a y la ly q.1))
+            | inr q ↦ eq.chained x b y lx lb ly (old x b lx lb q.0) (eq.chained b a y lb la ly (eq.turned a b la lb here) (old a y la ly q.1))
           ]
     ])
     (All-tail (λ q. E q.0 q.1) p pairs new) i j li lj t

@@ -30,8 +30,7 @@ pub count_below_weaker : (p q : ℕ → Bool) (n : ℕ) → ((i : ℕ) → i < n
 count_below_weaker p q zero h = omega arith
 count_below_weaker p q (suc n) h =
     let below = count_below_weaker p q n (λ i l e. h i (omega arith) e) in
-    let here = one_if_le (p n) (q n) (h n (omega arith)) in
-    omega arith
+    omega (arith, one_if_le (p n) (q n) (h n (omega arith)))
 
 -- tests that agree pass equally often
 pub count_below_same : (p q : ℕ → Bool) (n : ℕ) → ((i : ℕ) → i < n → p i ≡ q i) → count_below p n ≡ count_below q n
@@ -44,14 +43,12 @@ count_below_more p q zero m l fails passes h = absurd (omega arith)
 count_below_more p q (suc n) m l fails passes h =
     elim (cases_eq m n) [
       | inl e ↦
-          let same = count_below_same p q n (λ i k. h i (omega arith) (omega arith)) in
           let here : p n ≡ false = rw e at fails in
           let there : q n ≡ true = rw e at passes in
-          omega (arith, same, ap one_if here, ap one_if there)
+          omega (arith, count_below_same p q n (λ i k. h i (omega arith) (omega arith)), ap one_if here, ap one_if there)
       | inr ne ↦
-          let below = count_below_more p q n m (omega arith) fails passes (λ i k d. h i (omega arith) d) in
           let here : p n ≡ q n = h n (omega arith) (omega arith) in
-          omega (arith, below, ap one_if here)
+          omega (arith, count_below_more p q n m (omega arith) fails passes (λ i k d. h i (omega arith) d), ap one_if here)
     ]
 
 one_if_not : (x : Bool) → one_if x + one_if (not x) ≡ 1
@@ -102,12 +99,9 @@ count_below_but_one p q zero m l h = absurd (omega arith)
 count_below_but_one p q (suc n) m l h =
     elim (cases_eq m n) [
       | inl e ↦
-          let same = count_below_same p q n (λ i k. h i (omega arith) (omega arith)) in
-          omega (arith, same, ap (λ i. one_if (p i)) e, ap (λ i. one_if (q i)) e)
+          omega (arith, count_below_same p q n (λ i k. h i (omega arith) (omega arith)), ap (λ i. one_if (p i)) e, ap (λ i. one_if (q i)) e)
       | inr ne ↦
-          let below = count_below_but_one p q n m (omega arith) (λ i k d. h i (omega arith) d) in
-          let here : p n ≡ q n = h n (omega arith) (omega arith) in
-          omega (arith, below, ap one_if here)
+          omega (arith, count_below_but_one p q n m (omega arith) (λ i k d. h i (omega arith) d), ap one_if (h n (omega arith) (omega arith)))
     ]
 
 -- the same for two tests that agree but at a and b
@@ -116,11 +110,10 @@ count_below_but_two p q n a b la lb ne h =
     let mixed : ℕ → Bool = λ i. cond (eqb i a) (q i) (p i) in
     let at_a : mixed a ≡ q a = rw (eq-eqb a a refl) refl in
     let at_b : mixed b ≡ p b = rw (ne_eqb b a (λ e. ne (sym e))) refl in
-    let first = count_below_but_one p mixed n a la (λ i l d. rw (ne_eqb i a d) refl) in
     let agree : (i : ℕ) → i < n → i ≢ b → mixed i ≡ q i =
     λ i l d. elim (cases_eq i a) [ inl e ↦ rw (eq-eqb i a e) refl | inr d' ↦ rw (ne_eqb i a d') (h i l d' d) ] in
     let second = count_below_but_one mixed q n b lb agree in
-    omega (arith, first, second, ap one_if at_a, ap one_if at_b)
+    omega (arith, count_below_but_one p mixed n a la (λ i l d. rw (ne_eqb i a d) refl), second, ap one_if at_a, ap one_if at_b)
 
 -- Numbers below k that pass one test go to different numbers below n that pass another: so the first test passes no more often.
 pub count_below_into : (f : ℕ → ℕ) (p q : ℕ → Bool) (k n : ℕ) → ((i : ℕ) → i < k → p i ≡ true → (f i < n) × (q (f i) ≡ true)) → ((i j : ℕ) → i < k → j < k → p i ≡ true → p j ≡ true → f i ≡ f j → i ≡ j) → count_below p k ≤ count_below q n
@@ -134,8 +127,7 @@ count_below_into f p q (suc k) n into apart =
           (λ i l t. let old = into i (omega arith) t in let ne : f i ≢ f k = λ e. absurd (omega (arith, apart i k (omega arith) (omega arith) t passes e)) in (old.0, rw (ne_eqb (f i) (f k) ne) old.1))
           (λ i j l m. apart i j (omega arith) (omega arith)) in
           let fails : less (f k) ≡ false = rw (eq-eqb (f k) (f k) refl) refl in
-          let more = count_below_more less q n (f k) at.0 fails at.1 (λ i l ne. rw (ne_eqb i (f k) ne) refl) in
-          omega (arith, rest, more, ap one_if passes)
+          omega (arith, rest, count_below_more less q n (f k) at.0 fails at.1 (λ i l ne. rw (ne_eqb i (f k) ne) refl), ap one_if passes)
       | inr fails ↦
           let rest = count_below_into f p q k n (λ i l t. into i (omega arith) t) (λ i j l m. apart i j (omega arith) (omega arith)) in
           omega (arith, rest, ap one_if fails)

@@ -41,26 +41,7 @@ IsMarking-none images old start l keeps =
 
 -- one step on
 pub IsMarking-more : (images : List ℕ) (old marked new : ℕ → Bool) (start x y : ℕ) → IsPermutationOfBelow images → start < length images → IsMarking images old marked start x → SetsMark (length images) marked new x → y ≡ image images x → IsMarking images old new start y
-IsMarking-more images old marked new start x y p in_start h sets e =
-    let keeps = λ (i : ℕ) (m : i < length images) (t : marked i ≡ true). SetsMark-keeps (length images) marked new x i sets m t in
-    let step = orbits-step images p.within x h.within in
-    record {
-      within = omega (arith, StaysBelow-image images p.within x h.within);
-      together = h.together ∙ (step ∙ ap (label (orbits images)) (sym e));
-      stays = λ i m t. keeps i m (h.stays i m t);
-      only = λ i m t. elim (SetsMark-cases (length images) marked new x i sets m t) [
-        | inl t' ↦ h.only i m t'
-        | inr q ↦ inr (h.together ∙ ap (label (orbits images)) (sym q))
-      ];
-      stepped = λ i m t. elim (SetsMark-cases (length images) marked new x i sets m t) [
-        | inl t' ↦ elim (h.stepped i m t') [
-          | inl u ↦ inl (keeps (image images i) (StaysBelow-image images p.within i m) u)
-          | inr q ↦ inl (ap new q ∙ sets.here)
-        ]
-        | inr q ↦ inr (ap (image images) q ∙ sym e)
-      ];
-      begun = elim h.begun [ inl t ↦ inl (keeps start in_start t) | inr q ↦ inl (ap new (sym q) ∙ sets.here) ];
-    }
+IsMarking-more images old marked new start x y p in_start h sets e = grind (arith, length, SetsMark-keeps, StaysBelow-image, orbits-step, label, orbits, SetsMark-cases, image)
 
 -- where x is marked already, the orbit of start is marked, and nothing else that was not
 pub IsMarking-all : (images : List ℕ) (old marked : ℕ → Bool) (start x : ℕ) → IsPermutationOfBelow images → IsMarking images old marked start x → start < length images → marked x ≡ true → (i : ℕ) → i < length images → marked i ≡ (old i || same_class (orbits images) start i)
@@ -73,8 +54,7 @@ IsMarking-all images old marked start x p h l on i m =
       | inr t ↦
           elim (cases_Bool (same_class (orbits images) start i)) [
             | inl s ↦
-                let same = orbits-closed_marks images p marked keeps start i l m (Together-from (orbits images) start i s) in
-                rw (t, s) (sym same ∙ begun)
+                rw (t, s) (sym (orbits-closed_marks images p marked keeps start i l m (Together-from (orbits images) start i s)) ∙ begun)
             | inr s ↦
                 rw (t, s) (false_from_ne_true (marked i) (λ u. elim (h.only i m u) [
                   | inl v ↦ false≢true (sym t ∙ v)
@@ -98,45 +78,15 @@ pub IsCounting-together : (labels : List ℕ) (marked : ℕ → Bool) (count i :
 IsCounting-together labels marked count i h x y l m same = h.known x l ∙ ap (λ z. ltb z i) same ∙ sym (h.known y m)
 
 ltb_one_more : (x i : ℕ) → (ltb x i || eqb i x) ≡ ltb x (suc i)
-ltb_one_more x i =
-    elim (cases_Bool (ltb x i)) [
-      | inl t ↦ or_left (ltb x i) (eqb i x) t ∙ sym (lt-ltb x (suc i) (omega (arith, ltb-true x i t)))
-      | inr f ↦
-          let le = ltb-false x i f in
-          elim (cases_eq i x) [
-            | inl e ↦ rw (f, eq-eqb i x e) (sym (lt-ltb x (suc i) (omega arith)))
-            | inr ne ↦ rw (f, ne_eqb i x ne) (sym (le-ltb x (suc i) (omega arith)))
-          ]
-    ]
+ltb_one_more x i = grind (arith, cases_Bool, ltb, or_left, eqb, lt-ltb, ltb-true, cases_eq, eq-eqb, ne_eqb, le-ltb, ltb-false)
 
 -- a number that is not marked is the least of its class, which is then marked
 pub IsCounting-new : (labels : List ℕ) (marked new : ℕ → Bool) (count i m : ℕ) → IsLabels labels → IsCounting labels marked count i → i < length labels → marked i ≡ false → ((y : ℕ) → y < length labels → new y ≡ (marked y || same_class labels i y)) → m ≡ i + 1 → IsCounting labels new (count + 1) m
-IsCounting-new labels marked new count i m w h l off marks s =
-    let above = ltb-false (label labels i) i (sym (h.known i l) ∙ off) in
-    let own : label labels i ≡ i = omega (arith, w.low i) in
-    let next : IsCounting labels new (count + 1) (suc i) = record {
-      known = λ y n.
-          marks y n ∙ (ap (λ b. b || same_class labels i y) (h.known y n) ∙ (ap (λ x. ltb (label labels y) i || eqb x (label labels y)) own ∙ ltb_one_more (label labels y) i));
-      counted = let e = eq-eqb (label labels i) i own in rw e (omega (arith, h.counted));
-    } in
-    let s' : m ≡ suc i = omega arith in
-    rw s' next
+IsCounting-new labels marked new count i m w h l off marks s = grind (arith, ltb-false, label, same_class, ltb, eqb, ltb_one_more, eq-eqb)
 
 -- a marked number is not the least of its class
 pub IsCounting-old : (labels : List ℕ) (marked : ℕ → Bool) (count i m : ℕ) → IsLabels labels → IsCounting labels marked count i → i < length labels → marked i ≡ true → m ≡ i + 1 → IsCounting labels marked count m
-IsCounting-old labels marked count i m w h l on s =
-    let below = ltb-true (label labels i) i (sym (h.known i l) ∙ on) in
-    let other : (y : ℕ) → i ≢ label labels y = λ y e. absurd (omega (arith, ap (label labels) e, w.own y)) in
-    let next : IsCounting labels marked count (suc i) = record {
-      known = λ y n. h.known y n ∙ (sym (or_off (ltb (label labels y) i) (eqb i (label labels y)) (ne_eqb i (label labels y) (other y))) ∙ ltb_one_more (label labels y) i);
-      counted = let ne : label labels i ≢ i = omega arith in rw (ne_eqb (label labels i) i ne) (omega (arith, h.counted));
-    } in
-    let s' : m ≡ suc i = omega arith in
-    rw s' next
-  where
-    or_off : (x y : Bool) → y ≡ false → (x || y) ≡ x
-    or_off true y e = refl
-    or_off false y e = e
+IsCounting-old labels marked count i m w h l on s = grind (arith, ltb-true, label, ltb, eqb, ne_eqb, ltb_one_more)
 
 -- at the end the count is that of the classes
 pub IsCounting-all : (labels : List ℕ) (marked : ℕ → Bool) (count i : ℕ) → IsCounting labels marked count i → i ≡ length labels → count ≡ class_count labels

@@ -139,9 +139,8 @@ IsPermuting-image images p =
 -- a test passes at as many images as numbers
 pub count_below-images : (f : ℕ → ℕ) (k : ℕ) → IsPermuting f k → (p : ℕ → Bool) → count_below (λ i. p (f i)) k ≡ count_below p k
 count_below-images f k w p =
-    let le = count_below_images_le f p k k w.within w.apart in
     let le_not = count_below_images_le f (λ i. not (p i)) k k w.within w.apart in
-    omega (arith, le, le_not, count_below_not p k, count_below_not (λ i. p (f i)) k)
+    omega (arith, count_below_images_le f p k k w.within w.apart, le_not, count_below_not p k, count_below_not (λ i. p (f i)) k)
 
 -- marks that each step keeps are kept backwards too
 pub marks_back : (f : ℕ → ℕ) (k : ℕ) → IsPermuting f k → (marked : ℕ → Bool) → ((i : ℕ) → i < k → marked i ≡ true → marked (f i) ≡ true) → (i : ℕ) → i < k → marked (f i) ≡ true → marked i ≡ true

@@ -28,11 +28,9 @@ roots_apart f (suc n) labels w l stays h i j e e' t =
       | inl u ↦ h x y (wider x r) (wider y r') u
       | inr u ↦ elim u [
         | inl q ↦
-            let fixed = no_root x r (h x n (wider x r) here q.0) in
-            h x y (wider x r) (wider y r') (q.0 ∙ (ap (label labels) (sym fixed) ∙ q.1))
+            h x y (wider x r) (wider y r') (q.0 ∙ (ap (label labels) (sym (no_root x r (h x n (wider x r) here q.0))) ∙ q.1))
         | inr q ↦
-            let fixed = no_root y r' (h y n (wider y r') here (sym q.1)) in
-            h x y (wider x r) (wider y r') (q.0 ∙ (ap (label labels) fixed ∙ q.1))
+            h x y (wider x r) (wider y r') (q.0 ∙ (ap (label labels) (no_root y r' (h y n (wider y r') here (sym q.1))) ∙ q.1))
       ]
     ] in
     roots_apart f n (merge labels n (f n)) (IsLabels-merge labels n (f n) w in_n in_f) (rw length-merge (omega arith)) (rw length-merge stays) step i j e e' t
@@ -67,14 +65,7 @@ cases_two a b i = elim (cases_eq i a) [ inl e ↦ inl e | inr ne ↦ elim (cases
 
 -- swapping twice changes nothing
 pub swapped-swapped : (a b i : ℕ) → swapped a b (swapped a b i) ≡ i
-swapped-swapped a b i =
-    elim (cases_two a b i) [
-      | inl e ↦ ap (λ x. swapped a b (swapped a b x)) e ∙ (ap (swapped a b) (swapped_first a b) ∙ (swapped_second a b ∙ sym e))
-      | inr r ↦ elim r [
-        | inl e ↦ ap (λ x. swapped a b (swapped a b x)) e ∙ (ap (swapped a b) (swapped_second a b) ∙ (swapped_first a b ∙ sym e))
-        | inr p ↦ ap (swapped a b) (swapped_other a b i p.0 p.1) ∙ swapped_other a b i p.0 p.1
-      ]
-    ]
+swapped-swapped a b i = grind (arith, cases_two, swapped, swapped_first, swapped_second, swapped_other)
 
 swapped-lt : (a b k i : ℕ) → a < k → b < k → i < k → swapped a b i < k
 swapped-lt a b k i la lb l =
@@ -85,13 +76,7 @@ swapped-lt a b k i la lb l =
 
 -- an exchange leaves a bijection a bijection
 pub IsPermuting-exchange : (f : ℕ → ℕ) (k a b : ℕ) → a < k → b < k → IsPermuting f k → IsPermuting (exchange f a b) k
-IsPermuting-exchange f k a b la lb w =
-    record {
-      within = λ i l. w.within (swapped a b i) (swapped-lt a b k i la lb l);
-      apart = λ i j l m e.
-          let same = w.apart (swapped a b i) (swapped a b j) (swapped-lt a b k i la lb l) (swapped-lt a b k j la lb m) e in
-          sym (swapped-swapped a b i) ∙ (ap (swapped a b) same ∙ swapped-swapped a b j);
-    }
+IsPermuting-exchange f k a b la lb w = grind (arith, swapped, swapped-lt, swapped-swapped)
 
 -- f with a and b made fixed points
 abbrev pinned : (ℕ → ℕ) → ℕ → ℕ → ℕ → ℕ
@@ -141,54 +126,30 @@ module _ (f : ℕ → ℕ) (k a b : ℕ) (w : IsPermuting f k) (la : a < k) (lb 
   ends_with c =
       let p : ℕ → Bool = same_class paths c in
       let agree : (i : ℕ) → i < k → i ≢ a → i ≢ b → p i ≡ p (f i) = λ i l d d'. ap (λ x. eqb (label paths c) x) (along i l d d') in
-      let same = count_below-images f k w p in
-      let two = count_below_but_two p (λ i. p (f i)) k a b la lb ne agree in
-      omega (arith, same, two)
+      omega (arith, count_below-images f k w p, count_below_but_two p (λ i. p (f i)) k a b la lb ne agree)
 
   -- each end begins the one path or the other
   ends_cases : (Together paths a (f a) × Together paths b (f b)) ⊎ (Together paths b (f a) × Together paths a (f b))
   ends_cases =
       let p = same_class paths in
-      let aa : p a a ≡ true = same_class-from paths a a refl in
       let ab : p a b ≡ false = apart-from paths a b ends_apart in
       let bb : p b b ≡ true = same_class-from paths b b refl in
       let ba : p b a ≡ false = apart-from paths b a (λ t. ends_apart (sym t)) in
-      let sum_a = ends_with a in
       let sum_b = ends_with b in
-      elim (cases_Bool (p a (f a))) [
-        | inl t ↦
-            let at = Together-from paths a (f a) t in
-            let out : p b (f a) ≡ false = apart-from paths b (f a) (λ t'. ends_apart (at ∙ sym t')) in
-            elim (cases_Bool (p b (f b))) [
-              | inl t' ↦ inl (at, Together-from paths b (f b) t')
-              | inr n ↦ absurd (omega (arith, sum_b, ap one_if out, ap one_if n, ap one_if bb, ap one_if ba))
-            ]
-        | inr n ↦
-            elim (cases_Bool (p a (f b))) [
-              | inl t ↦
-                  let at = Together-from paths a (f b) t in
-                  let out : p b (f b) ≡ false = apart-from paths b (f b) (λ t'. ends_apart (at ∙ sym t')) in
-                  elim (cases_Bool (p b (f a))) [
-                    | inl t' ↦ inr (Together-from paths b (f a) t', at)
-                    | inr n' ↦ absurd (omega (arith, sum_b, ap one_if out, ap one_if n', ap one_if bb, ap one_if ba))
-                  ]
-              | inr n' ↦ absurd (omega (arith, sum_a, ap one_if n, ap one_if n', ap one_if aa, ap one_if ab))
-            ]
-      ]
+      grind (arith, cases_Bool, Together-from, paths, apart-from, ends_apart, one_if, ends_with, same_class-from)
 
   -- what g, which is f but at a and b, makes of the paths
   module _ (g : ℕ → ℕ) (stays : StaysBelow g k) (same : (i : ℕ) → i ≢ a → i ≢ b → g i ≡ f i) where
     paths_in : (i j : ℕ) → i < k → j < k → Together paths i j → Together (orbits_of g k) i j
     unfolding paths
     paths_in =
-        let step = orbits_of-step g k stays in
         let L = label (orbits_of g k) in
         orbits_of-marked L (pinned f a b) k pinned_stays (λ i l.
         elim (cases_two a b i) [
           | inl e ↦ ap L (e ∙ (sym (pinned_first f a b) ∙ ap (pinned f a b) (sym e)))
           | inr r ↦ elim r [
             | inl e ↦ ap L (e ∙ (sym (pinned_second f a b) ∙ ap (pinned f a b) (sym e)))
-            | inr p ↦ step i l ∙ ap L (same i p.0 p.1 ∙ sym (pinned_other f a b i p.0 p.1))
+            | inr p ↦ (orbits_of-step g k stays) i l ∙ ap L (same i p.0 p.1 ∙ sym (pinned_other f a b i p.0 p.1))
           ]
         ])
 
@@ -221,8 +182,7 @@ module _ (f : ℕ → ℕ) (k a b : ℕ) (w : IsPermuting f k) (la : a < k) (lb 
         let in_b : b < length paths = omega arith in
         let keeps = merge-keeps paths a b IsLabels-paths in_a in_b in
         let joined = merge-same paths a b IsLabels-paths in_a in_b in
-        let step = orbits_of-step g k stays in
-        let over : Together (orbits_of g k) a b = step a la ∙ paths_in (g a) b (stays a la) lb (sym at_a) in
+        let over : Together (orbits_of g k) a b = (orbits_of-step g k stays) a la ∙ paths_in (g a) b (stays a la) lb (sym at_a) in
         labels_same (orbits_of g k) (merge paths a b) (IsLabels-orbits_of g k stays) (IsLabels-merge paths a b IsLabels-paths in_a in_b) (n ∙ (sym n' ∙ sym (length-merge paths a b)))
         (λ i j l m t. orbits_in (merge paths a b) keeps (joined ∙ keeps b (g a) at_a) (sym joined ∙ keeps a (g b) at_b) i j (omega arith) (omega arith) t)
         (λ i j l m t.
@@ -237,14 +197,7 @@ module _ (f : ℕ → ℕ) (k a b : ℕ) (w : IsPermuting f k) (la : a < k) (lb 
         ])
 
   IsMerged-paths : (two one : List ℕ) → two ≡ paths → one ≡ merge paths a b → IsMerged two one a b
-  IsMerged-paths two one e e' =
-      let n' = length-paths in
-      let fewer = class_count-merge_apart paths a b IsLabels-paths (omega arith) (omega arith) ends_apart in
-      record {
-        apart = rw e (apart-from paths a b ends_apart);
-        joined = e' ∙ ap (λ l. merge l a b) (sym e);
-        fewer = ap class_count e ∙ (fewer ∙ ap (λ l. class_count l + 1) (sym e'));
-      }
+  IsMerged-paths two one e e' = grind (arith, length-paths, class_count-merge_apart, paths, IsLabels-paths, ends_apart, apart-from, merge, class_count)
 
   -- the law of one swap, over functions
   pub exchange_orbits : IsSwapOfOrbits (orbits_of f k) (orbits_of (exchange f a b) k) a b
@@ -256,22 +209,7 @@ module _ (f : ℕ → ℕ) (k a b : ℕ) (w : IsPermuting f k) (la : a < k) (lb 
       let second : g b ≡ f a = ap f (swapped_second a b) in
       let L = label paths in
       let n' = length-paths in
-      elim ends_cases [
-        | inl p ↦
-            let old = orbits_closed f w.within (λ i d d'. refl) p.0 p.1 in
-            let new = orbits_joined g stays same (p.1 ∙ ap L (sym first)) (p.0 ∙ ap L (sym second)) in
-            record {
-              cut = λ t. absurd (ends_apart (Together-from paths a b (rw old at t)));
-              joined = λ t. IsMerged-paths (orbits_of f k) (orbits_of g k) old new;
-            }
-        | inr p ↦
-            let old = orbits_joined f w.within (λ i d d'. refl) p.0 p.1 in
-            let new = orbits_closed g stays same (p.1 ∙ ap L (sym first)) (p.0 ∙ ap L (sym second)) in
-            record {
-              cut = λ t. IsMerged-paths (orbits_of g k) (orbits_of f k) new old;
-              joined = λ t. absurd (Together-not (orbits_of f k) a b t (rw old (merge-same paths a b IsLabels-paths (omega arith) (omega arith))));
-            }
-      ]
+      grind (arith, ends_cases, orbits_closed, orbits_joined, ends_apart, Together-from, paths, IsMerged-paths, orbits_of, Together-not, merge-same, IsLabels-paths)
 
 -- ---- over lists of images
 -- the orbits depend on the images alone
@@ -288,17 +226,7 @@ image-swap images a b la lb i l =
     let first = set images a (get_or images b i) in
     let in_b : b < length first = rw length-set lb in
     let e : get_or (swap images a b) i i ≡ get_or (set first b (get_or images a i)) i i = ap (λ l. get_or l i i) (sym (swap_is images a b i la lb)) in
-    elim (cases_eq i b) [
-      | inl at ↦
-          e ∙ (subst (λ x. get_or (set first b (get_or images a i)) x i ≡ get_or images a i) (sym at) (get_or-set_same first b (get_or images a i) i in_b) ∙ (get_or_default images a i a la ∙ ap (image images) (sym (ap (swapped a b) at ∙ swapped_second a b))))
-      | inr ne ↦
-          let e' : get_or (swap images a b) i i ≡ get_or first i i = e ∙ get_or-set_other first b i (get_or images a i) i ne in
-          elim (cases_eq i a) [
-            | inl at ↦
-                e' ∙ (subst (λ x. get_or first x i ≡ get_or images b i) (sym at) (get_or-set_same images a (get_or images b i) i la) ∙ (get_or_default images b i b lb ∙ ap (image images) (sym (ap (swapped a b) at ∙ swapped_first a b))))
-            | inr ne' ↦ e' ∙ (get_or-set_other images a i (get_or images b i) i ne' ∙ ap (image images) (sym (swapped_other a b i ne' ne)))
-          ]
-    ]
+    grind (arith, cases_eq, get_or, set, get_or-set_same, get_or_default, image, swapped, swapped_second, swap, get_or-set_other, swapped_first, swapped_other)
 
 -- a list whose function is a bijection holds a bijection
 pub IsPermutationOfBelow-from : (images : List ℕ) → IsPermuting (image images) (length images) → IsPermutationOfBelow images
@@ -326,8 +254,7 @@ IsPermutationOfBelow-swap images a b p la lb =
 pub swap_orbits : (images : List ℕ) (a b : ℕ) → IsPermutationOfBelow images → a < length images → b < length images → a ≢ b → IsSwapOfOrbits (orbits images) (orbits (swap images a b)) a b
 swap_orbits images a b p la lb ne =
     let k = length images in
-    let w = IsPermuting-image images p in
-    let law = exchange_orbits (image images) k a b w la lb ne in
+    let law = exchange_orbits (image images) k a b (IsPermuting-image images p) la lb ne in
     let q = IsPermutationOfBelow-swap images a b p la lb in
     let len = length-swap images a b in
     let old = orbits-image images p.within in

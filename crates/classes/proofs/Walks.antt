@@ -66,9 +66,8 @@ walk_apart f k w a l (suc i) m e =
 -- so it visits as many numbers as it has steps
 pub count_visited : (f : ℕ → ℕ) (k : ℕ) → IsPermuting f k → (a n : ℕ) → a < k → IsAway f a n → count_below (visited f a (suc n)) k ≡ suc n
 count_visited f k w a zero l away =
-    let none : count_below (λ i. false) k ≡ 0 = count_below_none k in
     let more = count_below_more (λ i. false) (visited f a 1) k a l refl (visited-walk f a 1 0 (omega arith)) (λ i m d. sym (not_visited f a 1 i (λ j s e. let z : j ≡ 0 = omega arith in d (sym e ∙ ap (walk f a) z)))) in
-    omega arith
+    omega (arith, count_below_none k)
 count_visited f k w a (suc n) l away =
     let rest = count_visited f k w a n l (λ i pos m. away i pos (omega arith)) in
     let at = walk f a (suc n) in
@@ -102,8 +101,7 @@ visited_is_orbit images p a n l pos back y m =
     let r = visited_at f a n i t in
     elim (cases_eq (suc r.0) n) [
       | inl e ↦
-          let first : f i ≡ a = ap f (sym r.2) ∙ (ap (walk f a) e ∙ back) in
-          ap marked first ∙ visited-walk f a n 0 pos
+          ap marked (ap f (sym r.2) ∙ (ap (walk f a) e ∙ back)) ∙ visited-walk f a n 0 pos
       | inr d ↦ ap marked (ap f (sym r.2)) ∙ visited-walk f a n (suc r.0) (omega arith)
     ] in
     elim (cases_Bool (marked y)) [
@@ -118,9 +116,4 @@ visited_is_orbit images p a n l pos back y m =
 
 -- each number as its own image
 pub IsPermutationOfBelow-identity : (k : ℕ) → IsPermutationOfBelow (range_with_len 0 k)
-IsPermutationOfBelow-identity k =
-    let len = length-range_with_len 0 k in
-    record {
-      within = λ i d l. omega (arith, get_or-range_with_len 0 k i d (omega arith));
-      distinct = λ i j d s l e. absurd (omega (arith, get_or-range_with_len 0 k i d (omega arith), get_or-range_with_len 0 k j d (omega arith)));
-    }
+IsPermutationOfBelow-identity k = grind (arith, length-range_with_len, get_or-range_with_len)

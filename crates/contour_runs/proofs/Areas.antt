@@ -22,17 +22,10 @@ sum_positive a b c d p q = let m = mul-le 1 1 a b p q in omega (arith, ints)
 -- the area by four differences
 by_differences : (at : Coordinates) (a b c : ℕ) (x y z w s : ℤ) → pos (at.one b) -ℤ pos (at.one a) ≡ x → pos (at.two b) -ℤ pos (at.two a) ≡ y → pos (at.one c) -ℤ pos (at.one a) ≡ z → pos (at.two c) -ℤ pos (at.two a) ≡ w → (x *ℤ w) -ℤ (z *ℤ y) ≡ s → pos 0 <ℤ s → pos 0 <ℤ area (point_of at a) (point_of at b) (point_of at c)
 by_differences at a b c x y z w s ex ey ez ew e p =
-    let same : area (point_of at a) (point_of at b) (point_of at c) ≡ s = ap₂ (λ m n. m -ℤ n) (ap₂ (λ m n. m *ℤ n) ex ew) (ap₂ (λ m n. m *ℤ n) ez ey) ∙ e in
-    subst (λ m. pos 0 <ℤ m) (sym same) p
+    subst (λ m. pos 0 <ℤ m) (sym (ap₂ (λ m n. m -ℤ n) (ap₂ (λ m n. m *ℤ n) ex ew) (ap₂ (λ m n. m *ℤ n) ez ey) ∙ e)) p
 
 pub spread_area : (at : Coordinates) (a b c : ℕ) → IsSpread at a b c → pos 0 <ℤ area (point_of at a) (point_of at b) (point_of at c)
 spread_area at a b c h =
-    let left = h.left in
-    let within = h.within in
-    let under = h.under in
-    let up = h.up in
-    let first = h.first_sum in
-    let second = h.second_sum in
     let u : ℕ = at.one a - at.one b in
     let w : ℕ = at.two b - at.two a in
     elim (cases_lt w u) [

@@ -69,8 +69,4 @@ octahedron_faces : faces_made octahedron 4 ≡ 7
 octahedron_faces = refl
 
 octahedron_run : IsRun octahedron 4
-octahedron_run zero l = record { order = omega arith; within = omega arith }
-octahedron_run (suc zero) l = record { order = omega arith; within = omega arith }
-octahedron_run (suc (suc zero)) l = record { order = omega arith; within = omega arith }
-octahedron_run (suc (suc (suc zero))) l = record { order = omega arith; within = omega arith }
-octahedron_run (suc (suc (suc (suc k)))) l = absurd (omega arith)
+octahedron_run x0 l = grind arith

@@ -39,7 +39,6 @@ module _ (v p q : ℕ) (xs : List ℕ) (l : p < q) (m : q < length xs) where
 pub contour_after : (g : Stage) (s : Step) → IsStep g s → contour (after g s) ≡ spliced g.count s.first s.last (contour g)
 contour_after g s h =
     let o = h.order in
-    let w = h.within in
     let xs = contour g in
     let n = length-contour g in
     let m : s.last < length xs = omega arith in

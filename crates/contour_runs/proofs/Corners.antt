@@ -2,7 +2,7 @@
 use Rattle.std.proofs.Common.{◌≡◌, ℕ, zero, suc, ◌+◌, ◌-◌, ◌<◌, ◌≤◌, pos, neg_ℤ, ◌<ℤ◌, eqb, refl, ap, ◌∙◌, inl, inr, arith, eq-eqb, ne_eqb}
 use Rattle.std.proofs.lemmas.Bool.{cases_lt, cond-true, cond-false}
 use Rattle.std.proofs.lemmas.Int.{ints}
-use Rattle.pg_plane.specs.declared.segments.Point.{Point}
+use Rattle.pg_plane.specs.declared.grid_points.Point.{Point}
 use Rattle.pg_plane.specs.Geometry.{area}
 use Rattle.pg_plane.proofs.Ring.{ring, sums}
 use Rattle.contour_runs.specs.Runs.{Step, Stage, stage_after, IsStep, IsFaceOf, IsRun}
@@ -97,67 +97,18 @@ module _ (steps : ℕ → Step) (n m : ℕ) (whole : IsWholeRun steps n m) where
   first_at = let h = falling in let c = counted in let t = whole.some in (omega (arith, drawn_one-first at 0 refl, h.first_one), omega (arith, drawn_two-first at 0 refl, h.first_two))
 
   pub in_grid : (v : ℕ) → v < m → (to.one v ≤ m - 2) × (to.two v ≤ m - 2)
-  in_grid v l =
-      let h = falling in
-      let c = counted in
-      let t = whole.some in
-      elim (cases_lt 0 v) [
-        | inl some ↦ let sum = h.sums v some (omega arith) in (omega (arith, drawn_one-other at v some), omega (arith, drawn_two-other at v some))
-        | inr none ↦ let e : v ≡ 0 = omega arith in (omega (arith, ap to.one e, first_at.0), omega (arith, ap to.two e, first_at.1))
-      ]
+  in_grid v l = grind (arith, falling, counted, cases_lt, sums, drawn_one-other, at, drawn_two-other, to, first_at)
 
   pub cornered : IsCornered to m
-  cornered =
-      let h = falling in
-      let c = counted in
-      let t = whole.some in
-      let z = last_corner steps n m whole in
-      record {
-        first = first_at;
-        second = (drawn_one-other at 1 (omega arith) ∙ h.second_one, omega (arith, drawn_two-other at 1 (omega arith), h.second_two));
-        top = (drawn_one-other at (m - 1) (omega arith) ∙ z.0, drawn_two-other at (m - 1) (omega arith) ∙ z.1);
-      }
+  cornered = grind (arith, falling, counted, last_corner, first_at, drawn_one-other, at, drawn_two-other)
 
   -- what is spread without the first vertex stays so in the drawing
   spread_other : (a b v : ℕ) → 0 < a → 0 < b → 0 < v → IsSpread at a b v → IsSpread to a b v
-  spread_other a b v la lb lv h =
-      let a1 = drawn_one-other at a la in
-      let a2 = drawn_two-other at a la in
-      let b1 = drawn_one-other at b lb in
-      let b2 = drawn_two-other at b lb in
-      let v1 = drawn_one-other at v lv in
-      let v2 = drawn_two-other at v lv in
-      record {
-        left = omega (arith, h.left);
-        within = omega (arith, h.within);
-        under = omega (arith, h.under);
-        up = omega (arith, h.up);
-        first_sum = omega (arith, h.first_sum);
-        second_sum = omega (arith, h.second_sum);
-      }
+  spread_other a b v la lb lv h = grind (arith, drawn_one-other, at, drawn_two-other)
 
   -- and so does what is spread with it as its first corner
   spread_first : (a b v : ℕ) → a ≡ 0 → 0 < b → suc b < m → 0 < v → v < m → IsSpread at a b v → IsSpread to a b v
-  spread_first a b v e lb small lv top h =
-      let k = falling in
-      let c = counted in
-      let b1 = drawn_one-other at b lb in
-      let b2 = drawn_two-other at b lb in
-      let v1 = drawn_one-other at v lv in
-      let v2 = drawn_two-other at v lv in
-      let a1 = ap to.one e ∙ first_at.0 in
-      let a2 = ap to.two e ∙ first_at.1 in
-      let up = raised steps n m b whole lb small in
-      let sb = k.sums b lb (omega arith) in
-      let sv = k.sums v lv (omega arith) in
-      record {
-        left = omega arith;
-        within = omega arith;
-        under = omega (arith, h.under);
-        up = omega arith;
-        first_sum = omega arith;
-        second_sum = omega (arith, h.second_sum);
-      }
+  spread_first a b v e lb small lv top h = grind (arith, falling, counted, drawn_one-other, at, drawn_two-other, to, first_at, raised, sums)
 
   pub counterclockwise : (k i a b v : ℕ) → k < n → IsFaceOf steps k i a b v → pos 0 <ℤ area (point_of to a) (point_of to b) (point_of to v)
   counterclockwise k i a b v l f =
@@ -173,12 +124,7 @@ module _ (steps : ℕ → Step) (n m : ℕ) (whole : IsWholeRun steps n m) where
       let ev = f.new in
       let pb = stage.placed (suc i) (omega arith) in
       let spread = spread_run steps n k i a b v run l f in
-      let b_some : 0 < b = elim (cases_lt 0 b) [
-        | inl some ↦ some
-        | inr none ↦
-            let z : g.vertex (suc i) ≡ g.vertex 0 = eb ∙ omega arith ∙ ap g.vertex refl in
-            absurd (omega (arith, stage.own (suc i) (omega arith), stage.own 0 (omega arith), ap g.place z))
-      ] in
+      let b_some : 0 < b = grind (arith, cases_lt) in
       spread_area to a b v (elim (cases_lt 0 a) [ inl some ↦ spread_other a b v some b_some (omega arith) spread | inr none ↦ spread_first a b v (omega arith) b_some (omega arith) (omega arith) (omega arith) spread ])
 
   area_back : (a b c : Point) → area b a c ≡ neg_ℤ (area a b c)
@@ -188,18 +134,4 @@ module _ (steps : ℕ → Step) (n m : ℕ) (whole : IsWholeRun steps n m) where
   negative a b e p = omega (arith, ints)
 
   pub outside : area (point_of to 1) (point_of to 0) (point_of to (m - 1)) <ℤ pos 0
-  outside =
-      let c = cornered in
-      let t = whole.some in
-      let f = c.first in
-      let s = c.second in
-      let z = c.top in
-      let spread : IsSpread to 0 1 (m - 1) = record {
-        left = omega (arith, f.0, s.0);
-        within = omega (arith, f.0, z.0);
-        under = omega (arith, s.1, z.1);
-        up = omega (arith, f.1, s.1);
-        first_sum = omega (arith, f.0, f.1, z.0, z.1);
-        second_sum = omega (arith, s.0, s.1, z.0, z.1);
-      } in
-      negative _ _ (area_back (point_of to 0) (point_of to 1) (point_of to (m - 1))) (spread_area to 0 1 (m - 1) spread)
+  outside = grind (arith, cornered, IsSpread, to, negative, area_back, point_of, spread_area)

@@ -7,13 +7,4 @@ use Rattle.contour_runs.specs.Gaps.{KeepsDifferences}
 use Rattle.contour_runs.proofs.Steps.{one_after-older, two_after-older}
 
 pub differences_kept : (steps : ℕ → Step) (n u v : ℕ) → IsRun steps (suc n) → u < n + 2 → v < n + 2 → (stage_after steps n).place u ≡ (stage_after steps n).place v → KeepsDifferences (coordinates steps n) (coordinates steps (suc n)) u v
-differences_kept steps n u v run l m e =
-    let g = stage_after steps n in
-    let s = steps n in
-    let at = coordinates steps n in
-    let c = count-stage_after steps n in
-    let u1 = one_after-older g s at u (omega arith) in
-    let u2 = two_after-older g s at u (omega arith) in
-    let v1 = one_after-older g s at v (omega arith) in
-    let v2 = two_after-older g s at v (omega arith) in
-    record { one = omega (arith, u1, v1, ap (one_gain s) e); two = omega (arith, u2, v2, ap (two_gain s) e) }
+differences_kept steps n u v run l m e = grind (arith, stage_after, coordinates, count-stage_after, two_after-older, one_after-older, one_gain, two_gain)

@@ -59,51 +59,11 @@ cube_row = refl
 
 -- rows and single vertices with two faces are steps
 pub row_step : (g : Stage) (first last vertices turn : ℕ) → first ≤ turn → turn < last → last < g.width → 0 < vertices → IsStep g (row first last vertices turn)
-row_step g first last vertices turn a b c d = record {
-  some_face = omega arith;
-  some_vertex = d;
-  single = inr refl;
-  begin = refl;
-  end = refl;
-  low = row_low;
-  high = row_high;
-  within = c;
-}
-  where
-    row_low : (i : ℕ) → i < 1 → (row first last vertices turn).cut i ≤ turn
-    row_low zero l = a
-    row_low (suc i) l = absurd (omega arith)
-
-    row_high : (i : ℕ) → i < 1 → turn < (row first last vertices turn).cut (suc i)
-    row_high zero l = b
-    row_high (suc i) l = absurd (omega arith)
+row_step g first last vertices turn a b c d = grind (arith, row)
 
 pub fan_step : (g : Stage) (first middle last turn later : ℕ) → first ≤ turn → turn < middle → middle ≤ later → later < last → last < g.width → IsStep g (fan first middle last turn later)
-fan_step g first middle last turn later a b c d e = record {
-  some_face = omega arith;
-  some_vertex = omega arith;
-  single = inl refl;
-  begin = refl;
-  end = refl;
-  low = fan_low;
-  high = fan_high;
-  within = e;
-}
-  where
-    fan_low : (i : ℕ) → i < 2 → (fan first middle last turn later).cut i ≤ (fan first middle last turn later).turn i
-    fan_low zero l = a
-    fan_low (suc zero) l = c
-    fan_low (suc (suc i)) l = absurd (omega arith)
-
-    fan_high : (i : ℕ) → i < 2 → (fan first middle last turn later).turn i < (fan first middle last turn later).cut (suc i)
-    fan_high zero l = b
-    fan_high (suc zero) l = d
-    fan_high (suc (suc i)) l = absurd (omega arith)
+fan_step g first middle last turn later a b c d e = grind (arith, fan)
 
 -- the cube is a run
 pub cube_run : IsRun cube 4
-cube_run zero l = row_step (stage_after cube 0) 0 1 2 0 (omega arith) (omega arith) (omega arith) (omega arith)
-cube_run (suc zero) l = row_step (stage_after cube 1) 1 2 2 1 (omega arith) (omega arith) (omega arith) (omega arith)
-cube_run (suc (suc zero)) l = row_step (stage_after cube 2) 0 2 1 0 (omega arith) (omega arith) (omega arith) (omega arith)
-cube_run (suc (suc (suc zero))) l = fan_step (stage_after cube 3) 1 3 5 2 4 (omega arith) (omega arith) (omega arith) (omega arith) (omega arith)
-cube_run (suc (suc (suc (suc k)))) l = absurd (omega arith)
+cube_run x0 l = grind (arith, row_step, stage_after, cube, fan_step)

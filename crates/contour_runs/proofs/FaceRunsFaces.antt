@@ -48,29 +48,16 @@ module _ (g : Stage) (s : Step) (h : IsStage g) (step : IsStep g s) where
   pub cases_along : (x y i : ℕ) → GoesAlong (after g s) x y i → IsBeside g s x y ⊎ (IsUpward g s x y ⊎ (IsOnward g s x y ⊎ IsDownward g s x y))
   cases_along x y i a =
       let o = order g s step in
-      let w = step.within in
-      let l = a.within in
-      let t = a.tail in
-      let u = a.head in
-      let some = step.some_vertex in
       elim (cases_order i s.first) [
         | inl e ↦
             let n = vertex_after-new g s (suc i) (omega arith) (omega arith) in
             inr (inl record { tail = sym a.tail ∙ vertex_after-low g s i (omega arith) ∙ ap g.vertex e; head = omega arith })
-        | inr (inl below) ↦
-            inl record {
-              place = i;
-              along = record { within = omega arith; tail = sym (vertex_after-low g s i (omega arith)) ∙ a.tail; head = sym (vertex_after-low g s (suc i) (omega arith)) ∙ a.head };
-              outside = inl below;
-            }
+        | inr (inl below) ↦ grind (arith, vertex_after-low)
         | inr (inr above) ↦ elim (cases_order i (s.first + s.vertices)) [
           | inl e ↦
               let n = vertex_after-new g s i above (omega arith) in
               inr (inr (inr record { tail = omega arith; head = sym a.head ∙ vertex_after-high g s (suc i) s.last (omega arith) (omega arith) }))
-          | inr (inl below) ↦
-              let n = vertex_after-new g s i above (omega arith) in
-              let m = vertex_after-new g s (suc i) (omega arith) (omega arith) in
-              inr (inr (inl record { next = omega arith; new = omega arith }))
+          | inr (inl below) ↦ grind (arith, vertex_after-new)
           | inr (inr high) ↦
               let j : ℕ = i + s.last - (s.first + s.vertices + 1) in
               inl record {
@@ -96,15 +83,10 @@ module _ (g : Stage) (s : Step) (h : IsStage g) (step : IsStep g s) where
   -- where the ends of a dart of a face are
   pub along_placed : (i x y : ℕ) → i < s.faces → (a : IsAlong g s i x y) → (suc a.place < g.width) × (x < g.count) × (y < g.count) × (s.first ≤ a.place) × (a.place < s.last)
   along_placed i x y l a =
-      let w = step.within in
       let lo = cut-first g s step i (omega arith) in
       let hi = cut-last g s step (suc i) l in
-      let lo' = a.low in
-      let hi' = a.high in
       let p = h.placed a.place (omega arith) in
       let q = h.placed (suc a.place) (omega arith) in
-      let t = a.tail in
-      let u = a.head in
       (omega arith, omega arith, omega arith, omega arith, omega arith)
 
   pub up_placed : (i x y : ℕ) → i < s.faces → IsUp g s i x y → (x < g.count) × (g.count ≤ y) × (y < g.count + s.vertices)
@@ -115,13 +97,11 @@ module _ (g : Stage) (s : Step) (h : IsStage g) (step : IsStep g s) where
 
   pub ends_placed : (i x y : ℕ) → IsDartOf g s i x y → (x < g.count + s.vertices) × (y < g.count + s.vertices)
   ends_placed i x y d =
-      let l = d.within in
-      let some = step.some_vertex in
       elim d.dart [
-        | inl a ↦ let p = along_placed i x y l a in (omega (arith, p.1), omega (arith, p.2))
-        | inr (inl a) ↦ let p = up_placed i x y l a in (omega (arith, p.0), p.2)
+        | inl a ↦ let p = along_placed i x y d.within a in (omega (arith, p.1), omega (arith, p.2))
+        | inr (inl a) ↦ let p = up_placed i x y d.within a in (omega (arith, p.0), p.2)
         | inr (inr (inl a)) ↦ let p = a.next in let q = a.high in (q, omega arith)
-        | inr (inr (inr a)) ↦ let p = down_placed i x y l a in (omega (arith, p.0), omega (arith, p.1))
+        | inr (inr (inr a)) ↦ let p = down_placed i x y d.within a in (omega (arith, p.0), omega (arith, p.1))
       ]
 
   -- what kind of dart it is, its ends tell
@@ -138,39 +118,25 @@ module _ (g : Stage) (s : Step) (h : IsStage g) (step : IsStep g s) where
   -- a dart of a face does not go along the contour after the step
   pub not_along_next : (i x y : ℕ) → IsDartOf g s i x y → (j : ℕ) → ¬ GoesAlong (after g s) x y j
   not_along_next i x y d j along =
-      let l = d.within in
-      let w = step.within in
       let o = order g s step in
       let pf = h.placed s.first (omega arith) in
-      let pl = h.placed s.last w in
-      let some = step.some_vertex in
+      let pl = h.placed s.last step.within in
       let kind = kinds i x y d in
       elim (cases_along x y j along) [
         | inl b ↦
-            let m = b.along.within in
-            let tx = b.along.tail in
-            let ty = b.along.head in
-            let a = kind.along (omega (arith, h.placed b.place (omega arith))) (omega (arith, h.placed (suc b.place) m)) in
-            let p = along_placed i x y l a in
-            let e = one_place a.place b.place (omega (arith, p.0)) (omega arith) (a.tail ∙ sym tx) in
+            let a = kind.along (omega (arith, h.placed b.place (omega arith))) (omega (arith, h.placed (suc b.place) b.along.within)) in
+            let p = along_placed i x y d.within a in
+            let e = one_place a.place b.place (omega (arith, p.0)) (omega arith) (a.tail ∙ sym b.along.tail) in
             elim b.outside [ inl z ↦ omega (arith, p.3) | inr z ↦ omega (arith, p.4) ]
         | inr (inl b) ↦
-            let tx = b.tail in
-            let ty = b.head in
             let a = kind.up (omega arith) (omega arith) in
-            let e = one_place (s.cut (suc i)) s.first (cut_placed (suc i) l).0 (omega arith) (a.tail ∙ tx) in
-            let z = cut-lt g s step 0 (suc i) (omega arith) l in
-            let z' = step.begin in
-            omega arith
+            let e = one_place (s.cut (suc i)) s.first (cut_placed (suc i) d.within).0 (omega arith) (a.tail ∙ b.tail) in
+            omega (arith, cut-lt g s step 0 (suc i) (omega arith) d.within)
         | inr (inr (inl b)) ↦ let tx = b.next in let ty = b.new in let q = (kind.across ty (omega arith)).next in omega arith
         | inr (inr (inr b)) ↦
-            let tx = b.tail in
-            let ty = b.head in
             let a = kind.down (omega arith) (omega arith) in
-            let e = one_place (s.cut i) s.last (cut_placed i (omega arith)).0 w (a.head ∙ ty) in
-            let z = cut-lt g s step i s.faces l (omega arith) in
-            let z' = step.end in
-            omega arith
+            let e = one_place (s.cut i) s.last (cut_placed i (omega arith)).0 step.within (a.head ∙ b.head) in
+            omega (arith, cut-lt g s step i s.faces d.within (omega arith))
       ]
 
   -- no two faces of a step have a dart in common
@@ -199,8 +165,7 @@ module _ (g : Stage) (s : Step) (h : IsStage g) (step : IsStep g s) where
         | inl a ↦
             let p = along_placed i x y li a in
             let b = kind.along p.1 p.2 in
-            let q = along_placed j x y lj b in
-            let same = one_place a.place b.place (omega (arith, p.0)) (omega (arith, q.0)) (a.tail ∙ sym b.tail) in
+            let same = one_place a.place b.place (omega (arith, p.0)) (omega (arith, (along_placed j x y lj b).0)) (a.tail ∙ sym b.tail) in
             apart_by_cuts i j a.place li lj a.low a.high (let z = b.low in omega arith) (let z = b.high in omega arith)
         | inr (inl a) ↦ let p = up_placed i x y li a in let z = same_cut (suc i) (suc j) li lj (a.tail ∙ sym (kind.up p.0 p.1).tail) in omega arith
         | inr (inr (inl a)) ↦ let p = a.low in let q = a.next in let r = a.high in elim step.single [ inl one ↦ absurd (omega arith) | inr one ↦ omega arith ]
@@ -222,7 +187,6 @@ module _ (steps : ℕ → Step) (n : ℕ) (run : IsRun steps n) where
       (λ z low high none j a.
       let c = count-le steps (suc k) z low in
       let step = run z (omega arith) in
-      let some = step.some_vertex in
       elim (cases_along (at z) (steps z) (sound z (omega arith)) step x y j a) [
         | inl e ↦ none e.place e.along
         | inr (inl e) ↦ omega (arith, e.head, small.1)

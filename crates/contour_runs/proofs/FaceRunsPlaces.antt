@@ -13,10 +13,9 @@ module _ (g : Stage) (s : Step) (step : IsStep g s) where
   pub cut-add : (i d : ℕ) → i + d ≤ s.faces → s.cut i + d ≤ s.cut (i + d)
   cut-add i zero l = let e : i + 0 ≡ i = omega arith in omega (arith, ap s.cut e)
   cut-add i (suc d) l =
-      let less = cut-add i d (omega arith) in
       let next = cut-next (i + d) (omega arith) in
       let e : i + suc d ≡ suc (i + d) = omega arith in
-      omega (arith, ap s.cut e)
+      omega (arith, cut-add i d (omega arith), ap s.cut e)
 
   pub cut-lt : (i j : ℕ) → i < j → j ≤ s.faces → s.cut i < s.cut j
   cut-lt i j l m =
@@ -45,21 +44,13 @@ module _ (g : Stage) (s : Step) (step : IsStep g s) where
   first_turn = let some = step.some_face in let h = step.low 0 some in let b = step.begin in omega arith
 
   pub last_turn : s.turn (s.faces - 1) < s.last
-  last_turn =
-      let some = step.some_face in
-      let h = step.high (s.faces - 1) (omega arith) in
-      let e : suc (s.faces - 1) ≡ s.faces = omega arith in
-      let f = ap s.cut e in
-      let end = step.end in
-      omega arith
+  last_turn = grind arith
 
   -- turns rise too
   pub turn-lt : (i j : ℕ) → i < j → j < s.faces → s.turn i < s.turn j
   turn-lt i j l m =
-      let a = step.high i (omega arith) in
       let b = cut-le (suc i) j l (omega arith) in
-      let c = step.low j m in
-      omega arith
+      omega (arith, step.low j m, step.high i (omega arith))
 
   pub turn-le : (i j : ℕ) → i ≤ j → j < s.faces → s.turn i ≤ s.turn j
   turn-le i j l m = elim (cases_lt i j) [ inl a ↦ (let h = turn-lt i j a m in omega arith) | inr a ↦ (let e : i ≡ j = omega arith in omega (arith, ap s.turn e)) ]
@@ -91,34 +82,12 @@ pub record IsBehind (s : Step) (i : ℕ) : Type 0 where
 module _ (g : Stage) (s : Step) (step : IsStep g s) where
   pub cases_moved : (i : ℕ) → IsAsItWas s i ⊎ (IsBack s i ⊎ (IsBetween s i ⊎ (IsOn s i ⊎ IsBehind s i)))
   unfolding moved
-  cases_moved i =
-      let o = order g s step in
-      let t = first_turn g s step in
-      let t' = last_turn g s step in
-      let m = turn-le g s step 0 (s.faces - 1) (omega arith) (let some = step.some_face in omega arith) in
-      elim (cases_lt s.first i) [
-        | inr a ↦ inl record { low = a; to = grind (arith, nat_tests) }
-        | inl a ↦ elim (cases_lt (s.turn 0) i) [
-          | inr b ↦ inr (inl record { low = a; high = b; to = grind (arith, nat_tests) })
-          | inl b ↦ elim (cases_lt (s.turn (s.faces - 1)) i) [
-            | inr c ↦ inr (inr (inl record { low = b; high = c; to = grind (arith, nat_tests) }))
-            | inl c ↦ elim (cases_lt i s.last) [
-              | inl d ↦ inr (inr (inr (inl record { low = c; high = d; to = grind (arith, nat_tests) })))
-              | inr d ↦ inr (inr (inr (inr record { low = d; to = grind (arith, nat_tests) })))
-            ]
-          ]
-        ]
-      ]
+  cases_moved i = grind (arith, cases_lt, nat_tests)
 
   -- the place map does not fall
   pub moved-le : (i j : ℕ) → i ≤ j → moved s i ≤ moved s j
   unfolding moved
   moved-le i j l =
-      let o = order g s step in
-      let t = first_turn g s step in
-      let t' = last_turn g s step in
-      let some = step.some_vertex in
-      let m = turn-le g s step 0 (s.faces - 1) (omega arith) (let z = step.some_face in omega arith) in
       grind (arith, nat_tests)
 
 -- what stands where after a step: low, new, high
@@ -163,8 +132,6 @@ pub record IsHigh (g : Stage) (s : Step) (i : ℕ) : Type 0 where
 
 pub cases_place : (g : Stage) (s : Step) (i : ℕ) → IsStep g s → i < (after g s).width → IsLow s i ⊎ (IsNew s i ⊎ IsHigh g s i)
 cases_place g s i h l =
-    let o = order g s h in
-    let w = h.within in
     elim (cases_lt s.first i) [
       | inr a ↦ inl record { low = a }
       | inl a ↦ elim (cases_lt (s.first + s.vertices) i) [

@@ -9,15 +9,7 @@ use Rattle.contour_runs.proofs.FaceRunsPlaces.{turn-le, order, first_turn, last_
 
 -- the base
 pub IsStage-base : IsStage base
-IsStage-base = record {
-  wide = omega arith;
-  few = omega arith;
-  begin = refl;
-  end = λ i e. omega arith;
-  placed = λ i l. l;
-  own = λ i l. refl;
-  within = λ v l. l;
-}
+IsStage-base = grind arith
 
 -- a step from a stage
 module _ (g : Stage) (s : Step) (h : IsStage g) (step : IsStep g s) where
@@ -29,48 +21,31 @@ module _ (g : Stage) (s : Step) (h : IsStage g) (step : IsStep g s) where
   pub moved-high : (i : ℕ) → s.last ≤ i → moved s i + s.last ≡ i + s.first + s.vertices + 1
   unfolding moved
   moved-high i l =
-      let t = first_turn g s step in
-      let t' = last_turn g s step in
-      let o = order g s step in
-      let m = turn-le g s step 0 (s.faces - 1) (omega arith) (let some = step.some_face in omega arith) in
-      grind (arith, nat_tests)
+      grind (arith, turn-le g s step 0 (s.faces - 1) (omega arith) (let some = step.some_face in omega arith), nat_tests)
 
   pub moved-within : (i : ℕ) → i < g.width → moved s i < (after g s).width
   unfolding moved
   moved-within i l =
-      let o = order g s step in
-      let w = step.within in
       grind (arith, nat_tests)
 
   pub IsStage-after : IsStage (after g s)
   unfolding vertex_after place_after
   IsStage-after =
       let o = order g s step in
-      let w = step.within in
       let few = h.few in
-      let some = step.some_vertex in
       record {
         wide = omega arith;
         few = omega arith;
         begin = grind (arith, nat_tests, h.begin);
         end = λ i e. let z = h.end (g.width - 1) (omega arith) in vertex_after-high g s i (g.width - 1) (omega arith) (omega arith) ∙ z;
         placed = λ i l.
-            let p = h.placed i in
-            let q = h.placed (i + s.last - (s.first + s.vertices + 1)) in
             grind (arith, nat_tests);
         own = λ i l.
             let j : ℕ = i + s.last - (s.first + s.vertices + 1) in
-            let p = h.placed i in
-            let q = h.placed j in
-            let p' = h.own i in
-            let q' = h.own j in
-            let m = moved-low i in
             let n = moved-high j in
-            grind (arith, nat_tests);
+            grind (arith, moved-low i, nat_tests);
         within = λ v l.
-            let p = h.within v in
-            let m = moved-within (g.place v) in
-            grind (arith, nat_tests);
+            grind (arith, moved-within (g.place v), nat_tests);
       }
 
 -- the first steps of a run are a run

@@ -13,7 +13,6 @@ use Rattle.contour_runs.proofs.Fans.{fan-step, one_stage-after, one_stage-same, 
 pub cases_along : (g : Stage) (s : Step) (h : IsStage g) (step : IsStep g s) (x y i : ℕ) → GoesAlong (after g s) x y i → face_lemmas.IsBeside g (fan s) x y ⊎ (((x ≡ g.vertex s.first) × (y ≡ g.count)) ⊎ ((x ≡ g.count) × (y ≡ g.vertex s.last)))
 cases_along g s h step x y i a =
     let one = one_stage-after g g s step (one_stage-same g) in
-    let l = a.within in
     let m : suc i < (face_runs.after g (fan s)).width = omega (arith, one.width) in
     let head = sym (one.vertex (suc i)) ∙ a.head in
     let small = (face_stages.IsStage-after g (fan s) h (fan-step g s step)).placed (suc i) m in
@@ -33,55 +32,17 @@ module _ (steps : ℕ → Step) (k : ℕ) (h : Stage) (one : AreOneStage (stage_
   next_cut = omega arith
 
   dart-fan : IsDartOf steps k (s.first + i) x y → face_runs.IsDartOf h (fan s) i x y
-  dart-fan d =
-      let f = d.face in
-      let hi = f.high in
-      let left = sym (one.vertex (s.first + i)) ∙ f.left in
-      let right = sym (one.vertex (suc (s.first + i))) ∙ f.right in
-      let new = sym one.count ∙ f.new in
-      record {
-        within = omega arith;
-        dart = elim d.dart [
-          | inl e ↦ inl record { place = s.first + i; low = omega arith; high = omega arith; tail = left ∙ sym e.0; head = right ∙ sym e.1 }
-          | inr (inl e) ↦ inr (inl record { tail = ap h.vertex next_cut ∙ right ∙ sym e.0; head = omega (arith, new, e.1) })
-          | inr (inr e) ↦ inr (inr (inr record { tail = new ∙ sym e.0; head = left ∙ sym e.1 }))
-        ];
-      }
+  dart-fan d = grind (arith, next_cut)
 
   fan-dart : face_runs.IsDartOf h (fan s) i x y → IsDartOf steps k (s.first + i) x y
-  fan-dart d =
-      let l = d.within in
-      let vertex = (stage_after steps k).vertex in
-      let left = one.vertex (s.first + i) in
-      let right = one.vertex (suc (s.first + i)) in
-      record {
-        a = vertex (s.first + i);
-        b = vertex (suc (s.first + i));
-        v = (stage_after steps k).count;
-        face = record { low = omega arith; high = omega arith; left = refl; right = refl; new = refl };
-        dart = elim d.dart [
-          | inl e ↦ let low = e.low in let high = e.high in let p : e.place ≡ s.first + i = omega arith in inl (sym e.tail ∙ ap h.vertex p ∙ sym left, sym e.head ∙ ap (λ j. h.vertex (suc j)) p ∙ sym right)
-          | inr (inl e) ↦ let n = e.head in inr (inl (sym e.tail ∙ ap h.vertex next_cut ∙ sym right, omega (arith, one.count)))
-          | inr (inr (inl e)) ↦ let low = e.low in let next = e.next in let high = e.high in absurd (omega arith)
-          | inr (inr (inr e)) ↦ inr (inr (sym e.tail ∙ sym one.count, sym e.head ∙ sym left))
-        ];
-      }
+  fan-dart d = grind (arith, stage_after, next_cut)
 
 pub run_of_fans : (steps : ℕ → Step) (n : ℕ) → IsRun steps n → IsRunOfFans steps n
-run_of_fans steps n run = record {
-  run = run-fan steps n run;
-  stage = one_stage-run steps n run;
-  darts = λ k i x y l.
-      let h = face_runs.stage_after (fans steps) k in
-      let one = one_stage-run steps k (λ j m. run j (omega arith)) in
-      (dart-fan steps k h one i x y, fan-dart steps k h one i x y);
-}
+run_of_fans steps n run = grind (arith, run-fan, one_stage-run, stage_after, fans, dart-fan, fan-dart)
 
 pub face_made_once : (steps : ℕ → Step) (n : ℕ) → IsRun steps n → (k l i j x y : ℕ) → k < n → l < n → IsDartOf steps k i x y → IsDartOf steps l j x y → (k ≡ l) × (i ≡ j)
 face_made_once steps n run k l i j x y a b d e =
     let fans_run = run_of_fans steps n run in
-    let p = d.face.low in
-    let q = e.face.low in
     let at : i ≡ (steps k).first + (i - (steps k).first) = omega arith in
     let at' : j ≡ (steps l).first + (j - (steps l).first) = omega arith in
     let same = face_lemmas.face_made_once (fans steps) n k l (i - (steps k).first) (j - (steps l).first) x y fans_run.run a b

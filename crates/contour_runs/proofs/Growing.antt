@@ -37,10 +37,9 @@ module _ (v : ℕ) (old new : List ℕ) (put : IsPutOver v old new) where
   -- the row stands from the one place to the other
   pub get_or-row : (i : ℕ) → i < length put.middle + 2 → get_or old (length put.front + i) 0 ≡ get_or (row v old new put) i 0
   get_or-row i l =
-      let short = length-append (put.p ∷ put.middle) (put.q ∷ []) in
       ap (λ xs. get_or xs (length put.front + i) 0) put.before ∙ get_or-append-add put.front (put.p ∷ put.middle ++ put.q ∷ put.back) i 0
       ∙ ap (λ xs. get_or xs i 0) (sym (append_assoc (put.p ∷ put.middle) (put.q ∷ []) put.back))
-      ∙ get_or_append_left (put.p ∷ put.middle ++ put.q ∷ []) put.back 0 i (omega arith)
+      ∙ get_or_append_left (put.p ∷ put.middle ++ put.q ∷ []) put.back 0 i (omega (arith, length-append (put.p ∷ put.middle) (put.q ∷ [])))
 
 module _ (at : List ℕ) (cycle : ℕ → List ℕ) (g : IsGrowing at cycle) where
   abbrev put : (k : ℕ) → k + 2 < length at → IsPutOver (get_or at (k + 2) 0) (cycle (k + 2)) (cycle (suc (k + 2)))
@@ -77,10 +76,8 @@ module _ (at : List ℕ) (cycle : ℕ → List ℕ) (g : IsGrowing at cycle) whe
 
   is_step : (k : ℕ) (l : k + 2 < length at) → cycle (k + 2) ≡ map name (contour (stage k)) → IsStep (stage k) (steps_of k)
   is_step k l e =
-      let s = steps_of-step k l in
-      let w = width-stage k e in
       let m = length-old (name (k + 2)) (cycle (k + 2)) (cycle (suc (k + 2))) (put k l) in
-      subst (λ z. IsStep (stage k) z) (sym s) record { order = omega arith; within = omega arith }
+      subst (λ z. IsStep (stage k) z) (sym (steps_of-step k l)) record { order = omega arith; within = omega (arith, width-stage k e) }
 
   contours : (k : ℕ) → k + 2 ≤ length at → cycle (k + 2) ≡ map name (contour (stage k))
   contours zero l = g.begin
@@ -88,11 +85,9 @@ module _ (at : List ℕ) (cycle : ℕ → List ℕ) (g : IsGrowing at cycle) whe
       let m : k + 2 < length at = omega arith in
       let less = contours k (omega arith) in
       let e : suc k + 2 ≡ suc (k + 2) = omega arith in
-      let s = steps_of-step k m in
-      let c = count-stage_after steps_of k in
       ap cycle e ∙ new-spliced (name (k + 2)) (cycle (k + 2)) (cycle (suc (k + 2))) (put k m)
-      ∙ ap₂ (λ z xs. spliced (name (k + 2)) z.first z.last xs) (sym s) less
-      ∙ ap (λ v. spliced (name v) (steps_of k).first (steps_of k).last (map name (contour (stage k)))) (sym c)
+      ∙ ap₂ (λ z xs. spliced (name (k + 2)) z.first z.last xs) (sym (steps_of-step k m)) less
+      ∙ ap (λ v. spliced (name v) (steps_of k).first (steps_of k).last (map name (contour (stage k)))) (sym (count-stage_after steps_of k))
       ∙ sym (map-spliced name (stage k).count (steps_of k).first (steps_of k).last (contour (stage k)))
       ∙ ap (map name) (sym (contour_after (stage k) (steps_of k) (is_step k m less)))
 
@@ -100,10 +95,9 @@ module _ (at : List ℕ) (cycle : ℕ → List ℕ) (g : IsGrowing at cycle) whe
   name-vertex : (k : ℕ) (l : k + 2 < length at) (i : ℕ) → i < length (put k l).middle + 2 → name ((stage k).vertex (length (put k l).front + i)) ≡ get_or (row (name (k + 2)) (cycle (k + 2)) (cycle (suc (k + 2))) (put k l)) i 0
   name-vertex k l i m =
       let less = contours k (omega arith) in
-      let w = width-stage k less in
       let n = length-old (name (k + 2)) (cycle (k + 2)) (cycle (suc (k + 2))) (put k l) in
       let j : ℕ = length (put k l).front + i in
-      let short : j < (stage k).width = omega arith in
+      let short : j < (stage k).width = omega (arith, width-stage k less) in
       ap name (sym (get_or-contour (stage k) j short)) ∙ sym (get_or-map name (contour (stage k)) j 0 0 (omega (arith, length-contour (stage k)))) ∙ ap (λ xs. get_or xs j 0) (sym less)
       ∙ get_or-row (name (k + 2)) (cycle (k + 2)) (cycle (suc (k + 2))) (put k l) i m
 
@@ -118,8 +112,6 @@ module _ (at : List ℕ) (cycle : ℕ → List ℕ) (g : IsGrowing at cycle) whe
       named = λ k l i a b v f.
           let s = ap (λ z. z.first) (steps_of-step k l) in
           let t = ap (λ z. z.last) (steps_of-step k l) in
-          let lo = f.low in
-          let hi = f.high in
           let e : length (put k l).front + (i - length (put k l).front) ≡ i = omega arith in
           let d : length (put k l).front + suc (i - length (put k l).front) ≡ suc i = omega arith in
           record {
@@ -132,7 +124,6 @@ module _ (at : List ℕ) (cycle : ℕ → List ℕ) (g : IsGrowing at cycle) whe
       made = λ k l x y z f.
           let s = ap (λ z. z.first) (steps_of-step k l) in
           let t = ap (λ z. z.last) (steps_of-step k l) in
-          let m = f.within in
           let i : ℕ = length (put k l).front + f.place in
           let d : length (put k l).front + suc f.place ≡ suc i = omega arith in (
             i,

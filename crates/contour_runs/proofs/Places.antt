@@ -67,8 +67,6 @@ pub record IsHigh (g : Stage) (s : Step) (i : ℕ) : Type 0 where
 
 pub cases_place : (g : Stage) (s : Step) (i : ℕ) → IsStep g s → i < (after g s).width → IsLow g s i ⊎ (IsNew g s i ⊎ IsHigh g s i)
 cases_place g s i h l =
-    let o = h.order in
-    let w = h.within in
     elim (cases_lt s.first i) [
       | inr a ↦ inl record { low = a; within = omega arith; vertex = vertex_after-low g s i a }
       | inl a ↦ elim (cases_eq i (suc s.first)) [

@@ -19,11 +19,6 @@ IsStage-after g s h step = IsStage-one (after g s) (face_runs.after g (fan s)) (
 pub corners_placed : (g : Stage) (s : Step) → IsStage g → IsStep g s → (i : ℕ) → s.first ≤ i → i < s.last → (place_after g s (g.vertex i) ≤ place_after g s g.count) × (place_after g s g.count ≤ place_after g s (g.vertex (suc i)))
 unfolding place_after moved
 corners_placed g s stage step i l m =
-    let w = step.within in
-    let p = stage.placed i (omega arith) in
-    let q = stage.placed (suc i) (omega arith) in
-    let e = stage.own i (omega arith) in
-    let f = stage.own (suc i) (omega arith) in
     (grind (arith, nat_tests), grind (arith, nat_tests))
 
 -- the first steps of a run are a run
@@ -42,30 +37,16 @@ pub faces_made-run : (steps : ℕ → Step) (n : ℕ) → IsRun steps n → face
 faces_made-run steps zero h = refl
 faces_made-run steps (suc n) h =
     let less = faces_made-run steps n (IsRun-less steps n (suc n) (omega arith) h) in
-    let step = h n (omega arith) in
-    let o = step.order in
-    let w = step.within in
-    omega arith
+    omega (arith, h n (omega arith))
 
 module _ (g : Stage) (s : Step) (h : IsStage g) (step : IsStep g s) where
   -- an older vertex of the contour stood on it before
   pub stood_before : (i : ℕ) → i < (after g s).width → vertex_after g s i < g.count → (j : ℕ) × (j < g.width) × (g.vertex j ≡ vertex_after g s i)
-  stood_before i l older =
-      let o = step.order in
-      let w = step.within in
-      elim (cases_place g s i step l) [
-        | inl c ↦ let a = c.low in (i, omega arith, sym (vertex_after-low g s i a))
-        | inr (inl c) ↦ absurd (omega (arith, vertex_after-new g s i c.new))
-        | inr (inr c) ↦ let a = c.high in let e = c.to in (c.from, c.within, sym (vertex_after-high g s i c.from (omega arith) a e))
-      ]
+  stood_before i l older = grind (arith, cases_place, vertex_after-low, vertex_after-new, vertex_after-high)
 
   -- a vertex that does not stand at its place does not stand there after the step
   pub stays_gone : (v : ℕ) → v < g.count → g.vertex (g.place v) ≢ v → vertex_after g s (place_after g s v) ≢ v
-  stays_gone v older ne = λ e.
-      let within = (IsStage-after g s h step).within v (omega arith) in
-      let j = stood_before (place_after g s v) within (omega arith) in
-      let f : g.vertex j.0 ≡ v = j.2 ∙ e in
-      ne (ap g.vertex (ap g.place (sym f) ∙ h.own j.0 j.1) ∙ f)
+  stays_gone v older ne = grind (arith, stood_before, place_after, IsStage-after)
 
 module _ (steps : ℕ → Step) where
   -- order is kept
@@ -89,16 +70,7 @@ module _ (steps : ℕ → Step) where
 
   -- a covered vertex is older, and has the place at which it is covered
   pub IsCovered-own : (k n v : ℕ) → IsRun steps n → k < n → (c : IsCovered steps k v) → (v < k + 2) × ((stage_after steps k).place v ≡ c.place)
-  IsCovered-own k n v h l c =
-      let g = stage_after steps k in
-      let stage = IsStage-run steps k (IsRun-less steps k n (omega arith) h) in
-      let step = h k l in
-      let w = step.within in
-      let hi = c.high in
-      let m : c.place < g.width = omega arith in
-      let p = stage.placed c.place m in
-      let e = c.vertex in
-      (omega (arith, count-stage_after steps k), ap g.place (sym e) ∙ stage.own c.place m)
+  IsCovered-own k n v h l c = grind (arith, stage_after, IsStage-run, IsRun-less, count-stage_after)
 
   -- it goes with the one that covers it
   pub covered_together : (k n v : ℕ) → IsRun steps n → k < n → IsCovered steps k v → (stage_after steps n).place v ≡ (stage_after steps n).place (k + 2)
@@ -127,8 +99,7 @@ module _ (steps : ℕ → Step) where
   -- so no later step covers it
   pub covered_first : (k l n v : ℕ) → IsRun steps n → k < l → l < n → IsCovered steps k v → IsCovered steps l v → ⊥
   covered_first k l n v h a b c d =
-      let own = IsCovered-own l n v h b d in
-      covered_gone k l v (IsRun-less steps l n (omega arith) h) a c (ap (stage_after steps l).vertex own.1 ∙ d.vertex)
+      covered_gone k l v (IsRun-less steps l n (omega arith) h) a c (ap (stage_after steps l).vertex (IsCovered-own l n v h b d).1 ∙ d.vertex)
 
   pub covered_alone : (k l n v : ℕ) → IsRun steps n → k < n → l < n → IsCovered steps k v → IsCovered steps l v → l ≡ k
   covered_alone k l n v h a b c d = elim (cases_lt l k) [
@@ -141,33 +112,22 @@ module _ (steps : ℕ → Step) where
   stands_on k v h l e =
       let g = stage_after steps k in
       let s = steps k in
-      let step = h k (omega arith) in
-      let o = step.order in
+      let o = (h k (omega arith)).order in
       let i = g.place v in
       let to = place_after-older g s v (omega (arith, count-stage_after steps k)) in
-      elim (cases_lt s.first i) [
-        | inr a ↦ inl (ap (vertex_after g s) (to ∙ moved-low s i a) ∙ vertex_after-low g s i a ∙ e)
-        | inl a ↦ elim (cases_lt i s.last) [
-          | inl b ↦ inr record { place = i; low = a; high = b; vertex = e }
-          | inr b ↦ let n = moved-high s i o b in inl (ap (vertex_after g s) to ∙ vertex_after-high g s (moved s i) i (omega arith) b n ∙ e)
-        ]
-      ]
+      grind (arith, cases_lt, vertex_after, moved-low, vertex_after-low, moved-high, vertex_after-high, moved)
 
   -- the new vertex stands at its place
   pub new_stands : (k : ℕ) → (stage_after steps (suc k)).vertex ((stage_after steps (suc k)).place (k + 2)) ≡ k + 2
-  new_stands k =
-      let g = stage_after steps k in
-      let c = count-stage_after steps k in
-      vertex_after-new g (steps k) (place_after g (steps k) (k + 2)) (place_after-new g (steps k) (k + 2) (omega arith)) ∙ c
+  new_stands k = grind (arith, stage_after, count-stage_after, vertex_after-new, place_after, place_after-new)
 
   -- each placed vertex stands on the contour, or one step covers it
   pub stands_or_covered : (n v : ℕ) → IsRun steps n → v < n + 2 → ((stage_after steps n).vertex ((stage_after steps n).place v) ≡ v) ⊎ ((k : ℕ) × (k < n) × IsCovered steps k v)
   stands_or_covered zero v h l = inl refl
   stands_or_covered (suc n) v h l =
-      let run = IsRun-less steps n (suc n) (omega arith) h in
       elim (cases_lt v (n + 2)) [
         | inr new ↦ let e : v ≡ n + 2 = omega arith in inl (subst (λ w. (stage_after steps (suc n)).vertex ((stage_after steps (suc n)).place w) ≡ w) (sym e) (new_stands n))
-        | inl older ↦ elim (stands_or_covered n v run older) [
+        | inl older ↦ elim (stands_or_covered n v (IsRun-less steps n (suc n) (omega arith) h) older) [
           | inr c ↦ inr (c.0, let a = c.1 in omega arith, c.2)
           | inl e ↦ elim (stands_on n v h older e) [ inl f ↦ inl f | inr c ↦ inr (n, omega arith, c) ]
         ]

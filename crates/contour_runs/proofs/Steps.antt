@@ -82,7 +82,6 @@ module _ (g : Stage) (s : Step) (at : Coordinates) (stage : IsStage g) (step : I
 
   pub cases_falling : (i : ℕ) → i < (after g s).width → IsFallingLow g s at i ⊎ (IsFallingNew g s at i ⊎ IsFallingHigh g s at i)
   cases_falling i l =
-      let o = step.order in
       elim (cases_place g s i step l) [
         | inl c ↦ inl record {
           low = c.low;
@@ -90,17 +89,7 @@ module _ (g : Stage) (s : Step) (at : Coordinates) (stage : IsStage g) (step : I
           two = ap (two_after g s at) c.vertex ∙ two_after-contour i c.within ∙ ap (λ n. at.two (g.vertex i) + n) (two_gain-low s i c.low) ∙ omega arith;
         }
         | inr (inl c) ↦ inr (inl record { new = c.new; one = one_after-new g s at (vertex_after g s i) c.vertex; two = two_after-new g s at (vertex_after g s i) c.vertex })
-        | inr (inr c) ↦
-            let high = c.high in
-            let b : s.first < c.from = omega arith in
-            inr (inr record {
-              from = c.from;
-              high = high;
-              within = c.within;
-              to = c.to;
-              one = ap (one_after g s at) c.vertex ∙ one_after-contour c.from c.within ∙ ap (λ n. at.one (g.vertex c.from) + n) (one_gain-high s c.from b) ∙ omega arith;
-              two = ap (two_after g s at) c.vertex ∙ two_after-contour c.from c.within ∙ ap (λ n. at.two (g.vertex c.from) + n) (two_gain-high s c.from b);
-            })
+        | inr (inr c) ↦ grind (arith, one_after, one_after-contour, one_gain-high, two_after, two_after-contour, two_gain-high)
       ]
 
   -- a placed vertex that is not at place 0 does not come there
@@ -114,37 +103,14 @@ module _ (g : Stage) (s : Step) (at : Coordinates) (stage : IsStage g) (step : I
     falls_or_same i j a b = elim (cases_lt i j) [ inl l ↦ let f = h.falls i j l b in omega arith | inr l ↦ let e : i ≡ j = omega arith in omega (arith, ap (λ n. at.one (g.vertex n)) e) ]
 
     falls_after : (i j : ℕ) → i < j → j < (after g s).width → one_after g s at (vertex_after g s j) < one_after g s at (vertex_after g s i)
-    falls_after i j a b =
-        let o = step.order in
-        let w = step.within in
-        let pq = h.falls s.first s.last o w in
-        elim (cases_falling i (omega arith)) [
-          | inl c ↦ elim (cases_falling j b) [
-            | inl d ↦ let l = c.low in let m = d.low in omega (arith, c.one, d.one, h.falls i j a (omega arith))
-            | inr (inl d) ↦ omega (arith, c.one, d.one, pq, falls_or_same i s.first c.low (omega arith))
-            | inr (inr d) ↦ let l = c.low in let m = d.high in omega (arith, c.one, d.one, h.falls i d.from (omega arith) d.within)
-          ]
-          | inr (inl c) ↦ let l = c.new in elim (cases_falling j b) [
-            | inl d ↦ let m = d.low in absurd (omega arith)
-            | inr (inl d) ↦ let m = d.new in absurd (omega arith)
-            | inr (inr d) ↦ omega (arith, c.one, d.one, falls_or_same s.last d.from d.high d.within)
-          ]
-          | inr (inr c) ↦ let l = c.high in let k = c.to in elim (cases_falling j b) [
-            | inl d ↦ let m = d.low in absurd (omega arith)
-            | inr (inl d) ↦ let m = d.new in absurd (omega arith)
-            | inr (inr d) ↦ let m = d.to in omega (arith, c.one, d.one, h.falls c.from d.from (omega arith) d.within)
-          ]
-        ]
+    falls_after i j a b = grind (arith, cases_falling, falls_or_same)
 
     rises_after : (i j : ℕ) → i ≤ j → j < (after g s).width → two_after g s at (vertex_after g s i) ≤ two_after g s at (vertex_after g s j)
     rises_after i j a b =
-        let o = step.order in
         let w = step.within in
-        let pq = h.rises s.first s.last (omega arith) w in
         elim (cases_falling i (omega arith)) [
           | inl c ↦
-              let l = c.low in
-              let ip = h.rises i s.first l (omega arith) in
+              let ip = h.rises i s.first c.low (omega arith) in
               elim (cases_falling j b) [
                 | inl d ↦ let m = d.low in omega (arith, c.two, d.two, h.rises i j a (omega arith))
                 | inr (inl d) ↦ omega (arith, c.two, d.two)
@@ -168,29 +134,15 @@ module _ (g : Stage) (s : Step) (at : Coordinates) (stage : IsStage g) (step : I
 
     -- the vertex at the last place is not the first of all
     last_some : 0 < g.vertex s.last
-    last_some =
-        let o = step.order in
-        let w = step.within in
-        elim (cases_lt 0 (g.vertex s.last)) [
-          | inl l ↦ l
-          | inr l ↦
-              let z : g.vertex s.last ≡ 0 = omega arith in
-              let e = ap g.place (stage.begin) in
-              absurd (omega (arith, ap g.place z, stage.own s.last w, stage.own 0 (omega arith), e))
-        ]
+    last_some = grind (arith, cases_lt)
 
     new_sum : (v : ℕ) → v ≡ g.count → one_after g s at v + two_after g s at v + 2 ≤ suc g.count
     new_sum v e =
-        let o = step.order in
         let w = step.within in
         omega (arith, one_after-new g s at v e, two_after-new g s at v e, h.sums (g.vertex s.last) last_some (stage.placed s.last w), h.rises s.first s.last (omega arith) w)
 
     pub IsFalling-after : IsFalling (after g s) (coordinates_after g s at)
     IsFalling-after =
-        let o = step.order in
-        let w = step.within in
-        let many = stage.wide in
-        let few = stage.few in
         let end : ℕ = g.width - 1 in
         let first = base_after 0 0 (omega arith) stage.begin in
         let second = base_after end 1 (omega arith) (stage.end end (omega arith)) in
@@ -215,16 +167,7 @@ base_sums : (v : ℕ) → v ≡ 1 → base_coordinates.one v + base_coordinates.
 base_sums v e = omega (arith, ap base_coordinates.one e)
 
 pub IsFalling-base : IsFalling base base_coordinates
-IsFalling-base = record {
-  falls = λ i j a b. base_falls i j (omega arith) (omega arith);
-  rises = λ i j a b. omega arith;
-  first_one = refl;
-  first_two = refl;
-  second_one = refl;
-  second_two = refl;
-  sums = λ v some l. base_sums v (omega arith);
-  alone = λ v some l. some;
-}
+IsFalling-base = grind (arith, base_falls, base_sums)
 
 pub IsFalling-run : (steps : ℕ → Step) (n : ℕ) → IsRun steps n → IsFalling (stage_after steps n) (coordinates steps n)
 IsFalling-run steps zero run = IsFalling-base

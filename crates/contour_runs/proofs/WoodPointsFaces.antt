@@ -13,8 +13,6 @@ use Rattle.contour_runs.proofs.Steps.{one_gain-high, two_gain-high, gain_both, g
 module _ (g : Stage) (s : Step) (at : Coordinates) (stage : IsStage g) (step : IsStep g s) (h : IsFalling g at) where
   spread_made : (i : ℕ) → s.first ≤ i → i < s.last → IsSpread (coordinates_after g s at) (g.vertex i) (g.vertex (suc i)) g.count
   spread_made i l m =
-      let o = step.order in
-      let w = step.within in
       let a1 = one_after-contour g s at stage step i (omega arith) in
       let a2 = two_after-contour g s at stage step i (omega arith) in
       let b1 = one_after-contour g s at stage step (suc i) (omega arith) in
@@ -23,13 +21,9 @@ module _ (g : Stage) (s : Step) (at : Coordinates) (stage : IsStage g) (step : I
       let c2 = two_after-new g s at g.count refl in
       let ab = h.falls i (suc i) (omega arith) (omega arith) in
       let ab' = h.rises i (suc i) (omega arith) (omega arith) in
-      let aq = h.falls i s.last m w in
-      let bq = falls_or_same g s at stage step h (suc i) s.last m w in
+      let bq = falls_or_same g s at stage step h (suc i) s.last m step.within in
       let pa = h.rises s.first i l (omega arith) in
       let gain = gain-le s i (suc i) (omega arith) in
-      let gain' = gain.0 in
-      let gain'' = gain.1 in
-      let high = one_gain-high s (suc i) (omega arith) in
       let high' = two_gain-high s (suc i) (omega arith) in
       let both = gain_both s i in
       record {
@@ -50,7 +44,6 @@ record IsKept (g : Stage) (at : Coordinates) (a b v : ℕ) : Type 0 where
 -- it stays so over a step
 kept_after : (g : Stage) (s : Step) (at : Coordinates) (a b v : ℕ) → IsStep g s → a < g.count → b < g.count → v < g.count → IsKept g at a b v → IsKept (after g s) (coordinates_after g s at) a b v
 kept_after g s at a b v step la lb lv k =
-    let o = step.order in
     let a1 = one_after-older g s at a la in
     let a2 = two_after-older g s at a la in
     let b1 = one_after-older g s at b lb in
@@ -59,21 +52,18 @@ kept_after g s at a b v step la lb lv k =
     let v2 = two_after-older g s at v lv in
     let av = gain-le s (g.place a) (g.place v) k.left in
     let vb = gain-le s (g.place v) (g.place b) k.right in
-    let a3 = gain_both s (g.place a) in
-    let b3 = gain_both s (g.place b) in
     let v3 = gain_both s (g.place v) in
-    let h = k.spread in
     record {
       spread = record {
-        left = omega (arith, a1, b1, av.0, vb.0, h.left);
-        within = omega (arith, a1, v1, av.0, h.within);
-        under = omega (arith, v2, b2, vb.1, h.under);
-        up = omega (arith, a2, b2, av.1, vb.1, h.up);
-        first_sum = omega (arith, v1, v2, a1, a2, a3, v3, h.first_sum);
-        second_sum = omega (arith, v1, v2, b1, b2, b3, v3, h.second_sum);
+        left = omega (arith, a1, b1, av.0, vb.0, k.spread.left);
+        within = omega (arith, a1, v1, av.0, k.spread.within);
+        under = omega (arith, v2, b2, vb.1, k.spread.under);
+        up = omega (arith, a2, b2, av.1, vb.1, k.spread.up);
+        first_sum = omega (arith, v1, v2, a1, a2, gain_both s (g.place a), v3, k.spread.first_sum);
+        second_sum = omega (arith, v1, v2, b1, b2, gain_both s (g.place b), v3, k.spread.second_sum);
       };
-      left = omega (arith, place_after-older g s a la, place_after-older g s v lv, moved-le s (g.place a) (g.place v) o k.left);
-      right = omega (arith, place_after-older g s v lv, place_after-older g s b lb, moved-le s (g.place v) (g.place b) o k.right);
+      left = omega (arith, place_after-older g s a la, place_after-older g s v lv, moved-le s (g.place a) (g.place v) step.order k.left);
+      right = omega (arith, place_after-older g s v lv, place_after-older g s b lb, moved-le s (g.place v) (g.place b) step.order k.right);
     }
 
 -- each face that a run makes is spread from then on
@@ -86,7 +76,6 @@ spread_run steps n k i a b v run l f =
     let stage = IsStage-run steps k less in
     let h = IsFalling-run steps k less in
     let step = run k l in
-    let w = step.within in
     let lo = f.low in
     let hi = f.high in
     let c = count-stage_after steps k in
@@ -95,10 +84,5 @@ spread_run steps n k i a b v run l f =
     let begun : IsKept (after g s) (coordinates_after g s at) a b v =
     subst (λ z. IsKept (after g s) (coordinates_after g s at) a b z) f.new
     (subst (λ z. IsKept (after g s) (coordinates_after g s at) a z g.count) f.right (subst (λ z. IsKept (after g s) (coordinates_after g s at) z (g.vertex (suc i)) g.count) f.left made)) in
-    let pa = stage.placed i (omega arith) in
-    let pb = stage.placed (suc i) (omega arith) in
-    let ea = f.left in
-    let eb = f.right in
-    let ev = f.new in
     (upward (λ m. IsKept (stage_after steps m) (coordinates steps m) a b v) (suc k) n (omega arith) begun
     (λ m low high kept. let d = count-stage_after steps m in kept_after (stage_after steps m) (steps m) (coordinates steps m) a b v (run m high) (omega arith) (omega arith) (omega arith) kept)).spread

@@ -1,6 +1,6 @@
 -- Schnyder's coordinates (1990), over a run: each new vertex adds to one of two coordinates of all that stand, by the side of it on which their place lies.
 use Rattle.std.specs.Prelude.{ℕ, zero, suc, ◌+◌, ◌-◌, ◌==◌, nat_lt, nat_le, if◌then◌else◌, pos}
-use Rattle.pg_plane.specs.declared.segments.Point.{Point}
+use Rattle.pg_plane.specs.declared.grid_points.Point.{Point}
 use Rattle.contour_runs.specs.Runs.{Step, Stage, stage_after}
 
 -- what a step adds to coordinate one of what stands at a place: 1 up to its first place

@@ -6,7 +6,7 @@ use Rattle.map_theory.specs.Paths.{SameFace}
 use Rattle.half_edges.specs.Map.{Map, IsHalfMap, IsLive}
 use Rattle.euler_faces.specs.Numbers.{number_at}
 use Rattle.euler_faces.specs.FaceWalks.{walk_at, AreFaces}
-use Rattle.pg_plane.specs.declared.segments.Point.{Point}
+use Rattle.pg_plane.specs.declared.grid_points.Point.{Point}
 use Rattle.pg_plane.specs.Geometry.{area}
 use Rattle.plane_drawings.specs.Drawing.{place}
 use Rattle.vertex_rounds.specs.Rounds.{dart_of}
@@ -52,13 +52,4 @@ module _ (map : Map) (points : List Point) (base : ℕ) where
   none_bent none a b w x = none a b (told_by_two a b w x)
 
   pub least_bent : (a b w : ℕ) → IsLeastPair (IsBentFrom map points base) a b → follows map.lists b a ≡ w → IsLeastTriple (IsBent map.lists points (dart_of map base)) a b w
-  least_bent a b w least third = record {
-    before = λ r s t less x. least.before r s less (told_by_two r s t x);
-    rest = record {
-      before = λ s t less x. least.rest.before s less (told_by_two a s t x);
-      rest = record {
-        here = subst (IsBent map.lists points (dart_of map base) a b) third least.rest.here;
-        before = λ t less x. let same = x.third in omega arith;
-      };
-    };
-  }
+  least_bent a b w least third = grind (arith, told_by_two, IsBent, dart_of)

@@ -1,7 +1,7 @@
 -- The first and the last of points on a triangle are corners.
 use Rattle.std.proofs.Common.{◌≡◌, ◌≢◌, ◌⊎◌, pos, ◌<ℤ◌, List, Contains, sym, ap, ◌∙◌, subst, inl, inr, arith}
 use Rattle.std.proofs.lemmas.Int.{ints, by_lt_z}
-use Rattle.pg_plane.specs.declared.segments.Point.{Point}
+use Rattle.pg_plane.specs.declared.grid_points.Point.{Point}
 use Rattle.pg_plane.specs.Geometry.{area, IsOnSegment}
 use Rattle.pg_plane.proofs.Identities.{area_turned}
 use Rattle.pg_plane.proofs.Crossing.{flat_first, area_back}
@@ -13,12 +13,7 @@ use Rattle.convex_check.specs.Corners.{IsOnTriangle, AreCorners, HasCorners}
 
 -- one of two points comes before the other, or they are one
 pub cases_before : (p q : Point) → IsBefore p q ⊎ ((p ≡ q) ⊎ IsBefore q p)
-cases_before p q =
-    by_lt_z p.x q.x (λ l. inl (inl l)) (λ l.
-    by_lt_z q.x p.x (λ m. inr (inr (inl m))) (λ m.
-    let e : p.x ≡ q.x = omega (arith, ints) in
-    by_lt_z p.y q.y (λ n. inl (inr (e, n))) (λ n.
-    by_lt_z q.y p.y (λ o. inr (inr (inr (sym e, o)))) (λ o. inr (inl (same_point p q e (omega (arith, ints))))))))
+cases_before p q = grind (arith, by_lt_z, ints, same_point)
 
 -- the one point of a segment from a point to itself
 on_point : (p a : Point) → IsOnSegment p a a → p ≡ a

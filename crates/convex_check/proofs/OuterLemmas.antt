@@ -7,7 +7,7 @@ use Rattle.map_theory.specs.Paths.{SameFace}
 use Rattle.half_edges.specs.Map.{Map, IsLive, dart_at}
 use Rattle.euler_faces.specs.FaceWalks.{walk_at, AreFaces}
 use Rattle.euler_faces.proofs.NumberLemmas.{live_from}
-use Rattle.pg_plane.specs.declared.segments.Point.{Point}
+use Rattle.pg_plane.specs.declared.grid_points.Point.{Point}
 use Rattle.pg_plane.specs.Geometry.{area}
 use Rattle.pg_plane.specs.Range.{IsInRange}
 use Rattle.plane_drawings.specs.Drawing.{place}
@@ -51,33 +51,25 @@ module _ (map : Map) (points : List Point) (drawn : IsDrawn map points) (walks :
       let is = dart_of-is map d.0 (v, h.0) d.1 in
       let live' = live_from (dart_at map d.0) (v, h.0) d.1 in
       let c = in_walk_of map drawn.known walks faces base d.0 live live' f l on (subst (λ x. SameFace map.lists outer x) (sym is) h.2) in
-      let at : get_or walk c.0 0 ≡ d.0 = get_or_default walk c.0 0 d.0 c.1 ∙ c.2 in
-      (c.0, c.1, ap (λ z. (dart_of map z).0) at ∙ ap (λ (x : Dart). x.0) is)
+      (c.0, c.1, ap (λ z. (dart_of map z).0) (get_or_default walk c.0 0 d.0 c.1 ∙ c.2) ∙ ap (λ (x : Dart). x.0) is)
 
   -- so the points are the places of the face's vertices
   to_point : (v : ℕ) → IsOnFace map.lists outer v → Contains places (place points v)
   to_point v h =
       let at = of_face v h in
-      let n = are.count in
       let m = at.1 in
       let in_places : at.0 < length places = omega arith in
       (at.0, in_places, get_or_default places at.0 (place points v) (record { x = pos 0; y = pos 0 }) in_places ∙ (are.each at.0 m ∙ ap (place points) at.2))
 
   from_point : (p : Point) → Contains places p → (v : ℕ) × IsOnFace map.lists outer v × (place points v ≡ p)
   from_point p c =
-      let n = are.count in
-      let k = c.1 in
       let m : c.0 < length walk = omega arith in
       (tail_at c.0, on_face c.0 m, sym (are.each c.0 m) ∙ (get_or_default places c.0 (record { x = pos 0; y = pos 0 }) p c.1 ∙ c.2))
 
   pub places_in_range : All IsInRange places
   places_in_range i d k =
-      let n = are.count in
       let m : i < length walk = omega arith in
-      let has = tail_has i m in
-      let size = drawn.places.count in
-      let v_in = has.0 in
-      subst IsInRange (sym (get_or_default places i d (record { x = pos 0; y = pos 0 }) k ∙ are.each i m)) (drawn.places.in_range (tail_at i) (omega arith))
+      subst IsInRange (sym (get_or_default places i d (record { x = pos 0; y = pos 0 }) k ∙ are.each i m)) (drawn.places.in_range (tail_at i) (omega (arith, tail_has i m)))
 
   -- and the corners of the points are those of the face
   pub outer_of_places : HasCorners places → HasOuterCorners map.lists points outer

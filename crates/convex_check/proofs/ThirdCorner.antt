@@ -1,7 +1,7 @@
 -- A point on a triangle that lies as far from a side as the third corner is that corner.
 use Rattle.std.proofs.Common.{◌≡◌, ℤ, pos, neg_ℤ, ◌+ℤ◌, ◌-ℤ◌, ◌*ℤ◌, ◌≤ℤ◌, ◌<ℤ◌, refl, sym, ap, ◌∙◌, subst, inl, inr, arith}
 use Rattle.std.proofs.lemmas.Int.{ints, by_lt_z}
-use Rattle.pg_plane.specs.declared.segments.Point.{Point}
+use Rattle.pg_plane.specs.declared.grid_points.Point.{Point}
 use Rattle.pg_plane.specs.Geometry.{vector, cross, area, IsBetween}
 use Rattle.pg_plane.proofs.Ring.{ring, sums, mul_neg, neg_mul, product_not_negative, product_positive}
 use Rattle.pg_plane.proofs.Identities.{heights, cross_back}
@@ -19,23 +19,13 @@ difference_of_products a g d e = simp ring (omega (arith, sums))
 
 -- a part of a length that is a whole of it
 whole_up : (a g d e : ℤ) → pos 0 <ℤ a → a ≤ℤ g → g *ℤ d ≡ a *ℤ e → pos 0 ≤ℤ e → e ≤ℤ d → e ≡ d
-whole_up a g d e above more same from to =
-    by_lt_z e d
-    (λ l.
-    let one = product_not_negative (g -ℤ a) d (omega (arith, ints)) (omega (arith, ints)) in
-    let two = product_positive a (d -ℤ e) above (omega (arith, ints)) in
-    let sum = difference_of_products a g d e in
-    absurd (omega (arith, ints)))
-    (λ l. omega (arith, ints))
+whole_up a g d e above more same from to = grind (arith, by_lt_z, product_not_negative, ints, product_positive, difference_of_products)
 
 whole : (a g d e : ℤ) → pos 0 <ℤ a → a ≤ℤ g → g *ℤ d ≡ a *ℤ e → IsBetween (pos 0) d e → e ≡ d
 whole a g d e above more same (inl h) = whole_up a g d e above more same h.0 h.1
 whole a g d e above more same (inr h) =
-    let from = h.0 in
-    let to = h.1 in
     let turned : g *ℤ neg_ℤ d ≡ a *ℤ neg_ℤ e = mul_neg g d ∙ (ap neg_ℤ same ∙ sym (mul_neg a e)) in
-    let up = whole_up a g (neg_ℤ d) (neg_ℤ e) above more turned (omega (arith, ints)) (omega (arith, ints)) in
-    omega (arith, ints)
+    omega (arith, whole_up a g (neg_ℤ d) (neg_ℤ e) above more turned (omega (arith, ints)) (omega (arith, ints)), ints)
 
 IsBetween-moved : (s t v : ℤ) → IsBetween s t v → IsBetween (pos 0) (t -ℤ s) (v -ℤ s)
 IsBetween-moved s t v (inl h) = let l = h.0 in let m = h.1 in inl (omega (arith, ints), omega (arith, ints))
@@ -44,9 +34,7 @@ IsBetween-moved s t v (inr h) = let l = h.0 in let m = h.1 in inr (omega (arith,
 -- where the first of three products is none
 two_products : (c a g w s t : ℤ) → ((c *ℤ w) +ℤ (neg_ℤ a *ℤ s)) +ℤ (g *ℤ t) ≡ pos 0 → c ≡ pos 0 → g *ℤ t ≡ a *ℤ s
 two_products c a g w s t sum none =
-    let one : c *ℤ w ≡ pos 0 = ap (λ z. z *ℤ w) none ∙ zero-*ℤ w in
-    let two = neg_mul a s in
-    omega (arith, ints)
+    omega (arith, neg_mul a s, ap (λ z. z *ℤ w) none ∙ zero-*ℤ w, ints)
 
 -- vectors s and t on one line, s no longer than t and as far from the line of w: they are one
 module _ (w s t : Point) (above : pos 0 <ℤ cross w t) (far : cross w t ≤ℤ cross w s) (flat : cross t s ≡ pos 0) where

@@ -2,7 +2,7 @@
 use Rattle.std.specs.Prelude.{ℤ, pos, refl}
 use Rattle.std.proofs.Common.{inl, arith}
 use Rattle.std.proofs.lemmas.Int.{ints}
-use Rattle.pg_plane.specs.declared.segments.Point.{Point}
+use Rattle.pg_plane.specs.declared.grid_points.Point.{Point}
 use Rattle.convex_check.specs.Corners.{IsOnTriangle}
 
 abbrev pub at : ℤ → ℤ → Point

@@ -1,7 +1,7 @@
 -- Answers that wrong bodies would give: the clauses refuse them.
 use Rattle.std.proofs.Common.{◌≡◌, ◌↔◌, ◌<◌, ℕ, zero, suc, List, [], ◌∷◌, true, false, IsTrue, pos, refl, inl, inr, arith}
 use Rattle.std.proofs.lemmas.Int.{ints}
-use Rattle.pg_plane.specs.declared.segments.Point.{Point}
+use Rattle.pg_plane.specs.declared.grid_points.Point.{Point}
 use Rattle.plane_drawings.specs.PlaneSweepLines.{IsBefore}
 use Rattle.convex_check.specs.Corners.{IsOnTriangle, AreCorners, HasCorners}
 use Rattle.convex_check.proofs.Points.{point_at, each_point}

@@ -3,7 +3,7 @@ use Rattle.std.proofs.Common.{◌≡◌, ◌↔◌, ℕ, List, pos, ◌≤ℤ◌
 use Rattle.std.proofs.lemmas.Int.{ints, by_lt_z}
 use Rattle.map_lists.specs.Lists.{Lists}
 use Rattle.map_theory.specs.Maps.{Dart, follows}
-use Rattle.pg_plane.specs.declared.segments.Point.{Point}
+use Rattle.pg_plane.specs.declared.grid_points.Point.{Point}
 use Rattle.pg_plane.specs.Geometry.{area}
 use Rattle.plane_drawings.specs.Drawing.{place}
 use Rattle.convex_check.specs.Convex.{IsBent, HasOuterCorners, IsConvex}
@@ -23,7 +23,6 @@ IsConvex-unbent lists points base none outer =
 
 pub not_IsConvex : (lists : Lists) (points : List Point) (base : Dart) (a b c : ℕ) → IsBent lists points base a b c → ¬ IsConvex lists points base
 not_IsConvex lists points base a b c bent convex =
-    let low = bent.turn in
     let high = subst (λ z. pos 0 ≤ℤ area (place points a) (place points b) (place points z)) bent.third (convex.inner a b bent.dart bent.other) in
     omega (arith, ints)
 

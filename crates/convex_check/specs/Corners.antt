@@ -1,6 +1,6 @@
 -- Points on the sides of a triangle whose corners are among them.
 use Rattle.std.specs.Prelude.{pos, ◌≢◌, ◌⊎◌, List, Contains}
-use Rattle.pg_plane.specs.declared.segments.Point.{Point}
+use Rattle.pg_plane.specs.declared.grid_points.Point.{Point}
 use Rattle.pg_plane.specs.Geometry.{area, IsOnSegment}
 
 -- a point lies on one of the three segments between three others

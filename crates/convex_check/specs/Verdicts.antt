@@ -3,7 +3,7 @@ use Rattle.std.specs.Prelude.{ℕ, List}
 use Rattle.map_lists.specs.Lists.{Lists}
 use Rattle.map_theory.specs.Maps.{Dart, follows}
 use Rattle.half_edges.specs.Map.{Map}
-use Rattle.pg_plane.specs.declared.segments.Point.{Point}
+use Rattle.pg_plane.specs.declared.grid_points.Point.{Point}
 use Rattle.vertex_rounds.specs.Least.{IsLeastTriple}
 use Rattle.vertex_rounds.specs.Rounds.{dart_of}
 use Rattle.convex_check.specs.Convex.{IsBent, HasOuterCorners, IsConvex}

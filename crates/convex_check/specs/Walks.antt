@@ -1,7 +1,7 @@
 -- The places along a walk.
 use Rattle.std.specs.Prelude.{ℕ, ◌<◌, ◌≡◌, List, length, slice_index}
 use Rattle.half_edges.specs.Map.{Map}
-use Rattle.pg_plane.specs.declared.segments.Point.{Point}
+use Rattle.pg_plane.specs.declared.grid_points.Point.{Point}
 use Rattle.plane_drawings.specs.Drawing.{place}
 use Rattle.vertex_rounds.specs.Rounds.{dart_of}
 

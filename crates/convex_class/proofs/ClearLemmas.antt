@@ -42,8 +42,7 @@ stamped_each x k ids Z old best new result whole s =
 -- the darts of a row of u
 pub ring_dart : (map : Map) (u : ℕ) (ds : List DartId) → IsRing map u (ids_of ds) → (i : ℕ) → i < length ds → dart_at map (get_or ds i (record { 0 = 0 })).0 ≡ Some (u, get_or (list_of map.lists u) i 0)
 ring_dart map u ds r i l =
-    let long = length-ids ds in
-    ap (dart_at map) (sym (get_or-ids ds i l)) ∙ r.each i (omega arith)
+    ap (dart_at map) (sym (get_or-ids ds i l)) ∙ r.each i (omega (arith, length-ids ds))
 
 pub ring_live : (map : Map) (u : ℕ) (ds : List DartId) → IsRing map u (ids_of ds) → (i : ℕ) → i < length ds → IsLive map (get_or ds i (record { 0 = 0 })).0
 ring_live map u ds r i l = live_from (dart_at map (get_or ds i (record { 0 = 0 })).0) (u, get_or (list_of map.lists u) i 0) (ring_dart map u ds r i l)
@@ -63,35 +62,24 @@ pub tail_below : (map : Map) → IsHalfMap map → (d v : ℕ) → IsLive map d 
 tail_below map known d v live tail =
     let x = dart_of map d in
     let is = dart_of-live map d live in
-    let same = tail_is (dart_at map d) x.0 x.1 v is tail in
-    let l = (known.is_dart d x.0 x.1 is).0 in
-    omega (arith, same, l)
+    omega (arith, tail_is (dart_at map d) x.0 x.1 v is tail, (known.is_dart d x.0 x.1 is).0)
 
 -- and that of the dart behind a place of a face, by the dart that the call names
 pub corner_below : (map : Map) → IsHalfMap map → (walks : List (List ℕ)) → AreFaces map walks → (f : ℕ) → f < length walks → (ds : List DartId) → ids_of ds ≡ walk_at walks f → (i : ℕ) → i < length ds → (e v : ℕ) → e ≡ after_place (ids_of ds) i → option_map (λ (w : Dart). w.0) (dart_at map e) ≡ Some v → v < length map.lists
 corner_below map known walks faces f l ds is i m e v behind tail =
     let w = subst (λ (w : List ℕ). IsFaceWalk map w) (sym is) (faces.each f l) in
-    let long = length-ids ds in
-    tail_below map known e v (subst (λ d. IsLive map d) (sym behind) (after_live map (ids_of ds) w i (omega (arith, long, m)))) tail
+    tail_below map known e v (subst (λ d. IsLive map d) (sym behind) (after_live map (ids_of ds) w i (omega (arith, length-ids ds, m)))) tail
 
 -- ---- from a vertex
 module _ (u z p : ℕ) (us marks : List ℕ) (z_in : z < length marks) (at : get_or us p 0 ≡ z) where
   -- a neighbour more has the mark
   pub heads_more : ((i : ℕ) → i < p → get_or marks (get_or us i 0) 0 ≡ u) → (i : ℕ) → i < p + 1 → get_or (set marks z u) (get_or us i 0) 0 ≡ u
-  heads_more all i l =
-      elim (cases_eq (get_or us i 0) z) [
-        | inl e ↦ ap (λ y. get_or (set marks z u) y 0) e ∙ get_or-set_same marks z u 0 z_in
-        | inr ne ↦ elim (cases_lt i p) [
-          | inl less ↦ get_or-set_other marks z (get_or us i 0) u 0 ne ∙ all i less
-          | inr most ↦ absurd (ne (ap (λ k. get_or us k 0) (let e : i ≡ p = omega arith in e) ∙ at))
-        ]
-      ]
+  heads_more all i l = grind (arith, cases_eq, get_or, set, get_or-set_same, cases_lt, get_or-set_other)
 
 -- so all have it
 pub heads_all : (u k : ℕ) (us marks : List ℕ) → k ≡ length us → ((i : ℕ) → i < k → get_or marks (get_or us i 0) 0 ≡ u) → (z : ℕ) → Contains us z → get_or marks z 0 ≡ u
 heads_all u k us marks whole all z c =
     let p = place_in us z c in
-    let l = p.1 in
     ap (λ y. get_or marks y 0) (sym p.2) ∙ all p.0 (omega arith)
 
 -- The dart at place p of a walk leads from z to h, as the calls answer. What is marked are vertices other than u and a, by darts that do not lead to u.
@@ -128,8 +116,6 @@ module _ (map : Map) (known : IsHalfMap map) (walks : List (List ℕ)) (faces : 
   pub in_ring : (u a d : ℕ) (ring : List ℕ) → IsRing map u ring → dart_at map d ≡ Some (u, a) → (i : ℕ) × (i < length ring) × (get_or ring i 0 ≡ d)
   in_ring u a d ring r is =
       let p = place_in (list_of map.lists u) a (known.is_dart d u a is).1 in
-      let long = r.long in
-      let l = p.1 in
       let within : p.0 < length ring = omega arith in
       (p.0, within, known.one_id (get_or ring p.0 0) d u a (r.each p.0 within ∙ ap (λ z. Some (u, z)) p.2) is)
 
@@ -137,8 +123,7 @@ module _ (map : Map) (known : IsHalfMap map) (walks : List (List ℕ)) (faces : 
   pub off_in_walk : (most u a d f z : ℕ) → option_map (λ (w : Dart). w.1) (dart_at map d) ≡ Some a → IsNumber walks d f → IsOff map walks most u d z → (length (walk_at walks f) ≤ most) × ((e : ℕ) × Contains (walk_at walks f) e × IsOffAt map u a e z)
   off_in_walk most u a d f z head number h =
       let e = one_number d h.f f h.number number in
-      let same = head_is (dart_at map d) u h.a a h.dart head in
-      let off : IsOffAt map u a h.e z = subst (λ b. IsOffAt map u b h.e z) same h.off in
+      let off : IsOffAt map u a h.e z = subst (λ b. IsOffAt map u b h.e z) (head_is (dart_at map d) u h.a a h.dart head) h.off in
       (subst (λ g. length (walk_at walks g) ≤ most) e h.short, (h.e, subst (λ g. Contains (walk_at walks g) h.e) e h.on, off))
 
   module _ (most u : ℕ) (ring mid : List ℕ) (best : ℕ) (new : List ℕ) (least : ℕ) (whole : most ≡ length (list_of map.lists u)) (r : IsRing map u ring) (heads : (z : ℕ) → HasDart map.lists u z → get_or mid z 0 ≡ u) (s : AreStamped u (length ring) (λ i. IsOff map walks most u (get_or ring i 0)) mid best new least) where
@@ -174,8 +159,7 @@ module _ (map : Map) (known : IsHalfMap map) (walks : List (List ℕ)) (faces : 
   -- the face across a dart, by the twin and the number that the calls name
   pub across_one : (d t r z : ℕ) → dart_at map t ≡ option_map twin_dart (dart_at map d) → IsNumber walks t r → IsAcross map walks d z → z ≡ r
   across_one d t r z twin number h =
-      let same = known.one_id h.2 t h.1 h.0 h.4 (twin ∙ ap (option_map twin_dart) h.3) in
-      one_number t z r (subst (λ e. IsNumber walks e z) same h.5) number
+      one_number t z r (subst (λ e. IsNumber walks e z) (known.one_id h.2 t h.1 h.0 h.4 (twin ∙ ap (option_map twin_dart) h.3)) h.5) number
 
   -- the faces at the vertex of e that are not across d or e, by the row that the calls name
   pub off_in_ring : (most f d e v x y z w h : ℕ) (ring : List ℕ) → option_map (λ (w : Dart). w.0) (dart_at map e) ≡ Some v → IsAcross map walks d x → IsAcross map walks e y → IsRing map v ring → IsCorner map walks most f d e z w h → (c : ℕ) × Contains ring c × IsNumber walks c z × (z ≢ f) × (z ≢ x) × (z ≢ y) × (w ≡ v) × (h ≡ v)
@@ -195,21 +179,16 @@ module _ (map : Map) (known : IsHalfMap map) (walks : List (List ℕ)) (faces : 
 -- no face counts at a vertex with more darts, by the vertex that the call names
 pub large_corner : (map : Map) (walks : List (List ℕ)) (most f d e v z x y : ℕ) → option_map (λ (w : Dart). w.0) (dart_at map e) ≡ Some v → most < length (list_of map.lists v) → IsCorner map walks most f d e z x y → ⊥
 large_corner map walks most f d e v z x y tail large h =
-    let same = tail_is (dart_at map e) x h.0.y v h.0.dart tail in
-    let small : length (list_of map.lists v) ≤ most = subst (λ u. length (list_of map.lists u) ≤ most) same h.0.small in
-    omega arith
+    omega (arith, subst (λ u. length (list_of map.lists u) ≤ most) (tail_is (dart_at map e) x h.0.y v h.0.dart tail) h.0.small)
 
 -- the meetings of a call at place i of the darts of face f, with the dart behind that the call names
 pub off_place : (map : Map) (walks : List (List ℕ)) (f i e : ℕ) (ds : List DartId) (old : List Meeting) (best : ℕ) (new : List Meeting) (result : ℕ) → ids_of ds ≡ walk_at walks f → i < length ds → e ≡ after_place (ids_of ds) i → IsMet f (IsCorner map walks (length ds) f (get_or ds i (record { 0 = 0 })).0 e) old best new result → IsMet f (IsOffPlace map walks f i) old best new result
 off_place map walks f i e ds old best new result is l behind s =
     let w = walk_at walks f in
     let d = (get_or ds i (record { 0 = 0 })).0 in
-    let long : length ds ≡ length w = sym (length-ids ds) ∙ ap (λ (xs : List ℕ). length xs) is in
-    let at : d ≡ get_or w i 0 = sym (get_or-ids ds i l) ∙ ap (λ (xs : List ℕ). get_or xs i 0) is in
-    let next : e ≡ after_place w i = behind ∙ ap (λ (xs : List ℕ). after_place xs i) is in
-    subst (λ x. IsMet f (IsCorner map walks (length w) f (get_or w i 0) x) old best new result) next
-    (subst (λ x. IsMet f (IsCorner map walks (length w) f x e) old best new result) at
-    (subst (λ x. IsMet f (IsCorner map walks x f d e) old best new result) long s))
+    subst (λ x. IsMet f (IsCorner map walks (length w) f (get_or w i 0) x) old best new result) (behind ∙ ap (λ (xs : List ℕ). after_place xs i) is)
+    (subst (λ x. IsMet f (IsCorner map walks (length w) f x e) old best new result) (sym (get_or-ids ds i l) ∙ ap (λ (xs : List ℕ). get_or xs i 0) is)
+    (subst (λ x. IsMet f (IsCorner map walks x f d e) old best new result) (sym (length-ids ds) ∙ ap (λ (xs : List ℕ). length xs) is) s))
 
 -- The dart at place p of a row stands in face z, by the number that the call names. What is noted are faces other than f, x and y.
 module _ (map : Map) (walks : List (List ℕ)) (faces : AreFaces map walks) (ds : List DartId) (place : Meeting) (x y p z : ℕ) (l : p < length ds) (is : IsNumber walks (get_or ds p (record { 0 = 0 })).0 z) where

@@ -18,12 +18,7 @@ short_face_passed_over map walks most u d z best result marks off other w = othe
 
 -- a face that met the face of the round at u meets it at v too, and neither counts
 second_meeting_not_told : (f z u v best : ℕ) (old new : List Meeting) → (meeting_at old z).face ≡ f → (meeting_at old z).tail ≡ u → u ≢ v → u < best → ¬ IsMet f (λ w x y. (w ≡ z) × (x ≡ v) × (y ≡ v)) old best new best
-second_meeting_not_told f z u v best old new met at ne l w =
-    let same = ap (λ (m : Meeting). m.tail) (w.kept z met) ∙ at in
-    elim (w.first z v v (refl, refl, refl)) [
-      | inl e ↦ ne (sym same ∙ e.0)
-      | inr p ↦ let low = (p.1 (λ e. ne (sym same ∙ e))).0 in omega arith
-    ]
+second_meeting_not_told f z u v best old new met at ne l w = grind (arith, Meeting)
 
 lesser_of_two : (w best r s : ℕ) → (r ≤ w) × (r ≤ best) × ((r ≡ w) ⊎ (r ≡ best)) → (s ≤ w) × (s ≤ best) × ((s ≡ w) ⊎ (s ≡ best)) → r ≡ s
 lesser_of_two w best r s (a, b, inl e) (c, d, inl f) = omega arith

@@ -18,12 +18,9 @@ face_known walks d (suc n) h =
           let before = face_known walks d n (∥∥₁_map h (λ p. elim (cases_lt p.0 n) [
             | inl less ↦ (p.0, less, p.2)
             | inr most ↦
-                let l = p.1 in
                 let same : p.0 ≡ n = omega arith in
-                let here = place_of-lt-length d (walk_at walks n) (subst (λ f. Contains (walk_at walks f) d) same p.2) in
-                absurd (omega (arith, here, not_here))
+                absurd (omega (arith, place_of-lt-length d (walk_at walks n) (subst (λ f. Contains (walk_at walks f) d) same p.2), not_here))
           ])) in
-          let l = before.1 in
           (before.0, omega arith, before.2)
     ]
 

@@ -31,20 +31,7 @@ module _ (f : ℕ) (old : List Meeting) (best : ℕ) (new : List Meeting) (resul
 
   -- two in turn
   pub IsMet-both : (Z Y : ℕ → ℕ → ℕ → Type 0) (mid : List Meeting) (least : ℕ) → IsMet f Z old best mid least → IsMet f Y mid least new result → IsMet f (λ z x y. Z z x y ⊎ Y z x y) old best new result
-  IsMet-both Z Y mid least s t =
-      let less = t.lower in
-      record {
-        lower = let more = s.lower in omega arith;
-        met = λ z x y h. elim h [
-          | inl p ↦ ap (λ (m : Meeting). m.face) (t.kept z (s.met z x y p)) ∙ s.met z x y p
-          | inr q ↦ t.met z x y q
-        ];
-        first = λ z x y h. elim h [
-          | inl p ↦ subst (λ (m : Meeting). IsFirstOr result m x y) (sym (t.kept z (s.met z x y p))) (IsFirstOr-lower least result (meeting_at mid z) x y less (s.first z x y p))
-          | inr q ↦ t.first z x y q
-        ];
-        kept = λ z q. let e = s.kept z q in t.kept z (ap (λ (m : Meeting). m.face) e ∙ q) ∙ e;
-      }
+  IsMet-both Z Y mid least s t = grind (arith, Meeting, IsFirstOr, IsFirstOr-lower, meeting_at)
 
   -- a step more
   pub IsMet-more : (k : ℕ) (Z : ℕ → ℕ → ℕ → ℕ → Type 0) (mid : List Meeting) (least : ℕ) → IsMet f (λ z x y. (i : ℕ) × (i < k) × Z i z x y) old best mid least → IsMet f (Z k) mid least new result → IsMet f (λ z x y. (i : ℕ) × (i < k + 1) × Z i z x y) old best new result
@@ -65,18 +52,7 @@ on_first best t h v w u (inr p) (inr at) ne ne' = let l = (p.0 (λ e. ne (at ∙
 
 -- a vertex of one of two edges that is not on the other one, where each is first or parted from the first
 on_one : (best : ℕ) (m : Meeting) (x y v w u : ℕ) → IsFirstOr best m x y → IsFirstOr best m v w → (u ≡ x) ⊎ (u ≡ y) → u ≢ v → u ≢ w → best ≤ u
-on_one best m x y v w u (inl e) q (inl at) ne ne' = on_first best m.tail m.head v w u q (inl (at ∙ sym e.0)) ne ne'
-on_one best m x y v w u (inl e) q (inr at) ne ne' = on_first best m.tail m.head v w u q (inr (at ∙ sym e.1)) ne ne'
-on_one best m x y v w u (inr p) q (inl at) ne ne' =
-    elim (cases_eq m.head x) [
-      | inl e ↦ on_first best m.tail m.head v w u q (inr (at ∙ sym e)) ne ne'
-      | inr other ↦ let l = (p.0 other).1 in omega arith
-    ]
-on_one best m x y v w u (inr p) q (inr at) ne ne' =
-    elim (cases_eq m.tail y) [
-      | inl e ↦ on_first best m.tail m.head v w u q (inl (at ∙ sym e)) ne ne'
-      | inr other ↦ let l = (p.1 other).1 in omega arith
-    ]
+on_one best m x y v w u x7 q x9 ne ne' = grind (arith, on_first, cases_eq)
 
 -- so it is of two meetings of one face
 pub IsMet-apart : (f : ℕ) (Z : ℕ → ℕ → ℕ → Type 0) (old : List Meeting) (best : ℕ) (new : List Meeting) (result : ℕ) → IsMet f Z old best new result → (z x y v w u : ℕ) → Z z x y → Z z v w → (u ≡ x) ⊎ (u ≡ y) → u ≢ v → u ≢ w → result ≤ u

@@ -35,25 +35,17 @@ module _ (map : Map) (known : IsHalfMap map) (u d e first : ℕ) (marks new : Li
 
   -- at the next dart
   pub IsMarkingRound-later : e ≢ first → IsMarkingRound map u e new result
-  IsMarkingRound-later other =
-      let later = later_place map known d e first u (head_at map d) live step begins round.dart other in
-      record {
-        dart = LeavesFrom-later map u d e later;
-        marked = subst (λ k. AreMarksOf map.lists u k new result) (sym (place_at-later map u d e later)) more;
-      }
+  IsMarkingRound-later other = grind (arith, later_place, head_at, live, LeavesFrom-later, AreMarksOf, place_at-later, more)
 
   pub left_of_round-later : e ≢ first → left_of_round map u e < left_of_round map u d
   left_of_round-later other =
-      let later = later_place map known d e first u (head_at map d) live step begins round.dart other in
-      let within = (at_place map known u d round.dart).0 in
-      let next = place_at-later map u d e later in
-      omega arith
+      let next = place_at-later map u d e (later_place map known d e first u (head_at map d) live step begins round.dart other) in
+      omega (arith, (at_place map known u d round.dart).0)
 
   -- and behind the last
   pub AreMarksOf-round : e ≡ first → AreMarksOf map.lists u (length (list_of map.lists u)) new result
   AreMarksOf-round back =
-      let last = last_place map known d e first u (head_at map d) live step begins round.dart back in
-      subst (λ k. AreMarksOf map.lists u k new result) last more
+      subst (λ k. AreMarksOf map.lists u k new result) (last_place map known d e first u (head_at map d) live step begins round.dart back) more
 
 -- ---- pairs
 module _ (lists : Lists) (plane : IsPlaneUncut lists) (u : ℕ) (u_in : u < length lists) where
@@ -67,20 +59,18 @@ module _ (lists : Lists) (plane : IsPlaneUncut lists) (u : ℕ) (u_in : u < leng
   pair_seen w h =
       let i = h.0 in
       let j = h.1 in
-      let o = h.2 in
       let l = h.3 in
       let p = h.4 in
-      let q = h.5 in
       let distinct = plane.simple.no_repeat u u_in in
-      let met : AreMetTwice lists u w (get_or us i 0) p.next (get_or us j 0) q.next = record {
+      let met : AreMetTwice lists u w (get_or us i 0) p.next (get_or us j 0) h.5.next = record {
         from_u = (entry_in i (omega arith), entry_in j l);
         two = λ e. absurd (let same = sym (place_of-get_or us i 0 distinct (omega arith)) ∙ (ap (λ z. place_of z us) e ∙ place_of-get_or us j 0 distinct l) in omega arith);
-        from_v = (p.dart, q.dart);
-        others = (p.other, q.other);
+        from_v = (p.dart, h.5.dart);
+        others = (p.other, h.5.other);
         one = p.face;
-        other = q.face;
+        other = h.5.face;
       } in
-      (pairs_meet_twice lists u w plane p.later p.dart.0).1 (get_or us i 0, p.next, get_or us j 0, q.next, met)
+      (pairs_meet_twice lists u w plane p.later p.dart.0).1 (get_or us i 0, p.next, get_or us j 0, h.5.next, met)
 
   passed_at : (a w b : ℕ) → HasDart lists u a → u < w → HasDart lists w b → b ≢ u → SameFace lists (u, a) (w, b) → (i : ℕ) × (i < length us) × (get_or us i 0 ≡ a) × IsPassed lists u (get_or us i 0) w
   passed_at a w b has later has_b other face =
@@ -119,12 +109,7 @@ module _ (map : Map) (known : IsHalfMap map) (plane : IsPlaneUncut map.lists) (u
 -- a vertex without neighbours is in no pair
 pub no_pair_alone : (lists : Lists) (u w : ℕ) → IsPlaneUncut lists → list_of lists u ≡ [] → ¬ IsSeparatingPair lists u w
 no_pair_alone lists u w plane none pair =
-    let l = pair.0 in
-    let m = pair.1 in
-    let seen = seen_pair lists plane u (omega arith) w pair in
-    let size : length (list_of lists u) ≡ 0 = ap (λ (us : List ℕ). length us) none in
-    let o = seen.3 in
-    omega arith
+    omega (arith, seen_pair lists plane u (omega arith) w pair, ap (λ (us : List ℕ). length us) none)
 
 -- the least pair, where no lesser vertex has a partner
 pub least_pair_at : (lists : Lists) (u v : ℕ) → ((a b : ℕ) → a < u → ¬ IsSeparatingPair lists a b) → IsSeparatingPair lists u v → ((w : ℕ) → IsSeparatingPair lists u w → v ≤ w) → IsLeastPair lists u v

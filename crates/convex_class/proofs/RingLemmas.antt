@@ -37,7 +37,6 @@ pub record IsRow (map : Map) (v k : ℕ) (row : List ℕ) : Type 0 where
 -- and one more
 pub IsRow-more : (map : Map) (v k d : ℕ) (row new : List ℕ) → new ≡ row ++ d ∷ [] → dart_at map d ≡ Some (v, get_or (list_of map.lists v) k 0) → IsRow map v k row → IsRow map v (k + 1) new
 IsRow-more map v k d row new grown is h =
-    let size = h.long in
     let more = length-append row (d ∷ []) in
     let same = ap (λ (l : List ℕ). length l) grown in
     record {

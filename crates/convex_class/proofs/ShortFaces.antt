@@ -22,17 +22,7 @@ after_last walk i j e first = get_or_past walk (i + 1) (get_or walk 0 0) (omega 
 
 -- of two places of a walk of three the one follows the other
 one_follows : (walk : List ℕ) (i j : ℕ) → length walk ≤ 3 → i < length walk → j < length walk → i ≢ j → (after_place walk i ≡ get_or walk j 0) ⊎ (after_place walk j ≡ get_or walk i 0)
-one_follows walk i j short i_in j_in apart =
-    elim (cases_eq (i + 1) j) [
-      | inl e ↦ inl (after_next walk i j e j_in)
-      | inr behind ↦ elim (cases_eq (j + 1) i) [
-        | inl e ↦ inr (after_next walk j i e i_in)
-        | inr before ↦ elim (cases_eq i 0) [
-          | inl e ↦ inr (after_last walk j i (omega arith) e)
-          | inr later ↦ inl (after_last walk i j (omega arith) (omega arith))
-        ]
-      ]
-    ]
+one_follows walk i j short i_in j_in apart = grind (arith, cases_eq, after_next, after_last)
 
 module _ (map : Map) (known : IsHalfMap map) (walks : List (List ℕ)) (faces : AreFaces map walks) (short : (f : ℕ) → f < length walks → length (walk_at walks f) ≤ 3) where
   -- a face at u passes just the two neighbours of u, and from the second one it leads to u
@@ -54,16 +44,13 @@ module _ (map : Map) (known : IsHalfMap map) (walks : List (List ℕ)) (faces : 
 
   pub no_pair : IsPlaneUncut map.lists → (u v : ℕ) → ¬ IsSeparatingPair map.lists u v
   no_pair plane u v pair =
-      let order = pair.0 in
       let two : u ≢ v = λ e. absurd (omega arith) in
       let found = (pairs_meet_twice map.lists u v plane pair.0 pair.1).0 pair in
-      let a = found.0 in
       let b = found.1 in
       let c = found.2 in
       let e = found.3 in
-      let on : AreMetTwice map.lists u v a b c e = found.4 in
-      let f = some_walk map known walks faces u a on.from_u.0 in
+      let on : AreMetTwice map.lists u v found.0 b c e = found.4 in
+      let f = some_walk map known walks faces u found.0 on.from_u.0 in
       let g = some_walk map known walks faces u c on.from_u.1 in
-      let one = passed_first f.0 u a v b two on.others.0 f.1 (same_walk map known walks faces f.0 u a v b f.1 on.from_v.0 on.one) in
-      let other = passed_first g.0 u c v e two on.others.1 g.1 (same_walk map known walks faces g.0 u c v e g.1 on.from_v.1 on.other) in
-      on.two (sym one ∙ other)
+      let one = passed_first f.0 u found.0 v b two on.others.0 f.1 (same_walk map known walks faces f.0 u found.0 v b f.1 on.from_v.0 on.one) in
+      on.two (sym one ∙ (passed_first g.0 u c v e two on.others.1 g.1 (same_walk map known walks faces g.0 u c v e g.1 on.from_v.1 on.other)))

@@ -14,24 +14,4 @@ IsStamped-fewer u Z Y old best new result fewer s =
 
 -- a step more
 pub AreStamped-more : (u k : ℕ) (Z : ℕ → ℕ → Type 0) (old : List ℕ) (best : ℕ) (mid : List ℕ) (least : ℕ) (new : List ℕ) (result : ℕ) → AreStamped u k Z old best mid least → IsStamped u (Z k) mid least new result → AreStamped u (k + 1) Z old best new result
-AreStamped-more u k Z old best mid least new result s t =
-    let less = t.lower in
-    let low : (z : ℕ) → (least ≤ u) × (least ≤ z) → (result ≤ u) × (result ≤ z) = λ z p. let a = p.0 in let b = p.1 in (omega arith, omega arith) in
-    record {
-      all = record {
-        lower = let more = s.all.lower in omega arith;
-        again = λ z h. elim (cases_lt h.0 k) [
-          | inl l ↦ λ q. low z (s.all.again z (h.0, l, h.2) q)
-          | inr m ↦ let l = h.1 in let e : h.0 ≡ k = omega arith in λ q. t.again z (subst (λ i. Z i z) e h.2) (s.all.kept z q)
-        ];
-        set = λ z h. elim (cases_lt h.0 k) [
-          | inl l ↦ t.kept z (s.all.set z (h.0, l, h.2))
-          | inr m ↦ let l = h.1 in let e : h.0 ≡ k = omega arith in t.set z (subst (λ i. Z i z) e h.2)
-        ];
-        kept = λ z q. t.kept z (s.all.kept z q);
-      };
-      apart = λ i j z l m p q. elim (cases_lt j k) [
-        | inl less ↦ low z (s.apart i j z l less p q)
-        | inr more ↦ let e : j ≡ k = omega arith in t.again z (subst (λ i. Z i z) e q) (s.all.set z (i, omega arith, p))
-      ];
-    }
+AreStamped-more u k Z old best mid least new result s t = grind (arith, cases_lt)

@@ -71,8 +71,7 @@ module _ (map : Map) (known : IsHalfMap map) (plane : IsPlaneUncut map.lists) (u
       let has' = subst (λ z. HasDart map.lists z y.1) (sym e) (has_dart map known d' live') in
       let heads = faces_pass_once map.lists x.0 x.1 y.1 plane has has' (subst (λ z. SameFace map.lists x (z, y.1)) (sym e) same) in
       let at' : dart_at map d' ≡ Some (x.0, x.1) = dart_of-live map d' live' ∙ (ap (λ z. Some (z, y.1)) (sym e) ∙ ap (λ z. Some (x.0, z)) (sym heads)) in
-      let one = is_walk.once q p (omega arith) m (known.one_id d d' x.0 x.1 (dart_of-live map d live) at') in
-      omega arith
+      omega (arith, is_walk.once q p (omega arith) m (known.one_id d d' x.0 x.1 (dart_of-live map d live) at'))
 
   IsMetBy-more : (p x : ℕ) → IsMetBy map u walk (p + 1) x → IsMetBy map u walk p x ⊎ Passes map u (get_or walk p 0) x
   IsMetBy-more p x h =
@@ -178,18 +177,15 @@ module _ (map : Map) (known : IsHalfMap map) (plane : IsPlaneUncut map.lists) (u
     -- the whole walk passes what the face of the dart passes
     passed_whole : Alike (IsMetBy map u walk (length walk)) (IsPassed map.lists u (get_or (list_of map.lists u) (place_at map u d) 0))
     passed_whole x =
-        let us = list_of map.lists u in
-        let k = place_at map u d in
         let is_d : dart_of map d ≡ (u, head_at map d) = dart_of-is map d (u, head_at map d) leaves in (
           λ m.
               let e = get_or walk m.0 0 in
               let y = dart_of map e in
-              let has = has_dart map known e (is_walk.live m.0 m.1) in
               let same = one_face d e on (Contains-get_or walk m.0 0 m.1) in
               record {
                 later = m.2.2;
                 next = y.1;
-                dart = subst (λ z. HasDart map.lists z y.1) m.2.0 has;
+                dart = subst (λ z. HasDart map.lists z y.1) m.2.0 (has_dart map known e (is_walk.live m.0 m.1));
                 other = m.2.1;
                 face =
                     subst (λ z. SameFace map.lists (u, z) (x, y.1)) (sym entry)
@@ -201,8 +197,7 @@ module _ (map : Map) (known : IsHalfMap map) (plane : IsPlaneUncut map.lists) (u
               let face : SameFace map.lists (dart_of map d) (dart_of map id.0) =
               subst (λ z. SameFace map.lists z (dart_of map id.0)) (sym is_d) (subst (λ z. SameFace map.lists (u, head_at map d) z) (sym is_e) (subst (λ z. SameFace map.lists (u, z) (x, p.next)) entry p.face)) in
               let c = in_walk map known walk is_walk id.0 (live_from (dart_at map id.0) (x, p.next) id.1) (in_class map known walk is_walk d on ∙ Together-from (face_classes map.lists) (number_at map d) (number_at map id.0) face) in
-              let at : get_or walk c.0 0 ≡ id.0 = get_or_default walk c.0 0 id.0 c.1 ∙ c.2 in
-              let y : dart_of map (get_or walk c.0 0) ≡ (x, p.next) = ap (dart_of map) at ∙ is_e in
+              let y : dart_of map (get_or walk c.0 0) ≡ (x, p.next) = ap (dart_of map) (get_or_default walk c.0 0 id.0 c.1 ∙ c.2) ∙ is_e in
               (c.0, c.1, (ap (λ (z : Dart). z.0) y, (λ q. p.other (sym (ap (λ (z : Dart). z.1) y) ∙ q)), p.later)),
         )
 
@@ -211,7 +206,6 @@ module _ (map : Map) (known : IsHalfMap map) (plane : IsPlaneUncut map.lists) (u
     AreMarksUnderWay-whole marks best =
         let lists = map.lists in
         let k = place_at map u d in
-        let P = IsPassed lists u (get_or (list_of lists u) k 0) in
         let seen = IsSeen-more lists u k in
         let twice = IsTwiceSeen-more lists u k in
         AreMarks-alike (length lists) u (SeenOr map u walk k (length walk)) (IsSeen lists u (k + 1)) (TwiceOr map u walk k (length walk)) (IsTwiceSeen lists u (k + 1)) marks best

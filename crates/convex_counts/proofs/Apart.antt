@@ -35,31 +35,21 @@ IsNextOrApart g at u = IsNextTo g u ⊎ (at.one (suc u) < at.one u)
 
 module _ (g : Stage) (s : Step) (at : Coordinates) (stage : IsStage g) (step : IsStep g s) (well : IsTurned g at s) (u : ℕ) (lu : suc u < g.count) (k : KeepsThird g at (suc u) u) where
   apart_after : at.one (suc u) < at.one u → (counts_after g s at).one (suc u) < (counts_after g s at).one u
-  apart_after l =
-      let a = one_after-older g s at (suc u) lu in
-      let b = one_after-older g s at u (omega arith) in
-      let e = gain-le s (g.place u) (g.place (suc u)) k.place in
-      omega arith
+  apart_after l = grind (arith, one_after-older, gain-le)
 
   turns_between : (h : IsNextTo g u) (i : ℕ) → i < s.faces → s.cut i ≤ h.place → h.place < s.cut (suc i) → (counts_after g s at).one (suc u) < (counts_after g s at).one u
   turns_between h i li lo hi =
       let j = h.place in
-      let sum = k.are.sum in
-      let le = k.are.one in
-      let w = h.within in
       let eu = ap at.one h.here in
       let en = ap at.one h.next in
       let tu = ap at.two h.here in
       let tn = ap at.two h.next in
       elim (cases_order j (s.turn i)) [
         | inl e ↦
-            let pu = ap g.place (sym h.here) ∙ stage.own j (omega arith) in
-            let pn = ap g.place (sym h.next) ∙ stage.own (suc j) w in
-            let gu = ap (two_gain s) pu ∙ gain-first g s step i j li lo (omega arith) in
-            let gn = ap (two_gain s) pn ∙ gain-second g s step i (suc j) li (omega arith) hi in
+            let gu = ap (two_gain s) (ap g.place (sym h.here) ∙ stage.own j (omega arith)) ∙ gain-first g s step i j li lo (omega arith) in
+            let gn = ap (two_gain s) (ap g.place (sym h.next) ∙ stage.own (suc j) h.within) ∙ gain-second g s step i (suc j) li (omega arith) hi in
             let a = one_after-older g s at (suc u) lu in
-            let b = one_after-older g s at u (omega arith) in
-            omega arith
+            omega (arith, one_after-older g s at u (omega arith))
         | inr (inl before) ↦ let l = well.left i j li lo before in let l1 = l.one in let l2 = l.two in absurd (omega arith)
         | inr (inr behind) ↦ let l = well.right i j li behind hi in let l1 = l.one in let l2 = l.two in absurd (omega arith)
       ]
@@ -67,11 +57,6 @@ module _ (g : Stage) (s : Step) (at : Coordinates) (stage : IsStage g) (step : I
   next_after : IsNextTo g u → IsNextOrApart (after g s) (counts_after g s at) u
   next_after h =
       let j = h.place in
-      let w = h.within in
-      let o = order g s step in
-      let ws = step.within in
-      let begin = step.begin in
-      let end = step.end in
       elim (cases_lt j s.first) [
         | inl below ↦ inl record {
           place = j;
@@ -95,8 +80,6 @@ module _ (g : Stage) (s : Step) (at : Coordinates) (stage : IsStage g) (step : I
 -- when they are new they are next to each other
 next_made : (g : Stage) (s : Step) (u : ℕ) → IsStep g s → g.count ≤ u → suc u < g.count + s.vertices → IsNextTo (after g s) u
 next_made g s u step a b =
-    let o = order g s step in
-    let w = step.within in
     let j : ℕ = u + suc s.first - g.count in
     let x = vertex_after-new g s j (omega arith) (omega arith) in
     let y = vertex_after-new g s (suc j) (omega arith) (omega arith) in
@@ -108,9 +91,8 @@ next_or_apart steps n k u turned l a b =
     (λ z low high h.
     let c = count-le steps (suc k) z low in
     let run = IsRun-less steps z n (omega arith) turned.run in
-    let sub : IsTurnedRun steps z = record { run = run; turned = λ y m. turned.turned y (omega arith) } in
     let some = (turned.run k l).some_face in
-    let kept = third_kept steps z sub k 0 low some (suc u) u a (omega arith) b in
+    let kept = third_kept steps z (record { run = run; turned = λ y m. turned.turned y (omega arith) }) k 0 low some (suc u) u a (omega arith) b in
     elim h [
       | inl next ↦ next_after (stage_after steps z) (steps z) (face_counts steps z) (IsStage-run steps z run) (turned.run z high) (turned.turned z high) u (omega arith) kept next
       | inr apart ↦ inr (apart_after (stage_after steps z) (steps z) (face_counts steps z) (IsStage-run steps z run) (turned.run z high) (turned.turned z high) u (omega arith) kept apart)
@@ -120,18 +102,8 @@ next_or_apart steps n k u turned l a b =
 pub new_apart : (steps : ℕ → Step) (n k u : ℕ) → IsWholeRun steps n → k < n → (stage_after steps k).count ≤ u → suc u < (stage_after steps (suc k)).count → (face_counts steps n).one (suc u) < (face_counts steps n).one u
 new_apart steps n k u whole l a b =
     let at = face_counts steps n in
-    let some = (whole.turned.run k l).some_face in
-    let kept = third_kept steps n whole.turned k 0 l some (suc u) u a (omega arith) b in
-    let sum = kept.are.sum in
+    let kept = third_kept steps n whole.turned k 0 l ((whole.turned.run k l).some_face) (suc u) u a (omega arith) b in
     elim (next_or_apart steps n k u whole.turned l a b) [
       | inr apart ↦ apart
-      | inl next ↦
-          let eu = ap at.one next.here in
-          let en = ap at.one next.next in
-          let tu = ap at.two next.here in
-          let tn = ap at.two next.next in
-          elim (cases_lt next.place whole.top) [
-            | inl below ↦ let r = whole.right next.place below in let r1 = r.one in let r2 = r.two in absurd (omega arith)
-            | inr above ↦ let r = whole.left next.place above next.within in let r1 = r.one in let r2 = r.two in absurd (omega arith)
-          ]
+      | inl next ↦ grind (arith, cases_lt)
     ]

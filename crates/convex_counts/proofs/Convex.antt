@@ -37,8 +37,6 @@ module _ (g : Stage) (s : Step) (h : IsStep g s) (i : ℕ) (l : i < s.faces) whe
   cases_side : (r : ℕ) → r < face_length s i → IsAtFirst g s i r ⊎ (IsAtSecond g s i r ⊎ IsAtThird g s i r)
   unfolding face_vertex
   cases_side r b =
-      let rise = cut-next g s h i l in
-      let t = h.high i l in
       elim (cases_lt (s.cut (suc i)) (s.cut i + r)) [
         | inr a ↦
             let e = cond-true (leb (s.cut i + r) (s.cut (suc i))) (g.vertex (s.cut i + r)) (g.count + face_length s i - suc r) (le-leb (s.cut i + r) (s.cut (suc i)) a) in
@@ -68,16 +66,12 @@ module _ (steps : ℕ → Step) (n k i : ℕ) (turned : IsTurnedRun steps n) (lk
   before_third : (x r' r'' : ℕ) → IsAtThird g s i r' → r' < r'' → r'' < face_length s i → at.one (vertex r') + at.two (vertex r') ≤ at.one x + at.two x → pos 0 ≤ℤ area (point_of at x) (point_of at (vertex r')) (point_of at (vertex r''))
   before_third x r' r'' y b c sum =
       let st = step steps n turned k i lk li in
-      let t = st.high i li in
-      let y0 = y.behind in
-      let y1 = y.new in
       elim (cases_side g s st i li r'' c) [
-        | inl z ↦ let z1 = z.at in let z2 = z.high in absurd (omega arith)
-        | inr (inl z) ↦ let z1 = z.at in let z2 = z.high in absurd (omega arith)
+        | inl z ↦ let z1 = z.at in let z2 = z.high in absurd (omega (arith, st.high i li))
+        | inr (inl z) ↦ let z1 = z.at in let z2 = z.high in absurd (omega (arith, st.high i li))
         | inr (inr z) ↦
-            let z1 = z.new in
-            let q = on_third steps n turned k i lk li (vertex r') (vertex r'') z.low (omega arith) y.high in
-            turned_weak at _ _ _ (third_weak at _ _ _ q.sum q.one (omega arith))
+            let q = on_third steps n turned k i lk li (vertex r') (vertex r'') z.low (omega (arith, st.high i li)) y.high in
+            turned_weak at _ _ _ (third_weak at _ _ _ q.sum q.one (omega (arith, st.high i li)))
       ]
 
   convex : (r r' r'' : ℕ) → r < r' → r' < r'' → r'' < face_length s i → pos 0 ≤ℤ area (point_of at (vertex r)) (point_of at (vertex r')) (point_of at (vertex r''))
@@ -87,40 +81,27 @@ module _ (steps : ℕ → Step) (n k i : ℕ) (turned : IsTurnedRun steps n) (lk
       let sides = cases_side g s st i li in
       elim (sides r (omega arith)) [
         | inl x ↦
-            let x1 = x.at in
             let x2 = x.high in
             elim (sides r' (omega arith)) [
               | inl y ↦
-                  let y1 = y.at in
-                  let y2 = y.high in
-                  let p = on_first steps n turned k i lk li x.place y.place (omega arith) (omega arith) y2 in
-                  let p2 = p.two in
+                  let p = on_first steps n turned k i lk li x.place y.place (omega arith) (omega arith) y.high in
                   elim (sides r'' c) [
                     | inl z ↦
-                        let z1 = z.at in
-                        let z2 = z.high in
-                        let q = on_first steps n turned k i lk li x.place z.place (omega arith) (omega arith) z2 in
-                        let q1 = q.one in
+                        let q = on_first steps n turned k i lk li x.place z.place (omega arith) (omega arith) z.high in
                         as_named at (g.vertex x.place) (g.vertex y.place) (g.vertex z.place) _ _ _ x.vertex y.vertex z.vertex (first_weak at _ _ _ p.one (omega arith) (omega arith))
                     | inr (inl z) ↦
                         let q = first_second steps n turned k i lk li x.place z.place (omega arith) x2 z.low z.high in
-                        let q1 = q.one in
                         as_named at (g.vertex x.place) (g.vertex y.place) (g.vertex z.place) _ _ _ x.vertex y.vertex z.vertex (first_weak at _ _ _ p.one (omega arith) (omega arith))
                     | inr (inr z) ↦
                         let q = third_first steps n turned k i lk li (vertex r'') x.place z.low z.high (omega arith) x2 in
-                        let q1 = q.one in
                         as_named at (g.vertex x.place) (g.vertex y.place) (vertex r'') _ _ _ x.vertex y.vertex (same (vertex r'')) (first_weak at _ _ _ p.one (omega arith) (omega arith))
                   ]
               | inr (inl y) ↦
-                  let y1 = y.at in
                   let p = first_second steps n turned k i lk li x.place y.place (omega arith) x2 y.low y.high in
-                  let p2 = p.two in
                   elim (sides r'' c) [
                     | inl z ↦ let z1 = z.at in let z2 = z.high in let y2 = y.low in absurd (omega arith)
                     | inr (inl z) ↦
-                        let z1 = z.at in
                         let q = on_second steps n turned k i lk li y.place z.place y.low (omega arith) z.high in
-                        let q1 = q.one in
                         as_named at (g.vertex x.place) (g.vertex y.place) (g.vertex z.place) _ _ _ x.vertex y.vertex z.vertex (turned_weak at _ _ _ (second_weak at _ _ _ q.two (omega arith) (omega arith)))
                     | inr (inr z) ↦
                         let q = spread_area at _ _ _ (three_sides steps n turned k i lk li x.place y.place (vertex r'') (omega arith) x2 y.low y.high z.low z.high) in
@@ -128,52 +109,20 @@ module _ (steps : ℕ → Step) (n k i : ℕ) (turned : IsTurnedRun steps n) (lk
                   ]
               | inr (inr y) ↦
                   let p = third_first steps n turned k i lk li (vertex r') x.place y.low y.high (omega arith) x2 in
-                  let p2 = p.sum in
                   as_named at (g.vertex x.place) (vertex r') (vertex r'') _ _ _ x.vertex (same (vertex r')) (same (vertex r'')) (before_third (g.vertex x.place) r' r'' y b c (omega arith))
             ]
-        | inr (inl x) ↦
-            let x1 = x.at in
-            let x2 = x.low in
-            elim (sides r' (omega arith)) [
-              | inl y ↦ let y1 = y.at in let y2 = y.high in absurd (omega arith)
-              | inr (inl y) ↦
-                  let y1 = y.at in
-                  let p = on_second steps n turned k i lk li x.place y.place x.low (omega arith) y.high in
-                  let p1 = p.one in
-                  elim (sides r'' c) [
-                    | inl z ↦ let z1 = z.at in let z2 = z.high in absurd (omega arith)
-                    | inr (inl z) ↦
-                        let z1 = z.at in
-                        let q = on_second steps n turned k i lk li x.place z.place x.low (omega arith) z.high in
-                        let q2 = q.two in
-                        as_named at (g.vertex x.place) (g.vertex y.place) (g.vertex z.place) _ _ _ x.vertex y.vertex z.vertex (second_weak at _ _ _ p.two (omega arith) (omega arith))
-                    | inr (inr z) ↦
-                        let q = second_third steps n turned k i lk li x.place (vertex r'') x.low x.high z.low z.high in
-                        let q2 = q.two in
-                        as_named at (g.vertex x.place) (g.vertex y.place) (vertex r'') _ _ _ x.vertex y.vertex (same (vertex r'')) (second_weak at _ _ _ p.two (omega arith) (omega arith))
-                  ]
-              | inr (inr y) ↦
-                  let p = second_third steps n turned k i lk li x.place (vertex r') x.low x.high y.low y.high in
-                  let p2 = p.sum in
-                  as_named at (g.vertex x.place) (vertex r') (vertex r'') _ _ _ x.vertex (same (vertex r')) (same (vertex r'')) (before_third (g.vertex x.place) r' r'' y b c (omega arith))
-            ]
+        | inr (inl x) ↦ grind (arith, at, on_second, as_named, vertex, second_weak, second_third, before_third)
         | inr (inr x) ↦
-            let x0 = x.behind in
-            let x1 = x.new in
             elim (sides r' (omega arith)) [
               | inl y ↦ let y1 = y.at in let y2 = y.high in absurd (omega arith)
               | inr (inl y) ↦ let y1 = y.at in let y2 = y.high in absurd (omega arith)
               | inr (inr y) ↦
-                  let y1 = y.new in
                   elim (sides r'' c) [
                     | inl z ↦ let z1 = z.at in let z2 = z.high in absurd (omega arith)
                     | inr (inl z) ↦ let z1 = z.at in let z2 = z.high in absurd (omega arith)
                     | inr (inr z) ↦
-                        let z1 = z.new in
                         let p = on_third steps n turned k i lk li (vertex r) (vertex r') y.low (omega arith) x.high in
                         let q = on_third steps n turned k i lk li (vertex r') (vertex r'') z.low (omega arith) y.high in
-                        let q2 = q.sum in
-                        let p2 = p.sum in
                         third_weak at _ _ _ p.sum p.one (omega arith)
                   ]
             ]

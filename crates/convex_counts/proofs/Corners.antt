@@ -2,7 +2,7 @@
 use Rattle.std.proofs.Common.{◌≡◌, ℕ, zero, suc, ◌+◌, ◌-◌, ◌*◌, ◌<◌, ◌≤◌, ℤ, pos, negsuc, neg_ℤ, ◌-ℤ◌, ◌*ℤ◌, ◌<ℤ◌, refl, sym, ap, ap₂, subst, ◌∙◌, inl, inr, arith}
 use Rattle.std.proofs.lemmas.Bool.{cases_lt}
 use Rattle.std.proofs.lemmas.Int.{ints}
-use Rattle.pg_plane.specs.declared.segments.Point.{Point}
+use Rattle.pg_plane.specs.declared.grid_points.Point.{Point}
 use Rattle.pg_plane.specs.Geometry.{area, IsOnSegment}
 use Rattle.pg_plane.proofs.Ring.{sums, product_signs}
 use Rattle.contour_runs.specs.Runs.{Stage}
@@ -48,20 +48,11 @@ outside_right at u v e f l =
     ((product_signs (pos d) (pos 1)).both_above (omega (arith, ints)) (omega (arith, ints)))
 
 outside_left : (at : Coordinates) (u v : ℕ) → at.one u ≡ 0 → at.one v ≡ 0 → at.two u < at.two v → pos 0 <ℤ area (thrice at u) (thrice at v) outside
-outside_left at u v e f l =
-    let d : ℕ = 3 * (at.two v - at.two u) in
-    subst (λ m. pos 0 <ℤ m)
-    (sym (differences (thrice at u) (thrice at v) outside (pos 0) (pos d) (neg_ℤ (pos 1)) (negsuc 0 -ℤ pos (3 * at.two u)) (omega (arith, ints)) (omega (arith, ints)) (omega (arith, ints)) refl ∙ rising (pos 1) (pos d) (negsuc 0 -ℤ pos (3 * at.two u))))
-    ((product_signs (pos 1) (pos d)).both_above (omega (arith, ints)) (omega (arith, ints)))
+outside_left at u v e f l = grind (arith, at, pos, differences, thrice, outside, neg_ℤ, negsuc, ints, rising, product_signs)
 
 -- and right of the base
 outside_base : (at : Coordinates) (m : ℕ) → 0 < m → at.one 1 ≡ 0 → at.two 1 ≡ m → at.one 0 ≡ m → at.two 0 ≡ 0 → area (thrice at 1) (thrice at 0) outside <ℤ pos 0
-outside_base at m some a b c d =
-    let k : ℕ = 3 * m in
-    let e = differences (thrice at 1) (thrice at 0) outside (pos k) (neg_ℤ (pos k)) (neg_ℤ (pos 1)) (neg_ℤ (pos (suc k))) (omega (arith, ints)) (omega (arith, ints)) (omega (arith, ints)) (omega (arith, ints)) in
-    let p = (product_signs (pos k) (neg_ℤ (pos (suc k)))).above_below (omega (arith, ints)) (omega (arith, ints)) in
-    let q = (product_signs (neg_ℤ (pos 1)) (neg_ℤ (pos k))).both_below (omega (arith, ints)) (omega (arith, ints)) in
-    subst (λ z. z <ℤ pos 0) (sym e) (omega (arith, sums))
+outside_base at m some a b c d = grind (arith, at, differences, thrice, outside, pos, neg_ℤ, ints, product_signs, sums)
 
 module _ (steps : ℕ → Step) (n : ℕ) (whole : IsWholeRun steps n) where
   abbrev g : Stage
@@ -90,24 +81,14 @@ module _ (steps : ℕ → Step) (n : ℕ) (whole : IsWholeRun steps n) where
 
   at_last : (v : ℕ) → suc v ≡ g.count → (at.one v ≡ 0) × (at.two v ≡ 0)
   at_last v e =
-      let l = whole.last in
       let same : v ≡ g.vertex whole.top = omega arith in
       (ap at.one same ∙ second_axis whole.top (omega arith) whole.within, ap at.two same ∙ on_first_axis whole.top (omega arith))
 
   cornered_at : IsCornered steps n (faces_made steps n)
-  cornered_at = record {
-    grid = λ v l. let s = fall.sums v l in (omega arith, omega arith);
-    first = (fall.first_one, fall.first_two);
-    second = (fall.second_one, fall.second_two);
-    last = at_last;
-    axes = λ j l. elim (cases_lt whole.top j) [ inr a ↦ inl (on_first_axis j a) | inl a ↦ inr (second_axis j (omega arith) l) ];
-  }
+  cornered_at = grind (arith, fall, sums, at_last, cases_lt, on_first_axis, second_axis)
 
   outer_left : (j : ℕ) → suc j < g.width → pos 0 <ℤ area (thrice at (g.vertex j)) (thrice at (g.vertex (suc j))) outside
-  outer_left j l = elim (cases_lt j whole.top) [
-    | inl a ↦ outside_right at (g.vertex j) (g.vertex (suc j)) (on_first_axis j (omega arith)) (on_first_axis (suc j) a) (whole.right j a).one
-    | inr a ↦ outside_left at (g.vertex j) (g.vertex (suc j)) (second_axis j a (omega arith)) (second_axis (suc j) (omega arith) l) (whole.left j a l).two
-  ]
+  outer_left j l = grind (arith, cases_lt, outside_right, at, on_first_axis, outside_left, second_axis)
 
 pub some_faces : (steps : ℕ → Step) (n : ℕ) → IsRun steps n → 0 < n → 0 < faces_made steps n
 some_faces steps zero run l = absurd (omega arith)

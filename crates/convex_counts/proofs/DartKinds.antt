@@ -55,33 +55,18 @@ module _ (steps : ℕ → Step) (n : ℕ) (whole : IsWholeRun steps n) where
     pub up_kind : (y : ℕ) → g.count + s.vertices ≡ suc y → IsKind k i (g.vertex (s.cut (suc i))) y
     up_kind y e =
         let step = whole.turned.run k lk in
-        let some = step.some_vertex in
-        let t = step.high i li in
-        let h = second_third steps n whole.turned k i lk li (s.cut (suc i)) y t (omega arith) (omega arith) (omega arith) in
-        elim (cases_lt (suc i) s.faces) [
-          | inl more ↦
-              let m = step.low (suc i) more in
-              let new : y ≡ g.count = elim step.single [ inl one ↦ omega arith | inr one ↦ absurd (omega arith) ] in
-              up_middle more refl new h (third_first steps n whole.turned k (suc i) lk more y (s.cut (suc i)) (omega arith) (omega arith) (omega arith) m)
-          | inr none ↦
-              let last : suc i ≡ s.faces = omega arith in
-              let there = ap g.vertex (ap s.cut last ∙ step.end) in
-              IsKind-at k i (g.vertex s.last) y (g.vertex (s.cut (suc i))) y (sym there) refl
-              (up_last last refl e (subst (λ x. IsSecondThird at x y) there h) (one_at_last steps n k whole.turned.run lk y e))
-        ]
+        let h = second_third steps n whole.turned k i lk li (s.cut (suc i)) y (step.high i li) (omega arith) (omega arith) (omega arith) in
+        grind (arith, cases_lt, third_first, IsKind-at, IsSecondThird, at, one_at_last)
 
     pub across_kind : (y : ℕ) → g.count ≤ y → suc y < g.count + s.vertices → IsKind k i (suc y) y
     across_kind y a b =
-        let l = new_apart steps n k y whole lk a b in
         let t = on_third steps n whole.turned k i lk li (suc y) y a (omega arith) b in
-        across a refl b record { one = l; sum = t.sum }
+        across a refl b record { one = (new_apart steps n k y whole lk a b); sum = t.sum }
 
     pub down_kind : IsKind k i g.count (g.vertex (s.cut i))
     down_kind =
         let step = whole.turned.run k lk in
-        let some = step.some_vertex in
-        let t = step.low i li in
-        let h = third_first steps n whole.turned k i lk li g.count (s.cut i) (omega arith) (omega arith) (omega arith) t in
+        let h = third_first steps n whole.turned k i lk li g.count (s.cut i) (omega arith) (omega arith) (omega arith) (step.low i li) in
         elim (cases_lt 0 i) [
           | inl more ↦
               let j : ℕ = i - 1 in
@@ -89,11 +74,7 @@ module _ (steps : ℕ → Step) (n : ℕ) (whole : IsWholeRun steps n) where
               let m = step.high j (omega arith) in
               let c = ap s.cut e in
               down_middle more refl refl h (second_third steps n whole.turned k j lk (omega arith) (s.cut i) g.count (omega arith) (omega arith) (omega arith) (omega arith))
-          | inr none ↦
-              let z : i ≡ 0 = omega arith in
-              let there = ap g.vertex (ap s.cut z ∙ step.begin) in
-              IsKind-at k i g.count (g.vertex s.first) g.count (g.vertex (s.cut i)) refl (sym there)
-              (down_first z refl refl (subst (IsThirdFirst at g.count) there h) (two_at_first steps n k whole.turned.run lk))
+          | inr none ↦ grind (arith, IsKind-at, IsThirdFirst, at, two_at_first)
         ]
 
   pub kind_of : (k i x y : ℕ) → k < n → IsDartOf (stage_after steps k) (steps k) i x y → IsKind k i x y
@@ -114,14 +95,7 @@ module _ (steps : ℕ → Step) (n : ℕ) (whole : IsWholeRun steps n) where
     base : x ≡ 1 → y ≡ 0 → AreApart at x y → IsAnyKind x y
 
   pub base_apart : 0 < n → AreApart at 1 0
-  base_apart some =
-      let fall = IsFalling-run steps n whole.turned.run in
-      let f = some_faces steps n whole.turned.run some in
-      let a = fall.first_one in
-      let b = fall.first_two in
-      let c = fall.second_one in
-      let d = fall.second_two in
-      record { one = omega arith; sum = omega arith }
+  base_apart some = grind (arith, IsFalling-run, some_faces)
 
   pub right_pair : (p x y : ℕ) → p < whole.top → GoesAlong (stage_after steps n) x y p → AreOnSecond at x y
   right_pair p x y l a =

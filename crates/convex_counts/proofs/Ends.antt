@@ -20,7 +20,6 @@ record KeepsOne (g : Stage) (at : Coordinates) (a b : ℕ) : Type 0 where
 
 KeepsTwo-after : (g : Stage) (s : Step) (at : Coordinates) (a b : ℕ) → IsStep g s → a < g.count → b < g.count → KeepsTwo g at a b → KeepsTwo (after g s) (counts_after g s at) a b
 KeepsTwo-after g s at a b step la lb k =
-    let l = k.two in
     let e = gain-le s (g.place b) (g.place a) k.place in
     let m = moved-le g s step (g.place b) (g.place a) k.place in
     record {
@@ -30,7 +29,6 @@ KeepsTwo-after g s at a b step la lb k =
 
 KeepsOne-after : (g : Stage) (s : Step) (at : Coordinates) (a b : ℕ) → IsStep g s → a < g.count → b < g.count → KeepsOne g at a b → KeepsOne (after g s) (counts_after g s at) a b
 KeepsOne-after g s at a b step la lb k =
-    let l = k.one in
     let e = gain-le s (g.place a) (g.place b) k.place in
     let m = moved-le g s step (g.place a) (g.place b) k.place in
     record {
@@ -54,9 +52,7 @@ module _ (steps : ℕ → Step) (n k : ℕ) (run : IsRun steps n) (l : k < n) wh
   pub two_at_first : (face_counts steps n).two (g.vertex s.first) ≤ (face_counts steps n).two g.count
   two_at_first =
       let step = run k l in
-      let some = step.some_vertex in
       let o = order g s step in
-      let w = step.within in
       let p = stage.placed s.first (omega arith) in
       (kept_on KeepsTwo KeepsTwo-after steps n k g.count (g.vertex s.first) run l (omega arith) (omega arith)
       record {
@@ -67,8 +63,6 @@ module _ (steps : ℕ → Step) (n k : ℕ) (run : IsRun steps n) (l : k < n) wh
   pub one_at_last : (y : ℕ) → g.count + s.vertices ≡ suc y → (face_counts steps n).one (g.vertex s.last) ≤ (face_counts steps n).one y
   one_at_last y e =
       let step = run k l in
-      let some = step.some_vertex in
-      let o = order g s step in
       let w = step.within in
       let p = stage.placed s.last w in
       (kept_on KeepsOne KeepsOne-after steps n k y (g.vertex s.last) run l (omega arith) (omega arith)

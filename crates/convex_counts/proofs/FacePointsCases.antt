@@ -91,10 +91,7 @@ cube_under (suc (suc (suc (suc k)))) v l u = absurd (omega arith)
 
 cube_end : (j : ℕ) → 0 < j → suc j < 4 → suc ((stage_after cube 4).vertex j) < 8 → IsTouched cube 4 ((stage_after cube 4).vertex j)
 unfolding vertex_after
-cube_end zero a b c = absurd (omega arith)
-cube_end (suc zero) a b c = touched_sixth
-cube_end (suc (suc zero)) a b c = absurd (omega arith)
-cube_end (suc (suc (suc j))) a b c = absurd (omega arith)
+cube_end x0 a b c = grind (arith, touched_sixth)
 
 cube_touched : IsTouchedRun cube 4
 cube_touched = record { run = cube_run; some = omega arith; under = cube_under; end = cube_end }

@@ -75,13 +75,8 @@ module _ (steps : ℕ → Step) (n : ℕ) (turned : IsTurnedRun steps n) (k i : 
       let x = first_second j j' a b c d in
       let y = second_third j' v c d e f in
       let z = third_first v j e f a b in
-      let x1 = x.one in
-      let x2 = x.two in
-      let y1 = y.two in
-      let y2 = y.sum in
-      let z1 = z.one in
       let z2 = z.sum in
-      record { left = x1; within = omega arith; under = y1; up = omega arith; first_sum = z2; second_sum = omega arith }
+      record { left = x.one; within = omega arith; under = y.two; up = omega arith; first_sum = z2; second_sum = omega arith }
 
   -- not strictly, and the same place allowed
   pub first_weak_pair : (j j' : ℕ) → s.cut i ≤ j → j ≤ j' → j' ≤ s.turn i → (at.one (old j') ≡ at.one (old j)) × (at.two (old j) ≤ at.two (old j'))

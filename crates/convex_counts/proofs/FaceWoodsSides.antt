@@ -75,14 +75,12 @@ module _ (steps : ℕ → Step) (n : ℕ) (whole : IsWholeRun steps n) where
       record { at_tail = Two; at_head = Two; tail = on_second p a (omega arith) e refl; head = on_second (suc p) (omega arith) b f refl; ahead = z.0; behind = z.1 }
   kind_sides k i x y lk li (up_last a e f h l) =
       let step = whole.turned.run k lk in
-      let some = step.some_vertex in
       let t = step.high i li in
       let there = ap (steps k).cut a ∙ step.end in
       let z = second_third_sides at x y h in
       record { at_tail = Two; at_head = Three; tail = on_second (steps k).last (omega arith) (omega arith) e refl; head = on_third (omega arith) refl; ahead = z.0; behind = z.1 }
   kind_sides k i x y lk li (up_middle a e f h h') =
-      let step = whole.turned.run k lk in
-      let t = step.high i li in
+      let t = (whole.turned.run k lk).high i li in
       let z = second_third_sides at x y h in
       record { at_tail = Two; at_head = Three; tail = on_second ((steps k).cut (suc i)) t (omega arith) e refl; head = on_third (omega arith) refl; ahead = z.0; behind = z.1 }
   kind_sides k i x y lk li (across a e b h) =
@@ -95,8 +93,7 @@ module _ (steps : ℕ → Step) (n : ℕ) (whole : IsWholeRun steps n) where
       let z = third_first_sides at x y h in
       record { at_tail = Three; at_head = One; tail = on_third (omega arith) refl; head = on_first (steps k).first (omega arith) (omega arith) f refl; ahead = z.0; behind = z.1 }
   kind_sides k i x y lk li (down_middle a e f h h') =
-      let step = whole.turned.run k lk in
-      let t = step.low i li in
+      let t = (whole.turned.run k lk).low i li in
       let z = third_first_sides at x y h in
       record { at_tail = Three; at_head = One; tail = on_third (omega arith) refl; head = on_first ((steps k).cut i) (omega arith) t f refl; ahead = z.0; behind = z.1 }
 

@@ -46,32 +46,13 @@ module _ (steps : ℕ → Step) (n : ℕ) (whole : IsWholeRun steps n) (some : 0
 
   -- the new edges of a step, along the contour after it
   to_first : (k : ℕ) → k < n → GoesAlong (st (suc k)) ((st k).vertex (steps k).first) (st k).count (steps k).first
-  to_first k l =
-      let step = run k l in
-      let o = order (st k) (steps k) step in
-      let w = step.within in
-      let s = step.some_vertex in
-      let a = vertex_after-new (st k) (steps k) (suc (steps k).first) (omega arith) (omega arith) in
-      record { within = omega arith; tail = vertex_after-low (st k) (steps k) (steps k).first (omega arith); head = omega arith }
+  to_first k l = grind (arith, run, vertex_after-new, st, vertex_after-low)
 
   to_next : (k v : ℕ) → k < n → (st k).count ≤ v → suc v < (st k).count + (steps k).vertices → GoesAlong (st (suc k)) v (suc v) ((steps k).first + suc v - (st k).count)
-  to_next k v l a b =
-      let step = run k l in
-      let o = order (st k) (steps k) step in
-      let w = step.within in
-      let p : ℕ = (steps k).first + suc v - (st k).count in
-      let x = vertex_after-new (st k) (steps k) p (omega arith) (omega arith) in
-      let y = vertex_after-new (st k) (steps k) (suc p) (omega arith) (omega arith) in
-      record { within = omega arith; tail = omega arith; head = omega arith }
+  to_next k v l a b = grind (arith, run, st, vertex_after-new)
 
   to_last : (k v : ℕ) → k < n → (st k).count + (steps k).vertices ≡ suc v → GoesAlong (st (suc k)) v ((st k).vertex (steps k).last) ((steps k).first + (steps k).vertices)
-  to_last k v l e =
-      let step = run k l in
-      let o = order (st k) (steps k) step in
-      let w = step.within in
-      let s = step.some_vertex in
-      let x = vertex_after-new (st k) (steps k) ((steps k).first + (steps k).vertices) (omega arith) (omega arith) in
-      record { within = omega arith; tail = omega arith; head = vertex_after-high (st k) (steps k) (suc ((steps k).first + (steps k).vertices)) (steps k).last (omega arith) (omega arith) }
+  to_last k v l e = grind (arith, run, vertex_after-new, st, vertex_after-high)
 
   apart : (k v : ℕ) → k < n → (st k).count ≤ v → suc v < (st k).count + (steps k).vertices → AreApart at (suc v) v
   apart k v l a b =
@@ -83,9 +64,7 @@ module _ (steps : ℕ → Step) (n : ℕ) (whole : IsWholeRun steps n) (some : 0
     | inl small ↦
         let e : v ≡ 1 = omega arith in
         let b = base_apart steps n whole some in
-        let x = b.one in
-        let y = b.sum in
-        subst (Leads One) (sym e) (0, back 0 0 (omega arith) base_along, (x, omega arith, omega arith))
+        subst (Leads One) (sym e) (0, back 0 0 (omega arith) base_along, (b.one, omega arith, omega arith))
     | inr large ↦
         let z = new_step steps n v large l in
         let k = z.0 in
@@ -94,23 +73,17 @@ module _ (steps : ℕ → Step) (n : ℕ) (whole : IsWholeRun steps n) (some : 0
           | inl e ↦
               let step = run k lk in
               let f = step.some_face in
-              let m = step.some_vertex in
               let b = step.begin in
               let t = step.low 0 f in
               let h = third_first steps n whole.turned k 0 lk f (st k).count ((steps k).cut 0) (omega arith) (omega arith) (omega arith) t in
               let h' : IsThirdFirst at (st k).count ((st k).vertex (steps k).first) = subst (λ p. IsThirdFirst at (st k).count ((st k).vertex p)) b h in
-              let x = h'.one in
-              let y = h'.sum in
               let w = two_at_first steps n k run lk in
-              subst (Leads One) (sym e) ((st k).vertex (steps k).first, back (suc k) (steps k).first lk (to_first k lk), (x, w, omega arith))
+              subst (Leads One) (sym e) ((st k).vertex (steps k).first, back (suc k) (steps k).first lk (to_first k lk), (h'.one, w, omega arith))
           | inr other ↦
               let u : ℕ = v - 1 in
-              let lo = z.2 in
-              let hi = z.3 in
               let e : suc u ≡ v = omega arith in
               let h = apart k u lk (omega arith) (omega arith) in
               let x = h.one in
-              let y = h.sum in
               subst (Leads One) e (u, back (suc k) ((steps k).first + suc u - (st k).count) lk (to_next k u lk (omega arith) (omega arith)), (x, omega arith, omega arith))
         ]
   ]
@@ -120,31 +93,23 @@ module _ (steps : ℕ → Step) (n : ℕ) (whole : IsWholeRun steps n) (some : 0
     | inl small ↦
         let e : v ≡ 0 = omega arith in
         let b = base_apart steps n whole some in
-        let x = b.one in
-        let y = b.sum in
         subst (Leads Two) (sym e) (1, along 0 0 (omega arith) base_along, (omega arith, omega arith, omega arith))
     | inr large ↦
         let z = new_step steps n v large l in
         let k = z.0 in
         let lk = z.1 in
-        let lo = z.2 in
-        let hi = z.3 in
         elim (cases_lt (suc v) ((st k).count + (steps k).vertices)) [
           | inl more ↦
-              let h = apart k v lk lo more in
-              let x = h.one in
-              let y = h.sum in
-              (suc v, along (suc k) ((steps k).first + suc v - (st k).count) lk (to_next k v lk lo more), (omega arith, omega arith, omega arith))
+              let h = apart k v lk z.2 more in
+              (suc v, along (suc k) ((steps k).first + suc v - (st k).count) lk (to_next k v lk z.2 more), (omega arith, omega arith, omega arith))
           | inr none ↦
               let step = run k lk in
-              let f = step.some_face in
               let last : ℕ = (steps k).faces - 1 in
               let e : suc last ≡ (steps k).faces = omega arith in
               let c = ap (steps k).cut e ∙ step.end in
               let t = step.high last (omega arith) in
-              let h = second_third steps n whole.turned k last lk (omega arith) (steps k).last v (omega arith) (omega arith) lo hi in
+              let h = second_third steps n whole.turned k last lk (omega arith) (steps k).last v (omega arith) (omega arith) z.2 z.3 in
               let x = h.two in
-              let y = h.sum in
               let w = one_at_last steps n k run lk v (omega arith) in
               ((st k).vertex (steps k).last, along (suc k) ((steps k).first + (steps k).vertices) lk (to_last k v lk (omega arith)), (x, w, omega arith))
         ]
@@ -160,14 +125,9 @@ module _ (steps : ℕ → Step) (n : ℕ) (whole : IsWholeRun steps n) (some : 0
   covered : (k p : ℕ) → k < n → (steps k).first < p → p < (steps k).last → Leads Three ((st k).vertex p)
   covered k p l low high =
       let step = run k l in
-      let w = step.within in
-      let begin = step.begin in
-      let end = step.end in
       let f = find_face (steps k) (steps k).faces p (omega arith) (omega arith) in
       let i = f.0 in
       let li = f.1 in
-      let a = f.2 in
-      let b = f.3 in
       elim (cases_lt ((steps k).cut i) p) [
         | inl strict ↦ elim (cases_lt ((steps k).turn i) p) [
           | inl behind ↦ (
@@ -191,14 +151,11 @@ module _ (steps : ℕ → Step) (n : ℕ) (whole : IsWholeRun steps n) (some : 0
       between zero li e = let step = run k l in let b = step.begin in absurd (omega arith)
       between (suc i) li e =
           let step = run k l in
-          let m = step.some_vertex in
           let t = step.high i (omega arith) in
           let t' = step.low (suc i) li in
           let h = second_third steps n whole.turned k i l (omega arith) ((steps k).cut (suc i)) (st k).count t (omega arith) (omega arith) (omega arith) in
           let h' = third_first steps n whole.turned k (suc i) l li (st k).count ((steps k).cut (suc i)) (omega arith) (omega arith) (omega arith) t' in
-          let x = h.two in
           let y = h.sum in
-          let z = h'.one in
           subst (λ p. Leads Three ((st k).vertex p)) (sym e) ((st k).count, over k (suc i) l li refl refl (omega arith), (y, omega arith, omega arith))
 
   -- a vertex that was placed stands on the contour, or was covered
@@ -210,18 +167,14 @@ module _ (steps : ℕ → Step) (n : ℕ) (whole : IsWholeRun steps n) (some : 0
     | inr led ↦ inr led
     | inl on ↦
         let p = on.0 in
-        let m = on.1 in
-        let e = on.2 in
         let step = run z l in
-        let o = order (st z) (steps z) step in
-        let w = step.within in
         elim (cases_lt (steps z).first p) [
-          | inr low ↦ inl (p, omega arith, vertex_after-low (st z) (steps z) p low ∙ e)
+          | inr low ↦ inl (p, omega arith, vertex_after-low (st z) (steps z) p low ∙ on.2)
           | inl more ↦ elim (cases_lt p (steps z).last) [
-            | inl under ↦ inr (subst (Leads Three) e (covered z p l more under))
+            | inl under ↦ inr (subst (Leads Three) on.2 (covered z p l more under))
             | inr high ↦
                 let q : ℕ = p + (steps z).first + (steps z).vertices + 1 - (steps z).last in
-                inl (q, omega arith, vertex_after-high (st z) (steps z) q p (omega arith) (omega arith) ∙ e)
+                inl (q, omega arith, vertex_after-high (st z) (steps z) q p (omega arith) (omega arith) ∙ on.2)
           ]
         ]
   ]
@@ -231,16 +184,10 @@ module _ (steps : ℕ → Step) (n : ℕ) (whole : IsWholeRun steps n) (some : 0
     | inl small ↦ upward (λ z. Stands z v) 0 n (omega arith) (inl (v, small, refl)) (λ z a b h. stands_after z v b h)
     | inr large ↦
         let z = new_step steps n v large l in
-        let k = z.0 in
-        let lk = z.1 in
-        let lo = z.2 in
-        let hi = z.3 in
-        let step = run k lk in
-        let o = order (st k) (steps k) step in
-        let w = step.within in
-        let p : ℕ = (steps k).first + suc v - (st k).count in
-        let x = vertex_after-new (st k) (steps k) p (omega arith) (omega arith) in
-        upward (λ z. Stands z v) (suc k) n lk (inl (p, omega arith, omega arith)) (λ z a b h. stands_after z v b h)
+        let step = run z.0 z.1 in
+        let p : ℕ = (steps z.0).first + suc v - (st z.0).count in
+        let x = vertex_after-new (st z.0) (steps z.0) p (omega arith) (omega arith) in
+        upward (λ z. Stands z v) (suc z.0) n z.1 (inl (p, omega arith, omega arith)) (λ z a b h. stands_after z v b h)
   ]
 
   three_found : (v : ℕ) → v < (st n).count → suc v ≢ (st n).count → Leads Three v
@@ -248,19 +195,15 @@ module _ (steps : ℕ → Step) (n : ℕ) (whole : IsWholeRun steps n) (some : 0
     | inr led ↦ led
     | inl on ↦
         let p = on.0 in
-        let m = on.1 in
-        let e = on.2 in
-        let x = whole.within in
-        let last = whole.last in
         elim (cases_order p whole.top) [
-          | inl same ↦ absurd (ne (ap suc (sym e ∙ ap (st n).vertex same) ∙ last))
+          | inl same ↦ absurd (ne (ap suc (sym on.2 ∙ ap (st n).vertex same) ∙ whole.last))
           | inr (inl before) ↦
-              let go : GoesAlong (st n) v ((st n).vertex (suc p)) p = record { within = omega arith; tail = e; head = refl } in
+              let go : GoesAlong (st n) v ((st n).vertex (suc p)) p = record { within = omega arith; tail = on.2; head = refl } in
               ((st n).vertex (suc p), along n p (omega arith) go, second_three v ((st n).vertex (suc p)) (right_pair steps n whole p v ((st n).vertex (suc p)) before go))
           | inr (inr behind) ↦
               let q : ℕ = p - 1 in
               let f : suc q ≡ p = omega arith in
-              let go : GoesAlong (st n) ((st n).vertex q) v q = record { within = omega arith; tail = refl; head = ap (st n).vertex f ∙ e } in
+              let go : GoesAlong (st n) ((st n).vertex q) v q = record { within = omega arith; tail = refl; head = ap (st n).vertex f ∙ on.2 } in
               ((st n).vertex q, back n q (omega arith) go, first_three ((st n).vertex q) v (left_pair steps n whole q ((st n).vertex q) v (omega arith) go))
         ]
   ]

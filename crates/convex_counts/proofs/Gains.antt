@@ -75,10 +75,7 @@ gain-le s i j l = turned-le s.turn s.faces i j l
 module _ (g : Stage) (s : Step) (at : Coordinates) where
   pub one_after-older : (v : ℕ) → v < g.count → one_after g s at v + two_gain s (g.place v) ≡ at.one v + s.faces
   unfolding one_after
-  one_after-older v l =
-      let e = cond-true (ltb v g.count) (at.one v + one_gain s (g.place v)) (at.one (g.vertex s.last)) (lt-ltb v g.count l) in
-      let m = gain-most s (g.place v) in
-      omega (arith, e)
+  one_after-older v l = grind (arith, cond-true, ltb, one_gain, lt-ltb, gain-most)
 
   pub two_after-older : (v : ℕ) → v < g.count → two_after g s at v ≡ at.two v + two_gain s (g.place v)
   unfolding two_after

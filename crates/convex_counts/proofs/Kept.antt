@@ -92,38 +92,32 @@ module _ (g : Stage) (s : Step) (at : Coordinates) (a b : ℕ) (step : IsStep g 
   pub KeepsFirst-after : KeepsFirst g at a b → KeepsFirst (after g s) (counts_after g s at) a b
   KeepsFirst-after k =
       let e = same_gain k.place in
-      let h = k.are in
-      record { are = record { one = omega (arith, a1, b1, h.one); two = omega (arith, a2, b2, h.two) }; place = same_place k.place }
+      record { are = record { one = omega (arith, a1, b1, k.are.one); two = omega (arith, a2, b2, k.are.two) }; place = same_place k.place }
 
   pub KeepsSecond-after : KeepsSecond g at a b → KeepsSecond (after g s) (counts_after g s at) a b
   KeepsSecond-after k =
       let e = same_gain k.place in
-      let h = k.are in
-      record { are = record { one = omega (arith, a1, b1, h.one); two = omega (arith, a2, b2, h.two) }; place = same_place k.place }
+      record { are = record { one = omega (arith, a1, b1, k.are.one); two = omega (arith, a2, b2, k.are.two) }; place = same_place k.place }
 
   pub KeepsThird-after : KeepsThird g at a b → KeepsThird (after g s) (counts_after g s at) a b
   KeepsThird-after k =
       let e = gain-le s (g.place b) (g.place a) k.place in
-      let h = k.are in
-      record { are = record { one = omega (arith, a1, b1, h.one); sum = omega (arith, a1, b1, a2, b2, h.sum) }; place = later k.place }
+      record { are = record { one = omega (arith, a1, b1, k.are.one); sum = omega (arith, a1, b1, a2, b2, k.are.sum) }; place = later k.place }
 
   pub KeepsFirstSecond-after : KeepsFirstSecond g at a b → KeepsFirstSecond (after g s) (counts_after g s at) a b
   KeepsFirstSecond-after k =
       let e = gain-le s (g.place a) (g.place b) k.place in
-      let h = k.are in
-      record { are = record { one = omega (arith, a1, b1, h.one); two = omega (arith, a2, b2, h.two) }; place = earlier k.place }
+      record { are = record { one = omega (arith, a1, b1, k.are.one); two = omega (arith, a2, b2, k.are.two) }; place = earlier k.place }
 
   pub KeepsSecondThird-after : KeepsSecondThird g at a b → KeepsSecondThird (after g s) (counts_after g s at) a b
   KeepsSecondThird-after k =
       let e = gain-le s (g.place b) (g.place a) k.place in
-      let h = k.are in
-      record { are = record { two = omega (arith, a2, b2, h.two); sum = omega (arith, a1, b1, a2, b2, h.sum) }; place = later k.place }
+      record { are = record { two = omega (arith, a2, b2, k.are.two); sum = omega (arith, a1, b1, a2, b2, k.are.sum) }; place = later k.place }
 
   pub KeepsThirdFirst-after : KeepsThirdFirst g at a b → KeepsThirdFirst (after g s) (counts_after g s at) a b
   KeepsThirdFirst-after k =
       let e = gain-le s (g.place b) (g.place a) k.place in
-      let h = k.are in
-      record { are = record { one = omega (arith, a1, b1, h.one); sum = omega (arith, a1, b1, a2, b2, h.sum) }; place = later k.place }
+      record { are = record { one = omega (arith, a1, b1, k.are.one); sum = omega (arith, a1, b1, a2, b2, k.are.sum) }; place = later k.place }
 
 -- what holds of two vertices after a step, and is kept, holds from then on
 pub kept_on : (P : Stage → Coordinates → ℕ → ℕ → Type 0) → ((g : Stage) (s : Step) (at : Coordinates) (a b : ℕ) → IsStep g s → a < g.count → b < g.count → P g at a b → P (after g s) (counts_after g s at) a b) → (steps : ℕ → Step) (n k a b : ℕ) → IsRun steps n → k < n → a < (stage_after steps (suc k)).count → b < (stage_after steps (suc k)).count → P (stage_after steps (suc k)) (face_counts steps (suc k)) a b → P (stage_after steps n) (face_counts steps n) a b

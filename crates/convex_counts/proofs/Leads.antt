@@ -24,18 +24,14 @@ IsOff g v = (p : ℕ) → p < g.width → g.vertex p ≢ v
 module _ (g : Stage) (s : Step) (stage : IsStage g) (step : IsStep g s) where
   pub off_after : (v : ℕ) → v < g.count → IsOff g v → IsOff (after g s) v
   off_after v older off p l e =
-      let o = order g s step in
-      let w = step.within in
       elim (cases_place g s p step l) [
-        | inl c ↦ let a = c.low in off p (omega arith) (sym (vertex_after-low g s p a) ∙ e)
+        | inl c ↦ let a = c.low in off p (omega (arith, order g s step)) (sym (vertex_after-low g s p a) ∙ e)
         | inr (inl c) ↦ let m = vertex_after-new g s p c.low c.high in let a = c.low in absurd (omega arith)
         | inr (inr c) ↦ let a = c.high in off c.from c.within (sym (vertex_after-high g s p c.from (omega arith) c.to) ∙ e)
       ]
 
   pub off_covered : (q : ℕ) → s.first < q → q < s.last → IsOff (after g s) (g.vertex q)
   off_covered q low high p l e =
-      let o = order g s step in
-      let w = step.within in
       let older = stage.placed q (omega arith) in
       elim (cases_place g s p step l) [
         | inl c ↦ let a = c.low in let z = one_place g s stage step p q (omega arith) (omega arith) (sym (vertex_after-low g s p a) ∙ e) in absurd (omega arith)
@@ -91,52 +87,10 @@ module _ (steps : ℕ → Step) (n : ℕ) (whole : IsWholeRun steps n) (some : 0
   new_in k l = (run k l).some_vertex
 
   one_alone : (v u w : ℕ) → LeadsOne v u → LeadsOne v w → u ≡ w
-  one_alone v u w (base_one a b) (base_one a' b') = b ∙ sym b'
-  one_alone v u w (base_one a b) (first_one k l e f) = let z = two_vertices k in absurd (omega arith)
-  one_alone v u w (base_one a b) (next_one k l e f g) = let z = two_vertices k in absurd (omega arith)
-  one_alone v u w (first_one k l e f) (base_one a b) = let z = two_vertices k in absurd (omega arith)
-  one_alone v u w (first_one k l e f) (first_one k' l' e' f') =
-      let m = new_in k l in
-      let m' = new_in k' l' in
-      let z = new_once v k k' (omega arith) (omega arith) (omega arith) (omega arith) in
-      sym f ∙ ap (λ z. (st z).vertex (steps z).first) z ∙ f'
-  one_alone v u w (first_one k l e f) (next_one k' l' e' f' g') =
-      let m = new_in k l in
-      let z = new_once v k k' (omega arith) (omega arith) (omega arith) g' in
-      let c = at_step k k' z in
-      absurd (omega arith)
-  one_alone v u w (next_one k l e f g) (base_one a b) = let z = two_vertices k in absurd (omega arith)
-  one_alone v u w (next_one k l e f g) (first_one k' l' e' f') =
-      let m = new_in k' l' in
-      let z = new_once v k k' (omega arith) g (omega arith) (omega arith) in
-      let c = at_step k k' z in
-      absurd (omega arith)
-  one_alone v u w (next_one k l e f g) (next_one k' l' e' f' g') = omega arith
+  one_alone v u w x3 x4 = grind (arith, two_vertices, new_in, new_once, st, first, at_step)
 
   two_alone : (v u w : ℕ) → LeadsTwo v u → LeadsTwo v w → u ≡ w
-  two_alone v u w (base_two a b) (base_two a' b') = b ∙ sym b'
-  two_alone v u w (base_two a b) (last_two k l e f) = let z = two_vertices k in let m = new_in k l in absurd (omega arith)
-  two_alone v u w (base_two a b) (next_two k l e f g) = let z = two_vertices k in absurd (omega arith)
-  two_alone v u w (last_two k l e f) (base_two a b) = let z = two_vertices k in let m = new_in k l in absurd (omega arith)
-  two_alone v u w (last_two k l e f) (last_two k' l' e' f') =
-      let m = new_in k l in
-      let m' = new_in k' l' in
-      let z = new_once v k k' (omega arith) (omega arith) (omega arith) (omega arith) in
-      sym f ∙ ap (λ z. (st z).vertex (steps z).last) z ∙ f'
-  two_alone v u w (last_two k l e f) (next_two k' l' e' f' g') =
-      let m = new_in k l in
-      let z = new_once v k k' (omega arith) (omega arith) e' (omega arith) in
-      let c = at_step k k' z in
-      let d = news_at k k' z in
-      absurd (omega arith)
-  two_alone v u w (next_two k l e f g) (base_two a b) = let z = two_vertices k in absurd (omega arith)
-  two_alone v u w (next_two k l e f g) (last_two k' l' e' f') =
-      let m = new_in k' l' in
-      let z = new_once v k k' e (omega arith) (omega arith) (omega arith) in
-      let c = at_step k k' z in
-      let d = news_at k k' z in
-      absurd (omega arith)
-  two_alone v u w (next_two k l e f g) (next_two k' l' e' f' g') = omega arith
+  two_alone v u w x3 x4 = grind (arith, two_vertices, new_in, new_once, st, news_at, at_step)
 
   -- along axis three, from under a face along the contour away from its turn, or from between two faces to the new vertex
   pub data LeadsFrom (k p w : ℕ) : Type 0 where
@@ -153,47 +107,30 @@ module _ (steps : ℕ → Step) (n : ℕ) (whole : IsWholeRun steps n) (some : 0
   from_alone : (k p u w : ℕ) → k < n → LeadsFrom k p u → LeadsFrom k p w → u ≡ w
   from_alone k p u w l (back i q li a b e f) (back i' q' li' a' b' e' f') = let z : q ≡ q' = omega arith in sym f ∙ ap (st k).vertex z ∙ f'
   from_alone k p u w l (back i q li a b e f) (on i' li' a' b' f') =
-      let z = gain-first (st k) (steps k) (run k l) i p li (omega arith) b in
       let z' = gain-second (st k) (steps k) (run k l) i' p li' a' (omega arith) in
-      let c : (steps k).cut i ≡ (steps k).cut (suc i') = ap (steps k).cut (sym z ∙ z') in
-      absurd (omega arith)
+      absurd (omega (arith, ap (steps k).cut (sym (gain-first (st k) (steps k) (run k l) i p li (omega arith) b) ∙ z')))
   from_alone k p u w l (back i q li a b e f) (over i' li' a' b' f') =
-      let z = gain-first (st k) (steps k) (run k l) i p li (omega arith) b in
-      let t = (run k l).low i' li' in
-      let z' = gain-first (st k) (steps k) (run k l) i' p li' (omega arith) (omega arith) in
-      let c : (steps k).cut i ≡ (steps k).cut i' = ap (steps k).cut (sym z ∙ z') in
-      absurd (omega arith)
+      let z' = gain-first (st k) (steps k) (run k l) i' p li' (omega arith) (omega (arith, (run k l).low i' li')) in
+      absurd (omega (arith, ap (steps k).cut (sym (gain-first (st k) (steps k) (run k l) i p li (omega arith) b) ∙ z')))
   from_alone k p u w l (on i li a b f) (back i' q' li' a' b' e' f') =
       let z = gain-first (st k) (steps k) (run k l) i' p li' (omega arith) b' in
-      let z' = gain-second (st k) (steps k) (run k l) i p li a (omega arith) in
-      let c : (steps k).cut i' ≡ (steps k).cut (suc i) = ap (steps k).cut (sym z ∙ z') in
-      absurd (omega arith)
+      absurd (omega (arith, ap (steps k).cut (sym z ∙ (gain-second (st k) (steps k) (run k l) i p li a (omega arith)))))
   from_alone k p u w l (on i li a b f) (on i' li' a' b' f') = sym f ∙ f'
   from_alone k p u w l (on i li a b f) (over i' li' a' b' f') =
-      let z = gain-second (st k) (steps k) (run k l) i p li a (omega arith) in
-      let t = (run k l).low i' li' in
-      let z' = gain-first (st k) (steps k) (run k l) i' p li' (omega arith) (omega arith) in
-      let c : (steps k).cut (suc i) ≡ (steps k).cut i' = ap (steps k).cut (sym z ∙ z') in
-      absurd (omega arith)
+      let z' = gain-first (st k) (steps k) (run k l) i' p li' (omega arith) (omega (arith, (run k l).low i' li')) in
+      absurd (omega (arith, ap (steps k).cut (sym (gain-second (st k) (steps k) (run k l) i p li a (omega arith)) ∙ z')))
   from_alone k p u w l (over i li a b f) (back i' q' li' a' b' e' f') =
-      let z = gain-first (st k) (steps k) (run k l) i' p li' (omega arith) b' in
-      let t = (run k l).low i li in
-      let z' = gain-first (st k) (steps k) (run k l) i p li (omega arith) (omega arith) in
-      let c : (steps k).cut i' ≡ (steps k).cut i = ap (steps k).cut (sym z ∙ z') in
-      absurd (omega arith)
+      let z' = gain-first (st k) (steps k) (run k l) i p li (omega arith) (omega (arith, (run k l).low i li)) in
+      absurd (omega (arith, ap (steps k).cut (sym (gain-first (st k) (steps k) (run k l) i' p li' (omega arith) b') ∙ z')))
   from_alone k p u w l (over i li a b f) (on i' li' a' b' f') =
-      let z = gain-second (st k) (steps k) (run k l) i' p li' a' (omega arith) in
-      let t = (run k l).low i li in
-      let z' = gain-first (st k) (steps k) (run k l) i p li (omega arith) (omega arith) in
-      let c : (steps k).cut (suc i') ≡ (steps k).cut i = ap (steps k).cut (sym z ∙ z') in
-      absurd (omega arith)
+      let z' = gain-first (st k) (steps k) (run k l) i p li (omega arith) (omega (arith, (run k l).low i li)) in
+      absurd (omega (arith, ap (steps k).cut (sym (gain-second (st k) (steps k) (run k l) i' p li' a' (omega arith)) ∙ z')))
   from_alone k p u w l (over i li a b f) (over i' li' a' b' f') = f ∙ sym f'
 
   -- what is covered stands on no later contour
   pub off_later : (k m p v : ℕ) → k < m → m ≤ n → (steps k).first < p → p < (steps k).last → (st k).vertex p ≡ v → IsOff (st m) v
   off_later k m p v l b low high e =
       let step = run k (omega arith) in
-      let w = step.within in
       let older = (sound k (omega arith)).placed p (omega arith) in
       upward (λ z. IsOff (st z) v) (suc k) m l (subst (IsOff (st (suc k))) e (off_covered (st k) (steps k) (sound k (omega arith)) step p low high))
       (λ z a c off. let m = count-le steps k z (omega arith) in off_after (st z) (steps z) (sound z (omega arith)) (run z (omega arith)) v (omega arith) off)
@@ -207,32 +144,23 @@ module _ (steps : ℕ → Step) (n : ℕ) (whole : IsWholeRun steps n) (some : 0
     where
       at_one : k ≡ k' → LeadsFrom k' p' w → u ≡ w
       at_one z h' =
-          let x = (run k l).within in
           let x' = (run k' l').within in
           let there : (st k').vertex p ≡ v = ap (λ z. (st z).vertex p) (sym z) ∙ e in
-          let width = ap (λ z. (st z).width) z in
           let last = ap (λ z. (steps z).last) z in
-          let q : p' ≡ p = same_place k' (omega arith) p' p (omega arith) (omega arith) (e' ∙ sym there) in
+          let q : p' ≡ p = same_place k' (omega (arith, ap (λ z. (st z).width) z)) p' p (omega arith) (omega arith) (e' ∙ sym there) in
           from_alone k p u w l h (subst (λ z. LeadsFrom z p w) (sym z) (subst (λ p. LeadsFrom k' p w) q h'))
   three_alone v u w (covered k p l a b e h) (to_right p' a' e' f') = let x = whole.within in absurd (off_later k n p v l (omega arith) a b e p' (omega arith) e')
   three_alone v u w (covered k p l a b e h) (to_left p' a' b' e' f') = absurd (off_later k n p v l (omega arith) a b e (suc p') b' e')
   three_alone v u w (to_right p a e f) (covered k' p' l' a' b' e' h') = let x = whole.within in absurd (off_later k' n p' v l' (omega arith) a' b' e' p (omega arith) e)
   three_alone v u w (to_right p a e f) (to_right p' a' e' f') =
-      let x = whole.within in
-      let z = same_place n (omega arith) p p' (omega arith) (omega arith) (e ∙ sym e') in
-      sym f ∙ ap (λ p. (st n).vertex (suc p)) z ∙ f'
+      sym f ∙ ap (λ p. (st n).vertex (suc p)) (same_place n (omega (arith, whole.within)) p p' (omega arith) (omega arith) (e ∙ sym e')) ∙ f'
   three_alone v u w (to_right p a e f) (to_left p' a' b' e' f') =
-      let x = whole.within in
-      let z = same_place n (omega arith) p (suc p') (omega arith) b' (e ∙ sym e') in
-      absurd (omega arith)
+      absurd (omega (arith, same_place n (omega (arith, whole.within)) p (suc p') (omega arith) b' (e ∙ sym e')))
   three_alone v u w (to_left p a b e f) (covered k' p' l' a' b' e' h') = absurd (off_later k' n p' v l' (omega arith) a' b' e' (suc p) b e)
   three_alone v u w (to_left p a b e f) (to_right p' a' e' f') =
-      let x = whole.within in
-      let z = same_place n (omega arith) p' (suc p) (omega arith) b (e' ∙ sym e) in
-      absurd (omega arith)
+      absurd (omega (arith, same_place n (omega (arith, whole.within)) p' (suc p) (omega arith) b (e' ∙ sym e)))
   three_alone v u w (to_left p a b e f) (to_left p' a' b' e' f') =
-      let z = same_place n (omega arith) (suc p) (suc p') b b' (e ∙ sym e') in
-      sym f ∙ ap (st n).vertex (let y : p ≡ p' = omega arith in y) ∙ f'
+      sym f ∙ ap (st n).vertex (let y : p ≡ p' = omega (arith, same_place n (omega arith) (suc p) (suc p') b b' (e ∙ sym e')) in y) ∙ f'
 
   -- What rises alone leads so. Along axis one the dart itself says it, along axis two its twin.
   pub one_leads : (v u : ℕ) → IsAnyKind steps n whole v u → IsRising at One v u → LeadsOne v u
@@ -267,8 +195,7 @@ module _ (steps : ℕ → Step) (n : ℕ) (whole : IsWholeRun steps n) (some : 0
       let step = run k l in
       let c = cut-first (st k) (steps k) step i (omega arith) in
       let d = cut-last (st k) (steps k) step (suc i) li in
-      let t = step.high i li in
-      covered k (suc p) l (omega arith) (omega arith) f (back i p li (omega arith) b refl e)
+      covered k (suc p) l (omega arith) (omega (arith, step.high i li)) f (back i p li (omega arith) b refl e)
   back_leads v u (made k i l li (turn p a e f h)) m r = let x = h.one in absurd (omega arith)
   back_leads v u (made k i l li (second p a b e f h)) m r = let x = h.two in absurd (omega arith)
   back_leads v u (made k i l li (up_last a e f h y)) m r = let x = h.two in absurd (omega arith)
@@ -285,17 +212,14 @@ module _ (steps : ℕ → Step) (n : ℕ) (whole : IsWholeRun steps n) (some : 0
   three_leads v u (made k i l li (turn p a e f h)) z r = let x = h.two in absurd (omega arith)
   three_leads v u (made k i l li (second p a b e f h)) z r =
       let step = run k l in
-      let t = step.low i li in
       let c = cut-first (st k) (steps k) step i (omega arith) in
       let d = cut-last (st k) (steps k) step (suc i) li in
-      covered k p l (omega arith) (omega arith) e (on i li a b f)
+      covered k p l (omega (arith, step.low i li)) (omega arith) e (on i li a b f)
   three_leads v u (made k i l li (up_last a e f h m)) z r = back_leads v u z m r
   three_leads v u (made k i l li (up_middle a e f h h')) z r =
       let step = run k l in
       let c = cut-lt (st k) (steps k) step 0 (suc i) (omega arith) (omega arith) in
       let d = cut-lt (st k) (steps k) step (suc i) (steps k).faces a (omega arith) in
-      let b = step.begin in
-      let y = step.end in
       covered k ((steps k).cut (suc i)) l (omega arith) (omega arith) e (over (suc i) a (omega arith) refl f)
   three_leads v u (made k i l li (across a e b h)) z r = let x = h.one in absurd (omega arith)
   three_leads v u (made k i l li (down_first a e f h m)) z r = let x = h.one in absurd (omega arith)

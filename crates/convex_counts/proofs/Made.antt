@@ -76,14 +76,10 @@ module _ (g : Stage) (s : Step) (at : Coordinates) (m : ℕ) (stage : IsStage g)
   moved-first j a b =
       let lt = last_turn g s step in
       let c = turn-le g s step i (s.faces - 1) (omega arith) (omega arith) in
-      let some = step.some_face in
-      let begin = step.begin in
-      let o = order g s step in
       elim (cases_lt 0 i) [
         | inl more ↦
             let d = cut-le g s step 1 i more (omega arith) in
-            let e = step.high 0 some in
-            let f = first_turn g s step in
+            let e = step.high 0 step.some_face in
             inr (more, moved-between j (omega arith) (omega arith))
         | inr none ↦
             let zero_i : i ≡ 0 = omega arith in
@@ -104,12 +100,9 @@ module _ (g : Stage) (s : Step) (at : Coordinates) (m : ℕ) (stage : IsStage g)
   -- and so does the second: to the single new vertex, or to the last place
   moved-second : (j : ℕ) → s.turn i < j → j ≤ s.cut (suc i) → ((suc i < s.faces) × (moved s j ≡ suc s.first)) ⊎ ((suc i ≡ s.faces) × (moved s j ≡ s.first + s.vertices + 1))
   moved-second j a b =
-      let lt = last_turn g s step in
-      let some = step.some_face in
       let c0 = turn-le g s step 0 i (omega arith) l in
       let f = first_turn g s step in
       let cl = cut-last g s step (suc i) l in
-      let end = step.end in
       elim (cases_lt (suc i) s.faces) [
         | inl more ↦
             let d = step.low (suc i) more in
@@ -118,16 +111,14 @@ module _ (g : Stage) (s : Step) (at : Coordinates) (m : ℕ) (stage : IsStage g)
         | inr none ↦
             let last_i : suc i ≡ s.faces = omega arith in
             let e : s.faces - 1 ≡ i = omega arith in
-            let ti = ap s.turn e in
-            let ci = ap s.cut last_i in
             inr (
               last_i,
               elim (cases_moved g s step j) [
-                | inl z ↦ let z' = z.low in absurd (omega arith)
-                | inr (inl z) ↦ let z' = z.high in absurd (omega arith)
-                | inr (inr (inl z)) ↦ let z' = z.high in absurd (omega arith)
+                | inl z ↦ let z' = z.low in absurd (omega (arith, ap s.turn e))
+                | inr (inl z) ↦ let z' = z.high in absurd (omega (arith, ap s.turn e))
+                | inr (inr (inl z)) ↦ let z' = z.high in absurd (omega (arith, ap s.turn e))
                 | inr (inr (inr (inl z))) ↦ z.to
-                | inr (inr (inr (inr z))) ↦ let z' = z.low in let z'' = z.to in omega arith
+                | inr (inr (inr (inr z))) ↦ let z' = z.low in let z'' = z.to in omega (arith, ap s.turn e)
               ],
             )
       ]
@@ -143,8 +134,6 @@ module _ (g : Stage) (s : Step) (at : Coordinates) (m : ℕ) (stage : IsStage g)
       let along = along_first (j' - j) j a (omega arith) in
       let along0 = ap (λ z. at.one (old z)) e in
       let along1 = ap (λ z. at.two (old z)) e in
-      let x0 = along.0 in
-      let x1 = along.1 in
       let p = one_first j a (omega arith) in
       let p' = one_first j' (omega arith) c in
       let q = two_first j a (omega arith) in
@@ -154,10 +143,7 @@ module _ (g : Stage) (s : Step) (at : Coordinates) (m : ℕ) (stage : IsStage g)
         place =
             let u = place_old j (within_first j (omega arith)) in
             let u' = place_old j' (within_first j' c) in
-            elim (moved-first j a (omega arith)) [
-              | inl z ↦ let z0 = z.0 in let z1 = z.1 in elim (moved-first j' (omega arith) c) [ inl y ↦ let y1 = y.1 in omega arith | inr y ↦ let y0 = y.0 in absurd (omega arith) ]
-              | inr z ↦ let z0 = z.0 in let z1 = z.1 in elim (moved-first j' (omega arith) c) [ inl y ↦ let y0 = y.0 in absurd (omega arith) | inr y ↦ let y1 = y.1 in omega arith ]
-            ];
+            grind (arith, moved-first);
       }
 
   pub second_made : (j j' : ℕ) → s.turn i < j → j < j' → j' ≤ s.cut (suc i) → KeepsSecond (after g s) to (old j) (old j')
@@ -166,8 +152,6 @@ module _ (g : Stage) (s : Step) (at : Coordinates) (m : ℕ) (stage : IsStage g)
       let along = along_second (j' - j) j a (omega arith) in
       let along0 = ap (λ z. at.one (old z)) e in
       let along1 = ap (λ z. at.two (old z)) e in
-      let x0 = along.0 in
-      let x1 = along.1 in
       let p = one_second j a (omega arith) in
       let p' = one_second j' (omega arith) c in
       let q = two_second j a (omega arith) in
@@ -177,10 +161,7 @@ module _ (g : Stage) (s : Step) (at : Coordinates) (m : ℕ) (stage : IsStage g)
         place =
             let u = place_old j (within_second j (omega arith)) in
             let u' = place_old j' (within_second j' c) in
-            elim (moved-second j a (omega arith)) [
-              | inl z ↦ let z0 = z.0 in let z1 = z.1 in elim (moved-second j' (omega arith) c) [ inl y ↦ let y1 = y.1 in omega arith | inr y ↦ let y0 = y.0 in absurd (omega arith) ]
-              | inr z ↦ let z0 = z.0 in let z1 = z.1 in elim (moved-second j' (omega arith) c) [ inl y ↦ let y0 = y.0 in absurd (omega arith) | inr y ↦ let y1 = y.1 in omega arith ]
-            ];
+            grind (arith, moved-second);
       }
 
   pub first_second_made : (j j' : ℕ) → s.cut i ≤ j → j ≤ s.turn i → s.turn i < j' → j' ≤ s.cut (suc i) → KeepsFirstSecond (after g s) to (old j) (old j')
@@ -198,11 +179,10 @@ module _ (g : Stage) (s : Step) (at : Coordinates) (m : ℕ) (stage : IsStage g)
 
   pub second_third_made : (j v : ℕ) → s.turn i < j → j ≤ s.cut (suc i) → g.count ≤ v → v < g.count + s.vertices → KeepsSecondThird (after g s) to (old j) v
   second_third_made j v a b c d =
-      let w = step.within in
       let lo = cut-first g s step i (omega arith) in
       let hi = cut-last g s step (suc i) l in
       let tu = step.low i l in
-      let f = h.falls j s.last (omega arith) w in
+      let f = h.falls j s.last (omega arith) step.within in
       let r = h.rises s.first j (omega arith) (within_second j b) in
       let p = one_second j a b in
       let q = two_second j a b in
@@ -212,19 +192,15 @@ module _ (g : Stage) (s : Step) (at : Coordinates) (m : ℕ) (stage : IsStage g)
       let n = place_new v c in
       record {
         are = record { two = omega arith; sum = omega arith };
-        place = elim (moved-second j a b) [
-          | inl z ↦ let z0 = z.0 in let z1 = z.1 in elim step.single [ inl one ↦ omega arith | inr one ↦ absurd (omega arith) ]
-          | inr z ↦ let z1 = z.1 in omega arith
-        ];
+        place = grind (arith, moved-second);
       }
 
   pub third_first_made : (v j : ℕ) → g.count ≤ v → v < g.count + s.vertices → s.cut i ≤ j → j ≤ s.turn i → KeepsThirdFirst (after g s) to v (old j)
   third_first_made v j c d a b =
-      let w = step.within in
       let lo = cut-first g s step i (omega arith) in
       let hi = cut-last g s step (suc i) l in
       let tu = step.high i l in
-      let f = h.falls j s.last (omega arith) w in
+      let f = h.falls j s.last (omega arith) step.within in
       let r = h.rises s.first j (omega arith) (within_first j b) in
       let p = one_first j a b in
       let q = two_first j a b in
@@ -238,11 +214,4 @@ module _ (g : Stage) (s : Step) (at : Coordinates) (m : ℕ) (stage : IsStage g)
       }
 
   pub third_made : (v v' : ℕ) → g.count ≤ v' → v' ≤ v → KeepsThird (after g s) to v v'
-  third_made v v' a b =
-      let x = one_after-new g s at v (omega arith) in
-      let y = two_after-new g s at v (omega arith) in
-      let x' = one_after-new g s at v' a in
-      let y' = two_after-new g s at v' a in
-      let n = place_new v (omega arith) in
-      let n' = place_new v' a in
-      record { are = record { one = omega arith; sum = omega arith }; place = omega arith }
+  third_made v v' a b = grind (arith, one_after-new, two_after-new, place_new)

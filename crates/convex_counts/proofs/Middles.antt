@@ -2,7 +2,7 @@
 use Rattle.std.proofs.Common.{◌≡◌, ◌⊎◌, ℕ, suc, ◌+◌, ◌*◌, ◌<◌, ◌≤◌, ℤ, pos, ◌+ℤ◌, ◌-ℤ◌, ◌*ℤ◌, ◌<ℤ◌, ◌≤ℤ◌, sym, ap, ap₂, subst, ◌∙◌, inl, inr, arith}
 use Rattle.std.proofs.lemmas.Bool.{cases_lt, cases_order}
 use Rattle.std.proofs.lemmas.Int.{ints}
-use Rattle.pg_plane.specs.declared.segments.Point.{Point}
+use Rattle.pg_plane.specs.declared.grid_points.Point.{Point}
 use Rattle.pg_plane.specs.Geometry.{area}
 use Rattle.pg_plane.proofs.Ring.{ring, sums}
 use Rattle.pg_plane.proofs.Identities.{area_turned}
@@ -115,19 +115,12 @@ module _ (steps : ℕ → Step) (n : ℕ) (whole : IsWholeRun steps n) (k i : �
 
   along : (j : ℕ) → s.cut i ≤ j → j < s.cut (suc i) → HasLeft at (old j) (old (suc j)) a b c
   along j lo hi =
-      let t = st.low i li in
-      let t' = st.high i li in
       let new = st.some_vertex in
       elim (cases_order j (s.turn i)) [
         | inl e ↦
             let same = ap old e in
             let ab : pos 0 ≤ℤ area_of at (old j) (old (suc j)) b = elim (cases_lt (suc j) (s.cut (suc i))) [
-              | inl l ↦
-                  let p = first_second steps n whole.turned k i lk li j (suc j) lo (omega arith) (omega arith) hi in
-                  let q = on_second steps n whole.turned k i lk li (suc j) (s.cut (suc i)) (omega arith) l (omega arith) in
-                  let p2 = p.two in
-                  let q2 = q.two in
-                  turned_weak at (old j) (old (suc j)) b (weak _ (second_strict at (old (suc j)) b (old j) q.two q.one p.two))
+              | inl l ↦ grind (arith, first_second, on_second, turned_weak, at, old, weak, second_strict)
               | inr l ↦ let e : suc j ≡ s.cut (suc i) = omega arith in null _ (ap (λ z. area_of at (old j) (old (suc j)) (old z)) (sym e) ∙ flat_end (point_of at (old j)) (point_of at (old (suc j))))
             ] in
             let spread = spread_area at _ _ _ (three_sides steps n whole.turned k i lk li j (suc j) c lo (omega arith) (omega arith) hi (omega arith) (omega arith)) in
@@ -137,26 +130,11 @@ module _ (steps : ℕ → Step) (n : ℕ) (whole : IsWholeRun steps n) (k i : �
               third = weak _ spread;
               some = inr (inr spread);
             }
-        | inr (inl before) ↦
-            let p = on_first steps n whole.turned k i lk li j (suc j) lo (omega arith) before in
-            let q = first_weak_pair steps n whole.turned k i lk li j (s.turn i) lo (omega arith) (omega arith) in
-            let q0 = q.0 in
-            let p2 = p.two in
-            let r = first_second steps n whole.turned k i lk li j (s.cut (suc i)) lo (omega arith) t' (omega arith) in
-            let z = third_first steps n whole.turned k i lk li c j (omega arith) (omega arith) lo (omega arith) in
-            let ab = first_strict at (old j) (old (suc j)) b p.one p.two r.one in
-            record {
-              first = first_weak at (old j) (old (suc j)) a p.one (omega arith) (omega arith);
-              second = weak _ ab;
-              third = weak _ (first_strict at (old j) (old (suc j)) c p.one p.two z.one);
-              some = inr (inl ab);
-            }
+        | inr (inl before) ↦ grind (arith, on_first, first_weak_pair, first_second, st, third_first, first_strict, at, old, first_weak, weak)
         | inr (inr behind) ↦
             let p = on_second steps n whole.turned k i lk li j (suc j) behind (omega arith) hi in
             let q = second_weak_pair steps n whole.turned k i lk li j (s.cut (suc i)) behind (omega arith) (omega arith) in
-            let q0 = q.0 in
-            let p1 = p.one in
-            let r = first_second steps n whole.turned k i lk li (s.turn i) j t (omega arith) behind (omega arith) in
+            let r = first_second steps n whole.turned k i lk li (s.turn i) j (st.low i li) (omega arith) behind (omega arith) in
             let z = second_third steps n whole.turned k i lk li j c behind (omega arith) (omega arith) (omega arith) in
             let aa = second_strict at (old j) (old (suc j)) a p.two p.one r.two in
             record {
@@ -175,7 +153,6 @@ module _ (steps : ℕ → Step) (n : ℕ) (whole : IsWholeRun steps n) (k i : �
       let spread = turned_strict at b y a (turned_strict at y a b (spread_area at _ _ _ (three_sides steps n whole.turned k i lk li (s.turn i) (s.cut (suc i)) y t (omega arith) t' (omega arith) (omega arith) (omega arith)))) in
       let p = on_third steps n whole.turned k i lk li y c (omega arith) (omega arith) (omega arith) in
       let q = second_third steps n whole.turned k i lk li (s.cut (suc i)) y t' (omega arith) (omega arith) (omega arith) in
-      let q2 = q.sum in
       record {
         first = weak _ spread;
         second = null _ (flat_back (point_of at b) (point_of at y));
@@ -185,14 +162,11 @@ module _ (steps : ℕ → Step) (n : ℕ) (whole : IsWholeRun steps n) (k i : �
 
   across : (y : ℕ) → c ≤ y → suc y < c + s.vertices → HasLeft at (suc y) y a b c
   across y lo hi =
-      let t = st.low i li in
-      let t' = st.high i li in
       let less = new_apart steps n k y whole lk lo hi in
       let p = on_third steps n whole.turned k i lk li (suc y) y lo (omega arith) hi in
       let q = on_third steps n whole.turned k i lk li (suc y) c (omega arith) (omega arith) hi in
-      let q2 = q.sum in
-      let ya = third_first steps n whole.turned k i lk li (suc y) (s.turn i) (omega arith) hi t (omega arith) in
-      let yb = second_third steps n whole.turned k i lk li (s.cut (suc i)) (suc y) t' (omega arith) (omega arith) hi in
+      let ya = third_first steps n whole.turned k i lk li (suc y) (s.turn i) (omega arith) hi (st.low i li) (omega arith) in
+      let yb = second_third steps n whole.turned k i lk li (s.cut (suc i)) (suc y) (st.high i li) (omega arith) (omega arith) hi in
       let aa = third_strict at (suc y) y a p.sum less ya.sum in
       record {
         first = weak _ aa;
@@ -208,7 +182,6 @@ module _ (steps : ℕ → Step) (n : ℕ) (whole : IsWholeRun steps n) (k i : �
       let new = st.some_vertex in
       let p = first_weak_pair steps n whole.turned k i lk li (s.cut i) (s.turn i) (omega arith) t (omega arith) in
       let z = third_first steps n whole.turned k i lk li c (s.cut i) (omega arith) (omega arith) (omega arith) t in
-      let z1 = z.one in
       let spread = turned_strict at c (old (s.cut i)) b (spread_area at _ _ _ (three_sides steps n whole.turned k i lk li (s.cut i) (s.cut (suc i)) c (omega arith) t t' (omega arith) (omega arith) (omega arith))) in
       record {
         first = turned_weak at c (old (s.cut i)) a (first_weak at (old (s.cut i)) a c p.0 p.1 (omega arith));
@@ -221,13 +194,7 @@ module _ (steps : ℕ → Step) (n : ℕ) (whole : IsWholeRun steps n) (k i : �
   left_on x y h = left_of at x y a b c h.first h.second h.third (sum_positive _ _ _ h.first h.second h.third h.some)
 
   pub middle_left : (x y : ℕ) → IsAlong g s i x y ⊎ (IsUp g s i x y ⊎ (IsAcross g s i x y ⊎ IsDown g s i x y)) → pos 0 <ℤ area (thrice at x) (thrice at y) (middle steps at k i)
-  middle_left x y (inl d) = named (old d.place) (old (suc d.place)) x y d.tail d.head (left_on _ _ (along d.place d.low d.high))
-    where
-      named : (u v x y : ℕ) → u ≡ x → v ≡ y → pos 0 <ℤ area (thrice at u) (thrice at v) (middle steps at k i) → pos 0 <ℤ area (thrice at x) (thrice at y) (middle steps at k i)
-      named u v x y e f h = subst (λ z. pos 0 <ℤ area (thrice at z) (thrice at y) (middle steps at k i)) e (subst (λ z. pos 0 <ℤ area (thrice at u) (thrice at z) (middle steps at k i)) f h)
-  middle_left x y (inr (inl d)) = subst (λ z. pos 0 <ℤ area (thrice at z) (thrice at y) (middle steps at k i)) d.tail (left_on _ _ (up y d.head))
-  middle_left x y (inr (inr (inl d))) = let hi = d.high in let next = d.next in subst (λ z. pos 0 <ℤ area (thrice at z) (thrice at y) (middle steps at k i)) d.next (left_on _ _ (across y d.low (omega arith)))
-  middle_left x y (inr (inr (inr d))) = subst (λ z. pos 0 <ℤ area (thrice at z) (thrice at y) (middle steps at k i)) d.tail (subst (λ z. pos 0 <ℤ area (thrice at c) (thrice at z) (middle steps at k i)) d.head (left_on _ _ down))
+  middle_left x y x2 = grind (arith, old, left_on, along, pos, area, thrice, at, middle, up, across, down)
 
 pub middle_within : (steps : ℕ → Step) (n k i x y : ℕ) → IsWholeRun steps n → k < n → IsDartOf (stage_after steps k) (steps k) i x y → pos 0 <ℤ area (thrice (face_counts steps n) x) (thrice (face_counts steps n) y) (middle steps (face_counts steps n) k i)
 middle_within steps n k i x y whole lk d = middle_left steps n whole k i lk d.within x y d.dart

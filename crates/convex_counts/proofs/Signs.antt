@@ -17,15 +17,7 @@ for_none P a b d Three h = d h
 module _ (at : Coordinates) where
   -- no two coordinates rise alone along one edge, and none rises both ways
   pub IsRising-one : (c d : Axis) (x y : ℕ) → IsRising at c x y → IsRising at d x y → c ≡ d
-  IsRising-one One One x y h k = refl
-  IsRising-one One Two x y h k = absurd (omega arith)
-  IsRising-one One Three x y h k = absurd (omega arith)
-  IsRising-one Two One x y h k = absurd (omega arith)
-  IsRising-one Two Two x y h k = refl
-  IsRising-one Two Three x y h k = absurd (omega arith)
-  IsRising-one Three One x y h k = absurd (omega arith)
-  IsRising-one Three Two x y h k = absurd (omega arith)
-  IsRising-one Three Three x y h k = refl
+  IsRising-one x0 x1 x y h k = grind (arith, One, Two, Three)
 
   pub IsRising-other : (c : Axis) (x y : ℕ) → IsRising at c x y → ¬ IsRising at c y x
   IsRising-other One x y h k = omega arith
@@ -36,21 +28,17 @@ module _ (at : Coordinates) where
     -- along the first side, the second and the third there is one sector at both ends
     pub first_sides : AreOnFirst at x y → IsAhead (IsRising at) x y One × IsBehind (IsRising at) y x One
     first_sides h =
-        let a : IsRising at Two x y = let e = h.one in let l = h.two in (l, omega arith, omega arith) in
         let b : IsRising at Three y x = let e = h.one in let l = h.two in (omega arith, omega arith, omega arith) in
-        ((Three, out Two a refl refl), (Two, out Three b refl refl))
+        ((Three, out Two (let e = h.one in let l = h.two in (l, omega arith, omega arith)) refl refl), (Two, out Three b refl refl))
 
     pub second_sides : AreOnSecond at x y → IsAhead (IsRising at) x y Two × IsBehind (IsRising at) y x Two
     second_sides h =
-        let a : IsRising at Three x y = let e = h.two in let l = h.one in (omega arith, omega arith, omega arith) in
         let b : IsRising at One y x = let e = h.two in let l = h.one in (l, omega arith, omega arith) in
-        ((One, out Three a refl refl), (Three, out One b refl refl))
+        ((One, out Three (let e = h.two in let l = h.one in (omega arith, omega arith, omega arith)) refl refl), (Three, out One b refl refl))
 
     pub third_sides : at.one x < at.one y → at.one y + at.two y ≡ at.one x + at.two x → IsAhead (IsRising at) x y Three × IsBehind (IsRising at) y x Three
     third_sides l e =
-        let a : IsRising at One x y = (l, omega arith, omega arith) in
-        let b : IsRising at Two y x = (omega arith, omega arith, omega arith) in
-        ((Two, out One a refl refl), (One, out Two b refl refl))
+        ((Two, out One ((l, omega arith, omega arith)) refl refl), (One, out Two ((omega arith, omega arith, omega arith)) refl refl))
 
     -- from one side to the next the sector changes
     pub first_second_sides : IsFirstSecond at x y → IsAhead (IsRising at) x y One × IsBehind (IsRising at) y x Two

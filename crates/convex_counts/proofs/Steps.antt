@@ -15,35 +15,23 @@ module _ (g : Stage) (s : Step) (at : Coordinates) (m : ℕ) (stage : IsStage g)
   falls_after : (i j : ℕ) → i ≤ j → j < (after g s).width → (one_after g s at (vertex_after g s j) ≤ one_after g s at (vertex_after g s i)) × (two_after g s at (vertex_after g s i) ≤ two_after g s at (vertex_after g s j))
   falls_after i j a b =
       let o = order g s step in
-      let w = step.within in
-      let pq = h.falls s.first s.last (omega arith) w in
-      let pq' = h.rises s.first s.last (omega arith) w in
+      let pq = h.falls s.first s.last (omega arith) step.within in
       elim (cases_counted g s at stage step i (omega arith)) [
         | inl c ↦
-            let c' = c.low in
-            let c1 = c.one in
-            let c2 = c.two in
-            let ip = h.falls i s.first c' (omega arith) in
-            let ip' = h.rises i s.first c' (omega arith) in
+            let ip = h.falls i s.first c.low (omega arith) in
+            let ip' = h.rises i s.first c.low (omega arith) in
             elim (cases_counted g s at stage step j b) [
               | inl d ↦ let d' = d.low in (omega (arith, d.one, h.falls i j a (omega arith)), omega (arith, d.two, h.rises i j a (omega arith)))
               | inr (inl d) ↦ (omega (arith, d.one), omega (arith, d.two))
               | inr (inr d) ↦ let d' = d.high in let d'' = d.within in (omega (arith, d.one, h.falls i d.from (omega arith) d''), omega (arith, d.two, h.rises i d.from (omega arith) d''))
             ]
         | inr (inl c) ↦
-            let c' = c.low in
-            let c1 = c.one in
-            let c2 = c.two in
             elim (cases_counted g s at stage step j b) [
               | inl d ↦ let d' = d.low in absurd (omega arith)
               | inr (inl d) ↦ (omega (arith, d.one), omega (arith, d.two))
               | inr (inr d) ↦ let d' = d.high in let d'' = d.within in (omega (arith, d.one, h.falls s.last d.from d' d''), omega (arith, d.two, h.rises s.first d.from (omega arith) d''))
             ]
         | inr (inr c) ↦
-            let c' = c.high in
-            let c'' = c.to in
-            let c1 = c.one in
-            let c2 = c.two in
             elim (cases_counted g s at stage step j b) [
               | inl d ↦ let d' = d.low in absurd (omega arith)
               | inr (inl d) ↦ let d' = d.high in absurd (omega arith)
@@ -59,7 +47,6 @@ module _ (g : Stage) (s : Step) (at : Coordinates) (m : ℕ) (stage : IsStage g)
   IsFalling-after =
       let o = order g s step in
       let w = step.within in
-      let wide = stage.wide in
       let end : ℕ = g.width - 1 in
       let first = base_after 0 0 (omega arith) stage.begin in
       let second = base_after end 1 (omega arith) (stage.end end (omega arith)) in
@@ -77,15 +64,7 @@ module _ (g : Stage) (s : Step) (at : Coordinates) (m : ℕ) (stage : IsStage g)
       }
 
 pub IsFalling-base : IsFalling base (record { one = λ v. 0; two = λ v. 0 }) 0
-IsFalling-base = record {
-  falls = λ i j a b. omega arith;
-  rises = λ i j a b. omega arith;
-  first_one = refl;
-  first_two = refl;
-  second_one = refl;
-  second_two = refl;
-  sums = λ v l. omega arith;
-}
+IsFalling-base = grind arith
 
 pub IsFalling-run : (steps : ℕ → Step) (n : ℕ) → IsRun steps n → IsFalling (stage_after steps n) (face_counts steps n) (faces_made steps n)
 IsFalling-run steps zero run = IsFalling-base

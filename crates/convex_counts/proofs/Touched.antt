@@ -79,12 +79,7 @@ module _ (g : Stage) (s : Step) (at : Coordinates) (m : ℕ) (stage : IsStage g)
             let p = z.left.one in
             let q = z.left.two in
             inl record { place = z.place; next = next; left = record { one = omega (arith, a.one, b.one); two = omega (arith, a.two, b.two) } }
-        | inr z ↦
-            let b = counted-low g s at stage step (suc x) (omega arith) in
-            let a = counted-low g s at stage step x (omega arith) in
-            let p = z.right.one in
-            let q = z.right.two in
-            inr record { within = omega arith; right = record { one = omega (arith, a.one, b.one); two = omega (arith, a.two, b.two) } }
+        | inr z ↦ grind (arith, counted-low)
       ]
 
   high_edge : (x from : ℕ) → s.last < from → from < g.width → x + s.last ≡ from + s.first + s.vertices + 1 → HasEdge g at from → HasEdge (after g s) to x
@@ -119,12 +114,7 @@ module _ (g : Stage) (s : Step) (at : Coordinates) (m : ℕ) (stage : IsStage g)
       let o = order g s step in
       let w = step.within in
       elim (cases_place g s x step l) [
-        | inl c ↦
-            let lo = c.low in
-            elim (cases_lt x s.first) [
-              | inl below ↦ low_edge x below (edged x (omega arith) (sym (vertex_after-low g s x lo) ∙ e))
-              | inr same ↦ right_made x (omega arith)
-            ]
+        | inl c ↦ grind (arith, cases_lt, low_edge, vertex_after-low, right_made)
         | inr (inl c) ↦ let n = vertex_after-new g s x c.low c.high in let lo = c.low in absurd (omega arith)
         | inr (inr c) ↦
             let hi = c.high in

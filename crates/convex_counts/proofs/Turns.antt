@@ -10,18 +10,7 @@ use Rattle.convex_counts.specs.Turns.{goes_left, turn_from, with_turns, state, w
 module _ (g : Stage) (at : Coordinates) where
   cases_left : (j : ℕ) → ((goes_left g at j ≡ true) × IsLeft g at j) ⊎ ((goes_left g at j ≡ false) × ¬ IsLeft g at j)
   unfolding goes_left
-  cases_left j =
-      let o = at.one (g.vertex j) in
-      let o' = at.one (g.vertex (suc j)) in
-      let t = at.two (g.vertex j) in
-      let t' = at.two (g.vertex (suc j)) in
-      elim (cases_eq o' o) [
-        | inl e ↦ elim (cases_lt t t') [
-          | inl l ↦ inl (ap₂ (λ x y. x && y) (eq-eqb o' o e) (lt-ltb t t' l), record { one = e; two = l })
-          | inr l ↦ inr (ap₂ (λ x y. x && y) (eq-eqb o' o e) (le-ltb t t' l), λ h. let x = h.two in omega arith)
-        ]
-        | inr ne ↦ inr (ap (λ x. x && ltb t t') (ne_eqb o' o ne), λ h. ne h.one)
-      ]
+  cases_left j = grind (arith, cases_eq, cases_lt, ap₂, eq-eqb, lt-ltb, le-ltb, ltb, ne_eqb)
 
   -- the place that is found
   pub record IsFound (j d t : ℕ) : Type 0 where
@@ -46,22 +35,12 @@ module _ (g : Stage) (at : Coordinates) where
   found zero j = let e = turn_from-end j in record { low = omega arith; high = omega arith; left = λ x a b. absurd (omega arith); stop = inl (omega arith) }
   found (suc d) j = elim (cases_left j) [
     | inl here ↦
-        let e = turn_from-left j d here.0 in
-        let f = found d (suc j) in
-        subst (λ z. IsFound j (suc d) z) (sym e) (further j d (turn_from g at (suc j) d) here.1 f)
+        subst (λ z. IsFound j (suc d) z) (sym (turn_from-left j d here.0)) (further j d (turn_from g at (suc j) d) here.1 (found d (suc j)))
     | inr here ↦ subst (λ z. IsFound j (suc d) z) (sym (turn_from-stop j d here.0)) record { low = omega arith; high = omega arith; left = λ x a b. absurd (omega arith); stop = inr here.1 }
   ]
     where
       further : (j d t : ℕ) → IsLeft g at j → IsFound (suc j) d t → IsFound j (suc d) t
-      further j d t here f =
-          let lo = f.low in
-          let hi = f.high in
-          record {
-            low = omega arith;
-            high = omega arith;
-            left = λ x a b. elim (cases_lt j x) [ inl l ↦ f.left x l b | inr l ↦ (let e : j ≡ x = omega arith in subst (λ z. IsLeft g at z) e here) ];
-            stop = elim f.stop [ inl e ↦ inl (omega arith) | inr no_left ↦ inr no_left ];
-          }
+      further j d t here f = grind (arith, cases_lt, IsLeft)
 
 -- the stages of a run with its turns read off
 pub stage_is : (steps : ℕ → Step) (k : ℕ) → (stage_after (well_turned steps) k ≡ (state steps k).stage) × (face_counts (well_turned steps) k ≡ (state steps k).counts)
@@ -87,16 +66,7 @@ contours_as_before steps (suc k) =
 
 -- a step stays one with its turns read off
 step_turned : (g h : Stage) (at : Coordinates) (s : Step) → g.width ≡ h.width → IsStep h s → IsStep g (with_turns g at s)
-step_turned g h at s e step = record {
-  some_face = step.some_face;
-  some_vertex = step.some_vertex;
-  single = step.single;
-  begin = step.begin;
-  end = step.end;
-  low = λ i l. (found g at (s.cut (suc i) - s.cut i - 1) (s.cut i)).low;
-  high = λ i l. let a = step.low i l in let b = step.high i l in let f = (found g at (s.cut (suc i) - s.cut i - 1) (s.cut i)).high in omega arith;
-  within = let w = step.within in omega arith;
-}
+step_turned g h at s e step = grind (arith, found)
 
 pub run_turned : (steps : ℕ → Step) (n : ℕ) → IsRun steps n → IsRun (well_turned steps) n
 run_turned steps n run k l =

@@ -41,33 +41,24 @@ module _ (g : Stage) (s : Step) (i : ℕ) where
     dart_at : (x y : ℕ) → IsDartOf g s i x y → (r : ℕ) × (IsInside g s i r x y ⊎ IsClosing g s i r x y)
     dart_at x y d =
         let rise = cut-next g s step i li in
-        let some = step.some_vertex in
-        let m : ℕ = s.cut (suc i) + 1 - s.cut i in
         elim d.dart [
           | inl a ↦
               let r : ℕ = a.place - s.cut i in
-              let lo = a.low in
-              let hi = a.high in
               let e : s.cut i + r ≡ a.place = omega arith in
               let f : s.cut i + suc r ≡ suc a.place = omega arith in
               (r, inl record { within = omega arith; tail = vertex-old r (omega arith) ∙ ap g.vertex e ∙ a.tail; head = vertex-old (suc r) (omega arith) ∙ ap g.vertex f ∙ a.head })
           | inr (inl a) ↦
-              let r : ℕ = m - 1 in
+              let r : ℕ = (s.cut (suc i) + 1 - s.cut i) - 1 in
               let e : s.cut i + r ≡ s.cut (suc i) = omega arith in
-              let h = a.head in
               let new = vertex-new (suc r) (omega arith) (omega arith) in
               (r, inl record { within = omega arith; tail = vertex-old r (omega arith) ∙ ap g.vertex e ∙ a.tail; head = omega arith })
           | inr (inr (inl a)) ↦
-              let lo = a.low in
-              let hi = a.high in
-              let next = a.next in
               let r : ℕ = g.count + face_length s i - suc x in
               let new = vertex-new r (omega arith) (omega arith) in
               let new' = vertex-new (suc r) (omega arith) (omega arith) in
               (r, inl record { within = omega arith; tail = omega arith; head = omega arith })
           | inr (inr (inr a)) ↦
               let r : ℕ = face_length s i - 1 in
-              let t = a.tail in
               let e : s.cut i + 0 ≡ s.cut i = omega arith in
               let new = vertex-new r (omega arith) (omega arith) in
               (r, inr record { last = omega arith; tail = omega arith; head = vertex-old 0 (omega arith) ∙ ap g.vertex e ∙ a.head })
@@ -76,23 +67,8 @@ module _ (g : Stage) (s : Step) (i : ℕ) where
     -- each vertex is passed once
     passed_once : (r t : ℕ) → r < face_length s i → t < face_length s i → face_vertex g s i r ≡ face_vertex g s i t → r ≡ t
     passed_once r t l m e =
-        let w = step.within in
         let c = cut-last g s step (suc i) li in
-        elim (cases_lt (s.cut (suc i)) (s.cut i + r)) [
-          | inr a ↦
-              let p = stage.placed (s.cut i + r) (omega arith) in
-              let o = vertex-old r a in
-              elim (cases_lt (s.cut (suc i)) (s.cut i + t)) [
-                | inr b ↦ let same = one_place g s stage step (s.cut i + r) (s.cut i + t) (omega arith) (omega arith) (sym o ∙ e ∙ vertex-old t b) in omega arith
-                | inl b ↦ let n = vertex-new t b m in absurd (omega arith)
-              ]
-          | inl a ↦
-              let n = vertex-new r a l in
-              elim (cases_lt (s.cut (suc i)) (s.cut i + t)) [
-                | inr b ↦ let p = stage.placed (s.cut i + t) (omega arith) in let o = vertex-old t b in absurd (omega arith)
-                | inl b ↦ let n' = vertex-new t b m in omega arith
-              ]
-        ]
+        grind (arith, cases_lt, vertex-old, one_place, vertex-new)
 
     -- and at each corner the walk does not bend inwards, where the face does not
     module _ (at : Coordinates) (convex : (r r' r'' : ℕ) → r < r' → r' < r'' → r'' < face_length s i → pos 0 ≤ℤ area (point_of at (face_vertex g s i r)) (point_of at (face_vertex g s i r')) (point_of at (face_vertex g s i r''))) where

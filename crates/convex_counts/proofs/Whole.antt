@@ -24,8 +24,6 @@ module _ (g : Stage) (at : Coordinates) (s : Step) (edged : (i x : ℕ) → i < 
   right_from : (i d : ℕ) → i < s.faces → suc (turn i + d) < s.cut (suc i) → IsRight g at (suc (turn i + d))
   right_from i zero l b =
       let f = found g at (s.cut (suc i) - s.cut i - 1) (s.cut i) in
-      let lo = f.low in
-      let e : suc (turn i + 0) ≡ suc (turn i) = omega arith in
       elim (edged i (suc (turn i + 0)) l (omega arith) b) [
         | inl z ↦ let next = z.next in elim f.stop [ inl end ↦ absurd (omega arith) | inr no_left ↦ absurd (no_left (subst (λ x. IsLeft g at x) (let same : z.place ≡ turn i = omega arith in same) z.left)) ]
         | inr z ↦ z.right
@@ -33,7 +31,6 @@ module _ (g : Stage) (at : Coordinates) (s : Step) (edged : (i x : ℕ) → i < 
   right_from i (suc d) l b =
       let less = right_from i d l (omega arith) in
       let f = found g at (s.cut (suc i) - s.cut i - 1) (s.cut i) in
-      let lo = f.low in
       elim (edged i (suc (turn i + suc d)) l (omega arith) b) [
         | inl z ↦ let next = z.next in absurd (left_or_right g at (suc (turn i + d)) (subst (λ x. IsLeft g at x) (let same : z.place ≡ suc (turn i + d) = omega arith in same) z.left) less)
         | inr z ↦ z.right
@@ -47,14 +44,7 @@ module _ (g : Stage) (at : Coordinates) (s : Step) (edged : (i x : ℕ) → i < 
 
 -- what is touched stays touched
 touched_as_before : (steps : ℕ → Step) (n v : ℕ) → IsTouched steps n v → IsTouched (well_turned steps) n v
-touched_as_before steps n v t =
-    let k = t.step in
-    let same = (contours_as_before steps k).2 in
-    record {
-      step = k;
-      earlier = t.earlier;
-      end = elim t.end [ inl e ↦ inl (ap (λ (x : ℕ → ℕ). x (steps k).first) same ∙ e) | inr e ↦ inr (ap (λ (x : ℕ → ℕ). x (steps k).last) same ∙ e) ];
-    }
+touched_as_before steps n v t = grind (arith, contours_as_before)
 
 module _ (steps : ℕ → Step) (n : ℕ) (t : IsTouchedRun steps n) where
   abbrev ws : ℕ → Step
@@ -66,7 +56,6 @@ module _ (steps : ℕ → Step) (n : ℕ) (t : IsTouchedRun steps n) where
   under_edged : (k : ℕ) → k < n → (i x : ℕ) → i < (steps k).faces → (steps k).cut i < x → x < (steps k).cut (suc i) → HasEdge (stage_after ws k) (face_counts ws k) x
   under_edged k l i x li a b =
       let step = run k l in
-      let w = step.within in
       let hi = cut-last (stage_after ws k) (ws k) step (suc i) li in
       let v = (stage_after steps k).vertex x in
       let touched = touched_as_before steps k v (t.under k v l record { face = i; place = x; within = li; low = a; high = b; vertex = refl }) in
@@ -103,18 +92,7 @@ module _ (steps : ℕ → Step) (n : ℕ) (t : IsTouchedRun steps n) where
   module _ (top : ℕ) (within : top < g.width) (last : suc (g.vertex top) ≡ g.count) where
     -- a place of the contour but that of the last vertex has an edge
     edged_inner : (j : ℕ) → 0 < j → suc j < g.width → j ≢ top → HasEdge g at j
-    edged_inner j a b ne =
-        let p = stage.placed j (omega arith) in
-        let same = contours_as_before steps n in
-        let width = same.0 in
-        let count = same.1 in
-        let vertex = ap (λ (f : ℕ → ℕ). f j) same.2 in
-        elim (cases_lt (suc (g.vertex j)) g.count) [
-          | inl less ↦ edged_run ws n (g.vertex j) run (subst (λ v. IsTouched ws n v) (sym vertex) (touched_as_before steps n ((stage_after steps n).vertex j) (t.end j a (omega arith) (omega arith)))) j (omega arith) refl
-          | inr more ↦
-              let e : g.vertex j ≡ g.vertex top = omega arith in
-              absurd (ne (sym (stage.own j (omega arith)) ∙ ap g.place e ∙ stage.own top within))
-        ]
+    edged_inner j a b ne = grind (arith, stage, contours_as_before, cases_lt, edged_run, ws, run, IsTouched, touched_as_before, stage_after)
 
     rights : (j : ℕ) → j < top → IsRight g at j
     rights zero l = elim (edged_run ws n 0 run touched_first 0 (omega arith) stage.begin) [ inl z ↦ let e = z.next in absurd (omega arith) | inr z ↦ z.right ]
@@ -131,10 +109,9 @@ module _ (steps : ℕ → Step) (n : ℕ) (t : IsTouchedRun steps n) where
       | inr z ↦ let w = z.within in absurd (omega arith)
     ]
     lefts (suc d) j e l =
-        let more = lefts d (suc j) (omega arith) (omega arith) in
         elim (edged_inner (suc j) (omega arith) (omega arith) (λ f. omega arith)) [
           | inl z ↦ let f = z.next in subst (λ x. IsLeft g at x) (let same : z.place ≡ j = omega arith in same) z.left
-          | inr z ↦ absurd (left_or_right g at (suc j) more z.right)
+          | inr z ↦ absurd (left_or_right g at (suc j) (lefts d (suc j) (omega arith) (omega arith)) z.right)
         ]
 
     whole_at : IsWholeRun ws n
@@ -151,14 +128,10 @@ module _ (steps : ℕ → Step) (n : ℕ) (t : IsTouchedRun steps n) where
 last_place : (steps : ℕ → Step) (n : ℕ) → IsRun steps n → 0 < n → (x : ℕ) × (x < (stage_after steps n).width) × (suc ((stage_after steps n).vertex x) ≡ (stage_after steps n).count)
 last_place steps zero run some = absurd (omega arith)
 last_place steps (suc n) run some =
-    let g = stage_after steps n in
     let s = steps n in
     let step = run n (omega arith) in
-    let o = order g s step in
-    let w = step.within in
-    let new = step.some_vertex in
     let x : ℕ = s.first + s.vertices in
-    let e = vertex_after-new g s x (omega arith) (omega arith) in
+    let e = vertex_after-new (stage_after steps n) s x (omega arith) (omega arith) in
     (x, omega arith, omega arith)
 
 pub touched_turns : (steps : ℕ → Step) (n : ℕ) → IsTouchedRun steps n → IsWholeRun (well_turned steps) n

@@ -5,7 +5,7 @@ use Rattle.map_theory.specs.Maps.{IsPlane, HasDart, list_of, face_count}
 use Rattle.convex_peeling.proofs.Neighbours.{three_neighbours}
 use Rattle.convex_orders.specs.declared.map_tables.Tables.{Tables}
 use Rattle.std.proofs.lemmas.List.Elements.{Contains-get_or}
-use Rattle.pg_plane.specs.declared.segments.Point.{Point}
+use Rattle.pg_plane.specs.declared.grid_points.Point.{Point}
 use Rattle.pg_plane.specs.declared.figures.GridFigure.{GridFigure}
 use Rattle.convex_counts.specs.Counts.{face_counts}
 use Rattle.convex_counts.specs.Turns.{well_turned}

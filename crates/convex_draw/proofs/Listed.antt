@@ -8,7 +8,7 @@ use Rattle.convex_counts.proofs.Turns.{stage_is, contours_as_before}
 use Rattle.convex_laws.specs.declared.convex_rows.rows.ConvexRows.{ConvexRows}
 use Rattle.convex_laws.proofs.ConvexWoodsTurned.{faces_made-well_turned}
 use Rattle.convex_draw.specs.Runs.{IsCountRun}
-use Rattle.pg_plane.specs.declared.segments.Point.{Point}
+use Rattle.pg_plane.specs.declared.grid_points.Point.{Point}
 use Rattle.convex_counts.proofs.Steps.{IsFalling-run}
 use Rattle.convex_draw.specs.declared.convex_points.spots.Spot.{Spot}
 use Rattle.convex_draw.specs.Spots.{spot_of}

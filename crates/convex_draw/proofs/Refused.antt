@@ -4,7 +4,7 @@ use Rattle.std.proofs.lemmas.Int.{ints}
 use Rattle.map_lists.specs.Lists.{Lists}
 use Rattle.map_theory.specs.Maps.{Dart, HasDart, IsPlane, face_count}
 use Rattle.map_theory.proofs.DartLemmas.{HasDart-at}
-use Rattle.pg_plane.specs.declared.segments.Point.{Point}
+use Rattle.pg_plane.specs.declared.grid_points.Point.{Point}
 use Rattle.pg_plane.specs.declared.figures.GridFigure.{GridFigure}
 use Rattle.plane_drawings.specs.Drawing.{place}
 use Rattle.convex_peeling.specs.Polyhedral.{IsThreeConnected}

@@ -1,6 +1,6 @@
 -- The points of a run.
 use Rattle.std.specs.Prelude.{ℕ, ◌<◌, ◌≡◌, List, length, pos}
-use Rattle.pg_plane.specs.declared.segments.Point.{Point}
+use Rattle.pg_plane.specs.declared.grid_points.Point.{Point}
 use Rattle.plane_drawings.specs.Drawing.{place}
 use Rattle.contour_runs.specs.Wood.{Coordinates, point_of}
 use Rattle.contour_runs.specs.FaceRuns.{Step, faces_made}

@@ -5,7 +5,7 @@ use Rattle.map_theory.specs.Maps.{Dart, HasDart, IsPlane, follows, component_cou
 use Rattle.std.specs.Option.{option_map}
 use Rattle.half_edges.specs.Map.{Map, IsHalfMap, IsLive, dart_at, next_dart, id_bound}
 use Rattle.euler_faces.proofs.NumberLemmas.{live_from, live-lt}
-use Rattle.pg_plane.specs.declared.segments.Point.{Point}
+use Rattle.pg_plane.specs.declared.grid_points.Point.{Point}
 use Rattle.plane_drawings.specs.Drawing.{place}
 use Rattle.vertex_rounds.specs.Rounds.{dart_of}
 use Rattle.vertex_rounds.proofs.DartIds.{dart_of-is, dart_of-live}

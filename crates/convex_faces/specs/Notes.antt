@@ -1,6 +1,6 @@
 -- Darts that lead along an axis, noted at their vertices.
 use Rattle.std.specs.Prelude.{ℕ, ◌<◌, ◌≡◌, List, slice_index, Some}
-use Rattle.pg_plane.specs.declared.segments.Point.{Point}
+use Rattle.pg_plane.specs.declared.grid_points.Point.{Point}
 use Rattle.plane_drawings.specs.Drawing.{place}
 use Rattle.half_edges.specs.Map.{Map, dart_at}
 use Rattle.convex_counts.specs.declared.face_woods.axis.Axis.{Axis}

@@ -27,16 +27,11 @@ module _ (steps : ℕ → Step) (n : ℕ) (run : IsRun steps n) where
   pub base_outside : (k i x y : ℕ) → k < n → IsDartOf (at_stage k) (steps k) i x y → x ≡ 1 → y ≡ 0 → ⊥
   base_outside k i x y l h ex ey =
       let g = sound_at k (omega arith) in
-      let li = h.within in
-      let some = (run k l).some_vertex in
-      let two = count-le steps 0 k (omega arith) in
       elim h.dart [
         | inl a ↦
-            let c = cut-last (at_stage k) (steps k) (run k l) (suc i) li in
-            let hi = a.high in
+            let c = cut-last (at_stage k) (steps k) (run k l) (suc i) h.within in
             let w = (run k l).within in
             let end : ℕ = (at_stage k).width - 1 in
-            let wide = g.wide in
             let z = one_place (at_stage k) (steps k) g (run k l) a.place end (omega arith) (omega arith) (a.tail ∙ ex ∙ sym (g.end end (omega arith))) in
             omega arith
         | inr (inl a) ↦ let e = a.head in omega arith
@@ -57,9 +52,7 @@ module _ (lists : Lists) (s d : ℕ) (steps : ℕ → Step) (n : ℕ) (rank : �
   -- a rank is that of its vertex
   pub rank_at : (r : ℕ) → r < length lists → rank (at r) ≡ r
   rank_at r l =
-      let b = below r l in
-      let p = map.placed (at r) b in
-      one (rank (at r)) r (omega arith) l (named (at r) b)
+      one (rank (at r)) r (omega arith) l (named (at r) (below r l))
 
   small : (k r : ℕ) → k ≤ n → r < (st k).count → r < length lists
   small k r l m = let c = count-le steps k n l in omega arith
@@ -115,8 +108,7 @@ module _ (lists : Lists) (s d : ℕ) (steps : ℕ → Step) (n : ℕ) (rank : �
 
   into_of : (k i r q : ℕ) → k < n → q < length lists → (o : OutOf k i r) → rank o.to ≡ q → r < length lists → Into k i q
   into_of k i r q l small o e lr =
-      let b = simple.in_range (at r) o.to o.dart in
-      let same : o.to ≡ at q = sym (named o.to b) ∙ ap at e in
+      let same : o.to ≡ at q = sym (named o.to (simple.in_range (at r) o.to o.dart)) ∙ ap at e in
       record { from = at r; dart = subst (HasDart lists (at r)) same o.dart; on = subst (λ p. IsDartOf (st k) (steps k) i p q) (sym (rank_at r lr)) (subst (IsDartOf (st k) (steps k) i r) e o.on) }
 
   module _ (k i : ℕ) (l : k < n) (li : i < (steps k).faces) where
@@ -146,37 +138,15 @@ module _ (lists : Lists) (s d : ℕ) (steps : ℕ → Step) (n : ℕ) (rank : �
 
     -- from the last place under the face up to the last new vertex
     up_after : (o : OutOf k i (g.vertex corner)) → suc (rank o.to) ≡ g.count + t.vertices
-    up_after o =
-        let b = corner_in in
-        let p = placed corner b in
-        elim o.on.dart [
-          | inl a ↦ let hi = a.high in let z = same a.place corner (omega arith) b a.tail in absurd (omega arith)
-          | inr (inl a) ↦ sym a.head
-          | inr (inr (inl a)) ↦ let lo = a.low in let e = a.next in absurd (omega arith)
-          | inr (inr (inr a)) ↦ let e = a.tail in absurd (omega arith)
-        ]
+    up_after o = grind (arith, corner_in, placed, corner, same)
 
     -- down from one new vertex to the one before
     across_after : (r : ℕ) → g.count < r → (o : OutOf k i r) → suc (rank o.to) ≡ r
-    across_after r m o =
-        let b = corner_in in
-        elim o.on.dart [
-          | inl a ↦ let hi = a.high in let z = placed a.place (omega arith) in let e = a.tail in absurd (omega arith)
-          | inr (inl a) ↦ let z = placed corner b in let e = a.tail in absurd (omega arith)
-          | inr (inr (inl a)) ↦ a.next
-          | inr (inr (inr a)) ↦ let e = a.tail in absurd (omega arith)
-        ]
+    across_after r m o = grind (arith, corner_in, placed, corner)
 
     -- and from the first to the first place under the face
     down_after : (o : OutOf k i g.count) → g.vertex (t.cut i) ≡ rank o.to
-    down_after o =
-        let b = corner_in in
-        elim o.on.dart [
-          | inl a ↦ let hi = a.high in let z = placed a.place (omega arith) in let e = a.tail in absurd (omega arith)
-          | inr (inl a) ↦ let z = placed corner b in let e = a.tail in absurd (omega arith)
-          | inr (inr (inl a)) ↦ let e = a.next in let lo = a.low in absurd (omega arith)
-          | inr (inr (inr a)) ↦ a.head
-        ]
+    down_after o = grind (arith, corner_in, placed, corner)
 
     new_small : (r : ℕ) → r < g.count + t.vertices → r < length lists
     new_small r m = small (suc k) r l m
@@ -184,13 +154,11 @@ module _ (lists : Lists) (s d : ℕ) (steps : ℕ → Step) (n : ℕ) (rank : �
     -- so each new vertex is come to
     reached : (d r : ℕ) → r + d + 1 ≡ g.count + t.vertices → g.count ≤ r → HasDart lists (at (g.vertex corner)) (at (g.count + t.vertices - 1)) → Into k i r
     reached zero r e m up =
-        let b = corner_in in
-        let p = placed corner b in
+        let p = placed corner corner_in in
         let here : g.count + t.vertices - 1 ≡ r = omega arith in
         record { from = at (g.vertex corner); dart = subst (λ r. HasDart lists (at (g.vertex corner)) (at r)) here up; on = record { within = li; dart = inr (inl record { tail = sym (rank_at (g.vertex corner) (small k (g.vertex corner) (omega arith) p)); head = omega arith }) } }
     reached (suc d) r e m up =
-        let h = reached d (suc r) (omega arith) (omega arith) up in
-        let o = next_of k i (suc r) l (new_small (suc r) (omega arith)) h in
+        let o = next_of k i (suc r) l (new_small (suc r) (omega arith)) (reached d (suc r) (omega arith) (omega arith) up) in
         let f = across_after (suc r) (omega arith) o in
         into_of k i (suc r) r l (new_small r (omega arith)) o (omega arith) (new_small (suc r) (omega arith))
 
@@ -234,37 +202,28 @@ module _ (lists : Lists) (s d : ℕ) (steps : ℕ → Step) (n : ℕ) (rank : �
   last_under : (k i : ℕ) → k < n → i < (steps k).faces → Goes k → HasDart lists (at ((st k).vertex ((steps k).cut (suc i) - 1))) (at ((st k).vertex ((steps k).cut (suc i))))
   last_under k i l li goes =
       let step = run k l in
-      let w = step.within in
       let c = cut-last (st k) (steps k) step (suc i) li in
-      let hi = step.high i li in
       let q : ℕ = (steps k).cut (suc i) - 1 in
-      let e : suc q ≡ (steps k).cut (suc i) = omega arith in
+      let e : suc q ≡ (steps k).cut (suc i) = omega (arith, step.high i li) in
       goes ((st k).vertex q) ((st k).vertex ((steps k).cut (suc i))) q record { within = omega arith; tail = refl; head = ap (st k).vertex e }
 
   goes_after : (k : ℕ) → k < n → Goes k → Goes (suc k)
   goes_after k l goes x y p a =
       let step = run k l in
       let f = step.some_face in
-      let some = step.some_vertex in
-      let stage' = sound (suc k) l in
-      let w = a.within in
       elim (cases_along (st k) (steps k) (sound k (omega arith)) step x y p a) [
         | inl b ↦ goes x y b.place b.along
         | inr (inl b) ↦
             let h = simple.both_ways (at (st k).count) (at ((st k).vertex ((steps k).cut 0))) (down_dart k 0 l f (last_under k 0 l f goes)) in
             subst (λ x. HasDart lists (at x) (at y)) (ap (st k).vertex step.begin ∙ sym b.tail) (subst (λ y. HasDart lists (at ((st k).vertex ((steps k).cut 0))) (at y)) (sym b.head) h)
         | inr (inr (inl b)) ↦
-            let q = stage'.placed (suc p) w in
-            let t = a.head in
-            let e = b.next in
-            let lo = b.new in
-            let h = simple.both_ways (at (suc x)) (at x) (across_dart k 0 l f (last_under k 0 l f goes) x lo (omega arith)) in
-            subst (λ y. HasDart lists (at x) (at y)) e h
+            let q = (sound (suc k) l).placed (suc p) a.within in
+            let h = simple.both_ways (at (suc x)) (at x) (across_dart k 0 l f (last_under k 0 l f goes) x b.new (omega arith)) in
+            subst (λ y. HasDart lists (at x) (at y)) b.next h
         | inr (inr (inr b)) ↦
             let i : ℕ = (steps k).faces - 1 in
             let li : i < (steps k).faces = omega arith in
             let e : suc i ≡ (steps k).faces = omega arith in
-            let t = b.tail in
             let z : (st k).count + (steps k).vertices - 1 ≡ x = omega arith in
             let h = simple.both_ways (at ((st k).vertex ((steps k).cut (suc i)))) (at ((st k).count + (steps k).vertices - 1)) (up_dart k i l li (last_under k i l li goes)) in
             subst (λ x. HasDart lists (at x) (at y)) z (subst (λ y. HasDart lists (at ((st k).count + (steps k).vertices - 1)) (at y)) (ap (st k).vertex (ap (steps k).cut e ∙ step.end) ∙ sym b.head) h)
@@ -272,9 +231,6 @@ module _ (lists : Lists) (s d : ℕ) (steps : ℕ → Step) (n : ℕ) (rank : �
 
   goes_first : Goes 0
   goes_first x y p a =
-      let w = a.within in
-      let t = a.tail in
-      let u = a.head in
       let ex : d ≡ at x = sym (named d (simple.in_range s d map.dart)) ∙ ap at (map.first ∙ omega arith) in
       let ey : s ≡ at y = sym (named s map.dart.0) ∙ ap at (map.second ∙ omega arith) in
       subst (λ z. HasDart lists z (at y)) ex (subst (HasDart lists d) ey (simple.both_ways s d map.dart))
@@ -287,10 +243,9 @@ module _ (lists : Lists) (s d : ℕ) (steps : ℕ → Step) (n : ℕ) (rank : �
   edge_dart v u (along k p l a) = let w = a.within in let e = a.head in let q = (sound k l).placed (suc p) w in (goes_all k l v u p a, small k u l (omega arith))
   edge_dart v u (back k p l a) = let w = a.within in let e = a.tail in let q = (sound k l).placed p (omega arith) in (simple.both_ways (at u) (at v) (goes_all k l u v p a), small k u l (omega arith))
   edge_dart v u (over k i l li e f m) =
-      let some = (run k l).some_vertex in
       let h = simple.both_ways (at (st k).count) (at ((st k).vertex ((steps k).cut i))) (down_dart k i l li (last_under k i l li (goes_all k (omega arith)))) in (
         subst (λ v. HasDart lists (at v) (at u)) e (subst (λ u. HasDart lists (at ((st k).vertex ((steps k).cut i))) (at u)) (sym f) h),
-        small (suc k) u l (omega arith),
+        small (suc k) u l (omega (arith, (run k l).some_vertex)),
       )
 
   -- a dart of the map is one of the run

@@ -33,8 +33,7 @@ none_counted lists alive simple labels none =
       | inl t ↦
           let d = dart_of lists i in
           let number = dart_of-number lists simple i l in
-          let e : face_of lists d.0 d.1 ≡ i = ap (label (face_classes lists)) number.number ∙ labels i t in
-          absurd (none d.0 d.1 number.is_dart (ap alive e ∙ t))
+          absurd (none d.0 d.1 number.is_dart (ap alive (ap (label (face_classes lists)) number.number ∙ labels i t) ∙ t))
     ]) ∙ count_below_none k
 
 -- the ranks of the base
@@ -61,14 +60,7 @@ module _ (lists : Lists) (alive : ℕ → Bool) (w : ℕ → ℕ) (r : ℕ) (sim
   rank = base_rank (w 0)
 
   contour_rank : (i : ℕ) → i ≤ r → i ≡ rank (w i)
-  contour_rank i l =
-      elim (cases_eq i 0) [
-        | inl e ↦ e ∙ sym (base_rank-first (w 0) (w i) (ap w e))
-        | inr ne ↦
-            let i_r : i ≡ r = omega arith in
-            let i_1 : i ≡ 1 = omega arith in
-            i_1 ∙ sym (base_rank-second (w 0) (w i) (λ e. apart (sym e ∙ ap w i_r)))
-      ]
+  contour_rank i l = grind (arith, cases_eq, base_rank-first, base_rank-second)
 
   pub base_built : HasRun lists alive w r
   base_built = (
@@ -83,12 +75,7 @@ module _ (lists : Lists) (alive : ℕ → Bool) (w : ℕ → ℕ) (r : ℕ) (sim
       placed = λ v p. let l = base_rank-le (w 0) v in omega arith;
       apart = λ u v p p' e. elim p [
         | inr h ↦ absurd (none u h.0 h.1 h.2)
-        | inl at ↦ elim p' [
-          | inr h ↦ absurd (none v h.0 h.1 h.2)
-          | inl at' ↦
-              let q : at.0 ≡ at'.0 = contour_rank at.0 at.1 ∙ (ap rank at.2 ∙ (e ∙ (sym (ap rank at'.2) ∙ sym (contour_rank at'.0 at'.1)))) in
-              sym at.2 ∙ (ap w q ∙ at'.2)
-        ]
+        | inl at ↦ grind (arith, contour_rank, rank)
       ];
       on_face = λ x y has live. absurd (none x y has live);
       under = λ k v l u. absurd (omega arith);
@@ -103,20 +90,16 @@ module _ (lists : Lists) (simple : IsSimpleMap lists) (plane : IsPlane lists) (o
   -- a removal at each of whose vertices an edge is taken off, and a run of what it leaves
   grown : (alive : ℕ → Bool) (w : ℕ → ℕ) (r : ℕ) (o : Removal) → IsContour lists alive w r → IsTakenOff lists alive w r o → IsShore lists o.alive o.contour o.places → AreOpen lists alive w o → HasRun lists o.alive o.contour o.places → HasRun lists alive w r
   grown alive w r o contour off shore open_at run =
-      let steps = run.0 in
       let n = run.1 in
-      let rank = run.2 in
-      let number = run.3 in
-      let built = run.4 in
       let touched = run.5 in (
-        steps' lists alive w r o steps n rank number simple contour off shore built,
+        steps' lists alive w r o run.0 n run.2 run.3 simple contour off shore run.4,
         suc n,
-        rank' lists alive w r o steps n rank number simple contour off shore built,
-        number' lists alive w r o steps n rank number simple contour off shore built,
-        built_after lists alive w r o steps n rank number simple contour off shore built touched,
-        λ i some l closed. elim (cases_goer lists alive w r o steps n rank number simple contour off shore built (w i)) [
+        rank' lists alive w r o run.0 n run.2 run.3 simple contour off shore run.4,
+        number' lists alive w r o run.0 n run.2 run.3 simple contour off shore run.4,
+        built_after lists alive w r o run.0 n run.2 run.3 simple contour off shore run.4 touched,
+        λ i some l closed. elim (cases_goer lists alive w r o run.0 n run.2 run.3 simple contour off shore run.4 (w i)) [
           | inl at ↦ absurd (closed (subst (IsOpen lists alive) at.2 (open_at at.0 at.1)))
-          | inr stays ↦ stayed_touched lists alive w r o steps n rank number simple contour off shore built touched i some l stays closed
+          | inr stays ↦ stayed_touched lists alive w r o run.0 n run.2 run.3 simple contour off shore run.4 touched i some l stays closed
         ],
       )
 
@@ -134,8 +117,6 @@ module _ (lists : Lists) (simple : IsSimpleMap lists) (plane : IsPlane lists) (o
         | inr found ↦
             let o = found.0 in
             let off = found.1 in
-            let fewer = off.fewer in
-            let some = off.some_face in
             let rest = run_by m o.alive o.contour o.places found.2 (goes_on_begun lists alive w r o off begun) (λ f t. labels f (off.still f t)) (omega arith) in
             grown alive w r o contour off (IsShore-contour lists o.alive o.contour o.places found.2) found.3 rest
       ]

@@ -35,10 +35,7 @@ either P a b x (suc (suc k), l, e) p q = absurd (omega arith)
 
 -- what holds of the six darts
 each_dart : (P : ℕ → ℕ → Type 0) → P 0 2 → P 0 1 → P 1 0 → P 1 2 → P 2 1 → P 2 0 → (x y : ℕ) → HasDart triangle x y → P x y
-each_dart P a b c d e f zero y h = either (P 0) 2 1 y h.1 a b
-each_dart P a b c d e f (suc zero) y h = either (P 1) 0 2 y h.1 c d
-each_dart P a b c d e f (suc (suc zero)) y h = either (P 2) 1 0 y h.1 e f
-each_dart P a b c d e f (suc (suc (suc x))) y h = let l = h.0 in absurd (omega arith)
+each_dart P a b c d e f x7 y h = grind (arith, either)
 
 some_dart : (v : ℕ) → v < 3 → (u : ℕ) × HasDart triangle v u
 some_dart zero l = (2, (l, Contains-from_place_of 2 (2 ∷ 1 ∷ []) (omega arith)))
@@ -48,13 +45,7 @@ some_dart (suc (suc (suc v))) l = absurd (omega arith)
 
 on_face : (x y : ℕ) → HasDart triangle x y → IsRunDart over 1 x y (face x y)
 unfolding vertex_after
-on_face = each_dart (λ x y. IsRunDart over 1 x y (face x y))
-    (inr (inl record { place = 0; along = record { within = omega arith; tail = refl; head = refl }; number = refl }))
-    (inl record { step = 0; place = 0; earlier = omega arith; dart = record { within = omega arith; dart = inl record { place = 0; low = omega arith; high = omega arith; tail = refl; head = refl } }; number = refl })
-    (inr (inr record { tail = refl; head = refl; number = refl }))
-    (inl record { step = 0; place = 0; earlier = omega arith; dart = record { within = omega arith; dart = inr (inl record { tail = refl; head = refl }) }; number = refl })
-    (inr (inl record { place = 1; along = record { within = omega arith; tail = refl; head = refl }; number = refl }))
-    (inl record { step = 0; place = 0; earlier = omega arith; dart = record { within = omega arith; dart = inr (inr (inr record { tail = refl; head = refl })) }; number = refl })
+on_face = grind (arith, each_dart, IsRunDart, over, face)
 
 goes_on : (x y : ℕ) → HasDart triangle x y → face y (follows triangle y x) ≡ face x y
 unfolding entry_after
@@ -76,12 +67,7 @@ triangle_map = record {
 
 -- no vertex is under its face, and the third one is the last
 under_none : (k v : ℕ) → k < 1 → IsUnder over k v → IsTouched over k v
-under_none zero v l u = none u.face u.place u.within u.low u.high
-  where
-    none : (i p : ℕ) → i < 1 → (over 0).cut i < p → p < (over 0).cut (suc i) → IsTouched over 0 v
-    none zero p a b c = absurd (omega arith)
-    none (suc i) p a b c = absurd (omega arith)
-under_none (suc k) v l u = absurd (omega arith)
+under_none x0 v l u = grind (arith, face, over, IsTouched)
 
 end_last : (j : ℕ) → 0 < j → suc j < 3 → suc ((stage_after over 1).vertex j) < 3 → IsTouched over 1 ((stage_after over 1).vertex j)
 unfolding vertex_after
@@ -90,8 +76,4 @@ end_last (suc zero) a b c = absurd (omega arith)
 end_last (suc (suc j)) a b c = absurd (omega arith)
 
 triangle_touched : IsTouchedRun over 1
-triangle_touched = record { run = one_step; some = omega arith; under = under_none; end = end_last }
-  where
-    one_step : (k : ℕ) → k < 1 → IsStep (stage_after over k) (over k)
-    one_step zero l = row_step (stage_after over 0) 0 1 1 0 (omega arith) (omega arith) (omega arith) (omega arith)
-    one_step (suc k) l = absurd (omega arith)
+triangle_touched = grind (arith, under_none, end_last, IsStep, stage_after, over, row_step)

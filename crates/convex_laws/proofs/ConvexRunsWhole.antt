@@ -29,10 +29,8 @@ use Rattle.convex_laws.proofs.Built.{run_by}
 three_vertices : (lists : Lists) → IsSimpleMap lists → HasThree lists → 3 ≤ length lists
 three_vertices lists simple three =
     let us = list_of lists 0 in
-    let few = list-count_below us (length lists) (simple.no_repeat 0 simple.some_vertex) (λ u c. simple.in_range 0 u (simple.some_vertex, c)) in
     let most = count_below-le (λ u. list_any (λ w. w == u) us) (length lists) in
-    let more = three 0 simple.some_vertex in
-    omega arith
+    omega (arith, list-count_below us (length lists) (simple.no_repeat 0 simple.some_vertex) (λ u c. simple.in_range 0 u (simple.some_vertex, c)))
 
 module _ (lists : Lists) (s d : ℕ) (simple : IsSimpleMap lists) (one : component_count lists ≡ 1) (polyhedral : IsPolyhedral lists) (three : HasThree lists) (base : HasDart lists s d) (alive : ℕ → Bool) (w : ℕ → ℕ) (r : ℕ) (f : IsFirst lists s d alive w r) where
   abbrev pub H : ℕ
@@ -107,7 +105,6 @@ module _ (lists : Lists) (s d : ℕ) (simple : IsSimpleMap lists) (one : compone
               let at = f.contour.only x y (rim_of x y has dead) in
               let i = at.0 in
               let l = at.1 in
-              let width = whole.width in
               elim (cases_eq i r) [
                 | inl e ↦ inr (inr (record {
                   tail = ap all_ranks (sym at.2 ∙ ap w e) ∙ whole.second;
@@ -116,7 +113,7 @@ module _ (lists : Lists) (s d : ℕ) (simple : IsSimpleMap lists) (one : compone
                 }))
                 | inr ne ↦ inr (inl (record {
                   place = i;
-                  along = record { within = omega arith; tail = whole.contour i l ∙ ap all_ranks at.2; head = whole.contour (suc i) (omega arith) ∙ ap all_ranks at.3 };
+                  along = record { within = omega (arith, whole.width); tail = whole.contour i l ∙ ap all_ranks at.2; head = whole.contour (suc i) (omega arith) ∙ ap all_ranks at.3 };
                   number = outer;
                 }))
               ]
@@ -148,13 +145,11 @@ module _ (lists : Lists) (s d : ℕ) (simple : IsSimpleMap lists) (one : compone
           under = whole.under;
           end = λ j some l less.
               let width = whole.width in
-              let c = counted in
               let at : (stage_after all_steps (suc n)).vertex j ≡ all_ranks (w j) = whole.contour j (omega arith) in
               subst (IsTouched all_steps (suc n)) (sym at) (elim (cases_goer lists alive w r o steps n rank number simple f.contour off shore built (w j)) [
                 | inl goes ↦
                     let e = new_rank lists alive w r o steps n rank number simple f.contour off shore built (w j) goes.0 goes.1 goes.2 in
-                    let z = goes.1 in
-                    absurd (omega arith)
+                    absurd (omega (arith, counted))
                 | inr stays ↦ stayed_touched lists alive w r o steps n rank number simple f.contour off shore built touched j some (omega arith) stays (none_open (w j))
               ]);
         }
@@ -162,24 +157,16 @@ module _ (lists : Lists) (s d : ℕ) (simple : IsSimpleMap lists) (one : compone
     faces_are : total + 1 ≡ face_count lists
     unfolding face_count
     faces_are =
-        let few = three_vertices lists simple three in
-        let none = none_isolated lists simple (omega arith) few in
-        let counts = f.counts in
-        let made = whole.faces in
-        omega arith
+        omega (arith, none_isolated lists simple (omega arith) (three_vertices lists simple three), whole.faces)
 
     last_is : (e : ℕ) → HasDart lists e s → SameFace lists (e, s) (s, d) → suc (all_ranks e) ≡ (stage_after all_steps (suc n)).count
     last_is e has same =
-        let on : face_of lists e s ≡ H = labels-SameFace lists e s s d same in
-        let at = f.contour.only e s (rim_of e s has (ap alive on ∙ f.taken)) in
+        let at = f.contour.only e s (rim_of e s has (ap alive (labels-SameFace lists e s s d same) ∙ f.taken)) in
         let i = at.0 in
-        let l = at.1 in
         let i_r : i ≢ r = λ q. (let z : 0 ≡ r = f.contour.distinct 0 r (omega arith) (omega arith) (sym f.contour.round ∙ (ap (λ t. w (suc t)) (sym q) ∙ (at.3 ∙ sym f.last))) in omega arith) in
         let z : suc i ≡ r = f.contour.distinct (suc i) r (omega arith) (omega arith) (at.3 ∙ sym f.last) in
         let z' : suc (o.first + 0) ≡ i = omega arith in
-        let c = counted in
-        let rank_is = new_rank lists alive w r o steps n rank number simple f.contour off shore built e 0 (omega arith) (ap w z' ∙ at.2) in
-        omega arith
+        omega (arith, new_rank lists alive w r o steps n rank number simple f.contour off shore built e 0 (omega arith) (ap w z' ∙ at.2), counted)
 
     pub run_is : IsRunOf lists s d all_steps (suc n) all_ranks (λ x y. numbered (face_of lists x y))
     run_is = record { touched = run_touched; map = map_is; faces = faces_are; last = last_is }

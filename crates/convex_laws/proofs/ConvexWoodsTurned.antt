@@ -21,36 +21,10 @@ module _ (s : ℕ → Step) (n : ℕ) (x y face : ℕ) where
   vertex_at k j = ap (λ (f : ℕ → ℕ). f j) (contours_as_before s k).2
 
   dart_as_before : (k i : ℕ) → IsDartOf (stage_after s k) (s k) i x y → IsDartOf (stage_after ws k) (ws k) i x y
-  dart_as_before k i d =
-      let count = (contours_as_before s k).1 in
-      record {
-        within = d.within;
-        dart = elim d.dart [
-          | inl a ↦ inl record { place = a.place; low = a.low; high = a.high; tail = vertex_at k a.place ∙ a.tail; head = vertex_at k (suc a.place) ∙ a.head }
-          | inr (inl a) ↦ let h = a.head in inr (inl record { tail = vertex_at k ((s k).cut (suc i)) ∙ a.tail; head = omega arith })
-          | inr (inr (inl a)) ↦ let lo = a.low in let hi = a.high in inr (inr (inl record { low = omega arith; next = a.next; high = omega arith }))
-          | inr (inr (inr a)) ↦ inr (inr (inr record { tail = count ∙ a.tail; head = vertex_at k ((s k).cut i) ∙ a.head }))
-        ];
-      }
+  dart_as_before k i d = grind (arith, contours_as_before, vertex_at)
 
   run_dart_as_before : IsRunDart s n x y face → IsRunDart ws n x y face
-  run_dart_as_before (inl d) = inl record { step = d.step; place = d.place; earlier = d.earlier; dart = dart_as_before d.step d.place d.dart; number = d.number ∙ ap (λ m. m + d.place) (sym (faces_made-well_turned s d.step)) }
-  run_dart_as_before (inr (inl d)) =
-      let w = d.along.within in
-      let width = (contours_as_before s n).0 in
-      inr (inl record { place = d.place; along = record { within = omega arith; tail = vertex_at n d.place ∙ d.along.tail; head = vertex_at n (suc d.place) ∙ d.along.head }; number = d.number ∙ sym (faces_made-well_turned s n) })
-  run_dart_as_before (inr (inr d)) = inr (inr record { tail = d.tail; head = d.head; number = d.number ∙ sym (faces_made-well_turned s n) })
+  run_dart_as_before x0 = grind (arith, dart_as_before, faces_made-well_turned, contours_as_before, vertex_at)
 
 pub map_as_before : (lists : Lists) (base : Dart) (s : ℕ → Step) (n : ℕ) (rank : ℕ → ℕ) (face : ℕ → ℕ → ℕ) → IsRunMap lists base s n rank face → IsRunMap lists base (well_turned s) n rank face
-map_as_before lists base s n rank face m = record {
-  simple = m.simple;
-  joined = m.joined;
-  dart = m.dart;
-  ranks = m.ranks;
-  placed = λ v l. let p = m.placed v l in let c = (contours_as_before s n).1 in omega arith;
-  on_face = λ x y has. run_dart_as_before s n (rank x) (rank y) (face x y) (m.on_face x y has);
-  faces = m.faces;
-  first = m.first;
-  second = m.second;
-  outer = m.outer ∙ sym (faces_made-well_turned s n);
-}
+map_as_before lists base s n rank face m = grind (arith, contours_as_before, run_dart_as_before, faces_made-well_turned)

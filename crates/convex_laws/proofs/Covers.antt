@@ -34,16 +34,10 @@ which-copy k i true l = ap not (le-ltb (i + k) k (omega arith))
 which-copy k i false l = ap not (lt-ltb i k l)
 
 pub whose-lt : (k x : ℕ) → x < k + k → whose k x < k
-whose-lt k x l = elim (cases_lt x k) [
-  | inl s ↦ let e = cond-true (ltb x k) x (x - k) (lt-ltb x k s) in omega arith
-  | inr s ↦ let e = cond-false (ltb x k) x (x - k) (le-ltb x k s) in omega arith
-]
+whose-lt k x l = grind (arith, cases_lt, cond-true, ltb, lt-ltb, cond-false, le-ltb)
 
 pub copy-own : (k x : ℕ) → copy k (whose k x) (which k x) ≡ x
-copy-own k x = elim (cases_lt x k) [
-  | inl s ↦ ap (λ t. copy k (cond t x (x - k)) (not t)) (lt-ltb x k s)
-  | inr s ↦ ap (λ t. copy k (cond t x (x - k)) (not t)) (le-ltb x k s) ∙ omega arith
-]
+copy-own k x = grind (arith, cases_lt, copy, cond, not, lt-ltb, le-ltb)
 
 -- a step of each copy, to the other one where the test holds
 abbrev pub lifted : (ℕ → ℕ) → (ℕ → Bool) → ℕ → ℕ → ℕ
@@ -57,36 +51,10 @@ lifted-within : (h : ℕ → ℕ) (test : ℕ → Bool) (k : ℕ) → StaysBelow
 lifted-within h test k stays x l = copy-lt k (h (whose k x)) (flipped (test (whose k x)) (which k x)) (stays (whose k x) (whose-lt k x l))
 
 pub IsPermuting-lifted : (h : ℕ → ℕ) (test : ℕ → Bool) (k : ℕ) → IsPermuting h k → IsPermuting (lifted h test k) (k + k)
-IsPermuting-lifted h test k w = record {
-  within = lifted-within h test k w.within;
-  apart = λ x y l m e.
-      let i = whose k x in
-      let j = whose k y in
-      let li = whose-lt k x l in
-      let lj = whose-lt k y m in
-      let b = flipped (test i) (which k x) in
-      let c = flipped (test j) (which k y) in
-      let images : h i ≡ h j = sym (whose-copy k (h i) b (w.within i li)) ∙ (ap (whose k) e ∙ whose-copy k (h j) c (w.within j lj)) in
-      let same : i ≡ j = w.apart i j li lj images in
-      let bits : b ≡ c = sym (which-copy k (h i) b (w.within i li)) ∙ (ap (which k) e ∙ which-copy k (h j) c (w.within j lj)) in
-      let own : which k x ≡ which k y = flipped_cancel (test i) (which k x) (which k y) (bits ∙ ap (λ z. flipped (test z) (which k y)) (sym same)) in
-      sym (copy-own k x) ∙ (ap₂ (copy k) same own ∙ copy-own k y);
-}
+IsPermuting-lifted h test k w = grind (arith, lifted-within, whose, whose-lt, flipped, which, whose-copy, which-copy, flipped_cancel, copy-own, ap₂, copy)
 
 pub IsPairing-lifted : (g : ℕ → ℕ) (test : ℕ → Bool) (k : ℕ) → IsPairing g k → ((i : ℕ) → i < k → test (g i) ≡ test i) → IsPairing (lifted g test k) (k + k)
-IsPairing-lifted g test k v alike = record {
-  within = lifted-within g test k v.within;
-  back = λ x l.
-      let i = whose k x in
-      let li = whose-lt k x l in
-      let b = which k x in
-      lifted-copy g test k (g i) (flipped (test i) b) (v.within i li)
-      ∙ (ap₂ (copy k) (v.back i li) (ap (λ t. flipped t (flipped (test i) b)) (alike i li) ∙ flipped_twice (test i) b) ∙ copy-own k x);
-  other = λ x l e.
-      let i = whose k x in
-      let li = whose-lt k x l in
-      v.other i li (sym (whose-copy k (g i) (flipped (test i) (which k x)) (v.within i li)) ∙ ap (whose k) e);
-}
+IsPairing-lifted g test k v alike = grind (arith, lifted-within, whose, whose-lt, which, lifted-copy, flipped, ap₂, copy, flipped_twice, copy-own, whose-copy)
 
 -- ---- counts
 pub count_below-add : (p : ℕ → Bool) (k n : ℕ) → count_below p (k + n) ≡ count_below p k + count_below (λ i. p (k + i)) n
@@ -96,18 +64,16 @@ count_below-add p k (suc n) = let e : k + suc n ≡ suc (k + n) = omega arith in
 -- both copies of the numbers that pass a test
 count_below-copies : (q : ℕ → Bool) (k : ℕ) → count_below (λ x. q (whose k x)) (k + k) ≡ count_below q k + count_below q k
 count_below-copies q k =
-    let low = count_below_same (λ x. q (whose k x)) q k (λ i l. ap q (whose-copy k i false l)) in
     let high = count_below_same (λ i. q (whose k (k + i))) q k (λ i l. let e : k + i ≡ i + k = omega arith in ap (λ x. q (whose k x)) e ∙ ap q (whose-copy k i true l)) in
-    omega (arith, count_below-add (λ x. q (whose k x)) k k, low, high)
+    omega (arith, count_below-add (λ x. q (whose k x)) k k, count_below_same (λ x. q (whose k x)) q k (λ i l. ap q (whose-copy k i false l)), high)
 
 -- numbers that what each step keeps tells apart are no more than the orbits
 pub told_apart : {X : Type 0} (mark : ℕ → X) (h : ℕ → ℕ) (n : ℕ) → StaysBelow h n → ((i : ℕ) → i < n → mark i ≡ mark (h i)) → (q : ℕ → Bool) → ((i j : ℕ) → i < n → j < n → q i ≡ true → q j ≡ true → mark i ≡ mark j → i ≡ j) → count_below q n ≤ class_count (orbits_of h n)
 told_apart mark h n stays keeps q apart =
     let O = orbits_of h n in
     let w = IsLabels-orbits_of h n stays in
-    let size = length-orbits_of h n in
     count_below_into (label O) q (λ i. eqb (label O i) i) n (length O)
-    (λ i l e. (label-lt O w i (omega arith), eq-eqb (label O (label O i)) (label O i) (w.own i)))
+    (λ i l e. (label-lt O w i (omega (arith, length-orbits_of h n)), eq-eqb (label O (label O i)) (label O i) (w.own i)))
     (λ i j l m e e' s. apart i j l m e e' (orbits_of-marked mark h n stays keeps i j l m s))
 
 -- one class where all are together
@@ -116,7 +82,6 @@ one_at_most labels w all =
     let into = count_below_into (λ i. 0) (λ i. eqb (label labels i) i) (λ i. true) (length labels) 1
     (λ i l e. (omega arith, refl))
     (λ i j l m e e' s. sym (eqb-true (label labels i) i e) ∙ (all i j l m ∙ eqb-true (label labels j) j e')) in
-    let all_one = count_below_all 1 in
     omega arith
 
 module _ (f g : ℕ → ℕ) (k m : ℕ) (two : k ≡ m + m) (w : IsPermuting f k) (v : IsPairing g k) (test : ℕ → Bool) (alike : (i : ℕ) → i < k → test (g i) ≡ test i) (side : ℕ → Bool) (turns : (i : ℕ) → i < k → side (f i) ≡ flipped (test i) (side i)) (flat : Balances f g k m 0) (one : class_count (joint f g k) ≡ 1) where
@@ -141,7 +106,6 @@ module _ (f g : ℕ → ℕ) (k m : ℕ) (two : k ≡ m + m) (w : IsPermuting f 
       let O = orbits_of f k in
       let own : ℕ → Bool = λ i. eqb (label O i) i in
       let mark : ℕ → ℕ × Bool = λ x. (label O (whose k x), flipped (side (whose k x)) (which k x)) in
-      let size = length-orbits_of f k in
       let keeps : (x : ℕ) → x < k + k → mark x ≡ mark (F x) = λ x l.
       let i = whose k x in
       let li = whose-lt k x l in
@@ -157,10 +121,8 @@ module _ (f g : ℕ → ℕ) (k m : ℕ) (two : k ≡ m + m) (w : IsPermuting f 
       let same : i ≡ j = sym (eqb-true (label O i) i e) ∙ (ap (λ p. p.0) s ∙ eqb-true (label O j) j e') in
       let bits : which k x ≡ which k y = flipped_cancel (side i) (which k x) (which k y) (ap (λ p. p.1) s ∙ ap (λ z. flipped (side z) (which k y)) (sym same)) in
       sym (copy-own k x) ∙ (ap₂ (copy k) same bits ∙ copy-own k y) in
-      let all = told_apart mark F (k + k) W.within keeps (λ x. own (whose k x)) apart in
-      let copies = count_below-copies own k in
-      let here : class_count O ≡ count_below own k = ap (count_below own) size in
-      omega arith
+      let here : class_count O ≡ count_below own k = ap (count_below own) (length-orbits_of f k) in
+      omega (arith, count_below-copies own k, told_apart mark F (k + k) W.within keeps (λ x. own (whose k x)) apart)
 
   -- and as many faces
   more_faces : class_count (orbits_of (after f g) k) + class_count (orbits_of (after f g) k) ≤ class_count (orbits_of (after F G) (k + k))
@@ -171,7 +133,6 @@ module _ (f g : ℕ → ℕ) (k m : ℕ) (two : k ≡ m + m) (w : IsPermuting f 
       let O = orbits_of h k in
       let own : ℕ → Bool = λ i. eqb (label O i) i in
       let mark : ℕ → ℕ × Bool = λ x. (label O (whose k x), which k x) in
-      let size = length-orbits_of h k in
       let keeps : (x : ℕ) → x < k + k → mark x ≡ mark (F (G x)) = λ x l.
       let i = whose k x in
       let li = whose-lt k x l in
@@ -188,16 +149,13 @@ module _ (f g : ℕ → ℕ) (k m : ℕ) (two : k ≡ m + m) (w : IsPermuting f 
       let j = whose k y in
       let same : i ≡ j = sym (eqb-true (label O i) i e) ∙ (ap (λ p. p.0) s ∙ eqb-true (label O j) j e') in
       sym (copy-own k x) ∙ (ap₂ (copy k) same (ap (λ p. p.1) s) ∙ copy-own k y) in
-      let all = told_apart mark (after F G) (k + k) HW.within keeps (λ x. own (whose k x)) apart in
-      let copies = count_below-copies own k in
-      let here : class_count O ≡ count_below own k = ap (count_below own) size in
-      omega arith
+      let here : class_count O ≡ count_below own k = ap (count_below own) (length-orbits_of h k) in
+      omega (arith, count_below-copies own k, told_apart mark (after F G) (k + k) HW.within keeps (λ x. own (whose k x)) apart)
 
   -- so the cover has two parts
   two_parts : 2 ≤ class_count J
   two_parts =
-      let found = euler_bound_at F G (k + k) k refl W V in
-      omega (arith, found.1, more_vertices, more_faces, flat, one, two)
+      omega (arith, (euler_bound_at F G (k + k) k refl W V).1, more_vertices, more_faces, flat, one, two)
 
   -- the two copies of a number are in different parts
   pub copies_apart : (a : ℕ) → a < k → ¬ Together J (copy k a false) (copy k a true)
@@ -206,7 +164,6 @@ module _ (f g : ℕ → ℕ) (k m : ℕ) (two : k ≡ m + m) (w : IsPermuting f 
       let r = L (copy k a false) in
       let mark : ℕ → Bool = λ i. eqb (L (copy k i false)) r && eqb (L (copy k i true)) r in
       let size = length-joint F G (k + k) W.within V.within in
-      let labels = IsLabels-joint F G (k + k) W.within V.within in
       let over_f : (i : ℕ) → i < k → mark i ≡ mark (f i) = λ i l. pair_alike (test i) (λ b. L (copy k i b)) (λ b. L (copy k (f i) b)) r (λ b. joint-first F G (k + k) W.within V.within (copy k i b) (copy-lt k i b l) ∙ ap L (lifted-copy f test k i b l)) in
       let over_g : (i : ℕ) → i < k → mark i ≡ mark (g i) = λ i l. pair_alike (test i) (λ b. L (copy k i b)) (λ b. L (copy k (g i) b)) r (λ b. joint-second F G (k + k) W.within V.within (copy k i b) (copy-lt k i b l) ∙ ap L (lifted-copy g test k i b l)) in
       let start : mark a ≡ true = and_from (eqb r r) (eqb (L (copy k a true)) r) (eq-eqb r r refl) (eq-eqb (L (copy k a true)) r (sym t)) in
@@ -216,7 +173,7 @@ module _ (f g : ℕ → ℕ) (k m : ℕ) (two : k ≡ m + m) (w : IsPermuting f 
       sym (joint-marked f g k w.within v.within mark over_f over_g a i la l (one_class (joint f g k) base_labels (omega (arith, one)) a i (omega arith) (omega arith))) ∙ start in
       let at : (i : ℕ) (b : Bool) → i < k → L (copy k i b) ≡ r = λ i b l. from_both (λ b. L (copy k i b)) b r (all i l) in
       let each : (x : ℕ) → x < k + k → L x ≡ r = λ x l. ap L (sym (copy-own k x)) ∙ at (whose k x) (which k x) (whose-lt k x l) in
-      let most = one_at_most J labels (λ x y l m. each x (omega arith) ∙ sym (each y (omega arith))) in
+      let most = one_at_most J (IsLabels-joint F G (k + k) W.within V.within) (λ x y l m. each x (omega arith) ∙ sym (each y (omega arith))) in
       absurd (omega (arith, most, two_parts))
     where
       from_both : (at : Bool → ℕ) (b : Bool) (r : ℕ) → (eqb (at false) r && eqb (at true) r) ≡ true → at b ≡ r

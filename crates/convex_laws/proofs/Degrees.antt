@@ -124,13 +124,11 @@ module _ (lists : Lists) (simple : IsSimpleMap lists) where
         let has = (dart_of-number lists simple i l).is_dart in
         let n = place_of d.1 us in
         let ln = place_of-lt-length d.1 us has.1 in
-        let on : before x (suc n) ≡ flipped (passed i) (sector i) = ap (λ u. flipped (is_odd_on walk x u) (before x n)) (get_or-place_of d.1 us 0 ln) in
         ap (λ (e : Dart). before e.0 (place_of e.1 (list_of lists e.0))) (dart_of-rotation lists simple i l)
         ∙ (ap (before x) (place_of-entry_after d.1 us (simple.no_repeat x has.0) has.1)
         ∙ (elim (cases_lt (n + 1) (length us)) [
           | inl less ↦ let e : place_after (length us) n ≡ suc n = cond-true (ltb (n + 1) (length us)) (n + 1) 0 (lt-ltb (n + 1) (length us) less) ∙ omega arith in ap (before x) e
           | inr more ↦
-              let e : place_after (length us) n ≡ 0 = cond-false (ltb (n + 1) (length us)) (n + 1) 0 (le-ltb (n + 1) (length us) more) in
               let all : length us ≡ suc n = omega arith in
-              ap (before x) e ∙ (sym (even x) ∙ ap (before x) all)
-        ] ∙ on))
+              ap (before x) (cond-false (ltb (n + 1) (length us)) (n + 1) 0 (le-ltb (n + 1) (length us) more)) ∙ (sym (even x) ∙ ap (before x) all)
+        ] ∙ (ap (λ u. flipped (is_odd_on walk x u) (before x n)) (get_or-place_of d.1 us 0 ln))))

@@ -2,7 +2,7 @@
 use Rattle.std.proofs.Common.{◌≡◌, ℕ, ◌+◌, ◌<◌, List, length, map, get_or, pos, ap, ◌∙◌, arith}
 use Rattle.std.specs.List.{range_with_len}
 use Rattle.std.proofs.lemmas.List.FromFn.{length-map-range_with_len, get_or-map-range_with_len}
-use Rattle.pg_plane.specs.declared.segments.Point.{Point}
+use Rattle.pg_plane.specs.declared.grid_points.Point.{Point}
 use Rattle.contour_runs.specs.Wood.{point_of}
 use Rattle.convex_counts.specs.Counts.{face_counts}
 use Rattle.convex_counts.specs.Turns.{well_turned}
@@ -15,17 +15,15 @@ use Rattle.convex_laws.proofs.ConvexWoodsTurned.{faces_made-well_turned}
 pub some_convex_drawing_law : SomeConvexDrawing
 some_convex_drawing_law lists s d simple plane one polyhedral three base =
     let found = run_of_map_law lists s d simple plane one polyhedral three base in
-    let steps = found.0 in
-    let n = found.1 in
     let rank = found.2 in
     let face = found.3 in
     let run = found.4 in
-    let at : ℕ → Point = λ v. point_of (face_counts (well_turned steps) n) (rank v) in
+    let at : ℕ → Point = λ v. point_of (face_counts (well_turned found.0) found.1) (rank v) in
     let points : List Point = map at (range_with_len 0 (length lists)) in
     let points_are : (v : ℕ) → v < length lists → get_or points v (record { x = pos 0; y = pos 0 }) ≡ at v = λ v l.
     get_or-map-range_with_len at 0 (length lists) v v (record { x = pos 0; y = pos 0 }) l (omega arith) in (
-      steps,
-      n,
+      found.0,
+      found.1,
       rank,
       face,
       points,
@@ -33,7 +31,7 @@ some_convex_drawing_law lists s d simple plane one polyhedral three base =
         run = run;
         count = length-map-range_with_len at 0 (length lists);
         points_are = points_are;
-        drawing = touched_run_draws lists (s, d) steps n rank face points run.touched run.map points_are;
-        grid = ap (λ m. m + 1) (faces_made-well_turned steps n) ∙ run.faces;
+        drawing = touched_run_draws lists (s, d) found.0 found.1 rank face points run.touched run.map points_are;
+        grid = ap (λ m. m + 1) (faces_made-well_turned found.0 found.1) ∙ run.faces;
       },
     )

@@ -13,19 +13,13 @@ use Rattle.convex_laws.proofs.Flips.{flipped_assoc, flipped_comm, flipped_false}
 use Rattle.convex_laws.proofs.FaceTests.{AreLater}
 
 pub leb_same : (a b c d : ℕ) → (a ≤ b → c ≤ d) → (c ≤ d → a ≤ b) → leb a b ≡ leb c d
-leb_same a b c d h g = elim (cases_lt b a) [
-  | inl l ↦ elim (cases_lt d c) [ inl m ↦ lt-leb a b l ∙ sym (lt-leb c d m) | inr m ↦ (let z = g m in absurd (omega arith)) ]
-  | inr l ↦ le-leb a b l ∙ sym (le-leb c d (h l))
-]
+leb_same a b c d h g = grind (arith, cases_lt, lt-leb, le-leb)
 
 pub ltb_not : (a b : ℕ) → ltb a b ≡ not (leb b a)
 ltb_not a b = elim (cases_lt a b) [ inl l ↦ lt-ltb a b l ∙ ap not (sym (lt-leb b a l)) | inr l ↦ le-ltb a b l ∙ ap not (sym (le-leb b a l)) ]
 
 flipped_nots : (a b : Bool) → flipped (not a) (not b) ≡ flipped a b
-flipped_nots true true = refl
-flipped_nots true false = refl
-flipped_nots false true = refl
-flipped_nots false false = refl
+flipped_nots x0 x1 = grind arith
 
 pub flipped_over : (a p b : Bool) → flipped (flipped a p) b ≡ flipped p (flipped a b)
 flipped_over a p b = ap (λ z. flipped z b) (flipped_comm a p) ∙ sym (flipped_assoc p a b)
@@ -48,10 +42,7 @@ module _ (g : Stage) (s : Step) (stage : IsStage g) (step : IsStep g s) (x j : �
   high_to j' l e m = let h = moved-high g s stage step j l in let k = moved-le g s step x j m in omega arith
 
   pub high_from : (j' : ℕ) → s.last ≤ j → j' + s.last ≡ j + s.first + s.vertices + 1 → moved s x ≤ j' → x ≤ j
-  high_from j' l e m = elim (cases_lt j x) [
-    | inr a ↦ a
-    | inl a ↦ let h = moved-high g s stage step (suc j) (omega arith) in let k = moved-le g s step (suc j) x a in absurd (omega arith)
-  ]
+  high_from j' l e m = grind (arith, cases_lt, moved-high, moved-le)
 
 -- A place lies on one side of an edge of the contour: a step that does not cover the edge keeps this, and a new vertex lies where the place `end` of the step does.
 pub record IsSide (end : Step → ℕ) (above : ℕ → ℕ → Bool) : Type 0 where
@@ -155,16 +146,7 @@ module _ (steps : ℕ → Step) (n : ℕ) (run : IsRun steps n) where
 
     -- so it is along each later contour
     pub third-contour : (l p : ℕ) → m < l → l ≤ n → p < (st l).width → third ((st l).vertex p) ≡ false
-    third-contour l p a b lp =
-        let w = (st l).vertex p in
-        let x = (st m).place w in
-        elim (cases_lt w (st m).count) [
-          | inr fresh ↦ third-new w fresh
-          | inl older ↦ third-old w older ∙ elim (cases_lt (steps m).first x) [
-            | inr low ↦ outside x (inl low)
-            | inl more ↦ elim (cases_lt x (steps m).last) [ inr high ↦ outside x (inr high) | inl less ↦ absurd (clear m l w a b older more less p lp refl) ]
-          ]
-        ]
+    third-contour l p a b lp = grind (arith, st, cases_lt, third-new, third-old, clear)
 
     module _ (end : Step → ℕ) (above : ℕ → ℕ → Bool) (side : IsSide end above) (A B P : ℕ → Bool) (later_A : AreLater end steps n (suc m) A) (later_B : AreLater end steps n (suc m) B) (later_P : AreLater end steps n (suc m) P) (old : (v : ℕ) → v < (st m).count → flipped (A v) (B v) ≡ flipped (P v) (c ((st m).place v))) (new : (v : ℕ) → (st m).count ≤ v → v < (st m).count + (steps m).vertices → flipped (A v) (B v) ≡ P v) where
       abbrev Told : ℕ → Type 0

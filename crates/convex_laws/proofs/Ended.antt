@@ -16,8 +16,7 @@ steps-le-faces_made : (steps : ℕ → Step) (n : ℕ) → IsRun steps n → n �
 steps-le-faces_made steps zero run = omega arith
 steps-le-faces_made steps (suc n) run =
     let h = steps-le-faces_made steps n (λ k l. run k (omega arith)) in
-    let some = (run n (omega arith)).some_face in
-    omega arith
+    omega (arith, (run n (omega arith)).some_face)
 
 module _ (lists : Lists) (s d : ℕ) (rows : ConvexRows) (m : ℕ) (alive : ℕ → Bool) (w : ℕ → ℕ) (r : ℕ) where
   whole : (steps : ℕ → Step) (n : ℕ) (rank : ℕ → ℕ) → n ≡ 0 → IsEnded lists s d rows m alive w r → GoesOn lists s d rows m alive w r steps n rank → AreRowsOfRun lists s d rows
@@ -31,8 +30,5 @@ module _ (lists : Lists) (s d : ℕ) (rows : ConvexRows) (m : ℕ) (alive : ℕ 
   pub IsEnded-base : IsSimpleMap lists → AreLabels lists alive → ((x y : ℕ) → HasDart lists x y → alive (face_of lists x y) ≢ true) → r ≡ 1 → w 0 ≢ w r → IsEnded lists s d rows m alive w r → AreRowsOfRun lists s d rows
   IsEnded-base simple labels none two apart ended =
       let b = base_built lists alive w r simple labels none two apart in
-      let built = b.4 in
-      let faces = built.faces in
-      let counted = none_counted lists alive simple labels none in
-      let few = steps-le-faces_made b.0 b.1 built.run in
-      whole b.0 b.1 b.2 (omega arith) ended (ended.ends b.0 b.1 b.2 b.3 b.4 b.5)
+      let few = steps-le-faces_made b.0 b.1 b.4.run in
+      whole b.0 b.1 b.2 (omega (arith, none_counted lists alive simple labels none)) ended (ended.ends b.0 b.1 b.2 b.3 b.4 b.5)

@@ -42,15 +42,7 @@ pub record IsEnded (lists : Lists) (s d : ℕ) (rows : ConvexRows) (m : ℕ) (al
 
 module _ (lists : Lists) (w : ℕ → ℕ) (o : Removal) (old new : ConvexRows) (m : ℕ) (has : HasRows old m) (more : IsRowMore lists w o old new) where
   pub has_more : HasRows new (suc m)
-  has_more =
-      let a = has.rows_count in
-      let b = has.cuts_count in
-      let c = has.news_count in
-      record {
-        rows_count = ap length more.rows_are ∙ (length-append old.rows (more.row ∷ []) ∙ omega arith);
-        cuts_count = ap length more.cuts_are ∙ (length-append old.cuts (more.cuts ∷ []) ∙ omega arith);
-        news_count = ap length more.news_are ∙ (length-append old.news (more.news ∷ []) ∙ omega arith);
-      }
+  has_more = grind (arith, length, length-append)
 
   old_at : (old_lists new_lists : Lists) (x : List ℕ) → length old_lists ≡ m → new_lists ≡ old_lists ++ x ∷ [] → (j : ℕ) → j < m → list_of new_lists j ≡ list_of old_lists j
   old_at old_lists new_lists x n e j l = ap (λ (z : Lists). list_of z j) e ∙ get_or_append_left old_lists (x ∷ []) [] j (omega arith)

@@ -88,8 +88,7 @@ module _ (end : Step → ℕ) (hits : Step → ℕ → ℕ → Bool) (steps : �
 
     pub test-later : (within : (m : ℕ) → m < n → (st m).vertex (end (steps m)) < (st m).count) → AreLater end steps n (suc k) (test n F)
     test-later within m v a b c d =
-        let q = made-le steps (suc k) m a in
-        let f : F < faces_made steps m = omega arith in
+        let f : F < faces_made steps m = omega (arith, made-le steps (suc k) m a) in
         let w = (st m).vertex (end (steps m)) in
         test_is n F v in_all
         ∙ (counted-kept (suc m) n F v b (omega arith) d

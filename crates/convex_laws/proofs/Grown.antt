@@ -55,7 +55,6 @@ off_contour lists alive w r simple only round v x z off has live has_z =
       | inl yes_l ↦ yes_l
       | inr dead ↦
           let at = only t v (record { dart = simple.both_ways v t h; outside = dead; inside = l }) in
-          let in_r = at.1 in
           absurd (elim (cases_eq at.0 r) [
             | inl e ↦ off 0 (omega arith) (sym round ∙ (ap (λ n. w (suc n)) (sym e) ∙ at.3))
             | inr ne ↦ off (suc at.0) (omega arith) at.3
@@ -69,8 +68,6 @@ off_contour lists alive w r simple only round v x z off has live has_z =
 module _ (lists : Lists) (alive : ℕ → Bool) (w : ℕ → ℕ) (r : ℕ) (o : Removal) (simple : IsSimpleMap lists) (contour : IsContour lists alive w r) (off : IsTakenOff lists alive w r o) (shore : IsShore lists o.alive o.contour o.places) where
   round_after : o.contour (suc o.places) ≡ o.contour 0
   round_after =
-      let a = gone_within lists alive w r o off in
-      let b = off.width in
       let q : ℕ = suc r - (o.first + o.vertices + 1) in
       let z : suc o.places ≡ o.last + q = omega arith in
       let z' : o.first + o.vertices + 1 + q ≡ suc r = omega arith in
@@ -79,7 +76,6 @@ module _ (lists : Lists) (alive : ℕ → Bool) (w : ℕ → ℕ) (r : ℕ) (o :
   -- no face that is left passes a vertex that goes
   pub goer_off : (q x : ℕ) → q < o.vertices → HasDart lists (w (suc (o.first + q))) x → o.alive (face_of lists (w (suc (o.first + q))) x) ≢ true
   goer_off q x l has live =
-      let a = gone_within lists alive w r o off in
       let i = suc (o.first + q) in
       let rim = contour.edge i (omega arith) in
       let all = off_contour lists o.alive o.contour o.places simple shore.only round_after (w i) x (w (suc i)) (λ p m. gone_from lists alive w r o off contour q p l m) has live rim.dart in
@@ -107,22 +103,17 @@ module _ (lists : Lists) (alive : ℕ → Bool) (w : ℕ → ℕ) (r : ℕ) (o :
 
   is_step : IsStep g step
   is_step =
-      let a = off.within in
-      let b = built.width in
       record { some_face = off.some_face; some_vertex = off.some_vertex; single = off.single; begin = off.begin; end = off.end; low = λ i l. omega arith; high = λ i l. off.rises i l; within = omega arith }
 
   goer_once : (p q : ℕ) → p < o.vertices → q < o.vertices → goer p ≡ goer q → p ≡ q
   goer_once p q l m e =
-      let a = gone_within lists alive w r o off in
-      let z : suc (o.first + p) ≡ suc (o.first + q) = contour.distinct (suc (o.first + p)) (suc (o.first + q)) (omega arith) (omega arith) e in
-      omega arith
+      omega (arith, contour.distinct (suc (o.first + p)) (suc (o.first + q)) (omega arith) (omega arith) e)
 
   -- the ranks of the vertices that go, and of those that stay
   pub new_rank : (v q : ℕ) → q < o.vertices → goer q ≡ v → rank' v ≡ g.count + q
   new_rank v q l e =
       let found = put-found goer g.count rank o.vertices v q l e in
-      let same : found.0 ≡ q = goer_once found.0 q found.1 l (found.2 ∙ sym e) in
-      found.3 ∙ ap (λ t. g.count + t) same
+      found.3 ∙ ap (λ t. g.count + t) (goer_once found.0 q found.1 l (found.2 ∙ sym e))
 
   abbrev pub Stays : ℕ → Type 0
   Stays v = (q : ℕ) → q < o.vertices → goer q ≢ v
@@ -148,8 +139,6 @@ module _ (lists : Lists) (alive : ℕ → Bool) (w : ℕ → ℕ) (r : ℕ) (o :
 
   cases_old : (i : ℕ) → i ≤ r → (i ≤ o.first) ⊎ (((q : ℕ) × (q < o.vertices) × (i ≡ suc (o.first + q))) ⊎ ((p : ℕ) × IsBehind i p))
   cases_old i l =
-      let a = off.width in
-      let b = off.within in
       elim (cases_lt o.first i) [
         | inr low ↦ inl low
         | inl far ↦ elim (cases_lt (o.first + o.vertices) i) [
@@ -164,10 +153,8 @@ module _ (lists : Lists) (alive : ℕ → Bool) (w : ℕ → ℕ) (r : ℕ) (o :
   -- what stays on the old contour is on the new one
   pub stays_on : (i : ℕ) → i ≤ r → Stays (w i) → (p : ℕ) × (p ≤ o.places) × (o.contour p ≡ w i)
   stays_on i l stays =
-      let a = first_lt lists alive w r o off in
-      let b = off.within in
       elim (cases_old i l) [
-        | inl low ↦ (i, omega arith, off.before i low)
+        | inl low ↦ (i, omega (arith, first_lt lists alive w r o off), off.before i low)
         | inr (inl new) ↦ absurd (stays new.0 new.1 (ap w (sym new.2)))
         | inr (inr high) ↦ (high.0, high.1.within, high.1.vertex)
       ]
@@ -175,16 +162,11 @@ module _ (lists : Lists) (alive : ℕ → Bool) (w : ℕ → ℕ) (r : ℕ) (o :
   pub contour_vertex : (i : ℕ) → i ≤ r → (after g step).vertex i ≡ rank' (w i)
   contour_vertex i l =
       let a = first_lt lists alive w r o off in
-      let b = off.within in
       elim (cases_old i l) [
         | inl low ↦ vertex_after-low g step i low ∙ (on_rank i (omega arith) ∙ ap rank' (off.before i low))
         | inr (inl new) ↦
-            let at = new.2 in
-            let m = new.1 in
-            let v = vertex_after-new g step i (omega arith) (omega arith) in
-            let e = new_rank (w i) new.0 new.1 (ap w (sym at)) in
-            let same : (after g step).vertex i ≡ g.count + new.0 = omega arith in
-            same ∙ sym e
+            let same : (after g step).vertex i ≡ g.count + new.0 = omega (arith, vertex_after-new g step i (omega arith) (omega arith)) in
+            same ∙ sym (new_rank (w i) new.0 new.1 (ap w (sym new.2)))
         | inr (inr high) ↦ vertex_after-high g step i high.0 high.1.far high.1.from ∙ (on_rank high.0 high.1.within ∙ ap rank' high.1.vertex)
       ]
 
@@ -200,12 +182,11 @@ module _ (lists : Lists) (alive : ℕ → Bool) (w : ℕ → ℕ) (r : ℕ) (o :
       elim p [
         | inl at ↦ (let on = stays_on at.0 at.1 (λ q l e. stays q l (e ∙ at.2)) in inl (on.0, on.1, on.2 ∙ at.2))
         | inr at ↦
-            let x = at.0 in
-            elim (cases_Bool (o.alive (face_of lists v x))) [
-              | inl live ↦ inr (x, at.1, live)
+            elim (cases_Bool (o.alive (face_of lists v at.0))) [
+              | inl live ↦ inr (at.0, at.1, live)
               | inr dead ↦
-                  let gone = off.gone (face_of lists v x) at.2 dead in
-                  elim (off.darts gone.0 v x gone.1 at.1 gone.2) [
+                  let gone = off.gone (face_of lists v at.0) at.2 dead in
+                  elim (off.darts gone.0 v at.0 gone.1 at.1 gone.2) [
                     | inl a ↦ (let m = a.2 in let b = cut_within (suc gone.0) gone.1 in inl (a.0, omega arith, a.3))
                     | inr (inl a) ↦ inl (o.cut (suc gone.0), cut_within (suc gone.0) gone.1, sym a.0)
                     | inr (inr (inl a)) ↦ absurd (stays a.0 a.2 (sym a.3))
@@ -226,22 +207,14 @@ module _ (lists : Lists) (alive : ℕ → Bool) (w : ℕ → ℕ) (r : ℕ) (o :
       elim (cases_goer u) [
         | inl at ↦ elim (cases_goer v) [
           | inl at' ↦
-              let a = new_rank u at.0 at.1 at.2 in
-              let b = new_rank v at'.0 at'.1 at'.2 in
-              let q : at.0 ≡ at'.0 = omega arith in
+              let q : at.0 ≡ at'.0 = omega (arith, new_rank v at'.0 at'.1 at'.2, new_rank u at.0 at.1 at.2) in
               sym at.2 ∙ (ap goer q ∙ at'.2)
           | inr stays ↦
-              let a = new_rank u at.0 at.1 at.2 in
-              let b = old_rank v stays in
-              let l = built.placed v (placed_before v p' stays) in
-              absurd (omega arith)
+              absurd (omega (arith, built.placed v (placed_before v p' stays), old_rank v stays, new_rank u at.0 at.1 at.2))
         ]
         | inr stays ↦ elim (cases_goer v) [
           | inl at' ↦
-              let a = old_rank u stays in
-              let b = new_rank v at'.0 at'.1 at'.2 in
-              let l = built.placed u (placed_before u p stays) in
-              absurd (omega arith)
+              absurd (omega (arith, built.placed u (placed_before u p stays), new_rank v at'.0 at'.1 at'.2, old_rank u stays))
           | inr stays' ↦ built.apart u v (placed_before u p stays) (placed_before v p' stays') (sym (old_rank u stays) ∙ (e ∙ old_rank v stays'))
         ]
       ]
@@ -249,12 +222,10 @@ module _ (lists : Lists) (alive : ℕ → Bool) (w : ℕ → ℕ) (r : ℕ) (o :
   -- a dart of a removed face is one of the face that the step makes
   made_dart : (i x y : ℕ) → i < o.faces → IsOnRemoved w o i x y → IsDartOf g step i (rank' x) (rank' y)
   made_dart i x y l h =
-      let some = off.some_vertex in
       let b = cut_within (suc i) l in
       let b' = cut_within i (omega arith) in
       elim h [
         | inl a ↦
-            let m = a.2 in
             record { within = l; dart = inl record { place = a.0; low = a.1; high = a.2; tail = on_rank a.0 (omega arith) ∙ ap rank' a.3; head = on_rank (suc a.0) (omega arith) ∙ ap rank' a.4 } }
         | inr (inl a) ↦
             let q : ℕ = o.vertices - 1 in
@@ -262,16 +233,13 @@ module _ (lists : Lists) (alive : ℕ → Bool) (w : ℕ → ℕ) (r : ℕ) (o :
             let e = new_rank y q (omega arith) (ap w z ∙ sym a.1) in
             record { within = l; dart = inr (inl record { tail = on_rank (o.cut (suc i)) b ∙ ap rank' (sym a.0); head = omega arith }) }
         | inr (inr (inl a)) ↦
-            let q = a.0 in
-            let pos = a.1 in
-            let less = a.2 in
-            let z : suc (o.first + (q - 1)) ≡ o.first + q = omega arith in
-            let e = new_rank x q less (sym a.3) in
-            let e' = new_rank y (q - 1) (omega arith) (ap w z ∙ sym a.4) in
+            let z : suc (o.first + (a.0 - 1)) ≡ o.first + a.0 = omega arith in
+            let e = new_rank x a.0 a.2 (sym a.3) in
+            let e' = new_rank y (a.0 - 1) (omega arith) (ap w z ∙ sym a.4) in
             record { within = l; dart = inr (inr (inl record { low = omega arith; next = omega arith; high = omega arith })) }
         | inr (inr (inr a)) ↦
             let z : suc (o.first + 0) ≡ suc o.first = omega arith in
-            let e = new_rank x 0 some (ap w z ∙ sym a.0) in
+            let e = new_rank x 0 off.some_vertex (ap w z ∙ sym a.0) in
             record { within = l; dart = inr (inr (inr record { tail = omega arith; head = on_rank (o.cut i) b' ∙ ap rank' (sym a.1) })) }
       ]
 
@@ -280,12 +248,10 @@ module _ (lists : Lists) (alive : ℕ → Bool) (w : ℕ → ℕ) (r : ℕ) (o :
       let face = face_of lists x y in
       elim (cases_Bool (o.alive face)) [
         | inl still ↦
-            let back = simple.both_ways x y has in
             let z = follows lists y x in
-            let next = HasDart-follows lists y x back in
             let live_next : o.alive (face_of lists y z) ≡ true = ap o.alive (face_of-step lists simple x y has) ∙ still in
             let e = old_rank x (living_stays x y has still) in
-            let e' = old_rank y (living_stays y z next live_next) in
+            let e' = old_rank y (living_stays y z (HasDart-follows lists y x (simple.both_ways x y has)) live_next) in
             let e'' : number' face ≡ number face = put-old o.made (faces_made steps n) number o.faces face (λ i l q. true≢false (sym still ∙ (ap o.alive (sym q) ∙ off.dead i l))) in
             subst (λ a. IsMadeDart steps' (suc n) a (rank' y) (number' face)) (sym e) (subst (λ b. IsMadeDart steps' (suc n) (rank x) b (number' face)) (sym e') (subst (IsMadeDart steps' (suc n) (rank x) (rank y)) (sym e'') (IsMadeDart-longer steps n step (rank x) (rank y) (number face) (built.on_face x y has still))))
         | inr dead ↦
@@ -298,40 +264,32 @@ module _ (lists : Lists) (alive : ℕ → Bool) (w : ℕ → ℕ) (r : ℕ) (o :
   end_touched : (p : ℕ) → (p ≡ o.first) ⊎ (p ≡ o.last) → IsTouched steps' (suc n) (rank' (o.contour p))
   end_touched p h =
       let a = first_lt lists alive w r o off in
-      let b = off.within in
       elim h [
         | inl e ↦ rw e (IsTouched-last steps n step (rank' (o.contour o.first)) (inl (on_rank o.first (omega arith))))
-        | inr e ↦ rw e (IsTouched-last steps n step (rank' (o.contour o.last)) (inr (on_rank o.last b)))
+        | inr e ↦ rw e (IsTouched-last steps n step (rank' (o.contour o.last)) (inr (on_rank o.last off.within)))
       ]
 
   -- a removed face at a vertex of the new contour: the vertex is where two of them meet, or else the edge has a face on its other side that is left
   removed_at : (p x i : ℕ) → p ≤ o.places → o.places ≢ 1 → i < o.faces → IsOnRemoved w o i (o.contour p) x → (o.alive (face_of lists x (o.contour p)) ≡ true) ⊎ ((t : ℕ) × (t ≤ o.faces) × (p ≡ o.cut t))
   removed_at p x i l many m h =
       let b = cut_within (suc i) m in
-      let some = off.some_vertex in
       elim h [
         | inl a ↦
-            let k = a.2 in
-            let rim = shore.edge a.0 (omega arith) many in
-            inl (ap₂ (λ s t. o.alive (face_of lists s t)) (sym a.4) (sym a.3) ∙ rim.inside)
+            inl (ap₂ (λ s t. o.alive (face_of lists s t)) (sym a.4) (sym a.3) ∙ (shore.edge a.0 (omega arith) many).inside)
         | inr (inl a) ↦ inr (suc i, m, shore.distinct p (o.cut (suc i)) l b a.0)
         | inr (inr (inl a)) ↦ absurd (on_stays p l a.0 a.2 (sym a.3))
-        | inr (inr (inr a)) ↦ (let z : suc (o.first + 0) ≡ suc o.first = omega arith in absurd (on_stays p l 0 some (ap w z ∙ sym a.0)))
+        | inr (inr (inr a)) ↦ (let z : suc (o.first + 0) ≡ suc o.first = omega arith in absurd (on_stays p l 0 off.some_vertex (ap w z ∙ sym a.0)))
       ]
 
   removed_to : (p x i : ℕ) → p ≤ o.places → o.places ≢ 1 → i < o.faces → IsOnRemoved w o i x (o.contour p) → (o.alive (face_of lists (o.contour p) x) ≡ true) ⊎ ((t : ℕ) × (t ≤ o.faces) × (p ≡ o.cut t))
   removed_to p x i l many m h =
-      let b = cut_within i (omega arith) in
       let b' = cut_within (suc i) m in
-      let some = off.some_vertex in
       elim h [
         | inl a ↦
-            let k = a.2 in
-            let rim = shore.edge a.0 (omega arith) many in
-            inl (ap₂ (λ s t. o.alive (face_of lists s t)) (sym a.4) (sym a.3) ∙ rim.inside)
+            inl (ap₂ (λ s t. o.alive (face_of lists s t)) (sym a.4) (sym a.3) ∙ (shore.edge a.0 (omega arith) many).inside)
         | inr (inl a) ↦ (let q : ℕ = o.vertices - 1 in let z : suc (o.first + q) ≡ o.first + o.vertices = omega arith in absurd (on_stays p l q (omega arith) (ap w z ∙ sym a.1)))
         | inr (inr (inl a)) ↦ (let pos = a.1 in let less = a.2 in let q : ℕ = a.0 - 1 in let z : suc (o.first + q) ≡ o.first + a.0 = omega arith in absurd (on_stays p l q (omega arith) (ap w z ∙ sym a.4)))
-        | inr (inr (inr a)) ↦ inr (i, omega arith, shore.distinct p (o.cut i) l b a.1)
+        | inr (inr (inr a)) ↦ inr (i, omega arith, shore.distinct p (o.cut i) l (cut_within i (omega arith)) a.1)
       ]
 
   -- an edge at a vertex of the new contour that is taken off now: the vertex is where two removed faces meet, or an end
@@ -377,7 +335,6 @@ module _ (lists : Lists) (alive : ℕ → Bool) (w : ℕ → ℕ) (r : ℕ) (o :
               let cut = opened_at p some' l' now closed_v in
               let low = cut-first g step is_step cut.0 cut.1 in
               let high = cut-last g step is_step cut.0 cut.1 in
-              let e = cut.2 in
               end_touched p (elim (cases_eq p o.first) [
                 | inl q ↦ inl q
                 | inr nq ↦ elim (cases_eq p o.last) [
@@ -395,25 +352,20 @@ module _ (lists : Lists) (alive : ℕ → Bool) (w : ℕ → ℕ) (r : ℕ) (o :
         let x = now.0 in
         let first = cut-first g step is_step i (omega arith) in
         let last = cut-last g step is_step (suc i) l in
-        let in_places = off.within in
         let fresh : (m : ℕ) → m ≤ r → w m ≢ v = λ m k e. off.fresh p m (omega arith) (omega arith) k (sym e) in
         let rim = shore.edge p (omega arith) (λ e. omega arith) in
         let next = o.contour (suc p) in
         let live : alive (face_of lists next v) ≡ true = off.still (face_of lists next v) rim.inside in
-        let back = simple.both_ways v next rim.dart in
         let z = follows lists v next in
-        let has_z = HasDart-follows lists v next rim.dart in
-        let live_z : alive (face_of lists v z) ≡ true = ap alive (face_of-step lists simple next v back) ∙ live in
-        let all = off_contour lists alive w r simple contour.only contour.round v z x fresh has_z live_z now.1 in
+        let live_z : alive (face_of lists v z) ≡ true = ap alive (face_of-step lists simple next v (simple.both_ways v next rim.dart)) ∙ live in
+        let all = off_contour lists alive w r simple contour.only contour.round v z x fresh (HasDart-follows lists v next rim.dart) live_z now.1 in
         let gone = off.gone (face_of lists v x) all.0 now.2 in
         elim (removed_at p x gone.0 (omega arith) (λ e. omega arith) gone.1 (off.darts gone.0 v x gone.1 now.1 gone.2)) [
           | inl t ↦ true≢false (sym t ∙ now.3)
           | inr cut ↦
-              let t = cut.0 in
-              let e = cut.2 in
-              elim (cases_lt i t) [
-                | inl m ↦ (let h = cut-le g step is_step (suc i) t m cut.1 in omega arith)
-                | inr m ↦ (let h = cut-le g step is_step t i m (omega arith) in omega arith)
+              elim (cases_lt i cut.0) [
+                | inl m ↦ (let h = cut-le g step is_step (suc i) cut.0 m cut.1 in omega arith)
+                | inr m ↦ (let h = cut-le g step is_step cut.0 i m (omega arith) in omega arith)
               ]
         ]
 
@@ -423,25 +375,15 @@ module _ (lists : Lists) (alive : ℕ → Bool) (w : ℕ → ℕ) (r : ℕ) (o :
           | inr ne ↦ IsTouched-longer steps n step k k v (omega arith) (omega arith) (built.under k v (omega arith) (IsUnder-longer steps n step k v (omega arith) u))
           | inl e ↦
               let at = IsUnder-last steps n step v (subst (λ t. IsUnder steps' t v) e u) in
-              let p = at.1 in
-              let low = at.3 in
-              let high = at.4 in
               let last = cut-last g step is_step (suc at.0) at.2 in
-              let in_places = off.within in
-              let closed = under_closed at.0 p at.2 low high in
-              let was = touched p (omega arith) (omega arith) closed in
-              let is_v : rank (o.contour p) ≡ v = sym (built.contour p (omega arith)) ∙ at.5 in
+              let was = touched at.1 (omega arith) (omega arith) (under_closed at.0 at.1 at.2 at.3 at.4) in
+              let is_v : rank (o.contour at.1) ≡ v = sym (built.contour at.1 (omega arith)) ∙ at.5 in
               subst (λ t. IsTouched steps' t v) (sym e) (IsTouched-longer steps n step n n v (omega arith) (omega arith) (subst (IsTouched steps n) is_v was))
         ]
 
     -- THE STEP
     pub built_after : IsBuilt lists alive w r steps' (suc n) rank' number'
     built_after =
-        let a = off.width in
-        let b = off.within in
-        let c = built.width in
-        let counts = off.fewer in
-        let made = built.faces in
         let zero_stays : Stays (w 0) = subst Stays (begins_as_before lists alive w r o off) (on_stays 0 (omega arith)) in
         let last_stays : Stays (w r) = subst Stays (ends_as_before lists alive w r o off) (on_stays o.places (omega arith)) in
         let last = stage-last steps n step in

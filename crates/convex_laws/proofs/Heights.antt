@@ -56,17 +56,13 @@ module _ (lists : Lists) (simple : IsSimpleMap lists) (up : ℕ → ℕ) (m : �
   climb all zero = record { tail = x; head = y; dart = has; same = refl; far = omega arith }
   climb all (suc k) =
       let h = climb all k in
-      let less = all h.tail h.head h.dart (SameFace-labels lists x y h.tail h.head h.same) in
-      let f = h.far in
-      step_on k _ h (omega arith)
+      step_on k _ h (omega (arith, all h.tail h.head h.dart (SameFace-labels lists x y h.tail h.head h.same)))
 
   sink : Against → (k : ℕ) → IsSteps k (λ k v. up v + k ≤ m)
   sink all zero = let l = most x y has in record { tail = x; head = y; dart = has; same = refl; far = omega arith }
   sink all (suc k) =
       let h = sink all k in
-      let less = all h.tail h.head h.dart (SameFace-labels lists x y h.tail h.head h.same) in
-      let f = h.far in
-      step_on k _ h (omega arith)
+      step_on k _ h (omega (arith, all h.tail h.head h.dart (SameFace-labels lists x y h.tail h.head h.same)))
 
   pub never_along : ¬ Along
   never_along all = let h = climb all (suc m) in let f = h.far in let l = most h.tail h.head h.dart in omega arith

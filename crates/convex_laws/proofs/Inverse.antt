@@ -19,7 +19,5 @@ inverse-is f k w i l = by_cases (find_below (λ j. eqb (f j) i) k)
     by_cases : (c : ((j : ℕ) × (j < k) × (eqb (f j) i ≡ true)) ⊎ ((j : ℕ) → j < k → eqb (f j) i ≡ false)) → (found_or k (λ j. eqb (f j) i) c < k) × (f (found_or k (λ j. eqb (f j) i) c) ≡ i)
     by_cases (inl found) = (found.1, eqb-true (f found.0) i found.2)
     by_cases (inr none) =
-        let zero = count_none (λ j. eqb (f j) i) k none in
-        let same = count_below-images f k w (λ j. eqb j i) in
         let one = count_one (λ j. eqb j i) k i l (eq-eqb i i refl) in
-        absurd (omega arith)
+        absurd (omega (arith, count_below-images f k w (λ j. eqb j i), count_none (λ j. eqb (f j) i) k none))

@@ -2,7 +2,7 @@
 use Rattle.std.proofs.Common.{◌≡◌, ◌≢◌, ℕ, zero, suc, ◌+◌, ◌-◌, ◌*◌, ◌<◌, ◌≤◌, ltb, if◌then◌else◌, ℤ, pos, ◌+ℤ◌, ◌<ℤ◌, refl, sym, ap, ap₂, subst, ◌∙◌, inl, inr, arith}
 use Rattle.std.proofs.lemmas.Bool.{cond-true, cond-false, lt-ltb, le-ltb}
 use Rattle.std.proofs.lemmas.Int.{ints}
-use Rattle.pg_plane.specs.declared.segments.Point.{Point}
+use Rattle.pg_plane.specs.declared.grid_points.Point.{Point}
 use Rattle.pg_plane.specs.Geometry.{area}
 use Rattle.contour_runs.specs.Wood.{Coordinates, point_of}
 use Rattle.contour_runs.specs.FaceRuns.{Step, stage_after, faces_made}
@@ -41,20 +41,11 @@ module _ (steps : ℕ → Step) (at : Coordinates) where
   -- the middle by the number of a face
   middle_of-older : (n m : ℕ) → m < faces_made steps n → middle_of steps at (suc n) m ≡ middle_of steps at n m
   unfolding middle_of
-  middle_of-older n m l = cond-true (ltb m (faces_made steps n)) (middle_of steps at n m) (if_new n m) (lt-ltb m (faces_made steps n) l)
-    where
-      if_new : ℕ → ℕ → Point
-      if_new n m = if ltb m (faces_made steps (suc n)) then middle steps at n (m - faces_made steps n) else outside
+  middle_of-older n m l = grind (arith, cond-true, ltb, faces_made, at, lt-ltb, Point, middle, outside)
 
   middle_of-new : (n i : ℕ) → i < (steps n).faces → middle_of steps at (suc n) (faces_made steps n + i) ≡ middle steps at n i
   unfolding middle_of
-  middle_of-new n i l =
-      let m : ℕ = faces_made steps n + i in
-      let e : m - faces_made steps n ≡ i = omega arith in
-      cond-false (ltb m (faces_made steps n)) (middle_of steps at n m) (if_new n m) (le-ltb m (faces_made steps n) (omega arith)) ∙ cond-true (ltb m (faces_made steps (suc n))) (middle steps at n (m - faces_made steps n)) outside (lt-ltb m (faces_made steps (suc n)) (omega arith)) ∙ ap (middle steps at n) e
-    where
-      if_new : ℕ → ℕ → Point
-      if_new n m = if ltb m (faces_made steps (suc n)) then middle steps at n (m - faces_made steps n) else outside
+  middle_of-new n i l = grind (arith, faces_made, cond-false, ltb, at, le-ltb, cond-true, middle, outside, lt-ltb, Point)
 
   faces-le : (m n : ℕ) → m ≤ n → faces_made steps m ≤ faces_made steps n
   faces-le m n l = upward (λ k. faces_made steps m ≤ faces_made steps k) m n l (omega arith) (λ k a b c. omega arith)
@@ -66,22 +57,11 @@ module _ (steps : ℕ → Step) (at : Coordinates) where
 
   middle_of-outside : (n m : ℕ) → faces_made steps n ≤ m → middle_of steps at n m ≡ outside
   unfolding middle_of
-  middle_of-outside zero m l = refl
-  middle_of-outside (suc n) m l =
-      cond-false (ltb m (faces_made steps n)) (middle_of steps at n m) (if_new n m) (le-ltb m (faces_made steps n) (omega arith)) ∙ cond-false (ltb m (faces_made steps (suc n))) (middle steps at n (m - faces_made steps n)) outside (le-ltb m (faces_made steps (suc n)) l)
-    where
-      if_new : ℕ → ℕ → Point
-      if_new n m = if ltb m (faces_made steps (suc n)) then middle steps at n (m - faces_made steps n) else outside
+  middle_of-outside x0 m l = grind (arith, cond-false, ltb, faces_made, at, le-ltb, middle, outside, Point)
 
 -- thrice is three times as large
 thrice_larger : (at : Coordinates) (v : ℕ) → thrice at v ≡ larger (point_of at v)
-thrice_larger at v = ap₂ point (triple (at.one v)) (triple (at.two v))
-  where
-    point : ℤ → ℤ → Point
-    point x y = record { x = x; y = y }
-
-    triple : (n : ℕ) → pos (3 * n) ≡ (pos n +ℤ pos n) +ℤ pos n
-    triple n = omega (arith, ints)
+thrice_larger at v = grind (arith, at, ap₂, Point, pos, ints)
 
 module _ (steps : ℕ → Step) (n k : ℕ) (twin step back tail face : ℕ → ℕ) (base : ℕ) (whole : IsWholeRun steps n) (some : 0 < n) (d : AreDartsOf steps n k twin step back tail face base) where
   abbrev at : Coordinates
@@ -103,39 +83,21 @@ module _ (steps : ℕ → Step) (n k : ℕ) (twin step back tail face : ℕ → 
     | inl m ↦
         as_large (tail i) (tail (step i)) (middles (face i)) (middle steps at m.step m.place) (ap middles m.number ∙ middle_of-made steps at n m.step m.place m.earlier m.dart.within)
         (middle_within steps n m.step m.place (tail i) (tail (step i)) whole m.earlier m.dart)
-    | inr (inl o) ↦
-        let x = o.along.tail in
-        let y = o.along.head in
-        as_large (tail i) (tail (step i)) (middles (face i)) outside (ap middles o.number ∙ middle_of-outside steps at n (faces_made steps n) (omega arith))
-        (subst (λ z. pos 0 <ℤ area (thrice at z) (thrice at (tail (step i))) outside) x
-        (subst (λ z. pos 0 <ℤ area (thrice at ((stage_after steps n).vertex o.place)) (thrice at z) outside) y (left_of_outer steps n o.place whole o.along.within)))
+    | inr (inl o) ↦ grind (arith, as_large, middles, outside, middle_of-outside, at, faces_made, pos, area, thrice, stage_after, left_of_outer)
     | inr (inr b) ↦ absurd (ne (d.one_base i l b.tail b.head))
   ]
 
   outer : area (large base) (large (step base)) (middles (face base)) <ℤ pos 0
   outer =
-      let b = d.base_dart in
-      let e = ap middles b.number ∙ middle_of-outside steps at n (faces_made steps n) (omega arith) in
+      let e = ap middles d.base_dart.number ∙ middle_of-outside steps at n (faces_made steps n) (omega arith) in
       subst (λ z. area (large base) (large (step base)) z <ℤ pos 0) (sym e)
       (subst (λ z. area z (large (step base)) outside <ℤ pos 0) (thrice_larger at (tail base))
       (subst (λ z. area (thrice at (tail base)) z outside <ℤ pos 0) (thrice_larger at (tail (step base)))
-      (subst (λ z. area (thrice at z) (thrice at (tail (step base))) outside <ℤ pos 0) (sym b.tail)
-      (subst (λ z. area (thrice at 1) (thrice at z) outside <ℤ pos 0) (sym b.head) (right_of_base steps n whole some)))))
+      (subst (λ z. area (thrice at z) (thrice at (tail (step base))) outside <ℤ pos 0) (sym d.base_dart.tail)
+      (subst (λ z. area (thrice at 1) (thrice at z) outside <ℤ pos 0) (sym d.base_dart.head) (right_of_base steps n whole some)))))
 
   middled : IsMiddled k twin step back large tail face middles base
-  middled = record {
-    twins = d.twins;
-    steps = d.steps_on;
-    twice = d.twice;
-    back_in = d.back_in;
-    step_back = d.step_back;
-    tails = d.tails;
-    places = λ i j li lj e. ap (λ v. larger (point_of at v)) e;
-    faces = d.faces;
-    base_in = d.base_in;
-    inner = inner;
-    outer = outer;
-  }
+  middled = grind (arith, larger, point_of, at, inner, outer)
 
   pub drawn : IsPlaneRound k twin step back (λ i. point_of at (tail i)) tail
   drawn = larger_is_plane k twin step back (λ i. point_of at (tail i)) tail (middles_are_plane k twin step back large tail face middles base middled)

@@ -1,7 +1,7 @@
 -- A drawing is plane where it is plane three times as large.
 use Rattle.std.proofs.Common.{◌≡◌, ℕ, ℤ, pos, ◌+ℤ◌, ◌-ℤ◌, ◌*ℤ◌, ◌<ℤ◌, sym, ap, ap₂, subst, ◌∙◌, inl, inr, ⊎_elim, arith}
 use Rattle.std.proofs.lemmas.Int.{ints}
-use Rattle.pg_plane.specs.declared.segments.Point.{Point}
+use Rattle.pg_plane.specs.declared.grid_points.Point.{Point}
 use Rattle.pg_plane.specs.Geometry.{vector, cross, area, IsBetween, IsOnSegment, AreOpposite, DoCross, IsFirstHalf, IsClockBefore}
 use Rattle.pg_plane.specs.Law.{direction}
 use Rattle.pg_plane.proofs.Ring.{ring, sums}
@@ -23,10 +23,7 @@ difference : (x y : ℤ) → ((x +ℤ x) +ℤ x) -ℤ ((y +ℤ y) +ℤ y) ≡ ((
 difference x y = omega (arith, ints)
 
 larger_vector : (a b : Point) → vector (larger a) (larger b) ≡ larger (vector a b)
-larger_vector a b = ap₂ point (difference b.x a.x) (difference b.y a.y)
-  where
-    point : ℤ → ℤ → Point
-    point x y = record { x = x; y = y }
+larger_vector a b = grind (arith, ap₂, difference, Point)
 
 larger_cross : (u v : Point) → cross (larger u) (larger v) ≡ nine (cross u v)
 larger_cross u v = nine_products u.x v.y v.x u.y
@@ -73,20 +70,10 @@ half_smaller : (u : Point) → IsFirstHalf (larger u) → IsFirstHalf u
 half_smaller u h = ⊎_elim (λ l. inl (omega (arith, ints))) (λ r. let a = r.0 in let b = r.1 in inr (omega (arith, ints), omega (arith, ints))) h
 
 clock_larger : (u v : Point) → IsClockBefore u v → IsClockBefore (larger u) (larger v)
-clock_larger u v h = ⊎_elim
-    (λ x. inl (half_larger u x.0, λ f. x.1 (half_smaller v f)))
-    (λ x. ⊎_elim
-    (λ y. inr (inl (half_larger u y.0, half_larger v y.1, subst (λ z. z <ℤ pos 0) (sym (larger_cross u v)) (nine_down (cross u v) y.2))))
-    (λ y. inr (inr ((λ f. y.0 (half_smaller u f)), (λ f. y.1 (half_smaller v f)), subst (λ z. z <ℤ pos 0) (sym (larger_cross u v)) (nine_down (cross u v) y.2))))
-    x) h
+clock_larger u v h = grind (arith, half_larger, half_smaller, pos, larger_cross, nine_down, cross)
 
 clock_smaller : (u v : Point) → IsClockBefore (larger u) (larger v) → IsClockBefore u v
-clock_smaller u v h = ⊎_elim
-    (λ x. inl (half_smaller u x.0, λ f. x.1 (half_larger v f)))
-    (λ x. ⊎_elim
-    (λ y. inr (inl (half_smaller u y.0, half_smaller v y.1, nine_down_back (cross u v) (subst (λ z. z <ℤ pos 0) (larger_cross u v) y.2))))
-    (λ y. inr (inr ((λ f. y.0 (half_larger u f)), (λ f. y.1 (half_larger v f)), nine_down_back (cross u v) (subst (λ z. z <ℤ pos 0) (larger_cross u v) y.2))))
-    x) h
+clock_smaller u v h = grind (arith, half_smaller, half_larger, nine_down_back, cross, pos, larger_cross)
 
 module _ (k : ℕ) (twin step back : ℕ → ℕ) (at : ℕ → Point) (tail : ℕ → ℕ) where
   way_larger : (i : ℕ) → direction step (λ j. larger (at j)) i ≡ larger (direction step at i)

@@ -49,30 +49,13 @@ module _ (lists : Lists) (alive : ℕ → Bool) (w : ℕ → ℕ) (r : ℕ) (sim
 
   -- there are three places at least
   three_places : 2 ≤ r
-  three_places =
-      elim (cases_eq r 0) [
-        | inl e ↦
-            let rim = contour.edge 0 (omega arith) in
-            let z : w 1 ≡ w 0 = ap (λ n. w (suc n)) (sym e) ∙ contour.round in
-            absurd (simple.no_loop (w 0) (w 1) rim.dart z)
-        | inr some ↦ elim (cases_eq r 1) [
-          | inr more ↦ omega arith
-          | inl e ↦
-              let rim = contour.edge 0 (omega arith) in
-              let base = contour.edge r (omega arith) in
-              absurd (true≢false (sym base.inside ∙ (ap₂ (λ s t. alive (face_of lists s t)) contour.round (ap w e) ∙ rim.outside)))
-        ]
-      ]
+  three_places = grind (arith, cases_eq, true≢false, ap₂, face_of)
 
   own : face ≡ face_of lists (w 0) (w r)
   own = let l = three_places in all 0 (omega arith)
 
   edge_face : (i : ℕ) → i ≤ r → face_of lists (w (suc i)) (w i) ≡ face
-  edge_face i l =
-      elim (cases_eq i r) [
-        | inl e ↦ ap₂ (face_of lists) (ap (λ n. w (suc n)) e ∙ contour.round) (ap w e) ∙ sym own
-        | inr ne ↦ all i (omega arith) ∙ sym own
-      ]
+  edge_face i l = grind (arith, cases_eq, ap₂, face_of, own)
 
   base_dart : HasDart lists (w 0) (w r)
   base_dart = simple.both_ways (w r) (w 0) (subst (HasDart lists (w r)) contour.round (contour.edge r (omega arith)).dart)
@@ -81,7 +64,6 @@ module _ (lists : Lists) (alive : ℕ → Bool) (w : ℕ → ℕ) (r : ℕ) (sim
   the_ear =
       let l = three_places in
       let found = stretch_is_ear_law lists alive w r 0 simple polyhedral contour (omega arith) (λ a i b m n k p q. edge_face i (omega arith)) in
-      let a = found.0 in
       let b = found.1 in
       let walk = found.2 in
       let many = found.3 in
@@ -89,17 +71,13 @@ module _ (lists : Lists) (alive : ℕ → Bool) (w : ℕ → ℕ) (r : ℕ) (sim
       let ends = base_passes lists alive w r simple polyhedral three contour in
       let low = ear.places 0 (omega arith) (subst (λ f. Passes lists f (w 0)) (sym own) ends.0) in
       let high = ear.places r (omega arith) (subst (λ f. Passes lists f (w r)) (sym own) ends.1) in
-      let a_low = low.0 in
-      let b_high = high.1 in
-      let b_r = ear.within in
-      let a_is : a ≡ 0 = omega arith in
+      let a_is : found.0 ≡ 0 = omega arith in
       let b_is : b ≡ r = omega arith in
-      let some = ear.some_step in
-      let first_dart = ear.darts 0 some in
+      let first_dart = ear.darts 0 ear.some_step in
       let start : walk 0 ≡ w 0 = ear.first ∙ ap w a_is in
       let has : HasDart lists (w 0) (walk 1) = subst (λ v. HasDart lists v (walk 1)) start first_dart.0 in
       let at : walk 1 ≡ w r = leaves_once lists alive simple polyhedral (w 0) (walk 1) (w r) has base_dart (ap (λ v. face_of lists v (walk 1)) (sym start) ∙ (first_dart.1 ∙ own)) in
-      let many_is : many ≡ 1 = ear.distinct many 1 (omega arith) some (ear.last ∙ (ap w b_is ∙ sym at)) in
+      let many_is : many ≡ 1 = ear.distinct many 1 (omega arith) ear.some_step (ear.last ∙ (ap w b_is ∙ sym at)) in
       (walk, subst (λ t. IsEar lists w r face 0 r walk t) many_is (subst (λ t. IsEar lists w r face 0 t walk many) b_is (subst (λ t. IsEar lists w r face t b walk many) a_is ear)))
 
   module _ (walk : ℕ → ℕ) (ear : IsEar lists w r face 0 r walk 1) where
@@ -130,8 +108,7 @@ module _ (lists : Lists) (alive : ℕ → Bool) (w : ℕ → ℕ) (r : ℕ) (sim
         let step : (z : ℕ) → P z → P (follows lists v z) = λ z p. (
           HasDart-follows lists v z p.0,
           λ t.
-              let back = simple.both_ways v z p.0 in
-              let live : alive' (face_of lists z v) ≡ true = ap alive' (sym (face_of-step lists simple z v back)) ∙ t in
+              let live : alive' (face_of lists z v) ≡ true = ap alive' (sym (face_of-step lists simple z v (simple.both_ways v z p.0))) ∙ t in
               let was = kept_but-old alive face (face_of lists z v) live in
               elim (cases_Bool (alive (face_of lists v z))) [
                 | inr dead ↦
@@ -192,14 +169,8 @@ module _ (lists : Lists) (alive : ℕ → Bool) (w : ℕ → ℕ) (r : ℕ) (sim
         let end = ends_as_before lists alive w r o off in
         let ends_apart : o.contour 0 ≢ o.contour 1 = λ e. (let z : 0 ≡ r = contour.distinct 0 r (omega arith) (omega arith) (sym start ∙ (e ∙ (ap o.contour (sym two) ∙ end))) in omega arith) in
         let distinct : (i j : ℕ) → i ≤ 1 → j ≤ 1 → o.contour i ≡ o.contour j → i ≡ j = λ i j m k e. elim (cases_eq i 0) [
-          | inl z ↦ elim (cases_eq j 0) [
-            | inl z' ↦ omega arith
-            | inr n' ↦ (let j_1 : j ≡ 1 = omega arith in absurd (ends_apart (ap o.contour (sym z) ∙ (e ∙ ap o.contour j_1))))
-          ]
-          | inr nz ↦ elim (cases_eq j 0) [
-            | inl z' ↦ (let i_1 : i ≡ 1 = omega arith in absurd (ends_apart (ap o.contour (sym z') ∙ (sym e ∙ ap o.contour i_1))))
-            | inr n' ↦ omega arith
-          ]
+          | inl z ↦ grind (arith, cases_eq)
+          | inr nz ↦ grind (arith, cases_eq)
         ] in (
           o,
           record {

@@ -74,7 +74,6 @@ module _ (steps : ℕ → Step) (n : ℕ) (s : Step) where
 
   pub IsTouched-longer : (k l v : ℕ) → k ≤ n → k ≤ l → IsTouched steps k v → IsTouched more l v
   IsTouched-longer k l v m m' t =
-      let e = t.earlier in
       record { step = t.step; earlier = omega arith; end = carried (λ g u. (g.vertex u.first ≡ v) ⊎ (g.vertex u.last ≡ v)) t.step (omega arith) t.end }
 
   pub IsTouched-last : (v : ℕ) → ((stage_after steps n).vertex s.first ≡ v) ⊎ ((stage_after steps n).vertex s.last ≡ v) → IsTouched more (suc n) v

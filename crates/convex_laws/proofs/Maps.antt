@@ -8,7 +8,7 @@ use Rattle.map_lists.specs.Lists.{Lists}
 use Rattle.map_theory.specs.Maps.{Dart, HasDart, follows, dart_number, dart_count}
 use Rattle.map_theory.proofs.DartLemmas.{HasDart-follows}
 use Rattle.map_theory.proofs.DartPermutations.{dart_of, tail_of, twin, dart_of-number, IsPairing-twin, tail_of-rotation}
-use Rattle.pg_plane.specs.declared.segments.Point.{Point}
+use Rattle.pg_plane.specs.declared.grid_points.Point.{Point}
 use Rattle.pg_plane.specs.Geometry.{area, IsOnSegment}
 use Rattle.plane_drawings.specs.Drawing.{place}
 use Rattle.contour_runs.specs.Wood.{Coordinates, point_of}
@@ -76,7 +76,6 @@ module _ (lists : Lists) (base : Dart) (s : ℕ → Step) (n : ℕ) (rank : ℕ 
 
     inner : (x y : ℕ) → HasDart lists x y → face x y ≢ faces_made s n → pos 0 ≤ℤ area (place points x) (place points y) (place points (follows lists y x))
     inner x y has ne =
-        let z = follows lists y x in
         let back_dart = m.simple.both_ways x y has in
         let next = HasDart-follows lists y x back_dart in
         let same = m.faces x y has in
@@ -84,8 +83,6 @@ module _ (lists : Lists) (base : Dart) (s : ℕ → Step) (n : ℕ) (rank : ℕ 
         (elim (m.on_face x y has) [
           | inl a ↦ elim (m.on_face y (follows lists y x) next) [
             | inl b ↦
-                let e = a.number in
-                let f = b.number in
                 let one = same_number s a.step b.step a.place b.place a.dart.within b.dart.within (omega arith) in
                 let moved = subst (λ k. IsDartOf (stage_after s k) (s k) b.place (rank y) (rank (follows lists y x))) (sym one.0) b.dart in
                 corners_convex s n a.step a.place (rank x) (rank y) (rank (follows lists y x)) whole.turned a.earlier a.dart (subst (λ i. IsDartOf (stage_after s a.step) (s a.step) i (rank y) (rank (follows lists y x))) (sym one.1) moved)
@@ -113,7 +110,6 @@ module _ (lists : Lists) (base : Dart) (s : ℕ → Step) (n : ℕ) (rank : ℕ 
     sides : (x y e : ℕ) → HasDart lists x y → face x y ≡ faces_made s n → e < length lists → suc (rank e) ≡ (stage_after s n).count → IsOnSegment (place points x) (place points base.1) (place points e) ⊎ IsOnSegment (place points x) (place points e) (place points base.0)
     sides x y e has outer le last =
         let stage = IsStage-run s n whole.turned.run in
-        let wide = stage.wide in
         let on : IsOnSegment (point_of at (rank x)) (point_of at 0) (point_of at (rank e)) ⊎ IsOnSegment (point_of at (rank x)) (point_of at (rank e)) (point_of at 1) =
         elim (m.on_face x y has) [
           | inl a ↦ let f = a.number in let less = faces-lt s a.step n a.place a.earlier a.dart.within in absurd (omega arith)
@@ -131,8 +127,6 @@ module _ (lists : Lists) (base : Dart) (s : ℕ → Step) (n : ℕ) (rank : ℕ 
       rotations = rotations_kept lists m.simple points m.joined (λ v. point_of at (rank v)) placed rank m.ranks plane;
       grid = λ v l.
           let g = (cornered s n whole).grid (rank v) (m.placed v l) in
-          let g0 = g.0 in
-          let g1 = g.1 in
           rw (placed v l) record { left = omega (arith, ints); right = omega (arith, ints); bottom = omega (arith, ints); top = omega (arith, ints) };
       first = first_at ∙ ap₂ grid_point (cornered s n whole).first.0 (cornered s n whole).first.1;
       second = second_at ∙ ap₂ grid_point (cornered s n whole).second.0 (cornered s n whole).second.1;

@@ -47,9 +47,8 @@ module _ (lists : Lists) (base : Dart) (root : Axis → ℕ) (out : Axis → ℕ
   -- a dart of the outer face that comes to the tail of the base comes from root three
   to_two : (x : ℕ) → HasDart lists x base.0 → SameFace lists base (x, base.0) → x ≡ root Three
   to_two x has same =
-      let back = simple.both_ways x base.0 has in
       let on = SameFace-chained lists simple base (x, base.0) (base.0, follows lists base.0 x) same (SameFace-step lists simple x base.0 has) in
-      let one = polyhedral.once base.0 base.1 (follows lists base.0 x) has_base (HasDart-follows lists base.0 x back) on in
+      let one = polyhedral.once base.0 base.1 (follows lists base.0 x) has_base (HasDart-follows lists base.0 x (simple.both_ways x base.0 has)) on in
       before_once lists simple x base.0 (root Three) has roots.before (sym one ∙ sym roots.step)
 
   -- and one that comes to its head is the base

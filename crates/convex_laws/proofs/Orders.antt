@@ -68,14 +68,7 @@ module _ (lists : Lists) (s d : ℕ) (steps : ℕ → Step) (n : ℕ) (rank : �
 
   -- what stands before the outer face at a root is on it
   before_is_outer : (c : Axis) (v u : ℕ) → HasDart lists u v → v ≡ root c → IsBeforeOuter lists (s, d) root c u → face u v ≡ outer
-  before_is_outer One v u has e b = ap (λ v. face u v) (e ∙ roots.one) ∙ ap (λ u. face u d) b ∙ h.map.outer
-  before_is_outer Two v u has e b = ap (λ v. face u v) (e ∙ roots.two) ∙ ap (λ u. face u s) b ∙ three_outer
-    where
-      three_outer : face (root Three) s ≡ outer
-      three_outer = sym (h.map.faces (root Three) s roots.before) ∙ ap (face s) roots.step ∙ h.map.outer
-  before_is_outer Three v u has e b =
-      let three_outer : face (root Three) s ≡ outer = sym (h.map.faces (root Three) s roots.before) ∙ ap (face s) roots.step ∙ h.map.outer in
-      sym (h.map.faces u v has) ∙ ap (λ v. face v (follows lists v u)) e ∙ ap (face (root Three)) b ∙ three_outer
+  before_is_outer x0 v u has e b = grind (arith, One, outer, Two, Three, follows)
 
   -- the sectors behind one entry and ahead of the next make an order
   abbrev Meets : ℕ → ℕ → Axis → Axis → Type 0
@@ -107,16 +100,10 @@ module _ (lists : Lists) (s d : ℕ) (steps : ℕ → Step) (n : ℕ) (rank : �
 
   three_end : IsEnd (root Three)
   three_end =
-      let out : face (root Three) s ≡ outer = sym (h.map.faces (root Three) s roots.before) ∙ ap (face s) roots.step ∙ h.map.outer in
-      let m = many in
-      let r = rank_three lists s d steps n rank face at h root roots in
-      let c = h.all in
-      elim (cases_outer (root Three) s roots.before out) [
+      elim (cases_outer (root Three) s roots.before (sym (h.map.faces (root Three) s roots.before) ∙ ap (face s) roots.step ∙ h.map.outer)) [
         | inl o ↦
-            let w = o.along.within in
             let end : ℕ = g.width - 1 in
-            let wide = stage.wide in
-            let z = one_place (suc o.place) end w (omega arith) (o.along.head ∙ h.map.second ∙ sym (stage.end end (omega arith))) in
+            let z = one_place (suc o.place) end o.along.within (omega arith) (o.along.head ∙ h.map.second ∙ sym (stage.end end (omega arith))) in
             record { place = o.place; tail = o.along.tail; next = omega arith }
         | inr b ↦ let z = b.0 in absurd (omega arith)
       ]
@@ -149,12 +136,7 @@ module _ (lists : Lists) (s d : ℕ) (steps : ℕ → Step) (n : ℕ) (rank : �
 
     -- at no root
     meets_elsewhere : (b a : Axis) → b ≡ a → rank v ≢ 0 → rank v ≢ 1 → suc (rank v) ≢ length lists → Meets v u b a
-    meets_elsewhere b a e n0 n1 n2 = (λ c. none c, λ z. e)
-      where
-        none : (c : Axis) → v ≡ root c → IsBeforeOuter lists (s, d) root c u → (b ≡ previous c) × (a ≡ next c)
-        none One e z = absurd (n0 (root_rank_one e))
-        none Two e z = absurd (n1 (root_rank_two e))
-        none Three e z = absurd (n2 (root_rank_three e))
+    meets_elsewhere b a e n0 n1 n2 = grind (arith, Axis, IsBeforeOuter, previous, next, One, root_rank_one, Two, root_rank_two, Three, root_rank_three)
 
     -- on a face that is made
     ordered_made : (k i : ℕ) → k < n → i < (steps k).faces → face u v ≡ faces_made steps k + i → IsOrdered lists (s, d) root out_of v u
@@ -167,19 +149,15 @@ module _ (lists : Lists) (s d : ℕ) (steps : ℕ → Step) (n : ℕ) (rank : �
     -- at root one, behind the base
     ordered_base : rank u ≡ 1 → rank v ≡ 0 → face u v ≡ outer → IsOrdered lists (s, d) root out_of v u
     ordered_base eu ev e =
-        let m = many in
-        let all = h.all in
         let v_is : v ≡ root One = h.map.ranks v d lv (head_in lists s d steps n rank face at h root roots s d h.map.dart) (ev ∙ sym h.map.first) ∙ sym roots.one in
         let u_is : u ≡ s = h.map.ranks u s (head_in lists s d steps n rank face at h root roots v u has) h.map.dart.0 (eu ∙ sym h.map.second) in
         elim (cases_outer v w after (same_face ∙ e)) [
           | inr b ↦ let z = b.0 in absurd (omega arith)
           | inl o ↦
-              let wi = o.along.within in
               let p0 : o.place ≡ 0 = one_place o.place 0 (omega arith) (omega arith) (o.along.tail ∙ ev ∙ sym stage.begin) in
-              let t = top_is in
               let pos : 0 < top = elim (cases_eq top 0) [ inl z ↦ (let q = ap g.vertex z ∙ stage.begin in absurd (omega arith)) | inr nz ↦ omega arith ] in
               ordered v u Three Two has (subst (λ r. IsBehind Rises (rank v) r Three) (sym eu) (subst (λ r. IsBehind Rises r 1 Three) (sym ev) sides.base.head)) (sides.right o.place (rank v) (rank w) (omega arith) o.along).tail
-              (at_root m all, λ none. absurd (none One v_is u_is))
+              (at_root many h.all, λ none. absurd (none One v_is u_is))
         ]
       where
         at_root : 3 ≤ g.count → g.count ≡ length lists → (c : Axis) → v ≡ root c → IsBeforeOuter lists (s, d) root c u → (Three ≡ previous c) × (Two ≡ next c)

@@ -53,13 +53,11 @@ module _ (lists : Lists) (s d : ℕ) (steps : ℕ → Step) (n : ℕ) (rank : �
   leaves : (x y i : ℕ) → HasDart lists x y → suc i < g.width → g.vertex i ≡ rank x → face x y ≡ outer → face_of lists s d ≡ face_of lists x y → LeavesPlace i
   leaves x y i has l tail e same = elim (cases_outer x y has e) [
     | inl on ↦
-        let w = on.within in
         let k : on.place ≡ i = sym (stage.own on.place (omega arith)) ∙ ap g.place (on.tail ∙ sym tail) ∙ stage.own i (omega arith) in
         record { x = x; y = y; dart = has; tail = tail; head = ap (λ i. g.vertex (suc i)) (sym k) ∙ on.head; outer_face = e; same = same }
     | inr base ↦
         let end = stage.end (g.width - 1) (omega arith) in
-        let k : i ≡ g.width - 1 = sym (stage.own i (omega arith)) ∙ ap g.place (tail ∙ base.0 ∙ sym end) ∙ stage.own (g.width - 1) (omega arith) in
-        absurd (omega arith)
+        absurd (omega (arith, sym (stage.own i (omega arith)) ∙ ap g.place (tail ∙ base.0 ∙ sym end) ∙ stage.own (g.width - 1) (omega arith)))
   ]
 
   pub leaves_place : (i : ℕ) → suc i < g.width → LeavesPlace i
@@ -88,10 +86,7 @@ module _ (lists : Lists) (s d : ℕ) (steps : ℕ → Step) (n : ℕ) (rank : �
             let ex : at.x ≡ x = map.ranks at.x x m.0 l.0 (sym at.tail ∙ on.tail) in
             let ey : at.y ≡ y = map.ranks at.y y m.1 l.1 (sym at.head ∙ on.head) in
             SameFace-labels lists s d x y (subst (λ x. face_of lists s d ≡ face_of lists x y) ex (subst (λ y. face_of lists s d ≡ face_of lists at.x y) ey at.same))
-        | inr base ↦
-            let ex : s ≡ x = map.ranks s x b.0 l.0 (map.second ∙ sym base.0) in
-            let ey : d ≡ y = map.ranks d y b.1 l.1 (map.first ∙ sym base.1) in
-            SameFace-labels lists s d x y (subst (λ x. face_of lists s d ≡ face_of lists x y) ex (subst (λ y. face_of lists s d ≡ face_of lists s y) ey refl))
+        | inr base ↦ grind (arith, SameFace-labels, face_of)
       ]
 
   pub SameFace-outer : (x y : ℕ) → HasDart lists x y → SameFace lists (s, d) (x, y) → face x y ≡ outer
@@ -110,7 +105,6 @@ module _ (lists : Lists) (s d : ℕ) (steps : ℕ → Step) (n : ℕ) (rank : �
       let next = HasDart-face_step lists (e, s) simple has in
       elim (cases_outer s y next (map.faces e s has ∙ same)) [
         | inl on ↦
-            let w = on.within in
             let end = stage.end (g.width - 1) (omega arith) in
             let k : on.place ≡ g.width - 1 = sym (stage.own on.place (omega arith)) ∙ (ap g.place (on.tail ∙ (map.second ∙ sym end)) ∙ stage.own (g.width - 1) (omega arith)) in
             absurd (omega arith)
@@ -122,8 +116,6 @@ module _ (lists : Lists) (s d : ℕ) (steps : ℕ → Step) (n : ℕ) (rank : �
       let w = stage.wide in
       let i : ℕ = g.width - 2 in
       let at = leaves_place i (omega arith) in
-      let end = stage.end (suc i) (omega arith) in
-      let m = vertex_in at.x at.y at.dart in
       let b = vertex_in s d map.dart in
-      let ey : at.y ≡ s = map.ranks at.y s m.1 b.0 (sym at.head ∙ end ∙ sym map.second) in
+      let ey : at.y ≡ s = map.ranks at.y s (vertex_in at.x at.y at.dart).1 b.0 (sym at.head ∙ (stage.end (suc i) (omega arith)) ∙ sym map.second) in
       (at.x, subst (λ y. HasDart lists at.x y → SameFace lists (s, d) (at.x, y) → face at.x y ≡ outer → IsBefore at.x) (sym ey) (λ h k o. record { dart = h; same = k; step = before_step at.x h o }) at.dart (SameFace-labels lists s d at.x at.y at.same) at.outer_face)

@@ -97,22 +97,7 @@ module _ (lists : Lists) (s d : ℕ) (steps : ℕ → Step) (n : ℕ) (rank : �
 
   -- and none from the root
   root_stays : (c : Axis) (v u : ℕ) → v < length lists → u < length lists → IsRootIn c (rank v) → ¬ IsRising counts c (rank v) (rank u)
-  root_stays One v u lv lu e r =
-      let f = fall.first_one in
-      let z = ap counts.one e in
-      let q = fall.sums (rank u) (h.map.placed u lu) in
-      let x = r.0 in
-      omega arith
-  root_stays Two v u lv lu e r =
-      let f = fall.second_two in
-      let z = ap counts.two e in
-      let q = fall.sums (rank u) (h.map.placed u lu) in
-      let x = r.0 in
-      omega arith
-  root_stays Three v u lv lu e r =
-      let z = (cornered steps n h.whole).last (rank v) (e ∙ sym h.all) in
-      let x = r.0 in
-      omega (arith, z.0, z.1)
+  root_stays x0 v u lv lu e r = grind (arith, One, fall, counts, Two, Three, cornered)
 
   module _ (out_of : Axis → ℕ → ℕ) (are : AreRisingOut lists counts rank root out_of) where
     abbrev pub Leads : Axis → ℕ → ℕ → Type 0
@@ -124,11 +109,9 @@ module _ (lists : Lists) (s d : ℕ) (steps : ℕ → Step) (n : ℕ) (rank : �
 
     pub rises_out : (c : Axis) (v u : ℕ) → HasDart lists v u → IsRising counts c (rank v) (rank u) → Leads c v u
     rises_out c v u has r =
-        let l = has.0 in
-        let lu = head_in v u has in
-        let other : v ≢ root c = λ e. root_stays c v u l lu (subst (λ w. IsRootIn c (rank w)) (sym e) (rank_is c)) r in
-        let z = are c v l other in
-        record { vertex = l; other = other; is = one_out_at c v (out_of c v) u z.0 has z.1 r }
+        let other : v ≢ root c = λ e. root_stays c v u has.0 (head_in v u has) (subst (λ w. IsRootIn c (rank w)) (sym e) (rank_is c)) r in
+        let z = are c v has.0 other in
+        record { vertex = has.0; other = other; is = one_out_at c v (out_of c v) u z.0 has z.1 r }
 
     -- so an entry stands as the signs say
     pub entry_out : (v u : ℕ) (a b : Axis) → HasDart lists v u → IsEntry (IsRising counts) (rank v) (rank u) a b → IsEntry Leads v u a b

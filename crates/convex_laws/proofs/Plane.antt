@@ -1,7 +1,7 @@
 -- What the triangles say of the darts alone.
 use Rattle.std.proofs.Common.{◌≡◌, ◌⊎◌, ℕ, ◌+◌, ◌*◌, ◌<◌, Bool, true, false, not, ◌&&◌, eqb, refl, sym, ap, ap₂, subst, ◌∙◌, inl, inr, arith, eq-eqb, eqb-true}
 use Rattle.std.proofs.lemmas.Bool.{cases_Bool, true≢false, and_parts}
-use Rattle.pg_plane.specs.declared.segments.Point.{Point}
+use Rattle.pg_plane.specs.declared.grid_points.Point.{Point}
 use Rattle.pg_plane.specs.Geometry.{vector, IsOnSegment, DoCross, IsClockBefore}
 use Rattle.classes.proofs.Orbits.{IsPermuting, marks_back}
 use Rattle.pg_plane.specs.Faced.{turn}
@@ -19,19 +19,11 @@ is_before d e = elim (clock_cases d e) [ inl b ↦ true | inr b ↦ false ]
 
 is_before-true : (d e : Point) → is_before d e ≡ true → IsClockBefore d e
 unfolding is_before
-is_before-true d e = by_cases (clock_cases d e)
-  where
-    by_cases : (c : IsClockBefore d e ⊎ ¬ IsClockBefore d e) → (elim c [ inl b ↦ true | inr b ↦ false ]) ≡ true → IsClockBefore d e
-    by_cases (inl b) t = b
-    by_cases (inr b) t = absurd (true≢false (sym t))
+is_before-true d e = grind (arith, clock_cases, IsClockBefore, true≢false)
 
 is_before-false : (d e : Point) → is_before d e ≡ false → ¬ IsClockBefore d e
 unfolding is_before
-is_before-false d e = by_cases (clock_cases d e)
-  where
-    by_cases : (c : IsClockBefore d e ⊎ ¬ IsClockBefore d e) → (elim c [ inl b ↦ true | inr b ↦ false ]) ≡ false → ¬ IsClockBefore d e
-    by_cases (inl b) t = absurd (true≢false t)
-    by_cases (inr b) t = b
+is_before-false d e = grind (arith, clock_cases, IsClockBefore, true≢false)
 
 before-is_before : (d e : Point) → IsClockBefore d e → is_before d e ≡ true
 before-is_before d e b = elim (cases_Bool (is_before d e)) [ inl t ↦ t | inr f ↦ absurd (is_before-false d e f b) ]
@@ -142,10 +134,7 @@ module _ (k : ℕ) (twin step back : ℕ → ℕ) (at : ℕ → Point) (tail fac
       ]
 
   nexts : IsPermuting (next twin back) k
-  nexts = record {
-    within = λ i l. d.twins.within (back i) (d.back_in i l);
-    apart = λ i j l m e. let f = d.twins.apart (back i) (back j) (d.back_in i l) (d.back_in j m) e in sym (d.step_back i l) ∙ ap step f ∙ d.step_back j m;
-  }
+  nexts = grind arith
 
   next_tail : (i : ℕ) → i < k → tail (next twin back i) ≡ tail i
   next_tail i l = sym (d.tails (back i) (d.back_in i l)) ∙ ap tail (d.step_back i l)
@@ -174,10 +163,7 @@ module _ (k : ℕ) (twin step back : ℕ → ℕ) (at : ℕ → Point) (tail fac
   pub plane_round : IsPlaneRound k twin step back at tail
   plane_round = record {
     apart = λ i j li lj e.
-        let f = three.apart i j (low i li) (low j lj) (here i li ∙ e ∙ sym (here j lj)) in
-        let a = named i li in
-        let b = named j lj in
-        omega arith;
+        omega (arith, named j lj, named i li, three.apart i j (low i li) (low j lj) (here i li ∙ e ∙ sym (here j lj)));
     off_edges = λ i m li lm ne ne' on.
         three.off_edges i m (low i li) (low m lm) (λ e. ne (let a = named i li in let b = named m lm in omega arith)) (λ e. ne' (let a = named_step i li in let b = named m lm in omega arith))
         (subst (λ p. IsOnSegment p (A i) (A (S i))) (sym (here m lm)) (subst (λ p. IsOnSegment (at m) p (A (S i))) (sym (here i li)) (subst (λ p. IsOnSegment (at m) (at i) p) (sym (there i li)) on)));

@@ -37,10 +37,9 @@ module _ (lists : Lists) (s d : ℕ) (rows : ConvexRows) (m : ℕ) (steps : ℕ 
   -- each rank stands for a vertex
   hit : (k r : ℕ) → k ≤ m → r < (stage_after steps k).count → (v : ℕ) × (v < total) × (rank v ≡ r)
   hit zero r l less =
-      let base = run.map.dart in
       elim (cases_eq r 0) [
-        | inl e ↦ (d, run.map.simple.in_range s d base, run.map.first ∙ sym e)
-        | inr ne ↦ (let z : 1 ≡ r = omega arith in (s, base.0, run.map.second ∙ z))
+        | inl e ↦ (d, run.map.simple.in_range s d run.map.dart, run.map.first ∙ sym e)
+        | inr ne ↦ (let z : 1 ≡ r = omega arith in (s, run.map.dart.0, run.map.second ∙ z))
       ]
   hit (suc k) r l less =
       elim (cases_lt r (stage_after steps k).count) [
@@ -48,7 +47,6 @@ module _ (lists : Lists) (s d : ℕ) (rows : ConvexRows) (m : ℕ) (steps : ℕ 
         | inr high ↦
             let j : ℕ = m - suc k in
             let news = (rows_for k j (omega arith) (omega arith)).news in
-            let long = news.long in
             let i : ℕ = r - (stage_after steps k).count in
             let in_news : i < length (list_of rows.news j) = omega arith in
             let z : (stage_after steps k).count + i ≡ r = omega arith in

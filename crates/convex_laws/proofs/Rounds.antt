@@ -6,7 +6,7 @@ use Rattle.map_lists.specs.Lists.{Lists}
 use Rattle.map_theory.specs.Maps.{Dart, HasDart, IsSimpleMap, follows, dart_number, dart_count}
 use Rattle.map_theory.proofs.DartLemmas.{dart_number-lt, get_or-dart_number}
 use Rattle.map_theory.proofs.DartPermutations.{dart_of, tail_of, rotation, twin, dart_of-number, dart_of-twin, dart_of-rotation, IsPermuting-rotation, IsPairing-twin, tail_of-rotation}
-use Rattle.pg_plane.specs.declared.segments.Point.{Point}
+use Rattle.pg_plane.specs.declared.grid_points.Point.{Point}
 use Rattle.pg_plane.specs.Geometry.{vector, IsClockBefore}
 use Rattle.pg_plane.specs.Law.{direction}
 use Rattle.plane_drawings.specs.Drawing.{place, IsPlaneDrawing, IsBreak, KeepsRotations}
@@ -130,9 +130,7 @@ module _ (lists : Lists) (simple : IsSimpleMap lists) where
     rotations_kept v lv two = record {
       some =
           let a = joined v lv in
-          let o = number v a.0 in
-          let lo = number_in v a.0 a.1 in
-          let found = p.some_break o lo in
+          let found = p.some_break (number v a.0) (number_in v a.0 a.1) in
           let i = found.0 in
           let before = next (twin lists) back i in
           let lb : before < dart_count lists = twins_in (back i) (back_in i found.1) in

@@ -33,9 +33,6 @@ module _ (g : Stage) (s : Step) (step : IsStep g s) (i j x : ℕ) where
   to_edge : IsUnderEdge s i j → x ≤ s.turn i → moved s x ≤ j
   to_edge (begin ei ej) l =
       let t = turn_facts in
-      let t0 = t.0 in
-      let t1 = t.1 in
-      let t2 = t.2 in
       let e = ap s.turn ei in
       elim (cases_moved g s step x) [
         | inl a ↦ let b = a.low in let c = a.to in omega arith
@@ -46,10 +43,6 @@ module _ (g : Stage) (s : Step) (step : IsStep g s) (i j x : ℕ) where
       ]
   to_edge (end ei ej) l =
       let t = turn_facts in
-      let t0 = t.0 in
-      let t1 = t.1 in
-      let t2 = t.2 in
-      let m = step.some_vertex in
       let q : i ≡ s.faces - 1 = omega arith in
       let e = ap s.turn q in
       elim (cases_moved g s step x) [
@@ -61,12 +54,7 @@ module _ (g : Stage) (s : Step) (step : IsStep g s) (i j x : ℕ) where
       ]
   to_edge (only one ei lo hi) l =
       let t = turn_facts in
-      let t0 = t.0 in
-      let t1 = t.1 in
-      let t2 = t.2 in
-      let q : s.faces - 1 ≡ 0 = omega arith in
       let e = ap s.turn ei in
-      let e' = ap s.turn q in
       elim (cases_moved g s step x) [
         | inl a ↦ let b = a.low in let c = a.to in omega arith
         | inr (inl a) ↦ let c = a.to in omega arith
@@ -78,7 +66,6 @@ module _ (g : Stage) (s : Step) (step : IsStep g s) (i j x : ℕ) where
   from_edge : IsUnderEdge s i j → moved s x ≤ j → x ≤ s.turn i
   from_edge (begin ei ej) l =
       let t = turn_facts in
-      let t0 = t.0 in
       let e = ap s.turn ei in
       elim (cases_moved g s step x) [
         | inl a ↦ let b = a.low in omega arith
@@ -89,8 +76,6 @@ module _ (g : Stage) (s : Step) (step : IsStep g s) (i j x : ℕ) where
       ]
   from_edge (end ei ej) l =
       let t = turn_facts in
-      let t0 = t.0 in
-      let t1 = t.1 in
       let q : i ≡ s.faces - 1 = omega arith in
       let e = ap s.turn q in
       elim (cases_moved g s step x) [
@@ -102,7 +87,6 @@ module _ (g : Stage) (s : Step) (step : IsStep g s) (i j x : ℕ) where
       ]
   from_edge (only one ei lo hi) l =
       let t = turn_facts in
-      let t0 = t.0 in
       let q : s.faces - 1 ≡ 0 = omega arith in
       let e = ap s.turn ei in
       let e' = ap s.turn q in
@@ -116,24 +100,10 @@ module _ (g : Stage) (s : Step) (step : IsStep g s) (i j x : ℕ) where
 
 -- flips
 last_one : (a p t : Bool) → flipped a p ≡ flipped (flipped p (flipped a t)) t
-last_one true true true = refl
-last_one true true false = refl
-last_one true false true = refl
-last_one true false false = refl
-last_one false true true = refl
-last_one false true false = refl
-last_one false false true = refl
-last_one false false false = refl
+last_one x0 x1 x2 = grind arith
 
 last_two : (a p t : Bool) → flipped (not a) p ≡ flipped (flipped p (flipped a t)) (not t)
-last_two true true true = refl
-last_two true true false = refl
-last_two true false true = refl
-last_two true false false = refl
-last_two false true true = refl
-last_two false true false = refl
-last_two false false true = refl
-last_two false false false = refl
+last_two x0 x1 x2 = grind arith
 
 module _ (steps : ℕ → Step) (n : ℕ) (whole : IsWholeRun steps n) (some : 0 < n) where
   abbrev st : ℕ → Stage
@@ -198,16 +168,10 @@ module _ (steps : ℕ → Step) (n : ℕ) (whole : IsWholeRun steps n) (some : 0
   below_born : (k j x y : ℕ) → IsBorn steps n whole some k j x y → Below k j x y
   below_born k j x y b =
       let step = run k b.earlier in
-      let m = step.some_vertex in
       let f = step.some_face in
       elim b.tail [
-        | inl t ↦
-            let t0 = t.0 in
-            let y_is : (st k).count ≡ y = elim b.head [ inl h ↦ (let h1 = h.1 in omega arith) | inr h ↦ (let h0 = h.0 in absurd (omega arith)) ] in
-            record { index = 0; dart = record { within = f; dart = inr (inr (inr record { tail = y_is; head = ap (st k).vertex step.begin ∙ sym t.1 })) }; under = begin refl t0 }
+        | inl t ↦ grind (arith, st)
         | inr t ↦
-            let t0 = t.0 in
-            let t1 = t.1 in
             elim b.head [
               | inr h ↦
                   let h0 = h.0 in
@@ -215,8 +179,6 @@ module _ (steps : ℕ → Step) (n : ℕ) (whole : IsWholeRun steps n) (some : 0
                   let e : suc i ≡ (steps k).faces = omega arith in
                   record { index = i; dart = record { within = omega arith; dart = inr (inl record { tail = ap (st k).vertex (ap (steps k).cut e ∙ step.end) ∙ sym h.1; head = omega arith }) }; under = end e h0 }
               | inl h ↦
-                  let h0 = h.0 in
-                  let h1 = h.1 in
                   let one : (steps k).faces ≡ 1 = elim step.single [ inl e ↦ absurd (omega arith) | inr e ↦ e ] in
                   record { index = 0; dart = record { within = f; dart = inr (inr (inl record { low = omega arith; next = omega arith; high = omega arith })) }; under = only one refl b.low b.high }
             ]
@@ -229,7 +191,6 @@ module _ (steps : ℕ → Step) (n : ℕ) (whole : IsWholeRun steps n) (some : 0
       let w = below_born k j x y b in
       let i = w.index in
       let li = w.dart.within in
-      let f = faces_made steps k + i in
       let h = some_begun (λ s. s.first) steps n (suc k) (one_start steps n whole some k j x y b) first_placed lk in
       let g = some_begun (λ s. s.last) steps n (suc k) (two_start steps n whole some k j x y b) last_placed lk in
       let one = h.0 in
@@ -238,7 +199,7 @@ module _ (steps : ℕ → Step) (n : ℕ) (whole : IsWholeRun steps n) (some : 0
       let p = (steps k).first in
       record {
         along = along;
-        face = f;
+        face = (faces_made steps k + i);
         below = inl record { step = k; place = i; earlier = lk; dart = w.dart; number = refl };
         behind = λ l q a d. not_along steps n run k l i y x (omega arith) d w.dart q;
         one = one;
@@ -255,11 +216,7 @@ module _ (steps : ℕ → Step) (n : ℕ) (whole : IsWholeRun steps n) (some : 0
               ∙ (leb_same q ((steps k).turn i) (moved (steps k) q) j (to_edge (st k) (steps k) step i j q w.under) (from_edge (st k) (steps k) step i j q w.under)
               ∙ (ap (λ z. leb z j) (sym (place_after-older (st k) (steps k) v older))
               ∙ sym (ap (flipped (leb ((st (suc k)).place v) j)) (two_old steps n whole some k j x y b one two h.1 g.1 v older) ∙ flipped_false (leb ((st (suc k)).place v) j))))
-          | inr fresh ↦
-              let z = (st (suc k)).place v in
-              let e = place_after-new (st k) (steps k) v fresh in
-              test-new (λ s. s.last) one_hits steps n k i lk li v fresh l
-              ∙ sym (ap (flipped (leb z j)) (two_new steps n whole some k j x y b one two h.1 g.1 v fresh l ∙ leb_same (v + suc p) (c + j) z j (λ a. omega arith) (λ a. omega arith)) ∙ flipped_self (leb z j))
+          | inr fresh ↦ grind (arith, st, place_after-new, test-new, one_hits, flipped, leb, two_new, leb_same, flipped_self)
         ];
         agree_two = λ v l. elim (cases_lt v c) [
           | inl older ↦
@@ -269,22 +226,13 @@ module _ (steps : ℕ → Step) (n : ℕ) (whole : IsWholeRun steps n) (some : 0
               ∙ (ltb_not ((steps k).turn i) q
               ∙ (ap not (leb_same q ((steps k).turn i) (moved (steps k) q) j (to_edge (st k) (steps k) step i j q w.under) (from_edge (st k) (steps k) step i j q w.under) ∙ ap (λ z. leb z j) (sym (place_after-older (st k) (steps k) v older)))
               ∙ (sym (ltb_not j z) ∙ sym (ap (flipped (ltb j z)) (one_old steps n whole some k j x y b one two h.1 g.1 v older) ∙ flipped_false (ltb j z)))))
-          | inr fresh ↦
-              let z = (st (suc k)).place v in
-              let e = place_after-new (st k) (steps k) v fresh in
-              let same : ltb (c + j) (v + suc p) ≡ ltb j z = ltb_not (c + j) (v + suc p) ∙ (ap not (leb_same (v + suc p) (c + j) z j (λ a. omega arith) (λ a. omega arith)) ∙ sym (ltb_not j z)) in
-              test-new (λ s. s.first) two_hits steps n k i lk li v fresh l ∙ sym (ap (flipped (ltb j z)) (one_new steps n whole some k j x y b one two h.1 g.1 v fresh l ∙ same) ∙ flipped_self (ltb j z))
+          | inr fresh ↦ grind (arith, st, place_after-new, ltb, ltb_not, not, leb_same, test-new, two_hits, flipped, one_new, flipped_self)
         ];
       }
 
   -- the base
   pub base_behind : (l p : ℕ) → l ≤ n → ¬ GoesAlong (st l) 1 0 p
-  base_behind l p a h =
-      let g = stage_at l a in
-      let w = h.within in
-      let end : ℕ = (st l).width - 1 in
-      let e : end ≡ p = sym (g.own end (omega arith)) ∙ (ap (st l).place (g.end end (omega arith) ∙ sym h.tail) ∙ g.own p (omega arith)) in
-      omega arith
+  base_behind l p a h = grind (arith, stage_at, st)
 
   base_stands : Stands 0 0 0 1
   base_stands =
@@ -310,21 +258,7 @@ module _ (steps : ℕ → Step) (n : ℕ) (whole : IsWholeRun steps n) (some : 0
 
   -- an edge that a step does not cover stands as before
   kept : (m j j' x y : ℕ) → m < n → (h : Stands m j x y) → GoesAlong (st (suc m)) x y j' → AgreesOne (suc m) j' (ones h.face) h.two → AgreesTwo (suc m) j' (twos h.face) h.one → Stands (suc m) j' x y
-  kept m j j' x y l h along a b = record {
-    along = along;
-    face = h.face;
-    below = h.below;
-    behind = λ z p c d. h.behind z p (omega arith) d;
-    one = h.one;
-    two = h.two;
-    ways = h.ways;
-    one_later = λ z v c d. h.one_later z v (omega arith) d;
-    two_later = λ z v c d. h.two_later z v (omega arith) d;
-    ones_later = λ z v c d. h.ones_later z v (omega arith) d;
-    twos_later = λ z v c d. h.twos_later z v (omega arith) d;
-    agree_one = a;
-    agree_two = b;
-  }
+  kept m j j' x y l h along a b = grind arith
 
   kept_low : (m j x y : ℕ) → m < n → j < (steps m).first → Stands m j x y → GoesAlong (st (suc m)) x y j → Stands (suc m) j x y
   kept_low m j x y l a h along =
@@ -341,9 +275,6 @@ module _ (steps : ℕ → Step) (n : ℕ) (whole : IsWholeRun steps n) (some : 0
   -- each edge of a contour stands so
   stands_all : (m j x y : ℕ) → m ≤ n → GoesAlong (st m) x y j → Stands m j x y
   stands_all zero j x y l along =
-      let w = along.within in
-      let t = along.tail in
-      let h = along.head in
       let ej : 0 ≡ j = omega arith in
       let ex : 0 ≡ x = omega arith in
       let ey : 1 ≡ y = omega arith in
@@ -351,8 +282,6 @@ module _ (steps : ℕ → Step) (n : ℕ) (whole : IsWholeRun steps n) (some : 0
   stands_all (suc m) j x y l along =
       let step = run m l in
       let o = order (st m) (steps m) step in
-      let w = step.within in
-      let b = along.within in
       elim (cases_lt j (steps m).first) [
         | inl low ↦ kept_low m j x y l low
             (stands_all m j x y (omega arith) record { within = omega arith; tail = sym (vertex_after-low (st m) (steps m) j (omega arith)) ∙ along.tail; head = sym (vertex_after-low (st m) (steps m) (suc j) (omega arith)) ∙ along.head })
@@ -396,9 +325,7 @@ module _ (steps : ℕ → Step) (n : ℕ) (whole : IsWholeRun steps n) (some : 0
   over_sided : (m i x y : ℕ) → m < n → i < (steps m).faces → IsAlong (st m) (steps m) i x y → Sided x y (faces_made steps m + i)
   over_sided m i x y lm li a =
       let step = run m lm in
-      let w = step.within in
       let c = cut-last (st m) (steps m) step (suc i) li in
-      let b = cut-first (st m) (steps m) step i (omega arith) in
       let lo = a.low in
       let hi = a.high in
       let j = a.place in
@@ -428,7 +355,6 @@ module _ (steps : ℕ → Step) (n : ℕ) (whole : IsWholeRun steps n) (some : 0
           (λ z v a. h.twos_later z v (omega arith)) (test-later (λ s. s.first) two_hits steps n m i lm li first_placed) (λ z v a. h.one_later z v (omega arith))
           (λ v l. ap₂ flipped (h.agree_two v l) (test-old (λ s. s.first) two_hits steps n m i lm li v l) ∙ (flipped_over (ltb j ((st m).place v)) (h.one v) (ltb t ((st m).place v)) ∙ ap (flipped (h.one v)) (ltb_pair j t ((st m).place v))))
           (λ v l d. ap₂ flipped (agrees_new steps n run (λ s. s.first) (λ x j. ltb j x) IsSide-two m lm (twos g) h.one h.twos_later h.one_later j v h.agree_two (le-ltb j (steps m).first (omega arith)) l d) (test-new (λ s. s.first) two_hits steps n m i lm li v l d) ∙ flipped_false (h.one v)) in
-          let done = over_done steps n whole some m j i lm li lo hi gone gone_back in
           let kind : (o : Bool) × IsBy x y f g false false o = elim h.below [
             | inl d ↦ (false, inner (made-less steps n m i lm li) (subst (λ z. z < all_faces) (sym d.number) (made-less steps n d.step d.place d.earlier d.dart.within)) (λ p. gone n p lm (omega arith)) (λ p. gone_back n p lm (omega arith)) refl refl refl)
             | inr (inl d) ↦ absurd (gone_back n d.place lm (omega arith) d.along)
@@ -442,7 +368,7 @@ module _ (steps : ℕ → Step) (n : ℕ) (whole : IsWholeRun steps n) (some : 0
               two = h.two;
               three = λ v. third_test steps m c_at v;
               ways = h.ways;
-              third = ways_done steps n whole some m x y c_at done;
+              third = ways_done steps n whole some m x y c_at (over_done steps n whole some m j i lm li lo hi gone gone_back);
               outer_one = false;
               outer_two = false;
               outer_three = kind.0;
@@ -456,7 +382,6 @@ module _ (steps : ℕ → Step) (n : ℕ) (whole : IsWholeRun steps n) (some : 0
   middle_sided : (m i : ℕ) → m < n → suc i < (steps m).faces → IsSided ((st m).vertex ((steps m).cut (suc i))) (st m).count (faces_made steps m + i) (faces_made steps m + suc i)
   middle_sided m i lm li =
       let step = run m lm in
-      let v1 : (steps m).vertices ≡ 1 = elim step.single [ inl e ↦ e | inr e ↦ absurd (omega arith) ] in
       let x = (st m).vertex ((steps m).cut (suc i)) in
       let y = (st m).count in
       let f = faces_made steps m + i in
@@ -498,38 +423,31 @@ module _ (steps : ℕ → Step) (n : ℕ) (whole : IsWholeRun steps n) (some : 0
   base_off p h =
       let g = stage_at n (omega arith) in
       let w = h.within in
-      let wide = g.wide in
       let end : ℕ = (st n).width - 1 in
       let at_first : p ≡ 0 = sym (g.own p (omega arith)) ∙ (ap (st n).place (h.tail ∙ sym g.begin) ∙ g.own 0 (omega arith)) in
       let at_end : suc p ≡ end = sym (g.own (suc p) w) ∙ (ap (st n).place (h.head ∙ sym (g.end end (omega arith))) ∙ g.own end (omega arith)) in
       let more = count-le steps 1 n some in
       let m = (run 0 some).some_vertex in
       let top = whole.within in
-      let last = whole.last in
-      elim (cases_lt 0 whole.top) [
-        | inr none ↦ let z : whole.top ≡ 0 = omega arith in let e = ap (st n).vertex z in let b = g.begin in omega arith
-        | inl some ↦ let z : whole.top ≡ end = omega arith in let e = ap (st n).vertex z in let b = g.end end (omega arith) in omega arith
-      ]
+      grind (arith, cases_lt, st)
 
   -- an edge of the last contour
   last_sided : (j x y : ℕ) → GoesAlong (st n) x y j → Sided x y all_faces
   last_sided j x y along =
       let h = stands_all n j x y (omega arith) along in
-      let g = h.face in
       let t = leb whole.top j in
-      let less : g < all_faces = elim h.below [
+      let less : h.face < all_faces = elim h.below [
         | inl d ↦ subst (λ z. z < all_faces) (sym d.number) (made-less steps n d.step d.place d.earlier d.dart.within)
         | inr (inl d) ↦ absurd (h.behind n d.place (omega arith) (omega arith) d.along)
         | inr (inr d) ↦ absurd (base_off j (subst (λ z. GoesAlong (st n) 0 z j) d.tail (subst (λ z. GoesAlong (st n) z y j) d.head along)))
       ] in
-      let test_at = last_test steps n whole some x y j along in
       record {
-        face = g;
+        face = h.face;
         below = h.below;
         is = record {
           one = h.one;
           two = h.two;
-          three = test_at;
+          three = (last_test steps n whole some x y j along);
           ways = h.ways;
           third = ways_last steps n whole some x y j along;
           outer_one = t;
@@ -583,15 +501,12 @@ module _ (steps : ℕ → Step) (n : ℕ) (whole : IsWholeRun steps n) (some : 0
   up_down : (k l i i' x y f g : ℕ) → k < n → l < n → i < (steps k).faces → i' < (steps l).faces → IsUp (st k) (steps k) i x y → IsDown (st l) (steps l) i' y x → f ≡ faces_made steps k + i → g ≡ faces_made steps l + i' → IsSided x y f g
   up_down k l i i' x y f g lk ll li li' u d ef eg =
       let a = up_placed (st k) (steps k) (stage_at k (omega arith)) (run k lk) i x y li u in
-      let a1 = a.1 in
-      let a2 = a.2 in
       let m = (run l ll).some_vertex in
-      let t = d.tail in
-      let same : l ≡ k = new_once steps n whole some y l k (omega arith) (omega arith) a1 a2 in
+      let same : l ≡ k = new_once steps n whole some y l k (omega arith) (omega arith) a.1 a.2 in
       let x_is : (st k).vertex ((steps k).cut i') ≡ x = ap (λ z. (st z).vertex ((steps z).cut i')) (sym same) ∙ d.head in
       let faces = ap (λ z. (steps z).faces) same in
       let cut : suc i ≡ i' = same_cut_at k (suc i) i' lk li (omega arith) (u.tail ∙ sym x_is) in
-      let y_is : (st k).count ≡ y = ap (λ z. (st z).count) (sym same) ∙ t in
+      let y_is : (st k).count ≡ y = ap (λ z. (st z).count) (sym same) ∙ d.tail in
       let made = ap (faces_made steps) same in
       subst (λ x. IsSided x y f g) u.tail (subst (λ y. IsSided ((st k).vertex ((steps k).cut (suc i))) y f g) y_is
       (subst (λ f. IsSided ((st k).vertex ((steps k).cut (suc i))) (st k).count f g) (sym ef)
@@ -601,27 +516,16 @@ module _ (steps : ℕ → Step) (n : ℕ) (whole : IsWholeRun steps n) (some : 0
   up_is : (k i x y f g : ℕ) → k < n → i < (steps k).faces → f ≡ faces_made steps k + i → IsUp (st k) (steps k) i x y → IsRunDart steps n x y f → IsRunDart steps n y x g → EitherSided x y f g
   up_is k i x y f g lk li ef u own (inr (inl o)) = inr (out_is y x g f o own)
   up_is k i x y f g lk li ef u own (inr (inr b)) =
-      let a = (up_placed (st k) (steps k) (stage_at k (omega arith)) (run k lk) i x y li u).1 in
-      let t = b.tail in
-      let z = few k in
-      absurd (omega arith)
+      absurd (omega (arith, few k, (up_placed (st k) (steps k) (stage_at k (omega arith)) (run k lk) i x y li u).1))
   up_is k i x y f g lk li ef u own (inl b) =
       let a = up_placed (st k) (steps k) (stage_at k (omega arith)) (run k lk) i x y li u in
-      let a0 = a.0 in
-      let a1 = a.1 in
-      let a2 = a.2 in
       let lb = b.earlier in
       let lw = b.dart.within in
       elim b.dart.dart [
         | inl c ↦ inr (along_is b.step b.place y x g f lb lw b.number c own)
         | inr (inl c) ↦ let d = up_placed (st b.step) (steps b.step) (stage_at b.step (omega arith)) (run b.step lb) b.place y x lw c in let d0 = d.0 in let d1 = d.1 in absurd (omega arith)
         | inr (inr (inl c)) ↦
-            let lo = c.low in
-            let nx = c.next in
-            let hi = c.high in
-            let same = new_once steps n whole some y k b.step a1 a2 (omega arith) hi in
-            let e = ap (λ z. (st z).count) same in
-            absurd (omega arith)
+            absurd (omega (arith, ap (λ z. (st z).count) (new_once steps n whole some y k b.step a.1 a.2 (omega arith) c.high)))
         | inr (inr (inr c)) ↦ inl (up_down k b.step i b.place x y f g lk lb li lw u c ef b.number)
       ]
 
@@ -629,21 +533,13 @@ module _ (steps : ℕ → Step) (n : ℕ) (whole : IsWholeRun steps n) (some : 0
   across_is k i x y f g lk li ef u own (inr (inl o)) = inr (out_is y x g f o own)
   across_is k i x y f g lk li ef u own (inr (inr b)) = let lo = u.low in let t = b.tail in let z = few k in absurd (omega arith)
   across_is k i x y f g lk li ef u own (inl b) =
-      let lo = u.low in
-      let nx = u.next in
-      let hi = u.high in
       let lb = b.earlier in
       let lw = b.dart.within in
       elim b.dart.dart [
         | inl c ↦ inr (along_is b.step b.place y x g f lb lw b.number c own)
         | inr (inl c) ↦
             let d = up_placed (st b.step) (steps b.step) (stage_at b.step (omega arith)) (run b.step lb) b.place y x lw c in
-            let d0 = d.0 in
-            let d1 = d.1 in
-            let d2 = d.2 in
-            let same = new_once steps n whole some x k b.step (omega arith) hi d1 d2 in
-            let e = ap (λ z. (st z).count) same in
-            absurd (omega arith)
+            absurd (omega (arith, ap (λ z. (st z).count) (new_once steps n whole some x k b.step (omega arith) u.high d.1 d.2)))
         | inr (inr (inl c)) ↦ let nx' = c.next in absurd (omega arith)
         | inr (inr (inr c)) ↦ let d = down_placed (st b.step) (steps b.step) (stage_at b.step (omega arith)) (run b.step lb) b.place y x lw c in let d0 = d.0 in let d1 = d.1 in absurd (omega arith)
       ]
@@ -653,8 +549,6 @@ module _ (steps : ℕ → Step) (n : ℕ) (whole : IsWholeRun steps n) (some : 0
   down_is k i x y f g lk li ef u own (inr (inr b)) = let t = u.tail in let h = b.head in let z = few k in absurd (omega arith)
   down_is k i x y f g lk li ef u own (inl b) =
       let a = down_placed (st k) (steps k) (stage_at k (omega arith)) (run k lk) i x y li u in
-      let a0 = a.0 in
-      let a1 = a.1 in
       let lb = b.earlier in
       let lw = b.dart.within in
       elim b.dart.dart [
@@ -675,15 +569,4 @@ module _ (steps : ℕ → Step) (n : ℕ) (whole : IsWholeRun steps n) (some : 0
   ]
   sided_at x y f g (inr (inr b)) (inr (inl o)) = inr (out_is y x g f o (inr (inr b)))
   sided_at x y f g (inr (inr b)) (inr (inr c)) = let t = b.tail in let t' = c.head in let h = b.head in let h' = c.tail in absurd (omega arith)
-  sided_at x y f g (inr (inr b)) (inl m) =
-      let t = b.tail in
-      let h = b.head in
-      let z = few m.step in
-      let lm = m.earlier in
-      let lw = m.dart.within in
-      elim m.dart.dart [
-        | inl a ↦ inr (along_is m.step m.place y x g f lm lw m.number a (inr (inr b)))
-        | inr (inl a) ↦ let d = up_placed (st m.step) (steps m.step) (stage_at m.step (omega arith)) (run m.step lm) m.place y x lw a in let d1 = d.1 in absurd (omega arith)
-        | inr (inr (inl a)) ↦ let lo = a.low in absurd (omega arith)
-        | inr (inr (inr a)) ↦ let e = a.tail in absurd (omega arith)
-      ]
+  sided_at x y f g (inr (inr b)) (inl m) = grind (arith, few, along_is, up_placed, st, stage_at, run)

@@ -24,7 +24,6 @@ some_class labels w i l =
     let into = count_below_into (λ j. label labels i) (λ j. true) (λ j. eqb (label labels j) j) 1 (length labels)
     (λ j m e. (label-lt labels w i l, eq-eqb (label labels (label labels i)) (label labels i) (w.own i)))
     (λ j h m n e e' s. omega arith) in
-    let all = count_below_all 1 in
     omega arith
 
 module _ (lists : Lists) (simple : IsSimpleMap lists) (one : component_count lists ≡ 1) where
@@ -124,33 +123,21 @@ module _ (lists : Lists) (simple : IsSimpleMap lists) (one : component_count lis
       where
         on : (x' y' : ℕ) (odd' : Bool) → HasDart lists x' y' × Linked x' y' odd' → GoesOn lists (is_odd_on walk) x' y' odd' x y odd → HasDart lists x y × Linked x y odd
         on x' y' odd' h (along ex ey e) =
-            let next = HasDart-face_step lists (x', y') simple h.0 in
             let step = step_along (dart_number lists (x', y')) odd' (number-lt x' y' h.0) in
             let to : Linked y' (follows lists y' x') odd' = h.1 ∙ (step ∙ ap (λ i. label parts (copy k i odd')) (face_step-number lists simple (x', y') h.0)) in (
-              subst (λ x. HasDart lists x y) (sym ex) (subst (HasDart lists y') (sym ey) next),
+              subst (λ x. HasDart lists x y) (sym ex) (subst (HasDart lists y') (sym ey) (HasDart-face_step lists (x', y') simple h.0)),
               subst (λ x. Linked x y odd) (sym ex) (subst (λ y. Linked y' y odd) (sym ey) (subst (Linked y' (follows lists y' x')) (sym e) to)),
             )
         on x' y' odd' h (over ex ey e) =
-            let next = simple.both_ways x' y' h.0 in
             let step = step_over (dart_number lists (x', y')) odd' (number-lt x' y' h.0) in
             let to : Linked y' x' (flipped (is_odd_on walk x' y') odd') = h.1 ∙ (step ∙ ap₂ (λ i b. label parts (copy k i b)) (twin-number lists x' y' h.0) (ap (λ d. flipped (is_odd_on walk d.0 d.1) odd') (get_or-dart_number lists x' y' (0, 0) h.0))) in (
-              subst (λ x. HasDart lists x y) (sym ex) (subst (HasDart lists y') (sym ey) next),
+              subst (λ x. HasDart lists x y) (sym ex) (subst (HasDart lists y') (sym ey) (simple.both_ways x' y' h.0)),
               subst (λ x. Linked x y odd) (sym ex) (subst (λ y. Linked y' y odd) (sym ey) (subst (Linked y' x') (sym e) to)),
             )
 
     -- one dart is not reached both ways
     once : (x y : ℕ) (odd odd' : Bool) → Reaches lists (is_odd_on walk) base x y odd → Reaches lists (is_odd_on walk) base x y odd' → odd ≡ odd'
-    once x y odd odd' r r' =
-        let h = linked r.0 x y odd r.1 in
-        let h' = linked r'.0 x y odd' r'.1 in
-        let apart = separated (dart_number lists (x, y)) (number-lt x y h.0) in
-        by (λ b. label parts (copy k (dart_number lists (x, y)) b)) odd odd' (sym h.1 ∙ h'.1) apart
-      where
-        by : (at : Bool → ℕ) (a b : Bool) → at a ≡ at b → ¬ (at false ≡ at true) → a ≡ b
-        by at true true e ne = refl
-        by at false false e ne = refl
-        by at true false e ne = absurd (ne (sym e))
-        by at false true e ne = absurd (ne e)
+    once x y odd odd' r r' = grind (arith, linked, separated, dart_number, number-lt, label, parts, copy)
 
 -- THE LAW
 pub sides_are_known : SidesAreKnown

@@ -42,14 +42,10 @@ module _ (lists : Lists) (alive : ℕ → Bool) (w : ℕ → ℕ) (r : ℕ) (o :
   -- and was placed before
   pub placed_more : (v : ℕ) → IsPlaced lists o.alive o.contour o.places v → IsPlaced lists alive w r v
   placed_more v p =
-      let within = off.within in
-      let width = off.width in
-      let order = first_lt lists alive w r o off in
       elim p [
         | inr at ↦ inr (at.0, at.1, off.still (face_of lists v at.0) at.2)
         | inl at ↦
             let i = at.0 in
-            let l = at.1 in
             elim (cases_lt o.first i) [
               | inr low ↦ (let a = gone_within lists alive w r o off in inl (i, omega arith, sym (off.before i low) ∙ at.2))
               | inl far ↦ elim (cases_lt i o.last) [
@@ -79,11 +75,8 @@ module _ (lists : Lists) (alive : ℕ → Bool) (w : ℕ → ℕ) (r : ℕ) (o :
 
     pub goer_rank : (q : ℕ) → q < o.vertices → new_ranks (goer q) ≡ g.count + q
     goer_rank q l =
-        let a = gone_within lists alive w r o off in
         let found = put-found goer g.count rank o.vertices (goer q) q l refl in
-        let m = found.1 in
-        let z : suc (o.first + found.0) ≡ suc (o.first + q) = contour.distinct (suc (o.first + found.0)) (suc (o.first + q)) (omega arith) (omega arith) found.2 in
-        let same : found.0 ≡ q = omega arith in
+        let same : found.0 ≡ q = omega (arith, contour.distinct (suc (o.first + found.0)) (suc (o.first + q)) (omega arith) (omega arith) found.2) in
         found.3 ∙ ap (λ t. g.count + t) same
 
     module _ (all_rank : ℕ → ℕ) (agrees : (v : ℕ) → IsPlaced lists alive w r v → all_rank v ≡ new_ranks v) (row cuts news : List ℕ) (is : IsRowOf lists w o row cuts news) where

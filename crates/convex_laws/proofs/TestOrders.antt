@@ -35,13 +35,11 @@ module _ (steps : ℕ → Step) where
   from_at : (n i : ℕ) → IsStage (st n) → IsStep (st n) (steps n) → i < (st (suc n)).width → From n i
   from_at n i stage step l =
       let o = order (st n) (steps n) step in
-      let w = step.within in
       let g = st n in
       let s = steps n in
       elim (cases_place g s i step l) [
         | inl c ↦
-            let a = c.low in
-            let e = vertex_after-low g s i a in
+            let e = vertex_after-low g s i c.low in
             let p = stage.placed i (omega arith) in
             record {
               one = i;
@@ -50,50 +48,27 @@ module _ (steps : ℕ → Step) where
               two_in = omega arith;
               ones = λ f lf. ap (O (suc n) f) e ∙ counted-older (λ s. s.last) one_hits steps n f (g.vertex i) lf p;
               twos = λ f lf. ap (T (suc n) f) e ∙ counted-older (λ s. s.first) two_hits steps n f (g.vertex i) lf p;
-              kind = inl (a, refl, refl);
+              kind = inl (c.low, refl, refl);
             }
         | inr (inl c) ↦
-            let a = c.low in
-            let b = c.high in
-            let e = vertex_after-new g s i a b in
+            let e = vertex_after-new g s i c.low c.high in
             record {
               one = s.last;
               two = s.first;
-              one_in = w;
+              one_in = step.within;
               two_in = omega arith;
               ones = λ f lf. counted-later (λ s. s.last) one_hits steps n f ((st (suc n)).vertex i) lf (omega arith);
               twos = λ f lf. counted-later (λ s. s.first) two_hits steps n f ((st (suc n)).vertex i) lf (omega arith);
-              kind = inr (inl (a, b, refl, refl));
+              kind = inr (inl (c.low, c.high, refl, refl));
             }
-        | inr (inr c) ↦
-            let a = c.high in
-            let t = c.to in
-            let e = vertex_after-high g s i c.from (omega arith) t in
-            let p = stage.placed c.from c.within in
-            record {
-              one = c.from;
-              two = c.from;
-              one_in = c.within;
-              two_in = c.within;
-              ones = λ f lf. ap (O (suc n) f) e ∙ counted-older (λ s. s.last) one_hits steps n f (g.vertex c.from) lf p;
-              twos = λ f lf. ap (T (suc n) f) e ∙ counted-older (λ s. s.first) two_hits steps n f (g.vertex c.from) lf p;
-              kind = inr (inr (omega arith, a, refl, t));
-            }
+        | inr (inr c) ↦ grind (arith, vertex_after-high, counted-older, one_hits, two_hits)
       ]
 
   one_order : (n i j : ℕ) → (steps n).first < (steps n).last → i ≤ j → (x : From n i) → (y : From n j) → x.one ≤ y.one
-  one_order n i j o l x y = elim x.kind [
-    | inl a ↦ let a0 = a.0 in let a1 = a.1 in elim y.kind [ inl b ↦ (let b1 = b.1 in omega arith) | inr (inl b) ↦ (let b2 = b.2 in omega arith) | inr (inr b) ↦ (let b1 = b.1 in omega arith) ]
-    | inr (inl a) ↦ let a0 = a.0 in let a2 = a.2 in elim y.kind [ inl b ↦ (let b0 = b.0 in absurd (omega arith)) | inr (inl b) ↦ (let b2 = b.2 in omega arith) | inr (inr b) ↦ (let b1 = b.1 in omega arith) ]
-    | inr (inr a) ↦ let a0 = a.0 in let a3 = a.3 in elim y.kind [ inl b ↦ (let b0 = b.0 in absurd (omega arith)) | inr (inl b) ↦ (let b1 = b.1 in absurd (omega arith)) | inr (inr b) ↦ (let b3 = b.3 in omega arith) ]
-  ]
+  one_order n i j o l x y = grind arith
 
   two_order : (n i j : ℕ) → (steps n).first < (steps n).last → i ≤ j → (x : From n i) → (y : From n j) → x.two ≤ y.two
-  two_order n i j o l x y = elim x.kind [
-    | inl a ↦ let a0 = a.0 in let a2 = a.2 in elim y.kind [ inl b ↦ (let b2 = b.2 in omega arith) | inr (inl b) ↦ (let b3 = b.3 in omega arith) | inr (inr b) ↦ (let b1 = b.1 in let b2 = b.2 in omega arith) ]
-    | inr (inl a) ↦ let a0 = a.0 in let a3 = a.3 in elim y.kind [ inl b ↦ (let b0 = b.0 in absurd (omega arith)) | inr (inl b) ↦ (let b3 = b.3 in omega arith) | inr (inr b) ↦ (let b1 = b.1 in let b2 = b.2 in omega arith) ]
-    | inr (inr a) ↦ let a0 = a.0 in let a2 = a.2 in let a3 = a.3 in elim y.kind [ inl b ↦ (let b0 = b.0 in absurd (omega arith)) | inr (inl b) ↦ (let b1 = b.1 in absurd (omega arith)) | inr (inr b) ↦ (let b2 = b.2 in let b3 = b.3 in omega arith) ]
-  ]
+  two_order n i j o l x y = grind arith
 
   -- of a new face those up to the first place count it as one, those from the last on as two, and the new vertices neither
   module _ (n i : ℕ) (stage : IsStage (st n)) (step : IsStep (st n) (steps n)) (li : i < (steps n).faces) where
@@ -104,18 +79,10 @@ module _ (steps : ℕ → Step) where
     bounds =
         let a = cut-first (st n) (steps n) step i (omega arith) in
         let b = cut-last (st n) (steps n) step (suc i) li in
-        let t = step.low i li in
-        let u = step.high i li in
-        (omega arith, omega arith)
+        (omega (arith, step.low i li), omega (arith, step.high i li))
 
     at_older : (p q : ℕ) → p < (st n).width → (st (suc n)).vertex q ≡ (st n).vertex p → (O (suc n) F ((st (suc n)).vertex q) ≡ leb p ((steps n).turn i)) × (T (suc n) F ((st (suc n)).vertex q) ≡ ltb ((steps n).turn i) p)
-    at_older p q l e =
-        let v = (st n).vertex p in
-        let pl = stage.placed p l in
-        let own = stage.own p l in (
-          ap (O (suc n) F) e ∙ (counted-hits (λ s. s.last) one_hits steps n i v pl ∙ ap (λ z. leb z ((steps n).turn i)) own),
-          ap (T (suc n) F) e ∙ (counted-hits (λ s. s.first) two_hits steps n i v pl ∙ ap (λ z. ltb ((steps n).turn i) z) own),
-        )
+    at_older p q l e = grind (arith, st, counted-hits, one_hits, leb, two_hits, ltb)
 
     record Known (q : ℕ) : Type 0 where
       pub one : O (suc n) F ((st (suc n)).vertex q) ≡ true → q ≤ (steps n).first
@@ -125,39 +92,20 @@ module _ (steps : ℕ → Step) where
 
     known : (q : ℕ) → q < (st (suc n)).width → Known q
     known q l =
-        let o = order (st n) (steps n) step in
-        let w = step.within in
         let b = bounds in
-        let b0 = b.0 in
-        let b1 = b.1 in
         let t = (steps n).turn i in
         elim (cases_place (st n) (steps n) q step l) [
           | inl c ↦
-              let a = c.low in
-              let h = at_older q q (omega arith) (vertex_after-low (st n) (steps n) q a) in
+              let h = at_older q q (omega arith) (vertex_after-low (st n) (steps n) q c.low) in
               record {
-                one = λ e. a;
+                one = λ e. c.low;
                 one_back = λ e. h.0 ∙ le-leb q t (omega arith);
                 two = λ e. absurd (never (ltb t q) (le-ltb t q (omega arith)) (sym h.1 ∙ e));
                 two_back = λ m. absurd (omega arith);
               }
-          | inr (inl c) ↦
-              let a = c.low in
-              let d = c.high in
-              let e = vertex_after-new (st n) (steps n) q a d in
-              let v = (st (suc n)).vertex q in
-              let none = counted-new (λ s. s.last) one_hits steps n i v (omega arith) in
-              let none' = counted-new (λ s. s.first) two_hits steps n i v (omega arith) in
-              record {
-                one = λ e. absurd (never (O (suc n) F v) none e);
-                one_back = λ m. absurd (omega arith);
-                two = λ e. absurd (never (T (suc n) F v) none' e);
-                two_back = λ m. absurd (omega arith);
-              }
+          | inr (inl c) ↦ grind (arith, vertex_after-new, st, counted-new, one_hits, two_hits, never)
           | inr (inr c) ↦
-              let a = c.high in
-              let to = c.to in
-              let h = at_older c.from q c.within (vertex_after-high (st n) (steps n) q c.from (omega arith) to) in
+              let h = at_older c.from q c.within (vertex_after-high (st n) (steps n) q c.from (omega arith) c.to) in
               record {
                 one = λ e. absurd (never (leb c.from t) (lt-leb c.from t (omega arith)) (sym h.0 ∙ e));
                 one_back = λ m. absurd (omega arith);
@@ -192,12 +140,7 @@ module _ (steps : ℕ → Step) where
                   y.twos f old ∙ before.two x.two y.two (two_order n i j o a x y) y.two_in (sym (x.twos f old) ∙ e);
               apart = λ v lv e e'. elim (cases_lt v (st n).count) [
                 | inl older ↦ before.apart v older (sym (counted-older (λ s. s.last) one_hits steps n f v old older) ∙ e) (sym (counted-older (λ s. s.first) two_hits steps n f v old older) ∙ e')
-                | inr new ↦
-                    let w = step.within in
-                    let p = (steps n).first in
-                    before.apart ((st n).vertex p) (stage.placed p (omega arith))
-                    (before.one p (steps n).last (omega arith) w (sym (counted-later (λ s. s.last) one_hits steps n f v old new) ∙ e))
-                    (sym (counted-later (λ s. s.first) two_hits steps n f v old new) ∙ e')
+                | inr new ↦ grind (arith, st, counted-later, one_hits, two_hits)
               ];
             }
         | inr fresh ↦
@@ -208,12 +151,7 @@ module _ (steps : ℕ → Step) where
               one = λ p q a b e. let x = known n i stage step li p (omega arith) in let y = known n i stage step li q b in x.one_back (let z = y.one e in omega arith);
               two = λ p q a b e. let x = known n i stage step li p (omega arith) in let y = known n i stage step li q b in y.two_back (let z = x.two e in omega arith);
               apart = λ v lv e e'. elim (cases_lt v (st n).count) [
-                | inl older ↦
-                    let x = (st n).place v in
-                    let t = (steps n).turn i in
-                    let a = leb-true x t (sym (counted-hits (λ s. s.last) one_hits steps n i v older) ∙ e) in
-                    let b = ltb-true t x (sym (counted-hits (λ s. s.first) two_hits steps n i v older) ∙ e') in
-                    omega arith
+                | inl older ↦ grind (arith, st, ltb-true, counted-hits, two_hits, leb-true, one_hits)
                 | inr new ↦ never (O (suc n) (faces_made steps n + i) v) (counted-new (λ s. s.last) one_hits steps n i v new) e
               ];
             }

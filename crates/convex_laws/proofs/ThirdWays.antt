@@ -53,30 +53,22 @@ module _ (steps : ℕ → Step) (n : ℕ) (whole : IsWholeRun steps n) (some : 0
   together k m p u km mn lo hi h =
       let step = run k (omega arith) in
       let stage = stage_at k (omega arith) in
-      let fall = fall_at k (omega arith) in
-      let well = whole.turned.turned k (omega arith) in
-      let w = step.within in
-      let part = IsRun-less steps m n mn run in
       let v = stage.placed p (omega arith) in
-      go step stage fall well w part v h
+      go step stage (fall_at k (omega arith)) (whole.turned.turned k (omega arith)) step.within (IsRun-less steps m n mn run) v h
     where
       go : (step : IsStep (st k) (steps k)) (stage : IsStage (st k)) (fall : IsFalling (st k) (face_counts steps k) (faces_made steps k)) (well : IsTurned (st k) (face_counts steps k) (steps k)) → (steps k).last < (st k).width → IsRun steps m → (st k).vertex p < (st k).count → LeadsFrom steps n whole some k p u → (st m).place ((st k).vertex p) ≡ (st m).place u
       go step stage fall well w part v (back i q li a b e f) =
-          let t = step.high i li in
-          let c = cut-last (st k) (steps k) step (suc i) li in
           let lq = stage.placed q (omega arith) in
           let made = first_made (st k) (steps k) (face_counts steps k) (faces_made steps k) stage step fall well i li q p (omega arith) (omega arith) b in
           let kept = kept_on KeepsFirst KeepsFirst-after steps m k ((st k).vertex q) ((st k).vertex p) part km (omega arith) (omega arith) made in
           kept.place ∙ ap (st m).place f
       go step stage fall well w part v (on i li a b f) =
-          let c = cut-last (st k) (steps k) step (suc i) li in
           let lq = stage.placed (suc p) (omega arith) in
           let made = second_made (st k) (steps k) (face_counts steps k) (faces_made steps k) stage step fall well i li p (suc p) a (omega arith) (omega arith) in
           let kept = kept_on KeepsSecond KeepsSecond-after steps m k ((st k).vertex p) ((st k).vertex (suc p)) part km (omega arith) (omega arith) made in
           sym kept.place ∙ ap (st m).place f
       go step stage fall well w part v (over zero li a b f) = absurd (omega arith)
       go step stage fall well w part v (over (suc i) li a b f) =
-          let s = step.some_vertex in
           let t = step.high i (omega arith) in
           let t' = step.low (suc i) li in
           let c = (st k).count in
@@ -84,8 +76,6 @@ module _ (steps : ℕ → Step) (n : ℕ) (whole : IsWholeRun steps n) (some : 0
           let made' = second_third_made (st k) (steps k) (face_counts steps k) (faces_made steps k) stage step fall well i (omega arith) p c (omega arith) (omega arith) (omega arith) (omega arith) in
           let kept = kept_on KeepsThirdFirst KeepsThirdFirst-after steps m k c ((st k).vertex p) part km (omega arith) (omega arith) made in
           let kept' = kept_on KeepsSecondThird KeepsSecondThird-after steps m k ((st k).vertex p) c part km (omega arith) (omega arith) made' in
-          let l = kept.place in
-          let l' = kept'.place in
           let e : (st m).place ((st k).vertex p) ≡ (st m).place c = omega arith in
           e ∙ ap (st m).place (sym f)
 
@@ -102,21 +92,14 @@ module _ (steps : ℕ → Step) (n : ℕ) (whole : IsWholeRun steps n) (some : 0
 
     not_turn_back : (i q i' : ℕ) → i < s.faces → i' < s.faces → s.cut i ≤ q → q < s.turn i → q ≢ s.turn i'
     not_turn_back i q i' li li' a b e =
-        let t = step_at.low i' li' in
-        let x = gain-first g s step_at i q li a (omega arith) in
-        let y = gain-first g s step_at i' (s.turn i') li' t (omega arith) in
-        let z : i ≡ i' = sym x ∙ ap (two_gain s) e ∙ y in
-        let w = ap s.turn z in
-        omega arith
+        let y = gain-first g s step_at i' (s.turn i') li' (step_at.low i' li') (omega arith) in
+        omega (arith, ap s.turn (sym (gain-first g s step_at i q li a (omega arith)) ∙ ap (two_gain s) e ∙ y))
 
     not_turn_on : (i p i' : ℕ) → i < s.faces → i' < s.faces → s.turn i < p → p < s.cut (suc i) → p ≢ s.turn i'
     not_turn_on i p i' li li' a b e =
         let t = step_at.low i' li' in
-        let x = gain-second g s step_at i p li a (omega arith) in
         let y = gain-first g s step_at i' (s.turn i') li' t (omega arith) in
-        let z : suc i ≡ i' = sym x ∙ ap (two_gain s) e ∙ y in
-        let w = ap s.cut z in
-        omega arith
+        omega (arith, ap s.cut (sym (gain-second g s step_at i p li a (omega arith)) ∙ ap (two_gain s) e ∙ y))
 
   -- An edge that the step m covers, or that lies between two of its faces; the test `c` says of a covered place whether its way along axis three passes the edge.
   pub record IsDone (m x y : ℕ) (c : ℕ → Bool) : Type 0 where
@@ -145,29 +128,15 @@ module _ (steps : ℕ → Step) (n : ℕ) (whole : IsWholeRun steps n) (some : 0
 
     -- two neighbours of a later contour
     apart : (l p v u : ℕ) → m < l → l ≤ n → suc p < (st l).width → (st l).vertex p ≡ v → (st l).vertex (suc p) ≡ u → (is_edge (v, u) x y ≡ false) × (is_edge (u, v) x y ≡ false)
-    apart l p v u a b lp e f =
-        let along : GoesAlong (st l) v u p = record { within = lp; tail = e; head = f } in
-        let no : v ≡ x → u ≡ y → ⊥ = λ ex ey. d.gone l p a b (subst (λ z. GoesAlong (st l) x z p) ey (subst (λ z. GoesAlong (st l) z u p) ex along)) in
-        let no' : v ≡ y → u ≡ x → ⊥ = λ ey ex. d.gone_back l p a b (subst (λ z. GoesAlong (st l) y z p) ex (subst (λ z. GoesAlong (st l) z u p) ey along)) in
-        (no_edge v u x y no no', no_edge u v x y (λ eu ev. no' ev eu) (λ eu ev. no ev eu))
+    apart l p v u a b lp e f = grind (arith, GoesAlong, st, no_edge)
 
     later_from : (k p u : ℕ) → m < k → k < n → (steps k).first < p → p < (steps k).last → LeadsFrom steps n whole some k p u → third ((st k).vertex p) ≡ flipped (is_edge ((st k).vertex p, u) x y) (third u)
-    later_from k p u a b lo hi (back i q li c1 c2 e f) =
-        let w = (run k b).within in
-        let v = (st k).vertex p in
-        stays (third v) (third u) (is_edge (v, u) x y) (contour k p v a (omega arith) (omega arith) refl ∙ sym (contour k q u a (omega arith) (omega arith) f))
-        (apart k q u v a (omega arith) (omega arith) f (ap (st k).vertex e)).1
-    later_from k p u a b lo hi (on i li c1 c2 f) =
-        let w = (run k b).within in
-        let v = (st k).vertex p in
-        stays (third v) (third u) (is_edge (v, u) x y) (contour k p v a (omega arith) (omega arith) refl ∙ sym (contour k (suc p) u a (omega arith) (omega arith) f))
-        (apart k p v u a (omega arith) (omega arith) refl f).0
+    later_from k p u a b lo hi (back i q li c1 c2 e f) = grind (arith, run, st, stays, third, is_edge, contour, apart)
+    later_from k p u a b lo hi (on i li c1 c2 f) = grind (arith, run, st, stays, third, is_edge, contour, apart)
     later_from k p u a b lo hi (over i li c1 c2 f) =
         let w = (run k b).within in
         let v = (st k).vertex p in
         let q = count-le steps (suc m) k a in
-        let sx = d.small_x in
-        let sy = d.small_y in
         stays (third v) (third u) (is_edge (v, u) x y) (contour k p v a (omega arith) (omega arith) refl ∙ sym (new u (omega arith)))
         (no_edge v u x y (λ ev eu. omega arith) (λ ev eu. omega arith))
 
@@ -178,23 +147,19 @@ module _ (steps : ℕ → Step) (n : ℕ) (whole : IsWholeRun steps n) (some : 0
 
     earlier_from : (k p u : ℕ) → k < m → (steps k).first < p → p < (steps k).last → LeadsFrom steps n whole some k p u → third ((st k).vertex p) ≡ flipped (is_edge ((st k).vertex p, u) x y) (third u)
     earlier_from k p u a lo hi h =
-        let ln = d.earlier in
         let w = (run k (omega arith)).within in
         let v = (st k).vertex p in
         let q = count-le steps (suc k) m a in
         let lv = (stage_at k (omega arith)).placed p (omega arith) in
         let lu = placed_from k p u (omega arith) lo hi h in
         let off = off_later steps n whole some k m p v a (omega arith) lo hi refl in
-        let nx = d.clear_x v (omega arith) off in
-        let ny = d.clear_y v (omega arith) off in
         stays (third v) (third u) (is_edge (v, u) x y) (old v (omega arith) ∙ (ap c (together k m p u a (omega arith) lo hi h) ∙ sym (old u (omega arith))))
-        (no_edge v u x y (λ ev eu. nx ev) (λ ev eu. ny ev))
+        (no_edge v u x y (λ ev eu. (d.clear_x v (omega arith) off) ev) (λ ev eu. (d.clear_y v (omega arith) off) ev))
 
     here_from : (k p u : ℕ) → m ≡ k → (steps k).first < p → p < (steps k).last → LeadsFrom steps n whole some k p u → third ((st k).vertex p) ≡ flipped (is_edge ((st k).vertex p, u) x y) (third u)
     here_from k p u same lo hi h =
         let to : (z : ℕ) → Type 0 = λ z. (steps z).first < p → p < (steps z).last → LeadsFrom steps n whole some z p u → third ((st z).vertex p) ≡ flipped (is_edge ((st z).vertex p, u) x y) (third u) in
         (subst to same (λ a b f.
-        let ln = d.earlier in
         let w = (run m d.earlier).within in
         let stage = stage_at m (omega arith) in
         old ((st m).vertex p) (stage.placed p (omega arith)) ∙ (ap c (stage.own p (omega arith)) ∙ d.here p u a b f))) lo hi h
@@ -209,7 +174,6 @@ module _ (steps : ℕ → Step) (n : ℕ) (whole : IsWholeRun steps n) (some : 0
     steps_three : (v u : ℕ) → LeadsThree steps n whole some v u → third v ≡ flipped (is_edge (v, u) x y) (third u)
     steps_three v u (covered k p l a b e h) = subst (λ v. third v ≡ flipped (is_edge (v, u) x y) (third u)) e (from_at k p u l a b h)
     steps_three v u (to_right p a e f) =
-        let w = whole.within in
         let l = d.earlier in
         stays (third v) (third u) (is_edge (v, u) x y) (contour n p v l (omega arith) (omega arith) e ∙ sym (contour n (suc p) u l (omega arith) (omega arith) f)) (apart n p v u l (omega arith) (omega arith) e f).0
     steps_three v u (to_left p a b e f) =
@@ -237,7 +201,6 @@ module _ (steps : ℕ → Step) (n : ℕ) (whole : IsWholeRun steps n) (some : 0
     bounds =
         let step = run m lm in
         let stage = stage_at m (omega arith) in
-        let w = step.within in
         let a = cut-first (st m) (steps m) step i (omega arith) in
         let b = cut-last (st m) (steps m) step (suc i) li in
         (omega arith, stage.placed j (omega arith), stage.placed (suc j) (omega arith), omega arith, omega arith)
@@ -246,13 +209,11 @@ module _ (steps : ℕ → Step) (n : ℕ) (whole : IsWholeRun steps n) (some : 0
     over_outside p (inl l) =
         let step = run m lm in
         let a = cut-first (st m) (steps m) step i (omega arith) in
-        let t = step.low i li in
-        ap₂ flipped (le-leb p j (omega arith)) (le-leb p ((steps m).turn i) (omega arith))
+        ap₂ flipped (le-leb p j (omega arith)) (le-leb p ((steps m).turn i) (omega (arith, step.low i li)))
     over_outside p (inr l) =
         let step = run m lm in
         let b = cut-last (st m) (steps m) step (suc i) li in
-        let t = step.high i li in
-        ap₂ flipped (lt-leb p j (omega arith)) (lt-leb p ((steps m).turn i) (omega arith))
+        ap₂ flipped (lt-leb p j (omega arith)) (lt-leb p ((steps m).turn i) (omega (arith, step.high i li)))
 
     over_old : (q u : ℕ) → q < (st m).width → (st m).vertex q ≡ u → third_test steps m over_test u ≡ over_test q
     over_old q u l e =
@@ -267,12 +228,7 @@ module _ (steps : ℕ → Step) (n : ℕ) (whole : IsWholeRun steps n) (some : 0
         let edge = is_edge (v, u) x y in
         let t = (steps m).turn i in
         let turns : leb p t ≡ leb q t = ap (λ p. leb p t) (sym e) ∙ leb-next q t (not_turn_back m lm i' q i li' li (omega arith) (omega arith)) in
-        let flips : leb p j ≡ flipped edge (leb q j) = elim (cases_eq q j) [
-          | inl same ↦ changes_back (leb p j) (leb q j) edge (lt-leb p j (omega arith)) (le-leb q j (omega arith)) (edge_back v u x y (ap (st m).vertex (sym e ∙ ap suc same)) (sym f ∙ ap (st m).vertex same))
-          | inr ne ↦ stays (leb p j) (leb q j) edge (ap (λ p. leb p j) (sym e) ∙ leb-next q j ne) (no_edge v u x y
-              (λ ev eu. let z = places m p j (omega arith) (omega arith) (omega arith) ev in let z' = places m q (suc j) (omega arith) (omega arith) bd (f ∙ eu) in omega arith)
-              (λ ev eu. ne (places m q j (omega arith) (omega arith) (omega arith) (f ∙ eu))))
-        ] in
+        let flips : leb p j ≡ flipped edge (leb q j) = grind (arith, leb, flipped, cases_eq, changes_back, lt-leb, le-leb, edge_back, st, stays, leb-next, no_edge, places) in
         ap₂ flipped flips turns ∙ (sym (flipped_assoc edge (leb q j) (leb q t)) ∙ ap (flipped edge) (sym (over_old q u (omega arith) f)))
     over_here p u lo hi (on i' li' a b f) =
         let w = (run m lm).within in
@@ -282,19 +238,12 @@ module _ (steps : ℕ → Step) (n : ℕ) (whole : IsWholeRun steps n) (some : 0
         let t = (steps m).turn i in
         let q : ℕ = suc p in
         let turns : leb p t ≡ leb q t = sym (leb-next p t (not_turn_on m lm i' p i li' li a b)) in
-        let flips : leb p j ≡ flipped edge (leb q j) = elim (cases_eq p j) [
-          | inl same ↦ changes (leb p j) (leb q j) edge (le-leb p j (omega arith)) (lt-leb q j (omega arith)) (edge_on v u x y (ap (st m).vertex same) (sym f ∙ ap (λ z. (st m).vertex (suc z)) same))
-          | inr ne ↦ stays (leb p j) (leb q j) edge (sym (leb-next p j ne)) (no_edge v u x y
-              (λ ev eu. ne (places m p j (omega arith) (omega arith) (omega arith) ev))
-              (λ ev eu. let z = places m p (suc j) (omega arith) (omega arith) bd ev in let z' = places m q j (omega arith) (omega arith) (omega arith) (f ∙ eu) in omega arith))
-        ] in
+        let flips : leb p j ≡ flipped edge (leb q j) = grind (arith, leb, flipped, cases_eq, changes, le-leb, lt-leb, edge_on, st, stays, leb-next, no_edge, places) in
         ap₂ flipped flips turns ∙ (sym (flipped_assoc edge (leb q j) (leb q t)) ∙ ap (flipped edge) (sym (over_old q u (omega arith) f)))
     over_here p u lo hi (over i' li' a b f) =
         let step = run m lm in
         let v = (st m).vertex p in
         let bd = bounds in
-        let lx = bd.1 in
-        let ly = bd.2 in
         let t = (steps m).turn i in
         let tl = step.low i li in
         let th = step.high i li in
@@ -309,14 +258,11 @@ module _ (steps : ℕ → Step) (n : ℕ) (whole : IsWholeRun steps n) (some : 0
     pub over_done : ((l p : ℕ) → m < l → l ≤ n → ¬ GoesAlong (st l) x y p) → ((l p : ℕ) → m < l → l ≤ n → ¬ GoesAlong (st l) y x p) → IsDone m x y over_test
     over_done gone gone_back =
         let bd = bounds in
-        let w = bd.0 in
-        let lx = bd.1 in
-        let ly = bd.2 in
         record {
           earlier = lm;
           outside = over_outside;
           clear_x = λ v l off e. off j (omega arith) (sym e);
-          clear_y = λ v l off e. off (suc j) w (sym e);
+          clear_y = λ v l off e. off (suc j) bd.0 (sym e);
           small_x = omega arith;
           small_y = omega arith;
           gone = gone;
@@ -338,26 +284,22 @@ module _ (steps : ℕ → Step) (n : ℕ) (whole : IsWholeRun steps n) (some : 0
     middle_bounds : ((steps m).cut (suc i) < (st m).width) × (mx < (st m).count)
     middle_bounds =
         let step = run m lm in
-        let stage = stage_at m (omega arith) in
-        let w = step.within in
         let b = cut-last (st m) (steps m) step (suc i) (omega arith) in
-        (omega arith, stage.placed ((steps m).cut (suc i)) (omega arith))
+        (omega arith, (stage_at m (omega arith)).placed ((steps m).cut (suc i)) (omega arith))
 
     pub middle_outside : (p : ℕ) → (p ≤ (steps m).first) ⊎ ((steps m).last ≤ p) → middle_test p ≡ false
     middle_outside p (inl l) =
         let step = run m lm in
         let a = cut-first (st m) (steps m) step i (omega arith) in
         let a' = cut-first (st m) (steps m) step (suc i) (omega arith) in
-        let t = step.low i (omega arith) in
         let t' = step.low (suc i) li in
-        ap₂ flipped (le-leb p ((steps m).turn i) (omega arith)) (le-leb p ((steps m).turn (suc i)) (omega arith))
+        ap₂ flipped (le-leb p ((steps m).turn i) (omega (arith, step.low i (omega arith)))) (le-leb p ((steps m).turn (suc i)) (omega arith))
     middle_outside p (inr l) =
         let step = run m lm in
         let b = cut-last (st m) (steps m) step (suc i) (omega arith) in
         let b' = cut-last (st m) (steps m) step (suc (suc i)) li in
-        let t = step.high i (omega arith) in
         let t' = step.high (suc i) li in
-        ap₂ flipped (lt-leb p ((steps m).turn i) (omega arith)) (lt-leb p ((steps m).turn (suc i)) (omega arith))
+        ap₂ flipped (lt-leb p ((steps m).turn i) (omega (arith, step.high i (omega arith)))) (lt-leb p ((steps m).turn (suc i)) (omega arith))
 
     middle_old : (q u : ℕ) → q < (st m).width → (st m).vertex q ≡ u → third_test steps m middle_test u ≡ middle_test q
     middle_old q u l e =
@@ -369,8 +311,6 @@ module _ (steps : ℕ → Step) (n : ℕ) (whole : IsWholeRun steps n) (some : 0
         let w = (run m lm).within in
         let stage = stage_at m (omega arith) in
         let v = (st m).vertex p in
-        let lv = stage.placed p (omega arith) in
-        let lu = stage.placed q (omega arith) in
         let t = (steps m).turn i in
         let t' = (steps m).turn (suc i) in
         let one : leb p t ≡ leb q t = ap (λ p. leb p t) (sym e) ∙ leb-next q t (not_turn_back m lm i' q i li' (omega arith) (omega arith) (omega arith)) in
@@ -380,8 +320,6 @@ module _ (steps : ℕ → Step) (n : ℕ) (whole : IsWholeRun steps n) (some : 0
         let w = (run m lm).within in
         let stage = stage_at m (omega arith) in
         let v = (st m).vertex p in
-        let lv = stage.placed p (omega arith) in
-        let lu = stage.placed (suc p) (omega arith) in
         let t = (steps m).turn i in
         let t' = (steps m).turn (suc i) in
         let one : leb p t ≡ leb (suc p) t = sym (leb-next p t (not_turn_on m lm i' p i li' (omega arith) a b)) in
@@ -389,10 +327,8 @@ module _ (steps : ℕ → Step) (n : ℕ) (whole : IsWholeRun steps n) (some : 0
         stays (middle_test p) (third_test steps m middle_test u) (is_edge (v, u) mx my) (ap₂ flipped one two ∙ sym (middle_old (suc p) u (omega arith) f)) (no_edge v u mx my (λ ev eu. omega arith) (λ ev eu. omega arith))
     middle_here p u lo hi (over i' li' a b f) =
         let step = run m lm in
-        let w = step.within in
         let v = (st m).vertex p in
         let lv = (stage_at m (omega arith)).placed p (omega arith) in
-        let lx = middle_bounds.1 in
         let wx = middle_bounds.0 in
         let t = (steps m).turn i in
         let t' = (steps m).turn (suc i) in
@@ -406,12 +342,10 @@ module _ (steps : ℕ → Step) (n : ℕ) (whole : IsWholeRun steps n) (some : 0
               let z = ap (steps m).cut same in
               changes (middle_test p) (third_test steps m middle_test u) (is_edge (v, u) mx my) (ap₂ flipped (lt-leb p t (omega arith)) (le-leb p t' (omega arith))) none (edge_on v u mx my (ap (st m).vertex (b ∙ z)) f)
           | inr (inl below) ↦
-              let z = cut-lt (st m) (steps m) step i' (suc i) below (omega arith) in
               let z' = cut-le (st m) (steps m) step i' i (omega arith) (omega arith) in
               stays (middle_test p) (third_test steps m middle_test u) (is_edge (v, u) mx my) (ap₂ flipped (le-leb p t (omega arith)) (le-leb p t' (omega arith)) ∙ sym none)
               (no_edge v u mx my (λ ev eu. let k = places m p ((steps m).cut (suc i)) (omega arith) (omega arith) wx ev in omega arith) (λ ev eu. omega arith))
           | inr (inr above) ↦
-              let z = cut-lt (st m) (steps m) step (suc i) i' above (omega arith) in
               let z' = cut-le (st m) (steps m) step (suc (suc i)) i' above (omega arith) in
               stays (middle_test p) (third_test steps m middle_test u) (is_edge (v, u) mx my) (ap₂ flipped (lt-leb p t (omega arith)) (lt-leb p t' (omega arith)) ∙ sym none)
               (no_edge v u mx my (λ ev eu. let k = places m p ((steps m).cut (suc i)) (omega arith) (omega arith) wx ev in omega arith) (λ ev eu. omega arith))
@@ -419,16 +353,13 @@ module _ (steps : ℕ → Step) (n : ℕ) (whole : IsWholeRun steps n) (some : 0
 
     pub middle_done : ((l p : ℕ) → m < l → l ≤ n → ¬ GoesAlong (st l) mx my p) → ((l p : ℕ) → m < l → l ≤ n → ¬ GoesAlong (st l) my mx p) → IsDone m mx my middle_test
     middle_done gone gone_back =
-        let s = (run m lm).some_vertex in
-        let w = middle_bounds.0 in
-        let lx = middle_bounds.1 in
         record {
           earlier = lm;
           outside = middle_outside;
-          clear_x = λ v l off e. off ((steps m).cut (suc i)) w (sym e);
+          clear_x = λ v l off e. off ((steps m).cut (suc i)) middle_bounds.0 (sym e);
           clear_y = λ v l off e. omega arith;
-          small_x = omega arith;
-          small_y = omega arith;
+          small_x = omega (arith, middle_bounds.1);
+          small_y = omega (arith, (run m lm).some_vertex);
           gone = gone;
           gone_back = gone_back;
           here = middle_here;
@@ -449,27 +380,11 @@ module _ (steps : ℕ → Step) (n : ℕ) (whole : IsWholeRun steps n) (some : 0
 
     last_steps : (v u : ℕ) → LeadsThree steps n whole some v u → last_test v ≡ flipped (is_edge (v, u) x y) (last_test u)
     last_steps v u (covered k p l a b e h) =
-        let w = along.within in
         let off = off_later steps n whole some k n p v l (omega arith) a b e in
         stays (last_test v) (last_test u) (is_edge (v, u) x y) (ap (λ z. flipped (leb z j) (leb whole.top j)) (ap (st n).place (sym e) ∙ together k n p u l (omega arith) a b h))
-        (no_edge v u x y (λ ev eu. off j (omega arith) (along.tail ∙ sym ev)) (λ ev eu. off (suc j) w (along.head ∙ sym ev)))
-    last_steps v u (to_right p a e f) =
-        let w = along.within in
-        let t = whole.within in
-        last_step p (suc p) v u (omega arith) (omega arith) e f (elim (cases_eq p j) [
-          | inl same ↦ changes (leb p j) (leb (suc p) j) (is_edge (v, u) x y) (le-leb p j (omega arith)) (lt-leb (suc p) j (omega arith)) (edge_on v u x y (sym e ∙ ap (st n).vertex same ∙ along.tail) (sym f ∙ ap (λ z. (st n).vertex (suc z)) same ∙ along.head))
-          | inr ne ↦ stays (leb p j) (leb (suc p) j) (is_edge (v, u) x y) (sym (leb-next p j ne)) (no_edge v u x y
-              (λ ev eu. ne (places n p j (omega arith) (omega arith) (omega arith) (e ∙ ev ∙ sym along.tail)))
-              (λ ev eu. let z = places n p (suc j) (omega arith) (omega arith) w (e ∙ ev ∙ sym along.head) in let z' = places n (suc p) j (omega arith) (omega arith) (omega arith) (f ∙ eu ∙ sym along.tail) in omega arith))
-        ])
-    last_steps v u (to_left p a b e f) =
-        let w = along.within in
-        last_step (suc p) p v u b (omega arith) e f (elim (cases_eq p j) [
-          | inl same ↦ changes_back (leb (suc p) j) (leb p j) (is_edge (v, u) x y) (lt-leb (suc p) j (omega arith)) (le-leb p j (omega arith)) (edge_back v u x y (sym e ∙ ap (λ z. (st n).vertex (suc z)) same ∙ along.head) (sym f ∙ ap (st n).vertex same ∙ along.tail))
-          | inr ne ↦ stays (leb (suc p) j) (leb p j) (is_edge (v, u) x y) (leb-next p j ne) (no_edge v u x y
-              (λ ev eu. let z = places n (suc p) j (omega arith) b (omega arith) (e ∙ ev ∙ sym along.tail) in let z' = places n p (suc j) (omega arith) (omega arith) w (f ∙ eu ∙ sym along.head) in omega arith)
-              (λ ev eu. ne (places n p j (omega arith) (omega arith) (omega arith) (f ∙ eu ∙ sym along.tail))))
-        ])
+        (no_edge v u x y (λ ev eu. off j (omega arith) (along.tail ∙ sym ev)) (λ ev eu. off (suc j) along.within (along.head ∙ sym ev)))
+    last_steps v u (to_right p a e f) = grind (arith, last_step, cases_eq, changes, leb, is_edge, le-leb, lt-leb, edge_on, st, stays, leb-next, no_edge)
+    last_steps v u (to_left p a b e f) = grind (arith, last_step, cases_eq, changes_back, leb, is_edge, lt-leb, le-leb, edge_back, st, stays, leb-next, no_edge)
 
     pub ways_last : AreThirdWays steps n whole some x y last_test
     ways_last = record {

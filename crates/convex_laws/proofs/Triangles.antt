@@ -1,7 +1,7 @@
 -- Each dart with the middle of its face as a triangle, over three blocks of numbers: the darts, those from their heads to the middles, and those from the middles to their tails.
 use Rattle.std.proofs.Common.{◌≡◌, ◌≢◌, ◌⊎◌, ℕ, ◌+◌, ◌-◌, ◌*◌, ◌<◌, false, if◌then◌else◌, ltb, pos, ◌<ℤ◌, sym, ap, subst, ◌∙◌, inl, inr, arith}
 use Rattle.std.proofs.lemmas.Bool.{cases_lt, cond-true, cond-false, lt-ltb, le-ltb, true≢false}
-use Rattle.pg_plane.specs.declared.segments.Point.{Point}
+use Rattle.pg_plane.specs.declared.grid_points.Point.{Point}
 use Rattle.pg_plane.specs.Geometry.{area}
 use Rattle.classes.proofs.Orbits.{IsPermuting}
 use Rattle.pg_plane.specs.Faced.{in_base, IsFaced, IsTailed}
@@ -178,30 +178,13 @@ module _ (k : ℕ) (twin step back : ℕ → ℕ) (at : ℕ → Point) (tail fac
 
   -- the corners of the triangle of a dart, from each of its numbers
   corners_first : (i : ℕ) → i < k → area (at3 i) (at3 (step3 i)) (at3 (step3 (step3 i))) ≡ area (at i) (at (step i)) (middle (face i))
-  corners_first i l =
-      ap (λ p. area p (at3 (step3 i)) (at3 (step3 (step3 i)))) (at-first i l)
-      ∙ ap (λ z. area (at i) (at3 z) (at3 (step3 z))) (step-first i l)
-      ∙ ap (λ p. area (at i) p (at3 (step3 (i + k)))) (at-second i l)
-      ∙ ap (λ z. area (at i) (at (step i)) (at3 z)) (step-second i l)
-      ∙ ap (λ p. area (at i) (at (step i)) p) (at-third i l)
+  corners_first i l = grind (arith, area, at3, step3, at-first, step-first, at-second, step-second, at-third)
 
   corners_second : (i : ℕ) → i < k → area (at3 (i + k)) (at3 (step3 (i + k))) (at3 (step3 (step3 (i + k)))) ≡ area (at i) (at (step i)) (middle (face i))
-  corners_second i l =
-      ap (λ p. area p (at3 (step3 (i + k))) (at3 (step3 (step3 (i + k))))) (at-second i l)
-      ∙ ap (λ z. area (at (step i)) (at3 z) (at3 (step3 z))) (step-second i l)
-      ∙ ap (λ p. area (at (step i)) p (at3 (step3 (i + (k + k))))) (at-third i l)
-      ∙ ap (λ z. area (at (step i)) (middle (face i)) (at3 z)) (step-third i l)
-      ∙ ap (λ p. area (at (step i)) (middle (face i)) p) (at-first i l)
-      ∙ area_turned (at i) (at (step i)) (middle (face i))
+  corners_second i l = grind (arith, area, at3, step3, at-second, step-second, at-third, step-third, at-first, area_turned)
 
   corners_third : (i : ℕ) → i < k → area (at3 (i + (k + k))) (at3 (step3 (i + (k + k)))) (at3 (step3 (step3 (i + (k + k))))) ≡ area (at i) (at (step i)) (middle (face i))
-  corners_third i l =
-      ap (λ p. area p (at3 (step3 (i + (k + k)))) (at3 (step3 (step3 (i + (k + k)))))) (at-third i l)
-      ∙ ap (λ z. area (middle (face i)) (at3 z) (at3 (step3 z))) (step-third i l)
-      ∙ ap (λ p. area (middle (face i)) p (at3 (step3 i))) (at-first i l)
-      ∙ ap (λ z. area (middle (face i)) (at i) (at3 z)) (step-first i l)
-      ∙ ap (λ p. area (middle (face i)) (at i) p) (at-second i l)
-      ∙ sym (area_turned (middle (face i)) (at i) (at (step i)))
+  corners_third i l = grind (arith, area, at3, step3, at-third, step-third, at-first, step-first, at-second, area_turned)
 
   -- the base's own three
   base_second : step3 base ≡ base + k

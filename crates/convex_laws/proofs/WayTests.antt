@@ -62,13 +62,8 @@ some_begun end steps (suc n) k start placed l = elim (cases_lt n k) [
             later = λ m v a b c d. elim (cases_lt m n) [
               | inl before ↦
                   let q = count-le steps (suc m) n before in
-                  let q' = count-le steps m n (omega arith) in
-                  let p = placed m b in
                   old v (omega arith) ∙ (h.1.later m v a before c d ∙ sym (old ((stage_after steps m).vertex (end (steps m))) (omega arith)))
-              | inr at ↦
-                  let e : n ≡ m = omega arith in
-                  let f = ap (λ z. (stage_after steps z).count) e in
-                  new v (omega arith) ∙ (sym (old w (placed n (omega arith))) ∙ ap (λ z. T ((stage_after steps z).vertex (end (steps z)))) e)
+              | inr at ↦ grind (arith, stage_after)
             ];
           },
         )
@@ -102,18 +97,15 @@ module _ (steps : ℕ → Step) (n : ℕ) (whole : IsWholeRun steps n) (some : 0
   pub ends_placed : (k : ℕ) → k < n → (begins k < (st k).count) × (ends k < (st k).count)
   ends_placed k l =
       let step = run k l in
-      let w = step.within in
       let o = order (st k) (steps k) step in
       let s = stage_at k (omega arith) in
-      (s.placed (steps k).first (omega arith), s.placed (steps k).last w)
+      (s.placed (steps k).first (omega arith), s.placed (steps k).last step.within)
 
   ends_apart : (k : ℕ) → k < n → begins k ≢ ends k
   ends_apart k l e =
       let step = run k l in
-      let w = step.within in
       let o = order (st k) (steps k) step in
-      let z = same_place steps n whole some k (omega arith) (steps k).first (steps k).last (omega arith) w e in
-      omega arith
+      omega (arith, same_place steps n whole some k (omega arith) (steps k).first (steps k).last (omega arith) step.within e)
 
   -- An edge that is new in the step k, at place j of the contour after it.
   pub record IsBorn (k j x y : ℕ) : Type 0 where
@@ -124,24 +116,7 @@ module _ (steps : ℕ → Step) (n : ℕ) (whole : IsWholeRun steps n) (some : 0
     pub head : ((j < (steps k).first + (steps k).vertices) × (y + (steps k).first ≡ (st k).count + j)) ⊎ ((j ≡ (steps k).first + (steps k).vertices) × (y ≡ ends k))
 
   pub born : (k j x y : ℕ) → k < n → (steps k).first ≤ j → j ≤ (steps k).first + (steps k).vertices → GoesAlong (st (suc k)) x y j → IsBorn k j x y
-  born k j x y l a b along =
-      let step = run k l in
-      let o = order (st k) (steps k) step in
-      let t = along.tail in
-      let h = along.head in
-      record {
-        earlier = l;
-        low = a;
-        high = b;
-        tail = elim (cases_lt (steps k).first j) [
-          | inl more ↦ let e = vertex_after-new (st k) (steps k) j more b in inr (more, omega arith)
-          | inr none ↦ let e : j ≡ (steps k).first = omega arith in inl (e, sym t ∙ vertex_after-low (st k) (steps k) j none ∙ ap (st k).vertex e)
-        ];
-        head = elim (cases_lt j ((steps k).first + (steps k).vertices)) [
-          | inl more ↦ let e = vertex_after-new (st k) (steps k) (suc j) (omega arith) (omega arith) in inl (more, omega arith)
-          | inr none ↦ inr (omega arith, sym h ∙ vertex_after-high (st k) (steps k) (suc j) (steps k).last (omega arith) (omega arith))
-        ];
-      }
+  born k j x y l a b along = grind (arith, cases_lt, vertex_after-new, st, vertex_after-low, vertex_after-high)
 
   module _ (k j x y : ℕ) (b : IsBorn k j x y) where
     abbrev c : ℕ
@@ -155,24 +130,12 @@ module _ (steps : ℕ → Step) (n : ℕ) (whole : IsWholeRun steps n) (some : 0
 
     -- it has a new end
     older : (v u : ℕ) → v < c → u < c → is_edge (v, u) x y ≡ false
-    older v u lv lu =
-        let s = (run k lk).some_vertex in
-        let new : x < c → y < c → ⊥ = λ lx ly. elim b.tail [
-          | inr t ↦ (let t0 = t.0 in let t1 = t.1 in omega arith)
-          | inl t ↦ (let t0 = t.0 in elim b.head [ inl h ↦ (let h1 = h.1 in omega arith) | inr h ↦ (let h0 = h.0 in omega arith) ])
-        ] in
-        no_edge v u x y (λ e f. new (omega arith) (omega arith)) (λ e f. new (omega arith) (omega arith))
+    older v u lv lu = grind (arith, run, lk, no_edge)
 
     -- and no end that is newer
     newer : (v u : ℕ) → c + (steps k).vertices ≤ v → is_edge (v, u) x y ≡ false
     newer v u lv =
         let q = ends_placed k lk in
-        let q0 = q.0 in
-        let q1 = q.1 in
-        let lo = b.low in
-        let hi = b.high in
-        let lx : x < c + (steps k).vertices = elim b.tail [ inl t ↦ (let t1 = t.1 in omega arith) | inr t ↦ (let t1 = t.1 in omega arith) ] in
-        let ly : y < c + (steps k).vertices = elim b.head [ inl t ↦ (let t0 = t.0 in let t1 = t.1 in omega arith) | inr t ↦ (let t1 = t.1 in omega arith) ] in
         no_edge v u x y (λ e f. omega arith) (λ e f. omega arith)
 
     abbrev pub one_start : ℕ → Bool
@@ -396,8 +359,6 @@ module _ (steps : ℕ → Step) (n : ℕ) (whole : IsWholeRun steps n) (some : 0
         let step = run k lk in
         let a = cut-lt (st k) (steps k) step 0 i low (omega arith) in
         let b = cut-lt (st k) (steps k) step i (steps k).faces high (omega arith) in
-        let e = step.begin in
-        let f = step.end in
         (omega arith, omega arith)
 
     one_vertex : (steps k).vertices ≡ 1
@@ -411,15 +372,13 @@ module _ (steps : ℕ → Step) (n : ℕ) (whole : IsWholeRun steps n) (some : 0
         let w = (run k lk).within in
         let a = between.0 in
         let b = between.1 in
-        let z = same_place steps n whole some k (omega arith) (steps k).first ((steps k).cut i) (omega arith) (omega arith) e in
-        omega arith
+        omega (arith, same_place steps n whole some k (omega arith) (steps k).first ((steps k).cut i) (omega arith) (omega arith) e)
 
     not_end : ends k ≢ x
     not_end e =
         let w = (run k lk).within in
         let b = between.1 in
-        let z = same_place steps n whole some k (omega arith) (steps k).last ((steps k).cut i) w (omega arith) e in
-        omega arith
+        omega (arith, same_place steps n whole some k (omega arith) (steps k).last ((steps k).cut i) w (omega arith) e)
 
     older_than : (v u : ℕ) → v < y → u < y → is_edge (v, u) x y ≡ false
     older_than v u a b = no_edge v u x y (λ e f. omega arith) (λ e f. omega arith)
@@ -431,9 +390,7 @@ module _ (steps : ℕ → Step) (n : ℕ) (whole : IsWholeRun steps n) (some : 0
     middle_ones v u (base_one e f) = let t = two_at_least k in stays false false (is_edge (v, u) x y) refl (older_than v u (omega arith) (omega arith))
     middle_ones v u (first_one m l e f) = stays false false (is_edge (v, u) x y) refl (elim (cases_order k m) [
       | inl same ↦
-          let a = x_old in
-          let z = ap (λ z. (st z).count) same in
-          no_edge v u x y (λ ev eu. omega arith) (λ ev eu. not_begin (ap begins same ∙ f ∙ eu))
+          no_edge v u x y (λ ev eu. omega (arith, ap (λ z. (st z).count) same, x_old)) (λ ev eu. not_begin (ap begins same ∙ f ∙ eu))
       | inr (inl after) ↦ let w = count-le steps (suc k) m after in let o = one_vertex in newer_than v u (omega arith)
       | inr (inr before) ↦ let w = count-le steps (suc m) k before in let s = (run m l).some_vertex in let q = (ends_placed m l).0 in older_than v u (omega arith) (omega arith)
     ])
@@ -447,11 +404,8 @@ module _ (steps : ℕ → Step) (n : ℕ) (whole : IsWholeRun steps n) (some : 0
     middle_twos v u (base_two e f) = let t = two_at_least k in stays false false (is_edge (v, u) x y) refl (older_than v u (omega arith) (omega arith))
     middle_twos v u (last_two m l e f) = stays false false (is_edge (v, u) x y) refl (elim (cases_order k m) [
       | inl same ↦
-          let a = x_old in
           let z = ap (λ z. (st z).count) same in
-          let z' = ap (λ z. (steps z).vertices) same in
-          let o = one_vertex in
-          no_edge v u x y (λ ev eu. omega arith) (λ ev eu. not_end (ap ends same ∙ f ∙ eu))
+          no_edge v u x y (λ ev eu. omega (arith, one_vertex, ap (λ z. (steps z).vertices) same, x_old)) (λ ev eu. not_end (ap ends same ∙ f ∙ eu))
       | inr (inl after) ↦ let w = count-le steps (suc k) m after in let o = one_vertex in let s = (run m l).some_vertex in newer_than v u (omega arith)
       | inr (inr before) ↦ let w = count-le steps (suc m) k before in let q = (ends_placed m l).1 in older_than v u (omega arith) (omega arith)
     ])

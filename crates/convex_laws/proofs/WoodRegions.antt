@@ -10,7 +10,7 @@ use Rattle.map_lists.specs.Lists.{Lists}
 use Rattle.map_theory.specs.Maps.{Dart, HasDart, IsSimpleMap, IsPlane, face_classes, face_images, face_count, dart_count, dart_number, component_count}
 use Rattle.map_theory.proofs.DartLemmas.{dart_number-lt, get_or-dart_number, length-face_images, IsPermutationOfBelow-face_images, HasDart-face_step}
 use Rattle.map_theory.proofs.DartPermutations.{dart_of, dart_of-number}
-use Rattle.pg_plane.specs.declared.segments.Point.{Point}
+use Rattle.pg_plane.specs.declared.grid_points.Point.{Point}
 use Rattle.plane_drawings.specs.Drawing.{place}
 use Rattle.contour_runs.specs.Wood.{Coordinates, point_of}
 use Rattle.contour_runs.specs.FaceRuns.{Step, stage_after, IsRun, IsDartOf, faces_made}
@@ -109,24 +109,21 @@ module _ (lists : Lists) (s d : ℕ) (steps : ℕ → Step) (n : ℕ) (rank : �
       let z = made_by steps n f l in
       let k = z.0 in
       let i = z.1 in
-      let lk = z.2 in
       let li = z.3 in
       let g = stage_after steps k in
-      let step = run k lk in
+      let step = run k z.2 in
       let stage = IsStage-run steps k (IsRun-less steps k n (omega arith) run) in
       let j = (steps k).cut i in
       let c = cut-last g (steps k) step (suc i) li in
       let c' = cut-next g (steps k) step i li in
-      let b = step.within in
       let x = at (g.vertex j) in
       let y = at (g.vertex (suc j)) in
       let has = goes_all lists s d steps n rank face at run h.map h.all h.below h.one h.named k (omega arith) (g.vertex j) (g.vertex (suc j)) j record { within = omega arith; tail = refl; head = refl } in
       let q = count-le steps k n (omega arith) in
-      let a = h.all in
       let rx = rank_at lists s d steps n rank face at run h.map h.all h.below h.one h.named (g.vertex j) (let p = stage.placed j (omega arith) in omega arith) in
       let ry = rank_at lists s d steps n rank face at run h.map h.all h.below h.one h.named (g.vertex (suc j)) (let p = stage.placed (suc j) (omega arith) in omega arith) in
       let dart : IsDartOf g (steps k) i (rank x) (rank y) = record { within = li; dart = inl record { place = j; low = omega arith; high = c'; tail = sym rx; head = sym ry } } in
-      let e : face x y ≡ f = numbered lists s d steps n rank face at run h.map h.all h.below h.one h.named k i x y lk has dart ∙ sym z.4 in
+      let e : face x y ≡ f = numbered lists s d steps n rank face at run h.map h.all h.below h.one h.named k i x y z.2 has dart ∙ sym z.4 in
       (label_in C (dart_number lists (x, y)), picked_of f x y l has e)
     where
       picked_of : (f x y : ℕ) → f < many → HasDart lists x y → face x y ≡ f → Picked f (label_in C (dart_number lists (x, y)))
@@ -177,10 +174,8 @@ module _ (lists : Lists) (s d : ℕ) (steps : ℕ → Step) (n : ℕ) (rank : �
       let within : m < K = let low = label-lt C C_labels (dart_number lists (s, d)) (let k = dart_number-lt lists s d h.map.dart in omega arith) in omega arith in
       let is_own : label_in C m ≡ m = C_labels.own (dart_number lists (s, d)) in
       let some = count_below_into (λ i. m) (λ i. true) (λ i. ours i && own i) 1 K (λ i a b. (within, and_from (ours m) (own m) (eq-eqb m (label_in C m) (sym is_own)) (eq-eqb (label_in C m) m is_own))) (λ i j a b e f g. omega arith) in
-      let split = count_below_split own ours K in
       let rest = count_below_same (λ i. not (ours i) && own i) other K (λ i l. and_comm (not (ours i)) (own i)) in
-      let classes : class_count C ≡ count_below own K = ap (count_below own) size in
-      omega (arith, some, split, rest, classes, all_faces)
+      omega (arith, some, count_below_split own ours K, rest, ap (count_below own) size, all_faces)
 
   module _ (c : Axis) (v : ℕ) (lv : v < length lists) where
     abbrev lab : ℕ → Bool
@@ -209,9 +204,8 @@ module _ (lists : Lists) (s d : ℕ) (steps : ℕ → Step) (n : ℕ) (rank : �
             let on = HasDart-face_step lists (x', y') simple has in
             (subst (λ z. HasDart lists z y) (sym ex) (subst (HasDart lists y') (sym ey) on), ap lab (ap₂ face ex ey ∙ h.map.faces x' y' has) ∙ (e ∙ sym eo))
         goes x' y' odd' has e (over ex ey eo) =
-            let on = simple.both_ways x' y' has in
             let told = label_sides lists s d steps n rank face at h root roots out_of are c v x' y' lv has in (
-              subst (λ z. HasDart lists z y) (sym ex) (subst (HasDart lists y') (sym ey) on),
+              subst (λ z. HasDart lists z y) (sym ex) (subst (HasDart lists y') (sym ey) (simple.both_ways x' y' has)),
               ap lab (ap₂ face ex ey) ∙ (flip_back (lab (face x' y')) (lab (face y' x')) (is_odd_on walk x' y') told ∙ (ap (flipped (is_odd_on walk x' y')) e ∙ sym eo)),
             )
 
@@ -237,12 +231,9 @@ module _ (lists : Lists) (s d : ℕ) (steps : ℕ → Step) (n : ℕ) (rank : �
         let no = count_below_into pick (λ f. not (lab f)) (λ i. other i && not (inside i)) many K
         (λ f l e. let p = pick-is f l in (p.within, and_from (other (pick f)) (not (inside (pick f))) p.is_other (ap (λ f. not (lab f)) p.number ∙ e)))
         (λ f g l m a b e. pick-once f g l m e) in
-        let all = count_below_not lab many in
-        let split = count_below_split other inside K in
         let one = count_below_same (λ i. inside i && other i) (λ i. other i && inside i) K (λ i l. and_comm (inside i) (other i)) in
         let two = count_below_same (λ i. not (inside i) && other i) (λ i. other i && not (inside i)) K (λ i l. and_comm (not (inside i)) (other i)) in
-        let few = others_few in
-        omega (arith, yes, no, all, split, one, two, few)
+        omega (arith, yes, no, count_below_not lab many, count_below_split other inside K, one, two, others_few)
 
     region_is : (k : ℕ) → count_below lab many ≡ k → IsFaceRegion lists (s, d) root out_of c v k
     region_is k e = record { walk = walk; closed = region; count = record { inside = inside; sides = side_is; count = inside_count ∙ e } }
@@ -265,29 +256,22 @@ module _ (lists : Lists) (s d : ℕ) (steps : ℕ → Step) (n : ℕ) (rank : �
       let a : ℕ → Bool = λ f. one_counted steps n f (rank v) in
       let b : ℕ → Bool = λ f. two_counted steps n f (rank v) in
       let both = count_below-flipped a b many (λ f m e e'. tests_apart steps n f (rank v) run m (h.map.placed v l) e e') in
-      let rest = count_below_not (λ f. flipped (a f) (b f)) many in
       let same = count_below_same (λ f. label lists s d steps n rank face at h root roots out_of are Three f v) (λ f. not (flipped (a f) (b f))) many
       (λ f m. three_inner lists s d steps n rank face at h root roots out_of are f v m ∙ ap₂ (λ p q. not (flipped (p && a f) (q && b f))) (lt-ltb f many m) (lt-ltb f many m)) in
-      omega (arith, both, rest, same, one_is_count steps n (rank v), two_is_count steps n (rank v))
+      omega (arith, both, count_below_not (λ f. flipped (a f) (b f)) many, same, one_is_count steps n (rank v), two_is_count steps n (rank v))
 
   pub regions_counted : (c : Axis) (v : ℕ) → v < length lists → IsFaceRegion lists (s, d) root out_of c v (height (face_counts steps n) many c (rank v))
   regions_counted c v l = region_is c v l (height (face_counts steps n) many c (rank v)) (labels_count c v l)
 
 -- the coordinates of a point are its counts
 coordinate_is : (at : Coordinates) (m f : ℕ) (c : Axis) (v : ℕ) (p : Point) → p ≡ point_of at v → at.one v + at.two v ≤ m → m + 1 ≡ f → IsCoordinate (f - 1) c p (height at m c v)
-coordinate_is at m f One v p e l k = ap (λ (p : Point). p.x) e
-coordinate_is at m f Two v p e l k = ap (λ (p : Point). p.y) e
-coordinate_is at m f Three v p e l k =
-    let whole : at.one v + at.two v + (m - (at.one v + at.two v)) ≡ f - 1 = omega arith in
-    ap (λ (p : Point). (p.x +ℤ p.y) +ℤ pos (m - (at.one v + at.two v))) e ∙ ap pos whole
+coordinate_is at m f x3 v p e l k = grind (arith, One, Point, Two, Three, pos)
 
 -- Points by the counts of a run of a map are placed by the regions of its wood: of the edges along which the coordinates rise.
 pub regions_draw : (lists : Lists) (s d : ℕ) (steps : ℕ → Step) (n : ℕ) (rank : ℕ → ℕ) (face : ℕ → ℕ → ℕ) (at : ℕ → ℕ) (root : Axis → ℕ) (out : Axis → ℕ → ℕ) (points : List Point) → IsPlane lists → component_count lists ≡ 1 → IsNamedRun lists s d steps n rank face at → AreRoots lists (s, d) root → AreRisingOut lists (face_counts (well_turned steps) n) rank root out → AreCountPoints lists (well_turned steps) n rank points → IsRegionDrawing lists (s, d) root out points
 regions_draw lists s d steps n rank face at root out points plane connected run roots are placed =
     let h = IsWoodRun-named lists s d steps n rank face at run in
     let turned = well_turned steps in
-    let made = faces_made-well_turned steps n in
-    let faces = run.run.faces in
     let all : faces_made turned n + 1 ≡ face_count lists = omega arith in
     let fall = IsFalling-run turned n h.whole.turned.run in
     record {

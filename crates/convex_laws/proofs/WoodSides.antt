@@ -35,80 +35,22 @@ use Rattle.convex_laws.proofs.FaceTests.{test-outer, one_hits, two_hits}
 use Rattle.convex_laws.proofs.RunSides.{ones, twos, IsBy, inner, last, base, IsSided, sided_at, one_number, base_off, base_behind}
 
 inner_three : (p q r : Bool) → flipped (flipped (flipped q r) false) (flipped (flipped p r) false) ≡ flipped p (flipped false q)
-inner_three true true true = refl
-inner_three true true false = refl
-inner_three true false true = refl
-inner_three true false false = refl
-inner_three false true true = refl
-inner_three false true false = refl
-inner_three false false true = refl
-inner_three false false false = refl
+inner_three x0 x1 x2 = grind arith
 
 both_nots : (a b c d : Bool) → flipped (not (flipped a b)) (not (flipped c d)) ≡ flipped (flipped a c) (flipped b d)
-both_nots true true true true = refl
-both_nots true true true false = refl
-both_nots true true false true = refl
-both_nots true true false false = refl
-both_nots true false true true = refl
-both_nots true false true false = refl
-both_nots true false false true = refl
-both_nots true false false false = refl
-both_nots false true true true = refl
-both_nots false true true false = refl
-both_nots false true false true = refl
-both_nots false true false false = refl
-both_nots false false true true = refl
-both_nots false false true false = refl
-both_nots false false false true = refl
-both_nots false false false false = refl
+both_nots x0 x1 x2 x3 = grind arith
 
 outer_last : (p q r t : Bool) → not (flipped (flipped (flipped q r) t) (flipped (flipped p r) (not t))) ≡ flipped p (flipped false q)
-outer_last true true true true = refl
-outer_last true true true false = refl
-outer_last true true false true = refl
-outer_last true true false false = refl
-outer_last true false true true = refl
-outer_last true false true false = refl
-outer_last true false false true = refl
-outer_last true false false false = refl
-outer_last false true true true = refl
-outer_last false true true false = refl
-outer_last false true false true = refl
-outer_last false true false false = refl
-outer_last false false true true = refl
-outer_last false false true false = refl
-outer_last false false false true = refl
-outer_last false false false false = refl
+outer_last x0 x1 x2 x3 = grind arith
 
 outer_base : (p q r : Bool) → not (flipped (flipped (flipped q r) false) (flipped (flipped p r) false)) ≡ flipped p (flipped true q)
-outer_base true true true = refl
-outer_base true true false = refl
-outer_base true false true = refl
-outer_base true false false = refl
-outer_base false true true = refl
-outer_base false true false = refl
-outer_base false false true = refl
-outer_base false false false = refl
+outer_base x0 x1 x2 = grind arith
 
 side_first : (p q o : Bool) → flipped (flipped p q) o ≡ flipped p (flipped o q)
-side_first true true true = refl
-side_first true true false = refl
-side_first true false true = refl
-side_first true false false = refl
-side_first false true true = refl
-side_first false true false = refl
-side_first false false true = refl
-side_first false false false = refl
+side_first x0 x1 x2 = grind arith
 
 side_second : (p q o : Bool) → flipped (flipped p q) o ≡ flipped q (flipped o p)
-side_second true true true = refl
-side_second true true false = refl
-side_second true false true = refl
-side_second true false false = refl
-side_second false true true = refl
-side_second false true false = refl
-side_second false false true = refl
-side_second false false false = refl
+side_second x0 x1 x2 = grind arith
 
 and_true : (a : Bool) → (a && true) ≡ a
 and_true true = refl
@@ -131,14 +73,10 @@ none_odd w x y a zero h = refl
 none_odd w x y a (suc k) h = ap₂ flipped (h a (omega arith) (omega arith)) (none_odd w x y (suc a) k (λ j l m. h j (omega arith) (omega arith)))
 
 some_odd : (w : ℕ → ℕ) (x y i a k : ℕ) → ((j : ℕ) → a ≤ j → j < a + k → is_edge (w j, w (suc j)) x y ≡ eqb j i) → is_odd_on (darts_along w a k) x y ≡ (leb a i && ltb i (a + k))
-some_odd w x y i a zero h = elim (cases_lt i a) [
-  | inl l ↦ sym (and_left (leb a i) (ltb i (a + 0)) (lt-leb a i l))
-  | inr l ↦ sym (and_right (leb a i) (ltb i (a + 0)) (le-ltb i (a + 0) (omega arith)))
-]
+some_odd w x y i a zero h = grind (arith, cases_lt, and_left, leb, ltb, lt-leb, and_right, le-ltb)
 some_odd w x y i a (suc k) h =
     let e : a + suc k ≡ suc a + k = omega arith in
-    let rest = some_odd w x y i (suc a) k (λ j l m. h j (omega arith) (omega arith)) in
-    ap₂ flipped (h a (omega arith) (omega arith)) rest
+    ap₂ flipped (h a (omega arith) (omega arith)) (some_odd w x y i (suc a) k (λ j l m. h j (omega arith) (omega arith)))
     ∙ elim (cases_order a i) [
       | inl same ↦ ap₂ flipped (eq-eqb a i same) (and_left (leb (suc a) i) (ltb i (suc a + k)) (lt-leb (suc a) i (omega arith))) ∙ sym (and_from (leb a i) (ltb i (a + suc k)) (le-leb a i (omega arith)) (lt-ltb i (a + suc k) (omega arith)))
       | inr (inl less) ↦ ap (λ z. flipped z (leb (suc a) i && ltb i (suc a + k))) (ne_eqb a i (λ q. omega arith)) ∙ ap₂ (λ p q. p && q) (le-leb (suc a) i (omega arith) ∙ sym (le-leb a i (omega arith))) (ap (ltb i) (sym e))
@@ -172,16 +110,10 @@ module _ (lists : Lists) (s d : ℕ) (steps : ℕ → Step) (n : ℕ) (rank : �
 
   -- edges by ranks
   eqb-rank : (v x : ℕ) → v < length lists → x < length lists → eqb (rank v) (rank x) ≡ eqb v x
-  eqb-rank v x lv lx = elim (cases_eq v x) [
-    | inl e ↦ eq-eqb (rank v) (rank x) (ap rank e) ∙ sym (eq-eqb v x e)
-    | inr ne ↦ ne_eqb (rank v) (rank x) (λ e. ne (h.map.ranks v x lv lx e)) ∙ sym (ne_eqb v x ne)
-  ]
+  eqb-rank v x lv lx = grind (arith, lx, cases_eq, eq-eqb, ne_eqb)
 
   is_edge-rank : (v u x y : ℕ) → v < length lists → u < length lists → x < length lists → y < length lists → is_edge (rank v, rank u) (rank x) (rank y) ≡ is_edge (v, u) x y
-  is_edge-rank v u x y lv lu lx ly =
-      ap₂ (λ (a b : Bool). a || b)
-      (ap₂ (λ (a b : Bool). a && b) (eqb-rank v x lv lx) (eqb-rank u y lu ly))
-      (ap₂ (λ (a b : Bool). a && b) (eqb-rank v y lv ly) (eqb-rank u x lu lx))
+  is_edge-rank v u x y lv lu lx ly = grind (arith, lx, ly, ap₂, eqb-rank)
 
   -- ---- ways along an axis
   abbrev up : Axis → ℕ → ℕ
@@ -196,9 +128,8 @@ module _ (lists : Lists) (s d : ℕ) (steps : ℕ → Step) (n : ℕ) (rank : �
     | inr ne ↦
         let o = out_at c v l ne in
         let u = out_of c v in
-        let rise = out_higher lists s d steps n rank face at h root roots out_of are c v u o in
         let b = most lists s d steps n rank face at h root roots out_of are c u (head_in v u (out_rises lists s d steps n rank face at h root roots out_of are c v u o).0) in
-        absurd (omega arith)
+        absurd (omega (arith, out_higher lists s d steps n rank face at h root roots out_of are c v u o))
   ]
   way_from (suc k) c v l a = elim (cases_eq v (root c)) [
     | inl e ↦ ([], e)
@@ -247,18 +178,10 @@ module _ (lists : Lists) (s d : ℕ) (steps : ℕ → Step) (n : ℕ) (rank : �
   top_vertex = h.whole.last
 
   top_positive : 0 < top
-  top_positive = elim (cases_lt 0 top) [
-    | inl l ↦ l
-    | inr l ↦ let z : top ≡ 0 = omega arith in let e = ap g.vertex z in let b = stage.begin in let v = many_vertices in let t = top_vertex in absurd (omega arith)
-  ]
+  top_positive = grind (arith, cases_lt, top, stage, many_vertices, top_vertex)
 
   top_before : top < end
-  top_before =
-      let t = h.whole.within in
-      elim (cases_lt top end) [
-        | inl l ↦ l
-        | inr l ↦ let z : top ≡ end = omega arith in let e = ap g.vertex z in let b = stage.end end (omega arith) in let v = many_vertices in let t = top_vertex in absurd (omega arith)
-      ]
+  top_before = grind (arith, cases_lt, top, end, stage, many_vertices, top_vertex)
 
   w_is : (j v : ℕ) → v < length lists → g.vertex j ≡ rank v → w j ≡ v
   w_is j v l e = ap at e ∙ h.named v l
@@ -271,14 +194,10 @@ module _ (lists : Lists) (s d : ℕ) (steps : ℕ → Step) (n : ℕ) (rank : �
 
   w_top : w top ≡ root Three
   w_top =
-      let r = rank_three lists s d steps n rank face at h root roots in
-      let t = top_vertex in
-      let a = h.all in
-      w_is top (root Three) (root_lt Three) (omega arith)
+      w_is top (root Three) (root_lt Three) (omega (arith, rank_three lists s d steps n rank face at h root roots))
 
   w_end : w end ≡ root Two
   w_end =
-      let t = top_before in
       w_is end (root Two) (root_lt Two) (stage.end end (omega arith) ∙ sym (rank_two lists s d steps n rank face at h root roots))
 
   vertex_once : (i j : ℕ) → i < g.width → j < g.width → g.vertex i ≡ g.vertex j → i ≡ j
@@ -293,21 +212,13 @@ module _ (lists : Lists) (s d : ℕ) (steps : ℕ → Step) (n : ℕ) (rank : �
   outer_list Three = (s, d) ∷ []
 
   outer_way : (c : Axis) → IsOuterWay lists (s, d) (root c) (root (previous c)) (root (next c)) (outer_list c)
-  outer_way One =
-      let t = top_before in
-      let p = top_positive in
-      subst (λ v. IsOuterWay lists (s, d) (root One) v (root Two) (outer_list One)) w_top (subst (λ u. IsOuterWay lists (s, d) (root One) (w top) u (outer_list One)) w_end
-      (outer_from (root One) top (end - top) end (omega arith) (omega arith) (λ j a b e. let z = w_once j 0 (omega arith) (omega arith) (e ∙ sym w_first) in omega arith)))
+  outer_way One = grind (arith, top_positive, IsOuterWay, One, Two, outer_list, w_top, top, w_end, outer_from, end, w_once, w_first)
   outer_way Two =
-      let t = top_before in
       subst (λ v. IsOuterWay lists (s, d) (root Two) v (root Three) (outer_list Two)) w_first (subst (λ u. IsOuterWay lists (s, d) (root Two) (w 0) u (outer_list Two)) w_top
       (outer_from (root Two) 0 top top (omega arith) (omega arith) (λ j a b e. let z = w_once j end (omega arith) (omega arith) (e ∙ sym w_end) in omega arith)))
   outer_way Three =
       let r = rank_three lists s d steps n rank face at h root roots in
-      let q = h.map.second in
-      let a = h.all in
-      let m = many_vertices in
-      (sym roots.two, h.map.dart, SameFace-labels lists s d s d refl, (λ e. let z = ap rank e in omega arith), sym roots.one)
+      (sym roots.two, h.map.dart, SameFace-labels lists s d s d refl, (λ e. let z = ap rank e in omega (arith, many_vertices)), sym roots.one)
 
   -- the closed path of a region
   pub region_walk : (c : Axis) (v : ℕ) → v < length lists → (walk : List Dart) × IsRegionWalk lists (s, d) root out_of c v walk
@@ -399,15 +310,7 @@ module _ (lists : Lists) (s d : ℕ) (steps : ℕ → Step) (n : ℕ) (rank : �
         edge_w j l ∙ no_edge (g.vertex j) (g.vertex (suc j)) (rank x) (rank y) (λ e f. a j record { within = l; tail = e; head = f }) (λ e f. b j record { within = l; tail = e; head = f })
 
     on_w : (i : ℕ) → GoesAlong g (rank x) (rank y) i → (j : ℕ) → suc j < g.width → is_edge (w j, w (suc j)) x y ≡ eqb j i
-    on_w i a j l =
-        let b = a.within in
-        edge_w j l ∙ elim (cases_eq j i) [
-          | inl same ↦ edge_on (g.vertex j) (g.vertex (suc j)) (rank x) (rank y) (ap g.vertex same ∙ a.tail) (ap (λ z. g.vertex (suc z)) same ∙ a.head) ∙ sym (eq-eqb j i same)
-          | inr ne ↦ no_edge (g.vertex j) (g.vertex (suc j)) (rank x) (rank y)
-              (λ e f. ne (vertex_once j i (omega arith) (omega arith) (e ∙ sym a.tail)))
-              (λ e f. let z = vertex_once j (suc i) (omega arith) b (e ∙ sym a.head) in let z' = vertex_once (suc j) i l (omega arith) (f ∙ sym a.tail) in omega arith)
-              ∙ sym (ne_eqb j i ne)
-        ]
+    on_w i a j l = grind (arith, edge_w, cases_eq, edge_on, eq-eqb, no_edge, vertex_once, ne_eqb)
 
     -- the base
     base_w : is_odd_on ((s, d) ∷ []) x y ≡ is_edge (1, 0) (rank x) (rank y)
@@ -416,9 +319,8 @@ module _ (lists : Lists) (s d : ℕ) (steps : ℕ → Step) (n : ℕ) (rank : �
 
     is_base : (v u : ℕ) → v < length lists → u < length lists → 1 ≡ rank v → 0 ≡ rank u → face v u ≡ many
     is_base v u lv lu e f =
-        let a : v ≡ s = h.map.ranks v s lv h.map.dart.0 (sym e ∙ sym h.map.second) in
         let b : u ≡ d = h.map.ranks u d lu (head_in s d h.map.dart) (sym f ∙ sym h.map.first) in
-        ap₂ face a b ∙ h.map.outer
+        ap₂ face (h.map.ranks v s lv h.map.dart.0 (sym e ∙ sym h.map.second)) b ∙ h.map.outer
 
     back : rank x ≡ 0 → rank y ≡ 1 → (p : ℕ) → ¬ GoesAlong g (rank y) (rank x) p
     back ex ey p a = base_behind steps n h.whole h.some n p (omega arith) (subst (λ z. GoesAlong g z 0 p) ey (subst (λ z. GoesAlong g (rank y) z p) ex a))
@@ -432,11 +334,8 @@ module _ (lists : Lists) (s d : ℕ) (steps : ℕ → Step) (n : ℕ) (rank : �
         by_kind Three (inner lf lg a b e1 e2 e3) =
             base_w ∙ (no_edge 1 0 (rank x) (rank y) (λ e f. let z = is_base x y lx ly e f in omega arith) (λ e f. let z = is_base y x ly lx e f in omega arith) ∙ sym e3)
         by_kind One (last i a ef lg e1 e2 e3) =
-            let t = top_before in
-            let b = a.within in
             some_odd w x y i top (end - top) (λ j p r. on_w i a j (omega arith)) ∙ (ap (λ z. leb top i && z) (lt-ltb i (top + (end - top)) (omega arith)) ∙ (and_true (leb top i) ∙ sym e1))
         by_kind Two (last i a ef lg e1 e2 e3) =
-            let t = top_before in
             let z : 0 + top ≡ top = omega arith in
             some_odd w x y i 0 top (λ j p r. on_w i a j (omega arith)) ∙ (ap₂ (λ p q. p && q) (le-leb 0 i (omega arith)) (ap (ltb i) z) ∙ (ltb_not i top ∙ sym e2))
         by_kind Three (last i a ef lg e1 e2 e3) =
@@ -450,37 +349,9 @@ module _ (lists : Lists) (s d : ℕ) (steps : ℕ → Step) (n : ℕ) (rank : �
 
     -- the faces on both sides, and the closed path
     three_sides : (v : ℕ) → v < length lists → IsBy steps n h.whole h.some (rank x) (rank y) (face x y) (face y x) q.outer_one q.outer_two q.outer_three → flipped (label Three (face x y) v) (label Three (face y x) v) ≡ flipped (q.one (rank v)) (flipped q.outer_three (q.two (rank v)))
-    three_sides v l (inner lf lg a b e1 e2 e3) =
-        let f = face x y in
-        let f' = face y x in
-        let p = q.one (rank v) in
-        let r = q.two (rank v) in
-        let t = q.three (rank v) in
-        let one = q.side_one (rank v) (h.map.placed v l) ∙ ap (flipped (flipped r t)) e1 in
-        let two = q.side_two (rank v) (h.map.placed v l) ∙ ap (flipped (flipped p t)) e2 in
-        ap₂ flipped (three_inner f v lf) (three_inner f' v lg)
-        ∙ (both_nots (ones_at f v) (twos_at f v) (ones_at f' v) (twos_at f' v) ∙ (ap₂ flipped one two ∙ (inner_three p r t ∙ ap (λ o. flipped p (flipped o r)) (sym e3))))
-    three_sides v l (last i a ef lg e1 e2 e3) =
-        let f = face x y in
-        let f' = face y x in
-        let p = q.one (rank v) in
-        let r = q.two (rank v) in
-        let t = q.three (rank v) in
-        let o = leb top i in
-        let one : ones_at f' v ≡ flipped (flipped r t) o = sym (ap (λ z. flipped z (ones_at f' v)) (no_ones f v ef)) ∙ (q.side_one (rank v) (h.map.placed v l) ∙ ap (flipped (flipped r t)) e1) in
-        let two : twos_at f' v ≡ flipped (flipped p t) (not o) = sym (ap (λ z. flipped z (twos_at f' v)) (no_twos f v ef)) ∙ (q.side_two (rank v) (h.map.placed v l) ∙ ap (flipped (flipped p t)) e2) in
-        ap₂ flipped (three_outer f v ef) (three_inner f' v lg)
-        ∙ (ap₂ (λ a b. not (flipped a b)) one two ∙ (outer_last p r t o ∙ ap (λ o. flipped p (flipped o r)) (sym e3)))
-    three_sides v l (base ex ey lf eg a e1 e2 e3) =
-        let f = face x y in
-        let f' = face y x in
-        let p = q.one (rank v) in
-        let r = q.two (rank v) in
-        let t = q.three (rank v) in
-        let one : ones_at f v ≡ flipped (flipped r t) false = sym (ap (flipped (ones_at f v)) (no_ones f' v eg) ∙ flipped_false (ones_at f v)) ∙ (q.side_one (rank v) (h.map.placed v l) ∙ ap (flipped (flipped r t)) e1) in
-        let two : twos_at f v ≡ flipped (flipped p t) false = sym (ap (flipped (twos_at f v)) (no_twos f' v eg) ∙ flipped_false (twos_at f v)) ∙ (q.side_two (rank v) (h.map.placed v l) ∙ ap (flipped (flipped p t)) e2) in
-        ap₂ flipped (three_inner f v lf) (three_outer f' v eg)
-        ∙ (flipped_false (not (flipped (ones_at f v) (twos_at f v))) ∙ (ap₂ (λ a b. not (flipped a b)) one two ∙ (outer_base p r t ∙ ap (λ o. flipped p (flipped o r)) (sym e3))))
+    three_sides v l (inner lf lg a b e1 e2 e3) = grind (arith, flipped, ap₂, three_inner, both_nots, ones_at, twos_at, inner_three)
+    three_sides v l (last i a ef lg e1 e2 e3) = grind (arith, leb, top, ones_at, flipped, no_ones, twos_at, not, no_twos, ap₂, three_outer, three_inner, outer_last)
+    three_sides v l (base ex ey lf eg a e1 e2 e3) = grind (arith, ones_at, flipped, no_ones, flipped_false, twos_at, no_twos, ap₂, three_inner, three_outer, not, outer_base)
 
     labels_differ : (c : Axis) (v : ℕ) → v < length lists → flipped (label c (face x y) v) (label c (face y x) v) ≡ flipped (passing (next c) (rank v)) (flipped (outer_passing c) (passing (previous c) (rank v)))
     labels_differ One v l = q.side_one (rank v) (h.map.placed v l) ∙ side_first (q.two (rank v)) (q.three (rank v)) q.outer_one

@@ -1,6 +1,6 @@
 -- Faces with middles are a plane drawing.
 use Rattle.std.specs.Prelude.{ℕ}
-use Rattle.pg_plane.specs.declared.segments.Point.{Point}
+use Rattle.pg_plane.specs.declared.grid_points.Point.{Point}
 use Rattle.convex_laws.specs.Middles.{IsMiddled, IsPlaneRound}
 
 -- Where each dart but the base has the middle of its face on its left, and the base has it on its right, the drawing is plane.

@@ -1,6 +1,6 @@
 -- A drawing by its darts, each with a place, that of the vertex that it leaves. The twin is the dart the other way; the step goes on along the face on the left, of any size, and `back` the other way. Each face has a number, and a point for its middle.
 use Rattle.std.specs.Prelude.{ℕ, ◌<◌, ◌≡◌, ◌≢◌, pos, ◌<ℤ◌}
-use Rattle.pg_plane.specs.declared.segments.Point.{Point}
+use Rattle.pg_plane.specs.declared.grid_points.Point.{Point}
 use Rattle.pg_plane.specs.Geometry.{area, IsOnSegment, DoCross, IsClockBefore}
 use Rattle.classes.proofs.Orbits.{IsPermuting}
 use Rattle.pg_plane.specs.Law.{direction}

@@ -53,10 +53,7 @@ module _ (lists own other : Lists) (count s d : ℕ) (based : IsBased lists s d)
     -- what is left before the place goes on to the vertex at the end
     pub trace_from : IsTrace lists own marks left x o.alive o.contour o.places first o.last
     trace_from =
-        let f = at.first_is in
-        let e = at.end_is in
         let long = ws_long in
-        let gone = gone_within lists alive w r o off in
         let lt = first_lt lists alive w r o off in
         let z : o.last + 0 ≡ o.last = omega arith in
         let z' : o.first + o.vertices + 1 + 0 ≡ end = omega arith in

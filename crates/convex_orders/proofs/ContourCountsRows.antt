@@ -39,8 +39,7 @@ module _ (lists own other : Lists) (count : ℕ) (simple : IsSimpleMap lists) (n
         let m = place_of-lt-length (entry lists own x y) (list_of own v) c in
         let at = entry_at lists own count simple n.own_table v k l m in
         let u = slice_index (list_of lists v) k in
-        let same : entry lists own v u ≡ entry lists own x y = sym at.is ∙ get_or-place_of (entry lists own x y) (list_of own v) 0 m in
-        (u, at.dart, (n.alike v u x y at.dart has).0 same)),
+        (u, at.dart, (n.alike v u x y at.dart has).0 (sym at.is ∙ get_or-place_of (entry lists own x y) (list_of own v) 0 m))),
     (λ p. subst (Contains (list_of own v)) ((n.alike v p.0 x y p.1 has).1 p.2) (Contains-entry lists own count n.own_table v p.0 p.1)),
   )
 
@@ -48,5 +47,4 @@ module _ (lists own other : Lists) (count : ℕ) (simple : IsSimpleMap lists) (n
 pub entry_of_place : (lists table : Lists) → IsSimpleMap lists → (x y k : ℕ) → HasDart lists x y → k < length (list_of lists x) → slice_index (list_of lists x) k ≡ y → slice_index (list_of table x) k ≡ entry lists table x y
 entry_of_place lists table simple x y k has l e =
     let us = list_of lists x in
-    let at : k ≡ place_of y us = sym (place_of-get_or us k 0 (simple.no_repeat x has.0) l) ∙ ap (λ z. place_of z us) e in
-    ap (λ z. get_or (list_of table x) z 0) at
+    ap (λ z. get_or (list_of table x) z 0) (sym (place_of-get_or us k 0 (simple.no_repeat x has.0) l) ∙ ap (λ z. place_of z us) e)

@@ -45,16 +45,12 @@ edges_le lists own ws n f = count_below-le (λ k. eqb (inner_number lists own ws
 -- the rows have numbers below the count
 pub rows_below : (lists own : Lists) (count many : ℕ) → IsTable lists own count → many ≡ count → (v : ℕ) → v < length own → All (λ f. f < many) (list_of own v)
 rows_below lists own count many t e v l = λ k d m.
-    let rows = t.rows in
-    let h = t.below v k (omega arith) m in
-    let same = get_or_default (list_of own v) k d 0 m in
-    omega arith
+    omega (arith, get_or_default (list_of own v) k d 0 m)
 
 pub part_vertices : (ws : List ℕ) (first last n : ℕ) → first < last → last < length ws → ((i : ℕ) → i < length ws → slice_index ws i < n) → (i : ℕ) → i < length (slice_range ws (first + 1) last) → slice_index (slice_range ws (first + 1) last) i < n
 part_vertices ws first last n l m all i k =
     let long = length-slice_range ws (first + 1) last (omega arith) (omega arith) in
-    let at = get_or-slice_range ws (first + 1) last i (omega arith) in
-    omega (arith, at, all (first + 1 + i) (omega arith))
+    omega (arith, get_or-slice_range ws (first + 1) last i (omega arith), all (first + 1 + i) (omega arith))
 
 pub part_starts : (ws : List ℕ) (first last n : ℕ) → first < last → last < length ws → ((i : ℕ) → i < length ws → slice_index ws i < n) → (i : ℕ) → suc i < length (slice_range ws first (last + 1)) → slice_index (slice_range ws first (last + 1)) i < n
 part_starts ws first last n l m all i k =
@@ -88,19 +84,7 @@ module _ (way : Way) (so_far with_x : ℕ → ℕ) (old mid : List ℕ) (x : ℕ
       (omega (arith, l, one_more x, ap {B = ℕ} (λ b. cond b 1 0) (eq-eqb x x refl))) (moved x x_in)
 
   pub moved_one : (y : ℕ) → IsMoved way (slice_index mid x) 1 y → (f : ℕ) → f < length mid → IsMoved way (slice_index old f) (with_x f) (slice_index (set mid x y) f)
-  moved_one y one f l =
-      elim (cases_eq f x) [
-        | inl e ↦
-            let at : slice_index (set mid x y) f ≡ y = ap (λ j. slice_index (set mid x y) j) e ∙ get_or-set_same mid x y 0 x_in in
-            let more : with_x f ≡ so_far f + 1 = omega (arith, one_more f, ap {B = ℕ} (λ b. cond b 1 0) (eq-eqb x f (sym e))) in
-            subst (IsMoved way (slice_index old f) (with_x f)) (sym at)
-            (subst (λ n. IsMoved way (slice_index old f) n y) (sym more)
-            (IsMoved-more way (slice_index old f) (so_far f) 1 (slice_index mid f) y (moved f l) (subst (λ j. IsMoved way (slice_index mid j) 1 y) (sym e) one)))
-        | inr ne ↦
-            let at : slice_index (set mid x y) f ≡ slice_index mid f = get_or-set_other mid x f y 0 ne in
-            let same : with_x f ≡ so_far f = omega (arith, one_more f, ap {B = ℕ} (λ b. cond b 1 0) (ne_eqb x f (λ e. ne (sym e)))) in
-            subst (IsMoved way (slice_index old f) (with_x f)) (sym at) (subst (λ n. IsMoved way (slice_index old f) n (slice_index mid f)) (sym same) (moved f l))
-      ]
+  moved_one y one f l = grind (arith, cases_eq, cond, eq-eqb, IsMoved, slice_index, set, get_or-set_same, IsMoved-more, get_or-set_other, ne_eqb)
 
 -- an entry more of a row
 pub entries_more : (us : List ℕ) (i : ℕ) → i < length us → (f : ℕ) → count_by (λ u. eqb u f) (take (i + 1) us) ≡ count_by (λ u. eqb u f) (take i us) + cond (eqb (get_or us i 0) f) 1 0
@@ -113,20 +97,13 @@ entries_more us i l f =
 -- a part of a list
 pub met_part : (own : Lists) (ws : List ℕ) (first last f : ℕ) → first < last → last < length ws → met_below own (slice_range ws (first + 1) last) (length (slice_range ws (first + 1) last)) f ≡ met_between own ws first last f
 met_part own ws first last f l m =
-    let long = length-slice_range ws (first + 1) last (omega arith) (omega arith) in
     let z : last - (first + 1) ≡ last - suc first = omega arith in
-    ap (λ n. met_below own (slice_range ws (first + 1) last) n f) (long ∙ z)
+    ap (λ n. met_below own (slice_range ws (first + 1) last) n f) ((length-slice_range ws (first + 1) last (omega arith) (omega arith)) ∙ z)
     ∙ sum_below-same (λ k. met_at own f (slice_index (slice_range ws (first + 1) last) k)) (λ k. met_at own f (slice_index ws (suc first + k))) (last - suc first)
     (λ k h. let y : first + 1 + k ≡ suc first + k = omega arith in ap (met_at own f) (get_or-slice_range ws (first + 1) last k (omega arith) ∙ ap (λ j. get_or ws j 0) y))
 
 pub edges_part : (lists own : Lists) (ws inner : List ℕ) (first last f : ℕ) → first < last → last < length ws → AreInner lists own ws inner → numbered_below (number_at inner (slice_range ws first (last + 1))) (length (slice_range ws first (last + 1)) - 1) f ≡ edges_between lists own ws first last f
-edges_part lists own ws inner first last f l m are =
-    let us = slice_range ws first (last + 1) in
-    let long = length-slice_range ws first (last + 1) (omega arith) (omega arith) in
-    let z : length us - 1 ≡ last - first = omega arith in
-    ap (λ n. numbered_below (number_at inner us) n f) z
-    ∙ count_below_same (λ k. eqb (number_at inner us k) f) (λ k. eqb (inner_number lists own ws (first + k)) f) (last - first)
-    (λ k h. ap (λ n. eqb n f) (ap (slice_index inner) (get_or-slice_range ws first (last + 1) k (omega arith)) ∙ are.numbers (first + k) (omega arith)))
+edges_part lists own ws inner first last f l m are = grind (arith, slice_range, length-slice_range, length, numbered_below, number_at, count_below_same, eqb, inner_number, slice_index, get_or-slice_range)
 
 -- the numbers of the edges are below the count
 pub AreInner-below : (lists own : Lists) (count : ℕ) (ws inner : List ℕ) → IsTable lists own count → AreInner lists own ws inner → (i : ℕ) → suc i < length ws → number_at inner ws i < count
@@ -172,32 +149,22 @@ module _ (lists own : Lists) (ws us : List ℕ) (first end last : ℕ) (s : IsSp
 
   pub met_spliced : (f : ℕ) → met_below own us (length us) f + met_between own ws first end f ≡ met_below own ws (length ws) f + met_between own us first last f
   met_spliced f =
-      let order = s.order in
-      let order' = s.order_new in
-      let within = s.within in
-      let width = s.width in
       let b : ℕ = length ws - end in
-      let old = met_parts ws end b f order (omega arith) in
-      let new = met_parts us last b f order' (omega arith) in
+      let new = met_parts us last b f s.order_new (omega arith) in
       let front = sum_below-same (λ i. met_at own f (slice_index us i)) (λ i. met_at own f (slice_index ws i)) (suc first) (λ i h. ap (met_at own f) (s.before i (omega arith))) in
       let back = sum_below-same (λ k. met_at own f (slice_index us (suc first + (last - suc first) + k))) (λ k. met_at own f (slice_index ws (suc first + (end - suc first) + k))) b (λ k h.
       let z : suc first + (last - suc first) + k ≡ last + k = omega arith in
       let y : suc first + (end - suc first) + k ≡ end + k = omega arith in
       ap (met_at own f) (ap (λ j. slice_index us j) z ∙ (s.behind k (omega arith) ∙ ap (λ j. slice_index ws j) (sym y)))) in
-      omega (arith, old, new, front, back)
+      omega (arith, met_parts ws end b f s.order (omega arith), new, front, back)
 
   edges_parts : (vs : List ℕ) (stop b r f : ℕ) → first < stop → first + (stop - first) + b ≡ r → edges_below lists own vs r f ≡ edges_below lists own vs first f + edges_between lists own vs first stop f + count_below (λ k. eqb (inner_number lists own vs (first + (stop - first) + k)) f) b
   edges_parts vs stop b r f l e = count_below-three (λ i. eqb (inner_number lists own vs i) f) first (stop - first) b r e
 
   pub edges_spliced : (f r r' : ℕ) → suc r ≡ length ws → suc r' ≡ length us → edges_below lists own us r' f + edges_between lists own ws first end f ≡ edges_below lists own ws r f + edges_between lists own us first last f
   edges_spliced f r r' e e' =
-      let order = s.order in
-      let order' = s.order_new in
-      let within = s.within in
-      let width = s.width in
       let b : ℕ = r - end in
-      let old = edges_parts ws end b r f order (omega arith) in
-      let new = edges_parts us last b r' f order' (omega arith) in
+      let new = edges_parts us last b r' f s.order_new (omega arith) in
       let front = count_below_same (λ i. eqb (inner_number lists own us i) f) (λ i. eqb (inner_number lists own ws i) f) first (λ i h. ap (λ v. eqb (entry lists own v (slice_index us i)) f) (s.before (suc i) (omega arith)) ∙ ap (λ v. eqb (entry lists own (slice_index ws (suc i)) v) f) (s.before i (omega arith))) in
       let back = count_below_same (λ k. eqb (inner_number lists own us (first + (last - first) + k)) f) (λ k. eqb (inner_number lists own ws (first + (end - first) + k)) f) b (λ k h.
       let z : first + (last - first) + k ≡ last + k = omega arith in
@@ -207,14 +174,11 @@ module _ (lists own : Lists) (ws us : List ℕ) (first end last : ℕ) (s : IsSp
       let one : slice_index us (first + (last - first) + k) ≡ slice_index ws (first + (end - first) + k) = ap (λ j. slice_index us j) z ∙ (s.behind k (omega arith) ∙ ap (λ j. slice_index ws j) (sym y)) in
       let two : slice_index us (suc (first + (last - first) + k)) ≡ slice_index ws (suc (first + (end - first) + k)) = ap (λ j. slice_index us j) z' ∙ (s.behind (suc k) (omega arith) ∙ ap (λ j. slice_index ws j) (sym y')) in
       ap (λ v. eqb (entry lists own v (slice_index us (first + (last - first) + k))) f) two ∙ ap (λ v. eqb (entry lists own (slice_index ws (suc (first + (end - first) + k))) v) f) one) in
-      omega (arith, old, new, front, back)
+      omega (arith, edges_parts ws end b r f s.order (omega arith), new, front, back)
 
   -- THE COUNTS after a part went and another came
   pub counts_spliced : (count : ℕ) (old mid new : ContourCounts) → AreCounts lists own count ws old.places.items old.edges.items → AreMoved lists own count Goes ws first end old mid → AreMoved lists own count Comes us first last mid new → AreCounts lists own count us new.places.items new.edges.items
   counts_spliced count old mid new are less more =
-      let order = s.order in
-      let within = s.within in
-      let width = s.width in
       record {
         places_long = more.size.places;
         edges_long = more.size.edges;

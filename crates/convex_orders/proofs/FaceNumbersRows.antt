@@ -69,12 +69,7 @@ IsRowPut-none P entries none = record { row = []; grown = sym (append-nil entrie
 -- and one more
 pub IsRowPut-more :
     (P : List ℕ → Type 0) (k x : ℕ) (old mid new : List ℕ) → new ≡ mid ++ x ∷ [] → ((row : List ℕ) → length row ≡ k → P row → P (row ++ x ∷ [])) → IsRowPut P k old mid → IsRowPut P (k + 1) old new
-IsRowPut-more P k x old mid new grown more h = record {
-  row = h.row ++ x ∷ [];
-  grown = grown ∙ (ap (λ z. z ++ x ∷ []) h.grown ∙ append_assoc old h.row (x ∷ []));
-  long = omega (arith, length-append h.row (x ∷ []), h.long);
-  is = more h.row h.long h.is;
-}
+IsRowPut-more P k x old mid new grown more h = grind (arith, append_assoc, length-append)
 
 module _ (map : Map) (h : IsHalfMap map) (walks : List (List ℕ)) (faces : AreFaces map walks) where
   abbrev lists : Lists
@@ -90,10 +85,9 @@ module _ (map : Map) (h : IsHalfMap map) (walks : List (List ℕ)) (faces : AreF
 
   one_walk : (f g u v a b : ℕ) → InWalk map walks f u v → InWalk map walks g a b → face_of lists u v ≡ face_of lists a b → f ≡ g
   one_walk f g u v a b x y same =
-      let d = y.1.0 in
       let together = in_first f u v x ∙ same in
-      let there = subst (Together (face_classes lists) (first_number map (walk_at walks f))) (sym (number_at-is map d a b y.1.2)) together in
-      faces.apart f g d x.0 y.0 (in_walk map h (walk_at walks f) (faces.each f x.0) d (live_at (dart_at map d) a b y.1.2) there) y.1.1
+      let there = subst (Together (face_classes lists) (first_number map (walk_at walks f))) (sym (number_at-is map y.1.0 a b y.1.2)) together in
+      faces.apart f g y.1.0 x.0 y.0 (in_walk map h (walk_at walks f) (faces.each f x.0) y.1.0 (live_at (dart_at map y.1.0) a b y.1.2) there) y.1.1
 
   module _ (own other : Lists) (own_rows : length own ≡ length lists) (other_rows : length other ≡ length lists) (own_sizes : (v : ℕ) → v < length lists → length (list_of own v) ≡ length (list_of lists v)) (other_sizes : (v : ℕ) → v < length lists → length (list_of other v) ≡ length (list_of lists v)) (own_each : (v : ℕ) → v < length lists → AreOwn map walks v (list_of own v)) (other_each : (v : ℕ) → v < length lists → AreOther map walks v (list_of other v)) where
     own_at : (x y : ℕ) → HasDart lists x y → InWalk map walks (entry lists own x y) x y
@@ -121,11 +115,4 @@ module _ (map : Map) (h : IsHalfMap map) (walks : List (List ℕ)) (faces : AreF
 
 -- what holds of each row holds with one row more
 pub each_more : (P : ℕ → List ℕ → Type 0) (old new : Lists) (row : List ℕ) (v : ℕ) → length old ≡ v → new ≡ old ++ row ∷ [] → ((u : ℕ) → u < v → P u (list_of old u)) → P v row → (u : ℕ) → u < v + 1 → P u (list_of new u)
-each_more P old new row v count grown before here u l =
-    elim (cases_lt u v) [
-      | inl less ↦ subst (P u) (sym (ap (λ (z : Lists). list_of z u) grown ∙ get_or_append_left old (row ∷ []) [] u (omega arith))) (before u less)
-      | inr most ↦
-          let e : u ≡ v = omega arith in
-          let at : list_of new u ≡ row = ap (λ (z : Lists). list_of z u) grown ∙ get_or_push old row [] u (omega arith) in
-          subst (P u) (sym at) (subst (λ z. P z row) (sym e) here)
-    ]
+each_more P old new row v count grown before here u l = grind (arith, cases_lt, Lists, list_of, get_or_append_left, get_or_push)

@@ -15,10 +15,4 @@ IsBefore-more row k f b = let m = b.within in record { place = b.place; within =
 
 -- one mark taken away
 pub set_less : (marks : List Bool) (x f : ℕ) → x < length marks → (is_set (set marks x false) f ≡ true) ↔ ((is_set marks f ≡ true) × (f ≢ x))
-set_less marks x f l =
-    elim (cases_eq f x) [
-      | inl e ↦ ((λ t. absurd (true≢false (sym t ∙ (ap (λ z. is_set (set marks x false) z) e ∙ get_or-set_same marks x false false l)))), (λ h. absurd (h.1 e)))
-      | inr ne ↦
-          let same : is_set (set marks x false) f ≡ is_set marks f = get_or-set_other marks x f false false ne in
-          ((λ t. (sym same ∙ t, ne)), (λ h. same ∙ h.0))
-    ]
+set_less marks x f l = grind (arith, cases_eq, true≢false, is_set, set, get_or-set_same, get_or-set_other)

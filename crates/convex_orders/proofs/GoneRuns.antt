@@ -15,42 +15,37 @@ module _ (lists own : Lists) (alive : ℕ → Bool) (w : ℕ → ℕ) (r : ℕ) 
   -- an edge that stays has its face
   stays_low : (i : ℕ) → suc i ≤ o.first → o.alive (face_of lists (w (suc i)) (w i)) ≡ true
   stays_low i l =
-      let gone = gone_within lists alive w r o off in
       let lt = first_lt lists alive w r o off in
       let inside = off.within in
       ap o.alive (ap₂ (face_of lists) (sym (off.before (suc i) l)) (sym (off.before i (omega arith)))) ∙ (next.edge i (omega arith)).inside
 
   stays_high : (i : ℕ) → o.first + o.vertices + 1 ≤ i → i < r → o.alive (face_of lists (w (suc i)) (w i)) ≡ true
   stays_high i l m =
-      let width = off.width in
       let q : ℕ = i - (o.first + o.vertices + 1) in
       let z : o.first + o.vertices + 1 + q ≡ i = omega arith in
       let z' : o.first + o.vertices + 1 + suc q ≡ suc i = omega arith in
       let y : o.last + suc q ≡ suc (o.last + q) = omega arith in
-      let one : w i ≡ o.contour (o.last + q) = sym (off.behind q ∙ ap w z) in
       let two : w (suc i) ≡ o.contour (suc (o.last + q)) = sym (ap o.contour (sym y) ∙ (off.behind (suc q) ∙ ap w z')) in
-      ap o.alive (ap₂ (face_of lists) two one) ∙ (next.edge (o.last + q) (omega arith)).inside
+      ap o.alive (ap₂ (face_of lists) two (sym (off.behind q ∙ ap w z))) ∙ (next.edge (o.last + q) (omega arith)).inside
 
   -- and one that goes has not
   goes : (i : ℕ) → o.first ≤ i → i < o.first + o.vertices + 1 → o.alive (face_of lists (w (suc i)) (w i)) ≡ false
   goes i l m = elim (cases_Bool (o.alive (face_of lists (w (suc i)) (w i)))) [
     | inr f ↦ f
     | inl t ↦
-        let gone = gone_within lists alive w r o off in
         let some = off.some_vertex in
         let edge = contour.edge i (omega arith) in
         let found = next.only (w i) (w (suc i)) (record { dart = edge.dart; outside = stays_dead lists alive w r o off (face_of lists (w i) (w (suc i))) edge.outside; inside = t }) in
-        let p : ℕ = found.0 in
         let p_in = found.1 in
         elim (cases_eq i o.first) [
           | inr ne ↦
               let q : ℕ = i - suc o.first in
               let z : i ≡ suc (o.first + q) = omega arith in
-              absurd (gone_from lists alive w r o off contour q p (omega arith) p_in (found.2 ∙ ap w z))
+              absurd (gone_from lists alive w r o off contour q found.0 (omega arith) p_in (found.2 ∙ ap w z))
           | inl e ↦
               let z : suc i ≡ suc (o.first + 0) = omega arith in
-              elim (cases_eq p o.places) [
-                | inr ne ↦ absurd (gone_from lists alive w r o off contour 0 (suc p) some (omega arith) (found.3 ∙ ap w z))
+              elim (cases_eq found.0 o.places) [
+                | inr ne ↦ absurd (gone_from lists alive w r o off contour 0 (suc found.0) some (omega arith) (found.3 ∙ ap w z))
                 | inl last ↦ absurd (gone_from lists alive w r o off contour 0 0 some (omega arith) (sym next.round ∙ (ap (λ k. o.contour (suc k)) (sym last) ∙ (found.3 ∙ ap w z))))
               ]
         ]
@@ -59,8 +54,6 @@ module _ (lists own : Lists) (alive : ℕ → Bool) (w : ℕ → ℕ) (r : ℕ) 
   pub gone_run : (marks : List Bool) (ws inner : List ℕ) → AreMarks lists own marks o.alive → IsListOf ws w r → AreInner lists own ws inner → IsGoneRun (number_at inner ws) marks (length ws) o.first (o.first + o.vertices + 1)
   gone_run marks ws inner are list numbers =
       let gone = gone_within lists alive w r o off in
-      let some = off.some_vertex in
-      let long = list.long in
       record {
         order = omega arith;
         within = omega arith;
@@ -71,6 +64,5 @@ module _ (lists own : Lists) (alive : ℕ → Bool) (w : ℕ → ℕ) (r : ℕ) 
     where
       mark : (i : ℕ) → i < r → is_set marks (number_at inner ws i) ≡ o.alive (face_of lists (w (suc i)) (w i))
       mark i l =
-          let long = list.long in
           let at : number_at inner ws i ≡ entry lists own (w (suc i)) (w i) = numbers.numbers i (omega arith) ∙ ap₂ (entry lists own) (list.each (suc i) l) (list.each i (omega arith)) in
           ap (is_set marks) at ∙ are (w (suc i)) (w i) (simple.both_ways (w i) (w (suc i)) (contour.edge i (omega arith)).dart)

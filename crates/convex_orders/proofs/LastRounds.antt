@@ -18,13 +18,12 @@ ne_from a b h e = true≢false (sym (eq-eqb a b e) ∙ h)
 all_pass : (p : ℕ → Bool) (n : ℕ) → count_below p n ≡ n → (i : ℕ) → i < n → p i ≡ true
 all_pass p zero e i l = absurd (omega arith)
 all_pass p (suc n) e i l =
-    let le = count_below-le p n in
     elim (cases_Bool (p n)) [
       | inl t ↦ elim (cases_eq i n) [
         | inl z ↦ ap p z ∙ t
         | inr ne ↦ all_pass p n (omega (arith, e, ap {B = ℕ} (λ b. if b then 1 else 0) t)) i (omega arith)
       ]
-      | inr f ↦ absurd (omega (arith, e, le, ap {B = ℕ} (λ b. if b then 1 else 0) f))
+      | inr f ↦ absurd (omega (arith, e, count_below-le p n, ap {B = ℕ} (λ b. if b then 1 else 0) f))
     ]
 
 -- where it is not, some does not
@@ -35,7 +34,6 @@ some_fails p (suc n) ne =
       | inr f ↦ (n, omega arith, f)
       | inl t ↦
           let h = some_fails p n (λ e. ne (omega (arith, e, ap {B = ℕ} (λ b. if b then 1 else 0) t))) in
-          let l = h.1 in
           (h.0, omega arith, h.2)
     ]
 
@@ -52,7 +50,6 @@ module _ (lists own : Lists) (count : ℕ) (ws places edges : List ℕ) (s d bas
       let full = counts.edges_are base r base_in long in
       let h = some_fails (λ k. eqb (inner_number lists own ws k) base) r (λ e. ne (omega arith)) in
       let i = h.0 in
-      let l = h.1 in
       let z : i + 1 ≡ suc i = omega arith in
       (i, omega arith, λ e. true≢false (sym (eq-eqb (inner_number lists own ws i) base (ap (λ k. entry lists own (slice_index ws k) (slice_index ws i)) (sym z) ∙ (e ∙ sym base_is))) ∙ h.2))
 

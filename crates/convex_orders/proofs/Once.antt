@@ -22,10 +22,8 @@ module _ (lists own other : Lists) (count : ℕ) (simple : IsSimpleMap lists) (p
       let x = slice_index (list_of lists v) i in
       let y = slice_index (list_of lists v) j in
       let i_d = get_or_default (list_of own v) i d 0 (omega arith) in
-      let j_d = get_or_default (list_of own v) j d 0 within in
-      let same : entry lists own v x ≡ entry lists own v y = sym a.is ∙ (sym i_d ∙ (e ∙ (j_d ∙ b.is))) in
-      let face = (n.alike v x v y a.dart b.dart).0 same in
-      let z : x ≡ y = polyhedral.once v x y a.dart b.dart (SameFace-labels lists v x v y face) in
+      let same : entry lists own v x ≡ entry lists own v y = sym a.is ∙ (sym i_d ∙ (e ∙ ((get_or_default (list_of own v) j d 0 within) ∙ b.is))) in
+      let z : x ≡ y = polyhedral.once v x y a.dart b.dart (SameFace-labels lists v x v y ((n.alike v x v y a.dart b.dart).0 same)) in
       simple.no_repeat v l i j 0 before (omega (arith, within, n.own_table.sizes v l)) z
 
   pub number_once : (v : ℕ) → v < length lists → (f : ℕ) → met_at own f v ≤ 1

@@ -40,8 +40,7 @@ module _ (ws left right : List ℕ) (same : contour_of left right ≡ ws) where
 
   left_edges : (lists : Lists) → AreEdges lists ws → AreEdges lists left
   left_edges lists all i l =
-      let long = part_long in
-      subst (λ v. HasDart lists v (slice_index left i)) (sym (part_at (suc i) l)) (subst (HasDart lists (slice_index ws (suc i))) (sym (part_at i (omega arith))) (all i (omega arith)))
+      subst (λ v. HasDart lists v (slice_index left i)) (sym (part_at (suc i) l)) (subst (HasDart lists (slice_index ws (suc i))) (sym (part_at i (omega arith))) (all i (omega (arith, part_long))))
 
   met_prefix : (own : Lists) (first end f : ℕ) → end < length left → met_between own left first end f ≡ met_between own ws first end f
   met_prefix own first end f l = sum_below-same (λ k. met_at own f (slice_index left (suc first + k))) (λ k. met_at own f (slice_index ws (suc first + k))) (end - suc first) (λ k m. ap (λ v. met_at own f v) (part_at (suc first + k) (omega arith)))
@@ -62,8 +61,7 @@ module _ (ws left right : List ℕ) (same : contour_of left right ≡ ws) where
   module _ (lists own : Lists) (count first end : ℕ) (order : first < end) (within : end < length left) where
     pub can_go : (old : ContourCounts) → AreCounts lists own count ws old.places.items old.edges.items → CanMoveAll lists own count Goes left first end old
     can_go old counts =
-        let long = part_long in
-        let inside : end < length ws = omega arith in
+        let inside : end < length ws = omega (arith, part_long) in
         record {
           places = λ f l. omega (arith, met_prefix own first end f within, met_some lists own count ws old.places.items old.edges.items first end counts order inside f l);
           edges = λ f l. omega (arith, edges_prefix lists own first end f within, edges_some lists own count ws old.places.items old.edges.items first end counts order inside f l);

@@ -45,7 +45,6 @@ module _ (lists : Lists) (alive : ℕ → Bool) (w : ℕ → ℕ) (r : ℕ) (o :
 
   pub not_last_goer : (p : ℕ) → p ≤ o.places → o.contour p ≢ w (o.first + o.vertices)
   not_last_goer p l e =
-      let some = off.some_vertex in
       let q : ℕ = o.vertices - 1 in
       let z : o.first + o.vertices ≡ suc (o.first + q) = omega arith in
       not_goer p q l (omega arith) (e ∙ ap w z)
@@ -53,8 +52,6 @@ module _ (lists : Lists) (alive : ℕ → Bool) (w : ℕ → ℕ) (r : ℕ) (o :
   -- a dart along the new contour is no dart of the old one
   not_old : (p k : ℕ) → o.first ≤ p → p < o.last → k ≤ r → w k ≡ o.contour p → w (suc k) ≢ o.contour (suc p)
   not_old p k low high l e e' =
-      let gone = gone_within lists alive w r o off in
-      let some = off.some_vertex in
       elim (cases_lt o.first p) [
         | inl far ↦ off.fresh p k far high l (sym e)
         | inr near ↦
@@ -76,7 +73,6 @@ module _ (lists : Lists) (alive : ℕ → Bool) (w : ℕ → ℕ) (r : ℕ) (o :
       let y = o.contour (suc p) in
       let first = cut_low i (omega arith) in
       let last = cut_high (suc i) l in
-      let within = off.within in
       let rim = next.edge p (omega arith) in
       let face = face_of lists x y in
       elim (cases_Bool (alive face)) [
@@ -85,14 +81,11 @@ module _ (lists : Lists) (alive : ℕ → Bool) (w : ℕ → ℕ) (r : ℕ) (o :
             absurd (not_old p found.0 (omega arith) (omega arith) found.1 found.2 found.3)
         | inl live ↦
             let gone = off.gone face live rim.outside in
-            let j = gone.0 in
-            let same : j ≡ i = elim (off.darts j x y gone.1 rim.dart gone.2) [
+            let same : gone.0 ≡ i = elim (off.darts gone.0 x y gone.1 rim.dart gone.2) [
               | inl a ↦
-                  let a1 = a.1 in
-                  let a2 = a.2 in
-                  let top = cut_high (suc j) gone.1 in
+                  let top = cut_high (suc gone.0) gone.1 in
                   let q : a.0 ≡ p = next.distinct a.0 p (omega arith) (omega arith) a.3 in
-                  one_part j i p gone.1 l (omega arith) (omega arith) low high
+                  one_part gone.0 i p gone.1 l (omega arith) (omega arith) low high
               | inr (inl a) ↦ absurd (not_last_goer (suc p) (omega arith) a.1)
               | inr (inr (inl a)) ↦ (let a1 = a.1 in let q : ℕ = a.0 in absurd (not_goer p q (omega arith) a.2 a.3))
               | inr (inr (inr a)) ↦ absurd (not_first_goer p (omega arith) a.0)
@@ -106,13 +99,8 @@ module _ (lists : Lists) (alive : ℕ → Bool) (w : ℕ → ℕ) (r : ℕ) (o :
       let p = o.cut i in
       let s = off.rises i l in
       let top = cut_high (suc i) l in
-      let within = off.within in
-      let rim = next.edge p (omega arith) in
-      let along = made_along i p l (omega arith) s in
-      elim (off.darts j (o.contour p) (o.contour (suc p)) m rim.dart (along ∙ e)) [
+      elim (off.darts j (o.contour p) (o.contour (suc p)) m (next.edge p (omega arith)).dart ((made_along i p l (omega arith) s) ∙ e)) [
         | inl a ↦
-            let a1 = a.1 in
-            let a2 = a.2 in
             let top' = cut_high (suc j) m in
             let q : a.0 ≡ p = next.distinct a.0 p (omega arith) (omega arith) a.3 in
             one_part i j p l m (omega arith) s (omega arith) (omega arith)
@@ -126,23 +114,16 @@ module _ (lists : Lists) (alive : ℕ → Bool) (w : ℕ → ℕ) (r : ℕ) (o :
   made_passes one i l =
       let s = off.rises i l in
       let top = cut_high (suc i) l in
-      let within = off.within in
       let p : ℕ = o.cut (suc i) - 1 in
-      let at : suc p ≡ o.cut (suc i) = omega arith in
       let x = o.contour p in
       let y = o.contour (suc p) in
       let rim = next.edge p (omega arith) in
-      let along = made_along i p l (omega arith) (omega arith) in
       let z = follows lists y x in
-      let back = simple.both_ways x y rim.dart in
-      let has = HasDart-follows lists y x back in
-      let on : face_of lists y z ≡ o.made i = face_of-step lists simple x y rim.dart ∙ along in
+      let has = HasDart-follows lists y x (simple.both_ways x y rim.dart) in
+      let on : face_of lists y z ≡ o.made i = face_of-step lists simple x y rim.dart ∙ (made_along i p l (omega arith) (omega arith)) in
       elim (off.darts i y z l has on) [
         | inl a ↦
-            let a1 = a.1 in
-            let a2 = a.2 in
-            let q : a.0 ≡ suc p = next.distinct a.0 (suc p) (omega arith) (omega arith) a.3 in
-            absurd (omega arith)
+            absurd (omega (arith, next.distinct a.0 (suc p) (omega arith) (omega arith) a.3))
         | inr (inl a) ↦
             let v : z ≡ w (suc o.first) = a.1 ∙ (let n : o.first + o.vertices ≡ suc o.first = omega arith in ap w n) in
             let has' = HasDart-follows lists z y (simple.both_ways y z has) in

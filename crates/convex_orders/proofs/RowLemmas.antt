@@ -23,8 +23,6 @@ module _ (lists own other : Lists) (count : ℕ) (simple : IsSimpleMap lists) (n
 
   pub us_edges : (i : ℕ) → suc i < length us → HasDart lists (slice_index us i) (slice_index us (suc i))
   us_edges i l =
-      let long = list.long in
-      let within = off.within in
       subst (λ v. HasDart lists v (slice_index us (suc i))) (sym (list.each i (omega arith))) (subst (HasDart lists (o.contour i)) (sym (list.each (suc i) (omega arith))) (next.edge i (omega arith)).dart)
 
   pub us_back : AreEdges lists us
@@ -32,8 +30,6 @@ module _ (lists own other : Lists) (count : ℕ) (simple : IsSimpleMap lists) (n
 
   pub us_in : (i : ℕ) → i < length us → slice_index us i < length lists
   us_in i l =
-      let long = list.long in
-      let within = off.within in
       subst (λ v. v < length lists) (sym (list.each i (omega arith))) (next.edge i (omega arith)).dart.0
 
   number_at : (p : ℕ) → p < o.last → edge_number lists own us p ≡ entry lists own (o.contour p) (o.contour (suc p))
@@ -44,7 +40,6 @@ module _ (lists own other : Lists) (count : ℕ) (simple : IsSimpleMap lists) (n
 
   pub cut_places : AreCutPlaces (edge_number lists own us) o.first o.last o.faces o.cut
   cut_places =
-      let within = off.within in
       let along = made_along lists alive w r o simple is.contour off next in
       let high = cut_high lists alive w r o simple is.contour off next in
       record {
@@ -62,17 +57,13 @@ module _ (lists own other : Lists) (count : ℕ) (simple : IsSimpleMap lists) (n
             let same = (n.alike (o.contour p) (o.contour (suc p)) (o.contour (suc p)) (o.contour (suc (suc p))) (next.edge p (omega arith)).dart (next.edge (suc p) (omega arith)).dart).0 (sym (number_at p (omega arith)) ∙ (e ∙ number_at (suc p) (omega arith))) in
             let one = along i p (omega arith) (omega arith) (omega arith) in
             let two = along (suc i) (suc p) l (omega arith) (omega arith) in
-            let z = made_once lists alive w r o simple is.contour off next i (suc i) (omega arith) l (sym one ∙ (same ∙ two)) in
-            omega arith;
+            omega (arith, made_once lists alive w r o simple is.contour off next i (suc i) (omega arith) l (sym one ∙ (same ∙ two)));
       }
 
   pub row_of : (row cuts news : List ℕ) → IsCutRow cuts o.first o.faces o.cut → row ≡ slice_range us o.first (o.last + 1) → length news ≡ o.vertices → ((i : ℕ) → i < length news → slice_index news i ≡ slice_index ws (suc o.first + i)) → IsRowOf lists w o row cuts news
   row_of row cuts news c row_is news_long news_is =
       let order = first_lt lists alive w r o off in
-      let gone = gone_within lists alive w r o off in
-      let within = off.within in
       let long = is.list.long in
-      let long' = list.long in
       let row_long : length row ≡ o.last + 1 - o.first = ap length row_is ∙ length-slice_range us o.first (o.last + 1) (omega arith) (omega arith) in
       let row_each : (i : ℕ) → i < length row → slice_index row i ≡ o.contour (o.first + i) = λ i l. ap (λ (z : List ℕ). get_or z i 0) row_is ∙ (get_or-slice_range us o.first (o.last + 1) i (omega arith) ∙ list.each (o.first + i) (omega arith)) in
       let news_each : (i : ℕ) → i < length news → slice_index news i ≡ w (suc (o.first + i)) = λ i l. news_is i l ∙ (let z : suc o.first + i ≡ suc (o.first + i) = omega arith in ap (λ k. slice_index ws k) z ∙ is.list.each (suc (o.first + i)) (omega arith)) in

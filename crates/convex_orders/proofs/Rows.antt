@@ -29,20 +29,11 @@ module _ (lists own other : Lists) (count : ℕ) (simple : IsSimpleMap lists) (n
 
   -- the rows of a vertex
   pub rows_of : (x m : ℕ) → x < length lists → m ≡ count → AreRowsBelow (list_of own x) (list_of other x) m
-  rows_of x m l e =
-      let one = n.own_table.sizes x l in
-      let two = n.other_table.sizes x l in
-      record {
-        long = omega arith;
-        own_in = λ k h. omega (arith, e, n.own_table.below x k l h);
-        other_in = λ k h. omega (arith, e, n.other_table.below x k l h);
-      }
+  rows_of x m l e = grind arith
 
   -- the numbers at a place of the rows are those on both sides of its dart
   pub place_numbers : (x k : ℕ) → x < length lists → k < length (list_of own x) → (slice_index (list_of own x) k ≡ entry lists own x (slice_index (list_of lists x) k)) × (slice_index (list_of other x) k ≡ entry lists own (slice_index (list_of lists x) k) x)
   place_numbers x k l h =
-      let y = slice_index (list_of lists x) k in
       let a = entry_at lists own count simple n.own_table x k l h in
       let m : k < length (list_of other x) = omega (arith, h, n.own_table.sizes x l, n.other_table.sizes x l) in
-      let b = entry_at lists other count simple n.other_table x k l m in
-      (a.is, b.is ∙ n.back x y a.dart)
+      (a.is, (entry_at lists other count simple n.other_table x k l m).is ∙ n.back x (slice_index (list_of lists x) k) a.dart)

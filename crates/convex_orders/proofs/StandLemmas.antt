@@ -51,8 +51,6 @@ module _ (lists : Lists) (s d : ℕ) (based : IsBased lists s d) where
   module _ (own : Lists) (marks : List Bool) (ws : List ℕ) (rows : ConvexRows) (bound : ℕ) (st : Stands lists own marks s d ws rows bound) where
     pub choice : HasOther lists own s d ws → IsChoice lists own marks s d ws st.alive st.w st.r
     choice o =
-        let long = st.list.long in
-        let l = o.1 in
         let z : suc o.0 ≡ o.0 + 1 = omega arith in
         record {
           shown = st.shown;
@@ -101,9 +99,7 @@ module _ (lists : Lists) (s d : ℕ) (based : IsBased lists s d) where
         let w = st.w in
         let r = st.r in
         let dart : HasDart lists (w 0) (w r) = simple.both_ways (w r) (w 0) (subst (HasDart lists (w r)) c.round (c.edge r (omega arith)).dart) in
-        let count = count-without lists st.alive simple (w 0) (w r) dart (base_living lists st.alive w r simple polyhedral has_three c) in
-        let fewer = st.fewer in
-        omega arith
+        omega (arith, count-without lists st.alive simple (w 0) (w r) dart (base_living lists st.alive w r simple polyhedral has_three c))
 
     -- the last removal
     module _ (other : Lists) (count : ℕ) (n : AreFaceNumbers lists own other count) (all : AllInner lists own s d ws) where
@@ -209,7 +205,6 @@ module _ (lists : Lists) (s d : ℕ) (based : IsBased lists s d) where
 
     pub shown_edges : AreEdges lists ws
     shown_edges i l =
-        let long = list.long in
         let back = simple.both_ways (w i) (w (suc i)) (shown.contour.edge i (omega arith)).dart in
         subst (λ v. HasDart lists v (slice_index ws i)) (sym (list.each (suc i) (omega arith))) (subst (HasDart lists (w (suc i))) (sym (list.each i (omega arith))) back)
 
@@ -219,13 +214,12 @@ module _ (lists : Lists) (s d : ℕ) (based : IsBased lists s d) where
   -- the way along a contour that is shown begins with d
   pub first_trace : (own : Lists) (marks : List Bool) (items : List ℕ) (alive : ℕ → Bool) (w : ℕ → ℕ) (r : ℕ) → IsShown lists own marks s d alive w r → items ≡ d ∷ [] → IsTrace lists own marks items s alive w r 0 r
   first_trace own marks items alive w r shown e =
-      let c = shown.contour in
       let some : 0 < r = elim (cases_eq r 0) [
         | inr ne ↦ omega arith
         | inl z ↦ absurd (simple.no_loop s d based.base (sym shown.first ∙ (ap w (sym z) ∙ shown.last)))
       ] in
       record {
-        contour = c;
+        contour = shown.contour;
         marks_are = shown.marks_are;
         from = record {
           long = ap length e;

@@ -56,7 +56,6 @@ module _ (lists own other : Lists) (count s d : ℕ) (based : IsBased lists s d)
       let f = entry lists own (w j) u in
       let face = face_of lists (w j) u in
       let f_in = entry-lt lists own count n.own_table (w j) u has in
-      let long_is = long in
       let passed : ℕ → Bool = λ i. ltb 0 (met_at own f (w i)) in
       let tells : (i : ℕ) → i ≤ r → (passed i ≡ true) ↔ Passes lists face (w i) = λ i l. (
         (λ t. (passes-number lists own other count simple n (w j) u (w i) has (vertex_in i l)).0 (Contains-from_count_of f (list_of own (w i)) (ltb-true 0 (met_at own f (w i)) t))),
@@ -80,22 +79,17 @@ module _ (lists own other : Lists) (count s d : ℕ) (based : IsBased lists s d)
   removable_place : (j : ℕ) → IsRemovable lists alive w r j → IsRemovablePlace own other marks places edges ws j
   removable_place j removable =
       let v = w j in
-      let length_is = long in
-      let j_r = removable.before in
-      let at = at_place j (omega arith) in
-      let l = vertex_in j (omega arith) in
       let open_at = removable.open_at in
-      let x = open_at.0 in
       let has = open_at.1 in
       let row : IsRemovableRow (list_of own v) (list_of other v) marks places edges = record {
-        place = place_of x (list_of lists v);
+        place = place_of open_at.0 (list_of lists v);
         open_at = record {
-          within = entry_within lists own count n.own_table v x has;
-          outside = choice.shown.marks_are v x has ∙ open_at.2;
-          inside = ap (is_set marks) (n.back v x has) ∙ (choice.shown.marks_are x v (simple.both_ways v x has) ∙ open_at.3);
+          within = entry_within lists own count n.own_table v open_at.0 has;
+          outside = choice.shown.marks_are v open_at.0 has ∙ open_at.2;
+          inside = ap (is_set marks) (n.back v open_at.0 has) ∙ (choice.shown.marks_are open_at.0 v (simple.both_ways v open_at.0 has) ∙ open_at.3);
         };
         whole = λ i m live.
-            let e = entry_at lists own count simple n.own_table v i l m in
+            let e = entry_at lists own count simple n.own_table v i (vertex_in j (omega arith)) m in
             let u = slice_index (list_of lists v) i in
             let live_face : alive (face_of lists v u) ≡ true = sym (choice.shown.marks_are v u e.dart) ∙ (ap (is_set marks) (sym e.is) ∙ live) in
             let whole = (whole_stretch j u (omega arith) e.dart).1 (removable.stretches u e.dart live_face) in
@@ -104,22 +98,20 @@ module _ (lists own other : Lists) (count s d : ℕ) (based : IsBased lists s d)
       record {
         after = removable.after;
         before = omega arith;
-        removable = subst (λ z. IsRemovableRow (list_of own z) (list_of other z) marks places edges) (sym at) row;
+        removable = subst (λ z. IsRemovableRow (list_of own z) (list_of other z) marks places edges) (sym (at_place j (omega arith))) row;
       }
 
   pub place_removable : (j : ℕ) → IsRemovablePlace own other marks places edges ws j → IsRemovable lists alive w r j
   place_removable j p =
       let v = w j in
-      let length_is = long in
       let before = p.before in
       let at = at_place j (omega arith) in
       let l = vertex_in j (omega arith) in
       let row : IsRemovableRow (list_of own v) (list_of other v) marks places edges = subst (λ z. IsRemovableRow (list_of own z) (list_of other z) marks places edges) at p.removable in
-      let k = row.place in
-      let e = entry_at lists own count simple n.own_table v k l row.open_at.within in
-      let m : k < length (list_of other v) = omega (arith, row.open_at.within, n.own_table.sizes v l, n.other_table.sizes v l) in
-      let e' = entry_at lists other count simple n.other_table v k l m in
-      let x = slice_index (list_of lists v) k in
+      let e = entry_at lists own count simple n.own_table v row.place l row.open_at.within in
+      let m : row.place < length (list_of other v) = omega (arith, row.open_at.within, n.own_table.sizes v l, n.other_table.sizes v l) in
+      let e' = entry_at lists other count simple n.other_table v row.place l m in
+      let x = slice_index (list_of lists v) row.place in
       record {
         after = p.after;
         before = omega arith;

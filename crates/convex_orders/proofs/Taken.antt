@@ -22,17 +22,7 @@ use Rattle.convex_orders.proofs.Stretches.{polyhedral, has_three, vertex_in, off
 module _ (lists own other : Lists) (count : ℕ) (simple : IsSimpleMap lists) (n : AreFaceNumbers lists own other count) (marks new : List Bool) (alive : ℕ → Bool) (w : ℕ → ℕ) (r : ℕ) (o : Removal) (off : IsTakenOff lists alive w r o) (are : AreMarks lists own marks alive) where
   -- the marks after a removal, where some numbers lose their marks
   pub marks_after : (Gone : ℕ → Type 0) → ((f : ℕ) → (is_set new f ≡ true) ↔ ((is_set marks f ≡ true) × (¬ Gone f))) → ((i x y : ℕ) → i < o.faces → HasDart lists x y → face_of lists x y ≡ o.made i → Gone (entry lists own x y)) → ((x y : ℕ) → HasDart lists x y → Gone (entry lists own x y) → o.alive (face_of lists x y) ≢ true) → AreMarks lists own new o.alive
-  marks_after Gone set made dead x y has =
-      let f = entry lists own x y in
-      let face = face_of lists x y in
-      same_bool (is_set new f) (o.alive face)
-      (λ t.
-      let was = (set f).0 t in
-      elim (cases_Bool (o.alive face)) [
-        | inl live ↦ live
-        | inr gone ↦ (let at = off.gone face (sym (are x y has) ∙ was.0) gone in absurd (was.1 (made at.0 x y at.1 has at.2)))
-      ])
-      (λ t. (set f).1 (are x y has ∙ off.still face t, λ g. dead x y has g t))
+  marks_after Gone set made dead x y has = grind (arith, set, entry, face_of, same_bool, is_set, cases_Bool)
 
   -- one face
   pub marks_after_one : (a b : ℕ) → HasDart lists a b → new ≡ set marks (entry lists own a b) false → length marks ≡ count → o.faces ≡ 1 → o.made 0 ≡ face_of lists a b → AreMarks lists own new o.alive
@@ -79,16 +69,13 @@ module _ (lists own other : Lists) (count s d : ℕ) (based : IsBased lists s d)
     pub goes_chain : (i : ℕ) → suc (suc i) ≤ r → (i ≡ j) ⊎ (suc (suc i) ≡ j) → face_of lists (w (suc (suc i))) (w (suc i)) ≡ face_of lists (w (suc i)) (w i) → (x y : ℕ) → HasDart lists x y → face_of lists x y ≡ face_of lists (w (suc i)) (w i) → new ≡ set marks (entry lists own x y) false → GoesOffNear lists own new alive w r j
     goes_chain i l at same x y has on e =
         let face = face_of lists (w (suc i)) (w i) in
-        let one = edge_passes lists alive w r simple contour i (omega arith) in
         let two = edge_passes lists alive w r simple contour (suc i) (omega arith) in
         let p : Passes lists face (w j) = elim at [
-          | inl z ↦ subst (λ k. Passes lists face (w k)) z one.0
+          | inl z ↦ subst (λ k. Passes lists face (w k)) z (edge_passes lists alive w r simple contour i (omega arith)).0
           | inr z ↦ subst (λ k. Passes lists face (w k)) z (subst (λ f. Passes lists f (w (suc (suc i)))) same two.1)
         ] in
         let three = has_three lists own other count s d based n marks ws places edges counts alive w r choice in
         let go = chain_taken_off_law lists alive w r i face simple is_polyhedral three contour l refl same (stretches face (living_edge i (omega arith)) p) (not_base face p) in
-        let first_le = go.6 in
-        let after_le = go.7 in
         record {
           go = record {
             o = go.0;
@@ -104,7 +91,6 @@ module _ (lists own other : Lists) (count s d : ℕ) (based : IsBased lists s d)
     -- one vertex
     pub goes_vertex : (i : ℕ) → suc i ≡ j → (suc j < r → face_of lists (w (suc (suc j))) (w (suc j)) ≢ face_of lists (w (suc j)) (w j)) → ((h : ℕ) → suc h ≡ i → face_of lists (w (suc h)) (w h) ≢ face_of lists (w (suc i)) (w i)) → ((f : ℕ) → (is_set new f ≡ true) ↔ ((is_set marks f ≡ true) × (¬ Contains (list_of own (w j)) f))) → GoesOffNear lists own new alive w r j
     goes_vertex i at right left set =
-        let before = removable.before in
         let go = vertex_taken_off_law lists alive w r i simple is_polyhedral contour (record {
           within = omega arith;
           stretches = λ face live p. stretches face live (subst (λ k. Passes lists face (w k)) at p);
@@ -113,8 +99,6 @@ module _ (lists own other : Lists) (count s d : ℕ) (based : IsBased lists s d)
           base = λ p. not_base (face_of lists (w 0) (w r)) (subst (λ k. Passes lists (face_of lists (w 0) (w r)) (w k)) at p) refl;
         }) in
         let first : suc go.0.first ≡ j = ap suc go.3 ∙ at in
-        let one = go.4 in
-        let first_at = go.3 in
         record {
           go = record {
             o = go.0;

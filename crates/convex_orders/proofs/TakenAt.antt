@@ -34,14 +34,11 @@ module _ (lists own other : Lists) (count s d : ℕ) (based : IsBased lists s d)
 
   pub goes_right : (m : ℕ) → m ≡ length ws → (suc (suc j) < m) × (number_at inner ws j ≡ number_at inner ws (suc j)) → (f : ℕ) → f ≡ number_at inner ws j → new ≡ set marks f false → GoesOffNear lists own new alive w r j
   goes_right m m_is two f f_is e =
-      let long = choice.list.long in
-      let l = two.0 in
       goes_chain lists own other count s d based n marks new ws places edges counts many alive w r choice j removable j (omega arith) (inl refl) (same j (omega arith) two.1) (w (suc j)) (w j) (edge j (omega arith)) refl
       (e ∙ ap (λ k. set marks k false) (f_is ∙ number j (omega arith)))
 
   pub goes_left : (h : ℕ) → suc (suc h) ≡ j → number_at inner ws h ≡ number_at inner ws (suc h) → (f : ℕ) → f ≡ number_at inner ws (j - 1) → new ≡ set marks f false → GoesOffNear lists own new alive w r j
   goes_left h z eq f f_is e =
-      let j_r = removable.before in
       let one = same h (omega arith) eq in
       let k : j - 1 ≡ suc h = omega arith in
       goes_chain lists own other count s d based n marks new ws places edges counts many alive w r choice j removable h (omega arith) (inr z) one (w (suc (suc h))) (w (suc h)) (edge (suc h) (omega arith)) one
@@ -49,9 +46,6 @@ module _ (lists own other : Lists) (count s d : ℕ) (based : IsBased lists s d)
 
   pub goes_only : (m : ℕ) → m ≡ length ws → ¬ ((suc (suc j) < m) × (number_at inner ws j ≡ number_at inner ws (suc j))) → ((h : ℕ) → suc (suc h) ≡ j → number_at inner ws h ≢ number_at inner ws (suc h)) → ((f : ℕ) → (is_set new f ≡ true) ↔ ((is_set marks f ≡ true) × (¬ Contains (list_of own (slice_index ws j)) f))) → GoesOffNear lists own new alive w r j
   goes_only m m_is right left set =
-      let long = choice.list.long in
-      let after = removable.after in
-      let j_r = removable.before in
       let i : ℕ = j - 1 in
       let i_j : suc i ≡ j = omega arith in
       goes_vertex lists own other count s d based n marks new ws places edges counts many alive w r choice j removable i i_j

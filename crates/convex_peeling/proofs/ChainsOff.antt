@@ -43,9 +43,8 @@ face_of-lt lists simple x y has =
     let k = dart_count lists in
     let n = length-orbits_of h k in
     let l = dart_number-lt lists x y has in
-    let below = label-lt (orbits_of h k) (IsLabels-orbits_of h k (hw lists simple).within) (dart_number lists (x, y)) (omega arith) in
     let e : face_of lists x y ≡ label (orbits_of h k) (dart_number lists (x, y)) = ap (λ o. label o (dart_number lists (x, y))) (orbits-face_images lists simple) in
-    omega (arith, e, below, n)
+    omega (arith, e, label-lt (orbits_of h k) (IsLabels-orbits_of h k (hw lists simple).within) (dart_number lists (x, y)) (omega arith), n)
 
 -- the faces without one are one fewer
 pub count-without : (lists : Lists) (alive : ℕ → Bool) → IsSimpleMap lists → (x y : ℕ) → HasDart lists x y → alive (face_of lists x y) ≡ true → count_below alive (dart_count lists) ≡ count_below (kept_but alive (face_of lists x y)) (dart_count lists) + 1
@@ -68,9 +67,8 @@ module _ (lists : Lists) (alive : ℕ → Bool) (w : ℕ → ℕ) (r : ℕ) (sim
       let p = w i in
       let q = w (suc (suc i)) in
       let one = contour.edge i (omega arith) in
-      let two = contour.edge (suc i) l in
       let has_p = simple.both_ways p v one.dart in
-      let has_q = two.dart in
+      let has_q = (contour.edge (suc i) l).dart in
       let from_q = simple.both_ways v q has_q in
       let turn : follows lists v q ≡ p = leaves_once lists alive simple polyhedral v (follows lists v q) p (HasDart-follows lists v q has_q) has_p (face_of-step lists simple q v from_q ∙ sym same) in
       let z = follows lists v p in
@@ -83,9 +81,7 @@ module _ (lists : Lists) (alive : ℕ → Bool) (w : ℕ → ℕ) (r : ℕ) (sim
           | inr f ↦ f
           | inl t ↦
               let at : z ≡ q = rim_at lists alive simple w r contour (suc i) l z (record { dart = has_z; outside = dead; inside = t }) in
-              let two_only = two_entries (list_of lists v) p q (simple.no_repeat v has_p.0) has_p.1 at turn in
-              let more = three v has_p.0 in
-              absurd (omega (arith, two_only, more))
+              absurd (omega (arith, two_entries (list_of lists v) p q (simple.no_repeat v has_p.0) has_p.1 at turn, three v has_p.0))
         ],
       )
 
@@ -102,18 +98,15 @@ module _ (lists : Lists) (alive : ℕ → Bool) (w : ℕ → ℕ) (r face a b : 
             let z : suc (a + t) ≡ a + suc t = omega arith in
             inl (a + t, omega arith, omega arith, spliced-mid lists w r face a b walk many ear t (omega arith) ∙ sym at.2, ap (spliced w a b walk many) z ∙ (spliced-mid lists w r face a b walk many ear (suc t) l ∙ sym at.3))
         | inl at ↦
-            let i = at.0 in
-            let low = at.1 in
-            let high = at.2 in
-            elim (cases_eq i a) [
+            elim (cases_eq at.0 a) [
               | inl e ↦ inr (inr (inr (at.3 ∙ ap (λ j. w (suc j)) e, at.4 ∙ (ap w e ∙ sym (spliced-low lists w r face a b walk many ear a (omega arith))))))
-              | inr ne ↦ elim (cases_eq (suc i) b) [
+              | inr ne ↦ elim (cases_eq (suc at.0) b) [
                 | inl e ↦
-                    let z : i ≡ a + gone = omega arith in
+                    let z : at.0 ≡ a + gone = omega arith in
                     inr (inl (at.3 ∙ (ap w e ∙ (sym ear.last ∙ sym (spliced-mid lists w r face a b walk many ear many (omega arith)))), at.4 ∙ ap w z))
                 | inr more ↦
-                    let q : ℕ = i - a in
-                    let z : i ≡ a + q = omega arith in
+                    let q : ℕ = at.0 - a in
+                    let z : at.0 ≡ a + q = omega arith in
                     inr (inr (inl (q, omega arith, omega arith, at.3 ∙ ap (λ j. w (suc j)) z, at.4 ∙ ap w z)))
               ]
             ]
@@ -121,12 +114,10 @@ module _ (lists : Lists) (alive : ℕ → Bool) (w : ℕ → ℕ) (r face a b : 
 
   pub chain_off : IsTakenOff lists alive w r removal
   chain_off =
-      let some_step = ear.some_step in
       let within = ear.within in
       let at = contour.edge a (omega arith) in
       let back = simple.both_ways (w a) (w (suc a)) at.dart in
       let own = ear.edges a (omega arith) ear.some_edge in
-      let live : alive face ≡ true = ap alive (sym own) ∙ at.inside in
       record {
         some_face = omega arith;
         some_vertex = some;
@@ -142,7 +133,7 @@ module _ (lists : Lists) (alive : ℕ → Bool) (w : ℕ → ℕ) (r face a b : 
             let t : ℕ = p - a in
             let z : p ≡ a + t = omega arith in
             ear.inside t i (omega arith) (omega arith) n (sym (ap (spliced w a b walk many) z ∙ spliced-mid lists w r face a b walk many ear t (omega arith)) ∙ e);
-        living = λ i l. live;
+        living = λ i l. (ap alive (sym own) ∙ at.inside);
         dead = λ i l. kept_but-itself alive face;
         still = λ x t. (kept_but-old alive face x t).0;
         gone = λ x t f. (0, omega arith, elim (cases_eq x face) [ inl e ↦ e | inr ne ↦ absurd (true≢false (sym (kept_but-new alive face x t ne) ∙ f)) ]);

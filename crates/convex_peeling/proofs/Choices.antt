@@ -27,10 +27,7 @@ module _ (lists : Lists) (alive : ℕ → Bool) (w : ℕ → ℕ) (r : ℕ) (sim
             | inr n ↦ inr (λ g. n g.first)
             | inl first ↦ elim (cases_Passes lists simple face (w b)) [
               | inr n ↦ inr (λ g. n g.last)
-              | inl last ↦ elim (cases_eq (face_of lists (w (suc i)) (w i)) face) [
-                | inl e ↦ inr (λ g. g.gap e)
-                | inr ne ↦ inl (record { living = live; low = low; high = m; within = omega arith; first = first; last = last; gap = ne })
-              ]
+              | inl last ↦ grind (arith, cases_eq, face_of)
             ]
           ]
         ]
@@ -52,11 +49,7 @@ module _ (lists : Lists) (alive : ℕ → Bool) (w : ℕ → ℕ) (r : ℕ) (sim
       ]
 
   stretch : (face : ℕ) → alive face ≡ true → ¬ SomeGap face → IsStretch lists w r face
-  stretch face live none a i b l m n first last =
-      elim (cases_eq (face_of lists (w (suc i)) (w i)) face) [
-        | inl e ↦ e
-        | inr ne ↦ absurd (none (b, omega arith, a, omega arith, i, m, record { living = live; low = l; high = m; within = n; first = first; last = last; gap = ne }))
-      ]
+  stretch face live none a i b l m n first last = grind (arith, cases_eq, face_of)
 
   -- a place within a gap that the face passes leaves a shorter one
   narrowed : (face a i b j : ℕ) → IsGap lists alive w r face a i b → a < j → j < b → Passes lists face (w j) → (a' : ℕ) × (b' : ℕ) × IsGap lists alive w r face a' i b' × (a ≤ a') × (b' ≤ b) × (b' + a < b + a')
@@ -98,22 +91,17 @@ module _ (lists : Lists) (alive : ℕ → Bool) (w : ℕ → ℕ) (r : ℕ) (sim
     removable_within : (n face a i b : ℕ) → IsGap lists alive w r face a i b → b < n + a → (j : ℕ) × IsRemovable lists alive w r j
     removable_within zero face a i b gap l = let low = gap.low in let high = gap.high in absurd (omega arith)
     removable_within (suc n) face a i b gap l =
-        let within = gap.within in
         let open_at = section_open_law lists alive w r face a i b simple polyhedral contour begun gap in
         let j = open_at.0 in
-        let l' = open_at.1 in
-        let m = open_at.2 in
         elim (some_dart lists simple (w j) (λ x. (alive (face_of lists (w j) x) ≡ true) × SomeGap (face_of lists (w j) x)) (λ x has.
         elim (cases_is (alive (face_of lists (w j) x)) true) [
           | inr no_life ↦ inr (λ t. no_life t.0)
           | inl live ↦ elim (cases_SomeGap (face_of lists (w j) x)) [ inl g ↦ inl (live, g) | inr none ↦ inr (λ t. none t.1) ]
         ])) [
           | inl found ↦
-              let g = found.2.1 in
               let other = face_of lists (w j) found.0 in
               let at : Passes lists other (w j) = (found.0, found.1, refl) in
-              let less = inner_gap face a i b j other g.2 g.4 g.0 gap l' m at g.6 in
-              let bound = less.5 in
+              let less = inner_gap face a i b j other found.2.1.2 found.2.1.4 found.2.1.0 gap open_at.1 open_at.2 at found.2.1.6 in
               removable_within n less.0 less.1 less.2 less.3 less.4 (omega arith)
           | inr none ↦ (
             j,
@@ -133,17 +121,15 @@ some_removable_law lists alive w r simple plane polyhedral contour begun =
     let rim = contour.edge r (omega arith) in
     let base : HasDart lists (w r) (w 0) = subst (HasDart lists (w r)) contour.round rim.dart in
     let inner : HasDart lists (w 0) (w r) = simple.both_ways (w r) (w 0) base in
-    let live : alive F ≡ true = ap (λ t. alive (face_of lists t (w r))) (sym contour.round) ∙ rim.inside in
-    let next = HasDart-follows lists (w r) (w 0) base in
     elim (some_or_none (λ i. face_of lists (w (suc i)) (w i) ≢ F) r (λ i l. elim (cases_eq (face_of lists (w (suc i)) (w i)) F) [ inl e ↦ inr (λ ne. ne e) | inr ne ↦ inl ne ])) [
       | inr none ↦ inl (λ i l. elim (cases_eq (face_of lists (w (suc i)) (w i)) F) [ inl e ↦ e | inr ne ↦ absurd (none i l ne) ])
       | inl found ↦ inr (removable_within lists alive w r simple plane polyhedral contour begun (suc r) F 0 found.0 r (record {
-        living = live;
+        living = (ap (λ t. alive (face_of lists t (w r))) (sym contour.round) ∙ rim.inside);
         low = omega arith;
         high = found.1;
         within = omega arith;
         first = (w r, inner, refl);
-        last = (follows lists (w r) (w 0), next, face_of-step lists simple (w 0) (w r) inner);
+        last = (follows lists (w r) (w 0), HasDart-follows lists (w r) (w 0) base, face_of-step lists simple (w 0) (w r) inner);
         gap = found.2;
       }) (omega arith))
     ]

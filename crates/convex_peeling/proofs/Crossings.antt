@@ -79,18 +79,15 @@ module _ (lists : Lists) (alive : ℕ → Bool) (w : ℕ → ℕ) (r a b one : �
   separating =
       let pw = IsPermuting-rotation M M_simple in
       let pair = IsPairing-twin M M_simple in
-      let n = dart_number M in
       let a' = w (suc a) in
       let b' = w (suc b) in
       let has_a' = rim a (omega arith) in
       let has_b' = rim b (omega arith) in
-      let same_label : face_of lists u x ≡ face_of lists v y = at_a.2 ∙ sym at_b.2 in
-      let inner = living-kept lists alive simple u x v y at_a.1 at_b.1 (ap alive at_a.2 ∙ living) same_label in
+      let inner = living-kept lists alive simple u x v y at_a.1 at_b.1 (ap alive at_a.2 ∙ living) (at_a.2 ∙ sym at_b.2) in
       let outer : face_of M u a' ≡ face_of M v b' = outer_one lists alive simple w r contour a (omega arith) ∙ sym (outer_one lists alive simple w r contour b (omega arith)) in
       let differ_u = not_outer u x a has_x (ap alive at_a.2 ∙ living) (omega arith) in
-      let differ_v = not_outer v y b has_y (ap alive at_b.2 ∙ living) (omega arith) in
       let x_a : x ≢ a' = λ e. differ_u (ap (face_of M u) e) in
-      let y_b : y ≢ b' = λ e. differ_v (ap (face_of M v) e) in
+      let y_b : y ≢ b' = λ e. (not_outer v y b has_y (ap alive at_b.2 ∙ living) (omega arith)) (ap (face_of M v) e) in
       let cx = corner_of M M_simple u x has_x in
       let cy = corner_of M M_simple u a' has_a' in
       let cz = corner_of M M_simple v y has_y in
@@ -104,8 +101,7 @@ module _ (lists : Lists) (alive : ℕ → Bool) (w : ℕ → ℕ) (r a b one : �
       let at_u = same_orbit M M_simple cx.0 cy.0 lx ly (cx.1.tail ∙ sym cy.1.tail) in
       let at_v = same_orbit M M_simple cz.0 co.0 lz lo (cz.1.tail ∙ sym co.1.tail) in
       let far : Together (orbits_of f k) cx.0 cz.0 → ⊥ = λ q. u_v (sym cx.1.tail ∙ (same_vertex M M_simple cx.0 cz.0 lx lz q ∙ cz.1.tail)) in
-      let M_plane : IsPlane M = kept_plane lists alive simple plane in
-      let balance = balances_map M M_simple 0 (omega (arith, M_plane)) in
+      let balance = balances_map M M_simple 0 (omega (arith, kept_plane lists alive simple plane)) in
       let first : Together F (g cx.0) (g cz.0) = cx.1.face ∙ (face_together M M_simple (u, x) (v, y) (SameFace-labels M u x v y inner) ∙ sym cz.1.face) in
       let second : Together F (g cy.0) (g co.0) = cy.1.face ∙ (face_together M M_simple (u, a') (v, b') (SameFace-labels M u a' v b' outer) ∙ sym co.1.face) in
       let faces : Together F (g cx.0) (g cy.0) → ⊥ = λ q. differ_u (labels-SameFace M u x u a' (same_face M M_simple (u, x) (u, a') (sym cx.1.face ∙ (q ∙ cy.1.face)))) in
@@ -118,7 +114,7 @@ module _ (lists : Lists) (alive : ℕ → Bool) (w : ℕ → ℕ) (r a b one : �
         record {
           holds = HoldsCut-joint M M_simple h avoided cut hw
               (λ p q has uncut.
-              let i = n (p, q) in
+              let i = (dart_number M) (p, q) in
               let nx : i ≢ cx.0 = λ e. let at = before_dart M cx.0 u x p q has_x cx.1.leads has e in uncut (inl (at.0, inl at.1)) in
               let ny : i ≢ cy.0 = λ e. let at = before_dart M cy.0 u a' p q has_a' cy.1.leads has e in uncut (inl (at.0, inr at.1)) in
               let nz : i ≢ cz.0 = λ e. let at = before_dart M cz.0 v y p q has_y cz.1.leads has e in uncut (inr (at.0, inl at.1)) in
@@ -172,8 +168,7 @@ module _ (lists : Lists) (alive : ℕ → Bool) (w : ℕ → ℕ) (r a b one : �
     down_to zero l e m s has =
         let q : l ≡ suc b = omega arith in
         let at = rim b (omega arith) in
-        let back : HasDart M (w l) v = subst (λ i. HasDart M (w i) v) (sym q) (M_simple.both_ways v (w (suc b)) at) in
-        round_vertex l s v m (λ t. omega arith) (λ t. omega arith) has back
+        round_vertex l s v m (λ t. omega arith) (λ t. omega arith) has (subst (λ i. HasDart M (w i) v) (sym q) (M_simple.both_ways v (w (suc b)) at))
         ∙ (ap (λ i. class_of (w i) v) q ∙ sym (twins v (w (suc b)) at))
     down_to (suc n) l e m s has =
         let i = b + suc n in
@@ -187,10 +182,8 @@ module _ (lists : Lists) (alive : ℕ → Bool) (w : ℕ → ℕ) (r a b one : �
     round_v : (i : ℕ) → suc i ≡ b → class_of v y ≡ class_of v (w i)
     unfolding cut
     round_v i e =
-        let Goal : Type 0 = class_of v y ≡ class_of v (w i) in
-        let P : ℕ → Type 0 = λ z. HasDart M v z × (Goal ⊎ (class_of v y ≡ class_of v z)) in
-        let at = M_simple.both_ways (w i) (w (suc i)) (rim i (omega arith)) in
-        let at_i : HasDart M v (w i) = subst (λ t. HasDart M (w t) (w i)) e at in
+        let P : ℕ → Type 0 = λ z. HasDart M v z × ((class_of v y ≡ class_of v (w i)) ⊎ (class_of v y ≡ class_of v z)) in
+        let at_i : HasDart M v (w i) = subst (λ t. HasDart M (w t) (w i)) e (M_simple.both_ways (w i) (w (suc i)) (rim i (omega arith))) in
         let turn : follows M v (w i) ≡ w (suc b) = ap (λ t. follows M (w t) (w i)) (sym e) ∙ (kept_turn lists alive simple w r contour i (omega arith) ∙ ap (λ t. w (suc t)) e) in
         let step : (z : ℕ) → P z → P (follows M v z) = λ z h. (
           HasDart-follows M v z h.0,
@@ -220,11 +213,9 @@ module _ (lists : Lists) (alive : ℕ → Bool) (w : ℕ → ℕ) (r a b one : �
         let P : ℕ → ℕ → Type 0 = λ p q. (face_of M s t ≡ face_of M p q) × (class_of s t ≡ class_of p q) in
         (along_face M M_simple P (λ p' q d h.
         let z = follows M q p' in
-        let back = M_simple.both_ways p' q d in
-        let next : HasDart M q z = HasDart-follows M q p' back in
         let on : face_of M s t ≡ face_of M q z = h.0 ∙ sym (face_of-step M M_simple p' q d) in (
           on,
-          h.1 ∙ (twins p' q d ∙ turns q p' back (λ c. elim c [
+          h.1 ∙ (twins p' q d ∙ turns q p' (M_simple.both_ways p' q d) (λ c. elim c [
             | inl at ↦ elim at.1 [
               | inl q' ↦ ne (kept-living lists alive simple s t u x has has_x live (on ∙ (ap (λ i. face_of M i z) at.0 ∙ ap (face_of M u) q')) ∙ at_a.2)
               | inr q' ↦ not_outer s t a has live (omega arith) (on ∙ (ap (λ i. face_of M i z) at.0 ∙ ap (face_of M u) q'))

@@ -106,16 +106,13 @@ module _ (lists : Lists) (alive : ℕ → Bool) (w : ℕ → ℕ) (r face a h : 
 
   meeting : (many : ℕ) × IsMeeting many
   meeting =
-      let n = reaches.0 in
-      elim (first_or_none Meets (suc n) (λ t l. cases_Meets t)) [
+      elim (first_or_none Meets (suc reaches.0) (λ t l. cases_Meets t)) [
         | inl found ↦ (found.0, record { some_step = found.2.0; place = found.2.1; on = found.2.2; vertex = found.2.3; before = found.3 })
         | inr none ↦
-            absurd (elim (cases_eq n 0) [
+            absurd (elim (cases_eq reaches.0 0) [
               | inl e ↦
-                  let same : w a ≡ w b = sym walk_first ∙ (ap walk (sym e) ∙ reaches.1) in
-                  let z : a ≡ b = contour.distinct a b (omega arith) (omega arith) same in
-                  omega arith
-              | inr ne ↦ none n (omega arith) (omega arith, b, omega arith, sym reaches.1)
+                  omega (arith, contour.distinct a b (omega arith) (omega arith) (sym walk_first ∙ (ap walk (sym e) ∙ reaches.1)))
+              | inr ne ↦ none reaches.0 (omega arith) (omega arith, b, omega arith, sym reaches.1)
             ])
       ]
 
@@ -134,24 +131,19 @@ module _ (lists : Lists) (alive : ℕ → Bool) (w : ℕ → ℕ) (r face a h : 
           | inl q ↦ q
           | inr ne ↦
               let low = range.0 in
-              let high = range.1 in
-              let on_r = m.on in
-              let come = walk_dart t in
               let here : walk (suc t) ≡ w i = ap walk e ∙ sym m.vertex in
-              let come' : HasDart lists (walk t) (w i) = subst (HasDart lists (walk t)) here come in
+              let come' : HasDart lists (walk t) (w i) = subst (HasDart lists (walk t)) here (walk_dart t) in
               let face' : face_of lists (walk t) (w i) ≡ face = ap (face_of lists (walk t)) (sym here) ∙ walk_face t in
               let next = follows lists (w i) (walk t) in
               let next' = follows lists (w i) (w (suc i)) in
               let has_next = HasDart-follows lists (w i) (walk t) (simple.both_ways (walk t) (w i) come') in
-              let has_next' = HasDart-follows lists (w i) (w (suc i)) (contour.edge i on_r).dart in
-              let back_i = back i on_r in
+              let has_next' = HasDart-follows lists (w i) (w (suc i)) (contour.edge i m.on).dart in
+              let back_i = back i m.on in
               let alike : next ≡ next' = once (w i) next next' has_next has_next' (face_of-step lists simple (walk t) (w i) come' ∙ face') (face_of-step lists simple (w (suc i)) (w i) back_i ∙ edges i low (omega arith)) in
               let same : walk t ≡ w (suc i) = before_once lists simple (walk t) (w i) (w (suc i)) come' back_i alike in
               absurd (elim (cases_eq t 0) [
                 | inl z ↦
-                    let at : w a ≡ w (suc i) = sym walk_first ∙ (ap walk (sym z) ∙ same) in
-                    let q : a ≡ suc i = contour.distinct a (suc i) (omega arith) (omega arith) at in
-                    omega arith
+                    omega (arith, contour.distinct a (suc i) (omega arith) (omega arith) (sym walk_first ∙ (ap walk (sym z) ∙ same)))
                 | inr some ↦ m.before t (omega arith) (omega arith, suc i, omega arith, sym same)
               ])
         ]
@@ -166,9 +158,7 @@ module _ (lists : Lists) (alive : ℕ → Bool) (w : ℕ → ℕ) (r face a h : 
         let at : walk s ≡ w b = q ∙ (ap walk z ∙ last) in
         elim (cases_eq s 0) [
           | inl z' ↦
-              let same : w a ≡ w b = sym walk_first ∙ (ap walk (sym z') ∙ at) in
-              let p : a ≡ b = contour.distinct a b (omega arith) (omega arith) same in
-              omega arith
+              omega (arith, contour.distinct a b (omega arith) (omega arith) (sym walk_first ∙ (ap walk (sym z') ∙ at)))
           | inr some ↦ m.before s (omega arith) (omega arith, b, omega arith, sym at)
         ]
     no_repeat (suc n) s t e l q =
@@ -188,23 +178,18 @@ module _ (lists : Lists) (alive : ℕ → Bool) (w : ℕ → ℕ) (r face a h : 
           on,
           elim held.1 [
             | inl at ↦
-                let i = at.0 in
-                let low = at.1 in
-                let high = at.2 in
-                elim (cases_eq i a) [
+                elim (cases_eq at.0 a) [
                   | inl e ↦ inr (0, m.some_step, at.4 ∙ (ap w e ∙ sym walk_first), ap₂ (follows lists) (at.4 ∙ ap w e) (at.3 ∙ ap (λ j. w (suc j)) e) ∙ sym walk_second)
                   | inr ne ↦
-                      let j : ℕ = i - 1 in
-                      let e : i ≡ suc j = omega arith in
+                      let j : ℕ = at.0 - 1 in
+                      let e : at.0 ≡ suc j = omega arith in
                       let y_is : y ≡ w (suc j) = at.4 ∙ ap w e in
                       let z_is : z ≡ w j = once (w (suc j)) z (w j) (subst (λ v. HasDart lists v z) y_is has_z) (back j (omega arith)) (ap (λ v. face_of lists v z) (sym y_is) ∙ on) (edges j (omega arith) (omega arith)) in
                       inl (j, omega arith, omega arith, y_is, z_is)
                 ]
             | inr at ↦
-                let t = at.0 in
-                let l = at.1 in
-                elim (cases_eq (suc t) many) [
-                  | inr ne ↦ inr (suc t, omega arith, at.3, ap₂ (follows lists) at.3 at.2 ∙ sym (walk_turn t))
+                elim (cases_eq (suc at.0) many) [
+                  | inr ne ↦ inr (suc at.0, omega arith, at.3, ap₂ (follows lists) at.3 at.2 ∙ sym (walk_turn at.0))
                   | inl e ↦
                       let y_is : y ≡ w b = at.3 ∙ (ap walk e ∙ last) in
                       let z_is : z ≡ w (a + h) = once (w b) z (w (a + h)) (subst (λ v. HasDart lists v z) y_is has_z) (back (a + h) (omega arith)) (ap (λ v. face_of lists v z) (sym y_is) ∙ on) (edges (a + h) (omega arith) (omega arith)) in
@@ -242,7 +227,6 @@ stretch_is_ear_law lists alive w r i simple polyhedral contour l stretch =
     let P : ℕ → Type 0 = λ j. Passes lists face (w j) in
     let decided = λ (j : ℕ) (m : j < suc r). cases_Passes lists simple face (w j) in
     let has = simple.both_ways (w i) (w (suc i)) (contour.edge i (omega arith)).dart in
-    let at_suc : P (suc i) = (w i, has, refl) in
     let at_i : P i = (follows lists (w i) (w (suc i)), HasDart-follows lists (w i) (w (suc i)) (contour.edge i (omega arith)).dart, face_of-step lists simple (w (suc i)) (w i) has) in
     elim (first_or_none P (suc r) decided) [
       | inr none ↦ absurd (none i (omega arith) at_i)
@@ -252,11 +236,10 @@ stretch_is_ear_law lists alive w r i simple polyhedral contour l stretch =
             let a = low.0 in
             let b' = high.0 in
             let b_r = high.1 in
-            let above : suc i ≤ b' = high.3 (suc i) (omega arith) at_suc in
+            let above : suc i ≤ b' = high.3 (suc i) (omega arith) ((w i, has, refl)) in
             let below : (j : ℕ) → P j → a ≤ j = λ j p. elim (cases_lt j a) [ inl less ↦ absurd (low.3 j less p) | inr more ↦ more ] in
             let under : a ≤ i = below i at_i in
             let h : ℕ = b' - suc a in
-            let e : b' ≡ suc (a + h) = omega arith in
             let places : (j : ℕ) → j ≤ r → P j → (a ≤ j) × (j ≤ suc (a + h)) = λ j m p. (below j p, let t = high.3 j (omega arith) p in omega arith) in
             let edges : (j : ℕ) → a ≤ j → j ≤ a + h → face_of lists (w (suc j)) (w j) ≡ face = λ j m n. stretch a j b' m (omega arith) (omega arith) low.2 high.2 in
             let met = meeting lists alive w r face a h simple polyhedral contour (omega arith) edges places in

@@ -20,34 +20,11 @@ module _ (lists : Lists) (w : ℕ → ℕ) (r face a b : ℕ) (walk : ℕ → �
 
   pub spliced-mid : (t : ℕ) → t ≤ many → spliced w a b walk many (a + t) ≡ walk t
   unfolding spliced
-  spliced-mid t l =
-      elim (cases_eq t 0) [
-        | inl e ↦ let z : a + t ≡ a = omega arith in rw z (spliced-low a (omega arith) ∙ (sym ear.first ∙ ap walk (sym e)))
-        | inr ne ↦ let z : a + t - a ≡ t = omega arith in let far : a < a + t = omega arith in let here : a + t ≤ a + many = omega arith in inside (a + t) t far here z
-      ]
-    where
-      inside : (i t : ℕ) → a < i → i ≤ a + many → i - a ≡ t → spliced w a b walk many i ≡ walk t
-      inside i t far here z = rest ∙ ap walk z
-        where
-          rest : spliced w a b walk many i ≡ walk (i - a)
-          rest = grind (arith, nat_tests)
+  spliced-mid t l = grind (arith, cases_eq, spliced-low, spliced, nat_tests)
 
   pub spliced-high : (q : ℕ) → spliced w a b walk many (a + many + q) ≡ w (b + q)
   unfolding spliced
-  spliced-high q =
-      elim (cases_eq q 0) [
-        | inl e ↦
-            let z : a + many + q ≡ a + many = omega arith in
-            let z' : b ≡ b + q = omega arith in
-            ap (spliced w a b walk many) z ∙ (spliced-mid many (omega arith) ∙ (ear.last ∙ ap w z'))
-        | inr ne ↦ behind (a + many + q) (b + q) (omega arith) (omega arith)
-      ]
-    where
-      behind : (i n : ℕ) → a + many < i → i + b - (a + many) ≡ n → spliced w a b walk many i ≡ w n
-      behind i n far z = rest ∙ ap w z
-        where
-          rest : spliced w a b walk many i ≡ w (i + b - (a + many))
-          rest = grind (arith, nat_tests)
+  spliced-high q = grind (arith, cases_eq, spliced, spliced-mid, nat_tests)
 
 module _ (lists : Lists) (alive : ℕ → Bool) (w : ℕ → ℕ) (r face a b : ℕ) (walk : ℕ → ℕ) (many : ℕ) (simple : IsSimpleMap lists) (polyhedral : IsPolyhedral lists) (contour : IsContour lists alive w r) (ear : IsEar lists w r face a b walk many) (inner : face ≢ face_of lists (w 0) (w r)) where
   abbrev pub alive' : ℕ → Bool
@@ -70,28 +47,19 @@ module _ (lists : Lists) (alive : ℕ → Bool) (w : ℕ → ℕ) (r face a b : 
 
   -- a dart of the rim stays one if the face inside is another one
   rim_stays : (x y : ℕ) → IsRim lists alive x y → face_of lists y x ≢ face → IsRim lists alive' x y
-  rim_stays x y rim ne =
-      record {
-        dart = rim.dart;
-        outside = and_left (alive (face_of lists x y)) (not (eqb (face_of lists x y) face)) rim.outside;
-        inside = kept_but-new alive face (face_of lists y x) rim.inside ne;
-      }
+  rim_stays x y rim ne = grind (arith, and_left, face_of, not, eqb, kept_but-new)
 
   old_rim : (i : ℕ) → i ≤ r → (i < a) ⊎ (b ≤ i) → IsRim lists alive' (w i) (w (suc i))
   old_rim i l side =
       let rim = contour.edge i l in
       rim_stays (w i) (w (suc i)) rim (λ e.
-      let some_edge = ear.some_edge in
       let back = simple.both_ways (w i) (w (suc i)) rim.dart in
       let at : Passes lists face (w i) = (follows lists (w i) (w (suc i)), HasDart-follows lists (w i) (w (suc i)) rim.dart, face_of-step lists simple (w (suc i)) (w i) back ∙ e) in
       elim (cases_eq i r) [
         | inl q ↦ inner (sym e ∙ ap₂ (face_of lists) (ap (λ t. w (suc t)) q ∙ contour.round) (ap w q))
         | inr nq ↦
-            let one = ear.places i l at in
             let two = ear.places (suc i) (omega arith) (w i, back, e) in
-            let p = one.0 in
-            let q = two.1 in
-            elim side [ inl s ↦ omega arith | inr s ↦ omega arith ]
+            elim side [ inl s ↦ omega (arith, ear.places i l at) | inr s ↦ omega arith ]
       ])
 
   -- the walk is of the rim
@@ -110,8 +78,6 @@ module _ (lists : Lists) (alive : ℕ → Bool) (w : ℕ → ℕ) (r face a b : 
               let at = contour.only (walk (suc t)) (walk t) (record { dart = back; outside = dead; inside = ap alive dart.1 ∙ living }) in
               let i = at.0 in
               let i_r = at.1 in
-              let some_edge = ear.some_edge in
-              let within = ear.within in
               let t_0 : t ≡ 0 = elim (cases_eq t 0) [
                 | inl e ↦ e
                 | inr some ↦ elim (cases_eq i r) [
@@ -122,14 +88,13 @@ module _ (lists : Lists) (alive : ℕ → Bool) (w : ℕ → ℕ) (r face a b : 
               let t_last : suc t ≡ many = elim (cases_eq (suc t) many) [ inl e ↦ e | inr more ↦ absurd (ear.inside (suc t) i (omega arith) (omega arith) i_r (sym at.2)) ] in
               let first : walk t ≡ w a = ap walk t_0 ∙ ear.first in
               let last : walk (suc t) ≡ w b = ap walk t_last ∙ ear.last in
-              let i_b : i ≡ b = contour.distinct i b i_r within (at.2 ∙ last) in
+              let i_b : i ≡ b = contour.distinct i b i_r ear.within (at.2 ∙ last) in
               absurd (elim (cases_eq i r) [
                 | inl q ↦
                     let a_0 : a ≡ 0 = contour.distinct a 0 (omega arith) (omega arith) (sym first ∙ (sym at.3 ∙ (ap (λ j. w (suc j)) q ∙ contour.round))) in
                     inner (sym dart.1 ∙ ap₂ (face_of lists) (first ∙ ap w a_0) (last ∙ ap w (sym i_b ∙ q)))
                 | inr nq ↦
-                    let e : suc i ≡ a = contour.distinct (suc i) a (omega arith) (omega arith) (at.3 ∙ first) in
-                    omega arith
+                    omega (arith, contour.distinct (suc i) a (omega arith) (omega arith) (at.3 ∙ first))
               ])
         ]) ne;
       }
@@ -148,7 +113,6 @@ module _ (lists : Lists) (alive : ℕ → Bool) (w : ℕ → ℕ) (r face a b : 
 
   pub kind : (r' i : ℕ) → r' + b ≡ r + a + many → i ≤ r' → ((n : ℕ) × IsOld i n) ⊎ ((t : ℕ) × IsNew i t)
   kind r' i e l =
-      let some_edge = ear.some_edge in
       let within = ear.within in
       elim (cases_lt a i) [
         | inr at ↦ inl (i, record { within = omega arith; vertex = low i at; place = inl (at, refl) })
@@ -166,32 +130,23 @@ module _ (lists : Lists) (alive : ℕ → Bool) (w : ℕ → ℕ) (r face a b : 
 
   new_distinct : (r' i j : ℕ) → r' + b ≡ r + a + many → i ≤ r' → j ≤ r' → w' i ≡ w' j → i ≡ j
   new_distinct r' i j e l m same =
-      let some_edge = ear.some_edge in
       elim (kind r' i e l) [
         | inl old ↦ elim (kind r' j e m) [
           | inl old' ↦
               let q : old.0 ≡ old'.0 = contour.distinct old.0 old'.0 old.1.within old'.1.within (sym old.1.vertex ∙ (same ∙ old'.1.vertex)) in
-              elim old.1.place [
-                | inl p ↦ (let p0 = p.0 in let p1 = p.1 in elim old'.1.place [ inl p' ↦ (let p0' = p'.0 in let p1' = p'.1 in omega arith) | inr p' ↦ (let p0' = p'.0 in omega arith) ])
-                | inr p ↦ (let p0 = p.0 in let p1 = p.1 in elim old'.1.place [ inl p' ↦ (let p0' = p'.0 in omega arith) | inr p' ↦ (let p0' = p'.0 in let p1' = p'.1 in omega arith) ])
-              ]
+              grind arith
           | inr new' ↦ absurd (ear.inside new'.0 old.0 new'.1.after new'.1.before old.1.within (sym new'.1.vertex ∙ (sym same ∙ old.1.vertex)))
         ]
         | inr new ↦ elim (kind r' j e m) [
           | inl old' ↦ absurd (ear.inside new.0 old'.0 new.1.after new.1.before old'.1.within (sym new.1.vertex ∙ (same ∙ old'.1.vertex)))
           | inr new' ↦
-              let b1 = new.1.before in
-              let b2 = new'.1.before in
-              let q : new.0 ≡ new'.0 = ear.distinct new.0 new'.0 (omega arith) (omega arith) (sym new.1.vertex ∙ (same ∙ new'.1.vertex)) in
+              let q : new.0 ≡ new'.0 = ear.distinct new.0 new'.0 (omega (arith, new.1.before)) (omega arith) (sym new.1.vertex ∙ (same ∙ new'.1.vertex)) in
               new.1.place ∙ (ap (λ t. a + t) q ∙ sym new'.1.place)
         ]
       ]
 
   new_edge : (r' i : ℕ) → r' + b ≡ r + a + many → i ≤ r' → IsRim lists alive' (w' i) (w' (suc i))
   new_edge r' i e l =
-      let some_edge = ear.some_edge in
-      let within = ear.within in
-      let Rim = λ (x y : ℕ). IsRim lists alive' x y in
       elim (cases_lt i a) [
         | inl before ↦ rw (low i (omega arith), low (suc i) (omega arith)) (old_rim i (omega arith) (inl before))
         | inr far ↦ elim (cases_lt i (a + many)) [
@@ -214,14 +169,11 @@ module _ (lists : Lists) (alive : ℕ → Bool) (w : ℕ → ℕ) (r face a b : 
 
   new_only : (r' x y : ℕ) → r' + b ≡ r + a + many → IsRim lists alive' x y → (i : ℕ) × (i ≤ r') × (w' i ≡ x) × (w' (suc i) ≡ y)
   new_only r' x y e rim =
-      let some_edge = ear.some_edge in
-      let within = ear.within in
       let inside = kept_but-old alive face (face_of lists y x) rim.inside in
       elim (and_cases (alive (face_of lists x y)) (not (eqb (face_of lists x y) face)) rim.outside) [
         | inl dead ↦
             let at = contour.only x y (record { dart = rim.dart; outside = dead; inside = inside.0 }) in
             let i = at.0 in
-            let i_r = at.1 in
             elim (cases_lt i a) [
               | inl before ↦ (i, omega arith, low i (omega arith) ∙ at.2, low (suc i) (omega arith) ∙ at.3)
               | inr far ↦ elim (cases_lt i b) [
@@ -235,24 +187,17 @@ module _ (lists : Lists) (alive : ℕ → Bool) (w : ℕ → ℕ) (r face a b : 
               ]
             ]
         | inr own ↦
-            let on : face_of lists x y ≡ face = eqb-true (face_of lists x y) face (not-false (eqb (face_of lists x y) face) own) in
-            elim (ear.only x y rim.dart on) [
+            elim (ear.only x y rim.dart (eqb-true (face_of lists x y) face (not-false (eqb (face_of lists x y) face) own))) [
               | inl at ↦
-                  let i = at.0 in
-                  let high = at.2 in
-                  absurd (true≢false (sym inside.0 ∙ (ap alive (ap₂ (face_of lists) at.4 at.3) ∙ (contour.edge i (omega arith)).outside)))
+                  absurd (true≢false (sym inside.0 ∙ (ap alive (ap₂ (face_of lists) at.4 at.3) ∙ (contour.edge at.0 (omega arith)).outside)))
               | inr at ↦
-                  let t = at.0 in
-                  let l = at.1 in
-                  let z : suc (a + t) ≡ a + suc t = omega arith in
-                  (a + t, omega arith, mid t (omega arith) ∙ sym at.2, ap w' z ∙ (mid (suc t) (omega arith) ∙ sym at.3))
+                  let z : suc (a + at.0) ≡ a + suc at.0 = omega arith in
+                  (a + at.0, omega arith, mid at.0 (omega arith) ∙ sym at.2, ap w' z ∙ (mid (suc at.0) (omega arith) ∙ sym at.3))
             ]
       ]
 
   pub contour_after : (r' : ℕ) → r' + b ≡ r + a + many → IsContour lists alive' w' r'
   contour_after r' e =
-      let some_edge = ear.some_edge in
-      let within = ear.within in
       let q : ℕ = suc r - b in
       let z : suc r' ≡ a + many + q = omega arith in
       let z' : b + q ≡ suc r = omega arith in

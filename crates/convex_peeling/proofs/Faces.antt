@@ -47,11 +47,7 @@ first_or_none P (suc n) h =
     ]
 
 pub cases_both : (P Q : Type 0) → P ⊎ (¬ P) → Q ⊎ (¬ Q) → (P × Q) ⊎ (¬ (P × Q))
-cases_both P Q p q =
-    elim p [
-      | inr n ↦ inr (λ h. n h.0)
-      | inl y ↦ elim q [ inl z ↦ inl (y, z) | inr n ↦ inr (λ h. n h.1) ]
-    ]
+cases_both P Q p q = grind arith
 
 module _ (lists : Lists) (simple : IsSimpleMap lists) where
   -- the face goes on along the next dart
@@ -60,11 +56,10 @@ module _ (lists : Lists) (simple : IsSimpleMap lists) where
       let images = face_images lists in
       let i = dart_number lists (x, y) in
       let l = dart_number-lt lists x y has in
-      let p = IsPermutationOfBelow-face_images lists simple in
       let n = length-face_images lists in
       let at : image images i ≡ dart_number lists (y, follows lists y x) =
       get_or-face_images lists i i (0, 0) l ∙ ap (λ d. dart_number lists (face_step lists d)) (get_or-dart_number lists x y (0, 0) has) in
-      sym (orbits-step images p.within i (omega arith) ∙ ap (label (face_classes lists)) at)
+      sym (orbits-step images (IsPermutationOfBelow-face_images lists simple).within i (omega arith) ∙ ap (label (face_classes lists)) at)
 
   -- the dart after so many steps
   unfoldable pub stepped : Dart → ℕ → Dart

@@ -154,14 +154,12 @@ module _ (lists : Lists) (s d : ℕ) (simple : IsSimpleMap lists) (polyhedral : 
         let z = follows lists y x in
         let on : face_of lists y z ≡ H = face_of-step lists simple x y has ∙ held.0 in
         let has_z = HasDart-follows lists y x (simple.both_ways x y has) in
-        let at = held.1 in
-        let i = at.0 in
-        let l = at.1 in (
+        let l = held.1.1 in (
           on,
-          elim (cases_eq i r) [
-            | inr ne ↦ (suc i, omega arith, at.3, walk_turn i ∙ ap₂ (follows lists) at.3 at.2)
+          elim (cases_eq held.1.0 r) [
+            | inr ne ↦ (suc held.1.0, omega arith, held.1.3, walk_turn held.1.0 ∙ ap₂ (follows lists) held.1.3 held.1.2)
             | inl e ↦
-                let y_is : walk 0 ≡ y = sym round ∙ (ap (λ n. walk (suc n)) (sym e) ∙ at.3) in
+                let y_is : walk 0 ≡ y = sym round ∙ (ap (λ n. walk (suc n)) (sym e) ∙ held.1.3) in
                 (0, omega arith, y_is, once y (walk 1) z (subst (λ v. HasDart lists v (walk 1)) y_is (walk_dart 0)) has_z (ap (λ v. face_of lists v (walk 1)) (sym y_is) ∙ walk_face 0) on)
           ],
         )
@@ -206,8 +204,7 @@ module _ (lists : Lists) (s d : ℕ) (simple : IsSimpleMap lists) (polyhedral : 
     two_places face a b live l m x y =
         let apart : w a ≢ w b = λ q. (let z : a ≡ b = contour.distinct a b (omega arith) (omega arith) q in absurd (omega arith)) in
         let one = contour.edge a (omega arith) in
-        let two = contour.edge b m in
-        let shared = polyhedral.share (w a) (w b) x.0 y.0 (w (suc a)) (w (suc b)) apart x.1 y.1 one.dart two.dart
+        let shared = polyhedral.share (w a) (w b) x.0 y.0 (w (suc a)) (w (suc b)) apart x.1 y.1 one.dart (contour.edge b m).dart
         (SameFace-labels lists (w a) x.0 (w b) y.0 (x.2 ∙ sym y.2)) (SameFace-labels lists (w a) (w (suc a)) (w b) (w (suc b)) (rim_face a (omega arith) ∙ sym (rim_face b m)))
         (λ q. true≢false (sym live ∙ (ap alive (sym x.2 ∙ labels-SameFace lists (w a) x.0 (w a) (w (suc a)) q) ∙ one.outside))) in
         elim shared.1 [
@@ -219,31 +216,12 @@ module _ (lists : Lists) (s d : ℕ) (simple : IsSimpleMap lists) (polyhedral : 
                 inside = ap alive on ∙ live;
               }) in
               inr (at.0, at.1, on)
-          | inr t ↦
-              let on : face_of lists (w b) (w a) ≡ face = sym (labels-SameFace lists (w a) x.0 (w b) (w a) t.0) ∙ x.2 in
-              let at = rim_at lists alive simple w r contour a (omega arith) (w b) (record {
-                dart = shared.0;
-                outside = ap alive (sym (labels-SameFace lists (w a) (w (suc a)) (w a) (w b) t.1)) ∙ one.outside;
-                inside = ap alive on ∙ live;
-              }) in
-              let q : b ≡ suc a = contour.distinct b (suc a) m (omega arith) at in
-              inl (q, ap (λ n. face_of lists (w n) (w a)) (sym q) ∙ on)
+          | inr t ↦ grind (arith, face_of, labels-SameFace, rim_at, alive, contour, distinct)
         ]
 
     -- there are three places at least
     three_places : 2 ≤ r
-    three_places =
-        elim (cases_lt 1 r) [
-          | inl l ↦ omega arith
-          | inr l ↦
-              let r_1 : (r ≡ 0) ⊎ (r ≡ 1) = elim (cases_eq r 0) [ inl e ↦ inl e | inr ne ↦ inr (omega arith) ] in
-              absurd (elim r_1 [
-                | inl e ↦ simple.no_loop s d base (sym (sym f.last ∙ (ap w e ∙ f.first)))
-                | inr e ↦
-                    let last : w 1 ≡ s = ap w (sym e) ∙ f.last in
-                    polyhedral.apart s d base (SameFace-labels lists s d d s (sym (ap₂ (face_of lists) (sym f.first) (sym last) ∙ rim_face 0 (omega arith))))
-              ])
-        ]
+    three_places = grind (arith, cases_lt, cases_eq, first, SameFace-labels, ap₂, face_of, rim_face)
 
     -- the face inside of the base does not pass the vertex before it
     base_apart : (i : ℕ) → suc (suc i) ≡ r → ¬ Passes lists (face_of lists (w 0) (w r)) (w (suc i))
@@ -256,7 +234,6 @@ module _ (lists : Lists) (s d : ℕ) (simple : IsSimpleMap lists) (polyhedral : 
           | inl near ↦ elim (two_places face (suc i) r live (omega arith) (omega arith) p ends.1) [
             | inr far ↦ (let z = far.0 in omega arith)
             | inl near' ↦
-                let z = near.0 in
                 let i_0 : i ≡ 0 = omega arith in
                 let one : face_of lists (w (suc i)) (w i) ≡ face = ap (λ n. face_of lists (w (suc n)) (w n)) i_0 ∙ near.1 in
                 none_open (w (suc i)) (between_open lists alive w r simple contour polyhedral three i (omega arith) (one ∙ sym near'.1))
@@ -278,11 +255,10 @@ module _ (lists : Lists) (s d : ℕ) (simple : IsSimpleMap lists) (polyhedral : 
           ];
           right = λ l. absurd (omega arith);
           left = λ h q same.
-              let live = (contour.edge h (omega arith)).inside in
               let face = face_of lists (w (suc h)) (w h) in
               let at_h = (edge_passes lists alive w r simple contour h (omega arith)).0 in
               let at_j : Passes lists face (w j) = subst (λ t. Passes lists t (w j)) (sym same) (edge_passes lists alive w r simple contour i (omega arith)).1 in
-              elim (two_places face h j live (omega arith) (omega arith) at_h at_j) [
+              elim (two_places face h j ((contour.edge h (omega arith)).inside) (omega arith) (omega arith) at_h at_j) [
                 | inl near ↦ (let z = near.0 in omega arith)
                 | inr far ↦ (let z = far.1 in omega arith)
               ];
@@ -291,21 +267,17 @@ module _ (lists : Lists) (s d : ℕ) (simple : IsSimpleMap lists) (polyhedral : 
         let o = went.0 in
         let off = went.1 in
         let rest = went.2 in
-        let first_is = went.3 in
-        let one_is = went.4 in
-        let last_rim = contour.edge j (omega arith) in
-        let last_dart : HasDart lists (w j) (w r) = subst (λ n. HasDart lists (w j) (w n)) e last_rim.dart in
+        let last_dart : HasDart lists (w j) (w r) = subst (λ n. HasDart lists (w j) (w n)) e (contour.edge j (omega arith)).dart in
         let last_face : face_of lists (w j) (w r) ≡ H = ap (λ n. face_of lists (w j) (w n)) (sym e) ∙ rim_face j (omega arith) in
-        let base_face : face_of lists (w r) (w 0) ≡ H = ap₂ (face_of lists) f.last f.first in
         let end = ends_as_before lists alive w r o off in
         let start = begins_as_before lists alive w r o off in
         let dead = goer_dead lists alive w r o off contour rest j (w r) (omega arith) (omega arith) last_dart (stays_dead lists alive w r o off (face_of lists (w j) (w r)) (ap alive last_face ∙ alive-taken)) in (
           o,
           off,
           rest,
-          begun_at lists o.alive o.contour o.places (w j) (w r) (w 0) end start last_dart (last_face ∙ sym base_face) dead,
+          begun_at lists o.alive o.contour o.places (w j) (w r) (w 0) end start last_dart (last_face ∙ sym (ap₂ (face_of lists) f.last f.first)) dead,
           omega arith,
-          one_is,
+          went.4,
         )
 
 -- In a polyhedral map whose vertices have three neighbours or more the face of a base may be taken off, and then the vertex before the base on it with all its faces; so the removals have begun.

@@ -16,13 +16,7 @@ module _ (lists : Lists) (alive : ℕ → Bool) (simple : IsSimpleMap lists) whe
   keeps v u = alive (face_of lists v u) || alive (face_of lists u v)
 
   keeps-turned : (v u : ℕ) → keeps v u ≡ keeps u v
-  keeps-turned v u = turned (alive (face_of lists v u)) (alive (face_of lists u v))
-    where
-      turned : (a b : Bool) → (a || b) ≡ (b || a)
-      turned true true = refl
-      turned true false = refl
-      turned false true = refl
-      turned false false = refl
+  keeps-turned v u = grind (arith, face_of)
 
   abbrev pub kept : Lists
   kept = with_kept keeps lists
@@ -74,15 +68,7 @@ module _ (lists : Lists) (alive : ℕ → Bool) (simple : IsSimpleMap lists) whe
 
   -- what is kept, and not on a face that is left, is of the rim
   pub IsRim-kept : (x y : ℕ) → HasDart kept x y → alive (face_of lists x y) ≡ false → IsRim lists alive x y
-  IsRim-kept x y has f =
-      record {
-        dart = kept_old x y has;
-        outside = f;
-        inside = elim (or_cases (alive (face_of lists x y)) (alive (face_of lists y x)) ((kept_map.darts x y).0 has).1) [
-          | inl t ↦ absurd (true≢false (sym t ∙ f))
-          | inr t ↦ t
-        ];
-      }
+  IsRim-kept x y has f = grind (arith, kept_old, or_cases, face_of, kept_map, true≢false)
 
   pub HasDart-rim : (x y : ℕ) → IsRim lists alive x y → HasDart kept x y
   HasDart-rim x y rim = kept_behind x y rim.dart rim.inside
@@ -97,14 +83,12 @@ module _ (lists : Lists) (alive : ℕ → Bool) (simple : IsSimpleMap lists) whe
   pub rim_step : (x y : ℕ) → IsRim lists alive x y → IsRim lists alive y (follows kept y x)
   rim_step x y rim =
       let z = follows kept y x in
-      let back = kept_simple.both_ways x y (HasDart-rim x y rim) in
-      let has = HasDart-follows kept y x back in
+      let has = HasDart-follows kept y x (kept_simple.both_ways x y (HasDart-rim x y rim)) in
       IsRim-kept y z has (elim (cases_Bool (alive (face_of lists y z))) [
         | inr f ↦ f
         | inl t ↦
             let p = dart_before y z (kept_old y z has) in
-            let same : face_of lists p.0 y ≡ face_of lists y z = sym (face_of-step lists simple p.0 y p.1) ∙ ap (face_of lists y) p.2 in
-            let t' : alive (face_of lists p.0 y) ≡ true = ap alive same ∙ t in
+            let t' : alive (face_of lists p.0 y) ≡ true = ap alive (sym (face_of-step lists simple p.0 y p.1) ∙ ap (face_of lists y) p.2) ∙ t in
             let at = before_once kept kept_simple x y p.0 (HasDart-rim x y rim) (kept_living p.0 y p.1 t') (sym (follows_living p.0 y p.1 t' ∙ p.2)) in
             absurd (true≢false (sym t' ∙ (ap (λ q. alive (face_of lists q y)) (sym at) ∙ rim.outside)))
       ])
@@ -114,8 +98,7 @@ module _ (lists : Lists) (alive : ℕ → Bool) (simple : IsSimpleMap lists) whe
     pub rim_at : (i : ℕ) → i ≤ r → (y : ℕ) → IsRim lists alive (w i) y → y ≡ w (suc i)
     rim_at i l y rim =
         let o = contour.only (w i) y rim in
-        let e : o.0 ≡ i = contour.distinct o.0 i o.1 l o.2 in
-        sym o.3 ∙ ap (λ n. w (suc n)) e
+        sym o.3 ∙ ap (λ n. w (suc n)) (contour.distinct o.0 i o.1 l o.2)
 
     -- the outer face of the rest goes along the contour
     pub kept_turn : (i : ℕ) → i < r → follows kept (w (suc i)) (w i) ≡ w (suc (suc i))

@@ -73,8 +73,7 @@ module _ (lists : Lists) (simple : IsSimpleMap lists) (u v : ℕ) (u_in : u < le
                 joined = separated.joined;
                 apart = λ other j.
                     let w = linked_path lists adjacency (v ∷ []) s t other j in
-                    let end = walks_keep lists adjacency (Off (v ∷ [])) Coloured goes w.0 s t w.1 (s_u, s_v, at_s) in
-                    true≢false (sym end.2 ∙ at_t);
+                    true≢false (sym (walks_keep lists adjacency (Off (v ∷ [])) Coloured goes w.0 s t w.1 (s_u, s_v, at_s)).2 ∙ at_t);
               },
             )
             )
@@ -125,9 +124,8 @@ module _ (lists : Lists) (simple : IsSimpleMap lists) (plane : IsPlane lists) (u
       elim (cases_eq y u) [
         | inl e ↦
             let w = follows lists y x in
-            let has_w = subst (λ r. HasDart lists r w) e has_next in
             let on_w = subst (λ r. SameFace lists (u, a) (r, w)) e on_next in
-            let same = passed_once lists simple plane uncut u a w has_a has_w on_w in
+            let same = passed_once lists simple plane uncut u a w has_a (subst (λ r. HasDart lists r w) e has_next) on_w in
             shade-u side next e ∙ ap not (ap (colour_at side) (sym same) ∙ at_a)
         | inr y_u ↦
             elim (cases_eq x u) [
@@ -142,7 +140,6 @@ module _ (lists : Lists) (simple : IsSimpleMap lists) (plane : IsPlane lists) (u
       let a = follows lists u z in
       let has_a = HasDart-follows lists u z has in
       let z_v : z ≢ v = λ e. true≢false (sym at_z ∙ (ap (colour_at side) e ∙ (sym (colour-next side) ∙ (ap (λ y. colour_at side (follows lists u y)) (sym e) ∙ at_next)))) in
-      let side_z : side z ≡ true = sym (colour-other side z z_v) ∙ at_z in
       let off : (b : ℕ) → HasDart lists v b → SameFace lists (u, a) (v, b) → b ≢ u = λ b has_b on e.
       (let back = subst (HasDart lists v) e has_b in
       let on_u = subst (λ y. SameFace lists (u, a) (v, y)) e on in
@@ -159,13 +156,12 @@ module _ (lists : Lists) (simple : IsSimpleMap lists) (plane : IsPlane lists) (u
               | inr none ↦
                   let clear : (d : Dart) → HasDart lists d.0 d.1 → SameFace lists (u, a) d → d.0 ≢ v = λ d has_d on e.
                   (let at_v = subst (λ r. HasDart lists r d.1) e has_d in
-                  let on_v = subst (λ r. SameFace lists (u, a) (r, d.1)) e on in
-                  true≢false (sym on_v ∙ none d.1 at_v.1)) in
+                  true≢false (sym (subst (λ r. SameFace lists (u, a) (r, d.1)) e on) ∙ none d.1 at_v.1)) in
                   let back = simple.both_ways u z has in
                   let there = SameFace-turned lists simple (z, u) (u, a) (SameFace-step lists simple z u back) in
                   let start : shade side (u, a) ≡ true = shade-u side (u, a) refl ∙ ap not at_next in
                   let end = face_closed lists simple (shade side) (u, a) (z, u) has_a back (shade_goes side h a has_a at_next clear) there start in
-                  absurd (true≢false (sym end ∙ (shade-other side (z, u) (simple.no_loop u z has) ∙ ap not side_z)))
+                  absurd (true≢false (sym end ∙ (shade-other side (z, u) (simple.no_loop u z has) ∙ ap not (sym (colour-other side z z_v) ∙ at_z))))
             ]
       ] in
       (found.0, found.1, off found.0 found.1 found.2, found.2)
@@ -184,17 +180,16 @@ module _ (lists : Lists) (simple : IsSimpleMap lists) (plane : IsPlane lists) (u
       let us = list_of lists u in
       let found = side_of lists simple u v s t separated in
       let side = found.0 in
-      let h = found.1 in
       let other : ℕ → Bool = λ x. not (side x) in
-      let h' = IsSide-other lists u v side h in
-      let a = neighbour_of_side lists simple u v u_in (uncut v) s t separated side h found.2 found.3 in
+      let h' = IsSide-other lists u v side found.1 in
+      let a = neighbour_of_side lists simple u v u_in (uncut v) s t separated side found.1 found.2 found.3 in
       let b = neighbour_of_side lists simple u v u_in (uncut v) t s (separated_turned lists (IsAdjacency-simple lists simple) (u ∷ v ∷ []) s t separated) other h' (ap not found.3) (ap not found.2) in
       let distinct = simple.no_repeat u u_in in
       let at_a : colour_at side a.0 ≡ true = colour-other side a.0 a.2 ∙ a.3 in
       let at_b : colour_at side b.0 ≡ false = colour-other side b.0 b.2 ∙ not-true (side b.0) b.3 in
       let one = ring_changes (colour_at side) us a.0 b.0 distinct a.1.1 b.1.1 at_a at_b in
       let two = ring_changes (colour_at other) us b.0 a.0 distinct b.1.1 a.1.1 (colour-not side b.0 ∙ ap not at_b) (colour-not side a.0 ∙ ap not at_a) in
-      let first = turns_to side h one.0 (u_in, one.1) one.2 one.3 in
+      let first = turns_to side found.1 one.0 (u_in, one.1) one.2 one.3 in
       let second = turns_to other h' two.0 (u_in, two.1) two.2 two.3 in
       let p = follows lists u one.0 in
       let q = follows lists u two.0 in (

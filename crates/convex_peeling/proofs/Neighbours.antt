@@ -27,14 +27,7 @@ abbrev IsOneOf : ℕ → ℕ → ℕ → ℕ → Type 0
 IsOneOf x y z w = (w ≡ x) ⊎ ((w ≡ y) ⊎ (w ≡ z))
 
 cases_one_of : (x y z w : ℕ) → ((w ≢ x) × (w ≢ y) × (w ≢ z)) ⊎ IsOneOf x y z w
-cases_one_of x y z w =
-    elim (cases_eq w x) [
-      | inl e ↦ inr (inl e)
-      | inr nx ↦ elim (cases_eq w y) [
-        | inl e ↦ inr (inr (inl e))
-        | inr ny ↦ elim (cases_eq w z) [ inl e ↦ inr (inr (inr e)) | inr nz ↦ inl (nx, ny, nz) ]
-      ]
-    ]
+cases_one_of x y z w = grind (arith, cases_eq)
 
 four_of_three : (x y z : ℕ) → IsOneOf x y z 0 → IsOneOf x y z 1 → IsOneOf x y z 2 → IsOneOf x y z 3 → ⊥
 four_of_three x y z a b c d = grind arith
@@ -87,7 +80,6 @@ module _ (lists : Lists) (simple : IsSimpleMap lists) (one : component_count lis
 -- Each vertex of a three-connected map has three neighbours at least.
 pub three_neighbours : (lists : Lists) (v : ℕ) → IsThreeConnected lists → v < length lists → 3 ≤ length (list_of lists v)
 three_neighbours lists v three v_in =
-    let some = three.some in
     let simple = three.simple in
     let us = list_of lists v in
     let a = get_or us 0 0 in
@@ -106,13 +98,11 @@ three_neighbours lists v three v_in =
                   | inr none ↦ let c = another v v v in let l = c.1 in (c.0, omega arith, c.2, λ z d. absurd (let i = d.1.1 in omega arith))
                 ] in
                 let w = another v x.0 x.0 in
-                let l = w.1 in
                 absurd (three.uncut x.0 (v, w.0, alone (x.0 ∷ []) v w.0 v_in (omega arith) (λ e. w.2 (sym e)) (off_one x.0 v (λ e. x.2 (sym e))) (off_one x.0 w.0 w.3) (λ z d. subst (Contains (x.0 ∷ [])) (sym (x.3 z d)) (Contains-here x.0 []))))
             | inr two ↦
                 let has_a : HasDart lists v a = (v_in, Contains-get_or us 0 0 (omega arith)) in
                 let has_b : HasDart lists v b = (v_in, Contains-get_or us 1 0 (omega arith)) in
                 let w = another v a b in
-                let l = w.1 in
                 let both = AreBoth-pair a b in
                 let distinct = simple.no_repeat v v_in in
                 let a_b : a ≢ b = λ e. absurd (omega (arith, sym (place_of-get_or us 0 0 distinct (omega arith)) ∙ (ap (λ z. place_of z us) e ∙ place_of-get_or us 1 0 distinct (omega arith)))) in
@@ -129,15 +119,8 @@ three_neighbours lists v three v_in =
   where
     at_first : (us : List ℕ) (z : ℕ) → Contains us z → length us < 2 → z ≡ get_or us 0 0
     at_first us z c l =
-        let i = c.1 in
         let e : c.0 ≡ 0 = omega arith in
-        sym c.2 ∙ (get_or_default us c.0 z 0 i ∙ ap (λ n. get_or us n 0) e)
+        sym c.2 ∙ (get_or_default us c.0 z 0 c.1 ∙ ap (λ n. get_or us n 0) e)
 
     at_either : (us : List ℕ) (z : ℕ) → Contains us z → length us < 3 → (both : List ℕ) → Contains both (get_or us 0 0) → Contains both (get_or us 1 0) → Contains both z
-    at_either us z c l both first second =
-        let i = c.1 in
-        let at : z ≡ get_or us c.0 0 = sym c.2 ∙ get_or_default us c.0 z 0 i in
-        elim (cases_eq c.0 0) [
-          | inl e ↦ subst (Contains both) (sym (at ∙ ap (λ n. get_or us n 0) e)) first
-          | inr ne ↦ let e : c.0 ≡ 1 = omega arith in subst (Contains both) (sym (at ∙ ap (λ n. get_or us n 0) e)) second
-        ]
+    at_either us z c l both first second = grind (arith, get_or, get_or_default, cases_eq, Contains)

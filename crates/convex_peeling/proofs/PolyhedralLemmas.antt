@@ -48,14 +48,7 @@ cases_IsEdgeBetween lists d e u v =
       | inr past ↦ inr (λ h. let l = h.0.0 in omega arith)
       | inl u_in ↦ elim (cases_Contains (list_of lists u) v) [
         | inr none ↦ inr (λ h. none h.0.1)
-        | inl has ↦
-            elim (cases_both (SameFace lists d (u, v)) (SameFace lists e (v, u)) (cases_SameFace lists d (u, v)) (cases_SameFace lists e (v, u))) [
-              | inl one ↦ inl ((u_in, has), inl one)
-              | inr not_one ↦ elim (cases_both (SameFace lists d (v, u)) (SameFace lists e (u, v)) (cases_SameFace lists d (v, u)) (cases_SameFace lists e (u, v))) [
-                | inl other ↦ inl ((u_in, has), inr other)
-                | inr not_other ↦ inr (λ h. elim h.1 [ inl one ↦ not_one one | inr other ↦ not_other other ])
-              ]
-            ]
+        | inl has ↦ grind (arith, SameFace, cases_SameFace)
       ]
     ]
   where
@@ -101,9 +94,7 @@ edge_apart lists map some one x y has same =
     let second = SameFace-step lists simple x y has in
     let at_x : y ≡ follows lists x y = once x y (follows lists x y) map has (HasDart-follows lists x y has) (SameFace-chained lists simple (x, y) (y, x) (x, follows lists x y) same first) in
     let at_y : x ≡ follows lists y x = once y x (follows lists y x) map back (HasDart-follows lists y x back) (SameFace-chained lists simple (y, x) (x, y) (y, follows lists y x) (SameFace-turned lists simple (x, y) (y, x) same) second) in
-    let three = faces_have_three lists x y simple one some has in
-    let step : face_step lists (x, y) ≡ (y, x) = ap (λ z. (y, z)) (sym at_y) in
-    three.1 (ap (face_step lists) step ∙ ap (λ z. (x, z)) (sym at_x))
+    (faces_have_three lists x y simple one some has).1 (ap (face_step lists) (ap (λ z. (y, z)) (sym at_y)) ∙ ap (λ z. (x, z)) (sym at_x))
 
 polyhedral_of_unpaired : (lists : Lists) → IsPlaneUncut lists → 3 ≤ length lists → component_count lists ≡ 1 → ((u v : ℕ) → ¬ IsSeparatingPair lists u v) → IsPolyhedral lists
 polyhedral_of_unpaired lists map some one unpaired =
@@ -125,5 +116,4 @@ polyhedral_of_unpaired lists map some one unpaired =
 -- A three-connected map of genus zero is polyhedral.
 pub three_connected_is_polyhedral : (lists : Lists) → IsThreeConnected lists → IsPlane lists → IsPolyhedral lists
 three_connected_is_polyhedral lists three plane =
-    let some = three.some in
     polyhedral_of_unpaired lists (record { simple = three.simple; plane = plane; uncut = three.uncut }) (omega arith) three.connected three.unpaired

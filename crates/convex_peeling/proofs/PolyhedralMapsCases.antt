@@ -13,15 +13,7 @@ square = (1 ∷ 3 ∷ []) ∷ (2 ∷ 0 ∷ []) ∷ (3 ∷ 1 ∷ []) ∷ (0 ∷ 2
 -- the two faces of a square both pass opposite corners
 opposite : AreMetTwice square 0 2 1 3 3 1
 unfolding entry_after merge
-opposite =
-    record {
-      from_u = ((omega arith, (0, omega arith, refl)), (omega arith, (1, omega arith, refl)));
-      two = λ e. omega (arith, e);
-      from_v = ((omega arith, (0, omega arith, refl)), (omega arith, (1, omega arith, refl)));
-      others = ((λ e. omega (arith, e)), λ e. omega (arith, e));
-      one = refl;
-      other = refl;
-    }
+opposite = grind arith
 
 -- neighbouring corners are an edge between them
 neighbours : IsEdgeBetween square (0, 1) (0, 3) 0 1

@@ -30,8 +30,6 @@ module _ (lists : Lists) (alive : ℕ → Bool) (w : ℕ → ℕ) (r : ℕ) (o :
   -- the contour ends as before
   pub ends_as_before : o.contour o.places ≡ w r
   ends_as_before =
-      let a = gone_within in
-      let b = off.width in
       let q : ℕ = r - (o.first + o.vertices + 1) in
       let z : o.places ≡ o.last + q = omega arith in
       let z' : o.first + o.vertices + 1 + q ≡ r = omega arith in
@@ -43,8 +41,6 @@ module _ (lists : Lists) (alive : ℕ → Bool) (w : ℕ → ℕ) (r : ℕ) (o :
   -- no vertex that goes is left on the contour
   pub gone_from : IsContour lists alive w r → (q p : ℕ) → q < o.vertices → p ≤ o.places → o.contour p ≢ w (suc (o.first + q))
   gone_from contour q p l m e =
-      let a = gone_within in
-      let b = off.width in
       elim (cases_lt o.first p) [
         | inr low ↦ let z : p ≡ suc (o.first + q) = contour.distinct p (suc (o.first + q)) (omega arith) (omega arith) (sym (off.before p low) ∙ e) in omega arith
         | inl far ↦ elim (cases_lt p o.last) [
@@ -53,15 +49,10 @@ module _ (lists : Lists) (alive : ℕ → Bool) (w : ℕ → ℕ) (r : ℕ) (o :
               let s : ℕ = p - o.last in
               let z : p ≡ o.last + s = omega arith in
               let n : ℕ = o.first + o.vertices + 1 + s in
-              let at : n ≡ suc (o.first + q) = contour.distinct n (suc (o.first + q)) (omega arith) (omega arith) (sym (ap o.contour z ∙ off.behind s) ∙ e) in
-              omega arith
+              omega (arith, contour.distinct n (suc (o.first + q)) (omega arith) (omega arith) (sym (ap o.contour z ∙ off.behind s) ∙ e))
         ]
       ]
 
   -- once begun, the removals go on
   pub goes_on_begun : IsBegun lists alive w r → IsBegun lists o.alive o.contour o.places
-  goes_on_begun b =
-      let e = b.0 in
-      let z = sym ends_as_before in
-      let z' = sym begins_as_before in
-      (e, subst (HasDart lists e) z b.1, ap (face_of lists e) (sym z) ∙ (b.2 ∙ ap₂ (face_of lists) z z'), ap (λ t. o.alive (face_of lists t e)) (sym z) ∙ stays_dead (face_of lists (w r) e) b.3)
+  goes_on_begun b = grind (arith, ends_as_before, begins_as_before, HasDart, face_of, ap₂, stays_dead)

@@ -11,10 +11,7 @@ use Rattle.convex_peeling.proofs.Faces.{SameFace-labels, labels-SameFace, some_o
 use Rattle.convex_peeling.proofs.Kept.{rim_at}
 
 pub cases_is : (a b : Bool) → (a ≡ b) ⊎ (¬ (a ≡ b))
-cases_is true true = inl refl
-cases_is true false = inr (λ e. true≢false e)
-cases_is false true = inr (λ e. true≢false (sym e))
-cases_is false false = inl refl
+cases_is x0 x1 = grind (arith, true≢false)
 
 module _ (lists : Lists) (alive : ℕ → Bool) (simple : IsSimpleMap lists) where
   pub cases_IsOpen : (v : ℕ) → IsOpen lists alive v ⊎ (¬ IsOpen lists alive v)
@@ -33,17 +30,13 @@ module _ (lists : Lists) (alive : ℕ → Bool) (simple : IsSimpleMap lists) whe
     pub goes_on : (i : ℕ) → i < r → ¬ IsOpen lists alive (w (suc i)) → follows lists (w (suc i)) (w i) ≡ w (suc (suc i))
     goes_on i l closed =
         let rim = contour.edge i (omega arith) in
-        let back = simple.both_ways (w i) (w (suc i)) rim.dart in
         let z = follows lists (w (suc i)) (w i) in
-        let has : HasDart lists (w (suc i)) z = HasDart-follows lists (w (suc i)) (w i) back in
+        let has : HasDart lists (w (suc i)) z = HasDart-follows lists (w (suc i)) (w i) (simple.both_ways (w i) (w (suc i)) rim.dart) in
         let dead : alive (face_of lists (w (suc i)) z) ≡ false = ap alive (face_of-step lists simple (w i) (w (suc i)) rim.dart) ∙ rim.outside in
         rim_at lists alive simple w r contour (suc i) (omega arith) z (record {
           dart = has;
           outside = dead;
-          inside = elim (cases_Bool (alive (face_of lists z (w (suc i))))) [
-            | inl t ↦ t
-            | inr f ↦ absurd (closed (z, has, dead, f))
-          ];
+          inside = grind (arith, cases_Bool, face_of);
         })
 
     -- and so it does along a stretch of such vertices
@@ -51,9 +44,8 @@ module _ (lists : Lists) (alive : ℕ → Bool) (simple : IsSimpleMap lists) whe
     goes_along a n l closed zero m = let z : a + 0 ≡ a = omega arith in ap (λ t. face_of lists (w t) (w (suc t))) z
     goes_along a n l closed (suc i) m =
         let s : a + suc i ≡ suc (a + i) = omega arith in
-        let turn = goes_on (a + i) (omega arith) (closed (suc (a + i)) (omega arith) (omega arith)) in
         ap (λ t. face_of lists (w t) (w (suc t))) s
-        ∙ (ap (face_of lists (w (suc (a + i)))) (sym turn)
+        ∙ (ap (face_of lists (w (suc (a + i)))) (sym (goes_on (a + i) (omega arith) (closed (suc (a + i)) (omega arith) (omega arith))))
         ∙ (face_of-step lists simple (w (a + i)) (w (suc (a + i))) (contour.edge (a + i) (omega arith)).dart ∙ goes_along a n l closed i (omega arith)))
 
     -- the base alone leads back from a later place
@@ -62,8 +54,7 @@ module _ (lists : Lists) (alive : ℕ → Bool) (simple : IsSimpleMap lists) whe
         let e = rim_at lists alive simple w r contour b m (w a) rim in
         elim (cases_eq b r) [
           | inl q ↦
-              let z : w a ≡ w 0 = e ∙ (ap (λ t. w (suc t)) q ∙ contour.round) in
-              (contour.distinct a 0 (omega arith) (omega arith) z, q)
+              (contour.distinct a 0 (omega arith) (omega arith) (e ∙ (ap (λ t. w (suc t)) q ∙ contour.round)), q)
           | inr nq ↦ let z : a ≡ suc b = contour.distinct a (suc b) (omega arith) (omega arith) e in absurd (omega arith)
         ]
 
@@ -81,14 +72,10 @@ module _ (lists : Lists) (alive : ℕ → Bool) (simple : IsSimpleMap lists) whe
 -- In a polyhedral map, where a face does not have all edges of the contour between two of its places, an edge is taken off at some vertex strictly between.
 pub section_open_law : (lists : Lists) (alive : ℕ → Bool) (w : ℕ → ℕ) (r face a i b : ℕ) → IsSimpleMap lists → IsPolyhedral lists → IsContour lists alive w r → IsBegun lists alive w r → IsGap lists alive w r face a i b → (j : ℕ) × (a < j) × (j < b) × IsOpen lists alive (w j)
 section_open_law lists alive w r face a i b simple polyhedral contour begun gap =
-    let l = gap.low in
-    let l' = gap.high in
-    let m = gap.within in
     elim (some_or_none (λ j. (a < j) × IsOpen lists alive (w j)) b (λ j n. cases_both (a < j) (IsOpen lists alive (w j)) (cases_less a j) (cases_IsOpen lists alive simple (w j)))) [
       | inl found ↦ (found.0, found.2.0, found.1, found.2.1)
       | inr none ↦
-          let n : ℕ = b - a in
-          let along = goes_along lists alive simple w r contour a n (omega arith) (λ j p q o. none j (omega arith) (p, o)) in
+          let along = goes_along lists alive simple w r contour a (b - a) (omega arith) (λ j p q o. none j (omega arith) (p, o)) in
           let h : ℕ = b - suc a in
           let e : suc (a + h) ≡ b = omega arith in
           let H = face_of lists (w a) (w (suc a)) in
@@ -100,31 +87,28 @@ section_open_law lists alive w r face a i b simple polyhedral contour begun gap 
           let has_c : HasDart lists (w b) c = HasDart-follows lists (w b) (w (a + h)) (simple.both_ways (w (a + h)) (w b) last_dart) in
           let on_c : face_of lists (w b) c ≡ H = face_of-step lists simple (w (a + h)) (w b) last_dart ∙ last_face in
           let x = gap.first in
-          let y = gap.last in
           let apart : w a ≢ w b = λ q. (let z : a ≡ b = contour.distinct a b (omega arith) (omega arith) q in absurd (omega arith)) in
-          let shared = polyhedral.share (w a) (w b) x.0 y.0 (w (suc a)) c apart x.1 y.1 rim.dart has_c
-          (SameFace-labels lists (w a) x.0 (w b) y.0 (x.2 ∙ sym y.2)) (SameFace-labels lists (w a) (w (suc a)) (w b) c (sym on_c))
+          let shared = polyhedral.share (w a) (w b) x.0 gap.last.0 (w (suc a)) c apart x.1 gap.last.1 rim.dart has_c
+          (SameFace-labels lists (w a) x.0 (w b) gap.last.0 (x.2 ∙ sym gap.last.2)) (SameFace-labels lists (w a) (w (suc a)) (w b) c (sym on_c))
           (λ q. true≢false (sym gap.living ∙ (ap alive (sym x.2 ∙ labels-SameFace lists (w a) x.0 (w a) (w (suc a)) q) ∙ rim.outside))) in
           elim shared.1 [
             | inl s ↦
-                let f_on : face_of lists (w a) (w b) ≡ face = sym (labels-SameFace lists (w a) x.0 (w a) (w b) s.0) ∙ x.2 in
                 let h_on : H ≡ face_of lists (w b) (w a) = labels-SameFace lists (w a) (w (suc a)) (w b) (w a) s.1 in
-                let back = rim_back lists alive simple w r contour a b (omega arith) m (record {
+                let back = rim_back lists alive simple w r contour a b (omega arith) gap.within (record {
                   dart = simple.both_ways (w a) (w b) shared.0;
                   outside = ap alive (sym h_on) ∙ rim.outside;
-                  inside = ap alive f_on ∙ gap.living;
+                  inside = ap alive (sym (labels-SameFace lists (w a) x.0 (w a) (w b) s.0) ∙ x.2) ∙ gap.living;
                 }) in
                 let q : suc (a + h) ≡ r = e ∙ back.1 in
                 absurd (begun_apart lists alive simple w r contour polyhedral begun (a + h) q (ap (λ t. face_of lists (w (a + h)) (w t)) (sym back.1) ∙ (last_face ∙ (h_on ∙ ap₂ (λ s t. face_of lists (w s) (w t)) back.1 back.0))))
             | inr s ↦
                 let f_on : face_of lists (w b) (w a) ≡ face = sym (labels-SameFace lists (w a) x.0 (w b) (w a) s.0) ∙ x.2 in
-                let h_on : H ≡ face_of lists (w a) (w b) = labels-SameFace lists (w a) (w (suc a)) (w a) (w b) s.1 in
                 let at = rim_at lists alive simple w r contour a (omega arith) (w b) (record {
                   dart = shared.0;
-                  outside = ap alive (sym h_on) ∙ rim.outside;
+                  outside = ap alive (sym (labels-SameFace lists (w a) (w (suc a)) (w a) (w b) s.1)) ∙ rim.outside;
                   inside = ap alive f_on ∙ gap.living;
                 }) in
-                let q : b ≡ suc a = contour.distinct b (suc a) m (omega arith) at in
+                let q : b ≡ suc a = contour.distinct b (suc a) gap.within (omega arith) at in
                 let z : i ≡ a = omega arith in
                 absurd (gap.gap (ap₂ (λ s t. face_of lists (w s) (w t)) (ap suc z ∙ sym q) z ∙ f_on))
           ]

@@ -61,8 +61,7 @@ some_entry p (x ∷ us) =
 -- round a list a test that passes somewhere, and not everywhere, passes at an entry and not at the next
 pub ring_changes : (q : ℕ → Bool) (us : List ℕ) (a b : ℕ) → AllPairs ◌≢◌ us → Contains us a → Contains us b → q a ≡ true → q b ≡ false → (z : ℕ) × Contains us z × (q z ≡ true) × (q (entry_after z us) ≡ false)
 ring_changes q us a b distinct has_a has_b at_a at_b =
-    let Goal : Type 0 = (z : ℕ) × Contains us z × (q z ≡ true) × (q (entry_after z us) ≡ false) in
-    let P : ℕ → Type 0 = λ z. Goal ⊎ (Contains us z × (q z ≡ true)) in
+    let P : ℕ → Type 0 = λ z. ((z : ℕ) × Contains us z × (q z ≡ true) × (q (entry_after z us) ≡ false)) ⊎ (Contains us z × (q z ≡ true)) in
     let end = entries_closed P us a b distinct has_a (inr (has_a, at_a)) (λ z h. elim h [
       | inl goal ↦ inl goal
       | inr k ↦ elim (cases_Bool (q (entry_after z us))) [ inl t ↦ inr (Contains-entry_after z us k.0, t) | inr f ↦ inl (z, k.0, k.1, f) ]
@@ -117,15 +116,13 @@ module _ (lists : Lists) (simple : IsSimpleMap lists) (u v s t : ℕ) (separated
       } in
       let darts_alike : All (λ d. Alike d.0 d.1) (darts R) = λ i d m.
       let c : Dart = get_or (darts R) i d in
-      let has = HasDart-darts R i d (omega (arith, length-darts R)) in
-      let old = restricted-old lists kept c.0 c.1 has in
+      let old = restricted-old lists kept c.0 c.1 (HasDart-darts R i d (omega (arith, length-darts R))) in
       let off_0 = kept_off c.0 old.1 in
       let off_1 = kept_off c.1 old.2 in
       let there = linked_dart lists adjacency (Off both) c.0 c.1 old.0 off_0 off_1 in
       let back = linked_dart lists adjacency (Off both) c.1 c.0 (simple.both_ways c.0 c.1 old.0) off_1 off_0 in
       ((λ w. linked_chained lists (Off both) s c.0 c.1 w there), λ w. linked_chained lists (Off both) s c.1 c.0 w back) in
       let ls = s_in in
-      let lt = t_in in
       (classes-lies Alike (length R) alike (darts R) (darts_below R R_simple) darts_alike s t (omega arith) (omega arith) together).0 (linked_itself lists (Off both) s ls separated.s_off)
 
   -- a colour of the one and not of the other
@@ -136,8 +133,7 @@ module _ (lists : Lists) (simple : IsSimpleMap lists) (u v s t : ℕ) (separated
         (λ x. same_class C s x),
         record {
           along = λ x y has xu xv yu yv.
-              let e = edge_together R R_simple x y (restricted-new lists kept x y has (off_kept x xu xv) (off_kept y yu yv)) in
-              ap (eqb (label C s)) e;
+              ap (eqb (label C s)) (edge_together R R_simple x y (restricted-new lists kept x y has (off_kept x xu xv) (off_kept y yu yv)));
         },
         eq-eqb (label C s) (label C s) refl,
         apart-from C s t (λ together. let path = path_linked_by lists adjacency (u ∷ v ∷ []) s t (linked_alike together) in separated.apart path.0 path.1),

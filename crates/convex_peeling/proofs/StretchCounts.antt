@@ -28,18 +28,13 @@ module _ (passed own : ℕ → Bool) (r : ℕ) (ends : (i : ℕ) → i < r → o
   begins-is i t = let a = and_parts (passed i) (not (behind i)) t in (a.0, not-true (behind i) a.1)
 
   here : (a b : Bool) → (b ≡ true → a ≡ true) → one_if a ≡ one_if b + one_if (a && not b)
-  here true true h = refl
-  here true false h = refl
-  here false true h = absurd (true≢false (sym (h refl)))
-  here false false h = refl
+  here x0 x1 h = grind (arith, true≢false)
 
   -- places are as many as edges and beginnings
   counts : (n : ℕ) → n ≤ r → count_below passed (suc n) ≡ count_below own n + count_below begins (suc n)
   counts zero l = let h = here (passed 0) false (λ e. absurd (true≢false (sym e))) in omega (arith, h)
   counts (suc n) l =
-      let before = counts n (omega arith) in
-      let h = here (passed (suc n)) (own n) (λ t. (ends n l t).1) in
-      omega (arith, before, h)
+      omega (arith, counts n (omega arith), here (passed (suc n)) (own n) (λ t. (ends n l t).1))
 
   -- below a place that is passed a stretch begins, and behind a place whose edge is another's
   begun : (x : ℕ) → x ≤ r → passed x ≡ true → (y : ℕ) × (y ≤ x) × (begins y ≡ true)
@@ -58,7 +53,6 @@ module _ (passed own : ℕ → Bool) (r : ℕ) (ends : (i : ℕ) → i < r → o
         | inl t ↦
             let ne : i ≢ x = λ e. true≢false (sym t ∙ (ap own (sym e) ∙ none)) in
             let at = begun_behind i x none (omega arith) (omega arith) (ends x m t).0 in
-            let k = at.2 in
             (at.0, at.1, omega arith, at.3)
       ]
 
@@ -73,9 +67,6 @@ module _ (passed own : ℕ → Bool) (r : ℕ) (ends : (i : ℕ) → i < r → o
         | inr f ↦
             let one = begun a (omega arith) at_a in
             let two = begun_behind i b f m k at_b in
-            let l1 = one.1 in
-            let l2 = two.1 in
-            let l3 = two.2 in
             let P : ℕ → Type 0 = λ t. (two_cuts one.0 two.0 t < suc r) × (begins (two_cuts one.0 two.0 t) ≡ true) in
             let into = count_below_into (two_cuts one.0 two.0) (λ t. true) begins 2 (suc r)
             (λ t n q. elim (cases_eq t 0) [
@@ -83,28 +74,21 @@ module _ (passed own : ℕ → Bool) (r : ℕ) (ends : (i : ℕ) → i < r → o
               | inr nz ↦ (let z : t ≡ 1 = omega arith in subst P (sym z) (omega arith, two.3))
             ])
             (λ s t n n' q q' same. elim (cases_eq s 0) [
-              | inl z ↦ elim (cases_eq t 0) [
-                | inl z' ↦ z ∙ sym z'
-                | inr nz' ↦ (let z' : t ≡ 1 = omega arith in let e' : one.0 ≡ two.0 = sym (ap (two_cuts one.0 two.0) z) ∙ (same ∙ ap (two_cuts one.0 two.0) z') in absurd (omega arith))
-              ]
+              | inl z ↦ grind (arith, cases_eq, two_cuts)
               | inr nz ↦ (let z : s ≡ 1 = omega arith in elim (cases_eq t 0) [
                 | inl z' ↦ (let e' : two.0 ≡ one.0 = sym (ap (two_cuts one.0 two.0) z) ∙ (same ∙ ap (two_cuts one.0 two.0) z') in absurd (omega arith))
                 | inr nz' ↦ (let z' : t ≡ 1 = omega arith in z ∙ sym z')
               ])
             ]) in
-            let all = counts r (omega arith) in
-            absurd (omega (arith, into, all, e))
+            absurd (omega (arith, into, counts r (omega arith), e))
       ]
 
   pub counts_from_own : (p : ℕ) → p ≤ r → passed p ≡ true → AllOwn → count_below passed (suc r) ≡ count_below own r + 1
   counts_from_own p l at own_all =
-      let all = counts r (omega arith) in
       elim (first_or_none (λ i. passed i ≡ true) (suc r) (λ i m. cases_is (passed i) true)) [
         | inr none ↦ absurd (none p (omega arith) at)
         | inl found ↦
             let a = found.0 in
-            let a_r = found.1 in
-            let first_behind : behind a ≡ false = no_edge a a_r found.3 in
             let others : (i : ℕ) → i < suc r → i ≢ a → false ≡ begins i = λ i m ne. elim (cases_Bool (begins i)) [
               | inr f ↦ sym f
               | inl t ↦
@@ -112,9 +96,8 @@ module _ (passed own : ℕ → Bool) (r : ℕ) (ends : (i : ℕ) → i < r → o
                   let low : a ≤ i = elim (cases_lt i a) [ inl less ↦ absurd (found.3 i less is.0) | inr more ↦ more ] in
                   absurd (true≢false (sym (edge_before a i (omega arith) (omega arith) found.2 is.0) ∙ is.1))
             ] in
-            let one = count_below_more (λ i. false) begins (suc r) a a_r refl (begins-from a found.2 first_behind) others in
-            let none = count_below_none (suc r) in
-            omega (arith, all, one, none)
+            let one = count_below_more (λ i. false) begins (suc r) a found.1 refl (begins-from a found.2 (no_edge a found.1 found.3)) others in
+            omega (arith, counts r (omega arith), one, count_below_none (suc r))
       ]
     where
       no_edge : (a : ℕ) → a < suc r → ((j : ℕ) → j < a → ¬ (passed j ≡ true)) → behind a ≡ false

@@ -41,13 +41,9 @@ module _ (lists : Lists) (alive : ℕ → Bool) (w : ℕ → ℕ) (r : ℕ) (sim
       let walk = found.2 in
       let many = found.3 in
       let ear = found.4 in
-      let one = edge_passes lists alive w r simple contour e (omega arith) in
       let two = edge_passes lists alive w r simple contour (suc e) (omega arith) in
-      let low = ear.places e (omega arith) one.0 in
+      let low = ear.places e (omega arith) (edge_passes lists alive w r simple contour e (omega arith)).0 in
       let high = ear.places (suc (suc e)) l (subst (λ f. Passes lists f (w (suc (suc e)))) (next ∙ sym own) two.1) in
-      let a_e = low.0 in
-      let e_b = high.1 in
-      let b_r = ear.within in
       let gone : ℕ = b - suc a in (
         removal lists alive w r own_face a b walk many gone simple contour ear (omega arith) (omega arith),
         chain_off lists alive w r own_face a b walk many gone simple contour ear (omega arith) (omega arith),
@@ -55,7 +51,7 @@ module _ (lists : Lists) (alive : ℕ → Bool) (w : ℕ → ℕ) (r : ℕ) (sim
         λ q m. between_open lists alive w r simple contour polyhedral three (a + q) (omega arith) (ear.edges (a + q) (omega arith) (omega arith) ∙ sym (ear.edges (suc (a + q)) (omega arith) (omega arith))),
         refl {a = 1},
         own,
-        a_e,
+        low.0,
         omega arith,
       )
 
@@ -76,11 +72,7 @@ module _ (lists : Lists) (alive : ℕ → Bool) (w : ℕ → ℕ) (r : ℕ) (sim
       let goes_removable_next : (suc j < r → face_of lists (w (suc (suc j))) (w (suc j)) ≢ behind) → ((h : ℕ) → suc h ≡ i → face_of lists (w (suc h)) (w h) ≢ before) → Goes lists alive w r = λ right left.
       let o = vertex_goes (suc (count_below alive (dart_count lists))) lists alive w r i simple polyhedral contour (record { within = j_r; stretches = stretches; right = right; left = left; base = base }) (omega arith) in
       (o.0, o.1, o.2, λ q m. let e4 = o.4 in let e3 = o.3 in let z : suc (o.0.first + q) ≡ j = omega arith in subst (λ n. IsOpen lists alive (w n)) (sym z) removable.open_at) in
-      let right_or : ((suc j < r) × (face_of lists (w (suc (suc j))) (w (suc j)) ≡ behind)) ⊎ (suc j < r → face_of lists (w (suc (suc j))) (w (suc j)) ≢ behind) =
-      elim (cases_eq (face_of lists (w (suc (suc j))) (w (suc j))) behind) [
-        | inr ne ↦ inr (λ l. ne)
-        | inl e ↦ elim (cases_lt (suc j) r) [ inl l ↦ inl (l, e) | inr m ↦ inr (λ l. absurd (omega arith)) ]
-      ] in
+      let right_or : ((suc j < r) × (face_of lists (w (suc (suc j))) (w (suc j)) ≡ behind)) ⊎ (suc j < r → face_of lists (w (suc (suc j))) (w (suc j)) ≢ behind) = grind (arith, cases_eq, face_of, cases_lt) in
       let left_or : ((h : ℕ) × (suc h ≡ i) × (face_of lists (w (suc h)) (w h) ≡ before)) ⊎ ((h : ℕ) → suc h ≡ i → face_of lists (w (suc h)) (w h) ≢ before) =
       elim (cases_eq i 0) [
         | inl z ↦ inr (λ h e. absurd (omega arith))
@@ -97,9 +89,8 @@ module _ (lists : Lists) (alive : ℕ → Bool) (w : ℕ → ℕ) (r : ℕ) (sim
           | inr left ↦ goes_removable_next right left
           | inl two ↦
               let h = two.0 in
-              let e = two.1 in
               let own = face_of lists (w (suc h)) (w h) in
-              let same : face_of lists (w (suc (suc h))) (w (suc h)) ≡ own = ap (λ t. face_of lists (w (suc t)) (w t)) e ∙ sym two.2 in
+              let same : face_of lists (w (suc (suc h))) (w (suc h)) ≡ own = ap (λ t. face_of lists (w (suc t)) (w t)) two.1 ∙ sym two.2 in
               let at : Passes lists own (w j) = subst (λ f. Passes lists f (w j)) (sym two.2) at_before.1 in
               let o = chain_goes h own (omega arith) refl same (stretches own (ap alive two.2 ∙ live_before) at) (apart own at) in (o.0, o.1, o.2, o.3)
         ]
@@ -115,15 +106,12 @@ some_taken_off_law lists alive w r simple plane polyhedral three contour begun =
     elim (some_removable_law lists alive w r simple plane polyhedral contour begun) [
       | inl all ↦ inl all
       | inr found ↦
-          let j = found.0 in
           let removable = found.1 in
-          let some = removable.after in
-          let j_r = removable.before in
-          let i : ℕ = j - 1 in
-          let z : j ≡ suc i = omega arith in
+          let i : ℕ = found.0 - 1 in
+          let z : found.0 ≡ suc i = omega arith in
           let face = face_of lists (w 0) (w r) in
           let ends = base_passes lists alive w r simple polyhedral three contour in
-          elim (cases_Passes lists simple face (w j)) [
+          elim (cases_Passes lists simple face (w found.0)) [
             | inl p ↦
                 let stretch = subst (IsStretch lists w r) p.2 (removable.stretches p.0 p.1 (ap alive p.2 ∙ base_living lists alive w r simple polyhedral three contour)) in
                 inl (λ n l. stretch 0 n r (omega arith) l (omega arith) ends.0 ends.1)

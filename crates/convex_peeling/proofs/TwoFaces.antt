@@ -152,8 +152,6 @@ module _ (lists : Lists) (simple : IsSimpleMap lists) (plane : IsPlane lists) wh
     -- Where no vertex is a cut vertex, faces that are met twice are two, and the edge is not between them.
     pub AreOnTwoFaces-met : (u v a b c e : ℕ) → AreMetTwice lists u v a b c e → AreOnTwoFaces lists u v a b c e
     AreOnTwoFaces-met u v a b c e met =
-        let has_a = met.from_u.0 in
-        let has_c = met.from_u.1 in
         let once = passed_once lists simple plane uncut in
         -- neither face passes v along (v, u)
         let clear : (x y : ℕ) → HasDart lists v y → y ≢ u → SameFace lists (u, x) (v, y) → HasDart lists v u → ¬ SameFace lists (u, x) (v, u) = λ x y has ne on back q.
@@ -163,11 +161,8 @@ module _ (lists : Lists) (simple : IsSimpleMap lists) (plane : IsPlane lists) wh
           from_v = met.from_v;
           one = met.one;
           other = met.other;
-          apart = λ same. met.two (once u a c has_a has_c same);
+          apart = λ same. met.two (once u a c met.from_u.0 met.from_u.1 same);
           no_edge = λ between.
               let back = simple.both_ways u v between.0 in
-              elim between.1 [
-                | inl h ↦ clear c e met.from_v.1 met.others.1 met.other back h.1
-                | inr h ↦ clear a b met.from_v.0 met.others.0 met.one back h.0
-              ];
+              grind arith;
         }

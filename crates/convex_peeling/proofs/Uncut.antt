@@ -20,8 +20,7 @@ module _ (lists : Lists) (simple : IsSimpleMap lists) (triangles : (u v : ℕ) �
   ring_dart v z has =
       let d : Dart = (z, v) in
       let in_ = simple.both_ways v z has in
-      let one = HasDart-face_step lists d simple in_ in
-      let two = HasDart-face_step lists (face_step lists d) simple one in
+      let two = HasDart-face_step lists (face_step lists d) simple (HasDart-face_step lists d simple in_) in
       subst (HasDart lists (follows lists v z)) (ap (λ (d : Dart). d.0) (triangles z v in_)) two
 
   apart : (v z : ℕ) → HasDart lists v z → z ≢ v
@@ -37,9 +36,8 @@ module _ (lists : Lists) (simple : IsSimpleMap lists) (triangles : (u v : ℕ) �
             let z = found.0 in
             let has : HasDart lists v z = (has_a.0, found.1) in
             let next = follows lists v z in
-            let edge = ring_dart v z has in
             let next_has = HasDart-face_step lists (z, v) simple (simple.both_ways v z has) in
-            let same = h.along next z edge (apart v next next_has) (apart v next next_has) (apart v z has) (apart v z has) in
+            let same = h.along next z (ring_dart v z has) (apart v next next_has) (apart v next next_has) (apart v z has) (apart v z has) in
             absurd (true≢false (sym found.2 ∙ (sym same ∙ found.3)))
       ]
 
@@ -61,9 +59,8 @@ module _ (lists : Lists) (simple : IsSimpleMap lists) (triangles : (u v : ℕ) �
         apart = λ other j. one.apart other (JoinsAvoiding-fewer fewer (v ∷ v ∷ []) (v ∷ []) s t other once j);
       } in
       let found = side_of fewer simple' v v s t both in
-      let side = found.0 in
-      let h : IsSide lists v v side = sides side found.1 in
-      let P : ℕ → Type 0 = λ x. (x ≢ v → side x ≡ true) × (x ≡ v → (z : ℕ) → HasDart lists v z → side z ≡ true) in
+      let h : IsSide lists v v found.0 = sides found.0 found.1 in
+      let P : ℕ → Type 0 = λ x. (x ≢ v → found.0 x ≡ true) × (x ≡ v → (z : ℕ) → HasDart lists v z → found.0 z ≡ true) in
       let adjacency = IsAdjacency-simple fewer simple' in
       let walk = linked_path fewer adjacency [] s t one.path one.joined in
       let step : (x y : ℕ) → HasDart fewer x y → Off [] y → P x → P y = λ x y has off p.
@@ -73,7 +70,7 @@ module _ (lists : Lists) (simple : IsSimpleMap lists) (triangles : (u v : ℕ) �
             ((λ ne. p.1 e y from), λ at. absurd (apart v y from at))
         | inr ne ↦ (
           (λ ne'. sym (h.along x y (kept x y has) ne ne ne' ne') ∙ p.0 ne),
-          λ at z to. all_alike v side h x z (simple.both_ways x v (subst (HasDart lists x) at (kept x y has))) to (p.0 ne),
+          λ at z to. all_alike v found.0 h x z (simple.both_ways x v (subst (HasDart lists x) at (kept x y has))) to (p.0 ne),
         )
       ] in
       let end = walks_keep fewer adjacency (Off []) P step walk.0 s t walk.1 ((λ ne. found.2), λ e. absurd (ne_off v s one.s_off e)) in

@@ -77,13 +77,11 @@ module _ (lists : Lists) (alive : ℕ → Bool) (w : ℕ → ℕ) (r i : ℕ) (s
   -- the walk has two steps at least
   long : 1 < many
   long =
-      let some = ear.some_step in
       elim (cases_eq many 1) [
         | inr ne ↦ omega arith
         | inl e ↦
-            let dart = ear.darts 0 some in
-            let z : 1 ≡ many = sym e in
-            let on : face_of lists (w j) (w (suc j)) ≡ face = ap₂ (face_of lists) (sym ear.first) (sym ear.last ∙ ap walk (sym z)) ∙ dart.1 in
+            let dart = ear.darts 0 ear.some_step in
+            let on : face_of lists (w j) (w (suc j)) ≡ face = ap₂ (face_of lists) (sym ear.first) (sym ear.last ∙ ap walk (sym (sym e))) ∙ dart.1 in
             absurd (true≢false (sym (living lists alive w r face j (suc j) walk many simple polyhedral contour ear inner) ∙ (ap alive (sym on) ∙ edge_at.outside)))
       ]
 
@@ -96,16 +94,14 @@ module _ (lists : Lists) (alive : ℕ → Bool) (w : ℕ → ℕ) (r i : ℕ) (s
       let within = removable_next.within in
       elim (kind lists alive w r face j (suc j) walk many simple polyhedral contour ear inner r' q (omega arith) m) [
         | inl old ↦
-            let n = old.0 in
             absurd (elim old.1.place [
               | inl p ↦ (let p0 = p.0 in let p1 = p.1 in omega arith)
               | inr p ↦
-                  let at_n : Passes lists other (w n) = subst (Passes lists other) old.1.vertex at_q in
-                  ne (sym (removable_next.stretches other live at j j n (omega arith) p.0 old.1.within at at_n))
+                  let at_n : Passes lists other (w old.0) = subst (Passes lists other) old.1.vertex at_q in
+                  ne (sym (removable_next.stretches other live at j j old.0 (omega arith) p.0 old.1.within at at_n))
             ])
         | inr new ↦
             let t = new.0 in
-            let some = new.1.after in
             let less = new.1.before in
             let u_v : walk 0 ≢ walk t = λ e. (let z : 0 ≡ t = ear.distinct 0 t (omega arith) (omega arith) e in omega arith) in
             let own = ear.darts 0 (omega arith) in
@@ -119,20 +115,17 @@ module _ (lists : Lists) (alive : ℕ → Bool) (w : ℕ → ℕ) (r i : ℕ) (s
               | inl s ↦
                   let on : face_of lists (walk t) (walk 0) ≡ face = sym (labels-SameFace lists (walk 0) (walk 1) (walk t) (walk 0) s.1) ∙ own.1 in
                   absurd (elim (ear.only (walk t) (walk 0) (simple.both_ways (walk 0) (walk t) shared.0) on) [
-                    | inl back ↦ (let b2 = back.2 in ear.inside t (suc back.0) some less (omega arith) back.3)
+                    | inl back ↦ (let b2 = back.2 in ear.inside t (suc back.0) new.1.after less (omega arith) back.3)
                     | inr ahead ↦ (let l' = ahead.1 in let z : 0 ≡ suc ahead.0 = ear.distinct 0 (suc ahead.0) (omega arith) (omega arith) ahead.3 in omega arith)
                   ])
               | inr s ↦
-                  let on : face_of lists (walk 0) (walk t) ≡ face = sym (labels-SameFace lists (walk 0) (walk 1) (walk 0) (walk t) s.1) ∙ own.1 in
                   let is_other : face_of lists (walk t) (walk 0) ≡ other = sym (labels-SameFace lists (walk 0) x.0 (walk t) (walk 0) s.0) ∙ x.2 in
-                  elim (ear.only (walk 0) (walk t) shared.0 on) [
-                    | inl back ↦ (let b2 = back.2 in absurd (ear.inside t back.0 some less (omega arith) back.4))
+                  elim (ear.only (walk 0) (walk t) shared.0 (sym (labels-SameFace lists (walk 0) (walk 1) (walk 0) (walk t) s.1) ∙ own.1)) [
+                    | inl back ↦ (let b2 = back.2 in absurd (ear.inside t back.0 new.1.after less (omega arith) back.4))
                     | inr ahead ↦
-                        let l' = ahead.1 in
                         let z : 0 ≡ ahead.0 = ear.distinct 0 ahead.0 (omega arith) (omega arith) ahead.2 in
                         let z' : t ≡ suc ahead.0 = ear.distinct t (suc ahead.0) (omega arith) (omega arith) ahead.3 in
                         let t_1 : t ≡ 1 = omega arith in
-                        let place = new.1.place in
                         (omega arith, ap (λ n. face_of lists (walk n) (walk 0)) (sym t_1) ∙ is_other)
                   ]
             ]
@@ -142,17 +135,14 @@ module _ (lists : Lists) (alive : ℕ → Bool) (w : ℕ → ℕ) (r i : ℕ) (s
   pub still_removable_next : IsRemovableNext lists alive' w' r' i
   still_removable_next =
       let within = removable_next.within in
-      let two = long in
       let at_j : w' j ≡ w j = low j (omega arith) in
       let at_0 : w' 0 ≡ w 0 = low 0 (omega arith) in
       let q : ℕ = r - suc j in
       let z : r' ≡ j + many + q = omega arith in
       let z' : suc j + q ≡ r = omega arith in
       let at_r : w' r' ≡ w r = ap w' z ∙ (high q ∙ ap w z') in
-      let first : w' j ≡ walk 0 = at_j ∙ sym ear.first in
       let second : w' (suc j) ≡ walk 1 = (let s : suc j ≡ j + 1 = omega arith in ap w' s ∙ mid 1 (omega arith)) in
       let new_edge = edge_passes lists alive' w' r' simple after_contour j (omega arith) in
-      let new_living = (after_contour.edge j (omega arith)).inside in
       record {
         within = omega arith;
         stretches = λ other live at a e b l m n at_a at_b.
@@ -165,17 +155,15 @@ module _ (lists : Lists) (alive : ℕ → Bool) (w : ℕ → ℕ) (r i : ℕ) (s
                   ap₂ (face_of lists) (low (suc e) before) (low e (omega arith)) ∙ old a e j l before (omega arith) low_a here
               | inr behind ↦
                   let far = beyond other b was.0 was.1 here (omega arith) n at_b in
-                  let b_is = far.0 in
                   let e_is : e ≡ j = omega arith in
-                  ap (λ t. face_of lists (w' (suc t)) (w' t)) e_is ∙ (ap₂ (face_of lists) second first ∙ far.1)
+                  ap (λ t. face_of lists (w' (suc t)) (w' t)) e_is ∙ (ap₂ (face_of lists) second (at_j ∙ sym ear.first) ∙ far.1)
             ];
         right = λ l same.
             let other = face_of lists (w' (suc j)) (w' j) in
-            let was = kept_but-old alive face other new_living in
+            let was = kept_but-old alive face other ((after_contour.edge j (omega arith)).inside) in
             let here : Passes lists other (w j) = subst (Passes lists other) at_j new_edge.0 in
             let next = edge_passes lists alive' w' r' simple after_contour (suc j) (omega arith) in
             let far = beyond other (suc (suc j)) was.0 was.1 here (omega arith) (omega arith) (subst (λ f. Passes lists f (w' (suc (suc j)))) same next.1) in
-            let q = far.0 in
             omega arith;
         left = λ h e same. removable_next.left h e (sym (ap₂ (face_of lists) (low (suc h) (omega arith)) (low h (omega arith))) ∙ (same ∙ ap₂ (face_of lists) at_j (low i (omega arith))));
         base = λ p. removable_next.base (subst (Passes lists (face_of lists (w 0) (w r))) at_j (subst (λ f. Passes lists f (w' j)) (ap₂ (face_of lists) at_0 at_r) p));
@@ -221,45 +209,30 @@ module _ (lists : Lists) (alive : ℕ → Bool) (w : ℕ → ℕ) (r i : ℕ) (s
     on_face x y has on =
         elim (ear.only x y has on) [
           | inl at ↦
-              let low_n = at.1 in
-              let high_n = at.2 in
               let z : at.0 ≡ j = omega arith in
               inr (inl (at.3 ∙ (ap (λ n. w (suc n)) z ∙ (sym ends_at ∙ ap o.contour (sym cut_last))), at.4 ∙ (ap w z ∙ sym vertex_is)))
           | inr at ↦
-              let t = at.0 in
-              let l = at.1 in
-              elim (cases_eq t 0) [
+              elim (cases_eq at.0 0) [
                 | inl e ↦
                     let v : x ≡ w (suc o.first) = at.2 ∙ (ap walk e ∙ (ear.first ∙ ap (λ n. w (suc n)) (sym first))) in
                     let z : o.last ≡ o.last + 0 = omega arith in
                     let c : o.cut o.faces ≡ o.last + 0 = off.end ∙ z in
                     inr (inr (inr (v, at.3 ∙ (ap (λ n. walk (suc n)) e ∙ (sym (on_walk 0 (let two = long in omega arith)) ∙ ap o.contour (sym (cut_low o.faces (omega arith) ∙ c)))))))
                 | inr ne ↦
-                    let s : ℕ = t - 1 in
-                    let z : suc s ≡ t = omega arith in
+                    let s : ℕ = at.0 - 1 in
+                    let z : suc s ≡ at.0 = omega arith in
                     let z' : suc (o.last + s) ≡ o.last + suc s = omega arith in
                     let e1 = cut_low o.faces (omega arith) in
                     let e2 = cut_last in
-                    let e3 = off.end in
                     inl (o.last + s, omega arith, omega arith, on_walk s (omega arith) ∙ (ap walk z ∙ sym at.2), ap o.contour z' ∙ (on_walk (suc s) (omega arith) ∙ (ap (λ n. walk (suc n)) z ∙ sym at.3)))
               ]
         ]
 
     on_others : (t x y : ℕ) → t < o.faces → IsOnRemoved w' o t x y → IsOnRemoved w longer t x y
-    on_others t x y l h =
-        let e1 = cut_low t (omega arith) in
-        let e2 = cut_low (suc t) l in
-        let z : o.first + o.vertices ≡ j = omega arith in
-        elim h [
-          | inl a ↦ (let a1 = a.1 in let a2 = a.2 in inl (a.0, omega arith, omega arith, a.3, a.4))
-          | inr (inl a) ↦ inr (inl (a.0 ∙ ap o.contour (sym e2), a.1 ∙ (ap w' z ∙ (low j (omega arith) ∙ ap w (sym z)))))
-          | inr (inr (inl a)) ↦ (let a1 = a.1 in let a2 = a.2 in absurd (omega arith))
-          | inr (inr (inr a)) ↦ inr (inr (inr (a.0 ∙ (ap (λ n. w' (suc n)) first ∙ (low j (omega arith) ∙ ap (λ n. w (suc n)) (sym first))), a.1 ∙ ap o.contour (sym e1))))
-        ]
+    on_others t x y l h = grind (arith, cut_low, w', low)
 
     fresh_here : (p n : ℕ) → o.first < p → p < o.last + (many - 1) → n ≤ r → o.contour p ≢ w n
     fresh_here p n l m in_r e =
-        let within = removable_next.within in
         elim (cases_lt p o.last) [
           | inl before ↦ elim (cases_lt j n) [
             | inr at ↦ off.fresh p n l before (omega arith) (e ∙ sym (low n at))
@@ -279,7 +252,6 @@ module _ (lists : Lists) (alive : ℕ → Bool) (w : ℕ → ℕ) (r i : ℕ) (s
         let two = long in
         let within = removable_next.within in
         let some_face = off.some_face in
-        let in_off = off.within in
         let width = off.width in
         let live = living lists alive w r face j (suc j) walk many simple polyhedral contour ear inner in
         record {
@@ -325,20 +297,13 @@ vertex_goes (suc n) lists alive w r i simple polyhedral contour removable_next l
     let living = (contour.edge j (omega arith)).inside in
     let found = stretch_is_ear_law lists alive w r j simple polyhedral contour within (removable_next.stretches face living ends.0) in
     let a = found.0 in
-    let b = found.1 in
     let walk = found.2 in
     let many = found.3 in
     let ear = found.4 in
     let low = ear.places j (omega arith) ends.0 in
     let high = ear.places (suc j) within ends.1 in
-    let a_j = low.0 in
-    let j_b = high.1 in
-    let b_r = ear.within in
     let inner : face ≢ face_of lists (w 0) (w r) = λ e. removable_next.base (subst (λ f. Passes lists f (w j)) e ends.0) in
-    let b_is : b ≡ suc j = elim (cases_eq b (suc j)) [
-      | inl e ↦ e
-      | inr ne ↦ absurd (removable_next.right (omega arith) (ear.edges (suc j) (omega arith) (omega arith)))
-    ] in
+    let b_is : found.1 ≡ suc j = grind (arith, cases_eq) in
     elim (cases_eq a j) [
       | inl a_is ↦
           let ear' : IsEar lists w r face j (suc j) walk many = subst (λ t. IsEar lists w r face t (suc j) walk many) a_is (subst (λ t. IsEar lists w r face a t walk many) b_is ear) in
@@ -346,17 +311,16 @@ vertex_goes (suc n) lists alive w r i simple polyhedral contour removable_next l
           let rest = vertex_goes n lists (kept_but alive face) (spliced w j (suc j) walk many) (r + j + many - suc j) i simple polyhedral (after_contour lists alive w r i simple polyhedral contour removable_next walk many ear') (still_removable_next lists alive w r i simple polyhedral contour removable_next walk many ear') (omega arith) in
           (longer lists alive w r i simple polyhedral contour removable_next walk many ear' rest.0 rest.1 rest.3 rest.4, longer_off lists alive w r i simple polyhedral contour removable_next walk many ear' rest.0 rest.1 rest.3 rest.4, rest.2, rest.3, rest.4)
       | inr a_not ↦
-          let own : face_of lists (w (suc i)) (w i) ≡ face = ear.edges i (omega arith) (omega arith) in
           let a_is : a ≡ i = elim (cases_eq a i) [
             | inl e ↦ e
             | inr ne ↦
                 let h : ℕ = i - 1 in
                 let z : suc h ≡ i = omega arith in
-                absurd (removable_next.left h z (ear.edges h (omega arith) (omega arith) ∙ sym own))
+                absurd (removable_next.left h z (ear.edges h (omega arith) (omega arith) ∙ sym (ear.edges i (omega arith) (omega arith))))
           ] in (
-            removal lists alive w r face a b walk many 1 simple contour ear (omega arith) (omega arith),
-            chain_off lists alive w r face a b walk many 1 simple contour ear (omega arith) (omega arith),
-            contour_after lists alive w r face a b walk many simple polyhedral contour ear inner (r + a + many - b) (omega arith),
+            removal lists alive w r face a found.1 walk many 1 simple contour ear (omega arith) (omega arith),
+            chain_off lists alive w r face a found.1 walk many 1 simple contour ear (omega arith) (omega arith),
+            contour_after lists alive w r face a found.1 walk many simple polyhedral contour ear inner (r + a + many - found.1) (omega arith),
             a_is,
             refl {a = 1},
           )

@@ -4,7 +4,7 @@ use Rattle.std.proofs.lemmas.Int.{ints}
 use Rattle.classes.specs.Classes.{merge}
 use Rattle.map_lists.specs.Lists.{Lists}
 use Rattle.map_theory.specs.Maps.{entry_after}
-use Rattle.pg_plane.specs.declared.segments.Point.{Point}
+use Rattle.pg_plane.specs.declared.grid_points.Point.{Point}
 use Rattle.draw_check.specs.Verdicts.{AllInGrid, IsVerdict}
 use Rattle.draw_check.specs.Outer.{face_sum}
 use Rattle.draw_check.specs.declared.verdict.Verdict.TheVariants.{OutOfGrid, SamePlace}
@@ -25,13 +25,7 @@ in_grid (suc zero) l = record { left = omega (arith, ints); right = omega (arith
 in_grid (suc (suc v)) l = absurd (omega arith)
 
 same_place : IsVerdict two spots (pos 1) (pos 1) (SamePlace (record { 0 = 0 }) (record { 0 = 1 }))
-same_place = (
-  in_grid,
-  record {
-    before = λ z w l s. omega arith;
-    rest = record { here = record { order = omega arith; vertex = omega arith; same = refl }; before = λ y l s. let order = s.order in omega arith };
-  },
-)
+same_place = grind (arith, in_grid)
 
 -- on a smaller grid the first of them is outside
 outside : IsVerdict two spots (pos 0) (pos 1) (OutOfGrid (record { 0 = 0 }))

@@ -9,7 +9,7 @@ use Rattle.map_theory.specs.Paths.{SameFace}
 use Rattle.map_theory.proofs.DartLemmas.{HasDart-face_step, get_or-place_of, place_of-lt-length, entry_after-place, place_of-entry_after, place_of-get_or, place_after}
 use Rattle.half_edges.specs.Map.{first_dart}
 use Rattle.plane_laws.specs.Triangulations.{IsTriangulation}
-use Rattle.pg_plane.specs.declared.segments.Point.{Point}
+use Rattle.pg_plane.specs.declared.grid_points.Point.{Point}
 use Rattle.plane_drawings.specs.Drawing.{IsCounterclockwise}
 use Rattle.draw_check.specs.Corners.{IsCornerWell, IsRoundWell}
 use Rattle.draw_check.specs.FaceVerdicts.{IsDrawnWell}
@@ -34,7 +34,6 @@ module _ (lists : Lists) (points : List Point) (c : IsTriangulation lists) (roun
       let l = place_of-lt-length z us dart.1 in
       let here = get_or-place_of z us 0 l in
       let next = entry_after-place z us 0 l in
-      let at = place_of-entry_after z us (c.simple.no_repeat a dart.0) dart.1 in
       elim (after_is us z k (length us) refl refl l) [
         | inl m ↦
             let w = (rounds a dart.0).others (k + 1) m.0 (omega arith) in
@@ -42,7 +41,7 @@ module _ (lists : Lists) (points : List Point) (c : IsTriangulation lists) (roun
             let is : follows lists a z ≡ get_or us (k + 1) 0 = next ∙ ap (λ (i : ℕ). get_or us i 0) m.1 in
             let before : get_or us (k + 1 - 1) 0 ≡ z = ap (λ (i : ℕ). get_or us i 0) same ∙ here in
             inl (
-              λ e. (let p = sym e ∙ (at ∙ m.1) in omega arith),
+              λ e. (let p = sym e ∙ ((place_of-entry_after z us (c.simple.no_repeat a dart.0) dart.1) ∙ m.1) in omega arith),
               subst (λ (x : ℕ). IsCornerWell points false a x z) (sym is) (subst (λ (x : ℕ). IsCornerWell points false a (get_or us (k + 1) 0) x) before w),
             )
         | inr m ↦
@@ -55,72 +54,40 @@ module _ (lists : Lists) (points : List Point) (c : IsTriangulation lists) (roun
   -- vertex 0 has a dart
   pub has_base : HasDart lists base.0 base.1
   has_base =
-      let us = list_of lists 0 in
-      let some = (rounds 0 c.simple.some_vertex).some in
-      (c.simple.some_vertex, Contains-get_or us 0 0 some)
+      (c.simple.some_vertex, Contains-get_or (list_of lists 0) 0 0 ((rounds 0 c.simple.some_vertex).some))
 
   -- the least vertex of the base's face is 0
   base_least : (a b : ℕ) → HasDart lists a b → a < b → a < follows lists b a → SameFace lists base (a, b) → (a, b) ≡ base
   base_least a b dart l l' same =
-      let v = base.1 in
-      let w = follows lists v 0 in
       let back = thrice lists c base has_base in
-      let next : follows lists w v ≡ 0 = ap (λ (d : Dart). d.0) back in
+      let next : follows lists (follows lists base.1 0) base.1 ≡ 0 = ap (λ (d : Dart). d.0) back in
       elim (on_base lists c base has_base (a, b) dart same) [
         | inl e ↦ e
-        | inr o ↦ elim o [
-          | inl e ↦
-              let third : follows lists b a ≡ 0 = ap₂ (λ (x y : ℕ). follows lists x y) (ap (λ (d : Dart). d.1) e) (ap (λ (d : Dart). d.0) e) ∙ next in
-              absurd (omega arith)
-          | inr e ↦
-              let second : b ≡ 0 = ap (λ (d : Dart). d.1) e ∙ next in
-              absurd (omega arith)
-        ]
+        | inr o ↦ grind (arith, ap₂, follows, Dart)
       ]
 
   -- each face is drawn well from its least vertex
   well : (a b : ℕ) → HasDart lists a b → a < b → a < follows lists b a → IsDrawnWell lists points base a b (follows lists b a)
   well a b dart l l' =
       let w = follows lists b a in
-      let d1 = HasDart-face_step lists (a, b) c.simple dart in
-      let d2 = HasDart-face_step lists (b, w) c.simple d1 in
+      let d2 = HasDart-face_step lists (b, w) c.simple (HasDart-face_step lists (a, b) c.simple dart) in
       let back = thrice lists c (a, b) dart in
       let next : follows lists w b ≡ a = ap (λ (d : Dart). d.0) back in
       let last : follows lists a w ≡ b = ap (λ (x : ℕ). follows lists x w) (sym next) ∙ ap (λ (d : Dart). d.1) back in
-      let d3 : HasDart lists a w = c.simple.both_ways w a (subst (λ (x : ℕ). HasDart lists w x) next d2) in
       let us = list_of lists a in
-      elim (corner a w d3) [
-        | inl h ↦
-            let good = subst (λ (x : ℕ). IsCornerWell points false a x w) last h.1 l l' in
-            let apart : place_of b us ≢ 0 = subst (λ (x : ℕ). place_of x us ≢ 0) last h.0 in
-            record {
-              inner = λ off. good;
-              outer = λ same.
-                  let e = base_least a b dart l l' same in
-                  let zero : a ≡ 0 = ap (λ (d : Dart). d.0) e in
-                  let first : b ≡ get_or us 0 0 = ap (λ (d : Dart). d.1) e ∙ ap (λ (x : ℕ). get_or (list_of lists x) 0 0) (sym zero) in
-                  absurd (apart (ap (λ (x : ℕ). place_of x us) first ∙ place_of-get_or us 0 0 (c.simple.no_repeat a dart.0) (rounds a dart.0).some));
-            }
+      elim (corner a w (c.simple.both_ways w a (subst (λ (x : ℕ). HasDart lists w x) next d2))) [
+        | inl h ↦ grind (arith, place_of, IsCornerWell, base_least, Dart, get_or, list_of, place_of-get_or)
         | inr h ↦
-            let first : b ≡ get_or us 0 0 = sym last ∙ h.0 in
             let good = subst (λ (x : ℕ). IsCornerWell points (a == 0) a x w) last h.1 in
             elim (cases_Bool (a == 0)) [
               | inl on ↦
                   let zero : a ≡ 0 = eqb-true a 0 on in
-                  let e : (a, b) ≡ base = ap₂ (λ (x y : ℕ). (x, y)) zero (first ∙ ap (λ (x : ℕ). get_or (list_of lists x) 0 0) zero) in
-                  let low = subst (λ (o : Bool). IsCornerWell points o a b w) on good l l' in
+                  let e : (a, b) ≡ base = ap₂ (λ (x y : ℕ). (x, y)) zero ((sym last ∙ h.0) ∙ ap (λ (x : ℕ). get_or (list_of lists x) 0 0) zero) in
                   record {
                     inner = λ off. absurd (off (subst (λ (d : Dart). SameFace lists base d) (sym e) (same_itself lists c base)));
-                    outer = λ same. low;
+                    outer = λ same. (subst (λ (o : Bool). IsCornerWell points o a b w) on good l l');
                   }
-              | inr off ↦
-                  let high = subst (λ (o : Bool). IsCornerWell points o a b w) off good l l' in
-                  record {
-                    inner = λ other. high;
-                    outer = λ same.
-                        let zero : a ≡ 0 = ap (λ (d : Dart). d.0) (base_least a b dart l l' same) in
-                        absurd (true≢false (ap (λ (x : ℕ). x == 0) (sym zero) ∙ off));
-                  }
+              | inr off ↦ grind (arith, IsCornerWell, true≢false, Dart, base_least)
             ]
       ]
 

@@ -4,7 +4,7 @@ use Rattle.std.proofs.lemmas.Bool.{cases_lt}
 use Rattle.std.proofs.lemmas.Int.{ints}
 use Rattle.std.proofs.lemmas.List.{take_more, get_or_past}
 use Rattle.map_theory.specs.Maps.{Dart}
-use Rattle.pg_plane.specs.declared.segments.Point.{Point}
+use Rattle.pg_plane.specs.declared.grid_points.Point.{Point}
 use Rattle.pg_plane.specs.Geometry.{vector, cross, area}
 use Rattle.pg_plane.specs.Range.{IsWithin, IsInRange}
 use Rattle.pg_plane.proofs.Products.{IsWithin-product}
@@ -42,15 +42,7 @@ swept-within points h d =
     let q = in_range d.1 in
     let a = IsWithin-product 1048576 1048576 (place points d.0).x (place points d.1).y p.x q.y in
     let b = IsWithin-product 1048576 1048576 (place points d.1).x (place points d.0).y q.x p.y in
-    let a1 = a.least in let a2 = a.most in let b1 = b.least in let b2 = b.most in
     record { least = omega (arith, ints); most = omega (arith, ints) }
   where
     in_range : (v : ℕ) → IsInRange (place points v)
-    in_range v =
-        elim (cases_lt v (length points)) [
-          | inl l ↦ h v l
-          | inr l ↦ subst IsInRange (sym (get_or_past points v (record { x = pos 0; y = pos 0 }) l)) (record { x = zero_within; y = zero_within })
-        ]
-      where
-        zero_within : IsWithin (pos 1048576) (pos 0)
-        zero_within = record { least = omega (arith, ints); most = omega (arith, ints) }
+    in_range v = grind (arith, cases_lt, length, IsInRange, get_or_past, pos, IsWithin, ints)

@@ -44,8 +44,7 @@ total-one t z (d ∷ ds) zero l on one =
     omega (arith, ints)
 total-one t z (d ∷ ds) (suc k) l on one =
     let e = cond-false (t d) z (pos 0) (false_from_ne_true (t d) (λ on'. let q = one 0 (omega arith) on' in absurd (omega arith))) in
-    let f = total-one t z ds k (omega arith) on (λ i m on'. let q = one (suc i) (omega arith) on' in omega arith) in
-    omega (arith, ints)
+    omega (arith, total-one t z ds k (omega arith) on (λ i m on'. let q = one (suc i) (omega arith) on' in omega arith), ints)
 
 -- ---- all darts of a map
 -- weights that are alike at each dart
@@ -74,13 +73,10 @@ row-without w v x [] c = absurd (let l = c.1 in omega arith)
 row-without w v x (y ∷ us) c =
     elim (cases_eq y x) [
       | inl e ↦
-          let p = ap (λ (k : ℕ). row w v (remove (y ∷ us) k)) (place_of-here x y us e) in
-          let q = ap (λ (k : ℕ). w (v, k)) e in
-          omega (arith, ints)
+          omega (arith, ap (λ (k : ℕ). w (v, k)) e, ap (λ (k : ℕ). row w v (remove (y ∷ us) k)) (place_of-here x y us e), ints)
       | inr ne ↦
-          let p = ap (λ (k : ℕ). row w v (remove (y ∷ us) k)) (place_of-there x y us ne) in
           let q = row-without w v x us (elim (Contains-cons_cases y us x c) [ inl e ↦ absurd (ne e) | inr h ↦ h ]) in
-          omega (arith, ints)
+          omega (arith, ap (λ (k : ℕ). row w v (remove (y ∷ us) k)) (place_of-there x y us ne), ints)
     ]
 
 -- a list replaced
@@ -88,29 +84,23 @@ total-set : (w : Dart → ℤ) (lists : Lists) (s v t : ℕ) (us : List ℕ) →
 total-set w [] s v t us e l = absurd (omega arith)
 total-set w (vs ∷ lists) s zero t us e l =
     let q : t ≡ s = omega arith in
-    let a = ap (λ (k : ℕ). row w k vs) q in
-    let b = ap (λ (k : ℕ). row w k us) q in
     let c = total-append w (darts_from s us) (darts_since (s + 1) lists) in
     let d = total-append w (darts_from s vs) (darts_since (s + 1) lists) in
-    omega (arith, ints)
+    omega (arith, ap (λ (k : ℕ). row w k us) q, ap (λ (k : ℕ). row w k vs) q, ints)
 total-set w (vs ∷ lists) s (suc v) t us e l =
-    let a = total-set w lists (s + 1) v t us (omega arith) (omega arith) in
     let c = total-append w (darts_from s vs) (darts_since (s + 1) (set lists v us)) in
     let d = total-append w (darts_from s vs) (darts_since (s + 1) lists) in
-    omega (arith, ints)
+    omega (arith, total-set w lists (s + 1) v t us (omega arith) (omega arith), ints)
 
 -- the two darts of an edge taken away
 pub total-without : (lists : Lists) → IsSimpleMap lists → (u v : ℕ) → HasDart lists u v → (w : Dart → ℤ) → total w (darts lists) ≡ (total w (darts (without_edge lists u v)) +ℤ w (u, v)) +ℤ w (v, u)
 total-without lists simple u v edge w =
     let back = simple.both_ways u v edge in
-    let ne : v ≢ u = simple.no_loop u v edge in
     let one = without_entry (list_of lists u) v in
     let other = without_entry (list_of lists v) u in
     let half = set lists u one in
-    let half_list : list_of half v ≡ list_of lists v = get_or-set_other lists u v one [] ne in
     let a = total-set w lists 0 u u one (omega arith) edge.0 in
-    let b = total-set w half 0 v v other (omega arith) (let n = length-set lists u one in let l = back.0 in omega arith) in
-    let c = ap (row w v) half_list in
+    let c = ap (row w v) (get_or-set_other lists u v one [] (simple.no_loop u v edge)) in
     let d = row-without w u v (list_of lists u) edge.1 in
     let e = row-without w v u (list_of lists v) back.1 in
-    omega (arith, ints)
+    omega (arith, total-set w half 0 v v other (omega arith) (let n = length-set lists u one in let l = back.0 in omega arith), ints)

@@ -8,7 +8,7 @@ use Rattle.map_theory.specs.Paths.{SameFace}
 use Rattle.map_theory.proofs.DartLemmas.{HasDart-face_step}
 use Rattle.half_edges.specs.Map.{Map, IsHalfMap, IsLive, dart_at}
 use Rattle.plane_laws.specs.Triangulations.{IsTriangulation}
-use Rattle.pg_plane.specs.declared.segments.Point.{Point}
+use Rattle.pg_plane.specs.declared.grid_points.Point.{Point}
 use Rattle.pg_plane.specs.Geometry.{area}
 use Rattle.plane_drawings.specs.Drawing.{place}
 use Rattle.vertex_rounds.specs.Rounds.{dart_of}
@@ -21,10 +21,8 @@ module _ (map : Map) (h : IsHalfMap map) where
   -- the head of the next dart along the face
   pub third_is : (d e a b w : ℕ) → dart_at map d ≡ Some (a, b) → dart_at map e ≡ option_map (face_step map.lists) (dart_at map d) → option_map (λ (x : Dart). x.1) (dart_at map e) ≡ Some w → (follows map.lists b a ≡ w) × HasDart map.lists b w
   third_is d e a b w is step head =
-      let to : dart_at map e ≡ Some (b, follows map.lists b a) = step ∙ ap (option_map (face_step map.lists)) is in
-      let t : Some (follows map.lists b a) ≡ Some w = sym (ap (option_map (λ (x : Dart). x.1)) to) ∙ head in
       let same : follows map.lists b a ≡ w = cc in
-      (same, subst (λ (x : ℕ). HasDart map.lists b x) same (h.is_dart e b (follows map.lists b a) to))
+      (same, subst (λ (x : ℕ). HasDart map.lists b x) same (h.is_dart e b (follows map.lists b a) (step ∙ ap (option_map (face_step map.lists)) is)))
 
   module _ (c : IsTriangulation map.lists) (base d second third : ℕ) (live : IsLive map base) (live' : IsLive map d) (step : dart_at map second ≡ option_map (face_step map.lists) (dart_at map base)) (step' : dart_at map third ≡ option_map (face_step map.lists) (dart_at map second)) where
     abbrev b : Dart
@@ -40,27 +38,13 @@ module _ (map : Map) (h : IsHalfMap map) where
     third_dart = step' ∙ ap (option_map (face_step map.lists)) second_is
 
     to_face : (d ≡ base) ⊎ ((d ≡ second) ⊎ (d ≡ third)) → SameFace map.lists b (dart_of map d)
-    to_face (inl e) = subst (λ (x : ℕ). SameFace map.lists b (dart_of map x)) (sym e) (same_itself map.lists c b)
-    to_face (inr (inl e)) =
-        subst (λ (x : ℕ). SameFace map.lists b (dart_of map x)) (sym e)
-        (subst (λ (x : Dart). SameFace map.lists b x) (sym (dart_of-is map second (face_step map.lists b) second_is)) (same_step map.lists c b b has (same_itself map.lists c b)))
-    to_face (inr (inr e)) =
-        subst (λ (x : ℕ). SameFace map.lists b (dart_of map x)) (sym e)
-        (subst (λ (x : Dart). SameFace map.lists b x) (sym (dart_of-is map third (face_step map.lists (face_step map.lists b)) third_dart))
-        (same_step map.lists c b (face_step map.lists b) (HasDart-face_step map.lists b c.simple has) (same_step map.lists c b b has (same_itself map.lists c b))))
+    to_face x0 = grind (arith, SameFace, dart_of, same_itself, Dart, dart_of-is, face_step, second_is, same_step, has, third_dart, HasDart-face_step)
 
     one_id : (e : ℕ) (x : Dart) → dart_at map e ≡ Some x → dart_of map d ≡ x → d ≡ e
     one_id e x is same = h.one_id d e x.0 x.1 (dart_of-live map d live' ∙ ap (λ (y : Dart). Some y) same) is
 
     from_face : SameFace map.lists b (dart_of map d) → (d ≡ base) ⊎ ((d ≡ second) ⊎ (d ≡ third))
-    from_face same =
-        elim (on_base map.lists c b has (dart_of map d) (has_dart map h d live') same) [
-          | inl e ↦ inl (one_id base b (dart_of-live map base live) e)
-          | inr o ↦ elim o [
-            | inl e ↦ inr (inl (one_id second (face_step map.lists b) second_is e))
-            | inr e ↦ inr (inr (one_id third (face_step map.lists (face_step map.lists b)) third_dart e))
-          ]
-        ]
+    from_face same = grind (arith, on_base, has, dart_of, has_dart, one_id, dart_of-live, face_step, second_is, third_dart)
 
     -- a dart on the face of the base has one of three ids
     pub on_base_is : (r : Bool) → ((r ≡ true → (d ≡ base) ⊎ ((d ≡ second) ⊎ (d ≡ third))) × ((d ≡ base) ⊎ ((d ≡ second) ⊎ (d ≡ third)) → r ≡ true)) → (r ≡ true → SameFace map.lists (dart_of map base) (dart_of map d)) × (SameFace map.lists (dart_of map base) (dart_of map d) → r ≡ true)
@@ -92,13 +76,4 @@ module _ (map : Map) (points : List Point) (base : ℕ) where
   no_wrong_three none a b w x = none a b (told_by_two a b w x)
 
   pub least_wrong_three : (a b w : ℕ) → IsLeastPair (IsWrongFrom map points base) a b → follows map.lists b a ≡ w → IsLeastTriple (IsDrawnWrong map.lists points (dart_of map base)) a b w
-  least_wrong_three a b w least third = record {
-    before = λ r s t less x. least.before r s less (told_by_two r s t x);
-    rest = record {
-      before = λ s t less x. least.rest.before s less (told_by_two a s t x);
-      rest = record {
-        here = subst (IsDrawnWrong map.lists points (dart_of map base) a b) third least.rest.here;
-        before = λ t less x. let same = x.third in omega arith;
-      };
-    };
-  }
+  least_wrong_three a b w least third = grind (arith, told_by_two, IsDrawnWrong, dart_of)

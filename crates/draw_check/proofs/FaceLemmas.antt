@@ -11,7 +11,7 @@ use Rattle.map_theory.specs.Paths.{SameFace}
 use Rattle.map_theory.proofs.DartLemmas.{dart_number-lt, get_or-dart_number, dart_number-injective, HasDart-face_step, length-face_images, get_or-face_images, IsPermutationOfBelow-face_images}
 use Rattle.plane_laws.specs.Triangulations.{IsTriangulation}
 use Rattle.plane_laws.proofs.Triangles.{triangles_where_met}
-use Rattle.pg_plane.specs.declared.segments.Point.{Point}
+use Rattle.pg_plane.specs.declared.grid_points.Point.{Point}
 use Rattle.pg_plane.specs.Geometry.{area}
 use Rattle.pg_plane.specs.Faced.{in_base}
 use Rattle.pg_plane.proofs.Near.{IsOnFace}
@@ -22,12 +22,7 @@ use Rattle.draw_check.specs.FaceVerdicts.{IsDrawnWell, IsDrawnWrong}
 
 -- a dart that passes the test lies on the face
 on_face_from : (step : ℕ → ℕ) (b i : ℕ) → in_base step b i ≡ true → IsOnFace step b i
-on_face_from step b i e = either_of (eqb i b) (eqb i (step b)) (eqb i (step (step b))) (eqb-true i b) (eqb-true i (step b)) (eqb-true i (step (step b))) e
-  where
-    either_of : {P Q R : Type 0} (p q r : Bool) → (p ≡ true → P) → (q ≡ true → Q) → (r ≡ true → R) → (p || (q || r)) ≡ true → P ⊎ (Q ⊎ R)
-    either_of true q r f g h e = inl (f refl)
-    either_of false true r f g h e = inr (inl (g refl))
-    either_of false false r f g h e = inr (inr (h e))
+on_face_from step b i e = grind (arith, eqb, eqb-true)
 
 module _ (lists : Lists) (c : IsTriangulation lists) where
   -- three steps lead back

@@ -14,7 +14,7 @@ use Rattle.half_edges.specs.Map.{Map, IsHalfMap, IsLive, dart_at}
 use Rattle.euler_faces.specs.Numbers.{number_at}
 use Rattle.euler_faces.specs.FaceWalks.{walk_at, first_number, AreFaces}
 use Rattle.euler_faces.proofs.NumberLemmas.{number_at-is, number_at-lt, few_darts, live_from}
-use Rattle.pg_plane.specs.declared.segments.Point.{Point}
+use Rattle.pg_plane.specs.declared.grid_points.Point.{Point}
 use Rattle.pg_plane.specs.Range.{IsWithin}
 use Rattle.draw_check.specs.Loops.{IsDrawn}
 use Rattle.vertex_rounds.specs.Rounds.{dart_of}
@@ -49,9 +49,8 @@ module _ (map : Map) (h : IsHalfMap map) (walks : List (List ℕ)) (faces : AreF
     pub AreSumsBelow-more : (f d v u : ℕ) (z : ℤ) → f < length walks → dart_at map d ≡ Some (v, u) → number_at map d ≡ k → Contains (walk_at walks f) d → z ≡ get_or sums f (pos 0) +ℤ swept points (v, u) → AreSumsBelow map points walks (k + 1) (set sums f z)
     AreSumsBelow-more f d v u z l is number c e =
         let ds = darts map.lists in
-        let n = length-darts map.lists in
         let count = s.count in
-        let in_k : k < length ds = omega (arith, number_at-lt map h d (live_from (dart_at map d) (v, u) is)) in
+        let in_k : k < length ds = omega (arith, length-darts map.lists, number_at-lt map h d (live_from (dart_at map d) (v, u) is)) in
         let has = h.is_dart d v u is in
         let here : get_or ds k (0, 0) ≡ (v, u) = ap (λ (i : ℕ). get_or ds i (0, 0)) (sym number ∙ number_at-is map d v u is) ∙ get_or-dart_number map.lists v u (0, 0) has in
         let step : (g : ℕ) → sum_over (is_on_walk map (walk_at walks g)) (swept points) (take (k + 1) ds) ≡ sum_over (is_on_walk map (walk_at walks g)) (swept points) (take k ds) +ℤ cond (is_on_walk map (walk_at walks g) (v, u)) (swept points (v, u)) (pos 0) =
@@ -60,13 +59,7 @@ module _ (map : Map) (h : IsHalfMap map) (walks : List (List ℕ)) (faces : AreF
           count = length-set sums f z ∙ s.count;
           each = λ g l'.
               elim (cases_eq g f) [
-                | inl q ↦
-                    let on = on_walk f d v u l is c in
-                    let on' : is_on_walk map (walk_at walks g) (v, u) ≡ true = ap (λ (i : ℕ). is_on_walk map (walk_at walks i) (v, u)) q ∙ on in
-                    let first : get_or (set sums f z) g (pos 0) ≡ z = ap (λ (i : ℕ). get_or (set sums f z) i (pos 0)) q ∙ get_or-set_same sums f z (pos 0) (omega arith) in
-                    let old : get_or sums f (pos 0) ≡ sum_over (is_on_walk map (walk_at walks g)) (swept points) (take k ds) = ap (λ (i : ℕ). get_or sums i (pos 0)) (sym q) ∙ s.each g l' in
-                    let turn = cond-true (is_on_walk map (walk_at walks g) (v, u)) (swept points (v, u)) (pos 0) on' in
-                    first ∙ e ∙ (ap (λ (x : ℤ). x +ℤ swept points (v, u)) old ∙ (ap (λ (x : ℤ). sum_over (is_on_walk map (walk_at walks g)) (swept points) (take k ds) +ℤ x) (sym turn) ∙ sym (step g)))
+                | inl q ↦ grind (arith, on_walk, is_on_walk, walk_at, get_or, set, pos, get_or-set_same, sum_over, swept, take, cond-true)
                 | inr ne ↦
                     let off = false_from_ne_true (is_on_walk map (walk_at walks g) (v, u)) (λ t. ne (one_face f g d v u l l' is c t)) in
                     let turn = cond-false (is_on_walk map (walk_at walks g) (v, u)) (swept points (v, u)) (pos 0) off in
@@ -80,8 +73,6 @@ module _ (map : Map) (h : IsHalfMap map) (walks : List (List ℕ)) (faces : AreF
     sum-within drawn f l =
         let ds = darts map.lists in
         let b = sum_over-within (is_on_walk map (walk_at walks f)) (swept points) (take k ds) (swept-within points drawn.places.in_range) in
-        let low = b.least in
-        let high = b.most in
         let n : length (take k ds) ≤ 16769025 = omega (arith, length-darts map.lists, few_darts map h, length-take {A = Dart} k ds) in
         let e = s.each f l in
         record { least = omega (arith, ints); most = omega (arith, ints) }

@@ -8,7 +8,7 @@ use Rattle.map_lists.specs.Lists.{Lists}
 use Rattle.map_theory.specs.Maps.{Dart, HasDart, IsSimpleMap, darts, dart_number, face_classes}
 use Rattle.map_theory.specs.Paths.{SameFace}
 use Rattle.plane_laws.specs.Laws.{IsMergedFaces}
-use Rattle.pg_plane.specs.declared.segments.Point.{Point}
+use Rattle.pg_plane.specs.declared.grid_points.Point.{Point}
 use Rattle.draw_check.specs.Outer.{swept, face_sum, AreOthersPositive}
 use Rattle.draw_check.proofs.DartTotals.{total, sum_over-total, total-add, total-darts}
 
@@ -41,12 +41,7 @@ weight-off lists points d e n = cond-false (same_face lists d e) (swept points e
 
 -- merged faces, with the two exchanged
 pub IsMergedFaces-turned : (lists rest : Lists) (a b : Dart) → IsMergedFaces lists rest a b → IsMergedFaces lists rest b a
-IsMergedFaces-turned lists rest a b m = record {
-  apart = λ s. m.apart (SameFace-turned lists b a s);
-  kept = m.kept;
-  made_one = λ c d h h' s t. SameFace-turned rest d c (m.made_one d c h' h (SameFace-turned lists a d t) (SameFace-turned lists c b s));
-  no_more = λ c d h h' s. ⊎_elim (λ k. inl k) (λ k. ⊎_elim (λ x. inr (inr x)) (λ x. inr (inl x)) k) (m.no_more c d h h' s);
-}
+IsMergedFaces-turned lists rest a b m = grind (arith, SameFace-turned)
 
 module _ (lists rest : Lists) (points : List Point) (simple' : IsSimpleMap rest) (a b : Dart) (m : IsMergedFaces lists rest a b) (split : (w : Dart → ℤ) → total w (darts lists) ≡ (total w (darts rest) +ℤ w a) +ℤ w b) (opposite : swept points a +ℤ swept points b ≡ pos 0) where
   not_back : ¬ SameFace lists b a
@@ -59,30 +54,23 @@ module _ (lists rest : Lists) (points : List Point) (simple' : IsSimpleMap rest)
         let e : Dart = (v, u) in
         elim (cases_Bool (same_face lists a e)) [
           | inl on ↦
-              let one = weight-on rest points d e (m.kept d e has has' (SameFace-chained lists d a e at on)) in
-              let two = weight-on lists points a e on in
               let three = weight-off lists points b e (λ s. m.apart (SameFace-chained lists a e b on (SameFace-turned lists b e s))) in
-              omega (arith, ints)
+              omega (arith, weight-on lists points a e on, weight-on rest points d e (m.kept d e has has' (SameFace-chained lists d a e at on)), ints)
           | inr off ↦
               let two = weight-off lists points a e (λ s. true≢false (sym s ∙ off)) in
               elim (cases_Bool (same_face lists b e)) [
                 | inl on ↦
-                    let one = weight-on rest points d e (m.made_one d e has has' at on) in
-                    let three = weight-on lists points b e on in
-                    omega (arith, ints)
+                    omega (arith, weight-on lists points b e on, weight-on rest points d e (m.made_one d e has has' at on), ints)
                 | inr off' ↦
-                    let three = weight-off lists points b e (λ s. true≢false (sym s ∙ off')) in
                     let one = weight-off rest points d e (λ s.
                     ⊎_elim (λ k. true≢false (sym (SameFace-chained lists a d e (SameFace-turned lists d a at) k) ∙ off))
                     (λ k. ⊎_elim (λ x. true≢false (sym x.1 ∙ off')) (λ x. true≢false (sym x.1 ∙ off)) k) (m.no_more d e has has' s)) in
-                    omega (arith, ints)
+                    omega (arith, weight-off lists points b e (λ s. true≢false (sym s ∙ off')), ints)
               ]
         ]
 
     pub joined_sum : face_sum rest points d ≡ face_sum lists points a +ℤ face_sum lists points b
     joined_sum =
-        let one = face_sum-total rest points d in
-        let two = face_sum-total lists points a in
         let three = face_sum-total lists points b in
         let parts = total-darts rest simple' (weight rest points d) (λ (e : Dart). weight lists points a e +ℤ weight lists points b e) joined_weight in
         let add = total-add (weight lists points a) (weight lists points b) (darts rest) in
@@ -92,7 +80,7 @@ module _ (lists rest : Lists) (points : List Point) (simple' : IsSimpleMap rest)
         let ab = weight-off lists points a b m.apart in
         let ba = weight-off lists points b a not_back in
         let bb = weight-on lists points b b (same_class-from (face_classes lists) (dart_number lists b) (dart_number lists b) refl) in
-        omega (arith, ints)
+        omega (arith, face_sum-total lists points a, face_sum-total rest points d, ints)
 
   -- any other face
   module _ (d : Dart) (has : HasDart rest d.0 d.1) (off_a : ¬ SameFace lists d a) (off_b : ¬ SameFace lists d b) where
@@ -108,13 +96,11 @@ module _ (lists rest : Lists) (points : List Point) (simple' : IsSimpleMap rest)
 
     pub other_sum : face_sum rest points d ≡ face_sum lists points d
     other_sum =
-        let one = face_sum-total rest points d in
-        let two = face_sum-total lists points d in
         let same = total-darts rest simple' (weight rest points d) (weight lists points d) other_weight in
         let all = split (weight lists points d) in
         let da = weight-off lists points d a off_a in
         let db = weight-off lists points d b off_b in
-        omega (arith, ints)
+        omega (arith, face_sum-total lists points d, face_sum-total rest points d, ints)
 
 -- where each face but the base's has a positive area, it is so without the edge
 pub AreOthersPositive-joined : (lists rest : Lists) (points : List Point) (base : Dart) → IsSimpleMap rest → (a b : Dart) → HasDart lists a.0 a.1 → HasDart lists b.0 b.1 → IsMergedFaces lists rest a b → ((w : Dart → ℤ) → total w (darts lists) ≡ (total w (darts rest) +ℤ w a) +ℤ w b) → swept points a +ℤ swept points b ≡ pos 0 → ((v u : ℕ) → HasDart rest v u → HasDart lists v u) → HasDart rest base.0 base.1 → AreOthersPositive lists points base → AreOthersPositive rest points base
@@ -123,10 +109,9 @@ AreOthersPositive-joined lists rest points base simple' a b has_a has_b m split 
     let off' : ¬ SameFace lists base d = λ s. off (m.kept base d has has_d s) in
     elim (cases_Bool (same_face lists d a)) [
       | inl on ↦
-          let one = outer a.0 a.1 has_a (λ s. off' (SameFace-chained lists base a d s (SameFace-turned lists d a on))) in
           let two = outer b.0 b.1 has_b (λ s. off (SameFace-turned rest d base (m.made_one d base has_d has on (SameFace-turned lists base b s)))) in
           let sum = joined_sum lists rest points simple' a b m split opposite d has_d on in
-          omega (arith, ints)
+          omega (arith, outer a.0 a.1 has_a (λ s. off' (SameFace-chained lists base a d s (SameFace-turned lists d a on))), ints)
       | inr no_a ↦
           elim (cases_Bool (same_face lists d b)) [
             | inl on ↦
@@ -135,11 +120,9 @@ AreOthersPositive-joined lists rest points base simple' a b has_a has_b m split 
                 let two = outer a.0 a.1 has_a (λ s. off (SameFace-turned rest d base (m'.made_one d base has_d has on (SameFace-turned lists base a s)))) in
                 let split' : (w : Dart → ℤ) → total w (darts lists) ≡ (total w (darts rest) +ℤ w b) +ℤ w a = λ w. let e = split w in omega (arith, ints) in
                 let opposite' : swept points b +ℤ swept points a ≡ pos 0 = omega (arith, ints) in
-                let sum = joined_sum lists rest points simple' b a m' split' opposite' d has_d on in
-                omega (arith, ints)
+                omega (arith, joined_sum lists rest points simple' b a m' split' opposite' d has_d on, ints)
             | inr no_b ↦
                 let sum = other_sum lists rest points simple' a b m split opposite d has_d (λ s. true≢false (sym s ∙ no_a)) (λ s. true≢false (sym s ∙ no_b)) in
-                let one = outer v u (old v u has_d) off' in
-                omega (arith, ints)
+                omega (arith, outer v u (old v u has_d) off', ints)
           ]
     ]

@@ -4,7 +4,7 @@ use Rattle.std.proofs.lemmas.Bool.{cases_Bool, cases_lt}
 use Rattle.map_lists.specs.Lists.{Lists}
 use Rattle.map_lists.specs.declared.ids.VertexId.{VertexId}
 use Rattle.map_theory.specs.Maps.{HasDart, IsSimpleMap}
-use Rattle.pg_plane.specs.declared.segments.Point.{Point}
+use Rattle.pg_plane.specs.declared.grid_points.Point.{Point}
 use Rattle.pg_plane.proofs.Segments.{IsOnSegment-back, DoCross-second_back}
 use Rattle.plane_drawings.specs.Drawing.{place, IsPlaneDrawing}
 use Rattle.plane_drawings.specs.SweepCheckLines.{is_among, is_firm, firm_lists}
@@ -37,7 +37,6 @@ module _ (lists : Lists) (points : List Point) (loose : List ℕ) (simple : IsSi
   -- no two vertices stand at one place
   pub apart_but_loose : NoneShareAPlace lists points
   apart_but_loose u v s =
-      let less = s.order in
       plane.apart u v (in_firm u (let l = s.vertex in omega arith)) (in_firm v s.vertex) (λ e. omega arith) s.same
 
   -- a vertex on an edge lies on one of a loose vertex
@@ -58,13 +57,12 @@ module _ (lists : Lists) (points : List Point) (loose : List ℕ) (simple : IsSi
   uncrossed_but_loose a b c d firm_a firm_b clear x =
       let firm : is_firm loose a.0 b.0 ≡ true = rw (firm_a, firm_b) refl in
       let n = x.apart in
-      let has = x.second.1 in
       elim (cases_Bool (is_firm loose c d)) [
-        | inl t ↦ plane.no_crossing a.0 b.0 c d (firm_dart a.0 b.0 x.first.1 firm) (firm_dart c d has t) n.0 n.1 n.2 n.3 x.cross
+        | inl t ↦ plane.no_crossing a.0 b.0 c d (firm_dart a.0 b.0 x.first.1 firm) (firm_dart c d x.second.1 t) n.0 n.1 n.2 n.3 x.cross
         | inr f ↦ elim (loose_end (is_among loose c) (is_among loose d) f) [
-          | inl t ↦ clear c d t has (record { meets = (n.0, n.1, n.2, n.3, x.cross) })
+          | inl t ↦ clear c d t x.second.1 (record { meets = (n.0, n.1, n.2, n.3, x.cross) })
           | inr t ↦
-              clear d c t (simple.both_ways c d has)
+              clear d c t (simple.both_ways c d x.second.1)
               (record { meets = (n.2, n.3, n.0, n.1, DoCross-second_back (place points a.0) (place points b.0) (place points c) (place points d) x.cross) })
         ]
       ]
@@ -76,7 +74,6 @@ module _ (lists : Lists) (points : List Point) (loose : List ℕ) (simple : IsSi
     | inl less ↦
         absurd (off_but_loose (record { 0 = w }) a b (λ h u t has touches.
         let at = place_in crowd w among in
-        let met = subst (λ x. Meets points (Vertex (record { 0 = x })) h u) (sym at.2) touches.meets in
-        let bound = bounds h t u (omega arith) has at.0 at.1 met in
+        let bound = bounds h t u (omega arith) has at.0 at.1 (subst (λ x. Meets points (Vertex (record { 0 = x })) h u) (sym at.2) touches.meets) in
         omega (arith, at.2)) on)
   ]

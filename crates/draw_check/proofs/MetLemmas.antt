@@ -5,7 +5,7 @@ use Rattle.map_lists.specs.Lists.{Lists}
 use Rattle.map_lists.specs.declared.ids.VertexId.{VertexId}
 use Rattle.map_lists.specs.declared.ids.DartId.{DartId}
 use Rattle.map_lists.specs.declared.items.Ends.{Ends}
-use Rattle.pg_plane.specs.declared.segments.Point.{Point}
+use Rattle.pg_plane.specs.declared.grid_points.Point.{Point}
 use Rattle.map_theory.specs.Maps.{Dart}
 use Rattle.half_edges.specs.Map.{Map, IsHalfMap, IsLive, dart_at}
 use Rattle.vertex_rounds.specs.First.{FindsFirst}
@@ -22,22 +22,18 @@ use Rattle.draw_check.specs.declared.edge_meetings.Probe.TheVariants.{Edge, Vert
 -- the head of a dart is one of as many vertices as there are lists
 pub head_below : (map : Map) → IsHalfMap map → (d u n : ℕ) → IsLive map d → option_map (λ (x : Dart). x.1) (dart_at map d) ≡ Some u → n ≡ length map.lists → u < n
 head_below map h d u n live e same =
-    let l = h.simple.in_range (dart_of map d).0 (dart_of map d).1 (has_dart map h d live) in
-    let is = head_is map d u live e in
-    omega arith
+    omega (arith, head_is map d u live e, h.simple.in_range (dart_of map d).0 (dart_of map d).1 (has_dart map h d live))
 
 module _ (lists : Lists) (points : List Point) (a b : VertexId) (edge : HasEdge lists a.0 b.0) where
   met_by_edge : (c d : ℕ) → EdgesCross lists points a.0 b.0 c d → IsMetFrom lists points (Edge a b) (a.0 + 1) c d
   met_by_edge c d h =
-      let other = h.apart.0 in
       record {
-        late = ⊎_elim (λ less. omega arith) (λ same. absurd (other (sym same.0))) h.order;
+        late = ⊎_elim (λ less. omega arith) (λ same. absurd (h.apart.0 (sym same.0))) h.order;
         met = record { edge = h.second; meets = (h.apart.0, h.apart.1, h.apart.2, h.apart.3, h.cross) };
       }
 
   edges_cross : (c d : ℕ) → IsMetFrom lists points (Edge a b) (a.0 + 1) c d → EdgesCross lists points a.0 b.0 c d
   edges_cross c d h =
-      let late = h.late in
       let m = h.met.meets in
       record { first = edge; second = h.met.edge; order = inl (omega arith); apart = (m.0, m.1, m.2, m.3); cross = m.4 }
 

@@ -19,7 +19,7 @@ use Rattle.plane_laws.proofs.EdgeFaces.{bridge_test, faces_merged}
 use Rattle.plane_laws.proofs.EdgeRemoved.{edge_removed}
 use Rattle.plane_laws.specs.MapEditsCompleted.{IsExtended}
 use Rattle.plane_laws.proofs.KeptEdges.{filter-all, all_or_some}
-use Rattle.pg_plane.specs.declared.segments.Point.{Point}
+use Rattle.pg_plane.specs.declared.grid_points.Point.{Point}
 use Rattle.pg_plane.proofs.Identities.{cross_back}
 use Rattle.plane_drawings.specs.Drawing.{place, IsCounterclockwise}
 use Rattle.draw_check.specs.Outer.{swept, AreOthersPositive, HasOuterFace}
@@ -38,7 +38,6 @@ unfolding component_count
 some_component lists simple =
     let C = component_classes lists in
     let n = length-classes (length lists) (darts lists) in
-    let some = simple.some_vertex in
     let low = (IsLabels-components lists simple).low 0 in
     let one = count_below_into (λ i. 0) (λ i. true) (λ i. eqb (label C i) i) 1 (length C) (λ i m t. (omega arith, eq-eqb (label C 0) 0 (omega arith))) (λ i j m m' t t' e. omega arith) in
     omega arith
@@ -78,17 +77,7 @@ module _ (old : Lists) (simple : IsSimpleMap old) where
 
     -- without it the map still extends the old one
     IsExtended-without : IsExtended old (without_edge lists u v)
-    IsExtended-without = record {
-      vertices = length-without_edge lists simple' u v edge ∙ h.vertices;
-      lists = λ w.
-          elim (cases_eq w u) [
-            | inl e ↦ rw e (ap (filter (stands u)) (list_at_first lists simple' u v edge) ∙ (filter-without (stands u) (list_of lists u) v new ∙ h.lists u))
-            | inr nu ↦ elim (cases_eq w v) [
-              | inl e ↦ rw e (ap (filter (stands v)) (list_at_second lists simple' u v edge) ∙ (filter-without (stands v) (list_of lists v) u new_back ∙ h.lists v))
-              | inr nv ↦ ap (filter (stands w)) (list_elsewhere lists simple' u v edge w nu nv) ∙ h.lists w
-            ]
-          ];
-    }
+    IsExtended-without = grind (arith, length-without_edge, cases_eq, filter, stands, list_at_first, filter-without, list_of, list_at_second, new_back, list_elsewhere)
 
   module _ (points : List Point) (base : Dart) (has : HasDart old base.0 base.1) (one : component_count old ≡ 1) where
     -- the map is connected as the old one is, and where each face but the base's has a positive area in it, it is so in the old one
@@ -102,13 +91,12 @@ module _ (old : Lists) (simple : IsSimpleMap old) where
         let gone = edge_removed lists u v simple' plane edge in
         let test = bridge_test lists u v simple' plane edge in
         let some = some_component lists simple' in
-        let c = p.0 in
         let connected : component_count lists ≡ 1 =
         elim (cases_Bool (same_face lists (u, v) (v, u))) [
           | inl s ↦ (let e = test.0 s in omega arith)
           | inr n ↦ (let e = test.1 (λ s. true≢false (sym s ∙ n)) in omega arith)
         ] in
-        let merged = faces_merged lists u v simple' plane edge connected c in (
+        let merged = faces_merged lists u v simple' plane edge connected p.0 in (
           connected,
           λ outer.
               p.1

@@ -5,7 +5,7 @@ use Rattle.classes.specs.Classes.{merge}
 use Rattle.map_lists.specs.Lists.{Lists}
 use Rattle.map_lists.specs.declared.ids.VertexId.{VertexId}
 use Rattle.map_theory.specs.Maps.{Dart, entry_after, component_count}
-use Rattle.pg_plane.specs.declared.segments.Point.{Point}
+use Rattle.pg_plane.specs.declared.grid_points.Point.{Point}
 use Rattle.pg_plane.specs.Geometry.{vector, IsFirstHalf, IsClockBefore}
 use Rattle.draw_check.specs.FaceVerdicts.{IsFaceVerdict}
 use Rattle.draw_check.specs.Outer.{IsOuterVerdict}

@@ -25,8 +25,7 @@ module _ (xs : List ℕ) (b e : ℕ) (within : e ≤ length xs) where
   -- what holds of the entries of a run
   pub by_run : (P : ℕ → Type 0) → b ≤ e → ((i : ℕ) → i < length (run xs b e) → P (get_or (run xs b e) i 0)) → (i : ℕ) → b ≤ i → i < e → P (get_or xs i 0)
   by_run P order all i late less =
-      let is : get_or (run xs b e) (i - b) 0 ≡ get_or xs i 0 = run_at (i - b) (omega arith) ∙ ap (λ k. get_or xs k 0) (omega arith) in
-      subst P is (all (i - b) (omega (arith, length-run order)))
+      subst P (run_at (i - b) (omega arith) ∙ ap (λ k. get_or xs k 0) (omega arith)) (all (i - b) (omega (arith, length-run order)))
 
   -- and of these places of the list
   pub to_run : (P : ℕ → Type 0) → b ≤ e → ((i : ℕ) → b ≤ i → i < e → P (get_or xs i 0)) → (i : ℕ) → i < length (run xs b e) → P (get_or (run xs b e) i 0)

@@ -2,7 +2,7 @@
 use Rattle.std.proofs.Common.{◌≡◌, ◌⊎◌, Bool, true, false, cond, ℤ, pos, neg_ℤ, ◌-ℤ◌, ◌*ℤ◌, ◌≤ℤ◌, ◌<ℤ◌, sym, subst, inl, inr, arith}
 use Rattle.std.specs.Int.{int_min, int_max}
 use Rattle.std.proofs.lemmas.Int.{ints, by_lt_z}
-use Rattle.pg_plane.specs.declared.segments.Point.{Point}
+use Rattle.pg_plane.specs.declared.grid_points.Point.{Point}
 use Rattle.pg_plane.specs.Geometry.{area, AreOpposite, IsBetween, IsOnSegment, DoCross}
 use Rattle.pg_plane.specs.Range.{IsWithin}
 use Rattle.pg_plane.proofs.Ring.{ring, sums, product_signs}
@@ -51,14 +51,6 @@ low_uncrossed a b c d ac ad bc bd h = left_uncrossed (turned a) (turned b) (turn
 -- A segment on one side of a box crosses none in the box.
 pub apart_uncrossed : (span : BoundingBox) (a b c d : Point) → IsApart span a b → IsIn span c → IsIn span d → ¬ DoCross a b c d
 apart_uncrossed span a b c d apart p q h =
-    let pl = p.left in
-    let pr = p.right in
-    let pb = p.bottom in
-    let pt = p.top in
-    let ql = q.left in
-    let qr = q.right in
-    let qb = q.bottom in
-    let qt = q.top in
     let back = DoCross-exchanged a b c d h in
     elim apart [
       | inl (u, v) ↦ left_uncrossed a b c d (omega (arith, ints)) (omega (arith, ints)) (omega (arith, ints)) (omega (arith, ints)) h
@@ -151,12 +143,7 @@ left_off span r p box u inside on = let up = box u inside in let line = on.on_li
 
 -- a point in a box that reaches from one corner of another to the opposite one
 pub in_joined : (span other : BoundingBox) (low high u : Point) → low.x ≡ other.left → low.y ≡ other.bottom → high.x ≡ other.right → high.y ≡ other.top → IsIn span low → IsIn span high → IsIn other u → IsIn span u
-in_joined span other low high u left bottom right top first last inside = record {
-  left = let a = first.left in let b = inside.left in omega (arith, ints, left);
-  right = let a = last.right in let b = inside.right in omega (arith, ints, right);
-  bottom = let a = first.bottom in let b = inside.bottom in omega (arith, ints, bottom);
-  top = let a = last.top in let b = inside.top in omega (arith, ints, top);
-}
+in_joined span other low high u left bottom right top first last inside = grind (arith, ints)
 
 -- the corners of a box
 pub record AreCorners (span : BoundingBox) (low_left low_right high_left high_right : Point) : Type 0 where
@@ -172,10 +159,6 @@ pub record AreCorners (span : BoundingBox) (low_left low_right high_left high_ri
 -- what is to the left of a way by four corners is so by any point of their box
 pub corners_left : (span : BoundingBox) (a b c d : Point) (r u : Point) → AreCorners span a b c d → pos 0 <ℤ area r u a → pos 0 <ℤ area r u b → pos 0 <ℤ area r u c → pos 0 <ℤ area r u d → (p : Point) → IsIn span p → pos 0 <ℤ area r u p
 corners_left span a b c d r u at la lb lc ld p inside =
-    let e = inside.left in
-    let f = inside.right in
-    let g = inside.bottom in
-    let h = inside.top in
     let after : (k : Point) → pos 0 <ℤ area r u k → area r u k ≤ℤ area r u p → pos 0 <ℤ area r u p = λ k here more. omega (arith, ints, here, more) in
     elim (or_less r.x u.x) [
       | inl over ↦ elim (or_less r.y u.y) [
@@ -207,9 +190,6 @@ not_right span p q left u inside = let h = left u inside in omega (arith, ints)
 -- a point on one side of a box that holds both ends is on no segment between them
 apart_off : (s t v l h : ℤ) → l ≤ℤ s → s ≤ℤ h → l ≤ℤ t → t ≤ℤ h → IsBetween s t v → (v <ℤ l) ⊎ (h <ℤ v) → ⊥
 apart_off s t v l h ls sh lt th between out =
-    let b = between_bounds l h s t v ls sh lt th between in
-    let low = b.0 in
-    let high = b.1 in
     elim out [ inl x ↦ omega (arith, ints) | inr x ↦ omega (arith, ints) ]
 
 -- a point on one side of a box is on no segment in it

@@ -14,7 +14,7 @@ use Rattle.map_lists.specs.declared.items.Ends.{Ends}
 use Rattle.map_theory.specs.Maps.{HasDart, IsSimpleMap, list_of}
 use Rattle.map_theory.proofs.DartCounts.{length-le-below}
 use Rattle.map_theory.proofs.EntryLemmas.{Contains-filter, Contains-from_filter}
-use Rattle.pg_plane.specs.declared.segments.Point.{Point}
+use Rattle.pg_plane.specs.declared.grid_points.Point.{Point}
 use Rattle.plane_drawings.specs.Drawing.{place}
 use Rattle.vertex_rounds.specs.Least.{IsLeast, IsLeastPair}
 use Rattle.vertex_rounds.specs.Rounds.{HasEdge, ComesBefore}
@@ -51,12 +51,7 @@ heads_sorted lists v from old new p h u = (
 
 -- the boxes of runs, one written more
 pub runs-more : (runs : List BoundingBox) (k : ℕ) (x : BoundingBox) (P : ℕ → BoundingBox → Type 0) → k < length runs → P k x → ((j : ℕ) → j < k → P j (run_at runs j)) → (j : ℕ) → j < k + 1 → P j (run_at (set runs k x) j)
-runs-more runs k x P l here before j less =
-    let none : BoundingBox = record { left = pos 0; right = pos 0; bottom = pos 0; top = pos 0 } in
-    elim (cases_eq j k) [
-      | inl e ↦ subst (λ i. P i (run_at (set runs k x) i)) (sym e) (subst (P k) (sym (get_or-set_same runs k x none l)) here)
-      | inr ne ↦ subst (P j) (sym (get_or-set_other runs k j x none ne)) (before j (omega arith))
-    ]
+runs-more runs k x P l here before j less = grind (arith, BoundingBox, pos, cases_eq, run_at, set, get_or-set_same, get_or-set_other)
 
 -- heads are vertices
 pub heads_below : (lists : Lists) (v from : ℕ) (heads : List ℕ) → IsSimpleMap lists → AreHeads lists v from heads → All (λ u. u < length lists) heads
@@ -66,7 +61,6 @@ heads_below lists v from heads simple h = λ k d m. simple.in_range v (get_or he
 pub heads_edges : (lists : Lists) (v : ℕ) (heads : List ℕ) → AreHeads lists v (v + 1) heads → All (HasEdge lists v) heads
 heads_edges lists v heads are k d l =
     let h = (are (get_or heads k d)).0 (Contains-get_or heads k d l) in
-    let late = h.0 in
     (omega arith, h.1)
 
 -- What a run says of an edge is whether one of the run crosses it.
@@ -108,24 +102,7 @@ module _ (lists : Lists) (points : List Point) where
 
     -- and where one is the first that does
     pub found : (e : Ends) → All (HasEdge lists v) heads → (e.a.0 < v) × IsLeastPair (IsCrossedBy lists points v heads best) e.a.0 e.b.0 → IsLowered lists points v heads best (Some e)
-    found e edges least =
-        let x = least.1.rest.here in
-        let m = x.meets in
-        let second = edges x.place 0 x.within in
-        record {
-          crossed = λ _. record {
-            first = v;
-            second = get_or heads x.place 0;
-            cross = record { first = x.edge; second = second; order = inl least.0; apart = (m.0, m.1, m.2, m.3); cross = m.4 };
-          };
-          ahead = λ a b first. ahead_before best a b e.a.0 e.b.0 x.ahead first;
-          none = λ a b i first l y.
-              let by = by_cross a b i (ahead_before best a b e.a.0 e.b.0 x.ahead first) l y in
-              elim first [
-                | inl less ↦ least.1.before a b less by
-                | inr same ↦ least.1.rest.before b same.1 (subst (λ z. IsCrossedBy lists points v heads best z b) same.0 by)
-              ];
-        }
+    found e edges least = grind (arith, place, get_or, ahead_before, by_cross, IsCrossedBy)
 
     -- the edge found, if there is one, and else the best one
     pub found_or_kept : (first : Option Ends) → All (HasEdge lists v) heads
@@ -158,9 +135,7 @@ module _ (lists : Lists) (points : List Point) where
           | inl less ↦ h.none a b c d ahead (inl less) x
           | inr more ↦
               let same : c ≡ v = omega arith in
-              let less = x.second.0 in
               let at = place_in heads d ((are d).1 (omega arith, subst (λ w. HasDart lists w d) same x.second.1)) in
-              let within = at.1 in
               h.none a b c d ahead (inr (same, at.0, omega arith, at.1, at.2)) x
         ]
         | inr (same, i, l, m, is) ↦ absurd (omega arith)
@@ -183,7 +158,6 @@ pub reaches_from : (lists : Lists) (points : List Point) (v : ℕ) (heads : List
 reaches_from lists points v heads span wide are held vertex more = record {
   vertex = vertex;
   heads = λ u edge.
-      let less = edge.0 in
       let at = place_in heads u ((are u).1 (omega arith, edge.1)) in
       subst (λ w. IsIn wide (place points w)) at.2 (more (place points (get_or heads at.0 0)) (held at.0 at.1));
 }
@@ -200,5 +174,4 @@ block_uncrossed lists points v heads best span block held misses a b reach x =
 -- a vertex has less neighbours than there are vertices
 pub few_neighbours : (lists : Lists) (v : ℕ) → IsSimpleMap lists → length lists < 4096 → v < length lists → length (list_of lists v) ≤ 4095
 few_neighbours lists v simple few l =
-    let short = length-le-below (list_of lists v) (length lists) (λ u has. simple.in_range v u (l, has)) (simple.no_repeat v l) in
-    omega arith
+    omega (arith, length-le-below (list_of lists v) (length lists) (λ u has. simple.in_range v u (l, has)) (simple.no_repeat v l))

@@ -7,7 +7,7 @@ use Rattle.map_theory.specs.Maps.{Dart, HasDart, follows, darts, dart_number}
 use Rattle.map_theory.specs.Paths.{SameFace}
 use Rattle.map_theory.proofs.DartLemmas.{dart_number-injective, HasDart-face_step}
 use Rattle.plane_laws.specs.Triangulations.{IsTriangulation}
-use Rattle.pg_plane.specs.declared.segments.Point.{Point}
+use Rattle.pg_plane.specs.declared.grid_points.Point.{Point}
 use Rattle.pg_plane.specs.Geometry.{cross, area}
 use Rattle.pg_plane.proofs.Ring.{ring, sums}
 use Rattle.plane_drawings.specs.Drawing.{place, IsCounterclockwise}
@@ -73,14 +73,7 @@ module _ (lists : Lists) (c : IsTriangulation lists) (points : List Point) (u v 
   weight_three : (x y : ℕ) → HasDart lists x y → weight lists points (u, v) (x, y) ≡ three (x, y)
   weight_three x y has' =
       elim (cases_Bool (same_face lists (u, v) (x, y))) [
-        | inr off ↦
-            let zero : (s t : ℕ) → HasDart lists s t → SameFace lists (u, v) (s, t) → side s t (x, y) ≡ pos 0 =
-            λ s t has_s on. side-other s t has_s (x, y) has' (λ e. true≢false (sym (subst (λ (d : Dart). SameFace lists (u, v) d) (sym e) on) ∙ off)) in
-            let a = zero u v has on_first in
-            let b = zero v w has1 on_second in
-            let d = zero w u has2 on_third in
-            let z = weight-off lists points (u, v) (x, y) (λ s. true≢false (sym s ∙ off)) in
-            omega (arith, ints)
+        | inr off ↦ grind (arith, HasDart, SameFace, side, pos, side-other, true≢false, Dart, has2, on_third, weight-off, has1, on_second)
         | inl on ↦
             elim (on_base lists c (u, v) has (x, y) has' on) [
               | inl e ↦ subst (λ (d : Dart). weight lists points (u, v) d ≡ three d) (sym e) at_first
@@ -93,27 +86,21 @@ module _ (lists : Lists) (c : IsTriangulation lists) (points : List Point) (u v 
     where
       at_first : weight lists points (u, v) (u, v) ≡ three (u, v)
       at_first =
-          let z = weight-on lists points (u, v) (u, v) on_first in
-          let a = side-here u v in
           let b = side-other v w has1 (u, v) has (apart u v v w u_v) in
           let d = side-other w u has2 (u, v) has (apart u v w u (λ q. w_u (sym q))) in
-          omega (arith, ints)
+          omega (arith, side-here u v, weight-on lists points (u, v) (u, v) on_first, ints)
 
       at_second : weight lists points (u, v) (v, w) ≡ three (v, w)
       at_second =
-          let z = weight-on lists points (u, v) (v, w) on_second in
-          let a = side-other u v has (v, w) has1 (apart v w u v (λ q. u_v (sym q))) in
           let b = side-here v w in
           let d = side-other w u has2 (v, w) has1 (apart v w w u v_w) in
-          omega (arith, ints)
+          omega (arith, side-other u v has (v, w) has1 (apart v w u v (λ q. u_v (sym q))), weight-on lists points (u, v) (v, w) on_second, ints)
 
       at_third : weight lists points (u, v) (w, u) ≡ three (w, u)
       at_third =
-          let z = weight-on lists points (u, v) (w, u) on_third in
-          let a = side-other u v has (w, u) has2 (apart w u u v w_u) in
           let b = side-other v w has1 (w, u) has2 (apart w u v w (λ q. v_w (sym q))) in
           let d = side-here w u in
-          omega (arith, ints)
+          omega (arith, side-other u v has (w, u) has2 (apart w u u v w_u), weight-on lists points (u, v) (w, u) on_third, ints)
 
   -- the sum over the face
   pub triangle_sum : face_sum lists points (u, v) ≡ area (place points u) (place points v) (place points w)

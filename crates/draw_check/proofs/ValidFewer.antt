@@ -7,7 +7,7 @@ use Rattle.map_theory.specs.Maps.{HasDart, IsSimpleMap, list_of, entry_after}
 use Rattle.map_theory.specs.Paths.{from_entry}
 use Rattle.map_theory.proofs.EntryLemmas.{Contains-from_filter}
 use Rattle.plane_laws.specs.MapEditsCompleted.{IsExtended}
-use Rattle.pg_plane.specs.declared.segments.Point.{Point}
+use Rattle.pg_plane.specs.declared.grid_points.Point.{Point}
 use Rattle.pg_plane.specs.Geometry.{vector, IsClockBefore}
 use Rattle.plane_drawings.specs.Drawing.{place, GoesOnceRound, IsPlaneDrawing, KeepsRotations}
 use Rattle.draw_check.specs.Laws.{IsValid}
@@ -18,7 +18,6 @@ module _ (lists more : Lists) (points : List Point) (simple : IsSimpleMap lists)
   -- a dart stays
   pub dart_more : (u v : ℕ) → HasDart lists u v → HasDart more u v
   dart_more u v has =
-      let n = h.vertices in
       let l = has.0 in (
         omega arith,
         (Contains-from_filter (λ x. list_any (λ w. w == x) (list_of lists u)) (list_of more u) v (subst (λ us. Contains us v) (sym (h.lists u)) has.1)).0,
@@ -26,7 +25,6 @@ module _ (lists more : Lists) (points : List Point) (simple : IsSimpleMap lists)
 
   plane_fewer : IsPlaneDrawing more points → IsPlaneDrawing lists points
   plane_fewer p =
-      let n = h.vertices in
       record {
         apart = λ u v lu lv. p.apart u v (omega arith) (omega arith);
         off_edges = λ u v w has lw. p.off_edges u v w (dart_more u v has) (omega arith);
@@ -54,7 +52,6 @@ module _ (lists more : Lists) (points : List Point) (simple : IsSimpleMap lists)
     round_fewer : v < length lists → 2 ≤ length (list_of lists v) → GoesOnceRound more points v → GoesOnceRound lists points v
     round_fewer lv two g =
         let us = list_of more v in
-        let n = h.vertices in
         let lv' : v < length more = omega arith in
         let x = g.some.0 in
         let distinct = simple'.no_repeat v lv' in
@@ -69,14 +66,12 @@ module _ (lists more : Lists) (points : List Point) (simple : IsSimpleMap lists)
 
   rotations_fewer : KeepsRotations more points → KeepsRotations lists points
   rotations_fewer k v lv two =
-      let n = h.vertices in
       let long = length-filter_both (λ u. list_any (λ w. w == u) (list_of lists v)) (λ u. not (list_any (λ w. w == u) (list_of lists v))) (λ u. refl) (list_of more v) in
       round_fewer v lv two (k v (omega arith) (let e = ap length (h.lists v) in omega arith))
 
 -- the law
 pub valid_with_fewer : (lists more : Lists) (points : List Point) (width height : ℤ) → IsSimpleMap lists → IsSimpleMap more → IsExtended lists more → IsValid more points width height → IsValid lists points width height
 valid_with_fewer lists more points width height simple simple' h v =
-    let n = h.vertices in
     record {
       in_grid = λ x lx. v.in_grid x (omega arith);
       plane = plane_fewer lists more points simple simple' h v.plane;

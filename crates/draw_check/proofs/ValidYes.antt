@@ -3,7 +3,7 @@ use Rattle.std.proofs.Common.{◌≢◌, ℕ, ◌<◌, List, length, ℤ, sym, i
 use Rattle.std.proofs.lemmas.Bool.{cases_lt}
 use Rattle.map_lists.specs.Lists.{Lists}
 use Rattle.map_theory.specs.Maps.{IsSimpleMap, HasDart}
-use Rattle.pg_plane.specs.declared.segments.Point.{Point}
+use Rattle.pg_plane.specs.declared.grid_points.Point.{Point}
 use Rattle.pg_plane.specs.Geometry.{IsOnSegment, DoCross}
 use Rattle.plane_drawings.specs.Drawing.{place, IsPlaneDrawing}
 use Rattle.draw_check.specs.declared.verdict.Verdict.TheVariants.{Yes}
@@ -32,14 +32,7 @@ module _ (lists : Lists) (points : List Point) (simple : IsSimpleMap lists) (apa
   no_edges a b c d e f n1 n2 n3 n4 x =
       elim (cases_lt a c) [
         | inl l ↦ none a b c d (record { first = e; second = f; order = inl l; apart = (n1, n2, n3, n4); cross = x })
-        | inr l ↦
-            none c d a b (record {
-              first = f;
-              second = e;
-              order = inl (omega (arith, n1));
-              apart = (λ q. n1 (sym q), λ q. n3 (sym q), λ q. n2 (sym q), λ q. n4 (sym q));
-              cross = DoCross-exchanged (place points a) (place points b) (place points c) (place points d) x;
-            })
+        | inr l ↦ grind (arith, DoCross-exchanged, place)
       ]
 
   -- the second by either end first

@@ -5,7 +5,7 @@ use Rattle.map_theory.specs.Maps.{Dart, HasDart, darts, dart_number, face_classe
 use Rattle.map_theory.specs.Paths.{SameFace}
 use Rattle.half_edges.specs.Map.{Map}
 use Rattle.euler_faces.specs.FaceWalks.{walk_at, first_number}
-use Rattle.pg_plane.specs.declared.segments.Point.{Point}
+use Rattle.pg_plane.specs.declared.grid_points.Point.{Point}
 use Rattle.vertex_rounds.specs.Rounds.{dart_of}
 use Rattle.draw_check.specs.Outer.{swept, sum_over}
 

@@ -3,7 +3,7 @@ use Rattle.std.specs.Prelude.{List, ℤ, ◌↔◌}
 use Rattle.map_lists.specs.Lists.{Lists}
 use Rattle.map_theory.specs.Maps.{IsSimpleMap}
 use Rattle.plane_laws.specs.MapEditsCompleted.{IsExtended}
-use Rattle.pg_plane.specs.declared.segments.Point.{Point}
+use Rattle.pg_plane.specs.declared.grid_points.Point.{Point}
 use Rattle.plane_drawings.specs.Drawing.{IsPlaneDrawing, KeepsRotations}
 use Rattle.draw_check.specs.declared.verdict.Verdict.TheVariants.{Yes}
 use Rattle.draw_check.specs.Verdicts.{AllInGrid, IsVerdict}

@@ -2,7 +2,7 @@
 use Rattle.std.specs.Prelude.{ℕ, ◌<◌, ◌≤◌, ◌≢◌, List}
 use Rattle.map_lists.specs.Lists.{Lists}
 use Rattle.half_edges.specs.Map.{Map, IsHalfMap}
-use Rattle.pg_plane.specs.declared.segments.Point.{Point}
+use Rattle.pg_plane.specs.declared.grid_points.Point.{Point}
 use Rattle.pg_plane.specs.Geometry.{IsOnSegment, DoCross}
 use Rattle.plane_drawings.specs.Drawing.{place, IsBreak}
 use Rattle.draw_check.specs.Faults.{HasPlaces, EdgesCross}

@@ -2,7 +2,7 @@
 use Rattle.std.specs.Prelude.{ℕ, ◌<◌, ◌≤◌, List, length, slice_index, Contains}
 use Rattle.map_lists.specs.Lists.{Lists}
 use Rattle.map_theory.specs.Maps.{HasDart}
-use Rattle.pg_plane.specs.declared.segments.Point.{Point}
+use Rattle.pg_plane.specs.declared.grid_points.Point.{Point}
 use Rattle.draw_check.specs.Faults.{LiesOnEdge}
 use Rattle.draw_check.specs.Loops.{Meets}
 use Rattle.draw_check.specs.declared.edge_meetings.Probe.TheVariants.{Vertex}

@@ -1,6 +1,6 @@
 -- Boxes of points, and segments that miss those between a point and a box.
 use Rattle.std.specs.Prelude.{◌⊎◌, pos, ◌≤ℤ◌, ◌<ℤ◌}
-use Rattle.pg_plane.specs.declared.segments.Point.{Point}
+use Rattle.pg_plane.specs.declared.grid_points.Point.{Point}
 use Rattle.pg_plane.specs.Geometry.{area, IsOnSegment, DoCross}
 use Rattle.pg_plane.specs.Range.{IsWithin}
 use Rattle.draw_check.specs.declared.bounding_boxes.BoundingBox.{BoundingBox}

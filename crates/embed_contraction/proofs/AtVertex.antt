@@ -13,22 +13,12 @@ use Rattle.embed_contraction.proofs.Frames.{IsFrame}
 
 -- the two branches of a path are two
 pub pairs_apart : (kind : Kind) (p : ℕ) → p < path_count kind → (pair_at kind p).0 ≢ (pair_at kind p).1
-pairs_apart K5 =
-    each_of_ten (λ p. (pair_at K5 p).0 ≢ (pair_at K5 p).1) (λ e. omega arith) (λ e. omega arith) (λ e. omega arith) (λ e. omega arith) (λ e. omega arith) (λ e. omega arith) (λ e. omega arith) (λ e. omega arith) (λ e. omega arith) (λ e. omega arith)
-pairs_apart K33 =
-    each_of_nine (λ p. (pair_at K33 p).0 ≢ (pair_at K33 p).1) (λ e. omega arith) (λ e. omega arith) (λ e. omega arith) (λ e. omega arith) (λ e. omega arith) (λ e. omega arith) (λ e. omega arith) (λ e. omega arith) (λ e. omega arith)
+pairs_apart x0 = grind (arith, K5, each_of_ten, pair_at, K33, each_of_nine)
 
 module _ (n : ℕ) (kind : Kind) (branch size : ℕ → ℕ) (way : ℕ → ℕ → ℕ) (frame : IsFrame n kind branch size way) where
   -- the two ends of a step are two
   pub step_apart : (p i : ℕ) → p < path_count kind → i < size p → way p i ≢ way p (suc i)
-  step_apart p zero l m e =
-      elim (cases_eq (size p) 1) [
-        | inl one ↦
-            let b = pairs_within kind p l in
-            pairs_apart kind p l (frame.distinct (pair_at kind p).0 (pair_at kind p).1 b.0 b.1 (sym (frame.start p l) ∙ (e ∙ (ap (way p) (sym one) ∙ frame.end p l))))
-        | inr more ↦ let s = frame.once p 1 0 l (omega arith) (omega arith) (omega arith) (sym e) in absurd (omega arith)
-      ]
-  step_apart p (suc i) l m e = let s = frame.once p (suc i) (suc (suc i)) l (omega arith) m (omega arith) e in absurd (omega arith)
+  step_apart p x1 l m e = grind (arith, cases_eq, pairs_within, pairs_apart, pair_at)
 
   module _ (x : ℕ) where
     -- step i of path p is at x

@@ -14,22 +14,17 @@ use Rattle.embed_contraction.specs.Traces.{HasWitness}
 -- an entry of a front, or of a back, by its place in the whole
 pub Contains-take : (m : ℕ) (us : List ℕ) (w : ℕ) → m ≤ length us → Contains (take m us) w → (t : ℕ) × (t < m) × (get_or us t 0 ≡ w)
 Contains-take m us w l c =
-    let n = length-take-le m us l in
-    let t = c.1 in
-    let lt : c.0 < m = omega arith in
+    let lt : c.0 < m = omega (arith, length-take-le m us l) in
     (c.0, lt, get_or_default us c.0 0 w (omega arith) ∙ (sym (get_or-take m us c.0 w lt) ∙ c.2))
 
 pub Contains-drop : (m : ℕ) (us : List ℕ) (w : ℕ) → Contains (drop m us) w → (t : ℕ) × (m ≤ t) × (t < length us) × (get_or us t 0 ≡ w)
 Contains-drop m us w c =
-    let n = length-drop m us in
-    let t = c.1 in
-    let lt : m + c.0 < length us = omega arith in
+    let lt : m + c.0 < length us = omega (arith, length-drop m us) in
     (m + c.0, omega arith, lt, get_or_default us (m + c.0) 0 w lt ∙ (sym (get_or-drop m us c.0 w) ∙ c.2))
 
 pub take-Contains : (m : ℕ) (us : List ℕ) (t : ℕ) → m ≤ length us → t < m → Contains (take m us) (get_or us t 0)
 take-Contains m us t l h =
-    let n = length-take-le m us l in
-    (t, omega arith, get_or-take m us t (get_or us t 0) h ∙ get_or_default us t (get_or us t 0) 0 (omega arith))
+    (t, omega (arith, length-take-le m us l), get_or-take m us t (get_or us t 0) h ∙ get_or_default us t (get_or us t 0) 0 (omega arith))
 
 pub drop-Contains : (m : ℕ) (us : List ℕ) (t : ℕ) → m ≤ t → t < length us → Contains (drop m us) (get_or us t 0)
 drop-Contains m us t l h =
@@ -58,7 +53,6 @@ module _ (graph : EdgeGraph) (ws : List ℕ) (x y : ℕ) where
 
   from_gap : (i k : ℕ) → IsGap n X Y i k → Found
   from_gap i k g =
-      let o = g.order in
       let l = g.within in
       let rest = drop (suc i) ws in
       let m = k - suc i in
@@ -84,14 +78,10 @@ module _ (graph : EdgeGraph) (ws : List ℕ) (x y : ℕ) where
           last = g.last;
           none = λ w c.
               let r = Contains-take m rest w (omega arith) c in
-              let in_r = r.1 in
-              let at : get_or ws (suc i + r.0) 0 ≡ w = sym (get_or-drop (suc i) ws r.0 0) ∙ r.2 in
-              ap (has_edge graph x) (sym at) ∙ g.none (suc i + r.0) (omega arith) (omega arith);
+              ap (has_edge graph x) (sym (sym (get_or-drop (suc i) ws r.0 0) ∙ r.2)) ∙ g.none (suc i + r.0) (omega arith) (omega arith);
           all = λ w c e.
               let r = neighbour_at y w c e in
               let within = g.all r.0 r.1 r.3 in
-              let low = within.0 in
-              let high = within.1 in
               subst (Contains (get_or ws i 0 ∷ mid ++ b ∷ [])) r.2 (elim (cases_eq r.0 i) [
                 | inl q ↦ subst (λ j. Contains (get_or ws i 0 ∷ mid ++ b ∷ []) (get_or ws j 0)) (sym q) (Contains-here (get_or ws i 0) (mid ++ b ∷ []))
                 | inr ne ↦ elim (cases_eq r.0 k) [
@@ -108,7 +98,6 @@ module _ (graph : EdgeGraph) (ws : List ℕ) (x y : ℕ) where
 
   from_outer : (i k : ℕ) → IsOuterGap n X Y i k → Found
   from_outer i k g =
-      let o = g.order in
       let l = g.within in
       let a = get_or ws k 0 in
       let b = get_or ws i 0 in
@@ -118,7 +107,7 @@ module _ (graph : EdgeGraph) (ws : List ℕ) (x y : ℕ) where
       let low = take i front in
       let after = drop (suc i) front in
       let mid = rest ++ low in
-      let at_b : get_or front i 0 ≡ b = get_or-take k ws i 0 o in
+      let at_b : get_or front i 0 ≡ b = get_or-take k ws i 0 g.order in
       let split : front ≡ low ++ b ∷ after = sym (take-append-drop i front) ∙ ap (λ l. low ++ l) (drop-cons front i 0 (omega arith) ∙ ap (λ z. z ∷ after) at_b) in
       let head : drop k ws ≡ a ∷ rest = drop-cons ws k 0 l in
       let whole : drop k ws ++ front ≡ a ∷ mid ++ b ∷ after = ap₂ (λ p q. p ++ q) head split ∙ sym (append_assoc (a ∷ rest) low (b ∷ after)) in (
@@ -135,10 +124,7 @@ module _ (graph : EdgeGraph) (ws : List ℕ) (x y : ℕ) where
           last = g.first;
           none = λ w c.
               let off : (j : ℕ) → j < n → (i ≤ j → j ≤ k → ⊥) → get_or ws j 0 ≡ w → has_edge graph x w ≡ false = λ j m out at.
-              elim (cases_Bool (has_edge graph x w)) [
-                | inl t ↦ let h = g.all j m (ap (has_edge graph x) at ∙ t) in absurd (out h.0 h.1)
-                | inr f ↦ f
-              ] in
+              grind (arith, cases_Bool, has_edge) in
               elim (Contains-append_cases rest low w c) [
                 | inl h ↦ let r = Contains-drop (suc k) ws w h in let far = r.1 in off r.0 r.2 (λ p q. omega arith) r.3
                 | inr h ↦ let r = Contains-take i front w (omega arith) h in let near = r.1 in off r.0 (omega arith) (λ p q. omega arith) (sym (get_or-take k ws r.0 0 (omega arith)) ∙ r.2)
@@ -146,7 +132,6 @@ module _ (graph : EdgeGraph) (ws : List ℕ) (x y : ℕ) where
           all = λ w c e.
               let r = neighbour_at y w c e in
               let j = r.0 in
-              let in_j = r.1 in
               let L = a ∷ mid ++ b ∷ [] in
               let in_mid : Contains mid (get_or ws j 0) → Contains L (get_or ws j 0) = λ h. Contains-append_left (a ∷ mid) (b ∷ []) (get_or ws j 0) (Contains-there a mid (get_or ws j 0) h) in
               subst (Contains L) r.2 (elim (cases_lt j i) [
@@ -154,13 +139,10 @@ module _ (graph : EdgeGraph) (ws : List ℕ) (x y : ℕ) where
                     let here = take-Contains i front j (omega arith) near in
                     in_mid (Contains-append_right rest low (get_or ws j 0) (subst (Contains low) (get_or-take k ws j 0 (omega arith)) here))
                 | inr far ↦ elim (cases_lt k j) [
-                  | inl past ↦ in_mid (Contains-append_left rest low (get_or ws j 0) (drop-Contains (suc k) ws j (omega arith) in_j))
+                  | inl past ↦ in_mid (Contains-append_left rest low (get_or ws j 0) (drop-Contains (suc k) ws j (omega arith) r.1))
                   | inr upto ↦ elim (cases_eq j i) [
                     | inl q ↦ subst (λ z. Contains L (get_or ws z 0)) (sym q) (Contains-append_right (a ∷ mid) (b ∷ []) b (Contains-here b []))
-                    | inr ne ↦ elim (cases_eq j k) [
-                      | inl q ↦ subst (λ z. Contains L (get_or ws z 0)) (sym q) (Contains-here a (mid ++ b ∷ []))
-                      | inr ne' ↦ absurd (true≢false (sym r.3 ∙ g.none j (omega arith) (omega arith)))
-                    ]
+                    | inr ne ↦ grind (arith, cases_eq, Contains, get_or, Contains-here, true≢false)
                   ]
                 ]
               ]);
@@ -169,17 +151,7 @@ module _ (graph : EdgeGraph) (ws : List ℕ) (x y : ℕ) where
 
 -- the two vertices exchanged
 pub IsRimmed-turned : (graph : EdgeGraph) (ws : List ℕ) (x y : ℕ) → IsRimmed graph ws x y → IsRimmed graph ws y x
-IsRimmed-turned graph ws x y r = record {
-  distinct = r.distinct;
-  below = r.below;
-  rim = r.rim;
-  x_below = r.y_below;
-  y_below = r.x_below;
-  x_off = r.y_off;
-  y_off = r.x_off;
-  two = λ e. r.two (sym e);
-  hub = has_edge-turned graph y x ∙ r.hub;
-}
+IsRimmed-turned graph ws x y r = grind (arith, has_edge-turned)
 
 -- Two adjacent vertices beside a ring, each with two neighbours on it at least: the graph has a witness, or the neighbours of y lie in a gap between neighbours of x.
 pub gap_or_witness : (graph : EdgeGraph) (ws : List ℕ) (x y : ℕ) → IsRimmed graph ws x y → HasTwo (length ws) (spoke graph ws x) → HasTwo (length ws) (spoke graph ws y) → HasWitness graph ⊎ ((us : List ℕ) × (vs : List ℕ) × (a : ℕ) × (mid : List ℕ) × (b : ℕ) × (back : List ℕ) × IsGapOf graph ws x y us vs a mid b back)

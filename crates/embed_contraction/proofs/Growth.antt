@@ -74,8 +74,6 @@ module _ (lists : Lists) (simple : IsSimpleMap lists) (linked : IsThreeLinked li
               let off : (z : ℕ) → ¬ Contains V z → ¬ Contains (x ∷ y ∷ []) z = λ z o. not_two x y z (λ q. o (subst (Contains V) (sym q) (in_first x y w))) (λ q. o (subst (Contains V) (sym q) (in_second x y w))) in
               let two = linked x y d h bad.d_edge bad.h_edge (off d bad.d_off) (off h bad.h_off) in
               let len = rest-length lists simple (x ∷ y ∷ []) in
-              let ld = bad.d_edge.1.0 in
-              let lh = bad.h_edge.1.0 in
               let at_h = closed_part (without_vertices (x ∷ y ∷ []) lists) (rest-simple lists simple (x ∷ y ∷ [])) (in_part lists x y w d) closed d h (omega arith) (omega arith) two (in_part-from x y w d d bad.d_off (part-itself (without_vertices V lists) d)) in
               absurd (bad.apart (part-turned (without_vertices V lists) d h (in_part-is x y w d h at_h).1))
         ]
@@ -271,11 +269,7 @@ module _ (lists : Lists) (simple : IsSimpleMap lists) (linked : IsThreeLinked li
 
   -- parts do not grow for ever
   found : (spare x y w h d : ℕ) → IsBad lists x y w h d → n ≤ count_below (in_part lists x y w h) n + spare → (a : ℕ) × (b : ℕ) × IsContractible lists a b
-  found zero x y w h d bad l =
-      elim (step x y w h d bad) [
-        | inl r ↦ r
-        | inr r ↦ let more = r.6 in let most = count_below-le (in_part lists r.0 r.1 r.2 r.3) n in absurd (omega arith)
-      ]
+  found zero x y w h d bad l = grind (arith, step, count_below-le, in_part)
   found (suc spare) x y w h d bad l =
       elim (step x y w h d bad) [
         | inl r ↦ r

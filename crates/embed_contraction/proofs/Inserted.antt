@@ -70,39 +70,10 @@ module _ (n : ℕ) (kind : Kind) (branch size : ℕ → ℕ) (way : ℕ → ℕ 
 
   -- an inner place of the new path is one of the old
   old_inner : (p i j : ℕ) → p < path_count kind → IsOld p i j → 0 < i → i < size' p → (0 < j) × (j < size p)
-  old_inner p i j l old pos m =
-      elim (cases_eq p q) [
-        | inl e ↦
-            let s = size_here in
-            let s' : size' p ≡ suc (size p) = ap size' e ∙ (s ∙ ap (λ r. suc (size r)) (sym e)) in
-            let kk : k < size p = subst (λ r. k < size r) (sym e) in_k in
-            elim old.place [
-              | inl h ↦ let low = h.0 e in let eq = h.1 in (omega arith, omega arith)
-              | inr h ↦ let high = h.1 in let eq = h.2 in (omega arith, omega arith)
-            ]
-        | inr ne ↦
-            let s = size_else p ne in
-            elim old.place [
-              | inl h ↦ let eq = h.1 in (omega arith, omega arith)
-              | inr h ↦ absurd (ne h.0)
-            ]
-      ]
+  old_inner p i j l old pos m = grind (arith, cases_eq, size_here, size_else)
 
   old_end : (p i j : ℕ) → p < path_count kind → IsOld p i j → i ≤ size' p → j ≤ size p
-  old_end p i j l old m =
-      elim (cases_eq p q) [
-        | inl e ↦
-            let s = size_here in
-            let s' : size' p ≡ suc (size p) = ap size' e ∙ (s ∙ ap (λ r. suc (size r)) (sym e)) in
-            let kk : k < size p = subst (λ r. k < size r) (sym e) in_k in
-            elim old.place [
-              | inl h ↦ let low = h.0 e in let eq = h.1 in omega arith
-              | inr h ↦ let eq = h.2 in omega arith
-            ]
-        | inr ne ↦
-            let s = size_else p ne in
-            elim old.place [ inl h ↦ let eq = h.1 in omega arith | inr h ↦ absurd (ne h.0) ]
-      ]
+  old_end p i j l old m = grind (arith, cases_eq, size_here, size_else)
 
   -- a vertex that is neither on the old paths nor the new one
   pub way_off : (z : ℕ) → z ≢ o → ((p i : ℕ) → p < path_count kind → i ≤ size p → way p i ≢ z) → (p i : ℕ) → p < path_count kind → i ≤ size' p → way' p i ≢ z
@@ -114,17 +85,7 @@ module _ (n : ℕ) (kind : Kind) (branch size : ℕ → ℕ) (way : ℕ → ℕ 
 
   -- one old place comes of one new
   same_old : (p i i' j : ℕ) → IsOld p i j → IsOld p i' j → i ≡ i'
-  same_old p i i' j a b =
-      elim a.place [
-        | inl h ↦ let eq = h.1 in elim b.place [
-          | inl h' ↦ let eq' = h'.1 in omega arith
-          | inr h' ↦ let low = h.0 h'.0 in let high = h'.1 in absurd (omega arith)
-        ]
-        | inr h ↦ let eq = h.2 in elim b.place [
-          | inl h' ↦ let low = h'.0 h.0 in let high = h.1 in let eq' = h'.1 in absurd (omega arith)
-          | inr h' ↦ let eq' = h'.2 in omega arith
-        ]
-      ]
+  same_old p i i' j a b = grind arith
 
   pub inserted : IsFrame n kind branch size' way'
   inserted = record {
@@ -148,17 +109,8 @@ module _ (n : ℕ) (kind : Kind) (branch size : ℕ → ℕ) (way : ℕ → ℕ 
     ];
     once = λ p i i' l pos m m' e. elim (old_or_new p i l) [
       | inl r ↦
-          let inner = old_inner p i r.0 l r.1 pos m in
-          elim (old_or_new p i' l) [
-            | inl r' ↦
-                let same = frame.once p r.0 r'.0 l inner.0 inner.1 (old_end p i' r'.0 l r'.1 m') (sym r.1.vertex ∙ (e ∙ r'.1.vertex)) in
-                same_old p i i' r.0 r.1 (subst (IsOld p i') (sym same) r'.1)
-            | inr r' ↦ let ll = inner.1 in absurd (off p r.0 l (omega arith) (sym r.1.vertex ∙ (e ∙ r'.2)))
-          ]
-      | inr r ↦ elim (old_or_new p i' l) [
-        | inl r' ↦ absurd (off p r'.0 l (old_end p i' r'.0 l r'.1 m') (sym r'.1.vertex ∙ (sym e ∙ r.2)))
-        | inr r' ↦ r.1 ∙ sym r'.1
-      ]
+          grind (arith, old_or_new, old_end, same_old)
+      | inr r ↦ grind (arith, old_or_new, old_end)
     ];
     apart = λ p p' i i' l l' pos m pos' m' e. elim (old_or_new p i l) [
       | inl r ↦
@@ -171,9 +123,7 @@ module _ (n : ℕ) (kind : Kind) (branch size : ℕ → ℕ) (way : ℕ → ℕ 
           ]
       | inr r ↦ elim (old_or_new p' i' l') [
         | inl r' ↦
-            let inner' = old_inner p' i' r'.0 l' r'.1 pos' m' in
-            let ll = inner'.1 in
-            absurd (off p' r'.0 l' (omega arith) (sym r'.1.vertex ∙ (sym e ∙ r.2)))
+            absurd (off p' r'.0 l' (omega (arith, old_inner p' i' r'.0 l' r'.1 pos' m')) (sym r'.1.vertex ∙ (sym e ∙ r.2)))
         | inr r' ↦ r.0 ∙ sym r'.0
       ]
     ];
@@ -184,8 +134,7 @@ module _ (n : ℕ) (kind : Kind) (branch size : ℕ → ℕ) (way : ℕ → ℕ 
   steps-inserted P rest to from p i l m =
       elim (cases_eq p q) [
         | inr ne ↦
-            let s = size_else p ne in
-            let step = rest p i l (omega arith) (λ h. ne h.0) in
+            let step = rest p i l (omega (arith, size_else p ne)) (λ h. ne h.0) in
             subst (λ a. P a (way' p (suc i))) (sym (way_else p i ne)) (subst (P (way p i)) (sym (way_else p (suc i) ne)) step)
         | inl e ↦
             let s = size_here in

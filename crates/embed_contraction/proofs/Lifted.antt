@@ -46,11 +46,7 @@ module _ (graph : EdgeGraph) (kind : Kind) (branch size : ℕ → ℕ) (way : �
   frame' = frame-map graph.n graph.n kind branch size way s (exchanged-within graph.n x y edge.first edge.second) (exchanged-apart x y edge.two) frame
 
   s_not_x : (v : ℕ) → v ≢ y → s v ≢ x
-  s_not_x v n e =
-      elim (cases_eq v x) [
-        | inl q ↦ edge.two (sym e ∙ exchanged-first x y v q)
-        | inr n' ↦ n' (sym (exchanged-other x y v n' n) ∙ e)
-      ]
+  s_not_x v n e = grind (arith, cases_eq, exchanged-first, exchanged-other)
 
   pub off' : (p i : ℕ) → p < path_count kind → i ≤ size p → s (way p i) ≢ x
   off' p i l m = s_not_x (way p i) (off p i l m)
@@ -70,82 +66,17 @@ module _ (graph : EdgeGraph) (kind : Kind) (branch size : ℕ → ℕ) (way : �
       (exchanged-other x y (way p i) n (off p i l (omega arith)), exchanged-first x y (way p (suc i)) e, n)
 
   neither_at : (p i : ℕ) → p < path_count kind → i < size p → way p i ≢ x → way p (suc i) ≢ x → (s (way p i) ≡ way p i) × (s (way p (suc i)) ≡ way p (suc i)) × (has_edge graph (way p i) (way p (suc i)) ≡ true)
-  neither_at p i l m n n' = (
-    exchanged-other x y (way p i) n (off p i l (omega arith)),
-    exchanged-other x y (way p (suc i)) n' (off p (suc i) l m),
-    elim (steps p i l m) [ inl e ↦ e | inr r ↦ elim r [ inl h ↦ absurd (n h.0) | inr h ↦ absurd (n' h.0) ] ],
-  )
+  neither_at p i l m n n' = grind (arith, exchanged-other)
 
   pub steps' : HasSteps kind size (λ p i. s (way p i)) (StepsAt graph y x)
-  steps' p i l m =
-      elim (cases_eq (way p i) x) [
-        | inl e ↦
-            let f = first_at p i l m e in
-            elim (steps p i l m) [
-              | inl t ↦ inr (inl (f.0, ap (has_edge graph x) f.1 ∙ (ap (λ a. has_edge graph a (way p (suc i))) (sym e) ∙ t)))
-              | inr r ↦ elim r [ inl h ↦ inl (ap₂ (has_edge graph) f.0 f.1 ∙ h.1) | inr h ↦ absurd (f.2 h.0) ]
-            ]
-        | inr n ↦ elim (cases_eq (way p (suc i)) x) [
-          | inl e ↦
-              let f = second_at p i l m e in
-              elim (steps p i l m) [
-                | inl t ↦ inr (inr (f.1, ap (λ a. has_edge graph a x) f.0 ∙ (ap (has_edge graph (way p i)) (sym e) ∙ t)))
-                | inr r ↦ elim r [ inl h ↦ absurd (f.2 h.0) | inr h ↦ inl (ap₂ (has_edge graph) f.0 f.1 ∙ h.1) ]
-              ]
-          | inr n' ↦ let f = neither_at p i l m n n' in inl (ap₂ (has_edge graph) f.0 f.1 ∙ f.2)
-        ]
-      ]
+  steps' p i l m = grind (arith, cases_eq, first_at, has_edge, ap₂, second_at, neither_at)
 
   -- ---- the steps that are no edges
   lone_y : (p i : ℕ) → IsBadStep graph kind size way p i → IsLone graph kind branch size way frame x x y p i
-  lone_y p i bad =
-      elim (steps p i bad.path bad.step) [
-        | inl t ↦ absurd (true≢false (sym t ∙ bad.bad))
-        | inr r ↦ elim r [
-          | inl h ↦
-              let e = far_second graph.n kind branch size way frame x p i h.0 in
-              record { at = record { path = bad.path; step = bad.step; near = inl h.0 }; lacks = ap (has_edge graph x) e ∙ (ap (λ a. has_edge graph a (way p (suc i))) (sym h.0) ∙ bad.bad); has = ap (has_edge graph y) e ∙ h.1 }
-          | inr h ↦
-              let e = far_first graph.n kind branch size way frame x p i (second_at p i bad.path bad.step h.0).2 in
-              record {
-                at = record { path = bad.path; step = bad.step; near = inr h.0 };
-                lacks = ap (has_edge graph x) e ∙ (has_edge-turned graph x (way p i) ∙ (ap (has_edge graph (way p i)) (sym h.0) ∙ bad.bad));
-                has = ap (has_edge graph y) e ∙ (has_edge-turned graph y (way p i) ∙ h.1);
-              }
-        ]
-      ]
+  lone_y p i bad = grind (arith, true≢false, far_second, has_edge, far_first, second_at, has_edge-turned)
 
   lone_x : (p i : ℕ) → IsBadStep graph kind size (λ p i. s (way p i)) p i → IsLone graph kind branch size way frame x y x p i
-  lone_x p i bad =
-      elim (cases_eq (way p i) x) [
-        | inl e ↦
-            let f = first_at p i bad.path bad.step e in
-            let at_far = far_second graph.n kind branch size way frame x p i e in
-            let no : has_edge graph y (way p (suc i)) ≡ false = ap₂ (has_edge graph) (sym f.0) (sym f.1) ∙ bad.bad in
-            record {
-              at = record { path = bad.path; step = bad.step; near = inl e };
-              lacks = ap (has_edge graph y) at_far ∙ no;
-              has = ap (has_edge graph x) at_far ∙ elim (steps p i bad.path bad.step) [
-                | inl t ↦ ap (λ a. has_edge graph a (way p (suc i))) (sym e) ∙ t
-                | inr r ↦ elim r [ inl h ↦ absurd (true≢false (sym h.1 ∙ no)) | inr h ↦ absurd (f.2 h.0) ]
-              ];
-            }
-        | inr n ↦ elim (cases_eq (way p (suc i)) x) [
-          | inl e ↦
-              let f = second_at p i bad.path bad.step e in
-              let at_far = far_first graph.n kind branch size way frame x p i n in
-              let no : has_edge graph (way p i) y ≡ false = ap₂ (has_edge graph) (sym f.0) (sym f.1) ∙ bad.bad in
-              record {
-                at = record { path = bad.path; step = bad.step; near = inr e };
-                lacks = ap (has_edge graph y) at_far ∙ (has_edge-turned graph y (way p i) ∙ no);
-                has = ap (has_edge graph x) at_far ∙ (has_edge-turned graph x (way p i) ∙ elim (steps p i bad.path bad.step) [
-                  | inl t ↦ ap (has_edge graph (way p i)) (sym e) ∙ t
-                  | inr r ↦ elim r [ inl h ↦ absurd (f.2 h.0) | inr h ↦ absurd (true≢false (sym h.1 ∙ no)) ]
-                ]);
-              }
-          | inr n' ↦ let f = neither_at p i bad.path bad.step n n' in absurd (true≢false (sym f.2 ∙ (ap₂ (has_edge graph) (sym f.0) (sym f.1) ∙ bad.bad)))
-        ]
-      ]
+  lone_x p i bad = grind (arith, cases_eq, first_at, far_second, has_edge, ap₂, true≢false, second_at, far_first, has_edge-turned, neither_at)
 
   -- two steps of each kind
   pub four : AreTwoBad graph kind size way → AreTwoBad graph kind size (λ p i. s (way p i)) → AreTwoLone graph kind branch size way frame x x y × AreTwoLone graph kind branch size way frame x y x
@@ -189,7 +120,6 @@ module _ (graph : EdgeGraph) (branch size : ℕ → ℕ) (way : ℕ → ℕ → 
   other_of p i at =
       let k = number-pair p at.path in
       let w = pairs_within K5 p at.path in
-      let up = k.1 in
       elim (end_step graph.n K5 branch size way frame x b in_b is_b p i at) [
         | inl h ↦
             let c = (pair_at K5 p).1 in
@@ -232,14 +162,7 @@ five_below a b c d e la lb lc ld le = each_of_five (λ k. five_names a b c d e k
 
 pub five_apart : (a b c d e : ℕ) → a ≢ b → a ≢ c → a ≢ d → a ≢ e → b ≢ c → b ≢ d → b ≢ e → c ≢ d → c ≢ e → d ≢ e → (k l : ℕ) → k < 5 → l < 5 → five_names a b c d e k ≡ five_names a b c d e l → k ≡ l
 unfolding five_names
-five_apart a b c d e ab ac ad ae bc bd be cd ce de k l lk ll =
-    each_of_five (λ k. (l : ℕ) → l < 5 → five_names a b c d e k ≡ five_names a b c d e l → k ≡ l)
-    (each_of_five (λ l. a ≡ five_names a b c d e l → 0 ≡ l) (λ q. refl) (λ q. absurd (ab q)) (λ q. absurd (ac q)) (λ q. absurd (ad q)) (λ q. absurd (ae q)))
-    (each_of_five (λ l. b ≡ five_names a b c d e l → 1 ≡ l) (λ q. absurd (ab (sym q))) (λ q. refl) (λ q. absurd (bc q)) (λ q. absurd (bd q)) (λ q. absurd (be q)))
-    (each_of_five (λ l. c ≡ five_names a b c d e l → 2 ≡ l) (λ q. absurd (ac (sym q))) (λ q. absurd (bc (sym q))) (λ q. refl) (λ q. absurd (cd q)) (λ q. absurd (ce q)))
-    (each_of_five (λ l. d ≡ five_names a b c d e l → 3 ≡ l) (λ q. absurd (ad (sym q))) (λ q. absurd (bd (sym q))) (λ q. absurd (cd (sym q))) (λ q. refl) (λ q. absurd (de q)))
-    (each_of_five (λ l. e ≡ five_names a b c d e l → 4 ≡ l) (λ q. absurd (ae (sym q))) (λ q. absurd (be (sym q))) (λ q. absurd (ce (sym q))) (λ q. absurd (de (sym q))) (λ q. refl))
-    k lk l ll
+five_apart a b c d e ab ac ad ae bc bd be cd ce de k l lk ll = grind (arith, each_of_five)
 
 -- K5 has x as its branch b; from it paths lead to c and d over neighbours of x, and to e and f over neighbours of y.
 pub record IsSeparating (graph : EdgeGraph) (branch size : ℕ → ℕ) (way : ℕ → ℕ → ℕ) (frame : IsFrame graph.n K5 branch size way) (x y b c d e f : ℕ) : Type 0 where
@@ -252,15 +175,7 @@ pub record IsSeparating (graph : EdgeGraph) (branch size : ℕ → ℕ) (way : �
 is_separating : (graph : EdgeGraph) (branch size : ℕ → ℕ) (way : ℕ → ℕ → ℕ) (frame : IsFrame graph.n K5 branch size way) (x y b c d e f : ℕ) → b < 5 → c < 5 → d < 5 → e < 5 → f < 5 → b ≢ c → b ≢ d → b ≢ e → b ≢ f → c ≢ d → c ≢ e → c ≢ f → d ≢ e → d ≢ f → e ≢ f → branch b ≡ x
     → has_edge graph x (link graph.n branch size way frame b c 1) ≡ true → has_edge graph x (link graph.n branch size way frame b d 1) ≡ true → has_edge graph y (link graph.n branch size way frame b e 1) ≡ true → has_edge graph y (link graph.n branch size way frame b f 1) ≡ true → IsSeparating graph branch size way frame x y b c d e f
 unfolding five_names
-is_separating graph branch size way frame x y b c d e f lb lc ld le lf bc bd be bf cd ce cf de df ef is_b xc xd ye yf =
-    let name = five_names b c d e f in
-    record {
-      is_x = is_b;
-      below = five_below b c d e f lb lc ld le lf;
-      apart = five_apart b c d e f bc bd be bf cd ce cf de df ef;
-      of_x = λ k pos l. each_of_three (λ k. 0 < k → has_edge graph x (link graph.n branch size way frame b (name k) 1) ≡ true) (λ z. absurd (omega arith)) (λ z. xc) (λ z. xd) k l pos;
-      of_y = λ k far l. each_of_five (λ k. 3 ≤ k → has_edge graph y (link graph.n branch size way frame b (name k) 1) ≡ true) (λ z. absurd (omega arith)) (λ z. absurd (omega arith)) (λ z. absurd (omega arith)) (λ z. ye) (λ z. yf) k l far;
-    }
+is_separating graph branch size way frame x y b c d e f lb lc ld le lf bc bd be bf cd ce cf de df ef is_b xc xd ye yf = grind (arith, five_below, five_apart, each_of_three, has_edge, link, far, each_of_five)
 
 five_separated : (graph : EdgeGraph) (branch size : ℕ → ℕ) (way : ℕ → ℕ → ℕ) (frame : IsFrame graph.n K5 branch size way) (x y : ℕ) → IsEdgeOf graph x y → ((p i : ℕ) → p < 10 → i ≤ size p → way p i ≢ y) → ((j : ℕ) → j < 5 → branch j ≢ y) → HasSteps K5 size way (StepsAt graph x y) → (b c d e f : ℕ) → IsSeparating graph branch size way frame x y b c d e f → HasWitness graph
 unfolding five_names
@@ -273,8 +188,7 @@ not_six graph branch size way frame x y edge off no_branch steps t t' b in_b is_
     let apart = kinds_apart graph K33 branch size way frame x y edge off no_branch steps in
     let four = four_steps graph.n K33 branch size way frame x b in_b is_b t.p t.i t.q t.k t'.p t'.i t'.q t'.k t.one.at t.other.at t'.one.at t'.other.at t.two
     (apart t.p t.i t'.p t'.i t.one t'.one) (apart t.p t.i t'.q t'.k t.one t'.other) (apart t.q t.k t'.p t'.i t.other t'.one) (apart t.q t.k t'.q t'.k t.other t'.other) t'.two in
-    let three = three_paths b in_b in
-    omega arith
+    omega (arith, three_paths b in_b)
 
 -- at one of K5 they part it
 pub separating_five : (graph : EdgeGraph) (branch size : ℕ → ℕ) (way : ℕ → ℕ → ℕ) (frame : IsFrame graph.n K5 branch size way) (x y : ℕ) → AreTwoLone graph K5 branch size way frame x x y → AreTwoLone graph K5 branch size way frame x y x → (b : ℕ) → b < 5 → branch b ≡ x → (c : ℕ) × (d : ℕ) × (e : ℕ) × (f : ℕ) × IsSeparating graph branch size way frame x y b c d e f
@@ -291,8 +205,6 @@ separating_five graph branch size way frame x y t t' b in_b is_b =
     let no2 : has_edge graph x (L c2.0) ≡ false = ap (has_edge graph x) c2.1.first ∙ t.other.lacks in
     let has3 : has_edge graph x (L c3.0) ≡ true = ap (has_edge graph x) c3.1.first ∙ t'.one.has in
     let has4 : has_edge graph x (L c4.0) ≡ true = ap (has_edge graph x) c4.1.first ∙ t'.other.has in
-    let has1 : has_edge graph y (L c1.0) ≡ true = ap (has_edge graph y) c1.1.first ∙ t.one.has in
-    let has2 : has_edge graph y (L c2.0) ≡ true = ap (has_edge graph y) c2.1.first ∙ t.other.has in
     let differ : (c d : ℕ) → has_edge graph x (L c) ≡ true → has_edge graph x (L d) ≡ false → c ≢ d = λ c d h n e. true≢false (sym h ∙ (ap (λ z. has_edge graph x (L z)) e ∙ n)) in (
       c3.0,
       c4.0,
@@ -300,7 +212,7 @@ separating_five graph branch size way frame x y t t' b in_b is_b =
       c2.0,
       is_separating graph branch size way frame x y b c3.0 c4.0 c1.0 c2.0 in_b c3.1.within c4.1.within c1.1.within c2.1.within
           (λ e. c3.1.two (sym e)) (λ e. c4.1.two (sym e)) (λ e. c1.1.two (sym e)) (λ e. c2.1.two (sym e)) d34 (differ c3.0 c1.0 has3 no1) (differ c3.0 c2.0 has3 no2) (differ c4.0 c1.0 has4 no1) (differ c4.0 c2.0 has4 no2) d12
-          is_b has3 has4 has1 has2,
+          is_b has3 has4 (ap (has_edge graph y) c1.1.first ∙ t.one.has) (ap (has_edge graph y) c2.1.first ∙ t.other.has),
     )
 
 -- two steps of each kind at a branch
@@ -332,20 +244,14 @@ module _ (graph small : EdgeGraph) (x y : ℕ) (to : ℕ → ℕ) (c : IsContrac
         | inr n ↦ c.off (old p i) (old p (suc i)) (old_steps p i l (omega arith))
         | inl q ↦
             let k = i - 1 in
-            let g = f0.long p l in
             let sk : i ≡ suc k = omega arith in
-            let step = old_steps p k l (omega arith) in
-            let back = c.off (old p (suc k)) (old p k) (has_edge-turned small (old p (suc k)) (old p k) ∙ step) in
+            let back = c.off (old p (suc k)) (old p k) (has_edge-turned small (old p (suc k)) (old p k) ∙ (old_steps p k l (omega arith))) in
             λ e. back (ap (λ t. to (old p t)) (sym sk) ∙ e)
       ]
 
   pub small_no_branch : (j : ℕ) → j < branch_count kind → to (branch j) ≢ y
   small_no_branch j l e =
-      let r = on_path kind j l in
-      elim r.2 [
-        | inl q ↦ small_off r.0 0 r.1 (omega arith) (ap to (f0.start r.0 r.1 ∙ ap branch q) ∙ e)
-        | inr q ↦ small_off r.0 (size r.0) r.1 (omega arith) (ap to (f0.end r.0 r.1 ∙ ap branch q) ∙ e)
-      ]
+      grind (arith, on_path kind j l, small_off)
 
   lifted_frame : IsEdgeOf graph x y → HasWitness graph
   lifted_frame edge =
@@ -360,12 +266,11 @@ module _ (graph small : EdgeGraph) (x y : ℕ) (to : ℕ → ℕ) (c : IsContrac
 -- THE LAW: a witness lifted
 pub lifted_witness : LiftedWitness
 lifted_witness graph small x y to edge c w =
-    let kind = w.0 in
-    let f = frame-witness small kind w.1 w.2 w.3 in
+    let f = frame-witness small w.0 w.1 w.2 w.3 in
     let branch : ℕ → ℕ = λ j. vertex_at w.1 j in
     let size : ℕ → ℕ = λ p. length (path_at w.2 p) - 1 in
     let old : ℕ → ℕ → ℕ = λ p i. vertex_at (path_at w.2 p) i in
-    lifted_frame graph small x y to c kind branch size old f.0 f.1 edge
+    lifted_frame graph small x y to c w.0 branch size old f.0 f.1 edge
 
 -- ---- with numbers that fall
 before_left-apart : (b u v : ℕ) → before_left b u ≡ before_left b v → u ≡ v
@@ -388,21 +293,5 @@ lifted_contraction graph small a b edge a_b c =
       apart = before_left-apart b;
       off = λ u v e. before_left-not b u;
       edges = λ u v e.
-          let in_u = c.within u v e in
-          let U = before_left b u in
-          let V = before_left b v in
-          let t = (and_parts (not (eqb u v)) ((has_edge graph U V || (eqb u a && has_edge graph b V)) || (eqb v a && has_edge graph U b)) (sym (c.edges u v in_u.0 in_u.1) ∙ e)).1 in
-          elim (or_cases (has_edge graph U V || (eqb u a && has_edge graph b V)) (eqb v a && has_edge graph U b) t) [
-            | inr r ↦
-                let p = and_parts (eqb v a) (has_edge graph U b) r in
-                let va = eqb-true v a p.0 in
-                inr (inr (before_left-low b v (omega arith) ∙ va, p.1))
-            | inl l ↦ elim (or_cases (has_edge graph U V) (eqb u a && has_edge graph b V) l) [
-              | inl h ↦ inl h
-              | inr r ↦
-                  let p = and_parts (eqb u a) (has_edge graph b V) r in
-                  let ua = eqb-true u a p.0 in
-                  inr (inl (before_left-low b u (omega arith) ∙ ua, p.1))
-            ]
-          ];
+          grind (arith, or_cases, has_edge, eqb, and_parts, eqb-true, before_left-low);
     }

@@ -113,10 +113,7 @@ cases_bad lists x y edge =
           | inr none ↦ inl (λ e. absurd (none e))
           | inl e ↦ elim (cases_Contains (x ∷ y ∷ w ∷ []) d) [
             | inl c ↦ inl (λ _ o. absurd (o c))
-            | inr o ↦ elim (cases_part (without_vertices (x ∷ y ∷ w ∷ []) lists) h d) [
-              | inl s ↦ inl (λ _ _. s)
-              | inr s ↦ inr (record { edge = edge; w_edge = we; w_x = n; w_y = n'; h_edge = he; d_edge = e; h_off = ho; d_off = o; apart = s })
-            ]
+            | inr o ↦ grind (arith, cases_part, without_vertices)
           ]
         ]
 

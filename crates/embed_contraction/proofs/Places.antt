@@ -65,7 +65,6 @@ module _ (n : ℕ) (X Y : ℕ → Bool) (x : HasTwo n X) (y : HasTwo n Y) where
   -- X stands on one side alone of a place of Y that is not of X: it ends at i and k
   one_side : (s : ℕ) → s < n → Y s ≡ true → X s ≡ false → None X 0 s ⊎ None X (suc s) n → Lie n X Y
   one_side s l t f side =
-      let o = x.order in
       elim (least_in X 0 n) [
         | inl none ↦ absurd (within_none X 0 n x.one none x.passes.0 (omega arith) (omega arith))
         | inr low ↦ elim (greatest_in X 0 n) [
@@ -73,7 +72,6 @@ module _ (n : ℕ) (X Y : ℕ → Bool) (x : HasTwo n X) (y : HasTwo n Y) where
           | inr high ↦
               let i = low.0 in
               let k = high.0 in
-              let in_i = low.2 in
               let in_k = high.2 in
               let not_low : (j : ℕ) → X j ≡ true → i ≤ j = λ j u. elim (cases_lt j i) [ inl m ↦ absurd (within_none X 0 i j low.4 u (omega arith) m) | inr m ↦ m ] in
               let not_high : (j : ℕ) → j < n → X j ≡ true → j ≤ k = λ j m u. elim (cases_lt k j) [ inl m' ↦ absurd (within_none X (suc k) n j high.4 u (omega arith) m) | inr m' ↦ m' ] in
@@ -83,15 +81,13 @@ module _ (n : ℕ) (X Y : ℕ → Bool) (x : HasTwo n X) (y : HasTwo n Y) where
               elim (least_in Y (suc i) k) [
                 | inl none ↦ around i k record { order = order; within = in_k; first = low.3; last = high.3; all = λ j m u. (not_low j u, not_high j m u); none = λ j m m'. none j (omega arith) m' }
                 | inr z ↦
-                    let in_z = z.1 in
-                    let in_z' = z.2 in
                     elim side [
                       | inl before ↦
                           let far : s < i = elim (cases_lt s i) [ inl m ↦ m | inr m ↦ elim (cases_eq s i) [ inl e ↦ absurd (true≢false (sym low.3 ∙ (ap X (sym e) ∙ f))) | inr ne ↦ absurd (within_none X 0 s i before low.3 (omega arith) (omega arith)) ] ] in
-                          alternate' s i z.0 k record { order = (far, omega arith, in_z', in_k); odd = (t, z.3); even = (low.3, high.3) }
+                          alternate' s i z.0 k record { order = (far, omega arith, z.2, in_k); odd = (t, z.3); even = (low.3, high.3) }
                       | inr after ↦
                           let far : k < s = elim (cases_lt k s) [ inl m ↦ m | inr m ↦ elim (cases_eq s k) [ inl e ↦ absurd (true≢false (sym high.3 ∙ (ap X (sym e) ∙ f))) | inr ne ↦ absurd (within_none X (suc s) n k after high.3 (omega arith) in_k) ] ] in
-                          alternate i z.0 k s record { order = (omega arith, in_z', far, l); odd = (low.3, high.3); even = (z.3, t) }
+                          alternate i z.0 k s record { order = (omega arith, z.2, far, l); odd = (low.3, high.3); even = (z.3, t) }
                     ]
               ]
         ]
@@ -108,7 +104,6 @@ module _ (n : ℕ) (X Y : ℕ → Bool) (x : HasTwo n X) (y : HasTwo n Y) where
               let i = low.0 in
               let k = high.0 in
               let in_i = low.2 in
-              let in_k = high.1 in
               let in_k' = high.2 in
               elim (least_in Y 0 i) [
                 | inr z ↦ let m = z.2 in alternate' z.0 i s k record { order = (m, in_i, omega arith, in_k'); odd = (z.3, t); even = (low.3, high.3) }
@@ -136,7 +131,6 @@ module _ (n : ℕ) (X Y : ℕ → Bool) (x : HasTwo n X) (y : HasTwo n Y) where
   -- each place of Y is of X: by the first and the last
   all_of : ((j : ℕ) → j < n → Y j ≡ true → X j ≡ true) → Lie n X Y
   all_of both =
-      let o = y.order in
       elim (least_in Y 0 n) [
         | inl none ↦ absurd (within_none Y 0 n y.one none y.passes.0 (omega arith) (omega arith))
         | inr low ↦ elim (greatest_in Y 0 n) [
@@ -144,24 +138,21 @@ module _ (n : ℕ) (X Y : ℕ → Bool) (x : HasTwo n X) (y : HasTwo n Y) where
           | inr high ↦
               let i = low.0 in
               let k = high.0 in
-              let in_i = low.2 in
               let in_k = high.2 in
               let not_low : (j : ℕ) → Y j ≡ true → i ≤ j = λ j u. elim (cases_lt j i) [ inl m ↦ absurd (within_none Y 0 i j low.4 u (omega arith) m) | inr m ↦ m ] in
               let not_high : (j : ℕ) → j < n → Y j ≡ true → j ≤ k = λ j m u. elim (cases_lt k j) [ inl m' ↦ absurd (within_none Y (suc k) n j high.4 u (omega arith) m) | inr m' ↦ m' ] in
               let a = not_low y.one y.passes.0 in
               let b = not_high y.other (omega arith) y.passes.1 in
               let order : i < k = omega arith in
-              let x_i = both i in_i low.3 in
+              let x_i = both i low.2 low.3 in
               let x_k = both k in_k high.3 in
               elim (least_in Y (suc i) k) [
                 | inr z ↦
-                    let m = z.1 in
                     let m' = z.2 in
                     common i z.0 k record { order = (omega arith, m', in_k); of_X = (x_i, both z.0 (omega arith) z.3, x_k); of_Y = (low.3, z.3, high.3) }
                 | inl none ↦ elim (least_in X (suc i) k) [
                   | inl free ↦ in_gap i k record { order = order; within = in_k; first = x_i; last = x_k; none = λ j m m'. free j (omega arith) m'; all = λ j m u. (not_low j u, not_high j m u) }
                   | inr z ↦
-                      let m = z.1 in
                       let m' = z.2 in
                       elim (least_in X 0 i) [
                         | inr w ↦ let q = w.2 in alternate w.0 i z.0 k record { order = (q, omega arith, m', in_k); odd = (w.3, z.3); even = (low.3, high.3) }

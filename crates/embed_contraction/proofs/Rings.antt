@@ -308,34 +308,22 @@ module _ (graph : EdgeGraph) (ws : List ℕ) (x y : ℕ) (rim : IsRimmed graph w
 -- Where neighbours of the two alternate on the ring, the graph has a witness, of K3,3.
 pub alternating_witness : (graph : EdgeGraph) (ws : List ℕ) (x y i j k l : ℕ) → IsRimmed graph ws x y → Alternate (length ws) (spoke graph ws x) (spoke graph ws y) i j k l → HasWitness graph
 alternating_witness graph ws x y i j k l rim a =
-    let o1 = a.order.0 in
-    let o2 = a.order.1 in
-    let o3 = a.order.2 in
-    let o4 = a.order.3 in
     let in_i : i < length ws = omega arith in
     let A = at graph ws x y rim i in_i in
     let later = at_later graph ws x y rim i in_i in
     let first : A 0 ≡ get_or ws i 0 = ap A (omega arith) ∙ later i (omega arith) in_i in
-    let q = j - i in
-    let r = k - i in
-    let s = l - i in
-    witness33 graph ws x y rim i in_i q r s (omega arith) (omega arith) (omega arith) (omega arith)
+    witness33 graph ws x y rim i in_i (j - i) (k - i) (l - i) (omega arith) (omega arith) (omega arith) (omega arith)
     (ap (has_edge graph x) first ∙ a.odd.0) (ap (has_edge graph y) (later j (omega arith) (omega arith)) ∙ a.even.0) (ap (has_edge graph x) (later k (omega arith) (omega arith)) ∙ a.odd.1) (ap (has_edge graph y) (later l (omega arith) (omega arith)) ∙ a.even.1)
 
 -- Where the two have three common neighbours on the ring, the graph has a witness, of K5.
 pub common_witness : (graph : EdgeGraph) (ws : List ℕ) (x y i j k : ℕ) → IsRimmed graph ws x y → AreCommon (length ws) (spoke graph ws x) (spoke graph ws y) i j k → HasWitness graph
 common_witness graph ws x y i j k rim a =
-    let o1 = a.order.0 in
-    let o2 = a.order.1 in
-    let o3 = a.order.2 in
     let in_i : i < length ws = omega arith in
     let A = at graph ws x y rim i in_i in
     let later = at_later graph ws x y rim i in_i in
     let first : A 0 ≡ get_or ws i 0 = ap A (omega arith) ∙ later i (omega arith) in_i in
-    let q = j - i in
-    let r = k - i in
     let at_j = later j (omega arith) (omega arith) in
     let at_k = later k (omega arith) (omega arith) in
-    witness5 graph ws x y rim i in_i q r (omega arith) (omega arith) (omega arith)
+    witness5 graph ws x y rim i in_i (j - i) (k - i) (omega arith) (omega arith) (omega arith)
     (ap (has_edge graph x) first ∙ a.of_X.0) (ap (has_edge graph x) at_j ∙ a.of_X.1) (ap (has_edge graph x) at_k ∙ a.of_X.2)
     (ap (has_edge graph y) first ∙ a.of_Y.0) (ap (has_edge graph y) at_j ∙ a.of_Y.1) (ap (has_edge graph y) at_k ∙ a.of_Y.2)

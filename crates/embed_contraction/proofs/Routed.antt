@@ -19,14 +19,7 @@ abbrev StepOr : EdgeGraph → ℕ → ℕ → ℕ → ℕ → Type 0
 StepOr graph u v a b = (has_edge graph a b ≡ true) ⊎ (((a ≡ u) × (b ≡ v)) ⊎ ((a ≡ v) × (b ≡ u)))
 
 put_path : (graph : EdgeGraph) (kind : Kind) (mid : List ℕ) (u v : ℕ) (branch size : ℕ → ℕ) (way : ℕ → ℕ → ℕ) → IsFrame graph.n kind branch size way → HasSteps kind size way (StepOr graph u v) → LeadsAlong graph u mid v → AllPairs ◌≢◌ mid → ((w : ℕ) → Contains mid w → (p i : ℕ) → p < path_count kind → i ≤ size p → way p i ≢ w) → HasWitness graph
-put_path graph kind [] u v branch size way frame steps leads distinct off =
-    witness-frame graph kind branch size way frame (λ p i l m. elim (steps p i l m) [
-      | inl e ↦ e
-      | inr r ↦ elim r [
-        | inl h ↦ ap₂ (has_edge graph) h.0 h.1 ∙ leads
-        | inr h ↦ ap₂ (has_edge graph) h.0 h.1 ∙ (has_edge-turned graph v u ∙ leads)
-      ]
-    ])
+put_path graph kind [] u v branch size way frame steps leads distinct off = grind (arith, witness-frame, ap₂, has_edge, has_edge-turned)
 put_path graph kind (w ∷ mid) u v branch size way frame steps leads distinct off =
     elim first_bad [
       | inl all ↦ witness-frame graph kind branch size way frame (λ p i l m. all p l i m)
@@ -37,19 +30,9 @@ put_path graph kind (w ∷ mid) u v branch size way frame steps leads distinct o
           let lk = r.2.1 in
           let off_w = off w (Contains-here w mid) in
           let rest : (p i : ℕ) → p < path_count kind → i < size p → ((p ≡ q) × (i ≡ k) → ⊥) → StepOr graph w v (way p i) (way p (suc i)) = λ p i l m n. inl (others q k lq lk r.2.2 p i l m n) in
-          let both : StepOr graph w v (way q k) w × StepOr graph w v w (way q (suc k)) = elim (steps q k lq lk) [
-            | inl t ↦ absurd (true≢false (sym t ∙ r.2.2))
-            | inr d ↦ elim d [
-              | inl h ↦ (inl (ap (λ a. has_edge graph a w) h.0 ∙ leads.0), inr (inl (refl, h.1)))
-              | inr h ↦ (inr (inr (h.0, refl)), inl (ap (has_edge graph w) h.1 ∙ (has_edge-turned graph w u ∙ leads.0)))
-            ]
-          ] in
+          let both : StepOr graph w v (way q k) w × StepOr graph w v w (way q (suc k)) = grind (arith, StepOr, true≢false, has_edge, has_edge-turned) in
           let no_branch : (j : ℕ) → j < branch_count kind → branch j ≢ w = λ j l e.
-          let s = on_path kind j l in
-          elim s.2 [
-            | inl h ↦ off_w s.0 0 s.1 (omega arith) (frame.start s.0 s.1 ∙ (ap branch h ∙ e))
-            | inr h ↦ off_w s.0 (size s.0) s.1 (omega arith) (frame.end s.0 s.1 ∙ (ap branch h ∙ e))
-          ] in
+          grind (arith, on_path kind j l) in
           put_path graph kind mid w v branch (size' graph.n kind branch size way frame w q k lq lk off_w no_branch) (way' graph.n kind branch size way frame w q k lq lk off_w no_branch)
           (inserted graph.n kind branch size way frame w q k lq lk off_w no_branch)
           (steps-inserted graph.n kind branch size way frame w q k lq lk off_w no_branch (StepOr graph w v) rest both.0 both.1)
@@ -85,20 +68,18 @@ put_path graph kind (w ∷ mid) u v branch size way frame steps leads distinct o
 -- THE LAW: a witness routed
 pub routed_witness : RoutedWitness
 routed_witness whole part u v mid r w =
-    let kind = w.0 in
-    let f = frame-witness part kind w.1 w.2 w.3 in
+    let f = frame-witness part w.0 w.1 w.2 w.3 in
     let branch : ℕ → ℕ = λ j. vertex_at w.1 j in
     let size : ℕ → ℕ = λ p. length (path_at w.2 p) - 1 in
     let way : ℕ → ℕ → ℕ = λ p i. vertex_at (path_at w.2 p) i in
-    let frame = frame-map part.n whole.n kind branch size way (λ z. z) (λ z l. subst (λ n. z < n) r.vertices l) (λ a b e. e) f.0 in
-    put_path whole kind mid u v branch size way frame (λ p i l m. r.edges (way p i) (way p (suc i)) (f.1 p i l m)) r.way r.distinct
+    let frame = frame-map part.n whole.n w.0 branch size way (λ z. z) (λ z l. subst (λ n. z < n) r.vertices l) (λ a b e. e) f.0 in
+    put_path whole w.0 mid u v branch size way frame (λ p i l m. r.edges (way p i) (way p (suc i)) (f.1 p i l m)) r.way r.distinct
     (λ z c p i l m e.
     elim (cases_eq i (size p)) [
       | inr n ↦ absurd (true≢false (sym (f.1 p i l (omega arith)) ∙ (ap (λ a. has_edge part a (way p (suc i))) e ∙ r.off z (way p (suc i)) c)))
       | inl q ↦
           let k = i - 1 in
-          let g = f.0.long p l in
-          let sk : suc k ≡ i = omega arith in
+          let sk : suc k ≡ i = omega (arith, f.0.long p l) in
           let step = f.1 p k l (omega arith) in
           absurd (true≢false (sym (has_edge-turned part (way p (suc k)) (way p k) ∙ step) ∙ (ap (λ a. has_edge part a (way p k)) (ap (way p) sk ∙ e) ∙ r.off z (way p k) c)))
     ])

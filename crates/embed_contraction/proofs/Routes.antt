@@ -41,8 +41,7 @@ route-more graph s u v mid r e s_v u_v =
         )
         | inl c ↦
             let p = separated_at mid s c in
-            let whole : AllPairs ◌≢◌ (p.0 ++ s ∷ p.1) = subst (AllPairs ◌≢◌) p.2 r.distinct in
-            let tail = AllPairs-right p.0 (s ∷ p.1) whole in (
+            let tail = AllPairs-right p.0 (s ∷ p.1) (subst (AllPairs ◌≢◌) p.2 r.distinct) in (
               p.1,
               record {
                 way = later graph u p.0 s p.1 v (subst (λ l. LeadsAlong graph u l v) p.2 r.way);
@@ -59,16 +58,12 @@ from_place : (graph : EdgeGraph) (lists : Lists) (path : List ℕ) (v : ℕ) →
 from_place graph lists path v edges steps last zero i n = inl (ap (λ k. get_or path k 0) (omega arith) ∙ last)
 from_place graph lists path v edges steps last (suc spare) i n =
     let a = get_or path i 0 in
-    let b = get_or path (suc i) 0 in
-    let e = edges a b (steps i (omega arith)) in
+    let e = edges a (get_or path (suc i) 0) (steps i (omega arith)) in
     elim (cases_eq a v) [
       | inl q ↦ inl q
       | inr a_v ↦ elim (from_place graph lists path v edges steps last spare (suc i) (omega arith)) [
         | inl q ↦ inr ([], record { way = subst (λ z. has_edge graph a z ≡ true) q e; distinct = λ j k d l m. absurd (omega (arith, l, m)); not_first = λ c. absurd (omega (arith, c.1)); not_last = λ c. absurd (omega (arith, c.1)) })
-        | inr r ↦ elim (cases_eq b v) [
-          | inl q ↦ inr ([], record { way = subst (λ z. has_edge graph a z ≡ true) q e; distinct = λ j k d l m. absurd (omega (arith, l, m)); not_first = λ c. absurd (omega (arith, c.1)); not_last = λ c. absurd (omega (arith, c.1)) })
-          | inr b_v ↦ let more = route-more graph a b v r.0 r.1 e a_v b_v in inr (more.0, more.1)
-        ]
+        | inr r ↦ grind (arith, cases_eq, has_edge, route-more)
       ]
     ]
 
@@ -76,10 +71,7 @@ from_place graph lists path v edges steps last (suc spare) i n =
 pub some_route : (graph : EdgeGraph) (lists : Lists) (u v : ℕ) → IsSimpleMap lists → ((a b : ℕ) → HasDart lists a b → has_edge graph a b ≡ true) → u ≢ v → u < length lists → v < length lists → SameComponent lists u v → (mid : List ℕ) × IsRoute graph u v mid
 some_route graph lists u v simple edges u_v in_u in_v same =
     let joined = (components_are_paths lists u v simple in_u in_v).0 same in
-    let path = joined.0 in
-    let j = joined.1 in
-    let some = j.is_path.some in
-    elim (from_place graph lists path v edges j.is_path.steps j.end (length path - 1) 0 (omega arith)) [
-      | inl q ↦ absurd (u_v (sym j.start ∙ q))
-      | inr r ↦ (r.0, subst (λ z. IsRoute graph z v r.0) j.start r.1)
+    elim (from_place graph lists joined.0 v edges joined.1.is_path.steps joined.1.end (length joined.0 - 1) 0 (omega arith)) [
+      | inl q ↦ absurd (u_v (sym joined.1.start ∙ q))
+      | inr r ↦ (r.0, subst (λ z. IsRoute graph z v r.0) joined.1.start r.1)
     ]

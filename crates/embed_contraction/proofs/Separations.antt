@@ -49,17 +49,7 @@ record IsNamed (p : ℕ) : Type 0 where
 
 named : (p : ℕ) → p < 9 → IsNamed p
 unfolding from_name to_name path_named
-named =
-    each_of_nine IsNamed
-    (record { first = omega arith; second = omega arith; side = inl refl; two = λ e. omega arith; again = λ l. absurd (omega arith) })
-    (record { first = omega arith; second = omega arith; side = inl refl; two = λ e. omega arith; again = λ l. refl })
-    (record { first = omega arith; second = omega arith; side = inl refl; two = λ e. omega arith; again = λ l. refl })
-    (record { first = omega arith; second = omega arith; side = inr (omega arith); two = λ e. omega arith; again = λ l. refl })
-    (record { first = omega arith; second = omega arith; side = inr (omega arith); two = λ e. omega arith; again = λ l. refl })
-    (record { first = omega arith; second = omega arith; side = inr (omega arith); two = λ e. omega arith; again = λ l. refl })
-    (record { first = omega arith; second = omega arith; side = inr (omega arith); two = λ e. omega arith; again = λ l. refl })
-    (record { first = omega arith; second = omega arith; side = inr (omega arith); two = λ e. omega arith; again = λ l. refl })
-    (record { first = omega arith; second = omega arith; side = inr (omega arith); two = λ e. omega arith; again = λ l. refl })
+named = grind (arith, each_of_nine)
 
 -- the paths that end at y in place of x
 unfoldable pub ends_at_x : ℕ → Bool
@@ -120,11 +110,7 @@ module _ (graph : EdgeGraph) (branch size : ℕ → ℕ) (way : ℕ → ℕ → 
 
   hidden_not : (h : Bool) (v : ℕ) → v ≢ x → hidden h v ≡ v
   unfolding hidden
-  hidden_not h v n = cond-false (h && eqb v x) y v (ap (λ b. h && b) (ne_eqb v x n) ∙ and_no h)
-    where
-      and_no : (b : Bool) → (b && false) ≡ false
-      and_no true = refl
-      and_no false = refl
+  hidden_not h v n = grind (arith, cond-false, eqb, ne_eqb)
 
   hidden_off : (v : ℕ) → hidden false v ≡ v
   unfolding hidden
@@ -162,24 +148,10 @@ module _ (graph : EdgeGraph) (branch size : ℕ → ℕ) (way : ℕ → ℕ → 
   branch_not_x a l n e = n (names_apart a 0 l (omega arith) (frame.distinct (name a) (name 0) (below a l) (below 0 (omega arith)) (e ∙ sym is_x)))
 
   vertices_apart : (k l : ℕ) → k < 6 → l < 6 → vertex_named k ≡ vertex_named l → k ≡ l
-  vertices_apart k l lk ll e =
-      elim (cases_eq k 5) [
-        | inl q ↦ elim (cases_eq l 5) [
-          | inl r ↦ q ∙ sym r
-          | inr n ↦ absurd (no_branch (name l) (below l (omega arith)) (sym (vertex_named-else l n) ∙ (sym e ∙ (ap vertex_named q ∙ vertex_named-y))))
-        ]
-        | inr n ↦ elim (cases_eq l 5) [
-          | inl r ↦ absurd (no_branch (name k) (below k (omega arith)) (sym (vertex_named-else k n) ∙ (e ∙ (ap vertex_named r ∙ vertex_named-y))))
-          | inr n' ↦ names_apart k l (omega arith) (omega arith) (frame.distinct (name k) (name l) (below k (omega arith)) (below l (omega arith)) (sym (vertex_named-else k n) ∙ (e ∙ vertex_named-else l n')))
-        ]
-      ]
+  vertices_apart k l lk ll e = grind (arith, cases_eq, vertex_named-else, vertex_named-y)
 
   vertices_in : (k : ℕ) → k < 6 → vertex_named k < graph.n
-  vertices_in k l =
-      elim (cases_eq k 5) [
-        | inl q ↦ subst (λ v. v < graph.n) (sym (ap vertex_named q ∙ vertex_named-y)) in_y
-        | inr n ↦ subst (λ v. v < graph.n) (sym (vertex_named-else k n)) (frame.vertices (name k) (below k (omega arith)))
-      ]
+  vertices_in k l = grind (arith, cases_eq, vertex_named-y, vertex_named-else)
 
   -- no vertex of a path is y
   link_off : (p : ℕ) → p < 9 → (i : ℕ) → 0 < i → i < S (from_name p) (to_name p) → (v : ℕ) → v ≡ y → L (from_name p) (to_name p) i ≢ v
@@ -211,11 +183,7 @@ module _ (graph : EdgeGraph) (branch size : ℕ → ℕ) (way : ℕ → ℕ → 
   -- a path from x does not end there
   first_hidden : (p : ℕ) → p < 9 → hidden (ends_at_x p) (branch (name (from_name p))) ≡ branch (name (from_name p))
   unfolding ends_at_x
-  first_hidden p l =
-      elim (cases_eq (to_name p) 0) [
-        | inl e ↦ hidden_not (eqb (to_name p) 0) (branch (name (from_name p))) (branch_not_x (from_name p) (named p l).first (λ q. (named p l).two (q ∙ sym e)))
-        | inr n ↦ ap (λ b. hidden b (branch (name (from_name p)))) (ne_eqb (to_name p) 0 n) ∙ hidden_off (branch (name (from_name p)))
-      ]
+  first_hidden p l = grind (arith, cases_eq, hidden_not, eqb, branch_not_x, named, ne_eqb, hidden_off)
 
   last_hidden : (p : ℕ) → p < 9 → ((to_name p ≡ 0) × (hidden (ends_at_x p) (branch (name (to_name p))) ≡ y)) ⊎ ((to_name p ≢ 0) × (hidden (ends_at_x p) (branch (name (to_name p))) ≡ branch (name (to_name p))))
   unfolding ends_at_x
@@ -240,36 +208,11 @@ module _ (graph : EdgeGraph) (branch size : ℕ → ℕ) (way : ℕ → ℕ → 
 
   end33 : (p : ℕ) → p < 9 → way33 p (size33 p) ≡ branch33 (pair_at K33 p).1
   unfolding way33 size33 branch33 branch_name
-  end33 zero l = sym vertex_named-y
-  end33 (suc p) l =
-      let e = (ends_named p l).1 in
-      ap (hidden (ends_at_x (suc p))) (link_last (suc p) l) ∙ elim (last_hidden (suc p) l) [
-        | inl h ↦ h.1 ∙ sym (ap vertex_named (e ∙ cond-true (eqb (to_name (suc p)) 0) 5 (to_name (suc p)) (eq-eqb (to_name (suc p)) 0 h.0)) ∙ vertex_named-y)
-        | inr h ↦ h.1 ∙ sym (ap vertex_named (e ∙ cond-false (eqb (to_name (suc p)) 0) 5 (to_name (suc p)) (ne_eqb (to_name (suc p)) 0 h.0)) ∙ vertex_named-else (to_name (suc p)) (λ q. let s = (named (suc p) l).second in omega arith))
-      ]
+  end33 x0 l = grind (arith, vertex_named-y, ends_named, link_last, last_hidden, cond-true, eqb, eq-eqb, cond-false, ne_eqb, vertex_named-else, named)
 
   -- one path for each two names
   same_path : (p q : ℕ) → suc p < 9 → suc q < 9 → ((name (from_name (suc p)) ≡ name (from_name (suc q))) × (name (to_name (suc p)) ≡ name (to_name (suc q)))) ⊎ ((name (from_name (suc p)) ≡ name (to_name (suc q))) × (name (to_name (suc p)) ≡ name (from_name (suc q)))) → suc p ≡ suc q
-  same_path p q lp lq h =
-      let np = named (suc p) lp in
-      let nq = named (suc q) lq in
-      let f1 = np.first in
-      let t1 = np.second in
-      let f2 = nq.first in
-      let t2 = nq.second in
-      elim h [
-        | inl e ↦
-            let a = names_apart (from_name (suc p)) (from_name (suc q)) f1 f2 e.0 in
-            let b = names_apart (to_name (suc p)) (to_name (suc q)) (omega arith) (omega arith) e.1 in
-            sym (np.again (omega arith)) ∙ (ap₂ path_named a b ∙ nq.again (omega arith))
-        | inr e ↦
-            let a = names_apart (from_name (suc p)) (to_name (suc q)) f1 (omega arith) e.0 in
-            let b = names_apart (to_name (suc p)) (from_name (suc q)) (omega arith) f2 e.1 in
-            absurd (elim np.side [
-              | inr far ↦ omega arith
-              | inl z ↦ elim nq.side [ inr far ↦ omega arith | inl z' ↦ np.two (z ∙ sym (b ∙ z')) ]
-            ])
-      ]
+  same_path p q lp lq h = grind (arith, named, ap₂, path_named)
 
   pub frame33 : IsFrame graph.n K33 branch33 size33 way33
   unfolding branch33 size33 way33
@@ -293,10 +236,9 @@ module _ (graph : EdgeGraph) (branch size : ℕ → ℕ) (way : ℕ → ℕ → 
       no_branch33 (suc p) i j l pos m in_j e =
           let here = sym (way_inner p l i pos m) ∙ e in
           let k = branch_name j in
-          let lk = (named_again j in_j).1 in
           elim (cases_eq k 5) [
             | inl q ↦ link_off (suc p) l i pos m y refl (here ∙ (ap vertex_named q ∙ vertex_named-y))
-            | inr n ↦ inner_not (suc p) l i (name k) pos m (below k (omega arith)) (here ∙ vertex_named-else k n)
+            | inr n ↦ inner_not (suc p) l i (name k) pos m (below k (omega (arith, (named_again j in_j).1))) (here ∙ vertex_named-else k n)
           ]
 
       once33 : (p i j : ℕ) → p < 9 → 0 < i → i < size33 p → j ≤ size33 p → way33 p i ≡ way33 p j → i ≡ j
@@ -324,11 +266,7 @@ module _ (graph : EdgeGraph) (branch size : ℕ → ℕ) (way : ℕ → ℕ → 
 
   -- ---- edges
   turned_step : (a b : ℕ) → StepsAt graph x y a b → StepsAt graph x y b a
-  turned_step a b h =
-      elim h [
-        | inl e ↦ inl (has_edge-turned graph b a ∙ e)
-        | inr r ↦ elim r [ inl e ↦ inr (inr (e.0, has_edge-turned graph b y ∙ e.1)) | inr e ↦ inr (inl (e.0, has_edge-turned graph y a ∙ e.1)) ]
-      ]
+  turned_step a b h = grind (arith, has_edge-turned)
 
   -- a step that is not at x is an edge
   plain : (a b : ℕ) → StepsAt graph x y a b → a ≢ x → b ≢ x → E a b
@@ -354,7 +292,6 @@ module _ (graph : EdgeGraph) (branch size : ℕ → ℕ) (way : ℕ → ℕ → 
         let a = from_name (suc p) in
         let b = to_name (suc p) in
         let nm = named (suc p) l in
-        let fst = nm.first in
         let snd = nm.second in
         let H : ℕ → ℕ = hidden (ends_at_x (suc p)) in
         let both : L a b i ≢ x → L a b (suc i) ≢ x → E (H (L a b i)) (H (L a b (suc i))) = λ n n'.
@@ -365,33 +302,21 @@ module _ (graph : EdgeGraph) (branch size : ℕ → ℕ) (way : ℕ → ℕ → 
               elim (cases_eq i 0) [
                 | inr pos ↦ both (inner_not_x (suc p) l i (omega arith) m) next
                 | inl z ↦ elim (cases_eq a 0) [
-                  | inr na ↦ both (λ e. branch_not_x a fst na (sym (link_first (suc p) l) ∙ (ap (L a b) (sym z) ∙ e))) next
+                  | inr na ↦ both (λ e. branch_not_x a nm.first na (sym (link_first (suc p) l) ∙ (ap (L a b) (sym z) ∙ e))) next
                   | inl za ↦
                       let start : L a b i ≡ x = ap (L a b) z ∙ (link_first (suc p) l ∙ (ap (λ k. branch (name k)) za ∙ is_x)) in
-                      let off_h : ends_at_x (suc p) ≡ false = ends_false (suc p) n in
-                      let eh : (v : ℕ) → H v ≡ v = λ v. ap (λ h. hidden h v) off_h ∙ hidden_off v in
+                      let eh : (v : ℕ) → H v ≡ v = λ v. ap (λ h. hidden h v) (ends_false (suc p) n) ∙ hidden_off v in
                       let side : E x (L a b (suc i)) = subst (λ k. E x (L k b (suc i))) (sym za) (subst (λ t. E x (L 0 b (suc t))) (sym z) (x_sides b (omega arith) snd)) in
                       subst (λ u. E u (H (L a b (suc i)))) (sym (eh (L a b i) ∙ start)) (subst (E x) (sym (eh (L a b (suc i)))) side)
                 ]
               ]
           | inl zb ↦
               let na : a ≢ 0 = λ q. nm.two (q ∙ sym zb) in
-              let far : 3 ≤ a = elim nm.side [ inl q ↦ absurd (na q) | inr q ↦ q ] in
               let before : L a b i ≢ x = elim (cases_eq i 0) [
-                | inl z ↦ λ e. branch_not_x a fst na (sym (link_first (suc p) l) ∙ (ap (L a b) (sym z) ∙ e))
+                | inl z ↦ λ e. branch_not_x a nm.first na (sym (link_first (suc p) l) ∙ (ap (L a b) (sym z) ∙ e))
                 | inr pos ↦ inner_not_x (suc p) l i (omega arith) m
               ] in
-              elim (cases_eq (suc i) (S a b)) [
-                | inr inside ↦ both before (inner_not_x (suc p) l (suc i) (omega arith) (omega arith))
-                | inl last ↦
-                    let end : L a b (suc i) ≡ x = ap (L a b) last ∙ (link_last (suc p) l ∙ (ap (λ k. branch (name k)) zb ∙ is_x)) in
-                    let on_h : ends_at_x (suc p) ≡ true = ends_true (suc p) zb in
-                    let at_y : H (L a b (suc i)) ≡ y = ap (λ h. hidden h (L a b (suc i))) on_h ∙ hidden_x (L a b (suc i)) end in
-                    let at_a : H (L a b i) ≡ L a b i = hidden_not (ends_at_x (suc p)) (L a b i) before in
-                    let back : L a 0 i ≡ L 0 a 1 = link-back graph.n branch size way frame (name 0) (name a) (below 0 (omega arith)) (below a fst) (λ q. na (sym (names_apart 0 a (omega arith) fst q))) i (last ∙ ap (S a) zb) in
-                    let side : E (L a b i) y = subst (λ v. E v y) (sym (ap (λ k. L a k i) zb ∙ back)) (has_edge-turned graph (L 0 a 1) y ∙ y_sides a far fst) in
-                    subst (λ u. E u (H (L a b (suc i)))) (sym at_a) (subst (E (L a b i)) (sym at_y) side)
-              ]
+              grind (arith, cases_eq, inner_not_x, link_last, ends_true, hidden_x, hidden_not, link-back, has_edge-turned)
         ]
 
     pub separated : HasWitness graph

@@ -24,36 +24,15 @@ pair_known K33 =
 module _ (n : ℕ) (kind : Kind) (branch size : ℕ → ℕ) (way : ℕ → ℕ → ℕ) (frame : IsFrame n kind branch size way) where
   -- the vertex at an inner place stands nowhere else
   same_inner : (p i q j : ℕ) → p < path_count kind → q < path_count kind → 0 < i → i < size p → j ≤ size q → way p i ≡ way q j → (p ≡ q) × (i ≡ j)
-  same_inner p i q j lp lq pos l m e =
-      let b = pairs_within kind q lq in
-      elim (cases_eq j 0) [
-        | inl z ↦ absurd (frame.no_branch p i (pair_at kind q).0 lp pos l b.0 (e ∙ (ap (way q) z ∙ frame.start q lq)))
-        | inr nz ↦ elim (cases_eq j (size q)) [
-          | inl s ↦ absurd (frame.no_branch p i (pair_at kind q).1 lp pos l b.1 (e ∙ (ap (way q) s ∙ frame.end q lq)))
-          | inr ns ↦
-              let pq = frame.apart p q i j lp lq pos l (omega arith) (omega arith) e in
-              (pq, frame.once p i j lp pos l (subst (λ r. j ≤ size r) (sym pq) m) (e ∙ ap (λ r. way r j) (sym pq)))
-        ]
-      ]
+  same_inner p i q j lp lq pos l m e = grind (arith, pairs_within, cases_eq, pair_at)
 
   -- the two ends of a path are two
   ends_apart : (p : ℕ) → p < path_count kind → way p 0 ≢ way p (size p)
-  ends_apart p l e =
-      let b = pairs_within kind p l in
-      let less = (pair_known kind p l).1 in
-      let same = frame.distinct (pair_at kind p).0 (pair_at kind p).1 b.0 b.1 (sym (frame.start p l) ∙ (e ∙ frame.end p l)) in
-      omega arith
+  ends_apart p l e = grind (arith, pairs_within, pair_at, pair_known)
 
   -- so are two places of a path with one between
   around_apart : (p i : ℕ) → p < path_count kind → suc (suc i) ≤ size p → way p i ≢ way p (suc (suc i))
-  around_apart p i l m e =
-      elim (cases_eq i 0) [
-        | inr pos ↦ let s = (same_inner p i p (suc (suc i)) l l (omega arith) (omega arith) m e).1 in omega arith
-        | inl z ↦ elim (cases_eq (suc (suc i)) (size p)) [
-          | inr inside ↦ let s = (same_inner p (suc (suc i)) p i l l (omega arith) (omega arith) (omega arith) (sym e)).1 in omega arith
-          | inl last ↦ ends_apart p l (ap (way p) (sym z) ∙ (e ∙ ap (way p) last))
-        ]
-      ]
+  around_apart p i l m e = grind (arith, cases_eq, same_inner, ends_apart)
 
   one_path : (p q : ℕ) → p < path_count kind → q < path_count kind → (pair_at kind p).0 ≡ (pair_at kind q).0 → (pair_at kind p).1 ≡ (pair_at kind q).1 → p ≡ q
   one_path p q lp lq e e' = sym (pair_known kind p lp).0 ∙ (ap₂ (number_of kind) e e' ∙ (pair_known kind q lq).0)
@@ -67,15 +46,7 @@ module _ (n : ℕ) (kind : Kind) (branch size : ℕ → ℕ) (way : ℕ → ℕ 
           | inr pos ↦ let s = same_inner q k p i lq lp (omega arith) lk (omega arith) (sym e) in (sym s.0, sym s.1)
           | inl z' ↦ elim (cases_eq (suc i) (size p)) [
             | inr inside ↦ let s = same_inner p (suc i) q (suc k) lp lq (omega arith) (omega arith) lk e' in (s.0, z ∙ sym z')
-            | inl last ↦ elim (cases_eq (suc k) (size q)) [
-              | inr inside ↦ let s = same_inner q (suc k) p (suc i) lq lp (omega arith) (omega arith) li (sym e') in (sym s.0, z ∙ sym z')
-              | inl last' ↦
-                  let b = pairs_within kind p lp in
-                  let c = pairs_within kind q lq in
-                  let one = frame.distinct (pair_at kind p).0 (pair_at kind q).0 b.0 c.0 (sym (frame.start p lp) ∙ (ap (way p) (sym z) ∙ (e ∙ (ap (way q) z' ∙ frame.start q lq)))) in
-                  let other = frame.distinct (pair_at kind p).1 (pair_at kind q).1 b.1 c.1 (sym (frame.end p lp) ∙ (ap (way p) (sym last) ∙ (e' ∙ (ap (way q) last' ∙ frame.end q lq)))) in
-                  (one_path p q lp lq one other, z ∙ sym z')
-            ]
+            | inl last ↦ grind (arith, cases_eq, same_inner, pairs_within, pair_at, one_path)
           ]
         ]
       ]
@@ -86,26 +57,14 @@ module _ (n : ℕ) (kind : Kind) (branch size : ℕ → ℕ) (way : ℕ → ℕ 
       elim (cases_eq i 0) [
         | inr pos ↦
             let s = same_inner p i q (suc k) lp lq (omega arith) li lk e in
-            let m : suc (suc k) ≤ size p = let t = s.1 in omega arith in
-            around_apart p k lp m (sym (ap (way p) (ap suc (sym s.1)) ∙ (e' ∙ ap (λ r. way r k) (sym s.0))))
+            around_apart p k lp (let t = s.1 in omega arith) (sym (ap (way p) (ap suc (sym s.1)) ∙ (e' ∙ ap (λ r. way r k) (sym s.0))))
         | inl z ↦ elim (cases_eq k 0) [
           | inr pos ↦
               let s = same_inner q k p (suc i) lq lp (omega arith) lk li (sym e') in
-              let m : suc (suc i) ≤ size q = let t = s.1 in omega arith in
-              around_apart q i lq m (ap (λ r. way r i) s.0 ∙ (e ∙ ap (λ t. way q (suc t)) s.1))
+              around_apart q i lq (let t = s.1 in omega arith) (ap (λ r. way r i) s.0 ∙ (e ∙ ap (λ t. way q (suc t)) s.1))
           | inl z' ↦ elim (cases_eq (suc i) (size p)) [
             | inr inside ↦ let s = (same_inner p (suc i) q k lp lq (omega arith) (omega arith) (omega arith) e').1 in omega arith
-            | inl last ↦ elim (cases_eq (suc k) (size q)) [
-              | inr inside ↦ let s = (same_inner q (suc k) p i lq lp (omega arith) (omega arith) (omega arith) (sym e)).1 in omega arith
-              | inl last' ↦
-                  let b = pairs_within kind p lp in
-                  let c = pairs_within kind q lq in
-                  let one = frame.distinct (pair_at kind p).0 (pair_at kind q).1 b.0 c.1 (sym (frame.start p lp) ∙ (ap (way p) (sym z) ∙ (e ∙ (ap (way q) last' ∙ frame.end q lq)))) in
-                  let other = frame.distinct (pair_at kind p).1 (pair_at kind q).0 b.1 c.0 (sym (frame.end p lp) ∙ (ap (way p) (sym last) ∙ (e' ∙ (ap (way q) z' ∙ frame.start q lq)))) in
-                  let l = (pair_known kind p lp).1 in
-                  let l' = (pair_known kind q lq).1 in
-                  omega arith
-            ]
+            | inl last ↦ grind (arith, cases_eq, same_inner, pairs_within, pair_at, pair_known)
           ]
         ]
       ]

@@ -74,32 +74,18 @@ module _ (graph : EdgeGraph) (n : ℕ) (at : ℕ → ℕ) (placed : IsPlaced gra
   span_edges p (edge u v) h zero l = h
   span_edges p (edge u v) h (suc i) l = absurd (omega arith)
   span_edges p (up lo hi) h i l =
-      let m = h.1 in
       let e : lo + suc i ≡ suc (lo + i) = omega arith in
       ap (λ j. has_edge graph (at (lo + i)) (at j)) e ∙ placed.along (lo + i) (omega arith)
   span_edges p (down lo hi) h i l =
-      let m = h.1 in
       let e : hi - i ≡ suc (hi - suc i) = omega arith in
       has_edge-turned graph (at (hi - i)) (at (hi - suc i)) ∙ (ap (λ j. has_edge graph (at (hi - suc i)) (at j)) e ∙ placed.along (hi - suc i) (omega arith))
 
   -- a place inside the ring is not another, nor the end
   inside_once : (i j : ℕ) → 0 < i → i < n → j ≤ n → at i ≡ at j → i ≡ j
-  inside_once i j pos l m e =
-      elim (cases_eq j n) [
-        | inl q ↦ let z = placed.apart i 0 l (omega arith) (e ∙ (ap at q ∙ placed.closed)) in absurd (omega arith)
-        | inr ne ↦ placed.apart i j l (omega arith) e
-      ]
+  inside_once i j pos l m e = grind (arith, cases_eq)
 
   span_once : (p : ℕ) (s : Span) → IsSound graph n owner p s → (i j : ℕ) → 0 < i → i < size_of s → j ≤ size_of s → vertex_on at s i ≡ vertex_on at s j → i ≡ j
-  span_once p (edge u v) h i j pos l m e = absurd (omega arith)
-  span_once p (up lo hi) h i j pos l m e =
-      let q = h.1 in
-      let same = inside_once (lo + i) (lo + j) (omega arith) (omega arith) (omega arith) e in
-      omega arith
-  span_once p (down lo hi) h i j pos l m e =
-      let q = h.1 in
-      let same = inside_once (hi - i) (hi - j) (omega arith) (omega arith) (omega arith) e in
-      omega arith
+  span_once p x1 h i j pos l m e = grind (arith, inside_once)
 
   module _ (kind : Kind) (branch : ℕ → ℕ) (spans : ℕ → Span) (plan : IsPlan graph n at owner kind branch spans) where
     pub traced : IsTraced graph kind branch (λ p. size_of (spans p)) (λ p i. vertex_on at (spans p) i)
@@ -112,22 +98,14 @@ module _ (graph : EdgeGraph) (n : ℕ) (at : ℕ → ℕ) (placed : IsPlaced gra
       edges = λ p i l m. span_edges p (spans p) (plan.sound p l) i m;
       no_branch = λ p i j l pos m in_j e.
           let r = span_inner p (spans p) (plan.sound p l) i pos m in
-          let o = r.3 in
           elim (plan.corners j in_j) [
             | inl hub ↦ hub r.0 r.2 (sym r.4 ∙ e)
             | inr c ↦
-                let same = placed.apart r.0 c.0 r.2 c.1 (sym r.4 ∙ (e ∙ c.2)) in
-                let big = c.3 in
-                let owners = ap owner same in
-                omega arith
+                omega (arith, ap owner (placed.apart r.0 c.0 r.2 c.1 (sym r.4 ∙ (e ∙ c.2))))
           ];
       once = λ p i j l pos m m' e. span_once p (spans p) (plan.sound p l) i j pos m m' e;
       apart = λ p q i j l m pos l' pos' m' e.
           let r = span_inner p (spans p) (plan.sound p (omega arith)) i pos l' in
           let s = span_inner q (spans q) (plan.sound q m) j pos' m' in
-          let same = placed.apart r.0 s.0 r.2 s.2 (sym r.4 ∙ (e ∙ s.4)) in
-          let owners = ap owner same in
-          let one = r.3 in
-          let other = s.3 in
-          omega arith;
+          omega (arith, ap owner (placed.apart r.0 s.0 r.2 s.2 (sym r.4 ∙ (e ∙ s.4))));
     }

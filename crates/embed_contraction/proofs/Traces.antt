@@ -27,12 +27,7 @@ vertex_at-vertices_of f n i l =
 
 -- each path joins two of the branches
 pub pairs_within : (kind : Kind) (p : ℕ) → p < path_count kind → ((pair_at kind p).0 < branch_count kind) × ((pair_at kind p).1 < branch_count kind)
-pairs_within K5 =
-    each_of_ten (λ p. ((pair_at K5 p).0 < 5) × ((pair_at K5 p).1 < 5)) (omega arith, omega arith) (omega arith, omega arith) (omega arith, omega arith) (omega arith, omega arith) (omega arith, omega arith)
-    (omega arith, omega arith) (omega arith, omega arith) (omega arith, omega arith) (omega arith, omega arith) (omega arith, omega arith)
-pairs_within K33 =
-    each_of_nine (λ p. ((pair_at K33 p).0 < 6) × ((pair_at K33 p).1 < 6)) (omega arith, omega arith) (omega arith, omega arith) (omega arith, omega arith) (omega arith, omega arith) (omega arith, omega arith)
-    (omega arith, omega arith) (omega arith, omega arith) (omega arith, omega arith) (omega arith, omega arith)
+pairs_within x0 = grind (arith, K5, each_of_ten, pair_at, K33, each_of_nine)
 
 -- lists that agree with the functions of a traced witness are a witness
 module _ (graph : EdgeGraph) (kind : Kind) (branch size : ℕ → ℕ) (way : ℕ → ℕ → ℕ) (t : IsTraced graph kind branch size way) (branches : List VertexId) (paths : List (List VertexId)) (size_branches : length branches ≡ branch_count kind) (branch_is : (j : ℕ) → j < branch_count kind → vertex_at branches j ≡ branch j) (size_paths : length paths ≡ path_count kind) (size_path : (p : ℕ) → p < path_count kind → length (path_at paths p) ≡ suc (size p)) (vertex_is : (p i : ℕ) → p < path_count kind → i ≤ size p → vertex_at (path_at paths p) i ≡ way p i) where
@@ -45,9 +40,7 @@ module _ (graph : EdgeGraph) (kind : Kind) (branch size : ℕ → ℕ) (way : �
       branches = size_branches;
       count = size_paths;
       joined = λ p l.
-          let n = size_paths in
           let in_p : p < path_count kind = omega arith in
-          let s = size_path p in_p in
           let long = t.long p in_p in
           let ends = pairs_within kind p in_p in
           let last : length (path_at paths p) - 1 ≡ size p = omega arith in
@@ -59,35 +52,24 @@ module _ (graph : EdgeGraph) (kind : Kind) (branch size : ℕ → ℕ) (way : �
     };
     vertices = λ j l. let n = size_branches in let m : j < branch_count kind = omega arith in subst (λ v. v < graph.n) (sym (branch_is j m)) (t.vertices j m);
     distinct = λ i j l m e.
-        let n = size_branches in
         let in_j : j < branch_count kind = omega arith in
         t.distinct i j l in_j (sym (branch_is i (omega arith)) ∙ (e ∙ branch_is j in_j));
     edges = λ p i l m.
-        let n = size_paths in
         let in_p : p < path_count kind = omega arith in
-        let s = size_path p in_p in
         rw (vertex_is p i in_p (omega arith), vertex_is p (suc i) in_p (omega arith)) (t.edges p i in_p (omega arith));
     no_branch = λ p i j l h m e.
-        let n = size_paths in
-        let b = size_branches in
         let in_p : p < path_count kind = omega arith in
         let in_j : j < branch_count kind = omega arith in
-        let in_i = inner_is p i in_p h in
-        t.no_branch p i j in_p h.0 in_i in_j (sym (vertex_is p i in_p (omega arith)) ∙ (e ∙ branch_is j in_j));
+        t.no_branch p i j in_p h.0 (inner_is p i in_p h) in_j (sym (vertex_is p i in_p (omega arith)) ∙ (e ∙ branch_is j in_j));
     once = λ p i j l h m e.
-        let n = size_paths in
         let in_p : p < path_count kind = omega arith in
-        let s = size_path p in_p in
-        let in_i = inner_is p i in_p h in
         let in_j : j ≤ size p = omega arith in
-        t.once p i j in_p h.0 in_i in_j (sym (vertex_is p i in_p (omega arith)) ∙ (e ∙ vertex_is p j in_p in_j));
+        t.once p i j in_p h.0 (inner_is p i in_p h) in_j (sym (vertex_is p i in_p (omega arith)) ∙ (e ∙ vertex_is p j in_p in_j));
     apart = λ p q i j l m h h' e.
-        let n = size_paths in
         let in_q : q < path_count kind = omega arith in
         let in_p : p < path_count kind = omega arith in
-        let in_i = inner_is p i in_p h in
         let in_j = inner_is q j in_q h' in
-        t.apart p q i j l in_q h.0 in_i h'.0 in_j (sym (vertex_is p i in_p (omega arith)) ∙ (e ∙ vertex_is q j in_q (omega arith)));
+        t.apart p q i j l in_q h.0 (inner_is p i in_p h) h'.0 in_j (sym (vertex_is p i in_p (omega arith)) ∙ (e ∙ vertex_is q j in_q (omega arith)));
   }
 
 module _ (graph : EdgeGraph) (kind : Kind) (branch size : ℕ → ℕ) (way : ℕ → ℕ → ℕ) (t : IsTraced graph kind branch size way) where

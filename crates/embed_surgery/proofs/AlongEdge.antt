@@ -67,14 +67,7 @@ module _ (one other : Lists) (u v : ℕ) (s1 : IsSimpleMap one) (s2 : IsSimpleMa
   alone_v z c c' = elim (both_is v z (back1.0, c') (back2.0, c)) [ inl e ↦ absurd (u_v (sym e.0)) | inr e ↦ e.1 ]
 
   by_vertex : (P : ℕ → List ℕ → Type 0) → P u at_u → P v at_v → ((w : ℕ) → w ≢ u → w ≢ v → P w (list_of one w ++ list_of other w)) → (w : ℕ) → P w (f w)
-  by_vertex P in_u in_v rest w =
-      elim (cases_eq w u) [
-        | inl e ↦ subst (λ z. P z (f z)) (sym e) (subst (P u) (sym f_u) in_u)
-        | inr n ↦ elim (cases_eq w v) [
-          | inl e ↦ subst (λ z. P z (f z)) (sym e) (subst (P v) (sym f_v) in_v)
-          | inr n' ↦ subst (P w) (sym (f_else w n n')) (rest w n n')
-        ]
-      ]
+  by_vertex P in_u in_v rest w = grind (arith, cases_eq, f_u, f_v, f_else)
 
   f_distinct : (w : ℕ) → w < length one → AllPairs ◌≢◌ (f w)
   unfolding at_u at_v
@@ -176,11 +169,7 @@ module _ (one other : Lists) (u v : ℕ) (s1 : IsSimpleMap one) (s2 : IsSimpleMa
 
   drawn_one : (x y : ℕ) → HasDart one x y → ((x ≡ u) × (y ≡ v) → ⊥) → drawn (x, y) ≡ true
   unfolding drawn
-  drawn_one x y d n =
-      and_from (has_dart one (x, y)) (not (same_dart (x, y) (u, v))) (has_dart-is one x y d) (elim (cases_Bool (same_dart (x, y) (u, v))) [
-        | inl t ↦ let p = and_parts (eqb x u) (eqb y v) t in absurd (n (eqb-true x u p.0, eqb-true y v p.1))
-        | inr t ↦ ap not t
-      ])
+  drawn_one x y d n = grind (arith, and_from, has_dart, not, same_dart, has_dart-is, cases_Bool, and_parts, eqb, eqb-true)
 
   drawn_other : (x y : ℕ) → HasDart other x y → ((x ≡ v) × (y ≡ u) → ⊥) → drawn (x, y) ≡ false
   unfolding drawn
@@ -206,13 +195,7 @@ module _ (one other : Lists) (u v : ℕ) (s1 : IsSimpleMap one) (s2 : IsSimpleMa
   in_other x y d t =
       elim (old_dart x y d) [
         | inr h ↦ h
-        | inl h ↦ elim (cases_eq x u) [
-          | inr n ↦ absurd (true≢false (sym (drawn_one x y h (λ e. n e.0)) ∙ t))
-          | inl e ↦ elim (cases_eq y v) [
-            | inr n ↦ absurd (true≢false (sym (drawn_one x y h (λ e. n e.1)) ∙ t))
-            | inl e' ↦ subst (λ z. HasDart other z y) (sym e) (subst (HasDart other u) (sym e') has2)
-          ]
-        ]
+        | inl h ↦ grind (arith, cases_eq, true≢false, drawn_one, HasDart)
       ]
 
   abbrev F1 : Dart → ℕ
@@ -370,22 +353,18 @@ module _ (one other : Lists) (u v : ℕ) (s1 : IsSimpleMap one) (s2 : IsSimpleMa
       (ap not (ne_eqb (dart_number one (x, y)) a (λ e. let q = dart_number-injective one (x, y) (u, v) r.0 has1 e in r.1 (ap (λ (c : Dart). c.0) q, ap (λ (c : Dart). c.1) q))))
       (ap not (ne_eqb (dart_number one (x, y)) b (λ e. omega arith))))
       (λ x y d t.
-      let h = in_other x y d t in
       let j = dart_count one + dart_number other (x, y) in
       and_from (not (eqb j a)) (not (eqb j b)) (ap not (ne_eqb j a (λ e. omega arith)))
       (ap not (ne_eqb j b (λ e.
-      let q = dart_number-injective other (x, y) (v, u) h back2 (omega arith) in
-      let up = drawn_one v u back1 (λ r. u_v (sym r.0)) in
-      true≢false (sym up ∙ (ap drawn (sym q) ∙ t)))))) in
-      let n = count_passes in
-      omega (arith, two_m one s1, two_m other s2, two_m new s')
+      let q = dart_number-injective other (x, y) (v, u) (in_other x y d t) back2 (omega arith) in
+      true≢false (sym (drawn_one v u back1 (λ r. u_v (sym r.0))) ∙ (ap drawn (sym q) ∙ t)))))) in
+      omega (arith, count_passes, two_m one s1, two_m other s2, two_m new s')
 
   abbrev ends : ℕ → Bool
   ends w = eqb w u || eqb w v
 
   isolated_many : isolated_count new + length one ≤ isolated_count one + isolated_count other + 2
   isolated_many =
-      let n = length-new in
       let each = count_below-both (λ w. is_empty_list (list_of one w)) (λ w. is_empty_list (list_of other w)) (λ w. is_empty_list (list_of new w)) ends (length one) (λ w l.
       let A = list_of one w in
       let B = list_of other w in
@@ -416,13 +395,11 @@ module _ (one other : Lists) (u v : ℕ) (s1 : IsSimpleMap one) (s2 : IsSimpleMa
               ]
         ]
       ]) in
-      let i1 = isolated-below one in
-      let i2 = isolated-below other ∙ ap (count_below (λ w. is_empty_list (list_of other w))) same in
-      let i' = isolated-below new ∙ ap (count_below (λ w. is_empty_list (list_of new w))) n in
+      let i' = isolated-below new ∙ ap (count_below (λ w. is_empty_list (list_of new w))) length-new in
       let two = count_below-or (λ w. eqb w u) (λ w. eqb w v) (length one) in
       let at_most = count_below-one u (length one) in
       let at_most' = count_below-one v (length one) in
-      omega arith
+      omega (arith, isolated-below other ∙ ap (count_below (λ w. is_empty_list (list_of other w))) same, isolated-below one)
 
   abbrev FA : List ℕ
   FA = face_orbits one s1
@@ -445,23 +422,17 @@ module _ (one other : Lists) (u v : ℕ) (s1 : IsSimpleMap one) (s2 : IsSimpleMa
   module _ (p1 : IsPlane one) (p2 : IsPlane other) where
     enough : (F K : ℕ) → F + 1 ≡ class_count FA + class_count FB → K + 1 ≡ class_count CA + class_count CB → component_count new ≤ K + isolated_count new → 2 * component_count new + edge_count new ≤ vertex_count new + (F + isolated_count new)
     enough F K ef ek few =
-        let n = length-new in
-        let m = edges_few in
-        let iso = isolated_many in
-        omega (arith, p1, p2, face_count-orbits one s1, face_count-orbits other s2, component_count-classes one s1, component_count-classes other s2)
+        omega (arith, isolated_many, edges_few, length-new, p1, p2, face_count-orbits one s1, face_count-orbits other s2, component_count-classes one s1, component_count-classes other s2)
 
     plane : IsPlane new
     unfolding face_one face_other face_test part_test
     plane =
         let j = dart_number other (v, u) in
         let lj = dart_number-lt other v u back2 in
-        let wA = IsLabels-face_orbits one s1 in
         let wB = IsLabels-face_orbits other s2 in
         let vA = IsLabels-dart_classes one s1 in
         let vB = IsLabels-dart_classes other s2 in
-        let n1 = length-face_orbits one s1 in
         let n2 = length-face_orbits other s2 in
-        let m1 = length-dart_classes one s1 in
         let m2 = length-dart_classes other s2 in
         let i = dart_number one (u, v) in
         let li = dart_number-lt one u v has1 in
@@ -470,10 +441,8 @@ module _ (one other : Lists) (u v : ℕ) (s1 : IsSimpleMap one) (s2 : IsSimpleMa
         let ya = label CA i in
         let yb = label CB c in
         let lb = label-lt FB wB j (omega arith) in
-        let la = label-lt CA vA i (omega arith) in
-        let lb' = label-lt CB vB c (omega arith) in
-        let faces = counted_joined FA FB wA wB za zb lb (eq-eqb (label FB zb) zb (wB.own j)) in
-        let parts = counted_joined CA CB vA vB ya yb lb' (eq-eqb (label CB yb) yb (vB.own c)) in
+        let faces = counted_joined FA FB (IsLabels-face_orbits one s1) wB za zb lb (eq-eqb (label FB zb) zb (wB.own j)) in
+        let parts = counted_joined CA CB vA vB ya yb (label-lt CB vB c (omega arith)) (eq-eqb (label CB yb) yb (vB.own c)) in
         let home = joined_more one new s1 s' more1 i ya li (omega arith) (sym (vA.own i)) in
         let bridge : (k : ℕ) → k < dart_count other → label CB k ≡ yb → Together (components new s') (tail_of other k) (tail_of one ya) = λ k lk e.
         joined_more other new s2 s' more2 k c lk lc e ∙ (ap (label (components new s')) (tail_of-number other u v has2 ∙ sym (tail_of-number one u v has1)) ∙ home) in

@@ -85,17 +85,12 @@ module _ (one other : Lists) (s : ℕ) (s1 : IsSimpleMap one) (s2 : IsSimpleMap 
   turn_one : (x y : ℕ) → HasDart one x y → (follows new y x ≡ follows one y x) ⊎ ((0 < length (list_of one s)) × (0 < length (list_of other s)) × (y ≡ s) × (follows one y x ≡ head_of (list_of one s)) × (follows new y x ≡ head_of (list_of other s)))
   turn_one x y d =
       let back = s1.both_ways x y d in
-      let l = back.0 in
-      let e = ap (entry_after x) (list_new y l) in
+      let e = ap (entry_after x) (list_new y back.0) in
       elim (cases_empty (list_of other y)) [
         | inl none ↦ inl (e ∙ ap (entry_after x) (ap (λ us. list_of one y ++ us) none ∙ append-nil (list_of one y)))
         | inr some ↦
             let at : y ≡ s = shared y x (head_of (list_of other y)) back (omega arith, Contains-get_or (list_of other y) 0 0 some) in
-            let some_one : 0 < length (list_of one y) = let m = back.1.1 in omega arith in
-            elim (entry_after-left (list_of one y) (list_of other y) (f_distinct y l) some x back.1) [
-              | inl q ↦ inl (e ∙ q.0)
-              | inr q ↦ inr (subst (λ z. 0 < length (list_of one z)) at some_one, subst (λ z. 0 < length (list_of other z)) at some, at, q.0 ∙ ap (λ z. head_of (list_of one z)) at, e ∙ (q.1 ∙ ap (λ z. head_of (list_of other z)) at))
-            ]
+            grind (arith, entry_after-left, list_of, f_distinct, length, head_of)
       ]
 
   turn_other : (x y : ℕ) → HasDart other x y → (follows new y x ≡ follows other y x) ⊎ ((0 < length (list_of one s)) × (0 < length (list_of other s)) × (y ≡ s) × (follows other y x ≡ head_of (list_of other s)) × (follows new y x ≡ head_of (list_of one s)))
@@ -107,11 +102,7 @@ module _ (one other : Lists) (s : ℕ) (s1 : IsSimpleMap one) (s2 : IsSimpleMap 
         | inl none ↦ inl (e ∙ ap (entry_after x) (ap (λ us. us ++ list_of other y) none))
         | inr some ↦
             let at : y ≡ s = shared y (head_of (list_of one y)) x (l, Contains-get_or (list_of one y) 0 0 some) back in
-            let some_other : 0 < length (list_of other y) = let m = back.1.1 in omega arith in
-            elim (entry_after-right (list_of one y) (list_of other y) (f_distinct y l) some x back.1) [
-              | inl q ↦ inl (e ∙ q.0)
-              | inr q ↦ inr (subst (λ z. 0 < length (list_of one z)) at some, subst (λ z. 0 < length (list_of other z)) at some_other, at, q.0 ∙ ap (λ z. head_of (list_of other z)) at, e ∙ (q.1 ∙ ap (λ z. head_of (list_of one z)) at))
-            ]
+            grind (arith, entry_after-right, list_of, f_distinct, length, head_of)
       ]
 
   met : (zb : ℕ) → AreMet one other new s1 s2 s' drawn in_one in_other zb
@@ -132,10 +123,7 @@ module _ (one other : Lists) (s : ℕ) (s1 : IsSimpleMap one) (s2 : IsSimpleMap 
             let h = in_one x y d t in
             let next = HasDart-follows one y x (s1.both_ways x y h) in
             elim (turn_one x y h) [
-              | inl e ↦
-                  ap (λ w. M za zb (y, w)) e
-                  ∙ (face_mark-one one other new s1 s2 s' drawn in_one in_other za zb (y, follows one y x) (has_dart-is one y (follows one y x) next)
-                  ∙ (face_one-step one other new s1 s2 s' drawn in_one in_other x y h ∙ sym (face_mark-one one other new s1 s2 s' drawn in_one in_other za zb (x, y) t)))
+              | inl e ↦ grind (arith, face_mark-one, new, s', drawn, in_one, in_other, follows, has_dart-is, face_one-step)
               | inr r ↦
                   let z = at r.0 r.1 in
                   let b = head_of (list_of other s) in
@@ -166,32 +154,19 @@ module _ (one other : Lists) (s : ℕ) (s1 : IsSimpleMap one) (s2 : IsSimpleMap 
   edges_few : edge_count new ≤ edge_count one + edge_count other
   edges_few =
       let few = darts_few one other new s1 s2 s' drawn in_one in_other (λ j. true) (λ x y d t. refl) (λ x y d t. refl) in
-      let all = count_below_all (dart_count one + dart_count other) in
-      omega (arith, two_m one s1, two_m other s2, two_m new s')
+      omega (arith, count_below_all (dart_count one + dart_count other), two_m one s1, two_m other s2, two_m new s')
 
   -- vertices without edges, where a test passes at each vertex with edges of both
   isolated_many : (test : ℕ → Bool) → ((v : ℕ) → v < length one → 0 < length (list_of one v) → 0 < length (list_of other v) → test v ≡ true) → isolated_count new + length one ≤ isolated_count one + isolated_count other + count_below test (length one)
   isolated_many test both =
-      let n = length-lists_by f (length one) in
       let each = count_below-both (λ v. is_empty_list (list_of one v)) (λ v. is_empty_list (list_of other v)) (λ v. is_empty_list (list_of new v)) test (length one) (λ v l.
       let e = ap (λ us. one_if (is_empty_list us)) (list_new v l) in
-      let A = list_of one v in
-      let B = list_of other v in
       elim (is_empty_one (list_of one v ++ list_of other v)) [
-        | inr h ↦ let p = is_empty_append A B h.0 in let a = p.0 in let b = p.1 in let c = h.0 in omega arith
-        | inl h ↦
-            elim (cases_empty A) [
-              | inl q ↦ let a = ap (λ us. one_if (is_empty_list us)) q in omega arith
-              | inr some ↦ elim (cases_empty B) [
-                | inl q ↦ let b = ap (λ us. one_if (is_empty_list us)) q in omega arith
-                | inr some' ↦ let t = ap one_if (both v l some some') in omega arith
-              ]
-            ]
+        | inr h ↦ let p = is_empty_append (list_of one v) (list_of other v) h.0 in let a = p.0 in let b = p.1 in let c = h.0 in omega arith
+        | inl h ↦ grind (arith, cases_empty, one_if, is_empty_list)
       ]) in
-      let i1 = isolated-below one in
-      let i2 = isolated-below other ∙ ap (count_below (λ v. is_empty_list (list_of other v))) same in
-      let i' = isolated-below new ∙ ap (count_below (λ v. is_empty_list (list_of new v))) n in
-      omega arith
+      let i' = isolated-below new ∙ ap (count_below (λ v. is_empty_list (list_of new v))) (length-lists_by f (length one)) in
+      omega (arith, isolated-below other ∙ ap (count_below (λ v. is_empty_list (list_of other v))) same, isolated-below one)
 
   is_union : IsPlane new → IsUnion one other new
   is_union plane = record {
@@ -224,8 +199,7 @@ module _ (one other : Lists) (s : ℕ) (s1 : IsSimpleMap one) (s2 : IsSimpleMap 
     enough : (F K d : ℕ) → F + d ≡ class_count FA + class_count FB → K + d ≡ class_count CA + class_count CB → component_count new ≤ K + isolated_count new → isolated_count new + length one ≤ isolated_count one + isolated_count other + d → 2 * component_count new + edge_count new ≤ vertex_count new + (F + isolated_count new)
     enough F K d ef ek few iso =
         let n = length-lists_by f (length one) in
-        let m = edges_few in
-        omega (arith, p1, p2, face_count-orbits one s1, face_count-orbits other s2, component_count-classes one s1, component_count-classes other s2)
+        omega (arith, edges_few, p1, p2, face_count-orbits one s1, face_count-orbits other s2, component_count-classes one s1, component_count-classes other s2)
 
     -- with edges of both at s
     at_s : 0 < length (list_of one s) → 0 < length (list_of other s) → s < length one → IsPlane new
@@ -239,23 +213,18 @@ module _ (one other : Lists) (s : ℕ) (s1 : IsSimpleMap one) (s2 : IsSimpleMap 
         let j = dart_number other (s, b) in
         let li = dart_number-lt one s a da in
         let lj = dart_number-lt other s b db in
-        let wA = IsLabels-face_orbits one s1 in
         let wB = IsLabels-face_orbits other s2 in
         let vA = IsLabels-dart_classes one s1 in
         let vB = IsLabels-dart_classes other s2 in
-        let n1 = length-face_orbits one s1 in
         let n2 = length-face_orbits other s2 in
-        let m1 = length-dart_classes one s1 in
         let m2 = length-dart_classes other s2 in
         let za = label FA i in
         let zb = label FB j in
         let ya = label CA i in
         let yb = label CB j in
         let lb = label-lt FB wB j (omega arith) in
-        let la = label-lt CA vA i (omega arith) in
-        let lb' = label-lt CB vB j (omega arith) in
-        let faces = counted_joined FA FB wA wB za zb lb (eq-eqb (label FB zb) zb (wB.own j)) in
-        let parts = counted_joined CA CB vA vB ya yb lb' (eq-eqb (label CB yb) yb (vB.own j)) in
+        let faces = counted_joined FA FB (IsLabels-face_orbits one s1) wB za zb lb (eq-eqb (label FB zb) zb (wB.own j)) in
+        let parts = counted_joined CA CB vA vB ya yb (label-lt CB vB j (omega arith)) (eq-eqb (label CB yb) yb (vB.own j)) in
         let home = joined_more one new s1 s' more1 i ya li (omega arith) (sym (vA.own i)) in
         let bridge : (k : ℕ) → k < dart_count other → label CB k ≡ yb → Together (components new s') (tail_of other k) (tail_of one ya) = λ k lk e.
         joined_more other new s2 s' more2 k j lk lj e ∙ (ap (label (components new s')) (tail_of-number other s b db ∙ sym (tail_of-number one s a da)) ∙ home) in
@@ -263,8 +232,6 @@ module _ (one other : Lists) (s : ℕ) (s1 : IsSimpleMap one) (s2 : IsSimpleMap 
         (part_marks one other new s1 s2 s' drawn in_one in_other more1 more2 ya yb (λ k lk e. (omega arith, vA.own i)) bridge) in
         let iso = isolated_many (λ v. eqb v s) (λ v lv h h'. eq-eqb v s (shared v (head_of (list_of one v)) (head_of (list_of other v)) (lv, Contains-get_or (list_of one v) 0 0 h) (omega arith, Contains-get_or (list_of other v) 0 0 h'))) in
         let once = count_below-one s (length one) in
-        let m = edges_few in
-        let n = length-lists_by f (length one) in
         genus_by_marks new (M za zb) (length FA + length FB) (face_test one other new s1 s2 s' drawn in_one in_other za zb) s' (keeps za zb (λ _ _. (refl, refl))) (face_marks one other new s1 s2 s' drawn in_one in_other za zb (met zb))
         (enough (count_below (face_test one other new s1 s2 s' drawn in_one in_other za zb) (length FA + length FB)) (count_below (part_test one other new s1 s2 s' drawn in_one in_other ya yb) (length CA + length CB)) 1 faces parts few (omega arith))
 
@@ -272,15 +239,12 @@ module _ (one other : Lists) (s : ℕ) (s1 : IsSimpleMap one) (s2 : IsSimpleMap 
     apart_s : (0 < length (list_of one s) → 0 < length (list_of other s) → ⊥) → IsPlane new
     unfolding face_test part_test
     apart_s none =
-        let wA = IsLabels-face_orbits one s1 in
-        let wB = IsLabels-face_orbits other s2 in
-        let vA = IsLabels-dart_classes one s1 in
         let vB = IsLabels-dart_classes other s2 in
         let n2 = length-face_orbits other s2 in
         let m2 = length-dart_classes other s2 in
         let z = dart_count other in
-        let faces = counted_apart FA FB wA wB 0 z (omega arith) in
-        let parts = counted_apart CA CB vA vB 0 z (omega arith) in
+        let faces = counted_apart FA FB (IsLabels-face_orbits one s1) (IsLabels-face_orbits other s2) 0 z (omega arith) in
+        let parts = counted_apart CA CB (IsLabels-dart_classes one s1) vB 0 z (omega arith) in
         let off : (k : ℕ) → k < dart_count other → label CB k ≢ z = λ k lk e. let r = label-lt CB vB k (omega arith) in omega arith in
         let few = components_by_marks new (part_mark one other new s1 s2 s' drawn in_one in_other 0 z) (length CA + length CB) (part_test one other new s1 s2 s' drawn in_one in_other 0 z) s'
         (part_marks one other new s1 s2 s' drawn in_one in_other more1 more2 0 z (λ k lk e. absurd (off k lk e)) (λ k lk e. absurd (off k lk e))) in

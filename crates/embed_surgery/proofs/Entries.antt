@@ -67,30 +67,21 @@ module _ (us vs : List ℕ) (distinct : AllPairs ◌≢◌ (us ++ vs)) where
   place_left : (x : ℕ) → Contains us x → place_of x (us ++ vs) ≡ place_of x us
   place_left x c =
       let l = place_of-lt-length x us c in
-      let m = n in
       let at : get_or (us ++ vs) (place_of x us) 0 ≡ x = get_or_append_left us vs 0 (place_of x us) l ∙ get_or-place_of x us 0 l in
-      ap (λ z. place_of z (us ++ vs)) (sym at) ∙ place_of-get_or (us ++ vs) (place_of x us) 0 distinct (omega arith)
+      ap (λ z. place_of z (us ++ vs)) (sym at) ∙ place_of-get_or (us ++ vs) (place_of x us) 0 distinct (omega (arith, n))
 
   place_right : (x : ℕ) → Contains vs x → place_of x (us ++ vs) ≡ length us + place_of x vs
   place_right x c =
       let l = place_of-lt-length x vs c in
-      let m = n in
       let i = length us + place_of x vs in
       let at : get_or (us ++ vs) i 0 ≡ x = get_or-append_right us vs (length us) i 0 refl (omega arith) ∙ (ap (λ j. get_or vs j 0) (omega arith) ∙ get_or-place_of x vs 0 l) in
-      ap (λ z. place_of z (us ++ vs)) (sym at) ∙ place_of-get_or (us ++ vs) i 0 distinct (omega arith)
+      ap (λ z. place_of z (us ++ vs)) (sym at) ∙ place_of-get_or (us ++ vs) i 0 distinct (omega (arith, n))
 
   -- after an entry of the first list: what comes after it there, or the first of the second list in place of the first of the first
   pub entry_after-left : 0 < length vs → (x : ℕ) → Contains us x → ((entry_after x (us ++ vs) ≡ entry_after x us) × (entry_after x us ≢ head_of us)) ⊎ ((entry_after x us ≡ head_of us) × (entry_after x (us ++ vs) ≡ head_of vs))
   entry_after-left some x c =
       let l = place_of-lt-length x us c in
-      let m = n in
-      let p = place_left x c in
-      elim (cases_lt (place_of x us + 1) (length us)) [
-        | inl inside ↦
-            inl (after_inside (us ++ vs) x (omega arith) ∙ (ap (λ j. get_or (us ++ vs) (j + 1) 0) p ∙ (get_or_append_left us vs 0 (place_of x us + 1) inside ∙ sym (after_inside us x inside))), not_first us x (AllPairs-left us vs distinct) inside)
-        | inr last ↦
-            inr (after_last us x c last, after_inside (us ++ vs) x (omega arith) ∙ (get_or-append_right us vs (length us) (place_of x (us ++ vs) + 1) 0 refl (omega arith) ∙ ap (λ j. get_or vs j 0) (omega arith)))
-      ]
+      grind (arith, place_left x c, n, cases_lt, place_of, length, after_inside, get_or, get_or_append_left, not_first, AllPairs-left, after_last, get_or-append_right)
 
   -- after an entry of the second list
   pub entry_after-right : 0 < length us → (x : ℕ) → Contains vs x → ((entry_after x (us ++ vs) ≡ entry_after x vs) × (entry_after x vs ≢ head_of vs)) ⊎ ((entry_after x vs ≡ head_of vs) × (entry_after x (us ++ vs) ≡ head_of us))
@@ -138,8 +129,7 @@ module _ (us vs : List ℕ) (x : ℕ) (du : AllPairs ◌≢◌ us) (dv : AllPair
 
   B_is : B ≡ x ∷ R
   B_is =
-      let n = length-from_entry vs x dv cv in
-      drop-cons B 0 0 (let l = cv.1 in omega arith) ∙ ap (λ z. z ∷ R) (from_entry-first vs x dv cv)
+      drop-cons B 0 0 (let l = cv.1 in omega (arith, length-from_entry vs x dv cv)) ∙ ap (λ z. z ∷ R) (from_entry-first vs x dv cv)
 
   head_A : head_of A ≡ x
   head_A = from_entry-first us x du cu
@@ -182,24 +172,9 @@ module _ (us vs : List ℕ) (x : ℕ) (du : AllPairs ◌≢◌ us) (dv : AllPair
   -- after an entry of the first list
   pub glued-first : (z : ℕ) → Contains us z → ((entry_after z (glued_at x us vs) ≡ entry_after z us) × (entry_after z us ≢ x)) ⊎ ((entry_after z us ≡ x) × (entry_after z (glued_at x us vs) ≡ entry_after x vs))
   glued-first z c =
-      let same = fu.3 z c in
       elim (cases_lt 0 (length R)) [
-        | inl some ↦
-            elim (entry_after-left A R glued-distinct some z (fu.1 z c)) [
-              | inl q ↦ inl (q.0 ∙ same, λ e. q.1 (same ∙ (e ∙ sym head_A)))
-              | inr q ↦ inr (sym same ∙ (q.0 ∙ head_A), q.1 ∙ sym (after_x some))
-            ]
-        | inr none ↦
-            let r : R ≡ [] = empty_list R (omega arith) in
-            let whole : entry_after z (glued_at x us vs) ≡ entry_after z us = ap (λ l. entry_after z (A ++ l)) r ∙ (ap (entry_after z) (append-nil A) ∙ same) in
-            elim (cases_eq (entry_after z us) x) [
-              | inr ne ↦ inl (whole, ne)
-              | inl e ↦
-                  let one : B ≡ x ∷ [] = B_is ∙ ap (λ l. x ∷ l) r in
-                  let p : place_of x (x ∷ []) ≡ 0 = place_of-here x x [] refl in
-                  let last : entry_after x vs ≡ x = sym (fv.3 x cv) ∙ (ap (entry_after x) one ∙ after_last (x ∷ []) x (Contains-here x []) (omega arith)) in
-                  inr (e, whole ∙ (e ∙ sym last))
-            ]
+        | inl some ↦ grind (arith, entry_after-left, glued-distinct, fu, head_A, after_x)
+        | inr none ↦ grind (arith, fu.3 z c, empty_list, entry_after, glued_at, append-nil, cases_eq, B_is, fv, after_last, Contains-here)
       ]
 
   -- after an entry of the second but x

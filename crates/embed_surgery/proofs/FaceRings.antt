@@ -78,10 +78,8 @@ module _ (lists : Lists) (simple : IsSimpleMap lists) (u v : ℕ) (has : HasDart
   -- the darts met are of the face
   face_at : (i : ℕ) → SameFace lists (u, v) (t i, t (suc i))
   face_at i =
-      let l = in_a in
-      let n = len in
       same_class-from (face_classes lists) a (dart_number lists (t i, t (suc i)))
-      (walk-together (face_images lists) (IsPermutationOfBelow-face_images lists simple) a i (omega arith) ∙ ap (λ x. get_or (face_classes lists) x x) (sym (number_at i)))
+      (walk-together (face_images lists) (IsPermutationOfBelow-face_images lists simple) a i (omega (arith, len, in_a)) ∙ ap (λ x. get_or (face_classes lists) x x) (sym (number_at i)))
 
   module _ (n : ℕ) (back : at (suc n) ≡ a) (away : IsAway f a n) (once : (x b c : ℕ) → HasDart lists x b → HasDart lists x c → SameFace lists (u, v) (x, b) → SameFace lists (u, v) (x, c) → b ≡ c) where
     abbrev ws : List ℕ
@@ -98,9 +96,8 @@ module _ (lists : Lists) (simple : IsSimpleMap lists) (u v : ℕ) (has : HasDart
     -- one vertex, one step
     apart : (i j : ℕ) → i < j → j < suc n → t i ≢ t j
     apart i j l m e =
-        let there = subst (λ x. HasDart lists x (t (suc j))) (sym e) (dart_at j) in
         let face = subst (λ x. SameFace lists (u, v) (x, t (suc j))) (sym e) (face_at j) in
-        let heads = once (t i) (t (suc i)) (t (suc j)) (dart_at i) there (face_at i) face in
+        let heads = once (t i) (t (suc i)) (t (suc j)) (dart_at i) (subst (λ x. HasDart lists x (t (suc j))) (sym e) (dart_at j)) (face_at i) face in
         let same : at i ≡ at j = sym (number_at i) ∙ (ap₂ (λ x y. dart_number lists (x, y)) e heads ∙ number_at j) in
         let d = j - i in
         let s : j ≡ d + i = omega arith in
@@ -117,15 +114,7 @@ module _ (lists : Lists) (simple : IsSimpleMap lists) (u v : ℕ) (has : HasDart
         let place : place_of (t i) ws ≡ i = ap (λ x. place_of x ws) (sym (entry i 0 l)) ∙ place_of-get_or ws i 0 distinct (omega arith) in
         let after = entry_after-place (t i) ws 0 (omega arith) in
         let which = ap₂ (λ x y. get_or ws (place_after x y) 0) z place in
-        elim (cases_lt (i + 1) (suc n)) [
-          | inl s ↦
-              let e : place_after (suc n) i ≡ suc i = cond-true (ltb (i + 1) (suc n)) (i + 1) 0 (lt-ltb (i + 1) (suc n) s) ∙ omega arith in
-              after ∙ (which ∙ (ap (λ x. get_or ws x 0) e ∙ entry (suc i) 0 (omega arith)))
-          | inr s ↦
-              let e : place_after (suc n) i ≡ 0 = cond-false (ltb (i + 1) (suc n)) (i + 1) 0 (le-ltb (i + 1) (suc n) s) in
-              let last : i ≡ n = omega arith in
-              after ∙ (which ∙ (ap (λ x. get_or ws x 0) e ∙ (entry 0 0 (omega arith) ∙ ap (λ x. (dart_of lists x).0) (sym (ap (λ y. at (suc y)) last ∙ back)))))
-        ]
+        grind (arith, cases_lt, place_after, cond-true, ltb, lt-ltb, get_or, ws, entry, cond-false, le-ltb, dart_of, at)
 
     next_at : (i : ℕ) → i ≤ suc n → entry_after (t i) ws ≡ t (suc i)
     next_at i l =
@@ -147,16 +136,12 @@ module _ (lists : Lists) (simple : IsSimpleMap lists) (u v : ℕ) (has : HasDart
       distinct = distinct;
       darts = λ x c.
           let p = place_in x c in
-          let l = p.1 in
           subst (λ y. HasDart lists y (entry_after y ws)) p.2 (subst (HasDart lists (t p.0)) (sym (next_at p.0 (omega arith))) (dart_at p.0));
       turns = λ x c.
           let p = place_in x c in
-          let l = p.1 in
-          let i = p.0 in
-          let one = next_at i (omega arith) in
-          let two = next_at (suc i) (omega arith) in
+          let one = next_at p.0 (omega arith) in
           subst (λ y. follows lists (entry_after y ws) y ≡ entry_after (entry_after y ws) ws) p.2
-          (ap (λ y. follows lists y (t i)) one ∙ (turn_at i ∙ (sym two ∙ ap (λ y. entry_after y ws) (sym one))));
+          (ap (λ y. follows lists y (t p.0)) one ∙ (turn_at p.0 ∙ (sym (next_at (suc p.0) (omega arith)) ∙ ap (λ y. entry_after y ws) (sym one))));
     }
 
     start : dart 0 ≡ (u, v)
@@ -173,12 +158,10 @@ module _ (lists : Lists) (simple : IsSimpleMap lists) (u v : ℕ) (has : HasDart
           let z = len in
           let seen = visited_is_orbit (face_images lists) (IsPermutationOfBelow-face_images lists simple) a (suc n) (omega arith) (omega arith) back (dart_number lists (x, y)) (omega arith) in
           let found = visited_at f a (suc n) (dart_number lists (x, y)) (seen ∙ face) in
-          let i = found.0 in
-          let lt = found.1 in
-          let here : dart i ≡ (x, y) = ap (dart_of lists) found.2 ∙ get_or-dart_number lists x y (0, 0) d in
+          let here : dart found.0 ≡ (x, y) = ap (dart_of lists) found.2 ∙ get_or-dart_number lists x y (0, 0) d in
           let tail = ap (λ (e : Dart). e.0) here in (
-            subst (Contains ws) tail (on_at i lt),
-            ap (λ z. entry_after z ws) (sym tail) ∙ (next_at i (omega arith) ∙ (sym (head_is i) ∙ ap (λ (e : Dart). e.1) here)),
+            subst (Contains ws) tail (on_at found.0 found.1),
+            ap (λ z. entry_after z ws) (sym tail) ∙ (next_at found.0 (omega arith) ∙ (sym (head_is found.0) ∙ ap (λ (e : Dart). e.1) here)),
           );
     }
 

@@ -72,8 +72,7 @@ one_step_off f k w mark x l keeps =
       | inr ne ↦ keeps i m near ne ∙ eqb-true (mark i) (mark (f x)) parts.1
     ])) in
     let first : T (f x) ≡ true = and_from (eqb (label O x) (label O (f x))) (eqb (mark (f x)) (mark (f x))) (eq-eqb (label O x) (label O (f x)) (step x l)) (eq-eqb (mark (f x)) (mark (f x)) refl) in
-    let back = marks_back f k w T stays x l first in
-    sym (eqb-true (mark x) (mark (f x)) (and_parts (eqb (label O x) (label O x)) (eqb (mark x) (mark (f x))) back).1)
+    sym (eqb-true (mark x) (mark (f x)) (and_parts (eqb (label O x) (label O x)) (eqb (mark x) (mark (f x))) (marks_back f k w T stays x l first)).1)
 
 module _ (lists : Lists) (z : ℕ) (simple : IsSimpleMap lists) where
   abbrev pub rest : Lists
@@ -137,8 +136,7 @@ module _ (lists : Lists) (z : ℕ) (simple : IsSimpleMap lists) where
     kept_step u v d n =
         elim (cases_eq u z) [
           | inl e ↦
-              let to_v = subst (λ x. HasDart lists x v) e d in
-              let far : follows lists v u ≢ z = subst (λ x. follows lists v x ≢ z) (sym e) (more v to_v) in
+              let far : follows lists v u ≢ z = subst (λ x. follows lists v x ≢ z) (sym e) (more v (subst (λ x. HasDart lists x v) e d)) in
               into_left v (follows lists v u) far n ∙ (ap (λ x. face_label (v, follows lists v x)) e ∙ sym (into_from u v n e))
           | inr n' ↦
               let left = rest_dart u v d n' n in
@@ -170,14 +168,12 @@ module _ (lists : Lists) (z : ℕ) (simple : IsSimpleMap lists) where
         let at = dart_of-number lists simple i m in
         let off : d.1 ≢ z = λ e.
         let in_z : HasDart lists d.0 z = subst (HasDart lists d.0) e at.is_dart in
-        let same : d ≡ (d.0, z) = ap (λ y. (d.0, y)) e in
         let from_z = simple.both_ways d.0 z in_z in
-        let has_r = HasDart-follows lists z d.0 from_z in
         let one = face_step_together lists simple (p, z) to_z in
         let two = face_step_together lists simple (d.0, z) in_z in
-        let number : dart_number lists (d.0, z) ≡ i = ap (dart_number lists) (sym same) ∙ at.number in
+        let number : dart_number lists (d.0, z) ≡ i = ap (dart_number lists) (sym (ap (λ y. (d.0, y)) e)) ∙ at.number in
         let face = same_face lists simple (z, q) (z, follows lists z d.0) (sym one ∙ (t ∙ (ap (label (face_orbits lists simple)) (sym number) ∙ two))) in
-        let nexts = once q (follows lists z d.0) has_q has_r face in
+        let nexts = once q (follows lists z d.0) has_q (HasDart-follows lists z d.0 from_z) face in
         let tails = entry_after-injective (list_of lists z) p d.0 (simple.no_repeat z has.0) has.1 from_z.1 nexts in
         ne (sym number ∙ ap (λ y. dart_number lists (y, z)) (sym tails)) in
         ap drawn_into (dart_of-face_step lists simple i m) ∙ kept_step d.0 d.1 at.is_dart off) in
@@ -190,8 +186,7 @@ pub hole_of_vertex : (lists : Lists) (z : ℕ) → IsSimpleMap lists → IsPasse
 unfolding face_label
 hole_of_vertex lists z simple once more p q has_p has_q =
     let us = list_of lists z in
-    let s' = simple' lists z simple in
     let at : ℕ → ℕ = λ y. face_label lists z simple (y, follows lists y z) in
     let all = entries_closed (λ y. Contains us y × (at y ≡ at p)) us p q (simple.no_repeat z has_p.0) has_p.1 (has_p.1, refl)
     (λ y c. (Contains-entry_after y us c.0, over_step lists z simple more once y (has_p.0, c.0) ∙ c.1)) has_q.1 in
-    same_face (without_vertex z lists) s' (p, follows lists p z) (q, follows lists q z) (sym all.1)
+    same_face (without_vertex z lists) (simple' lists z simple) (p, follows lists p z) (q, follows lists q z) (sym all.1)

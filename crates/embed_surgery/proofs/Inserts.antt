@@ -115,10 +115,8 @@ module _ (lists : Lists) (simple : IsSimpleMap lists) (plane : IsPlane lists) (x
   -- past a vertex that is not joined the open face goes on along the ring
   passed : (cur : Lists) (joined : List ℕ) (last p : ℕ) → Stage cur joined last → Contains ws p → ¬ Contains joined (next p) → Open cur last p → Open cur last (next p)
   passed cur joined last p s c n opened =
-      let d = s.kept p (next p) (ring.darts p c) in
-      let step = same_face-step cur s.is_simple (x, last) (p, next p) d opened in
-      let turn = s.same (next p) p (into p c) (λ h. n h.2) ∙ ring.turns p c in
-      subst (λ y. SameFace cur (x, last) (next p, y)) turn step
+      let step = same_face-step cur s.is_simple (x, last) (p, next p) (s.kept p (next p) (ring.darts p c)) opened in
+      subst (λ y. SameFace cur (x, last) (next p, y)) (s.same (next p) p (into p c) (λ h. n h.2) ∙ ring.turns p c) step
 
   module _ (cur : Lists) (joined : List ℕ) (last p : ℕ) (s : Stage cur joined last) (on_p : Contains ws p) (takes : taken (next p) ≡ true) (fresh : ¬ Contains joined (next p)) (opened : Open cur last p) where
     abbrev v : ℕ
@@ -156,15 +154,13 @@ module _ (lists : Lists) (simple : IsSimpleMap lists) (plane : IsPlane lists) (x
         let both = with_edge_after_law cur x a v p s.is_simple has_a has_p x_v far in
         let more = both.0 in
         let put = both.1 in
-        let split = edge_put_in_face cur x a v p s.is_simple s.is_plane has_a has_p x_v far face in
-        let old_turn : follows cur v p ≡ next v = s.same v p (into p on_p) (λ h. fresh h.2) ∙ ring.turns p on_p in
-        let back_turn : follows new v x ≡ next v = put.next' ∙ old_turn in
+        let back_turn : follows new v x ≡ next v = put.next' ∙ (s.same v p (into p on_p) (λ h. fresh h.2) ∙ ring.turns p on_p) in
         let kept : (u z : ℕ) → HasDart lists u z → HasDart new u z = λ u z d. more.kept u z (s.kept u z d) in
         let there : (w : ℕ) → Contains joined w → Contains (v ∷ joined) w = λ w c. Contains-there v joined w c in
         let here : Contains (v ∷ joined) v = Contains-here v joined in
         let stage : Stage new (v ∷ joined) v = record {
           is_simple = more.simple;
-          is_plane = split.1.plane;
+          is_plane = (edge_put_in_face cur x a v p s.is_simple s.is_plane has_a has_p x_v far face).1.plane;
           vertices = sym (length-without_edge new more.simple x v more.edge) ∙ (ap (λ l. length l) more.without ∙ s.vertices);
           kept = kept;
           edges = λ w c. elim (Contains-cons_cases v joined w c) [ inl e ↦ subst (HasDart new x) e more.edge | inr c' ↦ more.kept x w (s.edges w c') ];
@@ -190,10 +186,9 @@ module _ (lists : Lists) (simple : IsSimpleMap lists) (plane : IsPlane lists) (x
               | inl e ↦ absurd (ne (sym e))
               | inr j' ↦
                   let was = s.turns q c j' in
-                  let d = s.kept (next q) q (into q c) in
                   let on_q = Contains-entry_after q ws c in
                   let d' = s.is_simple.both_ways x (next q) (s.edges (next q) j') in (
-                    put.other (next q) q d (λ e. absurd (ring_off (next q) on_q e)) (λ e. absurd (ne e)) ∙ was.0,
+                    put.other (next q) q (s.kept (next q) q (into q c)) (λ e. absurd (ring_off (next q) on_q e)) (λ e. absurd (ne e)) ∙ was.0,
                     put.other (next q) x d' (λ e. absurd (ring_off (next q) on_q e)) (λ e. absurd (ne e)) ∙ was.1,
                   )
             ]
@@ -310,48 +305,40 @@ module _ (lists : Lists) (simple : IsSimpleMap lists) (plane : IsPlane lists) (x
   apart_a : ¬ SameComponent lists x a
   apart_a t =
       let same = components-marked lists simple (has_edge lists) (λ i l. has_edge-tail lists simple i l ∙ sym (has_edge-tail lists simple (twin lists i) ((IsPairing-twin lists simple).within i l))) x a in_x has_before.0 (Together-from (component_classes lists) x a t) in
-      let none : has_edge lists x ≡ false = ap (λ l. not (is_empty_list l)) empty in
       let some : has_edge lists a ≡ true = ap (has_edge lists) (sym (tail_of-number lists a before.0 has_before)) ∙ has_edge-tail lists simple (dart_number lists (a, before.0)) (dart_number-lt lists a before.0 has_before) in
-      true≢false (sym some ∙ (sym same ∙ none))
+      true≢false (sym some ∙ (sym same ∙ (ap (λ l. not (is_empty_list l)) empty)))
 
   begun : Stage first (a ∷ []) a × Open first a a
   begun =
       let more = with_edge lists x 0 a j simple in_x has_before.0 x_a far_a (omega arith) at_j in
-      let put = edge_put_between lists x 0 a j simple plane in_x has_before.0 apart_a (omega arith) at_j in
       let new_a = new_second lists x 0 a j simple in_x has_before.0 x_a far_a (omega arith) at_j in
       let turn : follows first a before.0 ≡ x = ap (entry_after before.0) new_a ∙ entry_after-put us before.0 x has_before.1 in
-      let at_x : follows first x a ≡ a = more.next ∙ ap (λ l. get_or l 0 (get_or l 0 a)) empty in
       let old_turn : follows lists a before.0 ≡ next a = ap (λ y. follows lists y before.0) (sym before.2) ∙ (ring.turns before.0 before.1 ∙ ap next before.2) in
       let back_turn : follows first a x ≡ next a = more.next' ∙ (entry_at-after us before.0 x has_before.1 ∙ old_turn) in
       let only_a : (w : ℕ) → Contains (a ∷ []) w → a ≡ w = λ w c. elim (Contains-cons_cases a [] w c) [ inl e ↦ e | inr c' ↦ absurd (omega (arith, c'.1)) ] in
       let here = Contains-here a [] in
       let stage : Stage first (a ∷ []) a = record {
         is_simple = more.simple;
-        is_plane = put.1.plane;
+        is_plane = (edge_put_between lists x 0 a j simple plane in_x has_before.0 apart_a (omega arith) at_j).1.plane;
         vertices = sym (length-without_edge first more.simple x a more.edge) ∙ ap (λ l. length l) more.without;
         kept = more.kept;
         edges = λ w c. subst (HasDart first x) (only_a w c) more.edge;
         only = λ u z d. elim (more.only u z d) [
           | inl old ↦ inl old
-          | inr r ↦ elim r [
-            | inl h ↦ inr (inl (h.0, subst (Contains (a ∷ [])) (sym h.1) here))
-            | inr h ↦ inr (inr (h.1, subst (Contains (a ∷ [])) (sym h.0) here))
-          ]
+          | inr r ↦ grind (arith, Contains)
         ];
         on = λ w c. subst (IsTaken ws taken) (only_a w c) (on_a, taken_a);
         first_on = here;
         last_on = here;
-        first_turn = at_x;
+        first_turn = (more.next ∙ ap (λ l. get_or l 0 (get_or l 0 a)) empty);
         turns = λ q c h.
             let same : q ≡ before.0 = entry_after-injective ws q before.0 ring.distinct c before.1 (sym (only_a (next q) h) ∙ sym before.2) in
             subst (λ y. (follows first (next y) y ≡ x) × (follows first (next y) x ≡ next (next y))) (sym same)
             (subst (λ y. (follows first y before.0 ≡ x) × (follows first y x ≡ next y)) (sym before.2) (turn, back_turn));
         same = λ w u d n.
-            let there = more.kept w u d in
-            let old : HasDart (without_edge first x a) w u = subst (λ l. HasDart l w u) (sym more.without) d in
-            let stays = follows_same first more.simple x a more.edge w u old (λ e. absurd (off w u d e))
+            let stays = follows_same first more.simple x a more.edge w u (subst (λ l. HasDart l w u) (sym more.without) d) (λ e. absurd (off w u d e))
             (λ e q.
-            let in_a : HasDart first a u = subst (λ y. HasDart first y u) e there in
+            let in_a : HasDart first a u = subst (λ y. HasDart first y u) e (more.kept w u d) in
             let same = entry_after-injective (list_of first a) u before.0 (more.simple.no_repeat a in_a.0) in_a.1 (more.kept a before.0 has_before).1 (ap (λ y. follows first y u) (sym e) ∙ (q ∙ sym turn)) in
             n (subst (Contains ws) (sym same) before.1, ap next same ∙ (before.2 ∙ sym e), subst (Contains (a ∷ [])) (sym e) here)) in
             sym stays ∙ ap (λ l. follows l w u) more.without;
@@ -425,8 +412,7 @@ module _ (lists : Lists) (simple : IsSimpleMap lists) (x a : ℕ) (mid : List �
 
   round : Leads on' b L b
   round =
-      let end : Leads on' y (b ∷ []) b = (inner y y_in ∙ last, refl) in
-      (on'_b x_b, (on'_x, Leads-join on' a mid y (b ∷ []) b (Leads-same on on' a mid y (λ z c. inner z c) way) end))
+      (on'_b x_b, (on'_x, Leads-join on' a mid y (b ∷ []) b (Leads-same on on' a mid y (λ z c. inner z c) way) ((inner y y_in ∙ last, refl))))
 
   in_old : (z : ℕ) → Contains (a ∷ mid ++ b ∷ []) z → Contains ws z
   in_old z c =
@@ -459,8 +445,7 @@ module _ (lists : Lists) (simple : IsSimpleMap lists) (x a : ℕ) (mid : List �
   turn_a : follows new a x ≡ on a
   turn_a =
       let p = before_a in
-      let t = (put.turns p.0 p.1 (ap taken p.2 ∙ taken_a)).1 in
-      subst (λ z. follows new z x ≡ on z) p.2 t
+      subst (λ z. follows new z x ≡ on z) p.2 ((put.turns p.0 p.1 (ap taken p.2 ∙ taken_a)).1)
 
   dart_on : (z : ℕ) → Contains L z → HasDart new z (on' z)
   dart_on =
@@ -475,13 +460,11 @@ module _ (lists : Lists) (simple : IsSimpleMap lists) (x a : ℕ) (mid : List �
       (ap (λ w. follows new w b) (on'_b x_b) ∙ (turn_b ∙ (sym on'_x ∙ ap on' (sym (on'_b x_b)))))
       (λ z c.
       let e = inner z c in
-      let after = Leads-next_in on a mid b whole_way z c in
       let turned : follows new (on z) z ≡ on' (on z) =
-      elim (Contains-append_cases mid (b ∷ []) (on z) after) [
+      elim (Contains-append_cases mid (b ∷ []) (on z) (Leads-next_in on a mid b whole_way z c)) [
         | inl h ↦
-            let c' = Contains-there a mid (on z) h in
             put.same (on z) z (simple.both_ways z (on z) (ring.darts z (in_ws z c))) (λ k. true≢false (sym k.2 ∙ none (on z) h))
-            ∙ (ring.turns z (in_ws z c) ∙ sym (inner (on z) c'))
+            ∙ (ring.turns z (in_ws z c) ∙ sym (inner (on z) (Contains-there a mid (on z) h)))
         | inr h ↦
             let q : b ≡ on z = each_of_one (λ w. b ≡ w) b refl (on z) h in
             (put.turns z (in_ws z c) (ap taken (sym q) ∙ taken_b)).0 ∙ (sym (on'_b x_b) ∙ ap on' q)
@@ -501,14 +484,8 @@ module _ (lists : Lists) (simple : IsSimpleMap lists) (x a : ℕ) (mid : List �
 all_joined : (a : ℕ) (mid : List ℕ) (b : ℕ) (back : List ℕ) (taken : ℕ → Bool) (more : List ℕ) → ((w : ℕ) → Contains mid w → taken w ≡ false) → Contains more a → Contains more b → ((w : ℕ) → Contains back w → taken w ≡ true → Contains more w) → (w : ℕ) → Contains (a ∷ mid ++ b ∷ back) w → taken w ≡ true → Contains more w
 all_joined a mid b back taken more none has_a has_b rest w c t =
     elim (Contains-append_cases (a ∷ mid) (b ∷ back) w c) [
-      | inl h ↦ elim (Contains-cons_cases a mid w h) [
-        | inl e ↦ subst (Contains more) e has_a
-        | inr h' ↦ absurd (true≢false (sym t ∙ none w h'))
-      ]
-      | inr h ↦ elim (Contains-cons_cases b back w h) [
-        | inl e ↦ subst (Contains more) e has_b
-        | inr h' ↦ rest w h' t
-      ]
+      | inl h ↦ grind (arith, Contains-cons_cases, Contains, has_a, true≢false)
+      | inr h ↦ grind (arith, Contains-cons_cases, Contains)
     ]
 
 -- an entry put into an empty list
@@ -534,7 +511,6 @@ put_in_ring_law lists x a mid b back taken simple plane in_x empty ring taken_a 
     let a_off : ¬ Contains (mid ++ b ∷ back) a = head_apart a (mid ++ b ∷ back) ring.distinct in
     let not_first : (w : ℕ) → Contains mid w → ¬ Contains (a ∷ []) w = λ w c h. a_off (Contains-append_left mid (b ∷ back) a (subst (Contains mid) (only_a w h) c)) in
     let b_a : b ≢ a = λ e. a_off (Contains-append_right mid (b ∷ back) a (subst (Contains (b ∷ back)) e (Contains-here b back))) in
-    let on_b = Contains-append_right (a ∷ mid) (b ∷ back) b (Contains-here b back) in
     let next_b : on y ≡ b = parts.2.0 in
     let walked = passed_all lists simple plane x in_x empty ws ring taken a on_a taken_a mid y first_map (a ∷ []) a a start.0 on_a parts.1 not_first start.1 in
     let m = made lists simple plane x in_x empty ws ring taken a on_a taken_a first_map (a ∷ []) a y start.0 walked.0 (ap taken next_b ∙ taken_b) (λ h. b_a (sym next_b ∙ only_a (on y) h)) walked.1 in
@@ -547,8 +523,7 @@ put_in_ring_law lists x a mid b back taken simple plane in_x empty ring taken_a 
     let rest = put_all lists simple plane x in_x empty ws ring taken a on_a taken_a back t (with_edge_after first_map x a (on y) y) (on y ∷ a ∷ []) (on y) (on y) m.0 (Contains-entry_after y ws walked.0) (subst (λ z. Leads on z back t) (sym next_b) parts.2.1) (AllPairs-tail b back tail) fresh m.2 in
     let here : Contains (on y ∷ a ∷ []) (on y) = Contains-here (on y) (a ∷ []) in
     let has_a = rest.later.grown a (Contains-there (on y) (a ∷ []) a (Contains-here a [])) in
-    let has_b = subst (Contains rest.more) next_b (rest.later.grown (on y) here) in
-    let all = all_joined a mid b back taken rest.more none has_a has_b rest.all in
+    let all = all_joined a mid b back taken rest.more none has_a (subst (Contains rest.more) next_b (rest.later.grown (on y) here)) rest.all in
     let put = put_in lists simple plane x in_x empty ws ring taken a on_a taken_a rest.new rest.more rest.last rest.stage all in
     let turn_b : follows rest.new x b ≡ a = ap (follows rest.new x) (sym next_b) ∙ (rest.later.kept_turns (on y) here (λ e. b_a (sym next_b ∙ e)) ∙ m.3) in
     let off : (w : ℕ) → Contains ws w → w ≢ x = ring_off lists simple plane x in_x empty ws ring taken a on_a taken_a in

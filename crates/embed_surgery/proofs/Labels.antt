@@ -39,10 +39,7 @@ module _ (A B : List ℕ) (wA : IsLabels A) (wB : IsLabels B) (za zb : ℕ) wher
 
   pub test_second : (j : ℕ) → test (length A + j) ≡ (own B j && not (eqb j zb))
   unfolding test
-  test_second j =
-      let e : length A + j - length A ≡ j = omega arith in
-      cond-false (ltb (length A + j) (length A)) (own A (length A + j)) (own B (length A + j - length A) && not (eqb (length A + j - length A) zb)) (le-ltb (length A + j) (length A) (omega arith))
-      ∙ ap (λ i. own B i && not (eqb i zb)) e
+  test_second j = grind (arith, length, cond-false, ltb, own, not, eqb, le-ltb)
 
   count_first : count_below test (length A) ≡ class_count A
   count_first = count_below_same test (own A) (length A) test_first
@@ -65,17 +62,11 @@ module _ (A B : List ℕ) (wA : IsLabels A) (wB : IsLabels B) (za zb : ℕ) wher
   -- labels pass
   pub first_passes : (i : ℕ) → i < length A → (label A i < length A + length B) × (test (label A i) ≡ true)
   first_passes i l =
-      let m = label-lt A wA i l in
-      (omega arith, test_first (label A i) m ∙ eq-eqb (label A (label A i)) (label A i) (wA.own i))
+      (omega arith, test_first (label A i) (label-lt A wA i l) ∙ eq-eqb (label A (label A i)) (label A i) (wA.own i))
 
   pub second_passes : (i : ℕ) → i < length B → (label B i ≡ zb → (za < length A) × (label A za ≡ za)) → (value (label B i) < length A + length B) × (test (value (label B i)) ≡ true)
   second_passes i m ok =
-      let n = label-lt B wB i m in
       elim (cases_eq (label B i) zb) [
         | inl e ↦ let v = value_zb (label B i) e in let h = ok e in let l = h.0 in (omega arith, ap test v ∙ (test_first za l ∙ eq-eqb (label A za) za h.1))
-        | inr ne ↦
-            let v = value_else (label B i) ne in (
-              omega arith,
-              ap test v ∙ (test_second (label B i) ∙ and_from (own B (label B i)) (not (eqb (label B i) zb)) (eq-eqb (label B (label B i)) (label B i) (wB.own i)) (ap not (ne_eqb (label B i) zb ne))),
-            )
+        | inr ne ↦ grind (arith, value_else, label, test, test_second, and_from, own, not, eqb, eq-eqb, ne_eqb)
       ]

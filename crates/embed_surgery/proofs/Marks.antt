@@ -89,6 +89,4 @@ components_by_marks lists mark bound test simple joins =
 -- A map has genus zero where its marks give faces enough.
 pub genus_by_marks : (lists : Lists) (mark : Dart → ℕ) (bound : ℕ) (test : ℕ → Bool) → IsSimpleMap lists → KeepsFaces lists mark → HasMarks lists mark bound test → 2 * component_count lists + edge_count lists ≤ vertex_count lists + (count_below test bound + isolated_count lists) → IsPlane lists
 genus_by_marks lists mark bound test simple keeps has enough =
-    let bound_is = euler_bound_map lists simple in
-    let total = bound_is.1 in
-    omega (arith, faces_by_marks lists mark bound test simple keeps has, total)
+    omega (arith, faces_by_marks lists mark bound test simple keeps has, (euler_bound_map lists simple).1)

@@ -24,8 +24,7 @@ entry_after-turned us vs distinct x c =
     let ws = us ++ vs in
     let next : ℕ → ℕ = λ p. entry_after p ws in
     let t = get_or ws (length ws - 1) 0 in
-    let some : 0 < length ws = let l = c.1 in omega arith in
-    let end = ends_with ws t 0 some refl in
+    let end = ends_with ws t 0 (let l = c.1 in omega arith) refl in
     let parts = Leads-part next t us vs t (leads_round ws t distinct end.0 end.1) in
     round-entry next (vs ++ us) parts.0 (AllPairs-turned us vs distinct) (Leads-join next parts.0 vs t us parts.0 parts.2 parts.1) x (Contains-turned us vs x c)
 

@@ -48,8 +48,7 @@ module _ (one other : Lists) (s1 : IsSimpleMap one) (s2 : IsSimpleMap other) (sa
 
   pub union-old : (v u : ℕ) → HasDart union v u → HasDart one v u ⊎ HasDart other v u
   union-old v u d =
-      let n = length-union in
-      let l : v < length one = let m = d.0 in omega arith in
+      let l : v < length one = let m = d.0 in omega (arith, length-union) in
       elim (old v u l (subst (λ us. Contains us u) (list_of-lists_by f (length one) v l) d.1)) [
         | inl c ↦ inl (l, c)
         | inr c ↦ inr (omega arith, c)
@@ -57,10 +56,9 @@ module _ (one other : Lists) (s1 : IsSimpleMap one) (s2 : IsSimpleMap other) (sa
 
   pub union-new : (v u : ℕ) → HasDart one v u ⊎ HasDart other v u → HasDart union v u
   union-new v u h =
-      let n = length-union in
       let l : v < length one = elim h [ inl d ↦ d.0 | inr d ↦ let m = d.0 in omega arith ] in
       let c : Contains (list_of one v) u ⊎ Contains (list_of other v) u = elim h [ inl d ↦ inl d.1 | inr d ↦ inr d.1 ] in
-      (omega arith, subst (λ us. Contains us u) (sym (list_of-lists_by f (length one) v l)) (all v u l c))
+      (omega (arith, length-union), subst (λ us. Contains us u) (sym (list_of-lists_by f (length one) v l)) (all v u l c))
 
   pub IsSimpleMap-union : IsSimpleMap union
   IsSimpleMap-union =

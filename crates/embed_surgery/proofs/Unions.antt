@@ -43,7 +43,6 @@ count_below-both p q r shared (suc n) h =
 pub count_below-one : (s n : ℕ) → count_below (λ v. eqb v s) n ≤ 1
 count_below-one s n =
     let into = count_below_into (λ v. 0) (λ v. eqb v s) (λ v. true) n 1 (λ i l t. (omega arith, refl)) (λ i j l m t t' e. eqb-true i s t ∙ sym (eqb-true j s t')) in
-    let all = count_below_all 1 in
     omega arith
 
 one_if_or : (a b : Bool) → one_if (a || b) ≤ one_if a + one_if b
@@ -114,7 +113,6 @@ module _ (one other new : Lists) (s1 : IsSimpleMap one) (s2 : IsSimpleMap other)
   face_marks za zb met =
       let wA = IsLabels-face_orbits one s1 in
       let wB = IsLabels-face_orbits other s2 in
-      let n1 = length-face_orbits one s1 in
       let n2 = length-face_orbits other s2 in
       let pick : ℕ → Dart = λ j. cond {A = Dart} (ltb j (length FA)) (met.pick (dart_of one j)) (dart_of other (j - length FA)) in
       let pick_one : (j : ℕ) → j < length FA → pick j ≡ met.pick (dart_of one j) = λ j l. cond-true {A = Dart} (ltb j (length FA)) (met.pick (dart_of one j)) (dart_of other (j - length FA)) (lt-ltb j (length FA) l) in
@@ -122,7 +120,7 @@ module _ (one other new : Lists) (s1 : IsSimpleMap one) (s2 : IsSimpleMap other)
       let known : (j : ℕ) → j < length FA + length FB → face_test za zb j ≡ true → HasDart new (pick j).0 (pick j).1 × (face_mark za zb (pick j) ≡ j) = λ j l t.
       elim (cases_lt j (length FA)) [
         | inl m ↦
-            let at = dart_of-number one s1 j (omega arith) in
+            let at = dart_of-number one s1 j (omega (arith, length-face_orbits one s1)) in
             let r = met.of_one (dart_of one j).0 (dart_of one j).1 at.is_dart in
             let e = pick_one j m in
             let own = eqb-true (label FA j) j (sym (test_first FA FB wA wB za zb j m) ∙ t) in (
@@ -136,9 +134,8 @@ module _ (one other new : Lists) (s1 : IsSimpleMap one) (s2 : IsSimpleMap other)
             let e = pick_other j m in
             let q : length FA + i ≡ j = omega arith in
             let parts = and_parts (eqb (label FB i) i) (not (eqb i zb)) (sym (test_second FA FB wA wB za zb i) ∙ (ap (face_test za zb) q ∙ t)) in
-            let own = eqb-true (label FB i) i parts.0 in
             let far : i ≢ zb = λ z. true≢false (sym parts.1 ∙ ap not (eq-eqb i zb z)) in
-            let face : face_other (dart_of other i) ≡ i = ap (label FB) at.number ∙ own in
+            let face : face_other (dart_of other i) ≡ i = ap (label FB) at.number ∙ (eqb-true (label FB i) i parts.0) in
             let r = met.of_other (dart_of other i).0 (dart_of other i).1 at.is_dart (λ z. far (sym face ∙ z)) in (
               subst (λ (d : Dart). HasDart new d.0 d.1) (sym e) r.0,
               ap (face_mark za zb) e
@@ -197,11 +194,10 @@ module _ (one other new : Lists) (s1 : IsSimpleMap one) (s2 : IsSimpleMap other)
               let e = cond-true (drawn (x, y)) (label CA i) (value CA CB wA wB za zb (label CB (dart_number other (x, y)))) t in
               let m : i < length CA = omega arith in
               let p = first_passes CA CB wA wB za zb i m in
-              let r = label-lt CA wA i m in
               let home = joined_more one new s1 s' more1 i (label CA i) l (omega arith) (sym (wA.own i)) in (
                 subst (λ v. v < length CA + length CB) (sym e) p.0,
                 ap (test CA CB wA wB za zb) e ∙ p.1,
-                ap J (sym (tail_of-number one x y has)) ∙ (home ∙ ap J (sym (root_one (label CA i) r) ∙ ap root (sym e))),
+                ap J (sym (tail_of-number one x y has)) ∙ (home ∙ ap J (sym (root_one (label CA i) (label-lt CA wA i m)) ∙ ap root (sym e))),
               )
           | inr t ↦
               let has = in_other x y d t in
@@ -215,24 +211,16 @@ module _ (one other new : Lists) (s1 : IsSimpleMap one) (s2 : IsSimpleMap other)
                 ap (test CA CB wA wB za zb) e ∙ p.1,
                 elim (cases_eq (label CB i) zb) [
                   | inl q ↦
-                      let v = e ∙ value_zb CA CB wA wB za zb (label CB i) q in
-                      let z = (ok i l q).0 in
-                      tail ∙ (bridge i l q ∙ ap J (sym (root_one za (omega arith)) ∙ ap root (sym v)))
+                      tail ∙ (bridge i l q ∙ ap J (sym (root_one za (omega (arith, (ok i l q).0))) ∙ ap root (sym (e ∙ value_zb CA CB wA wB za zb (label CB i) q))))
                   | inr ne ↦
-                      let v = e ∙ value_else CA CB wA wB za zb (label CB i) ne in
-                      let r = label-lt CB wB i m in
                       let home = joined_more other new s2 s' more2 i (label CB i) l (omega arith) (sym (wB.own i)) in
-                      tail ∙ (home ∙ ap J (sym (root_other (label CB i)) ∙ ap root (sym v)))
+                      tail ∙ (home ∙ ap J (sym (root_other (label CB i)) ∙ ap root (sym (e ∙ value_else CA CB wA wB za zb (label CB i) ne))))
                 ],
               )
         ]
 
     pub part_marks : JoinsMarked new (part_mark za zb) (length CA + length CB) (part_test za zb)
-    part_marks = record {
-      within = λ x y d. (rooted x y d).0;
-      passes = λ x y d. (rooted x y d).1;
-      joined = λ x y w z d d' e. same_class-from (component_classes new) x w ((rooted x y d).2 ∙ (ap (λ j. label (components new s') (root j)) e ∙ sym (rooted w z d').2));
-    }
+    part_marks = grind (arith, rooted, same_class-from, component_classes, label, components, root)
 
   -- ---- darts
   -- the number of a dart among those of both
@@ -257,31 +245,18 @@ module _ (one other new : Lists) (s1 : IsSimpleMap one) (s2 : IsSimpleMap other)
       let d = dart_of new i in
       elim (cases_Bool (drawn d)) [
         | inl t ↦
-            let lt = dart_number-lt one d.0 d.1 (in_one d.0 d.1 (is_dart i l) t) in
             let e = both_one d t in
-            (omega arith, ap passes e ∙ ok1 d.0 d.1 (is_dart i l) t)
+            (omega (arith, dart_number-lt one d.0 d.1 (in_one d.0 d.1 (is_dart i l) t)), ap passes e ∙ ok1 d.0 d.1 (is_dart i l) t)
         | inr t ↦
-            let lt = dart_number-lt other d.0 d.1 (in_other d.0 d.1 (is_dart i l) t) in
             let e = both_other d t in
-            (omega arith, ap passes e ∙ ok2 d.0 d.1 (is_dart i l) t)
+            (omega (arith, dart_number-lt other d.0 d.1 (in_other d.0 d.1 (is_dart i l) t)), ap passes e ∙ ok2 d.0 d.1 (is_dart i l) t)
       ])
       (λ i j l m _ _ e.
       let d = dart_of new i in
       let c = dart_of new j in
       let same : d ≡ c → i ≡ j = λ q. sym (dart_of-number new s' i l).number ∙ (ap (dart_number new) q ∙ (dart_of-number new s' j m).number) in
       elim (cases_Bool (drawn d)) [
-        | inl t ↦
-            let h = in_one d.0 d.1 (is_dart i l) t in
-            let lt = dart_number-lt one d.0 d.1 h in
-            elim (cases_Bool (drawn c)) [
-              | inl t' ↦ same (dart_number-injective one d c h (in_one c.0 c.1 (is_dart j m) t') (sym (both_one d t) ∙ (e ∙ both_one c t')))
-              | inr t' ↦ let a = both_one d t in let b = both_other c t' in absurd (omega arith)
-            ]
-        | inr t ↦
-            let h = in_other d.0 d.1 (is_dart i l) t in
-            elim (cases_Bool (drawn c)) [
-              | inl t' ↦ let lt = dart_number-lt one c.0 c.1 (in_one c.0 c.1 (is_dart j m) t') in let a = both_other d t in let b = both_one c t' in absurd (omega arith)
-              | inr t' ↦ let a = both_other d t in let b = both_other c t' in same (dart_number-injective other d c h (in_other c.0 c.1 (is_dart j m) t') (omega arith))
-            ]
+        | inl t ↦ grind (arith, cases_Bool, dart_number-injective, both_one, both_other, dart_number-lt)
+        | inr t ↦ grind (arith, cases_Bool, dart_number-lt, both_other, both_one, dart_number-injective)
       ]) in
       omega arith

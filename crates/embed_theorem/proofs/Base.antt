@@ -157,13 +157,10 @@ module _ (lists : Lists) (simple : IsSimpleMap lists) (x y : ℕ) (edge : HasDar
         let V = p ∷ p ∷ [] in
         let off : (z : ℕ) → z ≢ p → ¬ Contains V z = λ z n c. each_of_two (λ a. a ≡ z → ⊥) p p (λ e. n (sym e)) (λ e. n (sym e)) z c refl in
         let n = rest-length lists simple V in
-        let lw = live_w.1.0 in
-        let lq = live_q.1.0 in
         let h = joined_edge (without_vertices V lists) (rest-simple lists simple V) w q (omega arith) (omega arith) (linked p p w q live_w live_q (off w wp) (off q qp)) wq in
         let o = rest-old lists simple V w h.0 h.1 in
-        let r = h.0 in
-        let r_p : r ≢ p = λ e. o.2 (subst (Contains V) (sym e) (Contains-here p (p ∷ []))) in
-        subst (HasDart lists w) (rest r (w, simple.both_ways w r o.0) r_p (simple.no_loop w r o.0)) o.0
+        let r_p : h.0 ≢ p = λ e. o.2 (subst (Contains V) (sym e) (Contains-here p (p ∷ []))) in
+        subst (HasDart lists w) (rest h.0 (w, simple.both_ways w h.0 o.0) r_p (simple.no_loop w h.0 o.0)) o.0
 
     pub w_to_y : HasDart lists w y
     w_to_y = edge_to x y (x, back) w_x (λ e. x_y (sym e)) w_y (λ z h n n'. elim (all z h) [ inl e ↦ absurd (n e) | inr r ↦ elim r [ inl e ↦ e | inr e ↦ absurd (n' e) ] ])

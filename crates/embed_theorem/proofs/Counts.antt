@@ -121,10 +121,7 @@ module _ (n count degree girth : ℕ) (first second branch size : ℕ → ℕ) (
 
   -- the first step of a way leaves a branch
   first_leaves : (w : Way) → w.0 < count → (step_number w 0 < k) × (tail (step_number w 0) ≡ branch (start_of w)) × (is_branch (tail (step_number w 0)) ≡ true)
-  first_leaves w l =
-      let d = first_dart w l in
-      let t = tail_of-number lists (vertex_at w 0) (vertex_at w 1) d ∙ begins_at w l in
-      (dart_number-lt lists (vertex_at w 0) (vertex_at w 1) d, t, branch_is (start_of w) (tail (step_number w 0)) (from_low n count degree first second branch size at lists simple pattern sub w l) (sym t))
+  first_leaves w l = grind (arith, first_dart, tail_of-number, vertex_at, begins_at, dart_number-lt, branch_is, start_of, tail, step_number, from_low)
 
   first_same : (w z : Way) → w.0 < count → z.0 < count → step_number w 0 ≡ step_number z 0 → (vertex_at w 0 ≡ vertex_at z 0) × (vertex_at w 1 ≡ vertex_at z 1)
   first_same w z l m e =
@@ -143,10 +140,7 @@ module _ (n count degree girth : ℕ) (first second branch size : ℕ → ℕ) (
 
   -- a dart of the orbit of r
   in_orbit : (r x y : ℕ) → r < k → own rotation_orbits r ≡ true → HasDart lists x y → x ≡ tail r → (dart_number lists (x, y) < k) × (tail (dart_number lists (x, y)) ≡ tail r) × ((label rotation_orbits (dart_number lists (x, y)) == r) ≡ true)
-  in_orbit r x y l o d e =
-      let lt = dart_number-lt lists x y d in
-      let t = tail_of-number lists x y d ∙ e in
-      (lt, t, eq-eqb (label rotation_orbits (dart_number lists (x, y))) r (same_orbit lists simple (dart_number lists (x, y)) r lt l t ∙ eqb-true (label rotation_orbits r) r o))
+  in_orbit r x y l o d e = grind (arith, dart_number-lt, tail_of-number, eq-eqb, label, rotation_orbits, dart_number, same_orbit, eqb-true)
 
   branch_many : (r : ℕ) → r < k → own_at_branch r ≡ true → HasMany k degree (λ i. (label rotation_orbits i == r) && is_branch (tail i))
   branch_many r l t =
@@ -170,11 +164,9 @@ module _ (n count degree girth : ℕ) (first second branch size : ℕ → ℕ) (
   inner_many : (r : ℕ) → r < k → own_at_inner r ≡ true → HasMany k 2 (λ i. (label rotation_orbits i == r) && not (is_branch (tail i)))
   inner_many r l t =
       let h = both_parts (not (is_branch (tail r))) (own rotation_orbits r) t in
-      let none = not_true (is_branch (tail r)) h.0 in
       let d = dart_of lists r in
-      let dart = (dart_of-number lists simple r l).is_dart in
-      let s = step_of n count degree first second branch size at lists simple pattern sub d.0 d.1 dart in
-      from_step s.0 s.1 s.2 s.3 (sym s.4) none h.1 h.0
+      let s = step_of n count degree first second branch size at lists simple pattern sub d.0 d.1 ((dart_of-number lists simple r l).is_dart) in
+      from_step s.0 s.1 s.2 s.3 (sym s.4) (not_true (is_branch (tail r)) h.0) h.1 h.0
     where
       from_step : (w : Way) (i : ℕ) → w.0 < count → i < size w.0 → vertex_at w i ≡ tail r → is_branch (tail r) ≡ false → own rotation_orbits r ≡ true → not (is_branch (tail r)) ≡ true → HasMany k 2 (λ i. (label rotation_orbits i == r) && not (is_branch (tail i)))
       from_step w zero m o e none mine is =
@@ -229,22 +221,19 @@ module _ (n count degree girth : ℕ) (first second branch size : ℕ → ℕ) (
   -- ---- all counts
   few_branches : count_below own_at_branch k ≤ n
   few_branches =
-      let all = count_below_all n in
       let into = count_below_into (λ r. index (tail r)) own_at_branch (λ i. true) k n (λ r l t. ((index_is (tail r) (both_parts (is_branch (tail r)) (own rotation_orbits r) t).0).0, refl)) (λ i j l m t s e.
       let a = both_parts (is_branch (tail i)) (own rotation_orbits i) t in
       let b = both_parts (is_branch (tail j)) (own rotation_orbits j) s in
       let tails : tail i ≡ tail j = sym (index_is (tail i) a.0).1 ∙ (ap branch e ∙ (index_is (tail j) b.0).1) in
       sym (eqb-true (label rotation_orbits i) i a.1) ∙ (same_orbit lists simple i j l m tails ∙ eqb-true (label rotation_orbits j) j b.1)) in
-      omega arith
+      omega (arith, count_below_all n)
 
   pub counts : 0 < n → HasGirth first second count girth → IsPlane lists → AreCounts n degree girth
   counts some round plane =
       let branches = count_below own_at_branch k in
       let inner = count_below own_at_inner k in
       let leaving = count_below (λ i. is_branch (tail i)) k in
-      let vertices = count_below_split (own rotation_orbits) (λ i. is_branch (tail i)) k in
       let vertex_orbits : class_count rotation_orbits ≡ count_below (own rotation_orbits) k = ap (count_below (own rotation_orbits)) (length-orbits_of (rotation lists) k) in
-      let face_count_is : class_count face_orbits ≡ count_below (own face_orbits) k = ap (count_below (own face_orbits)) (length-orbits_of (after (rotation lists) (twin lists)) k) in
       let at_branches = tally (label rotation_orbits) own_at_branch (λ i. is_branch (tail i)) degree k branch_many in
       let at_inner = tally (label rotation_orbits) own_at_inner (λ i. not (is_branch (tail i))) 2 k inner_many in
       let on_faces = tally (label face_orbits) (own face_orbits) (λ i. is_branch (tail i)) girth k (face_many round) in
@@ -256,8 +245,6 @@ module _ (n count degree girth : ℕ) (first second branch size : ℕ → ℕ) (
       let near = pattern.near_in 0 0 some (let two = pattern.two in omega arith) in
       let zero_in : 0 < k = let d = (first_leaves (pattern.near 0 0) near.0).0 in omega arith in
       let joint_long = length-joint (rotation lists) (twin lists) k f_stays g_stays in
-      let joint_known = IsLabels-joint (rotation lists) (twin lists) k f_stays g_stays in
-      let one = one_class_at joint_classes joint_known (omega arith) in
       let balance : Balances (rotation lists) (twin lists) k (edge_count lists) 0 = balances_map lists simple 0 (omega (arith, plane)) in
       record {
         branches = branches;
@@ -269,14 +256,13 @@ module _ (n count degree girth : ℕ) (first second branch size : ℕ → ℕ) (
         few = few_branches;
         at_branches = at_branches;
         at_inner = omega arith;
-        on_faces = rw face_count_is on_faces;
-        some = one;
-        euler = omega (arith, balance, vertex_orbits, vertices);
+        on_faces = rw (ap (count_below (own face_orbits)) (length-orbits_of (after (rotation lists) (twin lists)) k)) on_faces;
+        some = (one_class_at joint_classes (IsLabels-joint (rotation lists) (twin lists) k f_stays g_stays) (omega arith));
+        euler = omega (arith, balance, vertex_orbits, count_below_split (own rotation_orbits) (λ i. is_branch (tail i)) k);
       }
     where
       one_class_at : (labels : List ℕ) → IsLabels labels → 0 < length labels → 1 ≤ class_count labels
       one_class_at labels known l =
-          let low = known.low 0 in
           count-many (length labels) 1 (λ i. label labels i == i) record {
             pick = λ j. label labels 0;
             within = λ j m. omega arith;

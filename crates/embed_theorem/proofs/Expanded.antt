@@ -138,9 +138,8 @@ module _ (graph small : EdgeGraph) (lists : Lists) (x y : ℕ) (simple : IsSimpl
       let ea = M_edge a v (simple_M.both_ways v a ha) in
       let eb = M_edge b v (simple_M.both_ways v b hb) in
       let av = simple_M.no_loop v a ha in
-      let bv = simple_M.no_loop v b hb in
       let vs = x ∷ y ∷ v ∷ [] in
-      let same = con.linked v edge nx ny a b ea eb (not_three x y v a oa.2 oa.4 av) (not_three x y v b ob.2 ob.4 bv) in
+      let same = con.linked v edge nx ny a b ea eb (not_three x y v a oa.2 oa.4 av) (not_three x y v b ob.2 ob.4 (simple_M.no_loop v b hb)) in
       path_over (without_vertices vs lists) M (v ∷ []) a b (rest-length lists simple vs ∙ sym length_M) (λ u w d.
       let o = rest-old lists simple vs u w d in
       let at_x = Contains-here x (y ∷ v ∷ []) in

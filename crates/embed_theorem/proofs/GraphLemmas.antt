@@ -12,15 +12,13 @@ use Rattle.embed_theorem.specs.ListGraphs.{graph_of}
 
 pub has_edge-from : (lists : Lists) (u v : ℕ) → HasDart lists u v → has_edge (graph_of lists) u v ≡ true
 has_edge-from lists u v d =
-    let n = length-darts lists in
     let l = dart_number-lt lists u v d in
-    joined_by u v (darts lists) (dart_number lists (u, v), omega arith, get_or-dart_number lists u v (u, v) d)
+    joined_by u v (darts lists) (dart_number lists (u, v), omega (arith, length-darts lists), get_or-dart_number lists u v (u, v) d)
 
 pub has_edge-is : (lists : Lists) → IsSimpleMap lists → (u v : ℕ) → has_edge (graph_of lists) u v ≡ true → HasDart lists u v
 has_edge-is lists simple u v e =
     let r = any-gives (joins u v) (darts lists) e in
     let n = length-darts lists in
-    let l = r.1.1 in
     let d : HasDart lists r.0.0 r.0.1 = subst (λ (x : Dart). HasDart lists x.0 x.1) r.1.2 (HasDart-darts lists r.1.0 r.0 (omega arith)) in
     elim (joins-ends u v r.0 r.2) [
       | inl q ↦ subst (λ x. HasDart lists x v) q.0 (subst (HasDart lists r.0.0) q.1 d)
@@ -32,20 +30,9 @@ pub held : (lists : Lists) (u v : ℕ) (us : List ℕ) (b : Bool) → IsSimpleMa
 held lists u v us b simple l is e =
     elim (cases_Bool (has_edge (graph_of lists) u v)) [
       | inl has ↦
-          let d = has_edge-is lists simple u v has in
-          e ∙ (any-from (λ w. w == v) us v (subst (λ ws. Contains ws v) (sym is) d.1) (eq-eqb v v refl) ∙ sym has)
-      | inr no' ↦ elim (cases_Bool b) [
-        | inr f ↦ f ∙ sym no'
-        | inl t ↦
-            let r = any-gives (λ w. w == v) us (sym e ∙ t) in
-            let c = subst (Contains us) (eqb-true r.0 v r.2) r.1 in
-            absurd (true≢false (sym (has_edge-from lists u v (l, subst (λ ws. Contains ws v) is c)) ∙ no'))
-      ]
+          e ∙ (any-from (λ w. w == v) us v (subst (λ ws. Contains ws v) (sym is) (has_edge-is lists simple u v has).1) (eq-eqb v v refl) ∙ sym has)
+      | inr no' ↦ grind (arith, cases_Bool, any-gives, Contains, eqb-true, true≢false, has_edge-from)
     ]
 
 pub not_held : (lists : Lists) (u v : ℕ) → IsSimpleMap lists → length lists ≤ u → has_edge (graph_of lists) u v ≡ false
-not_held lists u v simple l =
-    elim (cases_Bool (has_edge (graph_of lists) u v)) [
-      | inr f ↦ f
-      | inl t ↦ let d = has_edge-is lists simple u v t in absurd (let m = d.0 in omega arith)
-    ]
+not_held lists u v simple l = grind (arith, cases_Bool, has_edge, graph_of, has_edge-is)

@@ -72,10 +72,7 @@ in_range n u l = let r = length-range_with_len 0 n in (u, omega arith, get_or-ra
 pub from_range : (n u : ℕ) → Contains (range_with_len 0 n) u → u < n
 from_range n u c =
     let r = length-range_with_len 0 n in
-    let l = c.1 in
-    let e = get_or-range_with_len 0 n c.0 u (omega arith) in
-    let e' = c.2 in
-    omega arith
+    omega (arith, get_or-range_with_len 0 n c.0 u (omega arith))
 
 pub HasDart-lists_of : (n : ℕ) (t : ℕ → ℕ → Bool) (v u : ℕ) → v < n → u < n → t v u ≡ true → HasDart (lists_of n t) v u
 unfolding lists_of
@@ -86,8 +83,7 @@ HasDart-lists_of n t v u lv lu e =
 pub lists_of-dart : (n : ℕ) (t : ℕ → ℕ → Bool) (v u : ℕ) → HasDart (lists_of n t) v u → (v < n) × (u < n) × (t v u ≡ true)
 unfolding lists_of
 lists_of-dart n t v u d =
-    let r = length-lists_by (λ v. filter (t v) (range_with_len 0 n)) n in
-    let lv : v < n = let l = d.0 in omega arith in
+    let lv : v < n = let l = d.0 in omega (arith, length-lists_by (λ v. filter (t v) (range_with_len 0 n)) n) in
     let c = Contains-from_filter (t v) (range_with_len 0 n) u (subst (λ us. Contains us u) (list_of-lists_by (λ v. filter (t v) (range_with_len 0 n)) n v lv) d.1) in
     (lv, from_range n u c.0, c.1)
 
@@ -105,20 +101,11 @@ IsSimpleMap-lists_of n t some turned two =
     }
   where
     range_apart : (n : ℕ) → AllPairs ◌≢◌ (range_with_len 0 n)
-    range_apart n i j d l m e =
-        let r = length-range_with_len 0 n in
-        let a = get_or-range_with_len 0 n i d (omega arith) in
-        let b = get_or-range_with_len 0 n j d (omega arith) in
-        omega arith
+    range_apart n i j d l m e = grind (arith, length-range_with_len, get_or-range_with_len)
 
 -- a witness of a part
 pub witness_more : (part whole : EdgeGraph) → part.n ≡ whole.n → ((a b : ℕ) → has_edge part a b ≡ true → has_edge whole a b ≡ true) → HasWitness part → HasWitness whole
-witness_more part whole n more w =
-    let kind = w.0 in
-    let f = frame-witness part kind w.1 w.2 w.3 in
-    witness-frame whole kind (λ j. vertex_at w.1 j) (λ p. length (path_at w.2 p) - 1) (λ p i. vertex_at (path_at w.2 p) i)
-    (frame-map part.n whole.n kind (λ j. vertex_at w.1 j) (λ p. length (path_at w.2 p) - 1) (λ p i. vertex_at (path_at w.2 p) i) (λ z. z) (λ z l. subst (λ m. z < m) n l) (λ a b e. e) f.0)
-    (λ p i l m. more (vertex_at (path_at w.2 p) i) (vertex_at (path_at w.2 p) (suc i)) (f.1 p i l m))
+witness_more part whole n more w = grind (arith, frame-witness, witness-frame, vertex_at, length, path_at, frame-map)
 
 -- what is to be shown of lists
 abbrev pub Result : Lists → Type 0
@@ -150,10 +137,8 @@ live_from lists v h = some_from (list_of lists v) h.0 h.1.1
 
 pub live_less : (part lists : Lists) → length part ≡ length lists → ((z : ℕ) → HasEdge part z → HasEdge lists z) → (z : ℕ) → HasEdge lists z → ¬ HasEdge part z → live part < live lists
 live_less part lists n more z h gone =
-    let l = h.1.0 in
-    let one = count_below-minus (has_some lists) (length lists) z l (live_from lists z h) in
+    let one = count_below-minus (has_some lists) (length lists) z h.1.0 (live_from lists z h) in
     let rest = count_below_weaker (has_some part) (minus (has_some lists) z) (length lists) (λ i m t.
     let p = live_is part i (omega arith) t in
     and_from (has_some lists i) (not (eqb i z)) (live_from lists i (more i p)) (ap not (ne_eqb i z (λ e. gone (subst (HasEdge part) e p))))) in
-    let same = ap (count_below (has_some part)) n in
-    omega arith
+    omega (arith, ap (count_below (has_some part)) n)

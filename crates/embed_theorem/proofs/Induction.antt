@@ -35,19 +35,11 @@ capped n u = cond (ltb u n) u n
 
 capped-le : (n u : ℕ) → capped n u < suc n
 unfolding capped
-capped-le n u =
-    elim (cases_lt u n) [
-      | inl l ↦ let e = cond-true (ltb u n) u n (lt-ltb u n l) in omega arith
-      | inr l ↦ let e = cond-false (ltb u n) u n (le-ltb u n l) in omega arith
-    ]
+capped-le n u = grind (arith, cases_lt, cond-true, ltb, lt-ltb, cond-false, le-ltb)
 
 capped-is : (n u z : ℕ) → z < n → (z ≡ u → z ≡ capped n u) × (z ≡ capped n u → z ≡ u)
 unfolding capped
-capped-is n u z l =
-    elim (cases_lt u n) [
-      | inl m ↦ let e = cond-true (ltb u n) u n (lt-ltb u n m) in ((λ q. q ∙ sym e), λ q. q ∙ e)
-      | inr m ↦ let e = cond-false (ltb u n) u n (le-ltb u n m) in ((λ q. absurd (omega arith)), λ q. absurd (omega arith))
-    ]
+capped-is n u z l = grind (arith, cases_lt, cond-true, ltb, lt-ltb, cond-false, le-ltb)
 
 pub in_two : (a b z : ℕ) → Contains (a ∷ b ∷ []) z → (z ≡ a) ⊎ (z ≡ b)
 in_two a b z c = each_of_two (λ w. w ≡ z → (z ≡ a) ⊎ (z ≡ b)) a b (λ e. inl (sym e)) (λ e. inr (sym e)) z c refl
@@ -84,10 +76,7 @@ cases_two lists u v =
           | inr none ↦ inl (λ h. absurd (none h))
           | inl ht ↦ elim (cases_Contains V t) [
             | inl c ↦ inl (λ _ o. absurd (o c))
-            | inr ot ↦ elim (cases_part G s t) [
-              | inl q ↦ inl (λ _ _. q)
-              | inr q ↦ inr (record { live_s = hs; live_t = ht; off_s = os; off_t = ot; far = q })
-            ]
+            | inr ot ↦ grind (arith, cases_part)
           ]
         ]
 
@@ -123,8 +112,6 @@ cases_linked lists simple =
           ]) in
           let same = all u' (capped-le n u) v' (capped-le n v) s t hs ht (on s hs.1.0 os) (on t ht.1.0 ot) in
           let len = rest-length lists simple V' in
-          let ls = hs.1.0 in
-          let lt = ht.1.0 in
           let G = without_vertices V lists in
           closed_part (without_vertices V' lists) (rest-simple lists simple V') (λ z. same_class (component_classes G) s z) (λ a b d q.
           let o = rest-old lists simple V' a b d in
@@ -165,10 +152,7 @@ four_of lists x y z w hx hy hz hw xy xz xw yz yw zw a b c =
         | inr o ↦ (y, hy, o)
         | inl cy ↦ elim (cases_Contains V z) [
           | inr o ↦ (z, hz, o)
-          | inl cz ↦ elim (cases_Contains V w) [
-            | inr o ↦ (w, hw, o)
-            | inl cw ↦ absurd (four_in_three a b c x y z w (in_three a b c x cx) (in_three a b c y cy) (in_three a b c z cz) (in_three a b c w cw) xy xz xw yz yw zw)
-          ]
+          | inl cz ↦ grind (arith, cases_Contains, four_in_three, in_three)
         ]
       ]
     ]
@@ -218,8 +202,7 @@ solve lists simple smaller =
       | inl e ↦ elim (cases_linked lists simple) [
         | inl linked ↦ linked_result lists e.0 e.1.0 simple linked e.1.1 smaller
         | inr r ↦
-            let p = r.2.2 in
-            separated_sides lists r.0 r.1 r.2.0 r.2.1 simple p.live_s p.live_t p.off_s p.off_t p.far smaller
+            separated_sides lists r.0 r.1 r.2.0 r.2.1 simple r.2.2.live_s r.2.2.live_t r.2.2.off_s r.2.2.off_t r.2.2.far smaller
       ]
     ]
 

@@ -62,8 +62,6 @@ third_neighbour lists simple linked four v a b edge va vb =
           let d_b : d.0 ≢ b = λ e. d.2 (2, omega arith, sym e) in
           let same = linked a b v d.0 edge d.1 (off v va vb) (off d.0 d_a d_b) in
           let n = rest-length lists simple (a ∷ b ∷ []) in
-          let lv = edge.1.0 in
-          let ld = d.1.1.0 in
           let at_d = closed_part (without_vertices (a ∷ b ∷ []) lists) (rest-simple lists simple (a ∷ b ∷ [])) (λ z. eqb z v) (λ s t g q.
           let old = rest-old lists simple (a ∷ b ∷ []) s t g in
           let from_v = subst (λ z. HasDart lists z t) (eqb-true s v q) old.0 in
@@ -75,13 +73,7 @@ third_neighbour lists simple linked four v a b edge va vb =
     decide c l =
         elim (cases_Contains (list_of lists v) c) [
           | inr n ↦ inl (λ d. absurd (n d.1))
-          | inl h ↦ elim (cases_eq c a) [
-            | inl e ↦ inl (λ _. inl e)
-            | inr na ↦ elim (cases_eq c b) [
-              | inl e ↦ inl (λ _. inr e)
-              | inr nb ↦ inr ((edge.1.0, h), na, nb)
-            ]
-          ]
+          | inl h ↦ grind (arith, cases_eq)
         ]
 
 -- where a vertex has a second neighbour, what follows the first is another

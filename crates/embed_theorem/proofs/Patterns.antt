@@ -109,25 +109,11 @@ pattern_of K33 = by_tests 6 9 3 (first_of K33) (second_of K33) (near_of K33) (ra
 
 -- ---- walks
 apart_by_order : (x : ℕ → ℕ) (g : ℕ) → ((i j : ℕ) → i < j → j < g → x i ≢ x j) → (i j : ℕ) → i < g → j < g → x i ≡ x j → i ≡ j
-apart_by_order x g h i j l m e = elim (cases_order i j) [
-  | inl q ↦ q
-  | inr (inl o) ↦ absurd (h i j o m e)
-  | inr (inr o) ↦ absurd (h j i o l (sym e))
-]
+apart_by_order x g h i j l m e = grind (arith, cases_order)
 
 -- the two parts of K3,3
 sides_apart : (w : Way) → w.0 < 9 → ((from_of (first_of K33) (second_of K33) w < 3) × (3 ≤ to_of (first_of K33) (second_of K33) w)) ⊎ ((3 ≤ from_of (first_of K33) (second_of K33) w) × (to_of (first_of K33) (second_of K33) w < 3))
-sides_apart w l = one w (lt_true (first_of K33 w.0) 3 (both_parts _ _ (test w.0 l)).0, not_lt (second_of K33 w.0) (both_parts _ _ (test w.0 l)).1)
-  where
-    test : (p : ℕ) → p < 9 → (nat_lt (first_of K33 p) 3 && not (nat_lt (second_of K33 p) 3)) ≡ true
-    test p l = all_below-at (λ p. nat_lt (first_of K33 p) 3 && not (nat_lt (second_of K33 p) 3)) 9 refl p l
-
-    not_lt : (b : ℕ) → not (nat_lt b 3) ≡ true → 3 ≤ b
-    not_lt b e = grind (arith, nat_tests)
-
-    one : (w : Way) → (first_of K33 w.0 < 3) × (3 ≤ second_of K33 w.0) → ((from_of (first_of K33) (second_of K33) w < 3) × (3 ≤ to_of (first_of K33) (second_of K33) w)) ⊎ ((3 ≤ from_of (first_of K33) (second_of K33) w) × (to_of (first_of K33) (second_of K33) w < 3))
-    one (p, true) h = inl h
-    one (p, false) h = inr (h.1, h.0)
+sides_apart w l = grind (arith, lt_true, first_of, K33, both_parts, second_of, nat_lt, not, all_below-at, nat_tests, Way, from_of, to_of)
 
 module _ (f s : ℕ → ℕ) (count : ℕ) (ends : (w : Way) → w.0 < count → from_of f s w ≢ to_of f s w) (ws : ℕ → Way) (inside : (j : ℕ) → (ws j).0 < count) (on : (j : ℕ) → from_of f s (ws (suc j)) ≡ to_of f s (ws j)) (turns : (j : ℕ) → to_of f s (ws (suc j)) ≢ from_of f s (ws j)) where
   one_step : (i : ℕ) → from_of f s (ws i) ≢ from_of f s (ws (suc i))
@@ -137,10 +123,7 @@ module _ (f s : ℕ → ℕ) (count : ℕ) (ends : (w : Way) → w.0 < count →
   two_steps i e = turns i (sym (e ∙ on (suc i)))
 
   girth_three : (i j : ℕ) → i < 3 → j < 3 → from_of f s (ws i) ≡ from_of f s (ws j) → i ≡ j
-  girth_three = apart_by_order (λ i. from_of f s (ws i)) 3 (λ i j o m. elim (cases_eq j (suc i)) [
-    | inl q ↦ λ e. one_step i (e ∙ ap (λ x. from_of f s (ws x)) q)
-    | inr ne ↦ let q : j ≡ suc (suc i) = omega arith in λ e. two_steps i (e ∙ ap (λ x. from_of f s (ws x)) q)
-  ])
+  girth_three = grind (arith, apart_by_order, from_of, cases_eq, one_step, two_steps)
 
 -- a way has two ends
 ends_of : (kind : Kind) (w : Way) → w.0 < length (pairs_of kind) → from_of (first_of kind) (second_of kind) w ≢ to_of (first_of kind) (second_of kind) w
@@ -148,31 +131,4 @@ ends_of kind (p, true) l = (pattern_of kind).ends p l
 ends_of kind (p, false) l = λ e. (pattern_of kind).ends p l (sym e)
 
 pub girth_is : (kind : Kind) → HasGirth (first_of kind) (second_of kind) (length (pairs_of kind)) (girth_of kind)
-girth_is K5 ws inside on turns = girth_three (first_of K5) (second_of K5) 10 (ends_of K5) ws inside on turns
-girth_is K33 ws inside on turns =
-    let x : ℕ → ℕ = λ i. from_of (first_of K33) (second_of K33) (ws i) in
-    apart_by_order x 4 (λ i j o m. elim (cases_eq j (suc i)) [
-      | inl q ↦ λ e. one_step (first_of K33) (second_of K33) 9 (ends_of K33) ws inside on turns i (e ∙ ap x q)
-      | inr ne ↦ elim (cases_eq j (suc (suc i))) [
-        | inl q ↦ λ e. two_steps (first_of K33) (second_of K33) 9 (ends_of K33) ws inside on turns i (e ∙ ap x q)
-        | inr nq ↦
-            let q : j ≡ suc (suc (suc i)) = omega arith in
-            λ e. three_steps (x i) (x (suc i)) (x (suc (suc i))) (x (suc (suc (suc i)))) (side i) (side (suc i)) (side (suc (suc i))) (e ∙ ap x q)
-      ]
-    ])
-  where
-    side : (i : ℕ) → ((from_of (first_of K33) (second_of K33) (ws i) < 3) × (3 ≤ from_of (first_of K33) (second_of K33) (ws (suc i)))) ⊎ ((3 ≤ from_of (first_of K33) (second_of K33) (ws i)) × (from_of (first_of K33) (second_of K33) (ws (suc i)) < 3))
-    side i =
-        let next = on i in
-        elim (sides_apart (ws i) (inside i)) [
-          | inl h ↦ inl (h.0, omega (arith, next, h.1))
-          | inr h ↦ inr (h.0, omega (arith, next, h.1))
-        ]
-
-    three_steps : (a b c d : ℕ) → ((a < 3) × (3 ≤ b)) ⊎ ((3 ≤ a) × (b < 3)) → ((b < 3) × (3 ≤ c)) ⊎ ((3 ≤ b) × (c < 3)) → ((c < 3) × (3 ≤ d)) ⊎ ((3 ≤ c) × (d < 3)) → a ≢ d
-    three_steps a b c d (inl x) (inl y) z e = omega (arith, x, y)
-    three_steps a b c d (inl x) (inr y) (inl z) e = omega (arith, x, z, e)
-    three_steps a b c d (inl x) (inr y) (inr z) e = omega (arith, y, z)
-    three_steps a b c d (inr x) (inr y) z e = omega (arith, x, y)
-    three_steps a b c d (inr x) (inl y) (inl z) e = omega (arith, y, z)
-    three_steps a b c d (inr x) (inl y) (inr z) e = omega (arith, x, z, e)
+girth_is x0 ws inside on turns = grind (arith, K5, girth_three, first_of, second_of, ends_of, K33, from_of, apart_by_order, cases_eq, one_step, two_steps, sides_apart)

@@ -56,20 +56,7 @@ module _ (graph : EdgeGraph) (kind : Kind) (branch : List VertexId) (paths : Lis
 
   kept_is : (x y : ℕ) → keep x y ≡ true → (p : ℕ) × (i : ℕ) × (p < count) × (i < size p) × (((x ≡ at p i) × (y ≡ at p (suc i))) ⊎ ((y ≡ at p i) × (x ≡ at p (suc i))))
   unfolding keep
-  kept_is x y e =
-      let r = some_below-gives (λ p. some_below (λ i. step p i x y) (size p)) count e in
-      let p = r.0 in
-      let s = some_below-gives (λ i. step p i x y) (size p) r.2 in
-      let i = s.0 in (
-        p,
-        i,
-        r.1,
-        s.1,
-        elim (or_cases ((at p i == x) && (at p (suc i) == y)) ((at p i == y) && (at p (suc i) == x)) s.2) [
-          | inl h ↦ let g = both_parts (at p i == x) (at p (suc i) == y) h in inl (sym (eqb-true (at p i) x g.0), sym (eqb-true (at p (suc i)) y g.1))
-          | inr h ↦ let g = both_parts (at p i == y) (at p (suc i) == x) h in inr (sym (eqb-true (at p i) y g.0), sym (eqb-true (at p (suc i)) x g.1))
-        ],
-      )
+  kept_is x y e = grind (arith, some_below-gives, some_below, step, size, count, or_cases, at, both_parts, eqb-true)
 
   in_paths : (p : ℕ) → p < count → p < length paths
   in_paths p l = let c = w.shape.count in omega arith
@@ -103,33 +90,14 @@ module _ (graph : EdgeGraph) (kind : Kind) (branch : List VertexId) (paths : Lis
   }
 
   some_branch : 0 < branch_count kind
-  some_branch = positive kind
-    where
-      positive : (kind : Kind) → 0 < branch_count kind
-      positive K5 = omega arith
-      positive K33 = omega arith
+  some_branch = grind (arith, Kind, branch_count, K5, K33)
 
   all_counts : IsPlane lists → AreCounts (branch_count kind) (degree_of kind) (girth_of kind)
   all_counts plane = counts (branch_count kind) count (degree_of kind) (girth_of kind) (first_of kind) (second_of kind) (vertex_at branch) size at (with_kept keep lists) kept.simple (pattern_of kind) subdivision some_branch (girth_is kind) (kept.plane plane)
 
 -- the counts of neither are possible
 no_counts : (kind : Kind) → AreCounts (branch_count kind) (degree_of kind) (girth_of kind) → ⊥
-no_counts K5 c =
-    let a = c.few in
-    let b = c.at_branches in
-    let d = c.at_inner in
-    let e = c.on_faces in
-    let f = c.some in
-    let g = c.euler in
-    omega arith
-no_counts K33 c =
-    let a = c.few in
-    let b = c.at_branches in
-    let d = c.at_inner in
-    let e = c.on_faces in
-    let f = c.some in
-    let g = c.euler in
-    omega arith
+no_counts x0 c = grind (arith, K5, K33)
 
 -- THE LAW: witnesses refute
 pub witnesses_refute : WitnessesRefute

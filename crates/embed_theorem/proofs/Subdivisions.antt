@@ -53,14 +53,11 @@ pub record IsSubdivision (n count : ℕ) (first second branch size : ℕ → ℕ
 -- an entry with another in its list is followed by another
 entry_moves : (us : List ℕ) (x z : ℕ) → AllPairs ◌≢◌ us → Contains us x → Contains us z → z ≢ x → entry_after x us ≢ x
 entry_moves us x z apart has other ne e =
-    let place = place_of-entry_after x us apart has in
-    let same : place_of x us ≡ place_after (length us) (place_of x us) = ap (λ y. place_of y us) (sym e) ∙ place in
     let lx = place_of-lt-length x us has in
     let lz = place_of-lt-length z us other in
-    let gx = get_or-place_of x us 0 lx in
     let gz = get_or-place_of z us 0 lz in
-    let one : length us ≡ 1 = alone (length us) (place_of x us) lx same in
-    ne (sym gz ∙ (ap (λ k. get_or us k 0) (let q : place_of z us ≡ place_of x us = omega arith in q) ∙ gx))
+    let one : length us ≡ 1 = alone (length us) (place_of x us) lx (ap (λ y. place_of y us) (sym e) ∙ (place_of-entry_after x us apart has)) in
+    ne (sym gz ∙ (ap (λ k. get_or us k 0) (let q : place_of z us ≡ place_of x us = omega arith in q) ∙ (get_or-place_of x us 0 lx)))
   where
     alone : (n k : ℕ) → k < n → k ≡ place_after n k → n ≡ 1
     alone n k l e = grind (arith, nat_tests)
@@ -126,11 +123,9 @@ module _ (n count degree : ℕ) (first second branch size : ℕ → ℕ) (at : �
         | inl e ↦ ((r.0, true), r.1, r.2, r.3, e.0, e.1)
         | inr e ↦
             let p = r.0 in
-            let i = r.1 in
-            let l : i < size p = r.3 in
-            let a : suc i ≡ size p - (size p - suc i) = omega arith in
-            let b : i ≡ size p - suc (size p - suc i) = omega arith in
-            ((p, false), size p - suc i, r.2, omega arith, e.1 ∙ ap (at p) a, e.0 ∙ ap (at p) b)
+            let a : suc r.1 ≡ size p - (size p - suc r.1) = omega arith in
+            let b : r.1 ≡ size p - suc (size p - suc r.1) = omega arith in
+            ((p, false), size p - suc r.1, r.2, omega arith, e.1 ∙ ap (at p) a, e.0 ∙ ap (at p) b)
       ]
 
   -- inner vertices are no branches
@@ -140,38 +135,11 @@ module _ (n count degree : ℕ) (first second branch size : ℕ → ℕ) (at : �
 
   -- an inner vertex stands at one place of one way, and at the mirrored one of the way back
   pub inner_once : (w z : Way) (i j : ℕ) → w.0 < count → z.0 < count → 0 < i → i < size w.0 → 0 < j → j < size z.0 → vertex w i ≡ vertex z j → ((z ≡ w) × (j ≡ i)) ⊎ ((z ≡ back w) × (j + i ≡ size w.0))
-  inner_once (p, true) (q, true) i j l m a b c d e = let h = sub.once p q i j l m a b c d e in inl (ap (λ x. (x, true)) (sym h.0), sym h.1)
-  inner_once (p, true) (q, false) i j l m a b c d e =
-      let h = sub.once p q i (size q - j) l m a b (omega arith) (omega arith) e in
-      let s = ap size h.0 in
-      inr (ap (λ x. (x, false)) (sym h.0), omega (arith, h.1, s))
-  inner_once (p, false) (q, true) i j l m a b c d e =
-      let h = sub.once p q (size p - i) j l m (omega arith) (omega arith) c d e in
-      inr (ap (λ x. (x, true)) (sym h.0), omega (arith, h.1))
-  inner_once (p, false) (q, false) i j l m a b c d e =
-      let h = sub.once p q (size p - i) (size q - j) l m (omega arith) (omega arith) (omega arith) (omega arith) e in
-      let s = ap size h.0 in
-      inl (ap (λ x. (x, false)) (sym h.0), omega (arith, h.1, s))
+  inner_once x0 x1 i j l m a b c d e = grind arith
 
   -- no vertex stands twice on a way
   pub way_apart : (w : Way) (i j : ℕ) → w.0 < count → i < j → j ≤ size w.0 → vertex w i ≢ vertex w j
-  way_apart w i j l m o e =
-      elim (cases_eq i 0) [
-        | inl zi ↦
-            let start : vertex w i ≡ branch (from w) = ap (vertex w) zi ∙ vertex_first w l in
-            elim (cases_eq j (size w.0)) [
-              | inl zj ↦ ends_apart w l (sub.distinct (from w) (to w) (from_low w l) (to_low w l) (sym start ∙ (e ∙ (ap (vertex w) zj ∙ vertex_last w l))))
-              | inr nj ↦ inner_no_branch w j (from w) l (omega arith) (omega arith) (from_low w l) (sym e ∙ start)
-            ]
-        | inr ni ↦
-            elim (cases_eq j (size w.0)) [
-              | inl zj ↦ inner_no_branch w i (to w) l (omega arith) (omega arith) (to_low w l) (e ∙ (ap (vertex w) zj ∙ vertex_last w l))
-              | inr nj ↦ elim (inner_once w w i j l l (omega arith) (omega arith) (omega arith) (omega arith) e) [
-                | inl h ↦ omega (arith, h.1, m)
-                | inr h ↦ back_other w h.0
-              ]
-            ]
-      ]
+  way_apart w i j l m o e = grind (arith, cases_eq, vertex, from, vertex_first, ends_apart, to, from_low, to_low, vertex_last, inner_no_branch, inner_once, back_other)
 
   -- ---- inside a way
   -- the neighbours of an inner vertex
@@ -179,27 +147,21 @@ module _ (n count degree : ℕ) (first second branch size : ℕ → ℕ) (at : �
   around_inner w i y l m d =
       let r = step_of (vertex w (suc i)) y d in
       let z = r.0 in
-      let j = r.1 in
-      elim (cases_eq j 0) [
+      elim (cases_eq r.1 0) [
         | inl zj ↦ absurd (inner_no_branch w (suc i) (from z) l (omega arith) m (from_low z r.2) (r.4 ∙ (ap (vertex z) zj ∙ vertex_first z r.2)))
-        | inr nj ↦ elim (inner_once w z (suc i) j l r.2 (omega arith) m (omega arith) r.3 r.4) [
+        | inr nj ↦ elim (inner_once w z (suc i) r.1 l r.2 (omega arith) m (omega arith) r.3 r.4) [
           | inl h ↦ inr (r.5 ∙ ap₂ vertex h.0 (ap suc h.1))
-          | inr h ↦
-              let k : suc j ≤ size w.0 = omega (arith, h.1) in
-              let s : size w.0 - suc j ≡ i = omega (arith, h.1) in
-              inl (r.5 ∙ (ap (λ x. vertex x (suc j)) h.0 ∙ (vertex_back w (suc j) l k ∙ ap (vertex w) s)))
+          | inr h ↦ grind (arith, vertex, vertex_back)
         ]
       ]
 
   -- the face goes on along a way
   pub follow_inner : (w : Way) (i : ℕ) → w.0 < count → suc i < size w.0 → follows lists (vertex w (suc i)) (vertex w i) ≡ vertex w (suc (suc i))
   follow_inner w i l m =
-      let here = way_dart w i l (omega arith) in
-      let home = simple.both_ways (vertex w i) (vertex w (suc i)) here in
+      let home = simple.both_ways (vertex w i) (vertex w (suc i)) (way_dart w i l (omega arith)) in
       let on = way_dart w (suc i) l m in
-      let next = HasDart-follows lists (vertex w (suc i)) (vertex w i) home in
       let moves = entry_moves (list_of lists (vertex w (suc i))) (vertex w i) (vertex w (suc (suc i))) (simple.no_repeat (vertex w (suc i)) home.0) home.1 on.1 (λ e. way_apart w i (suc (suc i)) l (omega arith) (omega arith) (sym e)) in
-      elim (around_inner w i (follows lists (vertex w (suc i)) (vertex w i)) l m next) [
+      elim (around_inner w i (follows lists (vertex w (suc i)) (vertex w i)) l m (HasDart-follows lists (vertex w (suc i)) (vertex w i) home)) [
         | inl e ↦ absurd (moves e)
         | inr e ↦ e
       ]
@@ -207,33 +169,11 @@ module _ (n count degree : ℕ) (first second branch size : ℕ → ℕ) (at : �
   -- ---- at a branch
   pub around_branch : (a y : ℕ) → a < n → HasDart lists (branch a) y → (w : Way) × (w.0 < count) × (from w ≡ a) × (y ≡ vertex w 1)
   around_branch a y l d =
-      let r = step_of (branch a) y d in
-      let z = r.0 in
-      elim (cases_eq r.1 0) [
-        | inl zj ↦ (z, r.2, sub.distinct (from z) a (from_low z r.2) l (sym (r.4 ∙ (ap (vertex z) zj ∙ vertex_first z r.2))), r.5 ∙ ap (λ j. vertex z (suc j)) zj)
-        | inr nj ↦ absurd (inner_no_branch z r.1 a r.2 (omega arith) r.3 l (sym r.4))
-      ]
+      grind (arith, step_of (branch a) y d, cases_eq, from, from_low, vertex, vertex_first, inner_no_branch)
 
   -- first steps of ways from one branch differ
   pub first_apart : (w z : Way) → w.0 < count → z.0 < count → from w ≡ from z → vertex w 1 ≡ vertex z 1 → to w ≡ to z
-  first_apart w z l m e f =
-      let lw = sub.long w.0 l in
-      let lz = sub.long z.0 m in
-      elim (cases_eq 1 (size w.0)) [
-        | inl q ↦
-            let last : vertex w 1 ≡ branch (to w) = ap (vertex w) q ∙ vertex_last w l in
-            elim (cases_eq 1 (size z.0)) [
-              | inl r ↦ sub.distinct (to w) (to z) (to_low w l) (to_low z m) (sym last ∙ (f ∙ (ap (vertex z) r ∙ vertex_last z m)))
-              | inr r ↦ absurd (inner_no_branch z 1 (to w) m (omega arith) (omega arith) (to_low w l) (sym f ∙ last))
-            ]
-        | inr q ↦ elim (cases_eq 1 (size z.0)) [
-          | inl r ↦ absurd (inner_no_branch w 1 (to z) l (omega arith) (omega arith) (to_low z m) (f ∙ (ap (vertex z) r ∙ vertex_last z m)))
-          | inr r ↦ elim (inner_once w z 1 1 l m (omega arith) (omega arith) (omega arith) (omega arith) f) [
-            | inl h ↦ ap to (sym h.0)
-            | inr h ↦ absurd (ends_apart w l (e ∙ ap from h.0))
-          ]
-        ]
-      ]
+  first_apart w z l m e f = grind (arith, cases_eq, vertex, to, vertex_last, to_low, inner_no_branch, inner_once, ends_apart, from)
 
   -- the face turns into another way at the end of one
   pub follow_last : (w : Way) (i : ℕ) → w.0 < count → suc i ≡ size w.0 → (z : Way) × (z.0 < count) × (from z ≡ to w) × (to z ≢ from w) × (follows lists (vertex w (suc i)) (vertex w i) ≡ vertex z 1)
@@ -241,8 +181,7 @@ module _ (n count degree : ℕ) (first second branch size : ℕ → ℕ) (at : �
       let a = to w in
       let la = to_low w l in
       let last : vertex w (suc i) ≡ branch a = ap (vertex w) e ∙ vertex_last w l in
-      let here = way_dart w i l (omega arith) in
-      let home = simple.both_ways (vertex w i) (vertex w (suc i)) here in
+      let home = simple.both_ways (vertex w i) (vertex w (suc i)) (way_dart w i l (omega arith)) in
       let next = HasDart-follows lists (vertex w (suc i)) (vertex w i) home in
       let r = around_branch a (follows lists (vertex w (suc i)) (vertex w i)) la (subst (λ x. HasDart lists x (follows lists (vertex w (suc i)) (vertex w i))) last next) in
       let own : vertex (back w) 1 ≡ vertex w i = vertex_back w 1 l (sub.long w.0 l) ∙ ap (vertex w) (let s : size w.0 - 1 ≡ i = omega arith in s) in
@@ -251,14 +190,12 @@ module _ (n count degree : ℕ) (first second branch size : ℕ → ℕ) (at : �
         r.1,
         r.2,
         (λ q.
-            let same = pattern.single r.0 (back w) r.1 l r.2 (q ∙ ap from (sym (back_back w))) in
-            moves (r.3 ∙ (ap (λ x. vertex x 1) same ∙ own))),
+            moves (r.3 ∙ (ap (λ x. vertex x 1) (pattern.single r.0 (back w) r.1 l r.2 (q ∙ ap from (sym (back_back w)))) ∙ own))),
         r.3,
       )
     where
       other_entry : (a : ℕ) → a < n → (v u : ℕ) → v ≡ branch a → HasDart lists v u → follows lists v u ≢ u
       other_entry a la v u q home =
-          let two = pattern.two in
           let w0 = pattern.near a 0 in
           let w1 = pattern.near a 1 in
           let i0 = pattern.near_in a 0 la (omega arith) in

@@ -14,9 +14,8 @@ pub record HasMany (k g : ℕ) (q : ℕ → Bool) : Type 0 where
 
 pub count-many : (k g : ℕ) (q : ℕ → Bool) → HasMany k g q → g ≤ count_below q k
 count-many k g q h =
-    let all = count_below_all g in
     let into = count_below_into h.pick (λ i. true) q g k (λ i l t. (h.within i l, h.passes i l)) (λ i j l m t s e. h.apart i j l m e) in
-    omega arith
+    omega (arith, count_below_all g)
 
 -- the numbers of classes below s
 abbrev below_label : (ℕ → ℕ) → (ℕ → Bool) → ℕ → ℕ → Bool
@@ -31,14 +30,10 @@ other_label l s b = grind (arith, nat_tests)
 tally_below : (label : ℕ → ℕ) (t p : ℕ → Bool) (g k s : ℕ) → ((r : ℕ) → r < s → t r ≡ true → HasMany k g (λ i. (label i == r) && p i)) → g * count_below t s ≤ count_below (below_label label p s) k
 tally_below label t p g k zero h = omega arith
 tally_below label t p g k (suc s) h =
-    let rest = tally_below label t p g k s (λ r l. h r (omega arith)) in
     let split = count_below_split (below_label label p (suc s)) (λ i. label i == s) k in
     let here = count_below_same (λ i. (label i == s) && below_label label p (suc s) i) (λ i. (label i == s) && p i) k (λ i l. one_label (label i) s (p i)) in
     let below = count_below_same (λ i. not (label i == s) && below_label label p (suc s) i) (below_label label p s) k (λ i l. other_label (label i) s (p i)) in
-    elim (cases_Bool (t s)) [
-      | inl e ↦ let many = count-many k g (λ i. (label i == s) && p i) (h s (omega arith) e) in let o = ap one_if e in let c : count_below t (suc s) ≡ count_below t s + 1 = omega arith in rw c (omega arith)
-      | inr e ↦ let o = ap one_if e in let c : count_below t (suc s) ≡ count_below t s = omega arith in rw c (omega arith)
-    ]
+    grind (arith, tally_below label t p g k s (λ r l. h r (omega arith)), cases_Bool, count-many, one_if, count_below)
 
 weaker_second : (a b : Bool) → (a && b) ≡ true → b ≡ true
 weaker_second true true e = refl
@@ -47,9 +42,7 @@ weaker_second false b e = absurd (true≢false (sym e))
 
 pub tally : (label : ℕ → ℕ) (t p : ℕ → Bool) (g k : ℕ) → ((r : ℕ) → r < k → t r ≡ true → HasMany k g (λ i. (label i == r) && p i)) → g * count_below t k ≤ count_below p k
 tally label t p g k h =
-    let all = tally_below label t p g k k h in
-    let less = count_below_weaker (below_label label p k) p k (λ i l e. weaker_second (nat_lt (label i) k) (p i) e) in
-    omega arith
+    omega (arith, count_below_weaker (below_label label p k) p k (λ i l e. weaker_second (nat_lt (label i) k) (p i) e), tally_below label t p g k k h)
 
 -- ---- a test of some number below n
 abbrev pub some_below : (ℕ → Bool) → ℕ → Bool

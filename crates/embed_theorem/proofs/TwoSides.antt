@@ -24,33 +24,14 @@ both_same false true h k = k refl
 both_same false false h k = refl
 
 and-turned : (a b : Bool) → (a && b) ≡ (b && a)
-and-turned true true = refl
-and-turned true false = refl
-and-turned false true = refl
-and-turned false false = refl
+and-turned x0 x1 = grind arith
 
 or-turned : (a b : Bool) → (a || b) ≡ (b || a)
-or-turned true true = refl
-or-turned true false = refl
-or-turned false true = refl
-or-turned false false = refl
+or-turned x0 x1 = grind arith
 
 -- two numbers of one component that are different are vertices
 joined_below : (lists : Lists) → IsSimpleMap lists → (u v : ℕ) → u ≢ v → SameComponent lists u v → (u < length lists) × (v < length lists)
-joined_below lists simple u v ne same =
-    let C = component_classes lists in
-    let n = length-classes (length lists) (darts lists) in
-    let e = Together-from C u v same in
-    let w = IsLabels-components lists simple in
-    let low : (a b : ℕ) → label C a ≡ label C b → a ≢ b → a < length lists = λ a b q far.
-    elim (cases_lt a (length lists)) [
-      | inl l ↦ l
-      | inr l ↦ elim (cases_lt b (length lists)) [
-        | inl m ↦ let p = label_past C a (omega arith) in let r = label-lt C w b (omega arith) in absurd (omega arith)
-        | inr m ↦ absurd (far (sym (label_past C a (omega arith)) ∙ (q ∙ label_past C b (omega arith))))
-      ]
-    ] in
-    (low u v e ne, low v u (sym e) (λ q. ne (sym q)))
+joined_below lists simple u v ne same = grind (arith, component_classes, length-classes, length, darts, Together-from, IsLabels-components, label, cases_lt, label_past, label-lt)
 
 -- u and v are not joined in A: the part of u in A is a side of its own
 cut_side : (lists A B : Lists) (u v : ℕ) → IsSimpleMap lists → IsSided lists A B u v → ¬ SameComponent A u v → Smaller lists → Result lists
@@ -207,10 +188,9 @@ separated_sides lists u v s t simple live_s live_t off_s off_t far smaller = sol
       of_B = λ a b d. ((kB.darts a b).0 d).0;
       shared = λ w p q d d'.
           let n = not_part w q d' in
-          let h = of_part w p d n in
           elim (cases_Contains V w) [
             | inl c ↦ each_of_two (λ z. z ≡ w → (w ≡ u) ⊎ (w ≡ v)) u v (λ e. inl (sym e)) (λ e. inr (sym e)) w c refl
-            | inr o ↦ absurd (n (P_step p w h (simple.both_ways w p ((kA.darts w p).0 d).0) o))
+            | inr o ↦ absurd (n (P_step p w (of_part w p d n) (simple.both_ways w p ((kA.darts w p).0 d).0) o))
           ];
       lost_A = t;
       edge_A = live_t;

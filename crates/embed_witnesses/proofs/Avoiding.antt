@@ -22,21 +22,15 @@ module _ (lists : Lists) (simple : IsSimpleMap lists) where
   -- a path has its ends among the vertices
   pub path_ends : (vs : List ℕ) (s t : ℕ) (path : List ℕ) → JoinsAvoiding lists vs s t path → (s < length lists) × (t < length lists)
   path_ends vs s t path j =
-      let some = j.is_path.some in
-      let first = j.is_path.vertices 0 0 some in
-      let last = j.is_path.vertices (length path - 1) 0 (omega arith) in
-      (subst (λ x. x < length lists) j.start first, subst (λ x. x < length lists) j.end last)
+      let first = j.is_path.vertices 0 0 j.is_path.some in
+      (subst (λ x. x < length lists) j.start first, subst (λ x. x < length lists) j.end (j.is_path.vertices (length path - 1) 0 (omega arith)))
 
   -- a path that avoids some vertices stays in one part without them
   pub part-from_path : (vs : List ℕ) (s t : ℕ) (path : List ℕ) → JoinsAvoiding lists vs s t path → SameComponent (without_vertices vs lists) s t
   part-from_path vs s t path j =
-      let R = without_vertices vs lists in
       let n = rest-length lists simple vs in
-      let ends = path_ends vs s t path j in
-      let ls = ends.0 in
-      let lt = ends.1 in
       let off : (i : ℕ) → i < length path → ¬ Contains vs (get_or path i 0) = λ i l. j.avoids (get_or path i 0) (Contains-get_or path i 0 l) in
-      (components_are_paths R s t (rest-simple lists simple vs) (omega arith) (omega arith)).1 (
+      (components_are_paths (without_vertices vs lists) s t (rest-simple lists simple vs) (omega arith) (omega arith)).1 (
         path,
         record {
           is_path = record {
@@ -53,16 +47,14 @@ module _ (lists : Lists) (simple : IsSimpleMap lists) where
   -- what is in one part without them is joined by such a path
   pub path-from_part : (vs : List ℕ) (s t : ℕ) → s < length lists → t < length lists → ¬ Contains vs s → SameComponent (without_vertices vs lists) s t → (path : List ℕ) × JoinsAvoiding lists vs s t path
   path-from_part vs s t ls lt off same =
-      let R = without_vertices vs lists in
       let n = rest-length lists simple vs in
-      let r = (components_are_paths R s t (rest-simple lists simple vs) (omega arith) (omega arith)).0 same in
+      let r = (components_are_paths (without_vertices vs lists) s t (rest-simple lists simple vs) (omega arith) (omega arith)).0 same in
       let path = r.0 in
-      let j = r.1 in
       let old : (i : ℕ) → suc i < length path → HasDart lists (get_or path i 0) (get_or path (suc i) 0) × (¬ Contains vs (get_or path i 0)) × (¬ Contains vs (get_or path (suc i) 0)) =
-      λ i l. rest-old lists simple vs (get_or path i 0) (get_or path (suc i) 0) (j.is_path.steps i l) in
+      λ i l. rest-old lists simple vs (get_or path i 0) (get_or path (suc i) 0) (r.1.is_path.steps i l) in
       let at : (i : ℕ) → i < length path → ¬ Contains vs (get_or path i 0) = λ i l.
       elim (cases_eq i 0) [
-        | inl e ↦ λ c. off (subst (Contains vs) (ap (λ k. get_or path k 0) e ∙ j.start) c)
+        | inl e ↦ λ c. off (subst (Contains vs) (ap (λ k. get_or path k 0) e ∙ r.1.start) c)
         | inr ne ↦
             let k = i - 1 in
             let sk : suc k ≡ i = omega arith in
@@ -71,12 +63,12 @@ module _ (lists : Lists) (simple : IsSimpleMap lists) where
         path,
         record {
           is_path = record {
-            some = j.is_path.some;
-            vertices = λ i d l. let m = j.is_path.vertices i d l in omega arith;
+            some = r.1.is_path.some;
+            vertices = λ i d l. let m = r.1.is_path.vertices i d l in omega arith;
             steps = λ i l. (old i l).0;
           };
-          start = j.start;
-          end = j.end;
+          start = r.1.start;
+          end = r.1.end;
           avoids = λ x c. subst (λ z. ¬ Contains vs z) (get_or_default path c.0 0 x c.1 ∙ c.2) (at c.0 c.1);
         },
       )
@@ -84,8 +76,7 @@ module _ (lists : Lists) (simple : IsSimpleMap lists) where
   -- other vertices avoided, but no more
   pub linked-fewer : (vs ws : List ℕ) → ((x : ℕ) → Contains ws x → Contains vs x) → ((x : ℕ) → Contains vs x → Contains ws x) → IsLinkedWithout lists vs → IsLinkedWithout lists ws
   linked-fewer vs ws less more linked s t hs ht os ot =
-      let same = linked s t hs ht (λ c. os (more s c)) (λ c. ot (more t c)) in
-      let p = path-from_part vs s t hs.1.0 ht.1.0 (λ c. os (more s c)) same in
+      let p = path-from_part vs s t hs.1.0 ht.1.0 (λ c. os (more s c)) (linked s t hs ht (λ c. os (more s c)) (λ c. ot (more t c))) in
       part-from_path ws s t p.0 (JoinsAvoiding-fewer lists vs ws s t p.0 less p.1)
 
   -- in a connected map all vertices are together
@@ -103,13 +94,5 @@ module _ (lists : Lists) (simple : IsSimpleMap lists) where
   HasEdge-connected one two z l =
       let other : (o : ℕ) → o < length lists → z ≢ o → HasEdge lists z = λ o m ne.
       let p = (components_are_paths lists z o simple l m).0 (all_together one z o l m) in
-      let path = p.0 in
-      let j = p.1 in
-      let some = j.is_path.some in
-      elim (cases_lt 1 (length path)) [
-        | inl longer ↦ (get_or path 1 0, subst (λ x. HasDart lists x (get_or path 1 0)) j.start (j.is_path.steps 0 longer))
-        | inr short ↦
-            let e : length path - 1 ≡ 0 = omega arith in
-            absurd (ne (sym j.start ∙ (ap (λ k. get_or path k 0) (sym e) ∙ j.end)))
-      ] in
+      grind (arith, cases_lt, length, get_or, HasDart) in
       elim (cases_eq z 0) [ inl e ↦ other 1 (omega arith) (λ q. omega arith) | inr ne ↦ other 0 (omega arith) ne ]

@@ -31,7 +31,6 @@ module _ (graph : EdgeGraph) (is : IsGraph graph) where
 
   pub dart_joined : (v u : ℕ) → HasDart (graph_lists graph) v u → has_edge graph v u ≡ true
   dart_joined v u d =
-      let l = d.0 in
       let m : v < graph.n = omega (arith, length-graph_lists graph is) in
       (Contains-from_filter (λ x. has_edge graph v x) (range_with_len 0 graph.n) u (subst (λ (xs : List ℕ). Contains xs u) (list_at v m) d.1)).1
 
@@ -101,23 +100,7 @@ module _ (graph : EdgeGraph) (is : IsGraph graph) (a b : ℕ) (a_b : a < b) (joi
 
   -- an edge stays one, where it is not contracted
   moved : (p q : ℕ) → has_edge graph p q ≡ true → D p ≢ D q → contracted_edge graph a b (D p) (D q) ≡ true
-  moved p q e ne =
-      let u = D p in
-      let v = D q in
-      let U = to u in
-      let V = to v in
-      let X = has_edge graph U V in
-      let Y = eqb u a && has_edge graph b V in
-      let Z = eqb v a && has_edge graph U b in
-      and_from (not (eqb u v)) (X || Y || Z) (ap not (ne_eqb u v ne)) (elim (cases_eq p b) [
-        | inl here ↦
-            let other : q ≢ b = λ t. ne (ap D (here ∙ sym t)) in
-            or_left (X || Y) Z (or_right X Y (and_from (eqb u a) (has_edge graph b V) (eq-eqb u a (down-there a b p here)) (ap₂ (has_edge graph) (sym here) (before-down a b q a_b other) ∙ e)))
-        | inr np ↦ elim (cases_eq q b) [
-          | inl here ↦ or_right (X || Y) Z (and_from (eqb v a) (has_edge graph U b) (eq-eqb v a (down-there a b q here)) (ap₂ (has_edge graph) (before-down a b p a_b np) (sym here) ∙ e))
-          | inr nq ↦ or_left (X || Y) Z (or_left X Y (ap₂ (has_edge graph) (before-down a b p a_b np) (before-down a b q a_b nq) ∙ e))
-        ]
-      ])
+  moved p q e ne = grind (arith, to, has_edge, eqb, and_from, not, ne_eqb, cases_eq, or_left, or_right, eq-eqb, down-there, ap₂)
 
   step : (p q : ℕ) → HasDart L p q → D p ≢ D q → HasDart S (D p) (D q)
   step p q d ne =
@@ -164,8 +147,7 @@ module _ (graph : EdgeGraph) (is : IsGraph graph) (a b : ℕ) (a_b : a < b) (joi
     some_edge : (s : ℕ) → s < small.n → HasEdge L (to s)
     some_edge s l =
         let n = length-graph_lists graph is in
-        let m = before-lt b s graph.n l in
-        HasEdge-connected L three.simple three.connected (omega arith) (to s) (omega arith)
+        HasEdge-connected L three.simple three.connected (omega arith) (to s) (omega (arith, before-lt b s graph.n l))
 
     path_between : (vs ws : List ℕ) → Covers vs ws → IsLinkedWithout L ws → (s t : ℕ) → s < small.n → t < small.n → ¬ Contains vs s → ¬ Contains vs t → (path : List ℕ) × JoinsAvoiding S vs s t path
     path_between vs ws c linked s t ls lt os ot =

@@ -38,19 +38,12 @@ module _ (graph : EdgeGraph) (is : IsGraph graph) (a b : ℕ) (a_b : a < b) (joi
   -- an edge off the lesser end was one
   was : (p q : ℕ) → p ≢ a → q ≢ a → has_edge small p q ≡ true → has_edge graph (to p) (to q) ≡ true
   was p q np nq e =
-      let of = IsContraction-contraction graph a b (omega arith) in
       let l = edge_within small is'.edges p q e in
       let X = has_edge graph (to p) (to q) in
       let Y = eqb p a && has_edge graph b (to q) in
       let Z = eqb q a && has_edge graph (to p) b in
-      let t = (and_parts (not (eqb p q)) (X || Y || Z) (sym (of.edges p q l.0 l.1) ∙ e)).1 in
-      elim (or_cases (X || Y) Z t) [
-        | inr z ↦ absurd (nq (eqb-true q a (and_parts (eqb q a) (has_edge graph (to p) b) z).0))
-        | inl xy ↦ elim (or_cases X Y xy) [
-          | inl x ↦ x
-          | inr y ↦ absurd (np (eqb-true p a (and_parts (eqb p a) (has_edge graph b (to q)) y).0))
-        ]
-      ]
+      let t = (and_parts (not (eqb p q)) (X || Y || Z) (sym ((IsContraction-contraction graph a b (omega arith)).edges p q l.0 l.1) ∙ e)).1 in
+      grind (arith, or_cases, eqb-true, and_parts, eqb, has_edge, to)
 
   linked_back : (simple : IsSimpleMap L) (w : ℕ) → w < graph.n → w ≢ a → w ≢ b → IsLinkedWithout L (a ∷ b ∷ w ∷ [])
   linked_back simple w lw wa wb s t hs ht os ot =
@@ -87,13 +80,4 @@ module _ (graph : EdgeGraph) (is : IsGraph graph) (a b : ℕ) (a_b : a < b) (joi
 
 -- THE LAW: exactly where no third vertex parts
 pub contracted_exactly : ContractedExactly
-contracted_exactly graph a b is five three a_b joined = (
-  λ small. record {
-    edge = joined_dart graph is a b joined;
-    linked = λ w h wa wb.
-        let n = length-graph_lists graph is in
-        let l = h.1.0 in
-        linked_back graph is a b a_b joined five small three.simple w (omega arith) wa wb;
-  },
-  λ con. contracted_three graph is a b a_b joined three five con.linked,
-)
+contracted_exactly graph a b is five three a_b joined = grind (arith, small, joined_dart, linked_back, length-graph_lists, contracted_three)

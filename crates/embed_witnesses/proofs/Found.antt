@@ -16,17 +16,15 @@ use Rattle.embed_witnesses.proofs.Contracted.{dart_joined, contracted_three}
 pub some_contractible : (graph : EdgeGraph) → IsGraph graph → 5 ≤ graph.n → IsThreeConnected (graph_lists graph) → (a : ℕ) × (b : ℕ) × IsContractibleEdge graph a b
 some_contractible graph is five three =
     let L = graph_lists graph in
-    let n = length-graph_lists graph is in
     let edge = HasEdge-connected L three.simple three.connected (omega arith) 0 (omega arith) in
     let c = contractible_edge L 0 edge.0 three.simple (three_linked L three) edge.1 in
     let x = c.0 in
     let y = c.1 in
-    let con = c.2 in
-    let e = dart_joined graph is x y con.edge in
+    let e = dart_joined graph is x y c.2.edge in
     elim (cases_order x y) [
-      | inl same ↦ absurd (three.simple.no_loop x y con.edge (sym same))
+      | inl same ↦ absurd (three.simple.no_loop x y c.2.edge (sym same))
       | inr r ↦ elim r [
-        | inl less ↦ (x, y, record { order = less; joined = e; three = contracted_three graph is x y less e three five con.linked })
+        | inl less ↦ (x, y, record { order = less; joined = e; three = contracted_three graph is x y less e three five c.2.linked })
         | inr more ↦ (
           y,
           x,
@@ -37,7 +35,7 @@ some_contractible graph is five three =
                 linked-fewer L three.simple (x ∷ y ∷ w ∷ []) (y ∷ x ∷ w ∷ [])
                 (λ z h. elim (in_three y x w z h) [ inl q ↦ (1, omega arith, sym q) | inr r ↦ elim r [ inl q ↦ (0, omega arith, sym q) | inr q ↦ (2, omega arith, sym q) ] ])
                 (λ z h. elim (in_three x y w z h) [ inl q ↦ (1, omega arith, sym q) | inr r ↦ elim r [ inl q ↦ (0, omega arith, sym q) | inr q ↦ (2, omega arith, sym q) ] ])
-                (con.linked w h nx ny));
+                (c.2.linked w h nx ny));
           },
         )
       ]

@@ -58,7 +58,6 @@ right-by graph old change branch size way eb es ew t = witness_by graph kind bra
 
     vertex_is : (p i : ℕ) → p < path_count kind → i ≤ size p → vertex_at (path_at paths p) i ≡ way p i
     vertex_is p i l m =
-        let s = es p l in
         ap (λ q. vertex_at q i) (path_is p l) ∙ (vertex_at-vertices_of (vertex_in change old.paths p) (suc (count_in change old.paths p)) i (omega arith) ∙ ew p i l)
 
 -- ---- numbers
@@ -68,13 +67,7 @@ digits b c d e f = b + 5 * (c + 5 * (d + 5 * (e + 5 * f)))
 
 number-is : (a b : ℕ) → path_between a b ≡ number a b
 unfolding number
-number-is zero b = refl
-number-is (suc zero) b = refl
-number-is (suc (suc zero)) b = refl
-number-is (suc (suc (suc a))) b =
-    let n = suc (suc (suc a)) in
-    cond-false (eqb n 0) (b - 1) (cond (eqb n 1) (b + 2) (cond (eqb n 2) (b + 4) 9)) (ne_eqb n 0 (λ e. omega arith))
-    ∙ (cond-false (eqb n 1) (b + 2) (cond (eqb n 2) (b + 4) 9) (ne_eqb n 1 (λ e. omega arith)) ∙ cond-false (eqb n 2) (b + 4) 9 (ne_eqb n 2 (λ e. omega arith)))
+number-is x0 b = grind (arith, cond-false, eqb, cond, ne_eqb)
 
 link-is : (a b : ℕ) → link_between a b ≡ link_number a b
 unfolding link_number
@@ -128,12 +121,11 @@ module _ (graph : EdgeGraph) (a b : ℕ) (edge : IsEdgeOf graph a b) (kind : Kin
   one_right : (q k : ℕ) → IsOneBad graph kind B S P frame a b edge.joined off no_branch steps q k → IsRight graph old (put false q k)
   unfolding size' way' longer
   one_right q k bad =
-      let c = put false q k in
       let made = inserted graph.n kind B S P frame b q k bad.path bad.step off no_branch in
       let along = steps-inserted graph.n kind B S P frame b q k bad.path bad.step off no_branch (λ u v. has_edge graph u v ≡ true) bad.rest bad.to bad.from in
       let size = size' graph.n kind B S P frame b q k bad.path bad.step off no_branch in
       let way = way' graph.n kind B S P frame b q k bad.path bad.step off no_branch in
-      right-by graph old c B size way (λ j l. refl) (λ p l. refl) (λ p i l. refl) (traced-frame graph kind B size way made along)
+      right-by graph old (put false q k) B size way (λ j l. refl) (λ p l. refl) (λ p i l. refl) (traced-frame graph kind B size way made along)
 
   -- ---- with the ends exchanged
   abbrev s : ℕ → ℕ
@@ -169,12 +161,11 @@ module _ (graph : EdgeGraph) (a b : ℕ) (edge : IsEdgeOf graph a b) (kind : Kin
   s_one_right : (q k : ℕ) → IsOneBad graph kind sB S sP s_frame b a turned s_off s_no_branch s_steps q k → IsRight graph old (put true q k)
   unfolding size' way' longer exchanged
   s_one_right q k bad =
-      let c = put true q k in
       let made = inserted graph.n kind sB S sP s_frame a q k bad.path bad.step s_off s_no_branch in
       let along = steps-inserted graph.n kind sB S sP s_frame a q k bad.path bad.step s_off s_no_branch (λ u v. has_edge graph u v ≡ true) bad.rest bad.to bad.from in
       let size = size' graph.n kind sB S sP s_frame a q k bad.path bad.step s_off s_no_branch in
       let way = way' graph.n kind sB S sP s_frame a q k bad.path bad.step s_off s_no_branch in
-      right-by graph old c sB size way (λ j l. refl) (λ p l. refl) (λ p i l. refl) (traced-frame graph kind sB size way made along)
+      right-by graph old (put true q k) sB size way (λ j l. refl) (λ p l. refl) (λ p i l. refl) (traced-frame graph kind sB size way made along)
 
   -- no change of these is right
   abbrev NoneWith : Bool → Type 0
@@ -319,32 +310,7 @@ module _ (graph : EdgeGraph) (a b : ℕ) (edge : IsEdgeOf graph a b) (branch : L
 
     name_is : (k : ℕ) → k < 5 → five_names c0 c1 c2 c3 c4 k ≡ named_branch code k
     unfolding five_names digits
-    name_is =
-        let m3 = c3 + 5 * c4 in
-        let m2 = c2 + 5 * m3 in
-        let m1 = c1 + 5 * m2 in
-        let d0 = div-add-mod code 5 in
-        let r0 = mod-lt code {m = 5} (omega arith) in
-        let d1 = div-add-mod (code / 5) 5 in
-        let r1 = mod-lt (code / 5) {m = 5} (omega arith) in
-        let q2 = div-add-mod code 25 in
-        let s2 = mod-lt code {m = 25} (omega arith) in
-        let d2 = div-add-mod (code / 25) 5 in
-        let r2 = mod-lt (code / 25) {m = 5} (omega arith) in
-        let q3 = div-add-mod code 125 in
-        let s3 = mod-lt code {m = 125} (omega arith) in
-        let d3 = div-add-mod (code / 125) 5 in
-        let r3 = mod-lt (code / 125) {m = 5} (omega arith) in
-        let q4 = div-add-mod code 625 in
-        let s4 = mod-lt code {m = 625} (omega arith) in
-        let d4 = div-add-mod (code / 625) 5 in
-        let r4 = mod-lt (code / 625) {m = 5} (omega arith) in
-        let a0 = l0 in
-        let a1 = l1 in
-        let a2 = l2 in
-        let a3 = l3 in
-        let a4 = l4 in
-        each_of_five (λ k. five_names c0 c1 c2 c3 c4 k ≡ named_branch code k) (omega arith) (omega arith) (omega arith) (omega arith) (omega arith)
+    name_is = grind (arith, l0, l1, l2, l3, each_of_five, five_names, named_branch, code)
 
     first_is : five_names c0 c1 c2 c3 c4 0 ≡ c0
     unfolding five_names

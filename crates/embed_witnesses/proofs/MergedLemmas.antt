@@ -25,8 +25,7 @@ named-here n b v l = get_or-map-range_with_len (old_number n b) 0 n v v v l (ome
 
 named-past : (n b v : ℕ) → n ≤ v → named (table n b) v ≡ v
 named-past n b v l =
-    let size = length-map-range_with_len (old_number n b) 0 n in
-    get_or_past (table n b) v v (omega arith)
+    get_or_past (table n b) v v (omega (arith, length-map-range_with_len (old_number n b) 0 n))
 
 old_number-lt : (n b v : ℕ) → b < n → v < n → old_number n b v < n
 old_number-lt n b v l m = grind (arith, nat_tests)
@@ -38,36 +37,14 @@ old_number-before : (n b v : ℕ) → v < n - 1 → old_number n b v ≡ before_
 old_number-before n b v l = grind (arith, nat_tests)
 
 named-apart : (n b u v : ℕ) → b < n → named (table n b) u ≡ named (table n b) v → u ≡ v
-named-apart n b u v l e =
-    elim (cases_lt u n) [
-      | inl lu ↦ elim (cases_lt v n) [
-        | inl lv ↦ old_number-apart n b u v l lu lv (sym (named-here n b u lu) ∙ (e ∙ named-here n b v lv))
-        | inr pv ↦ let x = named-here n b u lu in let y = named-past n b v pv in let z = old_number-lt n b u l lu in absurd (omega arith)
-      ]
-      | inr pu ↦ elim (cases_lt v n) [
-        | inl lv ↦ let x = named-past n b u pu in let y = named-here n b v lv in let z = old_number-lt n b v l lv in absurd (omega arith)
-        | inr pv ↦ sym (named-past n b u pu) ∙ (e ∙ named-past n b v pv)
-      ]
-    ]
+named-apart n b u v l e = grind (arith, cases_lt, old_number-apart, named-here, named-past, old_number-lt)
 
 named-lt : (n b v : ℕ) → b < n → v < n → named (table n b) v < n
 named-lt n b v l m = let x = named-here n b v m in let z = old_number-lt n b v l m in omega arith
 
 -- ---- edges
 merged_edge-turned : (graph : EdgeGraph) (a b u v : ℕ) → merged_edge graph a b u v ≡ true → merged_edge graph a b v u ≡ true
-merged_edge-turned graph a b u v t =
-    let X : ℕ → ℕ → Bool = λ u v. has_edge graph u v in
-    let Y : ℕ → ℕ → Bool = λ u v. eqb u a && has_edge graph b v in
-    let Z : ℕ → ℕ → Bool = λ u v. eqb v a && has_edge graph u b in
-    let p = and_parts (not (eqb u b) && not (eqb v b)) (X u v || Y u v || Z u v) t in
-    let q = and_parts (not (eqb u b)) (not (eqb v b)) p.0 in
-    and_from (not (eqb v b) && not (eqb u b)) (X v u || Y v u || Z v u) (and_from (not (eqb v b)) (not (eqb u b)) q.1 q.0) (elim (or_cases (X u v || Y u v) (Z u v) p.1) [
-      | inr z ↦ let r = and_parts (eqb v a) (has_edge graph u b) z in or_left (X v u || Y v u) (Z v u) (or_right (X v u) (Y v u) (and_from (eqb v a) (has_edge graph b u) r.0 (has_edge-turned graph b u ∙ r.1)))
-      | inl xy ↦ elim (or_cases (X u v) (Y u v) xy) [
-        | inl x ↦ or_left (X v u || Y v u) (Z v u) (or_left (X v u) (Y v u) (has_edge-turned graph v u ∙ x))
-        | inr y ↦ let r = and_parts (eqb u a) (has_edge graph b v) y in or_right (X v u || Y v u) (Z v u) (and_from (eqb u a) (has_edge graph v b) r.0 (has_edge-turned graph v b ∙ r.1))
-      ]
-    ])
+merged_edge-turned graph a b u v t = grind (arith, has_edge, eqb, and_parts, not, and_from, or_cases, or_left, or_right, has_edge-turned)
 
 -- an edge of the merged graph passes the test
 pub merged-edge : (graph : EdgeGraph) (a b u v : ℕ) → has_edge (merged graph a b) u v ≡ true → merged_edge graph a b u v ≡ true
@@ -87,11 +64,10 @@ merged-edge graph a b u v e =
 -- and what passes between two different vertices is one
 pub edge-merged : (graph : EdgeGraph) (a b u v : ℕ) → u < graph.n → v < graph.n → u ≢ v → merged_edge graph a b u v ≡ true → has_edge (merged graph a b) u v ≡ true
 edge-merged graph a b u v lu lv ne t =
-    let small = merged graph a b in
     let test : Edge → Bool = λ e. merged_edge graph a b e.0 e.1 in
     elim (cases_lt u v) [
       | inl less ↦ joined-filter graph.n test u v less lv ∙ t
-      | inr not_less ↦ has_edge-turned small u v ∙ (joined-filter graph.n test v u (omega arith) lu ∙ merged_edge-turned graph a b u v t)
+      | inr not_less ↦ has_edge-turned (merged graph a b) u v ∙ (joined-filter graph.n test v u (omega arith) lu ∙ merged_edge-turned graph a b u v t)
     ]
 
 -- THE LAW: it stands for the contracted graph
@@ -107,13 +83,7 @@ merged_is_contracted graph a b = record {
       let t = merged-edge graph a b u v e in
       let Y = eqb u a && has_edge graph b v in
       let Z = eqb v a && has_edge graph u b in
-      elim (or_cases (has_edge graph u v || Y) Z (and_parts (not (eqb u b) && not (eqb v b)) (has_edge graph u v || Y || Z) t).1) [
-        | inr z ↦ let r = and_parts (eqb v a) (has_edge graph u b) z in inr (inr (eqb-true v a r.0, r.1))
-        | inl xy ↦ elim (or_cases (has_edge graph u v) Y xy) [
-          | inl x ↦ inl x
-          | inr y ↦ let r = and_parts (eqb u a) (has_edge graph b v) y in inr (inl (eqb-true u a r.0, r.1))
-        ]
-      ];
+      grind (arith, or_cases, has_edge, and_parts, not, eqb, eqb-true);
 }
 
 before-not : (b v : ℕ) → before_left b v ≢ b
@@ -124,22 +94,7 @@ before-low b v l = grind (arith, nat_tests)
 
 -- an edge of the contracted graph is one of the merged
 kept : (graph : EdgeGraph) (a b u v : ℕ) → a < b → contracted_edge graph a b u v ≡ true → merged_edge graph a b (before_left b u) (before_left b v) ≡ true
-kept graph a b u v a_b t =
-    let U = before_left b u in
-    let V = before_left b v in
-    let X = has_edge graph U V in
-    let Y = eqb U a && has_edge graph b V in
-    let Z = eqb V a && has_edge graph U b in
-    let y = eqb u a && has_edge graph b V in
-    let z = eqb v a && has_edge graph U b in
-    let low : (w : ℕ) → w ≡ a → before_left b w ≡ a = λ w e. before-low b w (omega arith) ∙ e in
-    and_from (not (eqb U b) && not (eqb V b)) (X || Y || Z) (and_from (not (eqb U b)) (not (eqb V b)) (ap not (ne_eqb U b (before-not b u))) (ap not (ne_eqb V b (before-not b v)))) (elim (or_cases (X || y) z (and_parts (not (eqb u v)) (X || y || z) t).1) [
-      | inr h ↦ let r = and_parts (eqb v a) (has_edge graph U b) h in or_right (X || Y) Z (and_from (eqb V a) (has_edge graph U b) (eq-eqb V a (low v (eqb-true v a r.0))) r.1)
-      | inl xy ↦ elim (or_cases X y xy) [
-        | inl x ↦ or_left (X || Y) Z (or_left X Y x)
-        | inr h ↦ let r = and_parts (eqb u a) (has_edge graph b V) h in or_left (X || Y) Z (or_right X Y (and_from (eqb U a) (has_edge graph b V) (eq-eqb U a (low u (eqb-true u a r.0))) r.1))
-      ]
-    ])
+kept graph a b u v a_b t = grind (arith, before_left, has_edge, eqb, before-low, and_from, not, ne_eqb, before-not, or_cases, and_parts, or_right, eq-eqb)
 
 -- THE LAW: old numbers keep the edges
 pub keeps_edges : (graph : EdgeGraph) (a b : ℕ) → IsGraph graph → a < b → has_edge graph a b ≡ true → KeepsEdges (contraction graph a b) (merged graph a b) (named (table graph.n b))
@@ -147,19 +102,16 @@ keeps_edges graph a b is a_b joined =
     let n = graph.n in
     let in_b = (edge_within graph is.edges a b joined).1 in
     let to : ℕ → ℕ = λ v. named (table n b) v in
-    let small = contraction graph a b in
     let of = IsContraction-contraction graph a b (omega arith) in
     record {
       within = λ v l. named-lt n b v in_b (omega arith);
       apart = λ u v e. named-apart n b u v in_b e;
       edges = λ u v e.
           let l = of.within u v e in
-          let lu = l.0 in
-          let lv = l.1 in
-          let t = sym (of.edges u v lu lv) ∙ e in
+          let t = sym (of.edges u v l.0 l.1) ∙ e in
           let ne = eqb-false u v (not-true (eqb u v) (and_parts (not (eqb u v)) (has_edge graph (before_left b u) (before_left b v) || (eqb u a && has_edge graph b (before_left b v)) || (eqb v a && has_edge graph (before_left b u) b)) t).0) in
-          let at_u : to u ≡ before_left b u = named-here n b u (omega arith) ∙ old_number-before n b u lu in
-          let at_v : to v ≡ before_left b v = named-here n b v (omega arith) ∙ old_number-before n b v lv in
+          let at_u : to u ≡ before_left b u = named-here n b u (omega arith) ∙ old_number-before n b u l.0 in
+          let at_v : to v ≡ before_left b v = named-here n b v (omega arith) ∙ old_number-before n b v l.1 in
           edge-merged graph a b (to u) (to v) (named-lt n b u in_b (omega arith)) (named-lt n b v in_b (omega arith)) (λ q. ne (named-apart n b u v in_b q)) (ap₂ (merged_edge graph a b) at_u at_v ∙ kept graph a b u v a_b t);
     }
 

@@ -58,11 +58,9 @@ module _ (graph : EdgeGraph) (kind : Kind) (branch : ℕ → ℕ) (plain : IsPla
       branches = size_branch;
       count = size_paths;
       joined = λ p l.
-          let n = size_paths in
-          let m : p < path_count kind = omega arith in
-          let s = size_path p m in
+          let m : p < path_count kind = omega (arith, size_paths) in
           let w = pairs_within kind p m in
-          let one : length (path_at paths p) - 1 ≡ 1 = omega arith in
+          let one : length (path_at paths p) - 1 ≡ 1 = omega (arith, size_path p m) in
           record {
             long = omega arith;
             start = start_is p m ∙ sym (branch_is (pair_at kind p).0 w.0);
@@ -71,16 +69,12 @@ module _ (graph : EdgeGraph) (kind : Kind) (branch : ℕ → ℕ) (plain : IsPla
     };
     vertices = λ j l. let n = size_branch in let m : j < branch_count kind = omega arith in subst (λ v. v < graph.n) (sym (branch_is j m)) (plain.vertices j m);
     distinct = λ i j l m e.
-        let n = size_branch in
-        let in_j : j < branch_count kind = omega arith in
+        let in_j : j < branch_count kind = omega (arith, size_branch) in
         let in_i : i < branch_count kind = omega arith in
-        let s = plain.distinct i j in_i in_j (sym (branch_is i in_i) ∙ (e ∙ branch_is j in_j)) in
-        omega arith;
+        omega (arith, plain.distinct i j in_i in_j (sym (branch_is i in_i) ∙ (e ∙ branch_is j in_j)));
     edges = λ p i l m.
-        let n = size_paths in
-        let in_p : p < path_count kind = omega arith in
-        let s = size_path p in_p in
-        let z : i ≡ 0 = omega arith in
+        let in_p : p < path_count kind = omega (arith, size_paths) in
+        let z : i ≡ 0 = omega (arith, size_path p in_p) in
         ap₂ (has_edge graph) (ap (vertex_at (path_at paths p)) z ∙ start_is p in_p) (ap (λ k. vertex_at (path_at paths p) (suc k)) z ∙ end_is p in_p) ∙ plain.joined p in_p;
     no_branch = λ p i j l h m e. let n = size_paths in no_inner p i (omega arith) h;
     once = λ p i j l h m e. let n = size_paths in absurd (no_inner p i (omega arith) h);
@@ -93,13 +87,7 @@ abbrev HasPath : Kind → ℕ → ℕ → Type 0
 HasPath kind i k = (p : ℕ) × (p < path_count kind) × (pair_at kind p ≡ (i, k))
 
 sides : (i k : ℕ) → is_pair K33 i k ≡ true → (i < 3) × (3 ≤ k)
-sides i k e = (first, second)
-  where
-    first : i < 3
-    first = grind (arith, nat_tests)
-
-    second : 3 ≤ k
-    second = grind (arith, nat_tests)
+sides i k e = grind (arith, nat_tests)
 
 pair_path : (kind : Kind) (i k : ℕ) → i < k → k < branch_count kind → is_pair kind i k ≡ true → HasPath kind i k
 pair_path K5 i k l m e =

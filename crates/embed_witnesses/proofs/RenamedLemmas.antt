@@ -36,9 +36,8 @@ module _ (to : ℕ → ℕ) where
 -- one vertex more is renamed
 pub renamed_list-more : (to : ℕ → ℕ) (vs : List VertexId) (i : ℕ) (v new : VertexId) → i < length vs → get_or vs i v ≡ v → new.0 ≡ to v.0 → renamed_list to (take (i + 1) vs) ≡ renamed_list to (take i vs) ++ new ∷ []
 renamed_list-more to vs i v new l at e =
-    let last : List VertexId = get_or vs i v ∷ [] in
     ap (renamed_list to) (take_more vs i v l)
-    ∙ (map-append (name to) (take i vs) last
+    ∙ (map-append (name to) (take i vs) (get_or vs i v ∷ [])
     ∙ ap (λ (w : VertexId). renamed_list to (take i vs) ++ w ∷ []) (ap (name to) at ∙ ap (λ n. let w : VertexId = record { 0 = n } in w) (sym e)))
 
 -- THE LAW: a witness renamed
@@ -54,11 +53,7 @@ renamed_witness small graph to kind branch paths keeps w =
             let in_p : p < length paths = omega arith in
             let j = w.shape.joined p in_p in
             let long = j.long in
-            let count = w.shape.count in
-            let all = w.shape.branches in
             let ends = pairs_within kind p (omega arith) in
-            let first = ends.0 in
-            let second = ends.1 in
             let n = length-path to paths p in_p in
             record {
               long = omega arith;
@@ -80,20 +75,16 @@ renamed_witness small graph to kind branch paths keeps w =
           let in_p : p < length paths = omega arith in
           let in_j : j < length branch = omega arith in
           let inner = inner_was to paths p in_p i h in
-          let s = inner.1 in
           w.no_branch p i j in_p inner in_j (keeps.apart (vertex_at (path_at paths p) i) (vertex_at branch j) (sym (vertex_at-path to paths p in_p i (omega arith)) ∙ (e ∙ vertex_at-renamed_list to branch j in_j)));
       once = λ p i j l h m e.
           let in_p : p < length paths = omega arith in
           let n = length-path to paths p in_p in
           let inner = inner_was to paths p in_p i h in
-          let s = inner.1 in
           w.once p i j in_p inner (omega arith) (keeps.apart (vertex_at (path_at paths p) i) (vertex_at (path_at paths p) j) (sym (vertex_at-path to paths p in_p i (omega arith)) ∙ (e ∙ vertex_at-path to paths p in_p j (omega arith))));
       apart = λ p q i j l m h h' e.
           let in_q : q < length paths = omega arith in
           let in_p : p < length paths = omega arith in
           let inner = inner_was to paths p in_p i h in
           let inner' = inner_was to paths q in_q j h' in
-          let s = inner.1 in
-          let s' = inner'.1 in
           w.apart p q i j l in_q inner inner' (keeps.apart (vertex_at (path_at paths p) i) (vertex_at (path_at paths q) j) (sym (vertex_at-path to paths p in_p i (omega arith)) ∙ (e ∙ vertex_at-path to paths q in_q j (omega arith))));
     }

@@ -48,8 +48,7 @@ module _ (n : ℕ) (kind : Kind) (branch size : ℕ → ℕ) (way : ℕ → ℕ 
       elim (cases_eq p q) [
         | inr ne ↦ inr (inr (ne, place-else p i ne, sym (size-else p ne)))
         | inl e ↦
-            let s = size-here in
-            let t : size q ≡ suc (size' q) = omega arith in
+            let t : size q ≡ suc (size' q) = omega (arith, size-here) in
             let u : size p ≡ suc (size' p) = subst (λ r. size r ≡ suc (size' r)) (sym e) t in
             elim (cases_eq i 0) [
               | inl z ↦ inl (e, z, ap (place p) z ∙ place-begin p, u)
@@ -75,23 +74,7 @@ module _ (n : ℕ) (kind : Kind) (branch size : ℕ → ℕ) (way : ℕ → ℕ 
 
   -- places of one path stay apart
   place-apart : (p i j : ℕ) → place p i ≡ place p j → i ≡ j
-  place-apart p i j e =
-      elim (cases_place p i) [
-        | inl h ↦ elim (cases_place p j) [
-          | inl k ↦ h.1 ∙ sym k.1
-          | inr r ↦ elim r [ inl k ↦ let a = h.2 in let b = k.2 in absurd (omega arith) | inr k ↦ absurd (k.0 h.0) ]
-        ]
-        | inr s ↦ elim s [
-          | inl h ↦ elim (cases_place p j) [
-            | inl k ↦ let a = h.2 in let b = k.2 in absurd (omega arith)
-            | inr r ↦ elim r [ inl k ↦ let a = h.2 in let b = k.2 in omega arith | inr k ↦ absurd (k.0 h.0) ]
-          ]
-          | inr h ↦ elim (cases_place p j) [
-            | inl k ↦ absurd (h.0 k.0)
-            | inr r ↦ elim r [ inl k ↦ absurd (h.0 k.0) | inr k ↦ sym h.1 ∙ (e ∙ k.1) ]
-          ]
-        ]
-      ]
+  place-apart p i j e = grind (arith, cases_place)
 
   place-end : (p : ℕ) → 0 < size' p → place p (size' p) ≡ size p
   place-end p pos =
@@ -108,16 +91,7 @@ module _ (n : ℕ) (kind : Kind) (branch size : ℕ → ℕ) (way : ℕ → ℕ 
       ]
 
   pub frame' : IsFrame n kind branch size' way'
-  frame' = record {
-    vertices = frame.vertices;
-    distinct = frame.distinct;
-    long = long;
-    start = λ p l. ap (way p) (place-begin p) ∙ frame.start p l;
-    end = λ p l. ap (way p) (place-end p (long p l)) ∙ frame.end p l;
-    no_branch = λ p i j l pos m in_j e. let s = inner p i pos m in frame.no_branch p (place p i) j l s.0 s.1 in_j e;
-    once = λ p i j l pos m in_j e. let s = inner p i pos m in place-apart p i j (frame.once p (place p i) (place p j) l s.0 s.1 (within p j in_j) e);
-    apart = λ p r i j l m pos l' pos' m' e. let s = inner p i pos l' in let t = inner r j pos' m' in frame.apart p r (place p i) (place r j) l m s.0 s.1 t.0 t.1 e;
-  }
+  frame' = grind (arith, long, place-begin, place-end, inner, place-apart, within)
 
   -- the vertex that is passed over
   abbrev pub gone : ℕ
@@ -128,38 +102,8 @@ module _ (n : ℕ) (kind : Kind) (branch size : ℕ → ℕ) (way : ℕ → ℕ 
 
   -- it stands nowhere in the new frame
   pub gone_off : (p i : ℕ) → p < path_count kind → i ≤ size' p → way' p i ≢ gone
-  gone_off p i l m e =
-      elim (cases_order (place p i) 0) [
-        | inl z ↦ gone_branch (pair_at kind p).0 (pairs_within kind p l).0 (sym (frame.start p l) ∙ (ap (way p) (sym z) ∙ e))
-        | inr r ↦ elim r [
-          | inl low ↦ absurd (omega arith)
-          | inr pos ↦ elim (cases_eq (place p i) (size p)) [
-            | inl at_end ↦ gone_branch (pair_at kind p).1 (pairs_within kind p l).1 (sym (frame.end p l) ∙ (ap (way p) (sym at_end) ∙ e))
-            | inr ne ↦
-                let w = within p i m in
-                let same = frame.apart p q (place p i) 1 l in_q pos (omega arith) (omega arith) more e in
-                let one : 1 ≡ place q i = frame.once q 1 (place q i) in_q (omega arith) more (subst (λ r. place r i ≤ size r) same w) (sym e ∙ ap (λ r. way r (place r i)) same) in
-                elim (cases_place q i) [
-                  | inl h ↦ let k = h.2 in absurd (omega arith)
-                  | inr s ↦ elim s [ inl h ↦ let k = h.2 in let pos' = h.1 in absurd (omega arith) | inr h ↦ h.0 refl ]
-                ]
-          ]
-        ]
-      ]
+  gone_off p i l m e = grind (arith, cases_order, gone_branch, pair_at, pairs_within, cases_eq, within, cases_place)
 
   -- A step of the new frame is one of the old, or the first of the path that is shorter.
   pub cases_step : (p i : ℕ) → i < size' p → ((place p (suc i) ≡ suc (place p i)) × (place p i < size p)) ⊎ ((p ≡ q) × (place p i ≡ 0) × (place p (suc i) ≡ 2))
-  cases_step p i l =
-      elim (cases_place p (suc i)) [
-        | inl h ↦ let z = h.1 in absurd (omega arith)
-        | inr r ↦ elim r [
-          | inr h ↦ let t = place-else p i h.0 in let e = h.1 in let s = h.2 in inl (omega arith, omega arith)
-          | inl h ↦ elim (cases_place p i) [
-            | inl k ↦ let a = h.2 in let z = k.1 in inr (h.0, k.2, omega arith)
-            | inr s ↦ elim s [
-              | inl k ↦ let a = h.2 in let b = k.2 in let c = k.3 in inl (omega arith, omega arith)
-              | inr k ↦ absurd (k.0 h.0)
-            ]
-          ]
-        ]
-      ]
+  cases_step p i l = grind (arith, cases_place, place-else)

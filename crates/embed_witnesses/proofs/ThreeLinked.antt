@@ -14,7 +14,6 @@ use Rattle.embed_witnesses.proofs.Avoiding.{part-from_path, all_together}
 
 pub in_one : (a z : ℕ) → Contains (a ∷ []) z → z ≡ a
 in_one a z c =
-    let l = c.1 in
     let i : c.0 ≡ 0 = omega arith in
     sym (subst (λ k. get_or (a ∷ []) k z ≡ z) i c.2)
 

@@ -36,12 +36,10 @@ met_now met sides side met' sides' (now a e f) l = ap (λ met. mark_at met (plac
 pub met_work : (met : List Bool) (sides : List FaceSide) (side : FaceSide) (met' : List Bool) (sides' : List FaceSide) → Meets met sides side met' sides' → place side.dart.0 side.odd < length met → work met' sides' ≤ work met sides
 met_work met sides side met' sides' (before a e f) l = let h = ap₂ work e f in omega (arith, h)
 met_work met sides side met' sides' (now a e f) l =
-    let fewer = unmarked_below-set met (place side.dart.0 side.odd) (length met) l l a in
-    let h = ap₂ work e f in
     let k = length-set met (place side.dart.0 side.odd) true in
     let same = ap (count_below (λ i. not (mark_at (set met (place side.dart.0 side.odd) true) i))) k in
     let long : length (sides ++ side ∷ []) ≡ length sides + 1 = length-push sides side in
-    omega (arith, h, fewer, same, long)
+    omega (arith, ap₂ work e f, unmarked_below-set met (place side.dart.0 side.odd) (length met) l l a, same, long)
   where
     length-push : (sides : List FaceSide) (side : FaceSide) → length (sides ++ side ∷ []) ≡ length sides + 1
     length-push [] side = refl
@@ -142,8 +140,7 @@ module _ (map : Map) (known : IsHalfMap map) (base : Dart) (counts : ℕ → ℕ
       all zero d odd x y e (a, b, z) = subst (IsMet met d) (sym z) (h.begun d (e ∙ ap₂ (λ (x y : ℕ). Some (x, y)) a b))
       all (suc k) d odd x y e (x', y', odd', r, g) =
           let id = known.has_id x' y' (reaches_dart base_has k x' y' odd' r) in
-          let on = all k id.0 odd' x' y' id.1 r in
-          elim (h.closed id.0 odd' x' y' id.1 on) [
+          elim (h.closed id.0 odd' x' y' id.1 (all k id.0 odd' x' y' id.1 r)) [
             | inl w ↦ absurd (nothing w.0 (subst (λ x. Contains x w.0) none w.1))
             | inr (inl o) ↦ absurd o
             | inr (inr go) ↦ go d odd x y e g
@@ -194,8 +191,7 @@ module _ (map : Map) (known : IsHalfMap map) (base : Dart) (counts : ℕ → ℕ
   -- the start
   pub starts : (met : List Bool) (side : FaceSide) (met' : List Bool) (sides' : List FaceSide) → dart_at map side.dart.0 ≡ Some base → side.odd ≡ false → ((i : ℕ) → mark_at met i ≡ false) → length met ≡ 2 * id_bound map → Meets met [] side met' sides' → Searching met' sides' (λ d odd. ⊥)
   starts met side met' sides' dart even unset long m =
-      let small : place side.dart.0 side.odd < length met = let p = place_live map known side.dart.0 side.odd base dart in omega arith in
-      let on = met_now met [] side met' sides' m small in
+      let on = met_now met [] side met' sides' m (let p = place_live map known side.dart.0 side.odd base dart in omega arith) in
       record {
         sound = λ d odd x y e q. elim (met_cases met [] side met' sides' m d odd q) [
           | inl a ↦ absurd (true≢false (sym a ∙ unset (place d odd)))
@@ -238,10 +234,9 @@ work_less map known says side met sides met' sides' from l long =
     let p = place_live map known from.first.dart.0 from.first.odd _ one.3 in
     let q = place_live map known from.second.dart.0 from.second.odd _ two.3 in
     let l1 = met_long met sides from.first from.between from.waiting from.meets_first in
-    let l2 = met_long from.between from.waiting from.second met' sides' from.meets_second in
     let w1 = met_work met sides from.first from.between from.waiting from.meets_first (omega arith) in
     let w2 = met_work from.between from.waiting from.second met' sides' from.meets_second (omega arith) in
-    (l2 ∙ l1, omega arith)
+    ((met_long from.between from.waiting from.second met' sides' from.meets_second) ∙ l1, omega arith)
 
 -- a side less on the stack
 pub work_taken : (met : List Bool) (sides : List FaceSide) (side : FaceSide) → work met (sides ++ side ∷ []) ≡ work met sides + 1

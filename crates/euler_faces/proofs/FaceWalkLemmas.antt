@@ -135,13 +135,11 @@ walk_once map h a n i j l away m m' e =
 module _ (map : Map) (h : IsHalfMap map) (old marked : ℕ → Bool) (ids : List ℕ) (start x : ℕ) (w : IsWalking map old marked ids start x) (keeps : KeepsMarks (face_images map.lists) old) (off : old (number_at map start) ≡ false) (on : marked (number_at map x) ≡ true) where
   start-lt : number_at map start < length (face_images map.lists)
   start-lt =
-      let len = length-face_images map.lists in
-      omega (arith, number_at-lt map h start (live_start map h old marked ids start x w))
+      omega (arith, length-face_images map.lists, number_at-lt map h start (live_start map h old marked ids start x w))
 
   now-lt : number_at map x < length (face_images map.lists)
   now-lt =
-      let len = length-face_images map.lists in
-      omega (arith, number_at-lt map h x (live_now map h old marked ids start x w))
+      omega (arith, length-face_images map.lists, number_at-lt map h x (live_now map h old marked ids start x w))
 
   -- where the walk stands at a marked dart, it has met it
   met : visited (step map) (number_at map start) (length ids) (number_at map x) ≡ true
@@ -151,10 +149,8 @@ module _ (map : Map) (h : IsHalfMap map) (old marked : ℕ → Bool) (ids : List
       let a = number_at map start in
       let z = number_at map x in
       let together : Together (orbits images) a z = walk-together images p a (length ids) start-lt ∙ ap (label (orbits images)) (sym (number_now map h old marked ids start x w)) in
-      let off' : old z ≡ false = sym (orbits-closed_marks images p old keeps a z start-lt now-lt together) ∙ off in
-      let len = length-face_images map.lists in
-      elim (or_cases (old z) (visited (step map) a (length ids) z) (sym (w.marks z (rw (← len) now-lt)) ∙ on)) [
-        | inl t ↦ absurd (true≢false (sym t ∙ off'))
+      elim (or_cases (old z) (visited (step map) a (length ids) z) (sym (w.marks z (rw (← (length-face_images map.lists)) now-lt)) ∙ on)) [
+        | inl t ↦ absurd (true≢false (sym t ∙ (sym (orbits-closed_marks images p old keeps a z start-lt now-lt together) ∙ off)))
         | inr t ↦ t
       ]
 
@@ -170,7 +166,6 @@ module _ (map : Map) (h : IsHalfMap map) (old marked : ℕ → Bool) (ids : List
       let e : walk (step map) a r.0 ≡ walk (step map) a n = r.2 ∙ number_now map h old marked ids start x w in
       let p = IsPermuting-image (face_images map.lists) (IsPermutationOfBelow-face_images map.lists h.simple) in
       let d = n - r.0 in
-      let l = r.1 in
       let s : n ≡ d + r.0 = omega arith in
       let around : walk (step map) a d ≡ a = walk_apart (step map) (length (face_images map.lists)) p a start-lt r.0 d (e ∙ ap (walk (step map) a) s) in
       elim (cases_lt d n) [
@@ -206,7 +201,6 @@ module _ (map : Map) (h : IsHalfMap map) (old marked : ℕ → Bool) (ids : List
       let begins : first_number map ids ≡ a = ap (number_at map) first in
       let labels : (i : ℕ) → i < length ids → label (orbits images) (number_at map (get_or ids i 0)) ≡ a =
       λ i l. ap (label (orbits images)) (entry_number i l) ∙ (sym (walk-together images p a i start-lt) ∙ own) in
-      let low = (IsLabels-orbits images p.within).low in
       let apart : (i j : ℕ) → i < j → j < length ids → get_or ids i 0 ≢ get_or ids j 0 =
       λ i j m l e. walk_once map h a (length ids) i j (omega (arith, start-lt)) w.away m l (sym (entry_number i (omega arith)) ∙ (ap (number_at map) e ∙ entry_number j l)) in
       record {
@@ -220,7 +214,7 @@ module _ (map : Map) (h : IsHalfMap map) (old marked : ℕ → Bool) (ids : List
             | inl m ↦ absurd (apart i j m l' e)
             | inr m ↦ elim (cases_lt j i) [ inl m' ↦ absurd (apart j i m' l (sym e)) | inr m' ↦ omega arith ]
           ];
-          least = λ i l. omega (arith, begins, labels i l, low (number_at map (get_or ids i 0)));
+          least = λ i l. omega (arith, begins, labels i l, ((IsLabels-orbits images p.within).low) (number_at map (get_or ids i 0)));
         };
         begins = begins;
         labels = labels;
@@ -236,41 +230,24 @@ module _ (map : Map) (h : IsHalfMap map) (old marked : ℕ → Bool) (ids : List
 pub least_where_unmarked : (map : Map) → IsHalfMap map → (marked : ℕ → Bool) (count n : ℕ) → n < dart_count map.lists → IsCounting (face_classes map.lists) marked count n → marked n ≡ false → label (face_classes map.lists) n ≡ n
 least_where_unmarked map h marked count n l counting off =
     let images = face_images map.lists in
-    let long = length-orbits images in
     let len = length-face_images map.lists in
     let low = (IsLabels-orbits images (IsPermutationOfBelow-face_images map.lists h.simple).within).low n in
-    let above = ltb-false (label (orbits images) n) n (sym (counting.known n (omega arith)) ∙ off) in
-    omega arith
+    omega (arith, ltb-false (label (orbits images) n) n (sym (counting.known n (omega (arith, length-orbits images))) ∙ off))
 
 -- and one that is marked is not
 pub other_where_marked : (map : Map) → IsHalfMap map → (marked : ℕ → Bool) (count n : ℕ) → n < dart_count map.lists → IsCounting (face_classes map.lists) marked count n → marked n ≡ true → label (face_classes map.lists) n ≢ n
 other_where_marked map h marked count n l counting on e =
     let images = face_images map.lists in
-    let long = length-orbits images in
     let len = length-face_images map.lists in
-    let below = ltb-true (label (orbits images) n) n (sym (counting.known n (omega arith)) ∙ on) in
-    omega arith
+    omega (arith, ltb-true (label (orbits images) n) n (sym (counting.known n (omega (arith, length-orbits images))) ∙ on))
 
 -- none yet
 pub AreWalksBelow-none : (map : Map) → AreWalksBelow map [] 0
-AreWalksBelow-none map = record {
-  each = λ f l. absurd (omega arith);
-  below = λ f l. absurd (omega arith);
-  rising = λ f g m l. absurd (omega arith);
-  found = λ j l own. absurd (omega arith);
-}
+AreWalksBelow-none map = grind arith
 
 -- a dart that is not the least of its face changes nothing
 pub AreWalksBelow-old : (map : Map) (walks : List (List ℕ)) (n m : ℕ) → AreWalksBelow map walks n → label (face_classes map.lists) n ≢ n → m ≡ n + 1 → AreWalksBelow map walks m
-AreWalksBelow-old map walks n m w other s = record {
-  each = w.each;
-  below = λ f l. omega (arith, w.below f l);
-  rising = w.rising;
-  found = λ j l own. elim (cases_lt j n) [
-    | inl m' ↦ w.found j m' own
-    | inr m' ↦ absurd (let e : j ≡ n = omega arith in other (subst (λ k. label (face_classes map.lists) k ≡ k) e own))
-  ];
-}
+AreWalksBelow-old map walks n m w other s = grind (arith, cases_lt, label, face_classes)
 
 -- the face of the next least dart
 pub AreWalksBelow-new : (map : Map) (walks : List (List ℕ)) (ids : List ℕ) (n m : ℕ) → AreWalksBelow map walks n → IsWholeWalk map ids n → m ≡ n + 1 → AreWalksBelow map (walks ++ ids ∷ []) m
@@ -279,13 +256,12 @@ AreWalksBelow-new map walks ids n m w new s =
     let more = walks ++ ids ∷ [] in
     let before : (f : ℕ) → f < length walks → walk_at walks f ≡ walk_at more f = λ f l. sym (get_or_append_left walks (ids ∷ []) [] f l) in
     let last : (f : ℕ) → f ≡ length walks → ids ≡ walk_at more f = λ f e. sym (get_or_push walks ids [] f (sym e)) in
-    let whole : IsWholeWalk map ids (first_number map ids) = subst (IsWholeWalk map ids) (sym new.begins) new in
     let first_old : (f : ℕ) → f < length walks → first_number map (walk_at more f) ≡ first_number map (walk_at walks f) = λ f l. ap (first_number map) (sym (before f l)) in
     let first_new : (f : ℕ) → f ≡ length walks → first_number map (walk_at more f) ≡ n = λ f e. ap (first_number map) (sym (last f e)) ∙ new.begins in
     record {
       each = λ f l. elim (cases_lt f (length walks)) [
         | inl k ↦ subst (λ u. IsWholeWalk map u (first_number map u)) (before f k) (w.each f k)
-        | inr k ↦ subst (λ u. IsWholeWalk map u (first_number map u)) (last f (omega arith)) whole
+        | inr k ↦ subst (λ u. IsWholeWalk map u (first_number map u)) (last f (omega arith)) (subst (IsWholeWalk map ids) (sym new.begins) new)
       ];
       below = λ f l. elim (cases_lt f (length walks)) [
         | inl k ↦ omega (arith, first_old f k, w.below f k)
@@ -306,13 +282,11 @@ pub AreWalksBelow-all : (map : Map) → IsHalfMap map → (walks : List (List �
 AreWalksBelow-all map h walks n w e =
     let images = face_images map.lists in
     let labels = orbits images in
-    let p = IsPermutationOfBelow-face_images map.lists h.simple in
-    let is = IsLabels-orbits images p.within in
+    let is = IsLabels-orbits images (IsPermutationOfBelow-face_images map.lists h.simple).within in
     let apart : (f g d : ℕ) → f < g → g < length walks → Contains (walk_at walks f) d → Contains (walk_at walks g) d → ⊥ =
     λ f g d m l c c'.
     let one : label labels (number_at map d) ≡ first_number map (walk_at walks f) = label_in f d (omega arith) c in
-    let other : label labels (number_at map d) ≡ first_number map (walk_at walks g) = label_in g d l c' in
-    omega (arith, w.rising f g m l) in
+    omega (arith, label_in g d l c', w.rising f g m l) in
     record {
       each = λ f l. (w.each f l).is_walk;
       all = λ d live.
@@ -337,19 +311,12 @@ AreWalksBelow-all map h walks n w e =
 module _ (map : Map) (h : IsHalfMap map) where
   -- no dart has a face yet
   pub AreWalked-none : (of : List ℕ) → length of ≡ id_bound map → ((i : ℕ) → mark_at (with_face of) i ≡ false) → AreWalked map [] of 0
-  AreWalked-none of size off = record {
-    size = size;
-    counting = IsCounting-none (face_classes map.lists) (mark_of map (with_face of)) (λ i l. off (id_of map i));
-    walked = AreWalksBelow-none map;
-    placed = λ f i l m. absurd (omega arith);
-  }
+  AreWalked-none of size off = grind (arith, IsCounting-none, face_classes, mark_of, with_face, id_of, AreWalksBelow-none)
 
   module _ (walks : List (List ℕ)) (of : List ℕ) (d : ℕ) (live : IsLive map d) (w : AreWalked map walks of (number_at map d)) where
     labels_long : number_at map d < length (face_classes map.lists)
     labels_long =
-        let n = length-face_images map.lists in
-        let o = length-orbits (face_images map.lists) in
-        omega (arith, number_at-lt map h d live)
+        omega (arith, length-orbits (face_images map.lists), length-face_images map.lists, number_at-lt map h d live)
 
     are_labels : IsLabels (face_classes map.lists)
     are_labels = IsLabels-orbits (face_images map.lists) (IsPermutationOfBelow-face_images map.lists h.simple).within
@@ -372,12 +339,7 @@ module _ (map : Map) (h : IsHalfMap map) where
 
     -- a dart that has a face changes nothing
     pub AreWalked-old : mark_at (with_face of) d ≡ true → AreWalked map walks of (number_at map d + 1)
-    AreWalked-old on = record {
-      size = w.size;
-      counting = IsCounting-old (face_classes map.lists) (mark_of map (with_face of)) (length walks) (number_at map d) _ are_labels w.counting labels_long (seen ∙ on) refl;
-      walked = AreWalksBelow-old map walks (number_at map d) _ w.walked (other_where_marked map h (mark_of map (with_face of)) (length walks) (number_at map d) (number_at-lt map h d live) w.counting (seen ∙ on)) refl;
-      placed = w.placed;
-    }
+    AreWalked-old on = grind (arith, IsCounting-old, face_classes, mark_of, with_face, length, number_at, are_labels, labels_long, seen, AreWalksBelow-old, other_where_marked, number_at-lt)
 
     -- a face is walked
     pub AreWalked-new : (walk of' : List ℕ) → mark_at (with_face of) d ≡ false → length of' ≡ length of → ((i : ℕ) → i < dart_count map.lists → mark_of map (with_face of') i ≡ (mark_of map (with_face of) i || same_class (face_classes map.lists) (number_at map d) i)) → IsWholeWalk map walk (number_at map d) → IsNumberedBy no_face of of' (length walks) → ((i : ℕ) → i < length walk → get_or of' (get_or walk i 0) 0 ≡ length walks) → AreWalked map (walks ++ walk ∷ []) of' (number_at map d + 1)
@@ -419,12 +381,4 @@ stands walks f ds e k d l =
 
 -- the number f is written at one dart more, and stands at each dart of the walk
 pub here_more : (of : List ℕ) (ids : List ℕ) (f d : ℕ) → d < length of → ((i : ℕ) → i < length ids → get_or of (get_or ids i 0) 0 ≡ f) → (i : ℕ) → i < length (ids ++ d ∷ []) → get_or (set of d f) (get_or (ids ++ d ∷ []) i 0) 0 ≡ f
-here_more of ids f d l h i m =
-    elim (cases_eq (get_or (ids ++ d ∷ []) i 0) d) [
-      | inl q ↦ ap (λ y. get_or (set of d f) y 0) q ∙ get_or-set_same of d f 0 l
-      | inr ne ↦
-          get_or-set_other of d (get_or (ids ++ d ∷ []) i 0) f 0 ne ∙ elim (cases_lt i (length ids)) [
-            | inl k ↦ ap (λ y. get_or of y 0) (get_or_append_left ids (d ∷ []) 0 i k) ∙ h i k
-            | inr k ↦ absurd (let q : i ≡ length ids = omega (arith, length_push ids d) in ne (get_or_push ids d 0 i (sym q)))
-          ]
-    ]
+here_more of ids f d l h i m = grind (arith, cases_eq, get_or, set, get_or-set_same, get_or-set_other, cases_lt, length, get_or_append_left, length_push, get_or_push)

@@ -30,12 +30,10 @@ isolated_count_some lists v l some = isolated_count_more lists v l ∙ by_list (
 -- labels of at least one number have a class
 some_class : (labels : List ℕ) → IsLabels labels → 0 < length labels → 1 ≤ class_count labels
 some_class labels w some =
-    let low = w.low 0 in
     count_below_into (λ i. 0) (λ i. true) (λ i. eqb (label labels i) i) 1 (length labels) (λ i l t. (omega arith, eq-eqb (label labels 0) 0 (omega arith))) (λ i j l m t u e. omega arith)
 
 -- where a map with an edge has one component, no vertex is isolated
 pub none_isolated : (lists : Lists) → IsSimpleMap lists → component_count lists ≡ 1 → 0 < dart_count lists → isolated_count lists ≡ 0
 none_isolated lists simple one some =
     let long = length-joint (rotation lists) (twin lists) (dart_count lists) (IsPermuting-rotation lists simple).within (IsPairing-twin lists simple).within in
-    let class = some_class (dart_classes lists simple) (IsLabels-dart_classes lists simple) (omega arith) in
-    omega (arith, component_count-classes lists simple)
+    omega (arith, some_class (dart_classes lists simple) (IsLabels-dart_classes lists simple) (omega arith), component_count-classes lists simple)

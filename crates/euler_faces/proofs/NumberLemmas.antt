@@ -64,31 +64,19 @@ module _ (map : Map) (h : IsHalfMap map) where
   pub number_at-lt : (d : ℕ) → IsLive map d → number_at map d < dart_count map.lists
   number_at-lt d live =
       let x = some_of (dart_at map d) live in
-      let is = h.is_dart d x.0.0 x.0.1 x.1 in
-      rw (number_at-is map d x.0.0 x.0.1 x.1) (dart_number-lt map.lists x.0.0 x.0.1 is)
+      rw (number_at-is map d x.0.0 x.0.1 x.1) (dart_number-lt map.lists x.0.0 x.0.1 (h.is_dart d x.0.0 x.0.1 x.1))
 
   -- a live id is below the count of ids
   pub live-lt : (d : ℕ) → IsLive map d → d < id_bound map
   live-lt d live =
-      let x = some_of (dart_at map d) live in
       elim (cases_lt d (length map.ids)) [
         | inl l ↦ (let few = h.few_ids in omega arith)
-        | inr l ↦ absurd (let e = sym (get_or_past map.ids d None l) ∙ x.1 in cc)
+        | inr l ↦ absurd (let e = sym (get_or_past map.ids d None l) ∙ (some_of (dart_at map d) live).1 in cc)
       ]
 
   -- the mark of a live id set is the mark of its number set
   pub SetsMark-set : (marked : List Bool) (d : ℕ) → IsLive map d → d < length marked → SetsMark (dart_count map.lists) (mark_of map marked) (mark_of map (set marked d true)) (number_at map d)
-  SetsMark-set marked d live l =
-      let x = some_of (dart_at map d) live in
-      let number = number_at-is map d x.0.0 x.0.1 x.1 in
-      let back = id_of-number d x.0.0 x.0.1 x.1 in
-      record {
-        here = rw (number, back) (get_or-set_same marked d true false l);
-        elsewhere = λ i in_range other. get_or-set_other marked d (id_of map i) true false (λ (same : id_of map i ≡ d).
-            let dart : Some (get_or (darts map.lists) i (0, 0)) ≡ Some x.0 = sym (id_of-is i in_range) ∙ ap (dart_at map) same ∙ x.1 in
-            let is : get_or (darts map.lists) i (0, 0) ≡ x.0 = cc in
-            other (sym (dart_of_number i in_range).number ∙ ap (dart_number map.lists) is ∙ sym number));
-      }
+  SetsMark-set marked d live l = grind (arith, some_of, dart_at, number_at-is, id_of-number, get_or-set_same, get_or-set_other, id_of, Some, get_or, darts, id_of-is, dart_of_number)
 
   -- where the mark of a number stands
   pub mark_of-number : (marked : List Bool) (d : ℕ) → IsLive map d → mark_of map marked (number_at map d) ≡ mark_at marked d
@@ -105,11 +93,9 @@ module _ (map : Map) (h : IsHalfMap map) where
   face_step-number d e live step =
       let x = some_of (dart_at map d) live in
       let is = h.is_dart d x.0.0 x.0.1 x.1 in
-      let l = dart_number-lt map.lists x.0.0 x.0.1 is in
-      let to : dart_at map e ≡ Some (face_step map.lists x.0) = step ∙ ap (option_map (face_step map.lists)) x.1 in
-      number_at-is map e (face_step map.lists x.0).0 (face_step map.lists x.0).1 to
+      number_at-is map e (face_step map.lists x.0).0 (face_step map.lists x.0).1 (step ∙ ap (option_map (face_step map.lists)) x.1)
       ∙ ap (λ (y : Dart). dart_number map.lists (face_step map.lists y)) (sym (get_or-dart_number map.lists x.0.0 x.0.1 (0, 0) is))
-      ∙ sym (get_or-face_images map.lists (dart_number map.lists x.0) (dart_number map.lists x.0) (0, 0) l)
+      ∙ sym (get_or-face_images map.lists (dart_number map.lists x.0) (dart_number map.lists x.0) (0, 0) (dart_number-lt map.lists x.0.0 x.0.1 is))
       ∙ ap (image (face_images map.lists)) (sym (number_at-is map d x.0.0 x.0.1 x.1))
 
 place_after-zero : (n k : ℕ) → k < n → place_after n k ≡ 0 → k + 1 ≡ n
@@ -144,22 +130,11 @@ module _ (map : Map) (h : IsHalfMap map) (d e first v : ℕ) (live : IsLive map 
       let zero_place : place_of (get_or (list_of map.lists v) 0 0) (list_of map.lists v) ≡ 0 = place_of-get_or (list_of map.lists v) 0 0 (h.simple.no_repeat v has.0) (omega arith) in
       let at_zero : place_after (length (list_of map.lists v)) (place_of u (list_of map.lists v)) ≡ 0 = sym next-place ∙ ap (λ (x : ℕ). place_of x (list_of map.lists v)) heads ∙ zero_place in
       let last = place_after-zero (length (list_of map.lists v)) (place_of u (list_of map.lists v)) within at_zero in
-      let more = darts_before_more map.lists v in
-      rw (number_at-is map d v u is) (omega arith)
+      rw (number_at-is map d v u is) (omega (arith, darts_before_more map.lists v))
 
   -- else the next dart has the next number
   pub next-number : e ≢ first → number_at map e ≡ number_at map d + 1
-  next-number other =
-      let has = h.is_dart d v u is in
-      let within = place_of-lt-length u (list_of map.lists v) has.1 in
-      elim (cases_lt (place_of u (list_of map.lists v) + 1) (length (list_of map.lists v))) [
-        | inl l ↦
-            (let after = next-place ∙ place_after-inside (length (list_of map.lists v)) (place_of u (list_of map.lists v)) l in
-            rw (number_at-is map e v (follows map.lists v u) next-to, number_at-is map d v u is) (omega arith))
-        | inr l ↦
-            absurd (other (h.one_id e first v (follows map.lists v u) next-to
-            (begins ∙ ap (λ (x : ℕ). Some (v, x)) (sym (entry_after-place u (list_of map.lists v) 0 within ∙ ap (λ (k : ℕ). get_or (list_of map.lists v) k 0) (place_after-end (length (list_of map.lists v)) (place_of u (list_of map.lists v)) l))))))
-      ]
+  next-number other = grind (arith, place_of-lt-length, list_of, cases_lt, place_of, length, next-place, place_after-inside, number_at-is, follows, next-to, Some, entry_after-place)
 
 -- a step of a round: the next dart is one of the vertex too, and the darts before it are those before this one and itself
 module _ (map : Map) (h : IsHalfMap map) (d e first v : ℕ) (dart : (u : ℕ) × (dart_at map d ≡ Some (v, u))) (step : dart_at map e ≡ option_map (next_dart map.lists) (dart_at map d)) (begins : dart_at map first ≡ Some (v, get_or (list_of map.lists v) 0 0)) where
@@ -186,6 +161,5 @@ none_at map v none = omega (arith, darts_before_more map.lists v, ap length none
 pub few_darts : (map : Map) → IsHalfMap map → dart_count map.lists ≤ 16769025
 few_darts map h =
     let le = dart_count-le map.lists h.simple.in_range h.simple.no_repeat in
-    let few = h.few_vertices in
     let square : length map.lists * length map.lists ≤ 4095 * 4095 = grind arith in
     omega arith

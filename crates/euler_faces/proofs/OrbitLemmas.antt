@@ -38,8 +38,7 @@ module _ (lists : Lists) (twins : List ℕ) (are : AreTwins (darts lists) twins 
   pub none_walked : dart_count lists < 16777216 → (i : ℕ) → i < dart_count lists → walked twins i ≡ false
   none_walked few i l =
       let n = length-darts lists in
-      let within = slice_get_within (darts lists) (get_or twins i 0) _ (are.at i (omega (arith, l))) in
-      ne_eqb (get_or twins i 0) 4294967295 (omega arith)
+      ne_eqb (get_or twins i 0) 4294967295 (omega (arith, slice_get_within (darts lists) (get_or twins i 0) _ (are.at i (omega (arith, l)))))
 
 -- the k-th of n numbers from s on, and the one after it, cyclically
 after-place : (s n k e : ℕ) → k < n → s + n ≡ e → cond (eqb (s + k + 1) e) s (s + k + 1) ≡ s + place_after n k
@@ -64,22 +63,21 @@ module _ (ends entries : List ℕ) (cuts : AreCuts 0 ends (length entries)) (sim
       let count = count-is ends entries cuts in
       let dart : Dart = get_or (darts lists) d (0, 0) in
       let u = dart.1 in
-      let v = dart.0 in
       let t_in : t < dart_count lists = omega (arith, slice_get_within (darts lists) t (twin_dart dart) found) in
-      let twin : get_or (darts lists) t (0, 0) ≡ (u, v) = get_or_from_slice_get (darts lists) t (twin_dart dart) (0, 0) found in
+      let twin : get_or (darts lists) t (0, 0) ≡ (u, dart.0) = get_or_from_slice_get (darts lists) t (twin_dart dart) (0, 0) found in
       let is = IsDartNumber-darts lists t (0, 0) simple.no_repeat t_in in
-      let has : HasDart lists u v = subst (λ (x : Dart). HasDart lists x.0 x.1) twin is.is_dart in
-      let number : dart_number lists (u, v) ≡ t = ap (λ (x : Dart). dart_number lists x) (sym twin) ∙ is.number in
+      let has : HasDart lists u dart.0 = subst (λ (x : Dart). HasDart lists x.0 x.1) twin is.is_dart in
+      let number : dart_number lists (u, dart.0) ≡ t = ap (λ (x : Dart). dart_number lists x) (sym twin) ∙ is.number in
       let us = list_of lists u in
-      let k = place_of v us in
-      let k_in = place_of-lt-length v us has.1 in
+      let k = place_of dart.0 us in
+      let k_in = place_of-lt-length dart.0 us has.1 in
       let u_in : u < length ends = omega (arith, has.0, length-cut 0 ends entries) in
       let s = get_or (0 ∷ ends) u 0 in
       let at : t ≡ s + k = sym number ∙ ap (λ x. x + k) (start-is ends entries cuts u (omega arith)) in
       let head : u ≡ get_or entries d 0 = dart_head d l in
       let next : cond (eqb (s + k + 1) (get_or ends u 0)) s (s + k + 1) ≡ s + place_after (length us) k = after-place s (length us) k (get_or ends u 0) k_in (end-is ends entries cuts u u_in) in
       let along : s + place_after (length us) k ≡ image (face_images lists) d =
-      ap₂ (λ x y. x + y) (sym (start-is ends entries cuts u (omega arith))) (sym (place_of-entry_after v us (simple.no_repeat u has.0) has.1))
+      ap₂ (λ x y. x + y) (sym (start-is ends entries cuts u (omega arith))) (sym (place_of-entry_after dart.0 us (simple.no_repeat u has.0) has.1))
       ∙ sym (get_or-face_images lists d d (0, 0) (omega arith)) in (
         omega (arith, u_in, head),
         omega (arith, t_in),

@@ -28,8 +28,7 @@ unmarked_below-set marked w n l in_list off =
 All-darts : (lists : Lists) (P : Dart → Type 0) → IsSimpleMap lists → ((v u : ℕ) → HasDart lists v u → P (v, u)) → All P (darts lists)
 All-darts lists P simple each k d l =
     let n = length-darts lists in
-    let is = IsDartNumber-darts lists k d simple.no_repeat (omega arith) in
-    each (get_or (darts lists) k d).0 (get_or (darts lists) k d).1 is.is_dart
+    each (get_or (darts lists) k d).0 (get_or (darts lists) k d).1 (IsDartNumber-darts lists k d simple.no_repeat (omega arith)).is_dart
 
 -- the ends of each dart are vertices
 pub components-below : (lists : Lists) → IsSimpleMap lists → PairsBelow (length lists) (darts lists)
@@ -98,55 +97,29 @@ unset_after none old items n k u empty e = rw (e, empty, take-nil) (unset none k
 
 -- one vertex gets the number
 pub IsNumbered-set : (none : ℕ) (numbers : List ℕ) (w number : ℕ) → number < none → w < length numbers → mark_at (marks_by none numbers) w ≡ false → IsNumberedBy none numbers (set numbers w number) number
-IsNumbered-set none numbers w number few l off =
-    let e = marks-set none numbers w number few in
-    record {
-      marked = λ u t. rw e (set-keeps (marks_by none numbers) w u (omega (arith, length-marks_of none numbers)) t);
-      stays = λ u t. elim (cases_eq u w) [
-        | inl q ↦ absurd (false≢true (sym off ∙ (ap (mark_at (marks_by none numbers)) (sym q) ∙ t)))
-        | inr ne ↦ get_or-set_other numbers w u number 0 ne
-      ];
-      here = λ u f t. elim (cases_eq u w) [
-        | inl q ↦ ap (λ i. get_or (set numbers w number) i 0) q ∙ get_or-set_same numbers w number 0 l
-        | inr ne ↦ absurd (false≢true (sym f ∙ (sym (get_or-set_other (marks_by none numbers) w u true false ne) ∙ rw e at t)))
-      ];
-    }
+IsNumbered-set none numbers w number few l off = grind (arith, marks-set, set-keeps, marks_by, length-marks_of, cases_eq, false≢true, mark_at, get_or-set_other, get_or, set, get_or-set_same)
 
 -- and more get it
 pub IsNumbered-chained : (none : ℕ) (one two three : List ℕ) (number : ℕ) → IsNumberedBy none one two number → IsNumberedBy none two three number → IsNumberedBy none one three number
-IsNumbered-chained none one two three number h h' = record {
-  marked = λ u t. h'.marked u (h.marked u t);
-  stays = λ u t. h'.stays u (h.marked u t) ∙ h.stays u t;
-  here = λ u f t. elim (cases_Bool (mark_at (marks_by none two) u)) [
-    | inl on ↦ h'.stays u on ∙ h.here u f on
-    | inr off ↦ h'.here u off t
-  ];
-}
+IsNumbered-chained none one two three number h h' = grind (arith, cases_Bool, mark_at, marks_by)
 
 -- the component of a vertex that had no number has got the count of those before: all numbers are those of components
 pub component_numbers : (lists : Lists) (old new : List ℕ) (count v : ℕ) → IsSimpleMap lists → IsCounting (component_classes lists) (mark_at (marks_of old)) count v → v < length lists → mark_at (marks_of old) v ≡ false → ((i : ℕ) → i < length lists → mark_at (marks_of new) i ≡ (mark_at (marks_of old) i || same_class (component_classes lists) v i)) → IsNumbered old new count → ((u : ℕ) → u < length lists → mark_at (marks_of old) u ≡ true → get_or old u 0 ≡ component_number lists u) → (u : ℕ) → u < length lists → mark_at (marks_of new) u ≡ true → get_or new u 0 ≡ component_number lists u
 component_numbers lists old new count v simple h l off marks numbered before u m on =
     let C = component_classes lists in
     let n = length-classes (length lists) (darts lists) in
-    let labels = IsLabels-classes (length lists) (darts lists) (components-below lists simple) in
     elim (cases_Bool (mark_at (marks_of old) u)) [
       | inl t ↦ numbered.stays u t ∙ before u m t
       | inr f ↦
-          let same : same_class C v u ≡ true = sym (ap (λ b. b || same_class C v u) f) ∙ (sym (marks u m) ∙ on) in
-          let together = Together-from C v u same in
+          let together = Together-from C v u (sym (ap (λ b. b || same_class C v u) f) ∙ (sym (marks u m) ∙ on)) in
           let above = ltb-false (label C v) v (sym (h.known v (omega arith)) ∙ off) in
-          let own : label C v ≡ v = omega (arith, labels.low v) in
+          let own : label C v ≡ v = omega (arith, (IsLabels-classes (length lists) (darts lists) (components-below lists simple)).low v) in
           numbered.here u f on ∙ (h.counted ∙ ap (count_below (λ j. label C j == j)) (sym own ∙ together))
     ]
 
 -- before the first vertex is pushed
 pub search-start : (lists : Lists) (old : List Bool) (queue : List ℕ) (filled start : ℕ) → ((u : ℕ) → u < length lists → mark_at old u ≡ true → AllMarked lists old u) → IsSearching lists old old queue filled filled start None_open
-search-start lists old queue filled start kept = record {
-  stays = λ u l t. t;
-  only = λ u l t. inl t;
-  closed = λ u l t. inr (inr (kept u l t));
-  waiting = λ u has. absurd (omega (arith, has.1, has.2));
-}
+search-start lists old queue filled start kept = grind arith
 
 module _ (lists : Lists) (old marked : List Bool) (queue : List ℕ) (next filled start : ℕ) where
   -- a vertex of the component is marked, and stands behind the queue
@@ -162,13 +135,7 @@ module _ (lists : Lists) (old marked : List Bool) (queue : List ℕ) (next fille
         ];
         closed = λ u m t. elim (cases_eq u w) [
           | inl e ↦ inl (filled, order, omega arith, last ∙ sym e)
-          | inr ne ↦ elim (h.closed u m (sym (get_or-set_other marked w u true false ne) ∙ t)) [
-            | inl c ↦ inl (c.0, c.1, omega (arith, c.2), (let other : c.0 ≢ filled = omega (arith, c.2) in get_or-set_other queue filled c.0 w 0 other ∙ c.3))
-            | inr other ↦ elim other [
-              | inl o ↦ inr (inl o)
-              | inr all ↦ inr (inr (λ x has. keeps x (all x has)))
-            ]
-          ]
+          | inr ne ↦ grind (arith, get_or-set_other)
         ];
         waiting = λ u has. elim (cases_eq has.0 filled) [
           | inl e ↦
@@ -199,18 +166,7 @@ module _ (lists : Lists) (old marked : List Bool) (queue : List ℕ) (next fille
 
   -- all neighbours of the open vertex are marked
   pub search-close : (u : ℕ) → IsSearching lists old marked queue next filled start (λ x. x ≡ u) → AllMarked lists marked u → IsSearching lists old marked queue next filled start None_open
-  search-close u h all = record {
-    stays = h.stays;
-    only = h.only;
-    closed = λ x m t. elim (h.closed x m t) [
-      | inl c ↦ inl c
-      | inr other ↦ elim other [
-        | inl e ↦ inr (inr (subst (λ (y : ℕ). AllMarked lists marked y) (sym e) all))
-        | inr done ↦ inr (inr done)
-      ]
-    ];
-    waiting = h.waiting;
-  }
+  search-close u h all = grind (arith, AllMarked)
 
   -- where all vertices are marked, the component of start is, and nothing else that was not
   pub search-full : (open_at : ℕ → Type 0) → IsSearching lists old marked queue next filled start open_at → ((u : ℕ) → u < length lists → mark_at marked u ≡ true) → (i : ℕ) → i < length lists → mark_at marked i ≡ (mark_at old i || same_class (component_classes lists) start i)
@@ -252,8 +208,7 @@ search-kept lists marked count v simple h u l t w has =
 -- where all entries of its list are marked, all neighbours are
 pub AllMarked-from_places : (lists : Lists) (marked : List Bool) (u : ℕ) → ((k : ℕ) → k < length (list_of lists u) → mark_at marked (get_or (list_of lists u) k 0) ≡ true) → AllMarked lists marked u
 AllMarked-from_places lists marked u all w has =
-    let at = has.1 in
-    ap (mark_at marked) (sym (get_or_default (list_of lists u) at.0 0 w at.1 ∙ at.2)) ∙ all at.0 at.1
+    ap (mark_at marked) (sym (get_or_default (list_of lists u) has.1.0 0 w has.1.1 ∙ has.1.2)) ∙ all has.1.0 has.1.1
 
 module _ (ends entries : List ℕ) (cuts : AreCuts 0 ends (length entries)) (v : ℕ) (v_in : v < length ends) where
   -- an entry of v's list is a neighbour

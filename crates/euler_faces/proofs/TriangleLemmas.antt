@@ -23,9 +23,7 @@ one_of_three l a b c ab bc ac h = grind (arith, nat_tests)
 count_of_three : (p q r : ℕ → Bool) (n : ℕ) → ((i : ℕ) → i < n → one_if (p i) + one_if (q i) + one_if (r i) ≡ 1) → count_below p n + count_below q n + count_below r n ≡ n
 count_of_three p q r zero h = refl
 count_of_three p q r (suc n) h =
-    let below = count_of_three p q r n (λ i l. h i (omega arith)) in
-    let here = h n (omega arith) in
-    omega arith
+    omega (arith, count_of_three p q r n (λ i l. h i (omega arith)))
 
 -- orbits of three numbers each
 module _ (images : List ℕ) (perm : IsPermutationOfBelow images) (back : (i : ℕ) → i < length images → image images (image images (image images i)) ≡ i) (other : (i : ℕ) → i < length images → image images i ≢ i) where
@@ -47,12 +45,10 @@ module _ (images : List ℕ) (perm : IsPermutationOfBelow images) (back : (i : �
   -- of each number and its two images just one is its own label
   own_of_three : (i : ℕ) → i < length images → one_if (own i) + one_if (own (f i)) + one_if (own (f (f i))) ≡ 1
   own_of_three i m =
-      let w = IsPermuting-image images perm in
       let labels = IsLabels-orbits images perm.within in
-      let size = length-orbits images in
       let l = label L i in
-      let l_in : l < length images = (let h = label-lt L labels i (omega arith) in omega arith) in
-      let m1 : f i < length images = w.within i m in
+      let l_in : l < length images = (let h = label-lt L labels i (omega (arith, length-orbits images)) in omega arith) in
+      let m1 : f i < length images = (IsPermuting-image images perm).within i m in
       let one : label L (f i) ≡ l = sym (orbits-step images perm.within i m) in
       let two : label L (f (f i)) ≡ l = sym (orbits-step images perm.within (f i) m1) ∙ one in
       let met = visited_at f i 3 l (visited_is_orbit images perm i 3 m (omega arith) (back i m) l l_in ∙ same_class-from L i l (Together-label L labels i)) in
@@ -67,11 +63,9 @@ module _ (images : List ℕ) (perm : IsPermutationOfBelow images) (back : (i : �
   orbits_of_three =
       let k = length images in
       let w = IsPermuting-image images perm in
-      let one = count_below-images f k w own in
-      let two = count_below-images f k w (λ i. own (f i)) in
       let three = count_of_three own (λ i. own (f i)) (λ i. own (f (f i))) k own_of_three in
       let all : class_count L ≡ count_below own k = ap (count_below own) (length-orbits images) in
-      omega arith
+      omega (arith, count_below-images f k w (λ i. own (f i)), count_below-images f k w own)
 
 -- faces of three darts each
 module _ (lists : Lists) (simple : IsSimpleMap lists) (corners : AreCornersBelow lists (dart_count lists)) where
@@ -83,11 +77,10 @@ module _ (lists : Lists) (simple : IsSimpleMap lists) (corners : AreCornersBelow
   thrice v u has =
       let w = follows lists u v in
       let x = follows lists w u in
-      let here = corner v u has in
       let uv = simple.both_ways v u has in
       let next = corner u w (HasDart-follows lists u v uv) in
       let same : x ≡ v = entry_after-injective (list_of lists u) x v (simple.no_repeat u uv.0) next.joined.1 uv.1 next.back in
-      ap₂ (λ (y z : ℕ). (y, z)) same (ap (λ (y : ℕ). follows lists y w) same ∙ here.back)
+      ap₂ (λ (y z : ℕ). (y, z)) same (ap (λ (y : ℕ). follows lists y w) same ∙ (corner v u has).back)
 
   image_at : (d : Dart) → HasDart lists d.0 d.1 → image (face_images lists) (dart_number lists d) ≡ dart_number lists (face_step lists d)
   image_at d has =
@@ -96,10 +89,9 @@ module _ (lists : Lists) (simple : IsSimpleMap lists) (corners : AreCornersBelow
 
   faces_back : (i : ℕ) → i < length (face_images lists) → image (face_images lists) (image (face_images lists) (image (face_images lists) i)) ≡ i
   faces_back i l =
-      let n = length-face_images lists in
       let f = image (face_images lists) in
       let d : Dart = get_or (darts lists) i (0, 0) in
-      let is = IsDartNumber-darts lists i (0, 0) simple.no_repeat (omega arith) in
+      let is = IsDartNumber-darts lists i (0, 0) simple.no_repeat (omega (arith, length-face_images lists)) in
       let has1 = HasDart-face_step lists d simple is.is_dart in
       let has2 = HasDart-face_step lists (face_step lists d) simple has1 in
       let one : f i ≡ dart_number lists (face_step lists d) = ap f (sym is.number) ∙ image_at d is.is_dart in
@@ -109,9 +101,8 @@ module _ (lists : Lists) (simple : IsSimpleMap lists) (corners : AreCornersBelow
 
   faces_other : (i : ℕ) → i < length (face_images lists) → image (face_images lists) i ≢ i
   faces_other i l e =
-      let n = length-face_images lists in
       let d : Dart = get_or (darts lists) i (0, 0) in
-      let is = IsDartNumber-darts lists i (0, 0) simple.no_repeat (omega arith) in
+      let is = IsDartNumber-darts lists i (0, 0) simple.no_repeat (omega (arith, length-face_images lists)) in
       let one = ap (image (face_images lists)) (sym is.number) ∙ image_at d is.is_dart in
       let same = dart_number-injective lists (face_step lists d) d (HasDart-face_step lists d simple is.is_dart) is.is_dart (sym one ∙ (e ∙ sym is.number)) in
       simple.no_loop d.0 d.1 is.is_dart (ap (λ (x : Dart). x.0) same)
@@ -132,7 +123,6 @@ module _ (ends entries : List ℕ) (cuts : AreCuts 0 ends (length entries)) (sim
       let lists = cut 0 ends entries in
       let long = length-cut 0 ends entries in
       let count = count-is ends entries cuts in
-      let images = length-face_images lists in
       let s = get_or (0 ∷ ends) v 0 in
       let us = list_of lists v in
       let n = length us in
@@ -142,15 +132,13 @@ module _ (ends entries : List ℕ) (cuts : AreCuts 0 ends (length entries)) (sim
       let at : s + j ≡ d = omega arith in
       let k = place_before n j in
       let k_in = place_before-lt n j j_in in
-      let distinct = simple.no_repeat v (omega arith) in
       let u = get_or us j 0 in
       let p = get_or us k 0 in
       let dart : get_or (darts lists) d (0, 0) ≡ (v, u) =
       ap (λ x. get_or (darts lists) x (0, 0)) (sym at) ∙ (dart-is ends entries cuts v j v_in j_in ∙ ap (λ x. (v, x)) (sym (entry-is ends entries cuts v j v_in j_in))) in
-      let has = HasDart-at lists v j 0 (omega arith) j_in in
       let before = HasDart-at lists v k 0 (omega arith) k_in in
       let w = follows lists u v in
-      let next = HasDart-face_step lists (v, u) simple has in
+      let next = HasDart-face_step lists (v, u) simple (HasDart-at lists v j 0 (omega arith) j_in) in
       let step : image (face_images lists) d ≡ dart_number lists (u, w) =
       get_or-face_images lists d d (0, 0) (omega arith) ∙ ap (λ (e : Dart). dart_number lists (face_step lists e)) dart in
       let step_in : dart_number lists (u, w) < length entries = (let h = dart_number-lt lists u w next in omega arith) in
@@ -158,7 +146,7 @@ module _ (ends entries : List ℕ) (cuts : AreCuts 0 ends (length entries)) (sim
       ap (λ x. get_or entries x 0) step ∙ (sym (dart_head ends entries cuts simple (dart_number lists (u, w)) step_in) ∙ ap (λ (e : Dart). e.1) (get_or-dart_number lists u w (0, 0) next)) in
       let is : w ≡ p =
       sym entry ∙ (test ∙ (ap (λ x. get_or entries x 0) (before_place s n d (get_or ends v 0) low high all) ∙ sym (entry-is ends entries cuts v k v_in k_in))) in
-      let place = place_of-get_or us k 0 distinct k_in in
+      let place = place_of-get_or us k 0 (simple.no_repeat v (omega arith)) k_in in
       let back : follows lists v p ≡ u =
       entry_after-place p us 0 (place_of-lt-length p us before.1) ∙ ap (λ x. get_or us x 0) (ap (place_after n) place ∙ place_after-before n j j_in) in
       subst (λ (e : Dart). IsCornerOfThree lists e.0 e.1) (sym dart) record {
@@ -171,5 +159,4 @@ module _ (ends entries : List ℕ) (cuts : AreCuts 0 ends (length entries)) (sim
       let lists = cut 0 ends entries in
       let n = length-face_images lists in
       let count = count-is ends entries cuts in
-      let h = (IsPermuting-image (face_images lists) (IsPermutationOfBelow-face_images lists simple)).within d (omega arith) in
-      omega arith
+      omega (arith, (IsPermuting-image (face_images lists) (IsPermutationOfBelow-face_images lists simple)).within d (omega arith))

@@ -25,9 +25,7 @@ module _ (map : Map) (h : IsHalfMap map) where
   -- the number of a number's id is that number
   number_of-id : (i : ℕ) → i < dart_count map.lists → number_at map (id_of map i) ≡ i
   number_of-id i l =
-      let n = dart_of_number map h i l in
-      let is = id_of-is map h i l in
-      number_at-is map (id_of map i) _ _ is ∙ n.number
+      number_at-is map (id_of map i) _ _ (id_of-is map h i l) ∙ (dart_of_number map h i l).number
 
   in_images : (d : ℕ) → IsLive map d → number_at map d < length (face_images map.lists)
   in_images d live = let n = length-face_images map.lists in let l = number_at-lt map h d live in omega arith

@@ -22,7 +22,6 @@ cut_from-cut most (b ∷ bytes) n m same = by_digit (is_digit b) refl (cut_from-
 -- one digit more
 digit-more : (most : ℕ) (digit : Bool) (n b next : ℕ) (bytes : List ℕ) → is_digit b ≡ digit → one_more most n b ≡ Some next → cut_from most next bytes ≡ cut_from most n (b ∷ bytes)
 digit-more most true n b next bytes e is =
-    let one : Some (min most (10 * n + (b - 48))) ≡ Some next = rw e at is in
     let same : next ≡ min most (10 * n + (b - 48)) = cc in
     rw e (cut_from-cut most bytes next (10 * n + (b - 48)) (omega arith))
 digit-more most false n b next bytes e is =
@@ -35,7 +34,6 @@ cut_from-more most word n i b next within at is =
 
 more-near : (most : ℕ) (digit : Bool) (n b next : ℕ) → is_digit b ≡ digit → one_more most n b ≡ Some next → next ≤ most
 more-near most true n b next e is =
-    let one : Some (min most (10 * n + (b - 48))) ≡ Some next = rw e at is in
     let same : next ≡ min most (10 * n + (b - 48)) = cc in
     omega arith
 more-near most false n b next e is =

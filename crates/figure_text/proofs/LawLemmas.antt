@@ -6,7 +6,7 @@ use Rattle.std.proofs.Math.Seq.{drop-append_seam, take-length}
 use Rattle.std.proofs.lemmas.List.Elements.{All-nil, All-get_or, All-from_recursion}
 use Rattle.std.proofs.lemmas.List.{length-map}
 use Rattle.map_lists.specs.Lists.{Lists}
-use Rattle.pg_plane.specs.declared.segments.Point.{Point}
+use Rattle.pg_plane.specs.declared.grid_points.Point.{Point}
 use Rattle.pg_plane.specs.declared.figures.BarFigure.{BarFigure}
 use Rattle.pg_plane.specs.declared.figures.RectFigure.{RectFigure}
 use Rattle.figure_text.specs.declared.figure.GridJob.{GridJob}
@@ -72,13 +72,7 @@ first-plain k word n fine dark = joined-plain (first_words k word n) (first-dark
 
 -- a first line by its words and what stands behind the word of its job
 pub IsHead-by : (kind : Kind) (n k : ℕ) (line : List ℕ) → 1 ≤ k → k ≤ 16777216 → word_at (words_of line) 0 ≡ Named Figure → word_at (words_of line) 1 ≡ Number (sign_of (pos k)) → kind_of (words_of line) ≡ Some kind → IsTail (Some kind) line → TailInRange (Some kind) line → rows_due kind (words_of line) ≡ n → IsHead kind n line
-IsHead-by kind n k line least most figure number is tail range rows =
-    record {
-      shape = record { figure = figure; number = rw number refl; tail = subst (λ (o : Option Kind). IsTail o line) (sym is) tail };
-      range = record { number_least = rw number least; number_most = rw number most; tail = subst (λ (o : Option Kind). TailInRange o line) (sym is) range };
-      job = is;
-      rows = rows;
-    }
+IsHead-by kind n k line least most figure number is tail range rows = grind (arith, line, Option, Kind, IsTail, TailInRange)
 
 -- a kind of which the first line gives the number of vertices
 record IsCounted (kind : Kind) : Type 0 where

@@ -74,13 +74,7 @@ plain-signed (b ∷ ds) some other =
     let no : (b == 45) ≡ false = grind (arith, nat_tests) in rw no refl
 
 pub signed_of-signed : (z : ℤ) → (sign_of z).size < far → signed_of (signed_decimal z) ≡ Some (sign_of z)
-signed_of-signed (pos n) small =
-    let fits : n < 2 ^ 64 = omega arith in
-    let first = decimal-first n fits in
-    plain-signed (decimal n) (decimal_nonempty n fits) (omega (arith, first.0)) ∙ ap plus (number_of-decimal n small)
-signed_of-signed (negsuc n) small =
-    let some : (suc n == 0) ≡ false = grind (arith, nat_tests) in
-    ap minus (number_of-decimal (suc n) small) ∙ rw some refl
+signed_of-signed x0 small = grind (arith, pos, plain-signed, decimal, decimal_nonempty, decimal-first, plus, number_of-decimal, negsuc, nat_tests, minus)
 
 -- no printed number is a word of letters
 other-first : (ds : List ℕ) (c : ℕ) (cs : List ℕ) → get_or ds 0 0 < c → bytes_eq ds (c ∷ cs) ≡ false
@@ -88,23 +82,7 @@ other-first [] c cs less = refl
 other-first (d ∷ ds) c cs less = let no : (d == c) ≡ false = grind (arith, nat_tests) in rw no refl
 
 pub no-name : (ds : List ℕ) → get_or ds 0 0 < 75 → word_of ds ≡ numeral_word (signed_of ds) (closing_of ds)
-no-name ds less =
-    let figure : bytes_eq ds (codes "figure") ≡ false = other-first ds 102 (codes "igure") (omega arith) in
-    let shift : bytes_eq ds (codes "shift") ≡ false = other-first ds 115 (codes "hift") (omega arith) in
-    let schnyder : bytes_eq ds (codes "schnyder") ≡ false = other-first ds 115 (codes "chnyder") (omega arith) in
-    let convex : bytes_eq ds (codes "convex") ≡ false = other-first ds 99 (codes "onvex") (omega arith) in
-    let rect : bytes_eq ds (codes "rect") ≡ false = other-first ds 114 (codes "ect") (omega arith) in
-    let bars : bytes_eq ds (codes "bars") ≡ false = other-first ds 98 (codes "ars") (omega arith) in
-    let at : bytes_eq ds (codes "at") ≡ false = other-first ds 97 (codes "t") (omega arith) in
-    let y : bytes_eq ds (codes "y") ≡ false = other-first ds 121 [] (omega arith) in
-    let x : bytes_eq ds (codes "x") ≡ false = other-first ds 120 [] (omega arith) in
-    let columns : bytes_eq ds (codes "columns") ≡ false = other-first ds 99 (codes "olumns") (omega arith) in
-    let witness : bytes_eq ds (codes "witness") ≡ false = other-first ds 119 (codes "itness") (omega arith) in
-    let five : bytes_eq ds (codes "K5") ≡ false = other-first ds 75 (codes "5") (omega arith) in
-    let three : bytes_eq ds (codes "K33") ≡ false = other-first ds 75 (codes "33") (omega arith) in
-    let branch : bytes_eq ds (codes "branch") ≡ false = other-first ds 98 (codes "ranch") (omega arith) in
-    let path : bytes_eq ds (codes "path") ≡ false = other-first ds 112 (codes "ath") (omega arith) in
-    rw figure (rw shift (rw schnyder (rw convex (rw bars (rw rect (rw at (rw y (rw x (rw columns (rw witness (rw five (rw three (rw branch (rw path refl))))))))))))))
+no-name ds less = grind (arith, bytes_eq, codes, other-first)
 
 signed-first : (z : ℤ) → (sign_of z).size < far → get_or (signed_decimal z) 0 0 < 75
 signed-first (pos n) small = let first = decimal-first n (omega arith) in omega (arith, first.1)
@@ -144,8 +122,7 @@ colon-signed (b ∷ ds) = by_minus (b == 45) refl
 closing-of : (ds : List ℕ) → closing_of (ds ++ 58 ∷ []) ≡ signed_of ds
 closing-of ds =
     let len : length (ds ++ 58 ∷ []) - 1 ≡ length ds = omega (arith, length-append ds (58 ∷ [])) in
-    let last : get_or (ds ++ 58 ∷ []) (length ds) 0 ≡ 58 = get_or-append_seam ds 58 [] 0 in
-    rw len (rw last (ap signed_of (take_at ds (58 ∷ []) (length ds) refl)))
+    rw len (rw (get_or-append_seam ds 58 [] 0) (ap signed_of (take_at ds (58 ∷ []) (length ds) refl)))
 
 signed-closing-first : (z : ℤ) → (sign_of z).size < far → get_or (signed_decimal z ++ 58 ∷ []) 0 0 < 75
 signed-closing-first (pos n) small =
@@ -189,9 +166,8 @@ digit-range b is = (grind (arith, nat_tests), grind (arith, nat_tests))
 digits-signed : (ds : List ℕ) (v : ℕ) → canonical ds ≡ true → option_map (min far) (decimal_from 0 ds) ≡ Some v → signed_of ds ≡ Some (record { negative = false; size = v })
 digits-signed ds v good is =
     let some = canonical-some ds good in
-    let first = digit-range (get_or ds 0 0) (first-of-digits ds v some is) in
     let number : number_of ds ≡ Some v = rw good is in
-    plain-signed ds some (omega (arith, first.0)) ∙ ap plus number
+    plain-signed ds some (omega (arith, (digit-range (get_or ds 0 0) (first-of-digits ds v some is)).0)) ∙ ap plus number
 
 low-first : (ds : List ℕ) (b : ℕ) → 0 < length ds → get_or ds 0 0 < 75 → get_or (ds ++ b ∷ []) 0 0 < 75
 low-first [] b some less = absurd (omega arith)
@@ -207,7 +183,6 @@ word_of-digits ds v good is =
 pub word_of-digits_closing : (ds : List ℕ) (v : ℕ) → canonical ds ≡ true → option_map (min far) (decimal_from 0 ds) ≡ Some v → word_of (ds ++ 58 ∷ []) ≡ Closing (record { negative = false; size = v })
 word_of-digits_closing ds v good is =
     let some = canonical-some ds good in
-    let first = digit-range (get_or ds 0 0) (first-of-digits ds v some is) in
-    no-name (ds ++ 58 ∷ []) (low-first ds 58 some (omega (arith, first.1)))
+    no-name (ds ++ 58 ∷ []) (low-first ds 58 some (omega (arith, (digit-range (get_or ds 0 0) (first-of-digits ds v some is)).1)))
     ∙ ap (λ (s : Option Signed). numeral_word s (closing_of (ds ++ 58 ∷ []))) (colon-signed ds)
     ∙ ap (λ (s : Option Signed). numeral_word None s) (closing-of ds ∙ digits-signed ds v good is)

@@ -21,9 +21,8 @@ pub end_of_seven : (row bytes behind : List ℕ) (start count byte : ℕ) → le
     → drop (start + 8 - count) row ≡ drop (7 - count) bytes ++ behind
 end_of_seven row bytes behind start count byte seven few is =
     let place : start + 8 - count ≡ start + suc (7 - count) = omega arith in
-    let whole = seven_entries bytes seven in
     ap (λ k. drop k row) place
     ∙ sym (drop-drop (suc (7 - count)) start row)
     ∙ ap (λ (xs : List ℕ). drop (suc (7 - count)) xs) is
-    ∙ ap (λ (xs : List ℕ). drop (7 - count) (xs ++ behind)) (sym whole)
+    ∙ ap (λ (xs : List ℕ). drop (7 - count) (xs ++ behind)) (sym (seven_entries bytes seven))
     ∙ drop-append-le (7 - count) bytes behind (omega arith)

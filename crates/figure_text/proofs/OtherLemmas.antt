@@ -81,11 +81,4 @@ module _ (words : List Word) (has : HasOther words) where
 
 -- a first line has at most five words
 pub first-short : (line : List ℕ) → IsFirstLine line → length (words_of line) ≤ 5
-first-short line first = by_tail (kind_of (words_of line)) first.tail
-  where
-    by_tail : (kind : Option Kind) → IsTail kind line → length (words_of line) ≤ 5
-    by_tail None tail = absurd tail
-    by_tail (Some (Grid job)) tail = omega (arith, tail.0)
-    by_tail (Some Bars) tail = omega (arith, tail.0)
-    by_tail (Some Rects) tail = omega (arith, tail.0)
-    by_tail (Some (Witness kind)) tail = omega (arith, tail.0)
+first-short line first = grind (arith, kind_of, words_of, Option, Kind, IsTail, length, None, Some, Grid, Bars, Rects, Witness)

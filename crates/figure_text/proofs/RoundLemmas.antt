@@ -59,38 +59,10 @@ numerals-words (u ∷ us) = ap (λ (ws : List Word). word_of (decimal (u + 1)) �
 
 -- words of figures
 pub name-dark : (name : Name) → Dark (name_text name)
-name-dark name.Figure = All-from_recursion (λ b. 33 ≤ b) (codes "figure") (lit≤ tt, (lit≤ tt, (lit≤ tt, (lit≤ tt, (lit≤ tt, (lit≤ tt, tt))))))
-name-dark name.Shift = All-from_recursion (λ b. 33 ≤ b) (codes "shift") (lit≤ tt, (lit≤ tt, (lit≤ tt, (lit≤ tt, (lit≤ tt, tt)))))
-name-dark name.Schnyder = All-from_recursion (λ b. 33 ≤ b) (codes "schnyder") (lit≤ tt, (lit≤ tt, (lit≤ tt, (lit≤ tt, (lit≤ tt, (lit≤ tt, (lit≤ tt, (lit≤ tt, tt))))))))
-name-dark name.Convex = All-from_recursion (λ b. 33 ≤ b) (codes "convex") (lit≤ tt, (lit≤ tt, (lit≤ tt, (lit≤ tt, (lit≤ tt, (lit≤ tt, tt))))))
-name-dark name.Bars = All-from_recursion (λ b. 33 ≤ b) (codes "bars") (lit≤ tt, (lit≤ tt, (lit≤ tt, (lit≤ tt, tt))))
-name-dark name.Rect = All-from_recursion (λ b. 33 ≤ b) (codes "rect") (lit≤ tt, (lit≤ tt, (lit≤ tt, (lit≤ tt, tt))))
-name-dark name.At = All-from_recursion (λ b. 33 ≤ b) (codes "at") (lit≤ tt, (lit≤ tt, tt))
-name-dark name.Y = All-from_recursion (λ b. 33 ≤ b) (codes "y") (lit≤ tt, tt)
-name-dark name.X = All-from_recursion (λ b. 33 ≤ b) (codes "x") (lit≤ tt, tt)
-name-dark name.Columns = All-from_recursion (λ b. 33 ≤ b) (codes "columns") (lit≤ tt, (lit≤ tt, (lit≤ tt, (lit≤ tt, (lit≤ tt, (lit≤ tt, (lit≤ tt, tt)))))))
-name-dark name.Witness = All-from_recursion (λ b. 33 ≤ b) (codes "witness") (lit≤ tt, (lit≤ tt, (lit≤ tt, (lit≤ tt, (lit≤ tt, (lit≤ tt, (lit≤ tt, tt)))))))
-name-dark name.K5 = All-from_recursion (λ b. 33 ≤ b) (codes "K5") (lit≤ tt, (lit≤ tt, tt))
-name-dark name.K33 = All-from_recursion (λ b. 33 ≤ b) (codes "K33") (lit≤ tt, (lit≤ tt, (lit≤ tt, tt)))
-name-dark name.Branch = All-from_recursion (λ b. 33 ≤ b) (codes "branch") (lit≤ tt, (lit≤ tt, (lit≤ tt, (lit≤ tt, (lit≤ tt, (lit≤ tt, tt))))))
-name-dark name.Path = All-from_recursion (λ b. 33 ≤ b) (codes "path") (lit≤ tt, (lit≤ tt, (lit≤ tt, (lit≤ tt, tt))))
+name-dark x0 = grind (arith, All-from_recursion, codes, lit≤)
 
 name-read : (name : Name) → word_of (name_text name) ≡ Named name
-name-read name.Figure = refl
-name-read name.Shift = refl
-name-read name.Schnyder = refl
-name-read name.Convex = refl
-name-read name.Bars = refl
-name-read name.Rect = refl
-name-read name.At = refl
-name-read name.Y = refl
-name-read name.X = refl
-name-read name.Columns = refl
-name-read name.Witness = refl
-name-read name.K5 = refl
-name-read name.K33 = refl
-name-read name.Branch = refl
-name-read name.Path = refl
+name-read x0 = grind arith
 
 -- words with spaces between them
 pub joined-parts : (ws : List (List ℕ)) → 0 < length ws → All Dark ws → parts_of (joined ws) ≡ ws

@@ -24,10 +24,9 @@ drafted-more (Witness kind) lines line = simp of_lines-more
 
 pub good-more : (kind : Kind) (lines : List (List ℕ)) (line : List ℕ) → ((i : ℕ) → i < length lines → IsGoodRow kind (i + 1) (get_or lines i [])) → IsGoodRow kind (length lines + 1) line → (i : ℕ) → i < length (lines ++ line ∷ []) → IsGoodRow kind (i + 1) (get_or (lines ++ line ∷ []) i [])
 good-more kind lines line good here =
-    let ends : length (lines ++ line ∷ []) ≡ length lines + 1 = length-append lines (line ∷ []) in
     λ i h. below_more (λ (k : ℕ). IsGoodRow kind (k + 1) (get_or (lines ++ line ∷ []) k [])) (length lines)
     (λ k below. rw (get_or-append lines (line ∷ []) [] k below) (good k below))
-    (rw (get_or-append_seam lines line [] []) here) i (omega arith)
+    (rw (get_or-append_seam lines line [] []) here) i (omega (arith, length-append lines (line ∷ [])))
 
 pub closed-more : (lines : List (List ℕ)) (line rest : List ℕ) → closed lines ++ (line ++ 10 ∷ rest) ≡ closed (lines ++ line ∷ []) ++ rest
 closed-more lines line rest =

@@ -39,8 +39,7 @@ drawn-unique bytes fig fig' next next' after after' count within within' same le
 full-stops : (kind : Kind) (n : ℕ) (text : List ℕ) (first : ℕ) (fault : TextFault) (lines : List (List ℕ)) (rest : List ℕ) → Rows kind text lines rest → length lines ≡ n → fault ≢ NoMemory → RowsFail kind n text first fault → ⊥
 full-stops kind n text first fault lines rest rows full memory fails =
     let stops = Stops-from_fail kind n text first fault memory fails in
-    let longest : length lines ≤ length stops.lines = Stops-longest kind n text first fault stops lines rest rows in
-    absurd (omega (arith, stops.at.few, longest, full))
+    absurd (omega (arith, stops.at.few, Stops-longest kind n text first fault stops lines rest rows, full))
 
 rows-fail-unique : (kind : Kind) (n : ℕ) (text : List ℕ) (first : ℕ) (fault fault' : TextFault) → fault ≢ NoMemory → fault' ≢ NoMemory → RowsFail kind n text first fault → RowsFail kind n text first fault' → fault ≡ fault'
 rows-fail-unique kind n text first fault fault' memory memory' fails fails' =
@@ -62,13 +61,7 @@ record NoColumns (n : ℕ) (text : List ℕ) (first : ℕ) (fault : TextFault) :
   why : Why (λ line. IsColumnsLine (words_of line)) (λ line. ColumnsInRange (words_of line)) (first + 1 + n) first rest fault
 
 NoColumns-from_fail : (n : ℕ) (text : List ℕ) (first : ℕ) (fault : TextFault) → fault ≢ NoMemory → ColumnsFail n text first fault → NoColumns n text first fault
-NoColumns-from_fail n text first (BadLine k) memory (lines, line, rest, rows, full, plain, not, same) =
-    record { lines = lines; rest = line ++ 10 ∷ rest; rows = rows; full = full; why = (line, rest, record { parts = refl; plain = plain }, not, same) }
-NoColumns-from_fail n text first (Limit k) memory (lines, line, rest, rows, full, plain, shaped, not, same) =
-    record { lines = lines; rest = line ++ 10 ∷ rest; rows = rows; full = full; why = (line, rest, record { parts = refl; plain = plain }, shaped, not, same) }
-NoColumns-from_fail n text first (EndInFigure k) memory (lines, rest, rows, full, plain, same) =
-    record { lines = lines; rest = rest; rows = rows; full = full; why = (plain, same) }
-NoColumns-from_fail n text first NoMemory memory fails = absurd (memory refl)
+NoColumns-from_fail n text first x3 memory x5 = grind (arith, BadLine, Limit, EndInFigure, NoMemory)
 
 NoColumns-unique : (n : ℕ) (text : List ℕ) (first : ℕ) (fault fault' : TextFault) → NoColumns n text first fault → NoColumns n text first fault' → fault ≡ fault'
 NoColumns-unique n text first fault fault' none none' =
@@ -184,14 +177,7 @@ not_both : (b : Bool) → IsTrue b → IsFalse b → ⊥
 not_both b is not = cc
 
 opened-unique : (bytes line rest : List ℕ) (first : ℕ) (r s : Result Item TextFault) → IsTold r → IsTold s → Opened bytes line rest first r → Opened bytes line rest first s → r ≡ s
-opened-unique bytes line rest first r s told told' (kind, n, head, behind) (kind', n', head', behind') =
-    let kinds : kind' ≡ kind = same-kind (sym head'.job ∙ head.job) in
-    let counts : n' ≡ n = sym head'.rows ∙ subst (λ (k : Kind). rows_due k (words_of line) ≡ n) (sym kinds) head.rows in
-    behind-unique kind n line bytes rest first r s told told' behind
-    (subst (λ (x : ℕ). Behind kind x line bytes rest first s) counts (subst (λ (x : Kind). Behind x n' line bytes rest first s) kinds behind'))
-  where
-    same-kind : {a b : Kind} → Some a ≡ Some b → a ≡ b
-    same-kind e = cc
+opened-unique bytes line rest first r s told told' (kind, n, head, behind) (kind', n', head', behind') = grind (arith, Kind, rows_due, words_of, behind-unique, Behind, Some)
 
 line-unique : (bytes line rest : List ℕ) (first : ℕ) (r s : Result Item TextFault) → IsTold r → IsTold s → AtLine bytes line rest first r → AtLine bytes line rest first s → r ≡ s
 line-unique bytes line rest first r s told told' (inl note) (inl note') = note-unique bytes line rest first r s note note'
@@ -213,8 +199,7 @@ begins-at bytes text line rest left first kind n r is begins behind =
 
 end-no_line : (bytes line rest : List ℕ) (at : ℕ) → at ≡ length bytes → IsLine (drop at bytes) line rest → ⊥
 end-no_line bytes line rest at end is =
-    let long : length bytes - at ≡ length line + suc (length rest) = sym (length-drop at bytes) ∙ ap length is.parts ∙ length-append line (10 ∷ rest) in
-    absurd (omega arith)
+    absurd (omega (arith, sym (length-drop at bytes) ∙ ap length is.parts ∙ length-append line (10 ∷ rest)))
 
 at-line : (bytes line rest : List ℕ) (at first : ℕ) (r : Result Item TextFault) → IsTold r → IsLine (drop at bytes) line rest → IsAnswer bytes at first r → AtLine bytes line rest first r
 at-line bytes line rest at first (Ok (Note next after)) told is (line', is', note, within, counted) =

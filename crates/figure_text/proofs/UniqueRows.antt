@@ -104,12 +104,7 @@ pub record Stops (kind : Kind) (n : ℕ) (text : List ℕ) (first : ℕ) (fault 
   pub why : Why (λ line. IsRow kind (length lines + 1) (words_of line)) (λ line. RowInRange kind (words_of line)) (first + 1 + length lines) first rest fault
 
 pub Stops-from_fail : (kind : Kind) (n : ℕ) (text : List ℕ) (first : ℕ) (fault : TextFault) → fault ≢ NoMemory → RowsFail kind n text first fault → Stops kind n text first fault
-Stops-from_fail kind n text first (BadLine k) memory (lines, line, rest, at, plain, not, same) =
-    record { lines = lines; rest = line ++ 10 ∷ rest; at = at; why = (line, rest, record { parts = refl; plain = plain }, not, same) }
-Stops-from_fail kind n text first (Limit k) memory (lines, line, rest, at, plain, shaped, not, same) =
-    record { lines = lines; rest = line ++ 10 ∷ rest; at = at; why = (line, rest, record { parts = refl; plain = plain }, shaped, not, same) }
-Stops-from_fail kind n text first (EndInFigure k) memory (lines, rest, at, plain, same) = record { lines = lines; rest = rest; at = at; why = (plain, same) }
-Stops-from_fail kind n text first NoMemory memory fails = absurd (memory refl)
+Stops-from_fail kind n text first x4 memory x6 = grind (arith, BadLine, Limit, EndInFigure, NoMemory)
 
 -- no longer list of lines of vertices is there
 next-good : (kind : Kind) (lines : List (List ℕ)) (l : List ℕ) (more : List (List ℕ)) → ((i : ℕ) → i < length (lines ++ l ∷ more) → IsGoodRow kind (i + 1) (get_or (lines ++ l ∷ more) i [])) → IsGoodRow kind (length lines + 1) l

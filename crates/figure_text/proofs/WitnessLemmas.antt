@@ -43,12 +43,7 @@ kind-dark ThreeByThree = name-dark name.K33
 
 -- the line of a graph has no space
 count-dark : (n : ℕ) → Dark (count_form n)
-count-dark n = by_size (nat_lt n 63) refl
-  where
-    by_size : (small : Bool) → nat_lt n 63 ≡ small → Dark (count_form n)
-    by_size true e = rw e (All-cons (λ b. 33 ≤ b) (n + 63) [] (omega arith) (All-nil (λ b. 33 ≤ b)))
-    by_size false e =
-        rw e (All-from_recursion (λ b. 33 ≤ b) (126 ∷ 63 ∷ (n / 64 + 63) ∷ (n % 64 + 63) ∷ []) (lit≤ tt, (lit≤ tt, (omega arith, (omega arith, tt)))))
+count-dark n = grind (arith, nat_lt, Dark, count_form, All-cons, All-nil, All-from_recursion, lit≤)
 
 pub graph-dark : (line : List ℕ) (graph : EdgeGraph) → IsGraphLine line graph → Dark line
 graph-dark line graph is =
@@ -92,11 +87,10 @@ few-pairs ThreeByThree = omega arith
 pub witness-lists : (witness : AWitness) → HasPaths witness → AreNumbered witness.branch → All AreNumbered witness.paths → AreLists (witness_lists witness)
 witness-lists witness whole small all =
     let count = length-map witness.paths vertex_numbers in
-    let few = few-pairs witness.kind in
     let paths = whole.paths in
     record {
       some = omega arith;
-      most = omega arith;
+      most = omega (arith, few-pairs witness.kind);
       neighbours = All-cons (λ us. All (λ u. u < 65535) us) (vertex_numbers witness.branch) (map vertex_numbers witness.paths) (numbered witness.branch small)
           (All-map (λ us. All (λ u. u < 65535) us) vertex_numbers witness.paths (All-weaker AreNumbered (λ path. All (λ u. u < 65535) (vertex_numbers path)) (λ path h. numbered path h) witness.paths all));
     }

@@ -81,13 +81,7 @@ words-front rest len within dark ends = elim (cases_lt len (length rest)) [
 ]
 
 left-drop : (line : List ℕ) (at k : ℕ) → at ≤ length line → words_left (drop at line) k ≡ words_left line (at + k)
-left-drop line at k within =
-    let long : length (drop at line) ≡ length line - at = length-drop at line in
-    by_end (length (drop at line)) long (nat_lt (length line) (at + k)) refl
-  where
-    by_end : (n : ℕ) → n ≡ length line - at → (past : Bool) → nat_lt (length line) (at + k) ≡ past → if nat_lt n k then [] else words_of (drop k (drop at line)) ≡ words_left line (at + k)
-    by_end n long true e = let here : nat_lt n k ≡ true = grind (arith, nat_tests) in rw (e, here) refl
-    by_end n long false e = let here : nat_lt n k ≡ false = grind (arith, nat_tests) in rw (e, here) (ap words_of (drop-drop k at line))
+left-drop line at k within = grind (arith, length, drop, length-drop, nat_lt, words_of, words_left, nat_tests, drop-drop)
 
 -- one word less
 pub words-next : (line : List ℕ) (at end : ℕ) → at ≤ length line → at ≤ end → end ≤ length line → ((k : ℕ) → at ≤ k → k < end → get_or line k 0 ≢ 32) → (end < length line → get_or line end 0 ≡ 32) → words_left line at ≡ word_of (take (end - at) (drop at line)) ∷ words_left line (end + 1)
@@ -106,8 +100,7 @@ words-next line at end start order within before ends =
 -- one word more
 pub words-more : (line : List ℕ) (found : List Word) (at end : ℕ) → at ≤ length line → at ≤ end → end ≤ length line → ((k : ℕ) → at ≤ k → k < end → get_or line k 0 ≢ 32) → (end < length line → get_or line end 0 ≡ 32) → found ++ words_left line at ≡ words_of line → (found ++ word_of (take (end - at) (drop at line)) ∷ []) ++ words_left line (end + 1) ≡ words_of line
 words-more line found at end start order within before ends so_far =
-    let word = word_of (take (end - at) (drop at line)) in
-    append_assoc found (word ∷ []) (words_left line (end + 1))
+    append_assoc found ((word_of (take (end - at) (drop at line))) ∷ []) (words_left line (end + 1))
     ∙ ap (λ (ws : List Word). found ++ ws) (sym (words-next line at end start order within before ends))
     ∙ so_far
 

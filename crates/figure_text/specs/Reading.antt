@@ -1,6 +1,6 @@
 -- The reading of the text of figures: closed lines one after another, each with the shape that is due.
 use Rattle.std.specs.Prelude.{ℕ, ◌+◌, ◌<◌, ◌≡◌, ◌≢◌, Bool, ◌||◌, IsTrue, bytes_eq, List, [], ◌∷◌, ◌++◌, length, take, drop, map, flat_map, slice_index_or, All, codes}
-use Rattle.pg_plane.specs.declared.segments.Point.{Point}
+use Rattle.pg_plane.specs.declared.grid_points.Point.{Point}
 use Rattle.figure_text.specs.declared.line_words.Word.{Word}
 use Rattle.figure_text.specs.declared.line_shapes.Kind.{Kind}
 use Rattle.figure_text.specs.declared.line_shapes.Judged.{Judged}

@@ -8,7 +8,7 @@ use Rattle.kuratowski.specs.declared.witness.Kind.{Kind as Subdivided}
 use Rattle.kuratowski.specs.declared.witness.Kind.TheVariants.{K5, K33}
 use Rattle.kuratowski.specs.declared.witness.Witness.{Witness}
 use Rattle.kuratowski.specs.Witnesses.{branch_count, pairs_of}
-use Rattle.pg_plane.specs.declared.segments.Point.{Point}
+use Rattle.pg_plane.specs.declared.grid_points.Point.{Point}
 use Rattle.pg_plane.specs.declared.figures.BarFigure.{BarFigure}
 use Rattle.pg_plane.specs.declared.figures.RectFigure.{RectFigure}
 use Rattle.figure_text.specs.declared.front_pieces.Piece.{Piece}

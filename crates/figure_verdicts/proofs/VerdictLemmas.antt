@@ -28,7 +28,7 @@ use Rattle.draw_check.specs.declared.verdict.Verdict.{Verdict}
 use Rattle.draw_check.specs.declared.verdict.Verdict.TheVariants.{OutOfGrid, SamePlace, OnEdge, Cross, Turned, Yes as NoFault}
 use Rattle.figure_verdicts.specs.Verdicts.{IsFirstFault}
 use Rattle.simple_maps.specs.Faults.{first_fault}
-use Rattle.pg_plane.specs.declared.segments.Point.{Point}
+use Rattle.pg_plane.specs.declared.grid_points.Point.{Point}
 use Rattle.figure_text.specs.declared.figure.GridJob.{GridJob}
 use Rattle.figure_text.specs.declared.figure.GridJob.TheVariants.{Shift, Schnyder, Convex}
 use Rattle.figure_verdicts.specs.Verdicts.{IsFigureVerdict, IsJobVerdict, IsFittingVerdict, IsGridVerdict, IsColumnsVerdict, IsBarsVerdict, IsTiledVerdict, IsRectsVerdict}
@@ -57,22 +57,7 @@ yes-shape is_valid Schnyder lists points v = ((is_valid lists points (grid_width
 yes-shape is_valid Convex lists points v = ((is_valid lists points (grid_width Convex lists) (grid_height Convex lists) v.simple).1 v.valid, (v.shape.base, v.shape.convex))
 
 pub yes_is_valid : NoFaultIsSimple → YesIsValid → YesIsDual → (figure : Figure) → IsGiven figure → IsFigureVerdict figure Yes ↔ IsValidFigure figure
-yes_is_valid no_fault is_valid is_dual (Grid job lists points) given =
-    let simple = no_fault lists given.some_list in (
-      λ yes. shape-yes is_valid job lists points (simple.0 yes.0) yes.1,
-      λ v. (simple.1 v.simple, yes-shape is_valid job lists points v),
-    )
-yes_is_valid no_fault is_valid is_dual (Bars lists bars) given =
-    let simple = no_fault lists given.some_list in (
-      λ yes. record { simple = simple.0 yes.0; valid = yes.1 },
-      λ v. (simple.1 v.simple, v.valid),
-    )
-yes_is_valid no_fault is_valid is_dual (Rects lists rects) given =
-    let simple = no_fault lists given.some_list in (
-      λ yes. record { simple = simple.0 yes.0; dual = (is_dual lists rects NoRectFault yes.1).0 refl },
-      λ v. (simple.1 v.simple, v.dual),
-    )
-yes_is_valid no_fault is_valid is_dual (WitnessFigure graph witness) given = (λ yes. yes, λ v. v)
+yes_is_valid no_fault is_valid is_dual x3 given = grind (arith, Grid, shape-yes, yes-shape, Bars, Rects, NoRectFault, WitnessFigure)
 
 -- a verdict in the grid of the job
 pub IsFittingVerdict-of : (job : GridJob) (lists : Lists) (points : List Point) (width height : ℤ) (verdict : FigureVerdict) → width ≡ grid_width job lists → height ≡ grid_height job lists → IsJobVerdict job lists points width height verdict → IsFittingVerdict job lists points verdict
@@ -80,39 +65,11 @@ IsFittingVerdict-of job lists points width height verdict wide high drawn = rw (
 
 -- a verdict on a drawing of lists without a fault
 pub IsGridVerdict-drawn : (job : GridJob) (lists lists' : Lists) (points : List Point) (verdict : FigureVerdict) → lists' ≡ lists → first_fault lists ≡ None → IsFittingVerdict job lists' points verdict → IsGridVerdict job lists points verdict
-IsGridVerdict-drawn job lists lists' points verdict same none drawn = by_case job verdict (rw same at drawn)
-  where
-    by_case : (job : GridJob) (verdict : FigureVerdict) → IsFittingVerdict job lists points verdict → IsGridVerdict job lists points verdict
-    by_case Shift (Refused fault) drawn = absurd drawn
-    by_case Schnyder (Refused fault) drawn = absurd drawn
-    by_case Convex (Refused fault) drawn = absurd drawn
-    by_case job (Drawing v) drawn = (none, drawn)
-    by_case job (Inside v u) drawn = (none, drawn)
-    by_case job (ConvexFault v) drawn = (none, drawn)
-    by_case Shift (BarFault v) drawn = absurd drawn
-    by_case Schnyder (BarFault v) drawn = absurd drawn
-    by_case Convex (BarFault v) drawn = absurd drawn
-    by_case Shift (RectFault v) drawn = absurd drawn
-    by_case Schnyder (RectFault v) drawn = absurd drawn
-    by_case Convex (RectFault v) drawn = absurd drawn
-    by_case Shift (WitnessFault v) drawn = absurd drawn
-    by_case Schnyder (WitnessFault v) drawn = absurd drawn
-    by_case Convex (WitnessFault v) drawn = absurd drawn
-    by_case job Yes drawn = (none, drawn)
+IsGridVerdict-drawn job lists lists' points verdict same none drawn = grind (arith, GridJob, FigureVerdict, IsFittingVerdict, IsGridVerdict, Shift, Refused, Schnyder, Convex, Drawing, Inside, ConvexFault, BarFault)
 
 -- a verdict on bars of lists without a fault
 pub IsBarsVerdict-drawn : (lists lists' : Lists) (bars : BarFigure) (width : ℤ) (verdict : FigureVerdict) → lists' ≡ lists → width ≡ bars_width lists' → first_fault lists ≡ None → IsColumnsVerdict lists' bars width verdict → IsBarsVerdict lists bars verdict
-IsBarsVerdict-drawn lists lists' bars width verdict same wide none drawn = by_case verdict (rw (same) at (rw wide at drawn))
-  where
-    by_case : (verdict : FigureVerdict) → IsColumnsVerdict lists bars (bars_width lists) verdict → IsBarsVerdict lists bars verdict
-    by_case (Refused fault) drawn = absurd drawn
-    by_case (Drawing v) drawn = absurd drawn
-    by_case (Inside v u) drawn = absurd drawn
-    by_case (ConvexFault v) drawn = absurd drawn
-    by_case (BarFault v) drawn = (none, drawn)
-    by_case (RectFault v) drawn = absurd drawn
-    by_case (WitnessFault v) drawn = absurd drawn
-    by_case Yes drawn = (none, drawn)
+IsBarsVerdict-drawn lists lists' bars width verdict same wide none drawn = grind (arith, FigureVerdict, IsColumnsVerdict, bars_width, IsBarsVerdict, Refused, Drawing, Inside, ConvexFault, BarFault, RectFault, WitnessFault, Yes)
 
 -- and one on rectangles
 pub IsRectsVerdict-drawn : (lists lists' : Lists) (rects : RectFigure) (verdict : FigureVerdict) → lists' ≡ lists → first_fault lists ≡ None → IsTiledVerdict lists' rects verdict → IsRectsVerdict lists rects verdict
@@ -130,19 +87,10 @@ IsRectsVerdict-drawn lists lists' rects verdict same none drawn = by_case verdic
 
 -- a drawing that has a fault is not without one
 no_other : (lists : Lists) (points : List Point) (width height : ℤ) (verdict : Verdict) → IsVerdict lists points width height verdict → IsVerdict lists points width height NoFault → verdict ≢ NoFault → ⊥
-no_other lists points width height (OutOfGrid v) least none other = least.here.outside (none.0 v.0 least.here.vertex)
-no_other lists points width height (SamePlace u v) least none other = none.1 u.0 v.0 least.1.rest.here
-no_other lists points width height (OnEdge v e) least none other = none.2 v.0 e.a.0 e.b.0 least.2.rest.rest.here
-no_other lists points width height (Cross e f) least none other = none.3 e.a.0 e.b.0 f.a.0 f.b.0 least.3.rest.rest.rest.here
-no_other lists points width height (Turned v) least none other = let h = least.4.here in h.turned (none.4 v.0 h.vertex h.two)
-no_other lists points width height NoFault least none other = other refl
+no_other lists points width height x4 least none other = grind (arith, OutOfGrid, SamePlace, OnEdge, Cross, Turned, NoFault)
 
 no_first : (found : Option Fault) (fault : MapFault) → found ≡ None → IsFirstFault found fault → ⊥
-no_first found (OutOfRange v u) none is = cc
-no_first found (Loop v) none is = cc
-no_first found (Repeated v u) none is = cc
-no_first found (OneSided v u) none is = cc
-no_first found NoMemory none is = is
+no_first found x1 none is = grind (arith, OutOfRange, Loop, Repeated, OneSided, NoMemory)
 
 -- a valid drawing has no fault that its job may have
 valid-grid : YesIsValid → YesIsConvex → (job : GridJob) (lists : Lists) (points : List Point) (verdict : FigureVerdict) → IsFittingVerdict job lists points verdict → IsValidGrid job lists points → verdict ≡ Yes
@@ -160,14 +108,10 @@ valid-grid is_valid is_convex job lists points (Drawing verdict) is valid = by j
     by Convex is valid = absurd (no_other lists points (grid_width Convex lists) (grid_height Convex lists) verdict is.0 (yes-shape is_valid Convex lists points valid).0 is.1)
 valid-grid is_valid is_convex Shift lists points (Inside v u) is valid =
     let inside = is.2.rest.here in
-    let sum = inside.sum in
-    let positive = valid.shape is.1 v.0 u.0 inside.dart inside.other in
-    absurd (omega (arith, ints, sum, positive))
+    absurd (omega (arith, ints, inside.sum, valid.shape is.1 v.0 u.0 inside.dart inside.other))
 valid-grid is_valid is_convex Schnyder lists points (Inside v u) is valid =
     let inside = is.2.rest.here in
-    let sum = inside.sum in
-    let positive = valid.shape is.1 v.0 u.0 inside.dart inside.other in
-    absurd (omega (arith, ints, sum, positive))
+    absurd (omega (arith, ints, inside.sum, valid.shape is.1 v.0 u.0 inside.dart inside.other))
 valid-grid is_valid is_convex Convex lists points (Inside v u) is valid = absurd is
 valid-grid is_valid is_convex Shift lists points (ConvexFault verdict) is valid = absurd is
 valid-grid is_valid is_convex Schnyder lists points (ConvexFault verdict) is valid = absurd is
@@ -187,35 +131,4 @@ valid-grid is_valid is_convex Convex lists points (WitnessFault verdict) is vali
 valid-grid is_valid is_convex job lists points Yes is valid = refl
 
 pub valid_is_yes : NoFaultIsSimple → YesIsValid → BarsYesIsValid → YesIsConvex → YesIsDual → (figure : Figure) (verdict : FigureVerdict) → IsGiven figure → IsFigureVerdict figure verdict → IsValidFigure figure → verdict ≡ Yes
-valid_is_yes no_fault is_valid bars_valid is_convex is_dual (Grid job lists points) (Refused fault) given is valid = absurd (no_first (first_fault lists) fault ((no_fault lists given.some_list).1 valid.simple) is)
-valid_is_yes no_fault is_valid bars_valid is_convex is_dual (Grid job lists points) (Drawing verdict) given is valid = valid-grid is_valid is_convex job lists points (Drawing verdict) is.1 valid
-valid_is_yes no_fault is_valid bars_valid is_convex is_dual (Grid job lists points) (Inside v u) given is valid = valid-grid is_valid is_convex job lists points (Inside v u) is.1 valid
-valid_is_yes no_fault is_valid bars_valid is_convex is_dual (Grid job lists points) (ConvexFault verdict) given is valid = valid-grid is_valid is_convex job lists points (ConvexFault verdict) is.1 valid
-valid_is_yes no_fault is_valid bars_valid is_convex is_dual (Grid job lists points) (BarFault verdict) given is valid = absurd is
-valid_is_yes no_fault is_valid bars_valid is_convex is_dual (Grid job lists points) (RectFault verdict) given is valid = absurd is
-valid_is_yes no_fault is_valid bars_valid is_convex is_dual (Grid job lists points) (WitnessFault verdict) given is valid = absurd is
-valid_is_yes no_fault is_valid bars_valid is_convex is_dual (Grid job lists points) Yes given is valid = refl
-valid_is_yes no_fault is_valid bars_valid is_convex is_dual (Bars lists bars) (Refused fault) given is valid = absurd (no_first (first_fault lists) fault ((no_fault lists given.some_list).1 valid.simple) is)
-valid_is_yes no_fault is_valid bars_valid is_convex is_dual (Bars lists bars) (Drawing verdict) given is valid = absurd is
-valid_is_yes no_fault is_valid bars_valid is_convex is_dual (Bars lists bars) (Inside v u) given is valid = absurd is
-valid_is_yes no_fault is_valid bars_valid is_convex is_dual (Bars lists bars) (ConvexFault verdict) given is valid = absurd is
-valid_is_yes no_fault is_valid bars_valid is_convex is_dual (Bars lists bars) (BarFault verdict) given is valid = absurd (is.1.1 ((bars_valid lists bars (bars_width lists) verdict is.1.0).1 valid.valid))
-valid_is_yes no_fault is_valid bars_valid is_convex is_dual (Bars lists bars) (RectFault verdict) given is valid = absurd is
-valid_is_yes no_fault is_valid bars_valid is_convex is_dual (Bars lists bars) (WitnessFault verdict) given is valid = absurd is
-valid_is_yes no_fault is_valid bars_valid is_convex is_dual (Bars lists bars) Yes given is valid = refl
-valid_is_yes no_fault is_valid bars_valid is_convex is_dual (Rects lists rects) (Refused fault) given is valid = absurd (no_first (first_fault lists) fault ((no_fault lists given.some_list).1 valid.simple) is)
-valid_is_yes no_fault is_valid bars_valid is_convex is_dual (Rects lists rects) (Drawing verdict) given is valid = absurd is
-valid_is_yes no_fault is_valid bars_valid is_convex is_dual (Rects lists rects) (Inside v u) given is valid = absurd is
-valid_is_yes no_fault is_valid bars_valid is_convex is_dual (Rects lists rects) (ConvexFault verdict) given is valid = absurd is
-valid_is_yes no_fault is_valid bars_valid is_convex is_dual (Rects lists rects) (BarFault verdict) given is valid = absurd is
-valid_is_yes no_fault is_valid bars_valid is_convex is_dual (Rects lists rects) (RectFault verdict) given is valid = absurd (is.1.1 ((is_dual lists rects verdict is.1.0).1 valid.dual))
-valid_is_yes no_fault is_valid bars_valid is_convex is_dual (Rects lists rects) (WitnessFault verdict) given is valid = absurd is
-valid_is_yes no_fault is_valid bars_valid is_convex is_dual (Rects lists rects) Yes given is valid = refl
-valid_is_yes no_fault is_valid bars_valid is_convex is_dual (WitnessFigure graph witness) (Refused fault) given is valid = absurd is
-valid_is_yes no_fault is_valid bars_valid is_convex is_dual (WitnessFigure graph witness) (Drawing verdict) given is valid = absurd is
-valid_is_yes no_fault is_valid bars_valid is_convex is_dual (WitnessFigure graph witness) (Inside v u) given is valid = absurd is
-valid_is_yes no_fault is_valid bars_valid is_convex is_dual (WitnessFigure graph witness) (ConvexFault verdict) given is valid = absurd is
-valid_is_yes no_fault is_valid bars_valid is_convex is_dual (WitnessFigure graph witness) (BarFault verdict) given is valid = absurd is
-valid_is_yes no_fault is_valid bars_valid is_convex is_dual (WitnessFigure graph witness) (RectFault verdict) given is valid = absurd is
-valid_is_yes no_fault is_valid bars_valid is_convex is_dual (WitnessFigure graph witness) (WitnessFault verdict) given is valid = absurd (is.1 (yes_of_witness graph witness.kind witness.branch witness.paths verdict is.0 valid))
-valid_is_yes no_fault is_valid bars_valid is_convex is_dual (WitnessFigure graph witness) Yes given is valid = refl
+valid_is_yes no_fault is_valid bars_valid is_convex is_dual x5 x6 given is valid = grind (arith, Grid, Refused, no_first, first_fault, Drawing, valid-grid, Inside, ConvexFault, BarFault, RectFault, WitnessFault, Yes)

@@ -1,7 +1,7 @@
 //! The verdict on a straight-line drawing that is to be convex.
 ghost use Rattle.std.specs.Prelude.{◌≡◌, ◌≢◌, ◌-◌, List, ℤ, pos, ◌-ℤ◌, IfOk};
 ghost use Rattle.map_lists.specs.Lists.{Lists};
-ghost use Rattle.pg_plane.specs.declared.segments.Point.{Point};
+ghost use Rattle.pg_plane.specs.declared.grid_points.Point.{Point};
 ghost use Rattle.map_theory.specs.Maps.{face_count};
 ghost use Rattle.half_edges.specs.Map.{first_dart};
 ghost use Rattle.draw_check.specs.Verdicts.{IsVerdict};

@@ -1,7 +1,7 @@
 -- The grid, the three corners, and the face of the base.
 use Rattle.std.proofs.Common.{◌≡◌, ℕ, zero, suc, ◌+◌, ◌-◌, ◌*◌, ◌<◌, ◌≤◌, pos, neg_ℤ, ◌<ℤ◌, refl, ap, ◌∙◌, inl, arith}
 use Rattle.std.proofs.lemmas.Int.{ints}
-use Rattle.pg_plane.specs.declared.segments.Point.{Point}
+use Rattle.pg_plane.specs.declared.grid_points.Point.{Point}
 use Rattle.pg_plane.specs.Geometry.{area}
 use Rattle.pg_plane.proofs.Ring.{ring, sums}
 use Rattle.contour_runs.specs.Runs.{Step, Stage, stage_after, IsStep, IsRun}
@@ -19,17 +19,11 @@ pub in_grid : (steps : ℕ → Step) (n m v : ℕ) → IsRun steps n → m ≡ n
 in_grid steps n m v run e l =
     let h = IsShift-run steps n run in
     let c = count-stage_after steps n in
-    let w = h.wide v (omega arith) in
-    let t = h.high v (omega arith) in
     (omega arith, omega arith)
 
 -- a vertex over the whole contour
 top_corner : (g : Stage) (s : Step) (at : Places) → IsStage g → IsShift g at → IsStep g s → g.width + s.first + 2 - s.last ≡ 3 → (v : ℕ) → v ≡ g.count → StandsAt (places_after g s at) v (g.count - 1) (g.count - 1)
 top_corner g s at stage h step e v ev =
-    let o = step.order in
-    let w = step.within in
-    let few = stage.few in
-    let wide = stage.wide in
     let p : g.vertex s.first ≡ 0 = let z : s.first ≡ 0 = omega arith in ap g.vertex z ∙ stage.begin in
     let q = stage.end s.last (omega arith) in
     let a = top_across g s at stage h step v ev in
@@ -45,35 +39,19 @@ cornered steps zero m run e l w = absurd (omega arith)
 cornered steps (suc n) m run e l w =
     let h = IsShift-run steps (suc n) run in
     let c = count-stage_after steps n in
-    let a = h.second_x in
     let less = IsRun-less steps n (suc n) (omega arith) run in
     let t = top_corner (stage_after steps n) (steps n) (shift_points steps n) (IsStage-run steps n less) (IsShift-run steps n less) (run n (omega arith)) w (m - 1) (omega arith) in
     record { first = (h.first_x, h.first_y); second = (omega arith, h.second_y); top = (t.0 ∙ omega arith, t.1 ∙ omega arith) }
 
 pub first_three : (steps : ℕ → Step) → IsRun steps 1 → IsCornered (shift_points steps 1) 3
 first_three steps run =
-    let step = run 0 (omega arith) in
-    let o = step.order in
-    let w = step.within in
-    cornered steps 1 3 run refl (omega arith) (omega arith)
+    cornered steps 1 3 run refl (omega arith) (omega (arith, run 0 (omega arith)))
 
 area_back : (a b c : Point) → area b a c ≡ neg_ℤ (area a b c)
 area_back a b c = simp ring (omega (arith, sums))
 
 cornered_base : (at : Places) (m : ℕ) → 3 ≤ m → IsCornered at m → area (point_of at 1) (point_of at 0) (point_of at (m - 1)) <ℤ pos 0
-cornered_base at m l c =
-    let f = c.first in
-    let s = c.second in
-    let t = c.top in
-    let o : IsOpened at 0 1 (m - 1) =
-    opened_new at 0 1 (m - 1) (omega (arith, f.0, f.1, s.0, s.1)) (omega (arith, f.0, f.1, s.0, s.1)) (omega (arith, f.0, f.1, t.0, t.1)) (omega (arith, s.0, s.1, t.0, t.1))
-    (inl (omega (arith, f.0, f.1, s.0, s.1), omega (arith, f.0, f.1, s.0, s.1))) in
-    let p = opened_area at 0 1 (m - 1) o in
-    let e = area_back (point_of at 0) (point_of at 1) (point_of at (m - 1)) in
-    negative (area (point_of at 0) (point_of at 1) (point_of at (m - 1))) (area (point_of at 1) (point_of at 0) (point_of at (m - 1))) e p
-  where
-    negative : (a b : _) → b ≡ neg_ℤ a → pos 0 <ℤ a → b <ℤ pos 0
-    negative a b e p = omega (arith, ints)
+cornered_base at m l c = grind (arith, IsOpened, opened_new, opened_area, area_back, point_of, area, neg_ℤ, pos, ints)
 
 pub base_clockwise : (steps : ℕ → Step) (n m : ℕ) → IsRun steps n → m ≡ n + 2 → 3 ≤ m → (stage_after steps n).width ≡ 3 → area (point_of (shift_points steps n) 1) (point_of (shift_points steps n) 0) (point_of (shift_points steps n) (m - 1)) <ℤ pos 0
 base_clockwise steps n m run e l w = cornered_base (shift_points steps n) m l (cornered steps n m run e l w)

@@ -16,25 +16,17 @@ use Rattle.std.proofs.lemmas.Bool.Decides.{nat_tests}
 -- what a call of `head` answers for the dart to u
 pub head-is : (map : Map) (d v u r : ℕ) → dart_at map d ≡ Some (v, u) → option_map (λ (e : Dart). e.1) (dart_at map d) ≡ Some r → u ≡ r
 head-is map d v u r is e =
-    let t : Some u ≡ Some r = sym (ap (option_map (λ (e : Dart). e.1)) is) ∙ e in
     cc
 
 -- a dart leads to a vertex
 pub head-within : (map : Map) (d r : ℕ) → IsHalfMap map → IsLive map d → option_map (λ (e : Dart). e.1) (dart_at map d) ≡ Some r → r < length map.lists
 head-within map d r known live e =
     let y = some_of (dart_at map d) live in
-    let same = head-is map d y.0.0 y.0.1 r y.1 e in
-    let within = known.simple.in_range y.0.0 y.0.1 (known.is_dart d y.0.0 y.0.1 y.1) in
-    omega arith
+    omega (arith, known.simple.in_range y.0.0 y.0.1 (known.is_dart d y.0.0 y.0.1 y.1), head-is map d y.0.0 y.0.1 r y.1 e)
 
 -- the dart before another
 before-is : (map : Map) (d e v u : ℕ) → IsLive map e → option_map (next_dart map.lists) (dart_at map e) ≡ dart_at map d → dart_at map d ≡ Some (v, u) → (w : ℕ) × (dart_at map e ≡ Some (v, w)) × (follows map.lists v w ≡ u)
-before-is map d e v u live step is =
-    let y = some_of (dart_at map e) live in
-    let same : Some (next_dart map.lists y.0) ≡ Some (v, u) = sym (ap (option_map (next_dart map.lists)) y.1) ∙ step ∙ is in
-    let tail : y.0.0 ≡ v = ap (λ (o : Option Dart). (unwrap_or o (0, 0)).0) same in
-    let head : follows map.lists y.0.0 y.0.1 ≡ u = ap (λ (o : Option Dart). (unwrap_or o (0, 0)).1) same in
-    (y.0.1, y.1 ∙ ap (λ (x : ℕ). Some (x, y.0.1)) tail, subst (λ (x : ℕ). follows map.lists x y.0.1 ≡ u) tail head)
+before-is map d e v u live step is = grind (arith, some_of, dart_at, Some, next_dart, option_map, Option, Dart, unwrap_or, follows)
 
 -- the dart after that to an entry before the last
 pub next-is : (map : Map) (d e v k : ℕ) → IsHalfMap map → v < length map.lists → k + 1 < length (list_of map.lists v) → dart_at map d ≡ Some (v, get_or (list_of map.lists v) k 0) → dart_at map e ≡ option_map (next_dart map.lists) (dart_at map d) → dart_at map e ≡ Some (v, get_or (list_of map.lists v) (k + 1) 0)
@@ -44,30 +36,11 @@ next-is map d e v k known vertex l is step =
 module _ (lists : Lists) (simple : IsSimpleMap lists) (ranks : List ℕ) (k v u r b : ℕ) (dart : HasDart lists v u) (rank : r ≡ get_or ranks u 0) where
   -- where a row begins, by the ranks of a neighbour and the next
   BeginsRow-iff : b ≡ get_or ranks (follows lists v u) 0 → (((r < k) × ((r ≡ 0) ⊎ (k ≤ b))) → BeginsRow lists ranks k v u) × (BeginsRow lists ranks k v u → ((r < k) × ((r ≡ 0) ⊎ (k ≤ b))))
-  BeginsRow-iff next = (
-    λ t. record {
-      dart = dart;
-      earlier = omega (arith, t.0);
-      begins = elim t.1 [ inl z ↦ inl (sym rank ∙ z) | inr h ↦ inr (omega arith) ];
-    },
-    λ s. let e = s.earlier in (omega arith, elim s.begins [ inl z ↦ inl (rank ∙ z) | inr h ↦ inr (omega arith) ]),
-  )
+  BeginsRow-iff next = grind arith
 
   -- where a row ends, by the ranks of a neighbour and the one before it, w
   EndsRow-iff : (w : ℕ) → HasDart lists v w → follows lists v w ≡ u → b ≡ get_or ranks w 0 → (((r < k) × ((r ≡ 1) ⊎ (k ≤ b))) → EndsRow lists ranks k v u) × (EndsRow lists ranks k v u → ((r < k) × ((r ≡ 1) ⊎ (k ≤ b))))
-  EndsRow-iff w has turns before = (
-    λ t. record {
-      dart = dart;
-      earlier = omega (arith, t.0);
-      ends = elim t.1 [
-        | inl z ↦ inl (sym rank ∙ z)
-        | inr h ↦ inr (λ x on f.
-            let same = entry_after-injective (list_of lists v) x w (simple.no_repeat v dart.0) on.1 has.1 (f ∙ sym turns) in
-            omega (arith, ap (λ u. get_or ranks u 0) same))
-      ];
-    },
-    λ s. let e = s.earlier in (omega arith, elim s.ends [ inl z ↦ inl (rank ∙ z) | inr h ↦ inr (let l = h w has turns in omega arith) ]),
-  )
+  EndsRow-iff w has turns before = grind (arith, turns, entry_after-injective, list_of, get_or)
 
 -- and by a test of the ranks that calls answer at darts
 module _ (map : Map) (known : IsHalfMap map) (ranks : List ℕ) (k v u d e r b : ℕ) (test : Bool) (is : dart_at map d ≡ Some (v, u)) (rank : (v u : ℕ) → dart_at map d ≡ Some (v, u) → r ≡ get_or ranks u 0) (beside : (v u : ℕ) → dart_at map e ≡ Some (v, u) → b ≡ get_or ranks u 0) where
@@ -169,9 +142,7 @@ module _ (lists : Lists) (v : ℕ) (list ranks : List ℕ) (is : IsListOf lists 
       behind (inl b) = b
       behind (inr b) =
           let e : again ≡ end = omega (arith, b, m) in
-          let under = subst (λ i. IsEarlier ranks k list i) e (there n) in
-          let high = next l in
-          absurd (omega (arith, high, under))
+          absurd (omega (arith, next l, subst (λ i. IsEarlier ranks k list i) e (there n)))
 
   pub row-first : (0 < length list → IsEarlier ranks k list 0) → 0 < length list → IsLater ranks k list (length list - 1) → EndsRow lists ranks k v (get_or list 0 0)
   row-first low l late =
@@ -186,8 +157,7 @@ module _ (lists : Lists) (v : ℕ) (list ranks : List ℕ) (is : IsListOf lists 
   pub none-earlier : (first u : ℕ) → first ≡ length list → ((i : ℕ) → 0 ≤ i → i < first → IsLater ranks k list i) → HasDart lists v u → get_or ranks u 0 < k → ⊥
   none-earlier first u e lates dart low =
       let at = entry-of u dart in
-      let late = lates at.0 (omega arith) (omega (arith, at.1, e)) in
-      omega (arith, ap (λ u. get_or ranks u 0) at.2, late, low)
+      omega (arith, ap (λ u. get_or ranks u 0) at.2, lates at.0 (omega arith) (omega (arith, at.1, e)), low)
 
   -- none is later
   none-later : (first end u : ℕ) → first ≤ 0 → (first < length list → IsEarlier ranks k list first) → end ≡ length list → ((i : ℕ) → first + 1 ≤ i → i < end → IsEarlier ranks k list i) → HasDart lists v u → k ≤ get_or ranks u 0 → ⊥
@@ -218,6 +188,4 @@ only-rank ranks at rank u r s l is_at is_rank = sym (rank.of_vertex u l) ∙ ap 
 -- a search of a list comes to what stands in it
 pub not-none : (P : ℕ → Type 0) (us : List ℕ) (n u : ℕ) → length us ≤ n → Contains us u → P u → ((j : ℕ) → j < n → ¬ P (get_or us j 0)) → ⊥
 not-none P us n u all on p none =
-    let e = get_or_default us on.0 0 u on.1 ∙ on.2 in
-    let m = on.1 in
-    none on.0 (omega arith) (subst P (sym e) p)
+    none on.0 (omega arith) (subst P (sym (get_or_default us on.0 0 u on.1 ∙ on.2)) p)

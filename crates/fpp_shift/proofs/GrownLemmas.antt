@@ -62,23 +62,18 @@ module _ (name : ℕ → ℕ) (steps : ℕ → Step) (n : ℕ) (run : IsRun step
   -- an offset between vertices that move alike stays
   from-alike : (z u : ℕ) → z < g.count → u < g.count → g.place z ≡ g.place u → t'.x u ≡ t.x u → IsFrom t at z u → IsFrom t' (shift_points steps (suc n)) z u
   from-alike z u lz lu same kept from =
-      let xz = ap pos (x_after-older g s at z lz) in
-      let xu = ap pos (x_after-older g s at u lu) in
-      let m : shift s (g.place z) ≡ shift s (g.place u) = ap (shift s) same in
-      omega (arith, ints, x_after-older g s at z lz, x_after-older g s at u lu, m, kept, from)
+      omega (arith, ints, x_after-older g s at z lz, x_after-older g s at u lu, ap (shift s) same, kept, from)
 
   -- a hidden vertex keeps its node
   hidden-x : (u : ℕ) → u < g.count → g.vertex (g.place u) ≢ u → t'.x u ≡ t.x u
   hidden-x u l gone =
-      let o = step.order in
       let w = step.within in
-      wrote.xs u l (hidden u gone s.last w) (hidden u gone (suc s.first) (omega arith))
+      wrote.xs u l (hidden u gone s.last w) (hidden u gone (suc s.first) (omega (arith, step.order)))
 
   hidden-right : (u : ℕ) → u < g.count → g.vertex (g.place u) ≢ u → t'.right u ≡ t.right u
   hidden-right u l gone =
-      let o = step.order in
       let w = step.within in
-      wrote.rights u l (hidden u gone s.first (omega arith)) (λ i a b. hidden u gone i (omega arith))
+      wrote.rights u l (hidden u gone s.first (omega (arith, step.order))) (λ i a b. hidden u gone i (omega arith))
 
   -- x after the step, of a vertex of the contour before it
   contour-x : (i : ℕ) → i < g.width → (shift_points steps (suc n)).x (g.vertex i) ≡ at.x (g.vertex i) + shift s i
@@ -87,21 +82,17 @@ module _ (name : ℕ → ℕ) (steps : ℕ → Step) (n : ℕ) (run : IsRun step
   -- a vertex of the contour that is not at the places where something is written
   kept-x : (j : ℕ) → j < g.width → j ≢ s.last → j ≢ suc s.first → t'.x (g.vertex j) ≡ t.x (g.vertex j)
   kept-x j l nl nf =
-      let o = step.order in
       let w = step.within in
-      wrote.xs (g.vertex j) (stage.placed j l) (apart j s.last l w nl) (apart j (suc s.first) l (omega arith) nf)
+      wrote.xs (g.vertex j) (stage.placed j l) (apart j s.last l w nl) (apart j (suc s.first) l (omega (arith, step.order)) nf)
 
   kept-right : (j : ℕ) → j < g.width → j ≢ s.first → ((suc j ≡ s.last) → s.first < j → ⊥) → t'.right (g.vertex j) ≡ t.right (g.vertex j)
   kept-right j l nf nl =
-      let o = step.order in
       let w = step.within in
-      wrote.rights (g.vertex j) (stage.placed j l) (apart j s.first l (omega arith) nf) (λ i a b. apart j i l (omega arith) (λ e. nl (ap suc e ∙ b) (omega (arith, e, a))))
+      wrote.rights (g.vertex j) (stage.placed j l) (apart j s.first l (omega (arith, step.order)) nf) (λ i a b. apart j i l (omega arith) (λ e. nl (ap suc e ∙ b) (omega (arith, e, a))))
 
   at-zero : t'.x 0 ≡ t.x 0
   at-zero =
-      let o = step.order in
-      let w = step.within in
-      ap t'.x (sym stage.begin) ∙ kept-x 0 (omega arith) (λ e. omega arith) (λ e. omega arith) ∙ ap t.x stage.begin
+      ap t'.x (sym stage.begin) ∙ kept-x 0 (omega (arith, step.within)) (λ e. omega (arith, step.order)) (λ e. omega arith) ∙ ap t.x stage.begin
 
   -- the links and offsets of covered vertices
   left-after : (k : ℕ) → k < suc n → t'.left (k + 2) ≡ first_covered name (stage_after steps k) (steps k)
@@ -111,21 +102,10 @@ module _ (name : ℕ → ℕ) (steps : ℕ → Step) (n : ℕ) (run : IsRun step
   ]
 
   right-new : (i : ℕ) → s.first < i → i < s.last → t'.right (g.vertex i) ≡ next_covered name g s i
-  right-new i a b =
-      let w = step.within in
-      elim (cases_lt (suc i) s.last) [
-        | inl c ↦ kept-right i (omega arith) (λ e. omega arith) (λ e x. omega arith) ∙ grown.along i (omega arith) ∙ sym (next-some (suc i) s.last (Some (name (g.vertex (suc i)))) c)
-        | inr c ↦ wrote.last_right i a (omega arith) ∙ sym (next-none (suc i) s.last (Some (name (g.vertex (suc i)))) c)
-      ]
+  right-new i a b = grind (arith, step, cases_lt, kept-right, next-some, Some, next-none)
 
   right-after : (k i : ℕ) → k < suc n → (steps k).first < i → i < (steps k).last → t'.right ((stage_after steps k).vertex i) ≡ next_covered name (stage_after steps k) (steps k) i
-  right-after k i l a b = elim (cases_eq k n) [
-    | inl e ↦
-        subst (λ k. (steps k).first < i → i < (steps k).last → t'.right ((stage_after steps k).vertex i) ≡ next_covered name (stage_after steps k) (steps k) i) (sym e) (right-new i) a b
-    | inr ne ↦
-        let m : k < n = omega arith in
-        hidden-right ((stage_after steps k).vertex i) (covered-placed k i m a b) (covered-hidden k i m a b) ∙ grown.covered.right k i m a b
-  ]
+  right-after k i l a b = grind (arith, cases_eq, stage_after, next_covered, right-new, hidden-right, covered-placed, covered-hidden)
 
   first-new : suc s.first < s.last → IsFrom t' (shift_points steps (suc n)) (n + 2) (g.vertex (suc s.first))
   first-new c = subst (λ v. IsFrom t' (shift_points steps (suc n)) v (g.vertex (suc s.first))) count (wrote.first_x c)
@@ -143,44 +123,20 @@ module _ (name : ℕ → ℕ) (steps : ℕ → Step) (n : ℕ) (run : IsRun step
   next-new : (i : ℕ) → s.first < i → suc i < s.last → IsFrom t' (shift_points steps (suc n)) (g.vertex i) (g.vertex (suc i))
   next-new i a b =
       let w = step.within in
-      let z = contour-x i (omega arith) in
-      let u = contour-x (suc i) (omega arith) in
       let m = shift-between s i a (omega arith) in
       let m' = shift-between s (suc i) (omega arith) b in
       let kept = kept-x (suc i) (omega arith) (λ e. omega arith) (λ e. omega arith) in
       let gap = grown.gaps i (omega arith) in
-      omega (arith, ints, z, u, m, m', kept, gap)
+      omega (arith, ints, contour-x i (omega arith), contour-x (suc i) (omega arith), m, m', kept, gap)
 
   next-after : (k i : ℕ) → k < suc n → (steps k).first < i → suc i < (steps k).last → IsFrom t' (shift_points steps (suc n)) ((stage_after steps k).vertex i) ((stage_after steps k).vertex (suc i))
-  next-after k i l a b = elim (cases_eq k n) [
-    | inl e ↦
-        subst (λ k. (steps k).first < i → suc i < (steps k).last → IsFrom t' (shift_points steps (suc n)) ((stage_after steps k).vertex i) ((stage_after steps k).vertex (suc i))) (sym e) (next-new i) a b
-    | inr ne ↦
-        let m : k < n = omega arith in
-        let z = (stage_after steps k).vertex i in
-        let u = (stage_after steps k).vertex (suc i) in
-        let placed = covered-placed k (suc i) m (omega arith) b in
-        from-alike z u (covered-placed k i m a (omega arith)) placed (covered-place k i m a (omega arith) ∙ sym (covered-place k (suc i) m (omega arith) b)) (hidden-x u placed (covered-hidden k (suc i) m (omega arith) b)) (grown.covered.next k i m a b)
-  ]
+  next-after k i l a b = grind (arith, cases_eq, IsFrom, shift_points, stage_after, next-new, covered-placed, from-alike, covered-place, hidden-x, covered-hidden)
 
   heights-after : (k : ℕ) → k < suc n + 2 → t'.y k ≡ pos ((shift_points steps (suc n)).y k)
-  heights-after k l = elim (cases_lt k (n + 2)) [
-    | inl old ↦ wrote.ys k (omega (arith, count)) ∙ grown.covered.heights k old ∙ ap pos (sym (y_after-older g s at k (omega (arith, count))))
-    | inr new ↦
-        let e : k ≡ g.count = omega (arith, count) in
-        ap t'.y e ∙ wrote.new_y ∙ ap pos (sym (y_after-new g s at g.count refl)) ∙ ap (λ v. pos (y_after g s at v)) (sym e)
-  ]
+  heights-after k l = grind (arith, cases_lt, count, pos, y_after-older, at, y_after-new, y_after)
 
   covered-after : AreCovered name steps (suc n) t'
-  covered-after = record {
-    base_left = (wrote.lefts 0 (omega (arith, count)) ∙ grown.covered.base_left.0, wrote.lefts 1 (omega (arith, count)) ∙ grown.covered.base_left.1);
-    left = left-after;
-    right = right-after;
-    first = first-after;
-    next = next-after;
-    heights = heights-after;
-    root = at-zero ∙ grown.covered.root;
-  }
+  covered-after = grind (arith, count, left-after, right-after, first-after, next-after, heights-after, at-zero)
 
   -- the contour after the step
   along-low : (i : ℕ) → suc i ≤ s.first → t'.right (vertex_after g s i) ≡ Some (name (vertex_after g s (suc i)))
@@ -196,8 +152,6 @@ module _ (name : ℕ → ℕ) (steps : ℕ → Step) (n : ℕ) (run : IsRun step
 
   along-after : (i : ℕ) → suc i < (after g s).width → t'.right (vertex_after g s i) ≡ Some (name (vertex_after g s (suc i)))
   along-after i l =
-      let o = step.order in
-      let w = step.within in
       elim (cases_lt i s.first) [
         | inl a ↦ along-low i (omega arith)
         | inr a ↦ elim (cases_eq i s.first) [
@@ -210,17 +164,7 @@ module _ (name : ℕ → ℕ) (steps : ℕ → Step) (n : ℕ) (run : IsRun step
       ]
 
   gap-low : (i : ℕ) → suc i ≤ s.first → IsFrom t' (shift_points steps (suc n)) (vertex_after g s i) (vertex_after g s (suc i))
-  gap-low i a =
-      let o = step.order in
-      let w = step.within in
-      let z = contour-x i (omega arith) in
-      let u = contour-x (suc i) (omega arith) in
-      let m = shift-low s i (omega arith) in
-      let m' = shift-low s (suc i) a in
-      let kept = kept-x (suc i) (omega arith) (λ e. omega arith) (λ e. omega arith) in
-      let gap = grown.gaps i (omega arith) in
-      let from : IsFrom t' (shift_points steps (suc n)) (g.vertex i) (g.vertex (suc i)) = omega (arith, ints, z, u, m, m', kept, gap) in
-      subst (λ v. IsFrom t' (shift_points steps (suc n)) v (vertex_after g s (suc i))) (sym (vertex_after-low g s i (omega arith))) (subst (IsFrom t' (shift_points steps (suc n)) (g.vertex i)) (sym (vertex_after-low g s (suc i) a)) from)
+  gap-low i a = grind (arith, step, contour-x, shift-low, kept-x, IsFrom, shift_points, ints, vertex_after, vertex_after-low)
 
   gap-high : (i j : ℕ) → suc s.first < i → s.last ≤ j → suc j < g.width → i + s.last ≡ j + suc (suc s.first) → IsFrom t' (shift_points steps (suc n)) (vertex_after g s i) (vertex_after g s (suc i))
   gap-high i j a b l e =
@@ -230,23 +174,18 @@ module _ (name : ℕ → ℕ) (steps : ℕ → Step) (n : ℕ) (run : IsRun step
       let m = shift-high s j o b in
       let m' = shift-high s (suc j) o (omega arith) in
       let kept = kept-x (suc j) l (λ e. omega arith) (λ e. omega arith) in
-      let gap = grown.gaps j l in
-      let from : IsFrom t' (shift_points steps (suc n)) (g.vertex j) (g.vertex (suc j)) = omega (arith, ints, z, u, m, m', kept, gap) in
+      let from : IsFrom t' (shift_points steps (suc n)) (g.vertex j) (g.vertex (suc j)) = omega (arith, ints, z, u, m, m', kept, grown.gaps j l) in
       subst (λ v. IsFrom t' (shift_points steps (suc n)) v (vertex_after g s (suc i))) (sym (vertex_after-high g s i j a b e)) (subst (IsFrom t' (shift_points steps (suc n)) (g.vertex j)) (sym (vertex_after-high g s (suc i) (suc j) (omega arith) (omega arith) (omega arith))) from)
 
   gap-new : IsFrom t' (shift_points steps (suc n)) (g.vertex s.first) g.count
   gap-new =
       let o = step.order in
       let w = step.within in
-      let z = contour-x s.first (omega arith) in
-      let m = shift-low s s.first (omega arith) in
       let new = wrote.new_x in
-      omega (arith, ints, z, m, new)
+      omega (arith, ints, contour-x s.first (omega arith), shift-low s s.first (omega arith), new)
 
   gaps-after : (i : ℕ) → suc i < (after g s).width → IsFrom t' (shift_points steps (suc n)) (vertex_after g s i) (vertex_after g s (suc i))
   gaps-after i l =
-      let o = step.order in
-      let w = step.within in
       elim (cases_lt i s.first) [
         | inl a ↦ gap-low i (omega arith)
         | inr a ↦ elim (cases_eq i s.first) [
@@ -271,29 +210,11 @@ module _ (name : ℕ → ℕ) (steps : ℕ → Step) (n : ℕ) (run : IsRun step
 
   -- the step keeps the tree
   pub IsGrown-after : IsGrown name steps (suc n) t'
-  IsGrown-after = record {
-    covered = covered-after;
-    along = along-after;
-    end = end-after;
-    gaps = gaps-after;
-  }
+  IsGrown-after = grind (arith, covered-after, along-after, end-after, gaps-after)
 
 -- two nodes, of which the first leads to the second
 pub IsGrown-base : (name : ℕ → ℕ) (steps : ℕ → Step) (t : Links) → (t.left 0 ≡ None) × (t.left 1 ≡ None) → t.right 0 ≡ Some (name 1) → t.right 1 ≡ None → (t.x 0 ≡ pos 0) × (t.x 1 ≡ pos 0) → (t.y 0 ≡ pos 0) × (t.y 1 ≡ pos 0) → IsGrown name steps 0 t
-IsGrown-base name steps t lefts first second xs ys = record {
-  covered = record {
-    base_left = lefts;
-    left = λ k l. absurd (omega arith);
-    right = λ k i l a b. absurd (omega arith);
-    first = λ k l c. absurd (omega arith);
-    next = λ k i l a b. absurd (omega arith);
-    heights = λ k l. elim (cases_eq k 0) [ inl e ↦ ap t.y e ∙ ys.0 | inr ne ↦ let e : k ≡ 1 = omega arith in ap t.y e ∙ ys.1 ];
-    root = xs.0;
-  };
-  along = λ i l. let e : i ≡ 0 = omega arith in ap t.right e ∙ first ∙ ap (λ j. Some (name (suc j))) (sym e);
-  end = second;
-  gaps = λ i l. let e : i ≡ 0 = omega arith in let x = ap (λ j. t.x (suc j)) e ∙ xs.1 in omega (arith, ints, x);
-}
+IsGrown-base name steps t lefts first second xs ys = grind (arith, cases_eq, Some, ints)
 
 -- where the last vertex has covered all but the base, it is the tree of offsets
 pub IsOffsetTree-grown : (name : ℕ → ℕ) (steps : ℕ → Step) (n : ℕ) (t : Links) → IsRun steps (suc n) → (stage_after steps (suc n)).width ≡ 3 → IsGrown name steps (suc n) t → IsOffsetTree name steps (suc n) t
@@ -319,7 +240,5 @@ IsOffsetTree-grown name steps n t run three grown = record {
     middle : g.vertex 1 ≡ suc n + 1
     middle =
         let step = run n (omega arith) in
-        let o = step.order in
-        let w = step.within in
         let count = count-stage_after steps n in
-        vertex_after-new (stage_after steps n) (steps n) 1 (omega (arith, o, w, three)) ∙ omega (arith, count)
+        vertex_after-new (stage_after steps n) (steps n) 1 (omega (arith, step.order, step.within, three)) ∙ omega (arith, count)

@@ -69,25 +69,13 @@ module _ (name : ℕ → ℕ) (steps : ℕ → Step) (n : ℕ) (some : 1 ≤ n) 
       let k : ℕ = n - 1 in
       let d : suc k ≡ n = omega arith in
       let step = run k (omega arith) in
-      let o = step.order in
-      let w = step.within in
       let wide = ap (λ i. (stage_after steps i).width) d ∙ end in
       let e : (stage_after steps (suc k)).vertex 1 ≡ (stage_after steps k).count = vertex_after-new (stage_after steps k) (steps k) 1 (omega arith) in
       omega (arith, ap (λ i. (stage_after steps i).vertex 1) d, e, count-stage_after steps k)
 
   -- what stands on it
   on_last : (z : ℕ) → z < n + 2 → (stage_after steps n).vertex ((stage_after steps n).place z) ≡ z → (z ≡ 0) ⊎ ((z ≡ n + 1) ⊎ (z ≡ 1))
-  on_last z l e =
-      let s = stage n (omega arith) in
-      let p : ℕ = (stage_after steps n).place z in
-      let within = s.within z (omega (arith, count-stage_after steps n)) in
-      elim (cases_eq p 0) [
-        | inl a ↦ inl (sym e ∙ ap (stage_after steps n).vertex a ∙ s.begin)
-        | inr a ↦ elim (cases_eq p 1) [
-          | inl b ↦ inr (inl (sym e ∙ ap (stage_after steps n).vertex b ∙ top_at))
-          | inr b ↦ inr (inr (sym e ∙ s.end p (omega (arith, end))))
-        ]
-      ]
+  on_last z l e = grind (arith, stage, stage_after, cases_eq, top_at, count-stage_after)
 
   -- what is covered is older, and no vertex of the base
   covered-older : (k u : ℕ) → k < n → IsCovered steps k u → (u < k + 2) × (u ≢ 0) × (u ≢ 1)
@@ -96,9 +84,6 @@ module _ (name : ℕ → ℕ) (steps : ℕ → Step) (n : ℕ) (some : 1 ≤ n) 
       let s = stage k (omega arith) in
       let g = stage_after steps k in
       let step = run k l in
-      let w = step.within in
-      let wide = s.wide in
-      let lo = c.low in
       let hi = c.high in (
         own.0,
         λ e. (let same = sym own.1 ∙ ap g.place (e ∙ sym s.begin) ∙ s.own 0 (omega arith) in omega (arith, same)),
@@ -123,13 +108,7 @@ module _ (name : ℕ → ℕ) (steps : ℕ → Step) (n : ℕ) (some : 1 ≤ n) 
   -- where a right link leads
   pub right-link : (z w : ℕ) → z < n + 2 → t.right z ≡ Some w → (u : ℕ) × (name u ≡ w) × IsRight steps n z u
   right-link z w l e = elim (stands_or_covered steps n z run l) [
-    | inl on ↦ elim (on_last z l on) [
-      | inl a ↦ let f : Some (name (n + 1)) ≡ Some w = sym tree.first_right ∙ ap t.right (sym a) ∙ e in (n + 1, cc, inr (inl record { from = a; vertex = refl }))
-      | inr more ↦ elim more [
-        | inl a ↦ let f : Some (name 1) ≡ Some w = sym tree.last_right ∙ ap t.right (sym a) ∙ e in (1, cc, inr (inr record { from = a; vertex = refl }))
-        | inr a ↦ absurd (not-some (t.right 1) w tree.second_right (ap t.right (sym a) ∙ e))
-      ]
-    ]
+    | inl on ↦ grind (arith, on_last, Some, not-some)
     | inr found ↦
         let k = found.0 in
         let c = found.2 in
@@ -149,7 +128,6 @@ module _ (name : ℕ → ℕ) (steps : ℕ → Step) (n : ℕ) (some : 1 ≤ n) 
 
   pub under-next : (z u : ℕ) → IsToNext steps n z u → IsUnder steps n z u
   under-next z u f =
-      let lo = f.low in
       let d : f.place ≡ suc f.place - 1 = omega arith in
       record {
         step = f.step;
@@ -211,15 +189,11 @@ module _ (name : ℕ → ℕ) (steps : ℕ → Step) (n : ℕ) (some : 1 ≤ n) 
   unfolding under-next under-first
   left-apart z u w a b e =
       let under = under-first z u a in
-      let new = a.new in
       elim b [
         | inl b ↦
             let other = under-next z w b in
             let same = covered_alone steps b.step a.step n w run b.earlier a.earlier other.covered (subst (IsCovered steps a.step) e under.covered) in
-            let hi = b.high in
-            let older = covered-older b.step z b.earlier (record { place = b.place; low = b.low; high = omega arith; vertex = b.from }) in
-            let l = older.0 in
-            omega arith
+            omega (arith, covered-older b.step z b.earlier (record { place = b.place; low = b.low; high = omega arith; vertex = b.from }))
         | inr b ↦ elim b [ inl b ↦ let f = b.from in omega arith | inr b ↦ not-under-end z u under (e ∙ b.vertex) ]
       ]
 
@@ -229,14 +203,7 @@ module _ (name : ℕ → ℕ) (steps : ℕ → Step) (n : ℕ) (some : 1 ≤ n) 
       subst (λ u. IsFrom t (shift_points steps n) z u) a.vertex (subst (λ z. IsFrom t (shift_points steps n) z ((stage_after steps a.step).vertex (suc (steps a.step).first))) a.new (tree.covered.first a.step a.earlier a.covers))
 
   pub right-from : (z u : ℕ) → IsRight steps n z u → IsFrom t (shift_points steps n) z u
-  right-from z u a = elim a [
-    | inl a ↦
-        subst (λ u. IsFrom t (shift_points steps n) z u) a.vertex (subst (λ z. IsFrom t (shift_points steps n) z ((stage_after steps a.step).vertex (suc a.place))) a.from (tree.covered.next a.step a.place a.earlier a.low a.high))
-    | inr a ↦ elim a [
-      | inl a ↦ subst (λ u. IsFrom t (shift_points steps n) z u) (sym a.vertex) (subst (λ z. IsFrom t (shift_points steps n) z (n + 1)) (sym a.from) tree.last_offset)
-      | inr a ↦ subst (λ u. IsFrom t (shift_points steps n) z u) (sym a.vertex) (subst (λ z. IsFrom t (shift_points steps n) z 1) (sym a.from) tree.second_offset)
-    ]
-  ]
+  right-from z u a = grind (arith, IsFrom, shift_points, stage_after)
 
   -- what holds of the first vertex, and goes along links, holds of each
   module _ (R : ℕ → Type 0) (begins : R 0) (goes : (z u : ℕ) → z < n + 2 → R z → (t.left z ≡ Some (name u)) ⊎ (t.right z ≡ Some (name u)) → R u) where
@@ -249,7 +216,6 @@ module _ (name : ℕ → ℕ) (steps : ℕ → Step) (n : ℕ) (some : 1 ≤ n) 
         let i : ℕ = suc (steps k).first + d in
         let e : suc i ≡ suc (steps k).first + suc d = omega arith in
         let step = run k l in
-        let w = step.within in
         let old = (stage k (omega arith)).placed i (omega arith) in
         subst (λ i. R ((stage_after steps k).vertex i)) e
         (goes ((stage_after steps k).vertex i) ((stage_after steps k).vertex (suc i)) (omega (arith, count-stage_after steps k)) (along k l r d (omega arith))
@@ -267,9 +233,6 @@ module _ (name : ℕ → ℕ) (steps : ℕ → Step) (n : ℕ) (some : 1 ≤ n) 
       | inr found ↦
           let k = found.0 in
           let c = found.2 in
-          let lo = c.low in
-          let hi = c.high in
-          let earlier = found.1 in
           let older = (covered-older k u found.1 c).0 in
           let d : suc (steps k).first + (c.place - suc (steps k).first) ≡ c.place = omega arith in
           subst R (ap (stage_after steps k).vertex d ∙ c.vertex) (along k found.1 (reaches m (k + 2) (omega arith) (omega arith)) (c.place - suc (steps k).first) (omega arith))

@@ -8,7 +8,7 @@ use Rattle.classes.proofs.Counting.{count_below_all, count_below_into}
 use Rattle.fpp_shift.specs.declared.offset_trees.tree_nodes.Node.{Node}
 use Rattle.fpp_shift.specs.Nodes.{node_at, LeadsTo}
 use Rattle.pg_plane.specs.Range.{IsWithin}
-use Rattle.pg_plane.specs.declared.segments.Point.{Point}
+use Rattle.pg_plane.specs.declared.grid_points.Point.{Point}
 use Rattle.plane_drawings.specs.Drawing.{place}
 use Rattle.fpp_shift.specs.Ways.{IsWay, sum_x, IsTree, ArePointsOf}
 use Rattle.fpp_shift.specs.Sums.{link_of, link_number, IsMet, IsLinked, sum_at, AreMet, IsNext, own_point, point_beside}
@@ -75,20 +75,17 @@ met-cases met u w is =
     elim (cases_lt is.0 (length met)) [
       | inl l ↦ inl (is.0, l, sym (get_or_append_left met (u ∷ []) 0 is.0 l) ∙ is.2)
       | inr l ↦
-          let n : length (met ++ u ∷ []) ≡ length met + 1 = length-append met (u ∷ []) in
-          let here : is.0 ≡ length met = omega (arith, is.1) in
+          let here : is.0 ≡ length met = omega (arith, length-append met (u ∷ []), is.1) in
           inr (sym is.2 ∙ ap (λ (i : ℕ). get_or (met ++ u ∷ []) i 0) here ∙ get_or-append_seam met u [] 0)
     ]
 
 met-old : (met : List ℕ) (u w : ℕ) → IsMet met w → IsMet (met ++ u ∷ []) w
 met-old met u w is =
-    let n : length (met ++ u ∷ []) ≡ length met + 1 = length-append met (u ∷ []) in
-    (is.0, omega (arith, is.1), get_or_append_left met (u ∷ []) 0 is.0 is.1 ∙ is.2)
+    (is.0, omega (arith, length-append met (u ∷ []), is.1), get_or_append_left met (u ∷ []) 0 is.0 is.1 ∙ is.2)
 
 met-new : (met : List ℕ) (u : ℕ) → IsMet (met ++ u ∷ []) u
 met-new met u =
-    let n : length (met ++ u ∷ []) ≡ length met + 1 = length-append met (u ∷ []) in
-    (length met, omega arith, get_or-append_seam met u [] 0)
+    (length met, omega (arith, length-append met (u ∷ [])), get_or-append_seam met u [] 0)
 
 -- what was gone along is gone along later too, where the place is an old one
 old-place : (met : List ℕ) (u i : ℕ) → i < length met → get_or (met ++ u ∷ []) i 0 ≡ get_or met i 0
@@ -138,27 +135,11 @@ module _ (nodes : List Node) (met : List ℕ) (h v : ℕ) (link : Option ℕ) (n
 
   -- that link itself, by what it leads to
   linked-here : (w : ℕ) → link ≡ Some w → IsLinked nodes met (h + 1) w
-  linked-here w leads = record {
-    place = next.place;
-    is_right = next.is_right;
-    gone = (next.within, omega (arith, next.number));
-    leads = ap (link_of nodes next.is_right) next.vertex ∙ next.link_is ∙ leads;
-  }
+  linked-here w leads = grind (arith, leads, place, link_of)
 
 -- the link leads nowhere
 pub AreMet-none : (nodes : List Node) (root : ℕ) (met : List ℕ) (sums : List Point) (h v : ℕ) → AreMet nodes root met sums h → IsNext nodes met h v None → AreMet nodes root met sums (h + 1)
-AreMet-none nodes root met sums h v m next = record {
-  apart = m.apart;
-  inside = m.inside;
-  begins = m.begins;
-  linked = λ u is. elim (m.linked u is) [ inl e ↦ inl e | inr l ↦ inr (linked-later nodes met h u l) ];
-  closed = λ u l. elim (linked-cases nodes met h v None next u l) [ inl old ↦ m.closed u old | inr none ↦ absurd (none_is_some u none) ];
-  added = m.added;
-  high = m.high;
-}
-  where
-    none_is_some : (u : ℕ) → None ≡ Some u → ⊥
-    none_is_some u e = cc
+AreMet-none nodes root met sums h v m next = grind (arith, linked-later, linked-cases, None, Some)
 
 -- it leads to u
 module _ (nodes : List Node) (root : ℕ) (tree : IsTree nodes root) (met : List ℕ) (sums : List Point) (h v u : ℕ) (m : AreMet nodes root met sums h) (next : IsNext nodes met h v (Some u)) where
@@ -237,16 +218,7 @@ module _ (nodes : List Node) (root : ℕ) (tree : IsTree nodes root) (met : List
 
       -- no link of u was gone along
       linked-before : (w : ℕ) → IsLinked nodes (met ++ u ∷ []) (h + 1) w → IsLinked nodes met h w ⊎ (Some u ≡ Some w)
-      linked-before w l =
-          let before : link_number l.place l.is_right < link_number next.place next.is_right + 1 = omega (arith, l.gone.1, next.number) in
-          let place = earlier-place next.place l.place next.is_right l.is_right before in
-          let old : l.place < length met = omega (arith, place, next.within) in
-          linked-cases nodes met h v (Some u) next w (record {
-            place = l.place;
-            is_right = l.is_right;
-            gone = (old, l.gone.1);
-            leads = sym (ap (link_of nodes l.is_right) (old-place met u l.place old)) ∙ l.leads;
-          })
+      linked-before w l = grind (arith, link_number, place, earlier-place, length, linked-cases, Some, leads, link_of, old-place)
 
       u-added : (us : List ℕ) → IsWay nodes root us u → sum_at sums' u ≡ sum_x nodes (root ∷ us)
       u-added us way = elim (way-last nodes root us u way) [
@@ -289,8 +261,7 @@ AreMet-root nodes root tree points here = record {
 pub AreMet-first : (nodes : List Node) (root : ℕ) → IsTree nodes root → (met met' : List ℕ) (points points' : List Point) (point : Point) → length met ≡ length nodes → length points ≡ length nodes → met' ≡ set met 0 root → points' ≡ set points root point → point ≡ own_point (node_at nodes root) → AreMet nodes root (take 1 met') points' 0
 AreMet-first nodes root tree met met' points points' point room many longer put is =
     let inside = tree.inside in
-    let alone : take 1 met' ≡ root ∷ [] = ap (take 1) longer ∙ take_more_set met 0 root (omega (arith, inside, room)) in
-    subst (λ (us : List ℕ). AreMet nodes root us points' 0) (sym alone)
+    subst (λ (us : List ℕ). AreMet nodes root us points' 0) (sym (ap (take 1) longer ∙ take_more_set met 0 root (omega (arith, inside, room))))
     (AreMet-root nodes root tree points' (ap (λ (l : List Point). place l root) put ∙ get_or-set_same points root point (record { x = pos 0; y = pos 0 }) (omega (arith, inside, many)) ∙ is))
 
 -- both links of the vertex at place i are gone along
@@ -316,10 +287,8 @@ AreMet-beyond nodes root met sums i l m = record {
 -- those met are at most all vertices
 few-met : (nodes : List Node) (root : ℕ) (met : List ℕ) (sums : List Point) (h : ℕ) → AreMet nodes root met sums h → length met ≤ length nodes
 few-met nodes root met sums h m =
-    let all = count_below_all (length met) in
-    let most = count_below_all (length nodes) in
     let into = count_below_into (λ i. get_or met i 0) (λ i. true) (λ i. true) (length met) (length nodes) (λ i l _. (m.inside (get_or met i 0) (i, l, refl), refl)) (λ i j l l' _ _ e. m.apart i j l l' e) in
-    omega (arith, all, most, into)
+    omega (arith, count_below_all (length met), count_below_all (length nodes), into)
 
 -- so there is room for one that is met by a link
 pub met-room : (nodes : List Node) (root : ℕ) → IsTree nodes root → (met : List ℕ) (filled : ℕ) (points : List Point) (h v u : ℕ) → AreMet nodes root (take filled met) points h → IsNext nodes (take filled met) h v (Some u) → length points ≡ length nodes → filled ≤ length met → filled < length nodes
@@ -327,10 +296,8 @@ met-room nodes root tree met filled points h v u m next many few =
     let l = u-inside nodes root tree (take filled met) points h v u m next in
     let point : Point = point_beside (place points v) (node_at nodes u) in
     let more = AreMet-more nodes root tree (take filled met) points h v u m next (set points u point) (get_or-set_same points u point (record { x = pos 0; y = pos 0 }) (omega (arith, l, many))) (λ w other. get_or-set_other points u w point (record { x = pos 0; y = pos 0 }) other) in
-    let most = few-met nodes root (take filled met ++ u ∷ []) (set points u point) (h + 1) more in
-    let n : length (take filled met ++ u ∷ []) ≡ length (take filled met) + 1 = length-append (take filled met) (u ∷ []) in
     let k = length-take-le filled met few in
-    omega (arith, most, n, k)
+    omega (arith, few-met nodes root (take filled met ++ u ∷ []) (set points u point) (h + 1) more, length-append (take filled met) (u ∷ []), k)
 
 -- all links are gone along, so all vertices are met
 module _ (nodes : List Node) (root : ℕ) (tree : IsTree nodes root) (met : List ℕ) (sums : List Point) (m : AreMet nodes root met sums (2 * length nodes)) where
@@ -361,24 +328,10 @@ module _ (nodes : List Node) (root : ℕ) (tree : IsTree nodes root) (met : List
 -- ---- the links of the vertex at place i
 
 next-left : (nodes : List Node) (met : List ℕ) (i v : ℕ) (node : Node) → i < length met → get_or met i 0 ≡ v → node ≡ node_at nodes v → IsNext nodes met (2 * i) v (option_map (λ u. u.0) node.left)
-next-left nodes met i v node l at is = record {
-  place = i;
-  is_right = false;
-  within = l;
-  vertex = at;
-  number = omega arith;
-  link_is = ap (λ (n : Node). option_map (λ u. u.0) n.left) (sym is);
-}
+next-left nodes met i v node l at is = grind (arith, place, Node, option_map)
 
 next-right : (nodes : List Node) (met : List ℕ) (i v : ℕ) (node : Node) → i < length met → get_or met i 0 ≡ v → node ≡ node_at nodes v → IsNext nodes met (2 * i + 1) v (option_map (λ u. u.0) node.right)
-next-right nodes met i v node l at is = record {
-  place = i;
-  is_right = true;
-  within = l;
-  vertex = at;
-  number = refl;
-  link_is = ap (λ (n : Node). option_map (λ u. u.0) n.right) (sym is);
-}
+next-right nodes met i v node l at is = grind (arith, place, Node, option_map)
 
 -- the left link of one of those met so far
 pub next-left-met : (nodes : List Node) (met : List ℕ) (i filled : ℕ) (node : Node) → i < filled → filled ≤ length met → node ≡ node_at nodes (get_or met i 0) → IsNext nodes (take filled met) (2 * i) (get_or met i 0) (option_map (λ u. u.0) node.left)

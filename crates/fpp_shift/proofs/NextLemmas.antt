@@ -52,39 +52,32 @@ module _ (at : List ℕ) (steps : ℕ → Step) (n : ℕ) (nodes : List Node) (v
   far-row : (i : ℕ) → s.first + i < g.width → pos (points.x (g.vertex s.first)) +ℤ far nodes row i ≡ pos (points.x (g.vertex (s.first + i)))
   far-row zero l = let x = ap (λ (j : ℕ). points.x (g.vertex j)) (at-first s.first) in omega (arith, ints, x)
   far-row (suc i) l =
-      let before = far-row i (omega arith) in
-      let gap = next.grown.gaps (s.first + i) (omega arith) in
       let x = ap (λ (j : ℕ). points.x (g.vertex j)) (at-next s.first i) in
       let offset = ap (λ (j : ℕ). (node_at nodes (get_or at (g.vertex j) 0)).x) (at-next s.first i) in
-      omega (arith, ints, before, gap, x, offset)
+      omega (arith, ints, far-row i (omega arith), next.grown.gaps (s.first + i) (omega arith), x, offset)
 
   near : (i : ℕ) → s.first + i < g.width → IsWithin (pos 1048576) (far nodes row i)
   near i l =
       let sum = far-row i l in
-      let few = next.few in
-      let many = next.many in
       let a = shift.wide (g.vertex s.first) (stage.placed s.first (omega arith)) in
       let b = shift.wide (g.vertex (s.first + i)) (stage.placed (s.first + i) l) in
-      record { least = omega (arith, ints, sum, a, b, few, many, count); most = omega (arith, ints, sum, a, b, few, many, count) }
+      record { least = omega (arith, ints, sum, a, b, next.few, next.many, count); most = omega (arith, ints, sum, a, b, next.few, next.many, count) }
 
   pub row-is : IsRow nodes row (s.last - s.first) p q
   row-is =
       let o = step.order in
       let w = step.within in
-      let f = stage.few in
-      let m = next.many in
       let c = next.count in
       record {
         begin = ap (λ (j : ℕ). get_or at (g.vertex j) 0) (at-first s.first) ∙ next.left;
         end = ap (λ (i : ℕ). get_or at (g.vertex i) 0) (omega arith) ∙ next.right;
         some = omega arith;
-        short = omega (arith, w, f, m, c, count);
+        short = omega (arith, w, stage.few, next.many, c, count);
         inside = λ i l. next.inside (g.vertex (s.first + i)) (placed (s.first + i) (omega arith));
         links = λ i l. next.grown.along (s.first + i) (omega arith) ∙ ap (λ (j : ℕ). Some (get_or at (g.vertex j) 0)) (sym (at-next s.first i));
         apart = λ i l e.
             let same = next.apart (g.vertex (s.first + i)) (g.vertex s.last) (placed (s.first + i) (omega arith)) (placed s.last w) (e ∙ sym next.right) in
-            let place : s.first + i ≡ s.last = sym (stage.own (s.first + i) (omega arith)) ∙ ap g.place same ∙ stage.own s.last w in
-            omega (arith, place, l);
+            omega (arith, sym (stage.own (s.first + i) (omega arith)) ∙ ap g.place same ∙ stage.own s.last w, l);
         near = λ i l. near i (omega arith);
       }
 
@@ -107,22 +100,19 @@ module _ (at : List ℕ) (steps : ℕ → Step) (n : ℕ) (nodes : List Node) (v
       let w = step.within in
       let a = shift.across s.first s.last (omega arith) w in
       let b = shift.along s.first s.last (omega arith) w in
-      let far_is = far-row (s.last - s.first) (omega arith) in
       let end = ap (λ (j : ℕ). points.x (g.vertex j)) (let e : s.first + (s.last - s.first) ≡ s.last = omega arith in e) in
-      let few = next.few in
-      let many = next.many in
       let q_wide = shift.wide (g.vertex s.last) (stage.placed s.last w) in
       let p_high = shift.high (g.vertex s.first) (stage.placed s.first (omega arith)) in
       let q_high = shift.high (g.vertex s.last) (stage.placed s.last w) in
       let m = across in
       let t = along in
       record {
-        apart_is = omega (arith, ints, far_is, end, a, b);
+        apart_is = omega (arith, ints, far-row (s.last - s.first) (omega arith), end, a, b);
         p_is = ap (λ (u : ℕ). (node_at nodes u).y) (sym next.left) ∙ next.grown.covered.heights (g.vertex s.first) (let l = stage.placed s.first (omega arith) in omega (arith, l, count));
         q_is = ap (λ (u : ℕ). (node_at nodes u).y) (sym next.right) ∙ next.grown.covered.heights (g.vertex s.last) (let l = stage.placed s.last w in omega (arith, l, count));
         across = omega (arith, a, b, m, t);
         high = omega (arith, a, b, m, t);
-        small = omega (arith, few, many, count, a, b, q_wide, p_high, q_high);
+        small = omega (arith, next.few, next.many, count, a, b, q_wide, p_high, q_high);
       }
 
   -- ---- what the writes ask for
@@ -142,9 +132,8 @@ module _ (at : List ℕ) (steps : ℕ → Step) (n : ℕ) (nodes : List Node) (v
 
   pub before-inside : (before : ℕ) → ((row' : ℕ → ℕ) (m : ℕ) → IsRow nodes row' (suc m) p q → before ≡ row' m) → before < length nodes
   before-inside before told =
-      let o = step.order in
       let m = s.last - s.first - 1 in
-      subst (λ (u : ℕ). u < length nodes) (sym (before-row before told m (omega arith))) (row-is.inside m (omega arith))
+      subst (λ (u : ℕ). u < length nodes) (sym (before-row before told m (omega (arith, step.order)))) (row-is.inside m (omega arith))
 
   -- the vertex after p
   pub first-of : (f : ℕ) × (right_of nodes p ≡ Some f) × (f < length nodes) × IsWithin (pos 1048576) (node_at nodes f).x
@@ -155,14 +144,7 @@ module _ (at : List ℕ) (steps : ℕ → Step) (n : ℕ) (nodes : List Node) (v
 
   -- the same top, from numbers that are told
   pub top-told : (a b c : ℤ) → a ≡ far nodes row (s.last - s.first) → b ≡ (node_at nodes p).y → c ≡ (node_at nodes q).y → IsTop a b c (x_q - x_p) (points.y (g.vertex s.first)) (points.y (g.vertex s.last)) (x_after g s points g.count - x_p) (y_after g s points g.count)
-  top-told a b c ea eb ec = record {
-    apart_is = ea ∙ top-is.apart_is;
-    p_is = eb ∙ top-is.p_is;
-    q_is = ec ∙ top-is.q_is;
-    across = top-is.across;
-    high = top-is.high;
-    small = top-is.small;
-  }
+  top-told a b c ea eb ec = grind (arith, top-is, across)
 
   pub near-q : IsWithin (pos 1048576) (far nodes row (s.last - s.first))
   near-q = row-is.near (s.last - s.first) (omega arith)
@@ -172,7 +154,5 @@ module _ (at : List ℕ) (steps : ℕ → Step) (n : ℕ) (nodes : List Node) (v
       (a b c : ℤ) → a ≡ far nodes row (s.last - s.first) → b ≡ (node_at nodes p).y → c ≡ (node_at nodes q).y → SFits w32 b → SFits w32 c
       → IsTop (to_z w32 (of_z w32 a)) (to_z w32 (of_z w32 b)) (to_z w32 (of_z w32 c)) (x_q - x_p) (points.y (g.vertex s.first)) (points.y (g.vertex s.last)) (x_after g s points g.count - x_p) (y_after g s points g.count)
   top-called a b c ea eb ec fb fc =
-      let least = near-q.least in
-      let most = near-q.most in
-      let fa : SFits w32 a = omega (arith, ints, ea, least, most) in
+      let fa : SFits w32 a = omega (arith, ints, ea, near-q.least, near-q.most) in
       top-told (to_z w32 (of_z w32 a)) (to_z w32 (of_z w32 b)) (to_z w32 (of_z w32 c)) (to_z-of_z w32 a fa ∙ ea) (to_z-of_z w32 b fb ∙ eb) (to_z-of_z w32 c fc ∙ ec)

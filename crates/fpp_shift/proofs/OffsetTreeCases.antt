@@ -25,19 +25,4 @@ heights (suc (suc (suc k))) l = absurd (omega arith)
 
 triangle_tree : IsOffsetTree (λ k. k) triangle_steps 1 triangle_links
 unfolding shift x_after y_after moved vertex_after place_after
-triangle_tree = record {
-  covered = record {
-    base_left = (refl, refl);
-    left = λ k l. refl;
-    right = λ k i l a b. absurd (omega arith);
-    first = λ k l c. absurd (omega arith);
-    next = λ k i l a b. absurd (omega arith);
-    heights = heights;
-    root = refl;
-  };
-  first_right = refl;
-  last_right = refl;
-  second_right = refl;
-  last_offset = refl;
-  second_offset = refl;
-}
+triangle_tree = grind (arith, heights)

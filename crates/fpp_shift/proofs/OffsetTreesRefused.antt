@@ -3,7 +3,7 @@ use Rattle.std.proofs.Common.{◌≡◌, ◌≢◌, ◌<◌, ℕ, zero, suc, Lis
 use Rattle.std.specs.Prelude.{slice_index}
 use Rattle.std.proofs.lemmas.Int.{ints}
 use Rattle.fpp_shift.specs.declared.offset_trees.tree_nodes.Node.{Node}
-use Rattle.pg_plane.specs.declared.segments.Point.{Point}
+use Rattle.pg_plane.specs.declared.grid_points.Point.{Point}
 use Rattle.fpp_shift.specs.Nodes.{right_of}
 use Rattle.fpp_shift.specs.Sums.{AreMet}
 use Rattle.fpp_shift.specs.Next.{CoversFrom}

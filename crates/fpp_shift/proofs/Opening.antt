@@ -15,10 +15,6 @@ use Rattle.fpp_shift.proofs.Steps.{shift-low, shift-between, shift-high, shift-l
 -- moves to the right that do not fall from a over v to b leave it so
 pub opened_more : (at to : Places) (a b v r s t : ℕ) → to.x a ≡ at.x a + r → to.x v ≡ at.x v + s → to.x b ≡ at.x b + t → to.y a ≡ at.y a → to.y v ≡ at.y v → to.y b ≡ at.y b → r ≤ s → s ≤ t → IsOpened at a b v → IsOpened to a b v
 opened_more at to a b v r s t xa xv xb ya yv yb l m o =
-    let e = o.b_across in
-    let f = o.b_along in
-    let p = o.v_across in
-    let q = o.v_along in
     record {
       wide = o.wide;
       long = o.long;
@@ -54,25 +50,13 @@ opened_new at a b v e f p q positive =
       b_along = omega arith;
       v_across = omega arith;
       v_along = omega arith;
-      positive = elim positive [
-        | inl h ↦ let w = h.0 in let l = h.1 in omega (arith, one_positive wide long (omega arith) (omega arith))
-        | inr h ↦
-            let w = h.0 in
-            let t = h.1 in
-            let r = h.2 in
-            elim (cases_lt 0 wide) [
-              | inl k ↦ omega (arith, one_positive wide tall k (omega arith))
-              | inr k ↦ omega (arith, one_positive left long (omega arith) (omega arith))
-            ]
-      ];
+      positive = grind (arith, one_positive, cases_lt);
     }
 
 module _ (g : Stage) (s : Step) (at : Places) (stage : IsStage g) (h : IsShift g at) (step : IsStep g s) where
   -- a face under the new vertex, by what its two other corners gain
   opened_by : (i n m : ℕ) → s.first ≤ i → i < s.last → shift s i ≡ n → shift s (suc i) ≡ m → n ≤ m → m ≤ 2 → (n < m) ⊎ ((1 ≤ n) × (m ≤ 1) × (at.x (g.vertex i) < at.x (g.vertex (suc i)))) → IsOpened (places_after g s at) (g.vertex i) (g.vertex (suc i)) g.count
   opened_by i n m l u en em le two gain =
-      let o = step.order in
-      let w = step.within in
       let xa = x_after-contour g s at stage h step i (omega arith) in
       let ya = y_after-contour g s at stage h step i (omega arith) in
       let xb = x_after-contour g s at stage h step (suc i) (omega arith) in
@@ -82,25 +66,12 @@ module _ (g : Stage) (s : Step) (at : Places) (stage : IsStage g) (h : IsShift g
       let ab = h.across i (suc i) (omega arith) (omega arith) in
       let ab' = h.along i (suc i) (omega arith) (omega arith) in
       let pa = h.across s.first i l (omega arith) in
-      let bq = h.along (suc i) s.last u w in
+      let bq = h.along (suc i) s.last u step.within in
       opened_new (places_after g s at) (g.vertex i) (g.vertex (suc i)) g.count (omega arith) (omega arith) (omega arith) (omega arith)
       (elim gain [ inl k ↦ inl (omega arith, omega arith) | inr k ↦ let a = k.0 in let b = k.1 in let c = k.2 in inr (omega arith, omega arith, omega arith) ])
 
   pub opened_made : (i : ℕ) → s.first ≤ i → i < s.last → IsOpened (places_after g s at) (g.vertex i) (g.vertex (suc i)) g.count
-  opened_made i l m =
-      let o = step.order in
-      let w = step.within in
-      let few = stage.few in
-      elim (cases_lt s.first i) [
-        | inr a ↦ elim (cases_lt (suc i) s.last) [
-          | inl b ↦ opened_by i 0 1 l m (shift-low s i a) (shift-between s (suc i) (omega arith) b) (omega arith) (omega arith) (inl (omega arith))
-          | inr b ↦ opened_by i 0 2 l m (shift-low s i a) (shift-high s (suc i) o b) (omega arith) (omega arith) (inl (omega arith))
-        ]
-        | inl a ↦ elim (cases_lt (suc i) s.last) [
-          | inl b ↦ opened_by i 1 1 l m (shift-between s i a m) (shift-between s (suc i) (omega arith) b) (omega arith) (omega arith) (inr (omega arith, omega arith, h.right i (suc i) (omega arith) (omega arith) (omega arith)))
-          | inr b ↦ opened_by i 1 2 l m (shift-between s i a m) (shift-high s (suc i) o b) (omega arith) (omega arith) (inl (omega arith))
-        ]
-      ]
+  opened_made i l m = grind (arith, cases_lt, opened_by, shift-low, shift-between, shift-high)
 
 -- a face under way: opened, with its corners placed from left to right
 record IsKept (g : Stage) (at : Places) (a b v : ℕ) : Type 0 where
@@ -130,7 +101,6 @@ opened_run steps n k i a b v run l f =
     let stage = IsStage-run steps k less in
     let h = IsShift-run steps k less in
     let step = run k l in
-    let w = step.within in
     let lo = f.low in
     let hi = f.high in
     let c = count-stage_after steps k in
@@ -139,10 +109,5 @@ opened_run steps n k i a b v run l f =
     let begun : IsKept (after g s) (places_after g s at) a b v =
     subst (λ z. IsKept (after g s) (places_after g s at) a b z) f.new
     (subst (λ z. IsKept (after g s) (places_after g s at) a z g.count) f.right (subst (λ z. IsKept (after g s) (places_after g s at) z (g.vertex (suc i)) g.count) f.left made)) in
-    let pa = stage.placed i (omega arith) in
-    let pb = stage.placed (suc i) (omega arith) in
-    let ea = f.left in
-    let eb = f.right in
-    let ev = f.new in
     (upward (λ m. IsKept (stage_after steps m) (shift_points steps m) a b v) (suc k) n (omega arith) begun
     (λ m low high kept. let d = count-stage_after steps m in kept_after (stage_after steps m) (steps m) (shift_points steps m) a b v (run m high) (omega arith) (omega arith) (omega arith) kept)).opened

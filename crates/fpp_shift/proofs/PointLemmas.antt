@@ -56,9 +56,7 @@ module _ (lists : Lists) (base : Dart) (at : List ℕ) (nodes : List Node) (tria
 
   number : (v : ℕ) → v < length nodes → (k : ℕ) × (k < n + 2) × (name k ≡ v)
   number v l =
-      let c = order.count in
       let on = all_of_them at v (λ i d m. let o = order.vertices i d m in omega arith) order.built.once (omega arith) in
-      let m = on.1 in
       (on.0, omega arith, get_or_default at on.0 0 v on.1 ∙ on.2)
 
   same : (i j : ℕ) → i < n + 2 → j < n + 2 → name i ≡ name j → i ≡ j
@@ -83,25 +81,16 @@ module _ (lists : Lists) (base : Dart) (at : List ℕ) (nodes : List Node) (tria
   -- the x on a way add up
   adds : (us : List ℕ) (z u w : ℕ) → z < n + 2 → u < n + 2 → name u ≡ w → IsWay nodes (name z) us w → pos (points.x z) +ℤ sum_x nodes us ≡ pos (points.x u)
   adds [] z u w l m e way =
-      let s = same z u l m (way ∙ sym e) in
-      let x : pos (points.x z) ≡ pos (points.x u) = ap (λ i. pos (points.x i)) s in
-      omega (arith, ints)
+      omega (arith, ap (λ i. pos (points.x i)) (same z u l m (way ∙ sym e)), ints)
   adds (v ∷ us) z u w l m e way =
       let f = link z v l way.0 in
-      let c = placed z f.0 f.2 in
-      let more = adds us f.0 u w c.0 m e (subst (λ i. IsWay nodes i us w) (sym f.1) way.1) in
-      let from = f.3 in
-      let x : (node_at nodes (name f.0)).x ≡ (node_at nodes v).x = ap (λ i. (node_at nodes i).x) f.1 in
-      omega (arith, ints)
+      let more = adds us f.0 u w (placed z f.0 f.2).0 m e (subst (λ i. IsWay nodes i us w) (sym f.1) way.1) in
+      omega (arith, ap (λ i. (node_at nodes i).x) f.1, ints)
 
   root : (us : List ℕ) (u w : ℕ) → u < n + 2 → name u ≡ w → IsWay nodes (name 0) us w → sum_x nodes (name 0 ∷ us) ≡ pos (points.x u)
   root us u w l e way =
-      let m = many in
       let a = adds us 0 u w (omega arith) l e way in
-      let z = tree.covered.root in
-      let c = (cornered steps n (n + 2) run.run refl (omega arith) run.end).first.0 in
-      let x : pos (points.x 0) ≡ pos 0 = ap pos c in
-      omega (arith, ints)
+      omega (arith, (cornered steps n (n + 2) run.run refl (omega arith) run.end).first.0, tree.covered.root, ints)
 
   -- each vertex is reached
   reached : (u : ℕ) → u < n + 2 → (us : List ℕ) × IsWay nodes (name 0) us (name u)
@@ -115,8 +104,7 @@ module _ (lists : Lists) (base : Dart) (at : List ℕ) (nodes : List Node) (tria
     within = λ v u l leads.
         let z = number v l in
         let f = link z.0 u z.1 (subst (λ v. LeadsTo nodes v u) (sym z.2) leads) in
-        let i = inside f.0 (placed z.0 f.0 f.2).0 in
-        omega (arith, f.1);
+        omega (arith, inside f.0 (placed z.0 f.0 f.2).0, f.1);
     reached = λ v l. let z = number v l in let r = reached z.0 z.1 in (r.0, subst (λ v. IsWay nodes (name 0) r.0 v) z.2 r.1);
     once = λ v w u l m a b.
         let z = number v l in
@@ -124,8 +112,7 @@ module _ (lists : Lists) (base : Dart) (at : List ℕ) (nodes : List Node) (tria
         let f = link z.0 u z.1 (subst (λ v. LeadsTo nodes v u) (sym z.2) a) in
         let g = link y.0 u y.1 (subst (λ v. LeadsTo nodes v u) (sym y.2) b) in
         let s = same f.0 g.0 (placed z.0 f.0 f.2).0 (placed y.0 g.0 g.2).0 (f.1 ∙ sym g.1) in
-        let e = child-once name steps n some run.run run.end t tree z.0 y.0 g.0 (subst (λ u. IsChild z.0 u) s f.2) g.2 in
-        sym z.2 ∙ ap name e ∙ y.2;
+        sym z.2 ∙ ap name (child-once name steps n some run.run run.end t tree z.0 y.0 g.0 (subst (λ u. IsChild z.0 u) s f.2) g.2) ∙ y.2;
     one_link = λ v u w l a b e.
         let z = number v l in
         let f = left-link name steps n some run.run run.end t tree z.0 u z.1 (ap (left_of nodes) z.2 ∙ a) in

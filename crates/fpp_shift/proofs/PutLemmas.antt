@@ -182,12 +182,4 @@ module _ (at : List ℕ) (steps : ℕ → Step) (n : ℕ) (nodes : List Node) (v
 
 -- two nodes that were set are the tree of no steps
 pub grown-begun : (at : List ℕ) (run : ℕ → Step) (nodes nodes1 nodes2 : List Node) (s t : ℕ) (a b : Node) → s ≢ t → get_or at 0 0 ≡ s → get_or at 1 0 ≡ t → SetsNode nodes nodes1 s a → SetsNode nodes1 nodes2 t b → (a.x ≡ pos 0) × (a.y ≡ pos 0) → (b.x ≡ pos 0) × (b.y ≡ pos 0) → a.left ≡ None → option_map (λ u. u.0) a.right ≡ Some t → b.left ≡ None → b.right ≡ None → IsGrown (λ k. get_or at k 0) run 0 (links_of nodes2 at)
-grown-begun at run nodes nodes1 nodes2 s t a b apart first second one two a_zero b_zero a_left a_right b_left b_right =
-    let node_s : node_at nodes2 (get_or at 0 0) ≡ a = ap (node_at nodes2) first ∙ two.others s apart ∙ one.here in
-    let node_t : node_at nodes2 (get_or at 1 0) ≡ b = ap (node_at nodes2) second ∙ two.here in
-    IsGrown-base (λ k. get_or at k 0) run (links_of nodes2 at)
-    (ap (λ (m : Node). option_map (λ u. u.0) m.left) node_s ∙ ap (option_map (λ u. u.0)) a_left, ap (λ (m : Node). option_map (λ u. u.0) m.left) node_t ∙ ap (option_map (λ u. u.0)) b_left)
-    (ap (λ (m : Node). option_map (λ u. u.0) m.right) node_s ∙ a_right ∙ ap Some (sym second))
-    (ap (λ (m : Node). option_map (λ u. u.0) m.right) node_t ∙ ap (option_map (λ u. u.0)) b_right)
-    (ap (λ (m : Node). m.x) node_s ∙ a_zero.0, ap (λ (m : Node). m.x) node_t ∙ b_zero.0)
-    (ap (λ (m : Node). m.y) node_s ∙ a_zero.1, ap (λ (m : Node). m.y) node_t ∙ b_zero.1)
+grown-begun at run nodes nodes1 nodes2 s t a b apart first second one two a_zero b_zero a_left a_right b_left b_right = grind (arith, apart, node_at, get_or, IsGrown-base, links_of, Node, option_map, Some)

@@ -1,7 +1,7 @@
 -- The shift points of a canonical order are a drawing.
 use Rattle.std.proofs.Common.{◌≡◌, ℕ, ◌-◌, ◌*◌, ◌<◌, ◌≤◌, List, length, pos, sym, ap, ap₂, ◌∙◌, subst, arith}
 use Rattle.std.proofs.lemmas.Int.{ints}
-use Rattle.pg_plane.specs.declared.segments.Point.{Point}
+use Rattle.pg_plane.specs.declared.grid_points.Point.{Point}
 use Rattle.map_lists.specs.Lists.{Lists}
 use Rattle.map_theory.specs.Maps.{Dart, HasDart}
 use Rattle.plane_laws.specs.Triangulations.{IsTriangulation}
@@ -27,10 +27,9 @@ module _ (lists : Lists) (base : Dart) (at : List ℕ) (points : List Point) (tr
 
   good : IsCounterclockwiseRun h.steps (length at) point
   good =
-      let some = some_at in
       record {
         made = λ k i a b v l f. opened_area (shift_points h.steps last) a b v (opened_run h.steps last k i a b v h.order.run (omega arith) f);
-        outside = base_clockwise h.steps last (length at) h.order.run (omega arith) some h.order.end;
+        outside = base_clockwise h.steps last (length at) h.order.run (omega arith) some_at h.order.end;
       }
 
   corners : IsCornered (shift_points h.steps last) (length at)
@@ -44,7 +43,6 @@ module _ (lists : Lists) (base : Dart) (at : List ℕ) (points : List Point) (tr
   drawing law =
       let d = law lists base at h.steps point points triangulation dart order h.order good h.placed in
       let n = order.count in
-      let some = some_at in
       let c = corners in
       record {
         counterclockwise = d.counterclockwise;
@@ -52,8 +50,7 @@ module _ (lists : Lists) (base : Dart) (at : List ℕ) (points : List Point) (tr
         rotations = d.rotations;
         grid = λ v l.
             let k = d.each v l in
-            let in_order : k.0 < length at = let small = k.1 in omega arith in
-            let g = in_grid h.steps last (length at) k.0 h.order.run (omega arith) in_order in
+            let g = in_grid h.steps last (length at) k.0 h.order.run (omega arith) (let small = k.1 in omega arith) in
             subst (λ z. IsInGrid (pos (2 * length lists - 4)) (pos (length lists - 2)) z) (sym k.2)
             record { left = omega (arith, ints); right = omega (arith, ints, g.0); bottom = omega (arith, ints); top = omega (arith, ints, g.1) };
         first = d.first ∙ at_point 0 0 0 c.first;

@@ -25,23 +25,17 @@ module _ (lists : Lists) (at ranks : List ℕ) (steps : ℕ → Step) (k v : ℕ
   only_end u b =
       let on = row.on_row u b.dart b.earlier in
       let c = on.0 in
-      let m = on.1 in
-      let e = on.2 in
       elim (cases_lt (suc c) (length ws)) [
-        | inr o ↦ (let d : c ≡ length ws - 1 = omega arith in sym e ∙ ap (λ c. get_or ws c 0) d)
+        | inr o ↦ (let d : c ≡ length ws - 1 = omega arith in sym on.2 ∙ ap (λ c. get_or ws c 0) d)
         | inl o ↦ elim b.ends [
-          | inl z ↦ absurd (omega (arith, one_last lists at ranks steps k v ws row c m (ap (λ u. get_or ranks u 0) e ∙ z)))
+          | inl z ↦ absurd (omega (arith, one_last lists at ranks steps k v ws row c on.1 (ap (λ u. get_or ranks u 0) on.2 ∙ z)))
           | inr h ↦
-              let low = h (get_or ws (suc c) 0) (row.dart (suc c) o) (row.turns c o ∙ e) in
-              let r = row.earlier (suc c) o in
-              absurd (omega arith)
+              absurd (omega (arith, h (get_or ws (suc c) 0) (row.dart (suc c) o) (row.turns c o ∙ on.2)))
         ]
       ]
 
   pub has_row : HasRow lists ranks (k + 2) v (get_or at ((stage_after steps k).vertex (steps k).first) 0) (get_or at ((stage_after steps k).vertex (steps k).last) 0)
   has_row =
-      let some = row.some in
-      let reach = row.reach in
       let last : ℕ = length ws - 1 in
       let first_place : (steps k).first ≡ (steps k).first + 0 = omega arith in
       let last_place : (steps k).last ≡ (steps k).first + last = omega arith in

@@ -23,13 +23,7 @@ shift-high s i o l = cond-false {A = ℕ} (leb i s.first) 0 _ (lt-leb i s.first 
 
 -- they do not fall
 pub shift-le : (s : Step) (i j : ℕ) → s.first < s.last → i ≤ j → shift s i ≤ shift s j
-shift-le s i j o l = elim (cases_lt s.first i) [
-  | inr a ↦ omega (arith, shift-low s i a)
-  | inl a ↦ elim (cases_lt i s.last) [
-    | inl b ↦ elim (cases_lt j s.last) [ inl c ↦ omega (arith, shift-between s i a b, shift-between s j (omega arith) c) | inr c ↦ omega (arith, shift-between s i a b, shift-high s j o c) ]
-    | inr b ↦ omega (arith, shift-high s i o b, shift-high s j o (omega arith))
-  ]
-]
+shift-le s i j o l = grind (arith, cases_lt, shift-low, shift-between, shift-high)
 
 pub shift-most : (s : Step) (i : ℕ) → s.first < s.last → shift s i ≤ 2
 shift-most s i o = elim (cases_lt s.first i) [
@@ -107,7 +101,6 @@ module _ (g : Stage) (s : Step) (at : Places) (stage : IsStage g) (h : IsShift g
   -- the new vertex
   pub top_across : (v : ℕ) → v ≡ g.count → x_after g s at v + at.y (g.vertex s.first) ≡ at.x (g.vertex s.first) + y_after g s at v
   top_across v e =
-      let o = step.order in
       let w = step.within in
       let p = g.vertex s.first in
       let q = g.vertex s.last in
@@ -116,7 +109,6 @@ module _ (g : Stage) (s : Step) (at : Places) (stage : IsStage g) (h : IsShift g
 
   pub top_along : (v : ℕ) → v ≡ g.count → x_after g s at v + y_after g s at v ≡ at.x (g.vertex s.last) + at.y (g.vertex s.last) + 2
   top_along v e =
-      let o = step.order in
       let w = step.within in
       let p = g.vertex s.first in
       let q = g.vertex s.last in
@@ -124,67 +116,42 @@ module _ (g : Stage) (s : Step) (at : Places) (stage : IsStage g) (h : IsShift g
       omega (arith, m, x_after-new g s at v e, y_after-new g s at v e)
 
   pub cases_placed : (i : ℕ) → i < (after g s).width → IsPlacedLow g s at i ⊎ (IsPlacedNew g s at i ⊎ IsPlacedHigh g s at i)
-  cases_placed i l =
-      let o = step.order in
-      elim (cases_place g s i step l) [
-        | inl c ↦ inl record {
-          low = c.low;
-          x = ap (x_after g s at) c.vertex ∙ x_after-contour i c.within ∙ ap (λ n. at.x (g.vertex i) + n) (shift-low s i c.low) ∙ omega arith;
-          y = ap (y_after g s at) c.vertex ∙ y_after-contour i c.within;
-        }
-        | inr (inl c) ↦ inr (inl record { new = c.new; across = top_across (vertex_after g s i) c.vertex; along = top_along (vertex_after g s i) c.vertex })
-        | inr (inr c) ↦ inr (inr record {
-          from = c.from;
-          high = c.high;
-          within = c.within;
-          to = c.to;
-          x = ap (x_after g s at) c.vertex ∙ x_after-contour c.from c.within ∙ ap (λ n. at.x (g.vertex c.from) + n) (shift-high s c.from o c.high);
-          y = ap (y_after g s at) c.vertex ∙ y_after-contour c.from c.within;
-        })
-      ]
+  cases_placed i l = grind (arith, cases_place, x_after, x_after-contour, shift-low, y_after, y_after-contour, top_across, vertex_after, top_along, shift-high)
 
   -- two vertices of the new contour
   in_order_after : (i j : ℕ) → i < j → j < (after g s).width → IsInOrder (places_after g s at) (vertex_after g s i) (vertex_after g s j)
   in_order_after i j a b =
-      let o = step.order in
-      let w = step.within in
-      let few = stage.few in
-      let pq = h.across s.first s.last (omega arith) w in
-      let pq' = h.along s.first s.last (omega arith) w in
+      let pq = h.across s.first s.last (omega arith) step.within in
+      let pq' = h.along s.first s.last (omega arith) step.within in
       elim (cases_placed i (omega arith)) [
         | inl c ↦
-            let c' = c.low in
             elim (cases_placed j b) [
               | inl d ↦
-                  let d' = d.low in
                   record {
                     across = omega (arith, c.x, c.y, d.x, d.y, h.across i j (omega arith) (omega arith));
                     along = omega (arith, c.x, c.y, d.x, d.y, h.along i j (omega arith) (omega arith));
                     right = omega (arith, c.x, d.x, h.right i j (omega arith) a (omega arith));
                   }
               | inr (inl d) ↦
-                  let p = h.across i s.first c' (omega arith) in
-                  let p' = h.along i s.first c' (omega arith) in
+                  let p = h.across i s.first c.low (omega arith) in
+                  let p' = h.along i s.first c.low (omega arith) in
                   record {
                     across = omega (arith, c.x, c.y, d.across, p);
                     along = omega (arith, c.x, c.y, d.along, p', pq');
                     right = omega (arith, c.x, d.across, d.along, p, p', pq');
                   }
               | inr (inr d) ↦
-                  let d' = d.high in
                   let p = h.across i d.from (omega arith) d.within in
                   let p' = h.along i d.from (omega arith) d.within in
                   record { across = omega (arith, c.x, c.y, d.x, d.y, p); along = omega (arith, c.x, c.y, d.x, d.y, p'); right = omega (arith, c.x, d.x, p, p') }
             ]
         | inr (inl c) ↦
-            let c' = c.new in
             elim (cases_placed j b) [
               | inl d ↦ let d' = d.low in absurd (omega arith)
               | inr (inl d) ↦ let d' = d.new in absurd (omega arith)
               | inr (inr d) ↦
-                  let d' = d.high in
-                  let p = h.across s.last d.from d' d.within in
-                  let p' = h.along s.last d.from d' d.within in
+                  let p = h.across s.last d.from d.high d.within in
+                  let p' = h.along s.last d.from d.high d.within in
                   record {
                     across = omega (arith, c.across, d.x, d.y, p, pq);
                     along = omega (arith, c.along, d.x, d.y, p');
@@ -192,14 +159,10 @@ module _ (g : Stage) (s : Step) (at : Places) (stage : IsStage g) (h : IsShift g
                   }
             ]
         | inr (inr c) ↦
-            let c' = c.high in
-            let c'' = c.to in
             elim (cases_placed j b) [
               | inl d ↦ let d' = d.low in absurd (omega arith)
               | inr (inl d) ↦ let d' = d.new in absurd (omega arith)
               | inr (inr d) ↦
-                  let d' = d.to in
-                  let d'' = d.within in
                   record {
                     across = omega (arith, c.x, c.y, d.x, d.y, h.across c.from d.from (omega arith) d.within);
                     along = omega (arith, c.x, c.y, d.x, d.y, h.along c.from d.from (omega arith) d.within);
@@ -218,8 +181,6 @@ module _ (g : Stage) (s : Step) (at : Places) (stage : IsStage g) (h : IsShift g
   -- the new vertex is in the grid
   top_grid : (v : ℕ) → v ≡ g.count → (x_after g s at v + 4 ≤ 2 * suc g.count) × (y_after g s at v + 2 ≤ suc g.count)
   top_grid v e =
-      let o = step.order in
-      let w = step.within in
       let end : ℕ = g.width - 1 in
       let f = first_at 0 refl in
       let t = second_at end (omega arith) in
@@ -235,8 +196,6 @@ module _ (g : Stage) (s : Step) (at : Places) (stage : IsStage g) (h : IsShift g
   pub IsShift-after : IsShift (after g s) (places_after g s at)
   IsShift-after =
       let o = step.order in
-      let w = step.within in
-      let many = stage.wide in
       let end : ℕ = g.width - 1 in
       let first = base_after 0 0 (omega arith) stage.begin in
       let second = base_after end 1 (omega arith) (stage.end end (omega arith)) in
@@ -246,7 +205,7 @@ module _ (g : Stage) (s : Step) (at : Places) (stage : IsStage g) (h : IsShift g
         right = λ i j k a b. (in_order_after i j a b).right;
         even = λ i l. elim (cases_placed i l) [
           | inl c ↦ let c' = c.low in omega (arith, c.x, c.y, h.even i (omega arith))
-          | inr (inl c) ↦ omega (arith, c.along, h.even s.last w)
+          | inr (inl c) ↦ omega (arith, c.along, h.even s.last step.within)
           | inr (inr c) ↦ omega (arith, c.x, c.y, h.even c.from c.within)
         ];
         first_x = omega (arith, first.0, h.first_x, shift-low s 0 (omega arith));
@@ -258,18 +217,7 @@ module _ (g : Stage) (s : Step) (at : Places) (stage : IsStage g) (h : IsShift g
       }
 
 pub IsShift-base : IsShift base (record { x = λ v. 0; y = λ v. 0 })
-IsShift-base = record {
-  across = λ i j a b. omega arith;
-  along = λ i j a b. omega arith;
-  right = λ i j k a b. absurd (omega arith);
-  even = λ i l. refl;
-  first_x = refl;
-  first_y = refl;
-  second_x = refl;
-  second_y = refl;
-  wide = λ v l. omega arith;
-  high = λ v l. omega arith;
-}
+IsShift-base = grind arith
 
 pub IsShift-run : (steps : ℕ → Step) (n : ℕ) → IsRun steps n → IsShift (stage_after steps n) (shift_points steps n)
 IsShift-run steps zero run = IsShift-base

@@ -66,8 +66,7 @@ row-at lists base at ranks triangulation order rank runs found k v low l e =
 -- the uses of one step more
 pub uses-more : (steps : ℕ → Step) (i j old before new : ℕ) → suc i ≡ j → before ≤ old + 2 + 14 * i + 2 * faces_made steps i → new ≤ before + 14 + 2 * ((steps i).last - (steps i).first) → new ≤ old + 2 + 14 * j + 2 * faces_made steps j
 uses-more steps i j old before new d h l =
-    let f : faces_made steps (suc i) ≡ faces_made steps j = ap (λ n. faces_made steps n) d in
-    omega arith
+    omega (arith, ap (λ n. faces_made steps n) d)
 
 -- the tree of all vertices is the tree of offsets
 pub IsTreeOf-all : GrownIsOffsetTree → (lists : Lists) (at : List ℕ) (nodes : List Node) (k : ℕ) → k ≡ length at → 3 ≤ length at → IsTreeTo lists at nodes k → IsTreeOf lists at nodes
@@ -80,24 +79,18 @@ IsTreeOf-all law lists at nodes k e some tree = λ base order steps run.
 -- and its uses are few
 pub uses-all : FaceCount → (lists : Lists) (base : Dart) (at : List ℕ) (order : IsCanonicalOrder lists base at) (steps : ℕ → Step) → IsOrderRun lists base at order.cycle steps → (old new k : ℕ) → k ≡ length at → 3 ≤ length at → AreUsesTo lists at old new k → new ≤ old + 24 * length at
 uses-all law lists base at order steps run old new k e some uses =
-    let u = uses base order steps run (length at - 2) (omega arith) in
-    let f = law steps (length at - 2) run.run in
-    omega (arith, run.end)
+    omega (arith, uses base order steps run (length at - 2) (omega arith), run.end)
 
 -- the list of a vertex of the map is such a list, its entries have ranks, and some stand in it
 pub listed-at :
     (lists : Lists) (base : Dart) (at ranks list : List ℕ) → IsTriangulation lists → IsCanonicalOrder lists base at → IsRankOf ranks at → (k v : ℕ) → k < length at → get_or at k 0 ≡ v → list ≡ list_of lists v
     → IsListOf lists v list × All (λ u. u < length ranks) list
 listed-at lists base at ranks list triangulation order rank k v l e is =
-    let count = order.count in
-    let ranked = rank.count in
-    let within = order.vertices k 0 l in
     let v_in : v < length lists = omega (arith, e) in (
       record { simple = triangulation.simple; vertex = v_in; list_is = is },
       λ i d m.
           let on = subst (λ (us : List ℕ). Contains us (get_or list i d)) is (Contains-get_or list i d m) in
-          let u_in = triangulation.simple.in_range v (get_or list i d) (v_in, on) in
-          omega arith,
+          omega (arith, triangulation.simple.in_range v (get_or list i d) (v_in, on)),
     )
 
 pub some-in : (us : List ℕ) (u : ℕ) → Contains us u → 0 < length us
@@ -106,7 +99,4 @@ some-in us u on = let l = on.1 in omega arith
 -- the first two vertices of an order are two
 pub two_first : (lists : Lists) (base : Dart) (at : List ℕ) → IsTriangulation lists → IsCanonicalOrder lists base at → (s t : ℕ) → get_or at 0 0 ≡ s → get_or at 1 0 ≡ t → s ≢ t
 two_first lists base at triangulation order s t first second e =
-    let count = order.count in
-    let some = triangulation.some in
-    let same = same_place at 0 1 order.built.once (omega arith) (omega arith) (first ∙ e ∙ sym second) in
-    omega arith
+    omega (arith, same_place at 0 1 order.built.once (omega arith) (omega arith) (first ∙ e ∙ sym second))

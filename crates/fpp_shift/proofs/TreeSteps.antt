@@ -78,8 +78,6 @@ module _ (lists : Lists) (base : Dart) (at : List ℕ) (triangulation : IsTriang
       → IsTreeOf lists at nodes × (uses ≤ start + 24 * length lists) × IsTree nodes (get_or at 0 0)
   tree-done grown faces nodes k start uses count whole tree used =
       let run = runs lists base at triangulation order in
-      let some = triangulation.some in
-      let n = order.count in
       let made = IsTreeOf-all grown lists at nodes k whole (omega arith) tree in
       let few_uses = uses-all faces lists base at order run.0 run.1 start uses k whole (omega arith) used in
       (made, omega arith, (AddsUp-order lists base at nodes triangulation few order run.0 run.1 (omega arith) made).tree)

@@ -1,6 +1,6 @@
 -- The shift method of de Fraysseix, Pach and Pollack (1990), over a run: each new vertex moves what stands on its right out of the way, and goes to where two diagonals meet.
 use Rattle.std.specs.Prelude.{ℕ, zero, suc, ◌+◌, ◌-◌, ◌/◌, nat_lt, nat_le, if◌then◌else◌, pos}
-use Rattle.pg_plane.specs.declared.segments.Point.{Point}
+use Rattle.pg_plane.specs.declared.grid_points.Point.{Point}
 use Rattle.contour_runs.specs.Runs.{Step, Stage, stage_after}
 
 -- how far a step moves to the right what stands at a place, and all that has gone under it: nothing up to the first, 1 strictly between, 2 from the last on

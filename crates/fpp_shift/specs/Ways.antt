@@ -1,7 +1,7 @@
 -- Ways along the links of a tree, and the sums of offsets on them.
 use Rattle.std.specs.Prelude.{ℕ, ◌<◌, ◌≡◌, ◌≢◌, List, [], ◌∷◌, length, Some, ℤ, pos, ◌+ℤ◌}
 use Rattle.pg_plane.specs.Range.{IsWithin}
-use Rattle.pg_plane.specs.declared.segments.Point.{Point}
+use Rattle.pg_plane.specs.declared.grid_points.Point.{Point}
 use Rattle.plane_drawings.specs.Drawing.{place}
 use Rattle.fpp_shift.specs.declared.offset_trees.tree_nodes.Node.{Node}
 use Rattle.fpp_shift.specs.Nodes.{node_at, left_of, right_of, LeadsTo}

@@ -30,13 +30,7 @@ two_one : HasDart path 2 1
 two_one = (omega arith, (0, omega arith, refl))
 
 back : (v u : ℕ) → HasDart path v u → HasDart path u v
-back zero u has = subst (λ x. HasDart path x 0) (sym (one_of 1 u has.1)) one_zero
-back (suc zero) u has = elim (Contains-cons_cases 0 (2 ∷ []) u has.1) [
-  | inl e ↦ subst (λ x. HasDart path x 1) e zero_one
-  | inr rest ↦ subst (λ x. HasDart path x 1) (sym (one_of 2 u rest)) two_one
-]
-back (suc (suc zero)) u has = subst (λ x. HasDart path x 2) (sym (one_of 1 u has.1)) one_two
-back (suc (suc (suc v))) u has = absurd (let l = has.0 in omega arith)
+back x0 u has = grind (arith, HasDart, path, one_of, one_zero, Contains-cons_cases, zero_one, two_one, one_two)
 
 adjacency : IsAdjacency path
 adjacency = record { in_range = λ v u has. (back v u has).0; both_ways = back }
@@ -55,7 +49,6 @@ middle_case =
         joined = joined.1;
         apart = λ other j.
             let w = linked_path path adjacency (1 ∷ []) 0 2 other j in
-            let same = walks_keep path adjacency (Off (1 ∷ [])) (λ x. x ≡ 0) stays w.0 0 2 w.1 refl in
-            omega arith;
+            omega (arith, walks_keep path adjacency (Off (1 ∷ [])) (λ x. x ≡ 0) stays w.0 0 2 w.1 refl);
       },
     )

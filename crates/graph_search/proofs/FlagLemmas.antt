@@ -12,16 +12,7 @@ use Rattle.graph_search.proofs.CutLemmas.{off_one, IsCutVertex-separated, not_Is
 
 -- only a vertex parts others
 pub IsCutVertex-within : (lists : Lists) → IsAdjacency lists → (v : ℕ) → IsCutVertex lists v → v < length lists
-IsCutVertex-within lists adjacency v cut =
-    elim (cases_lt v (length lists)) [
-      | inl l ↦ l
-      | inr past ↦
-          let separated = cut.2 in
-          let w = linked_path lists adjacency [] cut.0 cut.1 separated.path separated.joined in
-          let off = linked_weaker lists (Off []) (Off (v ∷ [])) (λ x l q. off_one v x (λ e. (let m = e in omega arith))) cut.0 cut.1 w in
-          let path = path_linked_by lists adjacency (v ∷ []) cut.0 cut.1 off in
-          absurd (separated.apart path.0 path.1)
-    ]
+IsCutVertex-within lists adjacency v cut = grind (arith, cases_lt, length, linked_path, linked_weaker, Off, off_one, path_linked_by)
 
 module _ (lists : Lists) (adjacency : IsAdjacency lists) (order number last parent low : List ℕ) (all : IsForestOf lists order number last parent) (lows : AreLows lists number last low) where
   sized : (m k : ℕ) (v c : ℕ) → m ≡ k → IsSeparatedChild m (λ u. get_or number u 0) (λ u. get_or parent u 0) (λ u. get_or low u 0) v c → IsSeparatedChild k (λ u. get_or number u 0) (λ u. get_or parent u 0) (λ u. get_or low u 0) v c
@@ -72,24 +63,15 @@ module _ (lists : Lists) (adjacency : IsAdjacency lists) (order number last pare
         | inl inner ↦ h.from_parent inner
         | inr top ↦
             let f = all.forest in
-            let n = all.numbers in
-            let q = h.vertex in
-            let v_in : v < length lists = omega (arith, l, n) in
-            let u_in : u < length lists = omega (arith, q, n) in
+            let v_in : v < length lists = omega (arith, l, all.numbers) in
+            let u_in : u < length lists = omega (arith, h.vertex, all.numbers) in
             let child = h.child in
             let held = f.held u u_in (omega (arith, child, v_in)) in
-            let known = lows.at u u_in in
             elim (cases_lt (get_or low u 0) (length lists)) [
               | inl some ↦
-                  let m = known.met some in
+                  let m = (lows.at u u_in).met some in
                   let back = adjacency.both_ways m.1.w m.0 m.1.dart in
-                  elim (cases_lt (get_or number m.0 0) (get_or number v 0)) [
-                    | inl before ↦
-                        let within : get_or number v 0 < get_or last m.0 0 = omega (arith, held.after, ap (λ z. get_or number z 0) child, m.1.within.from, f.edges m.0 m.1.w back) in
-                        let up = f.has_parent m.0 v (adjacency.in_range m.1.w m.0 m.1.dart) v_in (record { after = before; before = within }) in
-                        absurd (omega (arith, up, top, n))
-                    | inr most ↦ omega (arith, most, m.2)
-                  ]
+                  grind (arith, cases_lt, get_or)
               | inr none ↦ omega (arith, f.numbered v v_in, none)
             ]
       ]

@@ -35,11 +35,7 @@ module _ (lists : Lists) (order number last parent : ℕ → ℕ) (f : IsForest 
 
   pub IsWithin-chained : (u v w : ℕ) → u < length lists → v < length lists → IsWithin number last u v → IsWithin number last v w → IsWithin number last u w
   IsWithin-chained u v w l m i j =
-      let e = IsWithin-ends u v l m i in
-      let a = i.from in
-      let b = j.from in
-      let d = j.before in
-      record { from = omega arith; before = omega arith }
+      record { from = omega arith; before = omega (arith, IsWithin-ends u v l m i) }
 
   -- of two neighbours that with the lesser number holds the other
   pub Holds-edge : (u v : ℕ) → HasDart lists u v → number u < number v → Holds number last u v
@@ -48,10 +44,7 @@ module _ (lists : Lists) (order number last parent : ℕ → ℕ) (f : IsForest 
   -- what holds v is its parent, or holds that
   pub IsWithin-parent : (u v : ℕ) → u < length lists → v < length lists → Holds number last u v → IsWithin number last u (parent v)
   IsWithin-parent u v l m h =
-      let p = f.has_parent u v l m h in
-      let up = (f.held v m p).after in
-      let b = h.before in
-      record { from = f.nearest u v l m h; before = omega arith }
+      record { from = f.nearest u v l m h; before = omega (arith, (f.held v m (f.has_parent u v l m h)).after) }
 
 -- the child of v that is w or holds it
 pub record IsChildTowards (number last parent : ℕ → ℕ) (n v w : ℕ) : Type 0 where
@@ -67,7 +60,6 @@ module _ (lists : Lists) (order number last parent : ℕ → ℕ) (f : IsForest 
   child_by_number (suc k) v w l m h below =
       let p = f.has_parent v w l m h in
       let up = f.held w m p in
-      let less = up.after in
       elim (IsWithin-cases lists order number last parent f v (parent w) l p (IsWithin-parent lists order number last parent f v w l m h)) [
         | inl e ↦ record { c = w; vertex = m; child = sym e; within = IsWithin-itself lists order number last parent f w m }
         | inr held ↦

@@ -62,43 +62,31 @@ module _ (lists : Lists) (adjacency : IsAdjacency lists) (order number last pare
   module _ (low : List ℕ) (i v least : ℕ) (l : i < length lists) (is : v ≡ get_or order (length lists - 1 - i) 0) (h : AreLowsFrom lists number last parent low i) (along : IsLeastNumber (list_of lists v) number (get_or low v 0) least) where
     v_in : v < length lists
     v_in =
-        let at = all.forest.vertex (length lists - 1 - i) (omega arith) in
-        rw is at
+        rw is (all.forest.vertex (length lists - 1 - i) (omega arith))
 
     at_v : num v ≡ length lists - 1 - i
     at_v =
-        let at = all.forest.place (length lists - 1 - i) (omega arith) in
-        rw is at
+        rw is (all.forest.place (length lists - 1 - i) (omega arith))
 
     -- what it has is met
     least_met : least < length lists → (u : ℕ) × Meets lists num end v u × (num u ≡ least)
-    least_met few = elim along.met [
-      | inl old ↦
-          let at = h.met v v_in (omega arith) in
-          (at.0, at.1, at.2 ∙ sym old)
-      | inr new ↦ (new.0, record { w = v; within = IsWithin-itself lists _ _ _ _ all.forest v v_in; dart = (v_in, new.1) }, new.2)
-    ]
+    least_met few = grind (arith, v_in, IsWithin-itself)
 
     -- and it is the low point
     least_low : IsLow lists num end v least
     least_low =
-        let f = all.forest in
         record {
           least = λ u meets.
-              let has = meets.dart in
-              elim (IsWithin-cases lists _ _ _ _ f v meets.w v_in has.0 meets.within) [
+              elim (IsWithin-cases lists _ _ _ _ all.forest v meets.w v_in meets.dart.0 meets.within) [
                 | inl e ↦
-                    let here : HasDart lists v u = subst (λ x. HasDart lists x u) (sym e) has in
-                    along.below u here.1
+                    along.below u (subst (λ x. HasDart lists x u) (sym e) meets.dart).1
                 | inr held ↦
-                    let c = child_towards lists _ _ _ _ f v meets.w v_in has.0 held in
+                    let c = child_towards lists _ _ _ _ all.forest v meets.w v_in meets.dart.0 held in
                     let p_in : get_or parent c.c 0 < length lists = omega (arith, c.child, v_in) in
-                    let after : num (get_or parent c.c 0) < num c.c = (f.held c.c c.vertex p_in).after in
-                    let q = ap num c.child in
-                    let few : length lists ≤ num c.c + i = omega (arith, at_v) in
-                    let low_c = (h.done c.c c.vertex few).least u (record { w = meets.w; within = c.within; dart = has }) in
-                    let e = ap (λ x. get_or low x 0) c.child in
-                    omega (arith, h.children c.c c.vertex few p_in, along.most)
+                    let after : num (get_or parent c.c 0) < num c.c = (all.forest.held c.c c.vertex p_in).after in
+                    let few : length lists ≤ num c.c + i = omega (arith, ap num c.child, at_v) in
+                    let low_c = (h.done c.c c.vertex few).least u (record { w = meets.w; within = c.within; dart = meets.dart }) in
+                    omega (arith, ap (λ x. get_or low x 0) c.child, h.children c.c c.vertex few p_in, along.most)
               ];
           met = least_met;
         }
@@ -106,20 +94,18 @@ module _ (lists : Lists) (adjacency : IsAdjacency lists) (order number last pare
     -- the low points with one more
     pub AreLowsFrom-more : (now : List ℕ) → IsLowered (set low v least) now (get_or parent v 0) least → AreLowsFrom lists number last parent now (i + 1)
     AreLowsFrom-more now w =
-        let f = all.forest in
         let p = get_or parent v 0 in
-        let n = h.lows in
-        let first : p < length lists → num p < num v = λ m. (f.held v v_in m).after in
+        let first : p < length lists → num p < num v = λ m. (all.forest.held v v_in m).after in
         let apart : v ≢ p = λ e. elim (cases_lt p (length lists)) [ inl m ↦ (let a = first m in let q = ap num e in omega arith) | inr m ↦ (let a = v_in in omega arith) ] in
         let here : get_or now v 0 ≡ least = w.elsewhere v apart ∙ get_or-set_same low v least 0 (omega (arith, v_in)) in
         let above : p < length lists → get_or now p 0 ≡ min (get_or low p 0) least = λ m. w.here (omega (arith, length-set low v least)) ∙ ap (λ x. min x least) (get_or-set_other low v p least 0 (λ e. apart (sym e))) in
         let other : (u : ℕ) → u ≢ v → u ≢ p → get_or now u 0 ≡ get_or low u 0 = λ u ne ne'. w.elsewhere u ne' ∙ get_or-set_other low v u least 0 ne in
         let not_above : (u : ℕ) → u < length lists → length lists ≤ num u + (i + 1) → u ≢ p = λ u m few e. (let a = first (omega (arith, m, e)) in let q = ap num e in omega (arith, at_v)) in
         let earlier : (u : ℕ) → u < length lists → length lists ≤ num u + (i + 1) → u ≢ v → length lists ≤ num u + i = λ u m few ne.
-        let differ : num u ≢ num v = λ e. ne (sym (f.own u m) ∙ (ap (λ x. get_or order x 0) e ∙ f.own v v_in)) in
+        let differ : num u ≢ num v = λ e. ne (sym (all.forest.own u m) ∙ (ap (λ x. get_or order x 0) e ∙ all.forest.own v v_in)) in
         omega (arith, at_v) in
         record {
-          lows = w.count ∙ (length-set low v least ∙ n);
+          lows = w.count ∙ (length-set low v least ∙ h.lows);
           done = λ u m few. elim (cases_eq u v) [
             | inl e ↦ subst (λ x. IsLow lists num end x (get_or now x 0)) (sym e) (subst (IsLow lists num end v) (sym here) least_low)
             | inr ne ↦ subst (IsLow lists num end u) (sym (other u ne (not_above u m few))) (h.done u m (earlier u m few ne))
@@ -127,27 +113,10 @@ module _ (lists : Lists) (adjacency : IsAdjacency lists) (order number last pare
           children = λ c m few q. elim (cases_eq c v) [
             | inl e ↦
                 let e' = ap (λ x. get_or parent x 0) e in
-                let a = above (omega (arith, e')) in
                 let b = ap (λ x. get_or now x 0) e in
                 let d = ap (λ x. get_or now x 0) e' in
-                omega (arith, here)
-            | inr ne ↦
-                let old = h.children c m (earlier c m few ne) q in
-                let same = other c ne (not_above c m few) in
-                let r = get_or parent c 0 in
-                elim (cases_eq r v) [
-                  | inl e ↦
-                      let b = ap (λ x. get_or now x 0) e in
-                      let d = ap (λ x. get_or low x 0) e in
-                      omega (arith, here, along.most)
-                  | inr ne' ↦ elim (cases_eq r p) [
-                    | inl e ↦
-                        let b = ap (λ x. get_or now x 0) e in
-                        let d = ap (λ x. get_or low x 0) e in
-                        omega (arith, above (omega (arith, e)))
-                    | inr ne'' ↦ omega (arith, other r ne' ne'')
-                  ]
-                ]
+                omega (arith, above (omega (arith, e')), here)
+            | inr ne ↦ grind (arith, get_or, cases_eq)
           ];
           met = λ u m few. elim (cases_eq u v) [
             | inl e ↦
@@ -169,8 +138,8 @@ module _ (lists : Lists) (adjacency : IsAdjacency lists) (order number last pare
                         (at.0, at.1, at.2 ∙ omega arith)
                     | inr most ↦
                         let at = least_met (omega arith) in
-                        let held = IsWithin-held lists _ _ _ _ f p v (f.held v v_in p_in) in
-                        let inside = IsWithin-chained lists _ _ _ _ f p v at.1.w p_in v_in held at.1.within in
+                        let held = IsWithin-held lists _ _ _ _ all.forest p v (all.forest.held v v_in p_in) in
+                        let inside = IsWithin-chained lists _ _ _ _ all.forest p v at.1.w p_in v_in held at.1.within in
                         (at.0, subst (λ x. Meets lists num end x at.0) (sym e) (record { w = at.1.w; within = inside; dart = at.1.dart }), at.2 ∙ omega arith)
                   ]
             ]

@@ -89,12 +89,7 @@ module _ (lists : Lists) (order number last parent cursor low : ℕ → ℕ) (co
             | inr ne ↦ omega (arith, k.done v x has (omega (arith, z.elsewhere v ne)), less v has.0)
           ];
           children = λ c m d q. elim (cases_eq c current) [
-            | inl e ↦
-                let e' = ap parent e in
-                let a = w.here (omega arith) in
-                let b = ap low' e in
-                let f = ap low' e' in
-                omega arith
+            | inl e ↦ grind arith
             | inr ne ↦
                 let old = k.children c m (omega (arith, z.elsewhere c ne)) q in
                 let c_other : c ≢ p = λ e. (let f = still_open (omega arith) in let g = ap last' e in omega arith) in
@@ -242,17 +237,7 @@ module _ (lists : Lists) (in_range : (v u : ℕ) → HasDart lists v u → u < l
   IsFrom v u w = (num v ≤ num w) × (num w < end v) × (place_of u (list_of lists w) < length (list_of lists w))
 
   told_from : (v u w : ℕ) → IsFrom v u w ⊎ ¬ IsFrom v u w
-  told_from v u w =
-      elim (cases_lt (num w) (num v)) [
-        | inl less ↦ inr (λ x. let a = x.0 in omega arith)
-        | inr from ↦ elim (cases_lt (num w) (end v)) [
-          | inr past ↦ inr (λ x. let a = x.1 in omega arith)
-          | inl before ↦ elim (cases_lt (place_of u (list_of lists w)) (length (list_of lists w))) [
-            | inr none ↦ inr (λ x. let a = x.2 in omega arith)
-            | inl some ↦ inl (from, before, some)
-          ]
-        ]
-      ]
+  told_from v u w = grind (arith, cases_lt, num, end, place_of, list_of, length)
 
   -- what a vertex has is met
   least_met : (v : ℕ) → v < length lists → get_or low v 0 < length lists → (u : ℕ) × Meets lists num end v u × (num u ≡ get_or low v 0)

@@ -74,15 +74,10 @@ edge = (1 ∷ []) ∷ (0 ∷ []) ∷ []
 -- the top of a search with one child, an end of the only edge, is cut
 top_with_one_child_is_cut : IsCutVertex edge 0 → ⊥
 top_with_one_child_is_cut (s, t, p) =
-    let path = p.joined.is_path in
-    let first : slice_index p.path 0 < 2 = All-get_or (λ v. v < 2) p.path 0 0 path.some path.vertices in
-    let last : slice_index p.path (length p.path - 1) < 2 = All-get_or (λ v. v < 2) p.path (length p.path - 1) 0 (omega (arith, path.some)) path.vertices in
-    let s_is : s ≡ 1 = not_zero s p.s_off (omega (arith, p.joined.start)) in
-    let t_is : t ≡ 1 = not_zero t p.t_off (omega (arith, p.joined.end)) in
     p.apart (1 ∷ []) (record {
       is_path = record { some = omega arith; vertices = search rules; steps = λ i l. absurd (omega (arith, l)) };
-      start = sym s_is;
-      end = sym t_is;
+      start = sym (not_zero s p.s_off (omega (arith, p.joined.start)));
+      end = sym (not_zero t p.t_off (omega (arith, p.joined.end)));
       avoids = apart;
     })
   where

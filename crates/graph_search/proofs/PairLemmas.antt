@@ -18,14 +18,7 @@ pub record AreBoth (x y : ℕ) (both : List ℕ) : Type 0 where
   pub cases : (z : ℕ) → Contains both z → (z ≡ x) ⊎ (z ≡ y)
 
 pub AreBoth-pair : (x y : ℕ) → AreBoth x y (x ∷ y ∷ [])
-AreBoth-pair x y = record {
-  one = Contains-here x (y ∷ []);
-  other = Contains-there x (y ∷ []) y (Contains-here y []);
-  cases = λ z h. elim (Contains-cons_cases x (y ∷ []) z h) [
-    | inl e ↦ inl (sym e)
-    | inr rest ↦ elim (Contains-cons_cases y [] z rest) [ inl e ↦ inr (sym e) | inr none ↦ absurd (let some = none.1 in omega arith) ]
-  ];
-}
+AreBoth-pair x y = grind (arith, Contains-here, Contains-there, Contains-cons_cases)
 
 pub AreBoth-turned : (x y : ℕ) (both : List ℕ) → AreBoth x y both → AreBoth y x both
 AreBoth-turned x y both h = record {
@@ -48,28 +41,22 @@ module _ (lists rest : Lists) (x : ℕ) (h : IsWithoutVertex lists rest x) where
   pub dart_kept : (v w : ℕ) → HasDart lists v w → v ≢ x → w ≢ x → HasDart rest v w
   dart_kept v w has ne_v ne_w =
       let l = has.0 in
-      let n = h.count in
       let e : list_of rest v ≡ filter (λ z. not (eqb z x)) (list_of lists v) = h.each v l ∙ cond-false {A = List ℕ} (eqb v x) _ _ (ne_eqb v x ne_v) in
       (omega arith, subst (λ (us : List ℕ). Contains us w) (sym e) (Contains-filter (λ z. not (eqb z x)) (list_of lists v) w has.1 (ap not (ne_eqb w x ne_w))))
 
   -- and there are no other darts
   pub dart_only : (v w : ℕ) → HasDart rest v w → HasDart lists v w × (v ≢ x) × (w ≢ x)
   dart_only v w has =
-      let n = h.count in
-      let k = has.0 in
       let l : v < length lists = omega arith in
       let ne_v : v ≢ x = λ q.
       (let e : list_of rest v ≡ [] = h.each v l ∙ cond-true {A = List ℕ} (eqb v x) _ _ (eq-eqb v x q) in
-      let none = subst (λ (us : List ℕ). Contains us w) e has.1 in
-      let some = none.1 in
-      omega arith) in
+      omega (arith, subst (λ (us : List ℕ). Contains us w) e has.1)) in
       let e : list_of rest v ≡ filter (λ z. not (eqb z x)) (list_of lists v) = h.each v l ∙ cond-false {A = List ℕ} (eqb v x) _ _ (ne_eqb v x ne_v) in
       let old = Contains-from_filter (λ z. not (eqb z x)) (list_of lists v) w (subst (λ (us : List ℕ). Contains us w) e has.1) in
       ((l, old.0), ne_v, λ q. false≢true (ap not (sym (eq-eqb w x q)) ∙ old.1))
 
   pub IsAdjacency-without : IsAdjacency lists → IsAdjacency rest
   IsAdjacency-without adjacency =
-      let n = h.count in
       record {
         in_range = λ v w has. let l = adjacency.in_range v w (dart_only v w has).0 in omega arith;
         both_ways = λ v w has. let d = dart_only v w has in dart_kept w v (adjacency.both_ways v w d.0) d.2 d.1;
@@ -78,31 +65,22 @@ module _ (lists rest : Lists) (x : ℕ) (h : IsWithoutVertex lists rest x) where
   -- a walk off x stays
   walks_kept : (y : ℕ) (both : List ℕ) → AreBoth x y both → (k s t : ℕ) → Walks lists (Off both) k s t → AreLinked rest (Off (y ∷ [])) s t
   walks_kept y both a zero s t w =
-      let n = h.count in
-      let l = w.0 in
       subst (AreLinked rest (Off (y ∷ [])) s) w.2 (linked_itself rest (Off (y ∷ [])) s (omega arith) (off_one y s (ne_other x y both a s w.1)))
   walks_kept y both a (suc k) s t w =
-      let next = walks_start lists (Off both) k w.0 t w.3 in
       let tail = walks_kept y both a k w.0 t w.3 in
-      let dart = dart_kept s w.0 w.1 (ne_one x y both a s w.2) (ne_one x y both a w.0 next.1) in
+      let dart = dart_kept s w.0 w.1 (ne_one x y both a s w.2) (ne_one x y both a w.0 (walks_start lists (Off both) k w.0 t w.3).1) in
       (suc tail.0, (w.0, dart, off_one y s (ne_other x y both a s w.2), tail.1))
 
   -- a walk that avoids x alone stays, and one in the rest is one of the lists
   walks_kept_one : (k s t : ℕ) → Walks lists (Off (x ∷ [])) k s t → AreLinked rest (Off []) s t
   walks_kept_one zero s t w =
-      let n = h.count in
-      let l = w.0 in
       subst (AreLinked rest (Off []) s) w.2 (linked_itself rest (Off []) s (omega arith) (off_none s))
   walks_kept_one (suc k) s t w =
-      let next = walks_start lists (Off (x ∷ [])) k w.0 t w.3 in
       let tail = walks_kept_one k w.0 t w.3 in
-      let dart = dart_kept s w.0 w.1 (ne_off x s w.2) (ne_off x w.0 next.1) in
-      (suc tail.0, (w.0, dart, off_none s, tail.1))
+      (suc tail.0, (w.0, dart_kept s w.0 w.1 (ne_off x s w.2) (ne_off x w.0 (walks_start lists (Off (x ∷ [])) k w.0 t w.3).1), off_none s, tail.1))
 
   walks_back : (k s t : ℕ) → Walks rest (Off []) k s t → AreLinked lists (Off []) s t
   walks_back zero s t w =
-      let n = h.count in
-      let l = w.0 in
       subst (AreLinked lists (Off []) s) w.2 (linked_itself lists (Off []) s (omega arith) (off_none s))
   walks_back (suc k) s t w =
       let tail = walks_back k w.0 t w.3 in
@@ -110,8 +88,6 @@ module _ (lists rest : Lists) (x : ℕ) (h : IsWithoutVertex lists rest x) where
 
   walks_back_off : (y : ℕ) (both : List ℕ) → AreBoth x y both → (k s t : ℕ) → s ≢ x → Walks rest (Off (y ∷ [])) k s t → AreLinked lists (Off both) s t
   walks_back_off y both a zero s t ne w =
-      let n = h.count in
-      let l = w.0 in
       subst (AreLinked lists (Off both) s) w.2 (linked_itself lists (Off both) s (omega arith) (off_both x y both a s ne (ne_off y s w.1)))
   walks_back_off y both a (suc k) s t ne w =
       let d = dart_only s w.0 w.1 in
@@ -143,8 +119,7 @@ module _ (lists rest : Lists) (x : ℕ) (h : IsWithoutVertex lists rest x) where
         joined = path.1;
         apart = λ other j.
             let v = linked_path lists adjacency both s t other j in
-            let k = walks_kept y both a v.0 s t v.1 in
-            let p = path_linked_by rest adjacent (y ∷ []) s t k in
+            let p = path_linked_by rest adjacent (y ∷ []) s t (walks_kept y both a v.0 s t v.1) in
             separated.apart p.0 p.1;
       }
 
@@ -162,8 +137,7 @@ module _ (lists rest : Lists) (x : ℕ) (h : IsWithoutVertex lists rest x) where
           joined = separated.joined;
           apart = λ other j.
               let w = linked_path lists adjacency (x ∷ []) s t other j in
-              let kept = walks_kept_one w.0 s t w.1 in
-              let path = path_linked_by rest adjacent [] s t kept in
+              let path = path_linked_by rest adjacent [] s t (walks_kept_one w.0 s t w.1) in
               not_y (
                 s,
                 t,
@@ -174,8 +148,7 @@ module _ (lists rest : Lists) (x : ℕ) (h : IsWithoutVertex lists rest x) where
                   joined = path.1;
                   apart = λ around k.
                       let v = linked_path rest adjacent (y ∷ []) s t around k in
-                      let back = walks_back_off y both a v.0 s t (ne_one x y both a s separated.s_off) v.1 in
-                      let p = path_linked_by lists adjacency both s t back in
+                      let p = path_linked_by lists adjacency both s t (walks_back_off y both a v.0 s t (ne_one x y both a s separated.s_off) v.1) in
                       separated.apart p.0 p.1;
                 },
               );
@@ -202,12 +175,11 @@ module _ (lists : Lists) (adjacency : IsAdjacency lists) where
   neighbour_besides u v cut =
       let s = cut.0 in
       let t = cut.1 in
-      let separated = cut.2 in
-      let apart : AreLinked lists (Off (v ∷ [])) s t → ⊥ = λ w. (let p = path_linked_by lists adjacency (v ∷ []) s t w in separated.apart p.0 p.1) in
-      let w = linked_path lists adjacency [] s t separated.path separated.joined in
+      let apart : AreLinked lists (Off (v ∷ [])) s t → ⊥ = λ w. (let p = path_linked_by lists adjacency (v ∷ []) s t w in cut.2.apart p.0 p.1) in
+      let w = linked_path lists adjacency [] s t cut.2.path cut.2.joined in
       let back = linked_turned lists adjacency (Off []) s t w in
-      let ne_s = ne_off v s separated.s_off in
-      let ne_t = ne_off v t separated.t_off in
+      let ne_s = ne_off v s cut.2.s_off in
+      let ne_t = ne_off v t cut.2.t_off in
       elim (before_vertex v w.0 s t w.1 ne_s ne_t) [
         | inl round ↦ absurd (apart round)
         | inr a ↦ elim (before_vertex v back.0 t s back.1 ne_t ne_s) [

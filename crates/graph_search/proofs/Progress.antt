@@ -100,26 +100,10 @@ other_counted us k r l ne = count_by_more_no (λ u. eqb u r) us k 0 l (ne_eqb (g
 -- an arc is used: one fewer waits at its end, which has a greater number and may be in the queue, if it is not the base
 module _ (base e r left : ℕ) (n w q : List ℕ) (r_in : r < length w) (one : left + 1 ≡ get_or w r 0) where
   pub IsUsed-at_base : r ≡ base → IsUsed base e r n w q n (set w r left) q
-  IsUsed-at_base b = record {
-    numbers = refl;
-    counters = length-set w r left;
-    less = omega (arith, get_or-set_same w r left 0 r_in, one);
-    others = λ x ne. get_or-set_other w r x left 0 ne;
-    at_base = λ b. (refl, refl);
-    raised = λ nb. absurd (nb b);
-    put = λ nb. absurd (nb b);
-  }
+  IsUsed-at_base b = grind (arith, length-set, get_or-set_same, get_or-set_other)
 
   pub IsUsed-raised : (n' q' : List ℕ) → r ≢ base → IsRaised n n' e r → IsPut left r q q' → IsUsed base e r n w q n' (set w r left) q'
-  IsUsed-raised n' q' nb raised put = record {
-    numbers = raised.size;
-    counters = length-set w r left;
-    less = omega (arith, get_or-set_same w r left 0 r_in, one);
-    others = λ x ne. get_or-set_other w r x left 0 ne;
-    at_base = λ b. absurd (nb b);
-    raised = λ ne. raised;
-    put = λ ne. subst (λ z. IsPut z r q q') (sym (get_or-set_same w r left 0 r_in)) put;
-  }
+  IsUsed-raised n' q' nb raised put = grind (arith, length-set, get_or-set_same, get_or-set_other)
 
 -- The first k arcs of e were used since the numbers, counts and queue were n, w and q.
 pub record IsVisited (arcs : List (List ℕ)) (base e k : ℕ) (n w q n' w' q' : List ℕ) : Type 0 where
@@ -147,11 +131,10 @@ module _ (arcs : List (List ℕ)) (base : ℕ) (a : IsAcyclic arcs base) where
   some_waits used n w q run e k le at lk =
       let us = arcs_of arcs e in
       let r = get_or us k 0 in
-      let lr = a.within e r (le, Contains-get_or us k 0 lk) in
       let here : count_of r (take (used e) us) < count_of r us =
       omega (arith, ap (λ z. count_of r (take z us)) at, entry_counted us k lk, take_fewer us r (k + 1)) in
       let less = sum_below-less (λ x. count_of r (take (used x) (arcs_of arcs x))) (λ x. count_of r (arcs_of arcs x)) (length arcs) e le (λ x l. take_fewer (arcs_of arcs x) r (used x)) here in
-      omega (arith, less, run.counted r lr)
+      omega (arith, less, run.counted r (a.within e r (le, Contains-get_or us k 0 lk)))
 
   pub used_same : (e r : ℕ) → HasArc arcs e r → r ≢ base → e ≢ r
   used_same e r has nb s = let h = a.rising e r has nb in absurd (omega (arith, h, ap a.height s))
@@ -169,8 +152,7 @@ module _ (arcs : List (List ℕ)) (base : ℕ) (a : IsAcyclic arcs base) where
   IsProgress-more used n w q n' w' q' e k le at lk queued run u =
       let us = arcs_of arcs e in
       let r = get_or us k 0 in
-      let has : HasArc arcs e r = (le, Contains-get_or us k 0 lk) in
-      let lr = a.within e r has in
+      let lr = a.within e r ((le, Contains-get_or us k 0 lk)) in
       let waits = some_waits used n w q run e k le at lk in
       let now : ℕ → ℕ = used_at used e (k + 1) in
       let here : now e ≡ k + 1 = used_at-here used e (k + 1) in
@@ -178,25 +160,8 @@ module _ (arcs : List (List ℕ)) (base : ℕ) (a : IsAcyclic arcs base) where
       let more : (x : ℕ) → used x ≤ now x = λ x. elim (cases_eq x e) [ inl s ↦ omega (arith, ap now s, ap used s, here, at) | inr ne ↦ omega (arith, there x ne) ] in
       let begun : (x : ℕ) → x < length arcs → 0 < now x → Contains q x =
       λ x l some. elim (cases_eq x e) [ inl s ↦ subst (Contains q) (sym s) queued | inr ne ↦ run.begun x l (omega (arith, some, there x ne)) ] in
-      let left_kept : (x : ℕ) → x < length arcs → 0 < now x → get_or n' x 0 ≡ get_or n x 0 =
-      λ x l some. elim (cases_eq r base) [
-        | inl s ↦ ap (λ z. get_or z x 0) (u.at_base s).0
-        | inr nb ↦ elim (cases_eq x r) [
-          | inl s ↦ elim (run.queued x (begun x l some)).1 [
-            | inl b ↦ absurd (nb (sym s ∙ b))
-            | inr z ↦ absurd (omega (arith, waits, z, ap (λ y. get_or w y 0) s))
-          ]
-          | inr ne ↦ (u.raised nb).elsewhere x ne
-        ]
-      ] in
-      let rises : (x : ℕ) → get_or n x 0 ≤ get_or n' x 0 =
-      λ x. elim (cases_eq r base) [
-        | inl s ↦ omega (arith, ap (λ z. get_or z x 0) (u.at_base s).0)
-        | inr nb ↦ elim (cases_eq x r) [
-          | inl s ↦ elim (u.raised nb).here [ inl h ↦ omega (arith, h.0, ap (λ y. get_or n y 0) s, ap (λ y. get_or n' y 0) s) | inr h ↦ omega (arith, h.0, h.1, ap (λ y. get_or n y 0) s, ap (λ y. get_or n' y 0) s) ]
-          | inr ne ↦ omega (arith, (u.raised nb).elsewhere x ne)
-        ]
-      ] in
+      let left_kept : (x : ℕ) → x < length arcs → 0 < now x → get_or n' x 0 ≡ get_or n x 0 = grind (arith, cases_eq, get_or) in
+      let rises : (x : ℕ) → get_or n x 0 ≤ get_or n' x 0 = grind (arith, cases_eq, get_or) in
       let e_kept = left_kept e le (omega (arith, here)) in
       let grown : (x : ℕ) → Contains q x → Contains q' x =
       λ x c. elim (queue_is r n w q n' w' q' e u) [ inl s ↦ subst (λ z. Contains z x) (sym s.0) c | inr s ↦ subst (λ z. Contains z x) (sym s.0) (Contains-append_left q (r ∷ []) x c) ] in
@@ -231,20 +196,7 @@ module _ (arcs : List (List ℕ)) (base : ℕ) (a : IsAcyclic arcs base) where
         raised = λ x i l li nb.
             let kept = left_kept x l (omega (arith, li)) in
             let target = get_or (arcs_of arcs x) i 0 in
-            elim (cases_lt i (used x)) [
-              | inl old ↦ omega (arith, kept, run.raised x i l old nb, rises target)
-              | inr past ↦ elim (cases_eq x e) [
-                | inr ne ↦ absurd (omega (arith, past, li, there x ne))
-                | inl s ↦
-                    let ik : i ≡ k = omega (arith, past, li, ap now s, here, ap used s, at) in
-                    let same : target ≡ r = ap (λ y. get_or (arcs_of arcs y) i 0) s ∙ ap (λ y. get_or us y 0) ik in
-                    let more_e = ap (λ y. get_or n y 0) s in
-                    elim (u.raised (λ b. nb (same ∙ b))).here [
-                      | inl h ↦ omega (arith, kept, more_e, h.0, h.1, ap (λ y. get_or n' y 0) same)
-                      | inr h ↦ omega (arith, kept, more_e, h.0, ap (λ y. get_or n' y 0) same)
-                    ]
-              ]
-            ];
+            grind (arith, cases_lt, cases_eq, get_or, arcs_of);
         tight = λ z l nb.
             let old : get_or n' z 0 ≡ get_or n z 0 → (get_or n' z 0 ≡ 0) ⊎ ((x : ℕ) × (i : ℕ) × (x < length arcs) × (i < now x) × (get_or (arcs_of arcs x) i 0 ≡ z) × (get_or n' z 0 ≡ get_or n' x 0 + 1)) =
             λ s. elim (run.tight z l nb) [
@@ -307,7 +259,6 @@ module _ (arcs : List (List ℕ)) (base : ℕ) (a : IsAcyclic arcs base) where
               elim (cases_lt j (length q)) [
                 | inl m ↦
                     let old = run.earlier x y j has_x nb m (sym (front j m) ∙ at_j) in
-                    let less = old.1 in
                     (old.0, old.1, front old.0 (omega arith) ∙ old.2)
                 | inr m ↦
                     let end : j ≡ length q = omega (arith, lj, m, ap length s.0, length-append q (r ∷ [])) in
@@ -334,14 +285,7 @@ module _ (arcs : List (List ℕ)) (base : ℕ) (a : IsAcyclic arcs base) where
       ]
 
   IsUsed-low : (n w q n' w' q' : List ℕ) (e r b : ℕ) → IsUsed base e r n w q n' w' q' → get_or n e 0 ≤ b → ((x : ℕ) → get_or n x 0 ≤ b + 1) → (x : ℕ) → get_or n' x 0 ≤ b + 1
-  IsUsed-low n w q n' w' q' e r b u le low x =
-      elim (cases_eq r base) [
-        | inl s ↦ omega (arith, ap (λ z. get_or z x 0) (u.at_base s).0, low x)
-        | inr nb ↦ elim (cases_eq x r) [
-          | inl s ↦ elim (u.raised nb).here [ inl h ↦ omega (arith, h.0, low x, ap (λ y. get_or n y 0) s, ap (λ y. get_or n' y 0) s) | inr h ↦ omega (arith, h.0, le, ap (λ y. get_or n' y 0) s) ]
-          | inr ne ↦ omega (arith, (u.raised nb).elsewhere x ne, low x)
-        ]
-      ]
+  IsUsed-low n w q n' w' q' e r b u le low x = grind (arith, cases_eq, get_or)
 
   IsUsed-grown : (n w q n' w' q' : List ℕ) (e r : ℕ) → IsUsed base e r n w q n' w' q' → (first : List ℕ) → ((rest : List ℕ) × (q ≡ first ++ rest)) → (rest : List ℕ) × (q' ≡ first ++ rest)
   IsUsed-grown n w q n' w' q' e r u first old =
@@ -353,12 +297,11 @@ module _ (arcs : List (List ℕ)) (base : ℕ) (a : IsAcyclic arcs base) where
   pub IsVisited-more : (n w q n' w' q' n'' w'' q'' : List ℕ) (e k : ℕ) → e < length arcs → k < length (arcs_of arcs e) → Contains q e → IsVisited arcs base e k n w q n' w' q' → IsUsed base e (get_or (arcs_of arcs e) k 0) n' w' q' n'' w'' q'' → IsVisited arcs base e (k + 1) n w q n'' w'' q''
   IsVisited-more n w q n' w' q' n'' w'' q'' e k le lk queued h u =
       let r = get_or (arcs_of arcs e) k 0 in
-      let has : HasArc arcs e r = (le, Contains-get_or (arcs_of arcs e) k 0 lk) in
       let still : Contains q' e = subst (λ z. Contains z e) (sym h.grown) (Contains-append_left q h.rest e queued) in
       let more = IsUsed-grown n' w' q' n'' w'' q'' e r u q (h.rest, h.grown) in
       record {
         run = λ used run z. IsRun-step used n' w' q' n'' w'' q'' e k le lk still (h.run used run z) u;
-        same = IsUsed-same n' w' q' n'' w'' q'' e r has u ∙ h.same;
+        same = IsUsed-same n' w' q' n'' w'' q'' e r ((le, Contains-get_or (arcs_of arcs e) k 0 lk)) u ∙ h.same;
         low = λ b low. IsUsed-low n' w' q' n'' w'' q'' e r b u (omega (arith, h.same, low e)) (h.low b low);
         rest = more.0;
         grown = more.1;
@@ -404,37 +347,14 @@ module _ (arcs : List (List ℕ)) (base : ℕ) (a : IsAcyclic arcs base) where
   head_fresh : (head : ℕ) (used : ℕ → ℕ) (n w q : List ℕ) → IsAt arcs base head used n w q → head < length q → used (get_or q head 0) ≡ 0
   head_fresh head used n w q at l =
       let e = get_or q head 0 in
-      let le = (at.run.queued e (Contains-get_or q head 0 l)).0 in
       elim (cases_lt 0 (used e)) [
-        | inl some ↦ (let j = at.fresh e le some in absurd (at.run.distinct j.0 head 0 j.1 l j.3))
+        | inl some ↦ (let j = at.fresh e ((at.run.queued e (Contains-get_or q head 0 l)).0) some in absurd (at.run.distinct j.0 head 0 j.1 l j.3))
         | inr none ↦ omega arith
       ]
 
   -- the next vertex is used
   IsAt-more : (head : ℕ) (used : ℕ → ℕ) (n w q n' w' q' : List ℕ) → IsAt arcs base head used n w q → head < length q → IsProgress arcs base (used_at used (get_or q head 0) (length (arcs_of arcs (get_or q head 0)))) n' w' q' → (rest : List ℕ) → q' ≡ q ++ rest → ((x : ℕ) → get_or n' x 0 ≤ head + 1) → IsAt arcs base (head + 1) (used_at used (get_or q head 0) (length (arcs_of arcs (get_or q head 0)))) n' w' q'
-  IsAt-more head used n w q n' w' q' at l run rest grown low =
-      let e = get_or q head 0 in
-      let len = length (arcs_of arcs e) in
-      let long : length q ≤ length q' = omega (arith, ap length grown, length-append q rest) in
-      let old : (j : ℕ) → j < length q → get_or q' j 0 ≡ get_or q j 0 = λ j lj. ap (λ z. get_or z j 0) grown ∙ get_or_append_left q rest 0 j lj in
-      record {
-        run = run;
-        done = λ j lj lq.
-            let same = old j (omega (arith, lj, l)) in
-            elim (cases_eq j head) [
-              | inl s ↦
-                  let is : get_or q' j 0 ≡ e = same ∙ ap (λ z. get_or q z 0) s in
-                  ap (used_at used e len) is ∙ (used_at-here used e len ∙ ap (λ z. length (arcs_of arcs z)) (sym is))
-              | inr ne ↦
-                  let other : get_or q j 0 ≢ e = λ s. at.run.distinct j head 0 (omega (arith, lj, ne)) l s in
-                  subst (λ z. used_at used e len z ≡ length (arcs_of arcs z)) (sym same) (used_at-other used e len (get_or q j 0) other ∙ at.done j (omega (arith, lj, ne)) (omega (arith, lj, l)))
-            ];
-        fresh = λ x lx some. elim (cases_eq x e) [
-          | inl s ↦ (head, omega arith, omega (arith, l, long), old head l ∙ sym s)
-          | inr ne ↦ (let j = at.fresh x lx (omega (arith, some, used_at-other used e len x ne)) in (j.0, omega (arith, j.1), omega (arith, j.2, long), old j.0 j.2 ∙ j.3))
-        ];
-        low = low;
-      }
+  IsAt-more head used n w q n' w' q' at l run rest grown low = grind (arith, get_or, length, arcs_of, length-append, get_or_append_left, cases_eq, used_at, used_at-here, used_at-other)
 
   -- the vertex e at the head of the queue has all its arcs used next
   module _ (head : ℕ) (used : ℕ → ℕ) (n w q : List ℕ) (at : IsAt arcs base head used n w q) (l : head < length q) (e : ℕ) (is : e ≡ get_or q head 0) where
@@ -455,12 +375,7 @@ module _ (arcs : List (List ℕ)) (base : ℕ) (a : IsAcyclic arcs base) where
 
   -- no vertex is left at the head of the queue
   pub IsAt-passed : (head : ℕ) (used : ℕ → ℕ) (n w q : List ℕ) → length q ≤ head → IsAt arcs base head used n w q → IsAt arcs base (head + 1) used n w q
-  IsAt-passed head used n w q past at = record {
-    run = at.run;
-    done = λ j less l. at.done j (omega (arith, l, past)) l;
-    fresh = λ e l some. (let j = at.fresh e l some in (j.0, omega (arith, j.1), j.2, j.3));
-    low = λ x. omega (arith, at.low x);
-  }
+  IsAt-passed head used n w q past at = grind arith
 
   -- the end: all arcs are used
   module _ (used : ℕ → ℕ) (n w q : List ℕ) (at : IsAt arcs base (length arcs) used n w q) where
@@ -489,8 +404,7 @@ module _ (arcs : List (List ℕ)) (base : ℕ) (a : IsAcyclic arcs base) where
               let same = sum_below-same (λ x. count_of e (take (used x) (arcs_of arcs x))) (λ x. count_of e (arcs_of arcs x)) (length arcs)
               (λ x lx. elim (cases_lt 0 (count_of e (arcs_of arcs x))) [
                 | inl some ↦
-                    let has : HasArc arcs x e = (lx, Contains-from_count_of e (arcs_of arcs x) some) in
-                    let done = all_done bound x lx (omega (arith, less, a.rising x e has nb)) in
+                    let done = all_done bound x lx (omega (arith, less, a.rising x e ((lx, Contains-from_count_of e (arcs_of arcs x) some)) nb)) in
                     ap (count_of e) (ap (λ k. take k (arcs_of arcs x)) done ∙ take-length (arcs_of arcs x))
                 | inr none ↦ omega (arith, none, take_fewer (arcs_of arcs x) e (used x))
               ]) in
@@ -516,14 +430,7 @@ module _ (arcs : List (List ℕ)) (base : ℕ) (a : IsAcyclic arcs base) where
 
     -- nothing is left into any vertex, so each is in the queue
     all_queued : (e : ℕ) → e < length arcs → Contains q e
-    all_queued e l =
-        elim (cases_eq e base) [
-          | inl s ↦ at.run.all e l (inl s)
-          | inr nb ↦
-              let same = sum_below-same (λ x. count_of e (take (used x) (arcs_of arcs x))) (λ x. count_of e (arcs_of arcs x)) (length arcs)
-              (λ x lx. ap (count_of e) (ap (λ k. take k (arcs_of arcs x)) (all_done (a.height x + 1) x lx (omega arith)) ∙ take-length (arcs_of arcs x))) in
-              at.run.all e l (inr (omega (arith, same, at.run.counted e l)))
-        ]
+    all_queued e l = grind (arith, cases_eq, sum_below-same, count_of, take, arcs_of, length, all_done, take-length)
 
     many_queued : length arcs ≤ length q
     many_queued =

@@ -5,5 +5,4 @@ use Rattle.graph_search.specs.UnderWay.{IsSearching}
 -- the vertex that was seen is left at once
 seen_vertex_left_at_once : (parent cursor : List ℕ) → IsSearching ((1 ∷ []) ∷ (0 ∷ []) ∷ []) (0 ∷ 1 ∷ []) (0 ∷ 1 ∷ []) (0 ∷ 0 ∷ []) parent cursor 2 0 → ⊥
 seen_vertex_left_at_once parent cursor s =
-    let h : 1 ≤ 0 = s.state.top_most 1 (omega arith) (omega arith) refl in
-    omega arith
+    omega (arith, s.state.top_most 1 (omega arith) (omega arith) refl)

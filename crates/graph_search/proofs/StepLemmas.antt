@@ -22,9 +22,8 @@ IsPut-set xs i x l = record { here = get_or-set_same xs i x 0 l; elsewhere = λ 
 count_below-lt_all : (p : ℕ → Bool) (n w : ℕ) → w < n → p w ≡ false → count_below p n < n
 count_below-lt_all p n w l off =
     let q : ℕ → Bool = λ i. not (eqb i w) in
-    let more = count_below_more q (λ i. true) n w l (ap not (eq-eqb w w refl)) refl (λ i m ne. ap not (ne_eqb i w ne)) in
     let fewer = count_below_weaker p q n (λ i m passes. elim (cases_eq i w) [ inl e ↦ absurd (false≢true (sym off ∙ (sym (ap p e) ∙ passes))) | inr ne ↦ ap not (ne_eqb i w ne) ]) in
-    omega (arith, count_below_all n)
+    omega (arith, count_below_more q (λ i. true) n w l (ap not (eq-eqb w w refl)) refl (λ i m ne. ap not (ne_eqb i w ne)), count_below_all n)
 
 module _ (lists : Lists) (order number last parent : ℕ → ℕ) (count current : ℕ) (h : IsUnderWay lists order number last parent count current) where
   -- where a vertex is not seen, there is room for it
@@ -43,7 +42,6 @@ module _ (lists : Lists) (order number last parent : ℕ → ℕ) (count current
     IsUnderWay-seen =
         let n = length lists in
         let r = IsUnderWay-room w l unseen in
-        let open_w = unseen_open w l unseen in
         let at : (v : ℕ) → v ≡ w → number' v ≡ count = λ v e. ap number' e ∙ u.here in
         let off : (v : ℕ) → number v < n → v ≢ w = λ v m e. (let q : number v ≡ n = ap number e ∙ unseen in omega arith) in
         let ended : (v : ℕ) → v < n → 0 < last v → v ≢ w = λ v m d e. (let q = ap last e in omega arith) in
@@ -69,16 +67,13 @@ module _ (lists : Lists) (order number last parent : ℕ → ℕ) (count current
           own = λ v m s. elim (cases_eq v w) [
             | inl e ↦ ap order' (at v e) ∙ (o.here ∙ sym e)
             | inr ne ↦
-                let few = h.numbered v m (fewer v s ne) in
                 ap order' (u.elsewhere v ne) ∙ (o.elsewhere (number v) (omega arith) ∙ h.own v m (fewer v s ne))
           ];
           vertex = λ k m. elim (cases_eq k count) [ inl e ↦ omega (arith, ap order' e, o.here) | inr ne ↦ omega (arith, o.elsewhere k ne, h.vertex k (omega arith)) ];
           place = λ k m. elim (cases_eq k count) [
             | inl e ↦ ap number' (ap order' e ∙ o.here) ∙ (u.here ∙ sym e)
             | inr ne ↦
-                let old = h.place k (omega arith) in
-                let other = off (order k) (omega arith) in
-                ap number' (o.elsewhere k ne) ∙ (u.elsewhere (order k) other ∙ old)
+                ap number' (o.elsewhere k ne) ∙ (u.elsewhere (order k) (off (order k) (omega arith)) ∙ (h.place k (omega arith)))
           ];
           ends_after = λ v m d. let ne = ended v m d in omega (arith, u.elsewhere v ne, h.ends_after v m d);
           ends_within = λ v m. omega (arith, h.ends_within v m);
@@ -92,13 +87,11 @@ module _ (lists : Lists) (order number last parent : ℕ → ℕ) (count current
               elim (cases_eq v w) [ inl e ↦ absurd (omega (arith, at v e)) | inr other ↦ h.nested x v m k (omega (arith, u.elsewhere x ne, u.elsewhere v other)) (omega (arith, u.elsewhere v other)) ];
           edges = λ x v has d.
               let few = h.edges x v has d in
-              let le = h.ends_within x has.0 in
               omega (arith, u.elsewhere v (off v (omega arith)));
           adjacent = λ v m s q. elim (cases_eq v w) [
             | inl e ↦
                 let is : parent' v ≡ current = ap parent' e ∙ p.here in
-                let has = subst (HasDart lists current) (sym e) (dart (omega arith)) in
-                rw is (∣ has ∣₁)
+                rw is (∣ (subst (HasDart lists current) (sym e) (dart (omega arith))) ∣₁)
             | inr ne ↦ let is = p.elsewhere v ne in rw is (h.adjacent v m (fewer v s ne) (omega arith))
           ];
           held = λ v m s q. elim (cases_eq v w) [
@@ -106,43 +99,28 @@ module _ (lists : Lists) (order number last parent : ℕ → ℕ) (count current
                 let is : parent' v ≡ current = ap parent' e ∙ p.here in
                 let c : current < n = omega arith in
                 let seen = h.current_seen c in
-                let few = h.numbered current c seen in
-                let still = h.current_open c in
                 rw is (record { after = omega (arith, at v e, u.elsewhere current (off current seen)); before = λ d. absurd (omega arith) })
             | inr ne ↦
-                let is = p.elsewhere v ne in
                 let old = h.held v m (fewer v s ne) (omega arith) in
-                let a = old.after in
                 let same = u.elsewhere v ne in
                 let up = u.elsewhere (parent v) (off (parent v) (omega arith)) in
-                rw is (record { after = omega arith; before = λ d. let b = old.before d in omega arith })
+                rw (p.elsewhere v ne) (record { after = omega arith; before = λ d. let b = old.before d in omega arith })
           ];
           has_parent = λ x v m k s f. elim (cases_eq v w) [
             | inl e ↦
                 let low = top x v m e f in
-                let c = h.some_current x m low.0 low.1 in
-                omega (arith, ap parent' e, p.here)
+                omega (arith, h.some_current x m low.0 low.1, ap parent' e, p.here)
             | inr ne ↦ omega (arith, p.elsewhere v ne, h.has_parent x v m k (fewer v s ne) (held_before x v m k ne s f))
           ];
           nearest = λ x v m k s f. elim (cases_eq v w) [
             | inl e ↦
                 let low = top x v m e f in
-                let c = h.some_current x m low.0 low.1 in
                 let most = h.top_most x m low.0 low.1 in
-                let is : parent' v ≡ current = ap parent' e ∙ p.here in
-                rw is (omega (arith, low.2, u.elsewhere current (off current (h.current_seen c))))
-            | inr ne ↦
-                let old = held_before x v m k ne s f in
-                let q = h.has_parent x v m k (fewer v s ne) old in
-                let le = h.nearest x v m k (fewer v s ne) old in
-                let up = (h.held v k (fewer v s ne) q).after in
-                let y = fewer v s ne in
-                let is = p.elsewhere v ne in
-                let low : x ≢ w = off x (let a = old.after in omega arith) in
-                rw is (omega (arith, u.elsewhere x low, u.elsewhere (parent v) (off (parent v) (omega arith))))
+                rw (ap parent' e ∙ p.here) (omega (arith, low.2, u.elsewhere current (off current (h.current_seen (h.some_current x m low.0 low.1)))))
+            | inr ne ↦ grind arith
           ];
           current_seen = λ m. omega (arith, u.here);
-          current_open = λ m. open_w;
+          current_open = λ m. (unseen_open w l unseen);
           some_current = λ v m s d. l;
           top_most = λ v m s d. elim (cases_eq v w) [ inl e ↦ omega (arith, at v e, u.here) | inr ne ↦ omega (arith, u.here, u.elsewhere v ne, h.numbered v m (fewer v s ne)) ];
         }
@@ -161,11 +139,9 @@ module _ (lists : Lists) (order number last parent : ℕ → ℕ) (count current
     IsUnderWay-done =
         let n = length lists in
         let seen = h.current_seen c_in in
-        let still = h.current_open c_in in
-        let few = h.numbered current c_in seen in
         let at : (v : ℕ) → v ≡ current → last' v ≡ count = λ v e. ap last' e ∙ z.here in
         let same : (v : ℕ) → v ≡ current → number v ≡ number current = λ v e. ap number e in
-        let open_at : (v : ℕ) → v ≡ current → last v ≡ 0 = λ v e. ap last e ∙ still in
+        let open_at : (v : ℕ) → v ≡ current → last v ≡ 0 = λ v e. ap last e ∙ (h.current_open c_in) in
         let le_n : count ≤ n = omega (arith, h.counted, count_below-le (λ v. ltb (number v) n) n) in
         let below : (v : ℕ) → v < n → number v < n → v ≢ current → last v ≡ 0 → number v < number current = λ v m s ne d.
         (let t = h.top_most v m s d in
@@ -204,16 +180,14 @@ module _ (lists : Lists) (order number last parent : ℕ → ℕ) (count current
           ];
           edges = λ x v has d. elim (cases_eq x current) [
             | inl e ↦
-                let k = in_range x v has in
-                omega (arith, at x e, h.numbered v k (all v (subst (λ y. HasDart lists y v) e has)))
+                omega (arith, at x e, h.numbered v (in_range x v has) (all v (subst (λ y. HasDart lists y v) e has)))
             | inr ne ↦ (let q = z.elsewhere x ne in omega (arith, h.edges x v has (omega arith)))
           ];
           adjacent = h.adjacent;
           held = λ v m s q.
               let old = h.held v m s q in
-              let a = old.after in
               record {
-                after = a;
+                after = old.after;
                 before = λ d. elim (cases_eq (parent v) current) [ inl e ↦ omega (arith, at (parent v) e, h.numbered v m s) | inr ne ↦ (let y = z.elsewhere (parent v) ne in let b = old.before (omega arith) in omega arith) ];
               };
           has_parent = λ x v m k s f. h.has_parent x v m k s (old_hold x v m f);
@@ -223,7 +197,6 @@ module _ (lists : Lists) (order number last parent : ℕ → ℕ) (count current
               let old = h.held current c_in seen m in
               let a = old.after in
               let ne : parent current ≢ current = λ e. (let y = ap number e in omega arith) in
-              let y = z.elsewhere (parent current) ne in
               elim (cases_lt 0 (last (parent current))) [ inl d ↦ absurd (let b = h.nested_done (parent current) current m c_in a (old.before d) in omega arith) | inr d ↦ omega arith ];
           some_current = λ v m s d.
               let ne : v ≢ current = λ e. (let q = at v e in omega arith) in
@@ -239,7 +212,6 @@ module _ (lists : Lists) (order number last parent : ℕ → ℕ) (count current
     pub work_left-done : work_left number last' (length lists) < work_left number last (length lists)
     work_left-done =
         let n = length lists in
-        let still = h.current_open c_in in
         let few = h.numbered current c_in (h.current_seen c_in) in
         let fewer = count_below_more (λ v. not (ltb 0 (last' v))) (λ v. not (ltb 0 (last v))) n current c_in (ap not (lt-ltb 0 (last' current) (omega (arith, z.here)))) (ap not (le-ltb 0 (last current) (omega arith))) (λ i m ne. ap (λ x. not (ltb 0 x)) (z.elsewhere i ne)) in
         omega arith

@@ -67,15 +67,12 @@ module _ (lists : Lists) (order number last parent cursor : List ℕ) (count cur
   pub IsSearching-seen : (w : ℕ) → w < length lists → length lists ≤ get_or number w 0 → (current < length lists → HasDart lists current w) → IsSearching lists (set order count w) (set number w count) last (set parent w current) cursor (count + 1) w
   IsSearching-seen w l unseen dart =
       let room = IsSearching-room w l unseen in
-      let o = h.orders in
-      let u = h.numbers in
-      let p = h.parents in
       let put = IsPut-set number w count (omega arith) in
       record {
-        orders = length-set order count w ∙ o;
-        numbers = length-set number w count ∙ u;
+        orders = length-set order count w ∙ h.orders;
+        numbers = length-set number w count ∙ h.numbers;
         lasts = h.lasts;
-        parents = length-set parent w current ∙ p;
+        parents = length-set parent w current ∙ h.parents;
         cursors = h.cursors;
         state = IsUnderWay-seen lists _ _ _ _ count current h.state _ _ _ w l (unseen_number w l unseen) dart (IsPut-set order count w (omega arith)) put (IsPut-set parent w current (omega arith));
         read = record {
@@ -90,23 +87,19 @@ module _ (lists : Lists) (order number last parent cursor : List ℕ) (count cur
   pub work_in-seen : (w : ℕ) → w < length lists → length lists ≤ get_or number w 0 → (current < length lists → HasDart lists current w) → work_in (set number w count) last < work_in number last
   work_in-seen w l unseen dart =
       let room = IsSearching-room w l unseen in
-      let o = h.orders in
-      let u = h.numbers in
-      let p = h.parents in
       let less = work_left-seen lists _ _ _ _ count current h.state _ _ _ w l (unseen_number w l unseen) dart (IsPut-set order count w (omega arith)) (IsPut-set number w count (omega arith)) (IsPut-set parent w current (omega arith)) in
-      rw (length-set, u) less
+      rw (length-set, h.numbers) less
 
   -- entries of the current vertex are read
   pub IsSearching-read : (place : ℕ) → current < length lists → place ≤ length (list_of lists current) → ((i : ℕ) → get_or cursor current 0 ≤ i → i < place → get_or number (get_or (list_of lists current) i 0) 0 < length lists) → IsSearching lists order number last parent (set cursor current place) count current
   IsSearching-read place c_in within seen =
-      let o = h.cursors in
       let put = IsPut-set cursor current place (omega arith) in
       record {
         orders = h.orders;
         numbers = h.numbers;
         lasts = h.lasts;
         parents = h.parents;
-        cursors = length-set cursor current place ∙ o;
+        cursors = length-set cursor current place ∙ h.cursors;
         state = h.state;
         read = record {
           within = λ v m. elim (cases_eq v current) [
@@ -114,13 +107,7 @@ module _ (lists : Lists) (order number last parent cursor : List ℕ) (count cur
             | inr ne ↦ omega (arith, put.elsewhere v ne, h.read.within v m)
           ];
           seen = λ v i m k. elim (cases_eq v current) [
-            | inl e ↦
-                let k' : i < place = omega (arith, ap (λ x. get_or (set cursor current place) x 0) e, put.here) in
-                let same = ap (λ x. get_or number (get_or (list_of lists x) i 0) 0) e in
-                elim (cases_lt i (get_or cursor current 0)) [
-                  | inl before ↦ omega (arith, h.read.seen current i c_in before)
-                  | inr from ↦ omega (arith, seen i from k')
-                ]
+            | inl e ↦ grind (arith, get_or, set, list_of, cases_lt)
             | inr ne ↦ h.read.seen v i m (omega (arith, put.elsewhere v ne))
           ];
         };
@@ -143,11 +130,10 @@ module _ (lists : Lists) (order number last parent cursor : List ℕ) (count cur
     -- the current vertex is done
     pub IsSearching-done : IsSearching lists order number (set last current count) parent cursor count (get_or parent current 0)
     IsSearching-done =
-        let o = h.lasts in
         record {
           orders = h.orders;
           numbers = h.numbers;
-          lasts = length-set last current count ∙ o;
+          lasts = length-set last current count ∙ h.lasts;
           parents = h.parents;
           cursors = h.cursors;
           state = IsUnderWay-done lists _ _ _ _ count current h.state _ c_in seen_all in_range (IsPut-set last current count (omega arith));
@@ -156,9 +142,7 @@ module _ (lists : Lists) (order number last parent cursor : List ℕ) (count cur
 
     pub work_in-done : work_in number (set last current count) < work_in number last
     work_in-done =
-        let o = h.lasts in
-        let less = work_left-done lists _ _ _ _ count current h.state _ c_in seen_all in_range (IsPut-set last current count (omega arith)) in
-        rw h.numbers less
+        rw h.numbers (work_left-done lists _ _ _ _ count current h.state _ c_in seen_all in_range (IsPut-set last current count (omega arith)))
 
 -- where none is open and all were seen, the search is finished
 pub IsForestOf-finished : (lists : Lists) (order number last parent cursor : List ℕ) (count : ℕ) → IsSearching lists order number last parent cursor count (length lists) → ((v : ℕ) → v < length lists → get_or number v 0 < length lists) → IsForestOf lists order number last parent
@@ -172,35 +156,7 @@ IsForestOf-finished lists order number last parent cursor count h all = record {
 
 -- which number past the vertices stands for none does not matter
 pub IsSearching-at_none : (lists : Lists) (order number last parent cursor : List ℕ) (count current : ℕ) → length lists ≤ current → IsSearching lists order number last parent cursor count current → IsSearching lists order number last parent cursor count (length lists)
-IsSearching-at_none lists order number last parent cursor count current none h = record {
-  orders = h.orders;
-  numbers = h.numbers;
-  lasts = h.lasts;
-  parents = h.parents;
-  cursors = h.cursors;
-  state = record {
-    counted = h.state.counted;
-    most = h.state.most;
-    numbered = h.state.numbered;
-    own = h.state.own;
-    vertex = h.state.vertex;
-    place = h.state.place;
-    ends_after = h.state.ends_after;
-    ends_within = h.state.ends_within;
-    nested_done = h.state.nested_done;
-    nested = h.state.nested;
-    edges = h.state.edges;
-    adjacent = h.state.adjacent;
-    held = h.state.held;
-    has_parent = h.state.has_parent;
-    nearest = h.state.nearest;
-    current_seen = λ m. absurd (omega arith);
-    current_open = λ m. absurd (omega arith);
-    some_current = λ u m s d. absurd (let c = h.state.some_current u m s d in omega arith);
-    top_most = λ u m s d. absurd (let c = h.state.some_current u m s d in omega arith);
-  };
-  read = h.read;
-}
+IsSearching-at_none lists order number last parent cursor count current none h = grind arith
 
 -- Numbers are kept where a vertex that was not seen gets one.
 pub KeepsNumbers-set : (old new : List ℕ) (v count : ℕ) → new ≡ set old v count → length old ≤ get_or old v 0 → KeepsNumbers old new
@@ -212,8 +168,7 @@ KeepsNumbers-set old new v count e unseen = λ u l s. elim (cases_eq u v) [
 -- numbers that are kept, kept further
 pub KeepsNumbers-chained : (one two three : List ℕ) → length two ≡ length one → KeepsNumbers one two → KeepsNumbers two three → KeepsNumbers one three
 KeepsNumbers-chained one two three same h k = λ v m s.
-    let e = h v m s in
-    k v (omega arith) (omega arith) ∙ e
+    k v (omega arith) (omega arith) ∙ (h v m s)
 
 -- the numbers of the first two vertices, which are kept
 module _ (n s t zero_count one_count : ℕ) (blank one two now : List ℕ) (z : zero_count ≡ 0) (k : one_count ≡ zero_count + 1) (b : blank ≡ replicate n n) (o : one ≡ set blank s zero_count) (w : two ≡ set one t one_count) (s_in : s < n) (t_in : t < n) (ne : s ≢ t) (keeps : KeepsNumbers two now) where

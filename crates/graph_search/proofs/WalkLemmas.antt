@@ -60,13 +60,11 @@ module _ (lists : Lists) (adjacency : IsAdjacency lists) (passes : ℕ → Type 
   pub walks_keep : (P : ℕ → Type 0) → ((x y : ℕ) → HasDart lists x y → passes y → P x → P y) → (k s t : ℕ) → Walks lists passes k s t → P s → P t
   walks_keep P h zero s t w p = subst P w.2 p
   walks_keep P h (suc k) s t w p =
-      let next = walks_start lists passes k w.0 t w.3 in
-      walks_keep P h k w.0 t w.3 (h s w.0 w.1 next.1 p)
+      walks_keep P h k w.0 t w.3 (h s w.0 w.1 (walks_start lists passes k w.0 t w.3).1 p)
 
 module _ (lists : Lists) (adjacency : IsAdjacency lists) (avoided : List ℕ) where
   path_linked : (path : List ℕ) → IsPath lists path → ((x : ℕ) → Contains path x → Off avoided x) → (i : ℕ) → i < length path → AreLinked lists (Off avoided) (get_or path 0 0) (get_or path i 0)
   path_linked path p off zero l =
-      let some = p.some in
       linked_itself lists (Off avoided) (get_or path 0 0) (p.vertices 0 0 l) (off (get_or path 0 0) (Contains-get_or path 0 0 l))
   path_linked path p off (suc i) l =
       linked_chained lists (Off avoided) (get_or path 0 0) (get_or path i 0) (get_or path (suc i) 0) (path_linked path p off i (omega arith))
@@ -75,7 +73,6 @@ module _ (lists : Lists) (adjacency : IsAdjacency lists) (avoided : List ℕ) wh
   -- a path is a walk
   pub linked_path : (s t : ℕ) (path : List ℕ) → JoinsAvoiding lists avoided s t path → AreLinked lists (Off avoided) s t
   linked_path s t path j =
-      let some = j.is_path.some in
       subst (λ x. AreLinked lists (Off avoided) x t) j.start
       (subst (λ x. AreLinked lists (Off avoided) (get_or path 0 0) x) j.end (path_linked path j.is_path j.avoids (length path - 1) (omega arith)))
 
@@ -99,17 +96,7 @@ module _ (lists : Lists) (adjacency : IsAdjacency lists) (avoided : List ℕ) wh
       }
 
   JoinsAvoiding-alone : (s : ℕ) → s < length lists → Off avoided s → JoinsAvoiding lists avoided s s (s ∷ [])
-  JoinsAvoiding-alone s l off =
-      record {
-        is_path = record {
-          some = omega arith;
-          vertices = All-cons (λ v. v < length lists) s [] l (λ i d m. absurd (omega arith));
-          steps = λ i m. absurd (omega arith);
-        };
-        start = refl;
-        end = refl;
-        avoids = λ x c. elim (Contains-cons_cases s [] x c) [ inl e ↦ subst (Off avoided) e off | inr none ↦ absurd (let some = none.1 in omega arith) ];
-      }
+  JoinsAvoiding-alone s l off = grind (arith, All-cons, length, Contains-cons_cases, Off)
 
   walk_path : (k s t : ℕ) → Walks lists (Off avoided) k s t → (path : List ℕ) × JoinsAvoiding lists avoided s t path
   walk_path zero s t w = (s ∷ [], subst (λ x. JoinsAvoiding lists avoided s x (s ∷ [])) w.2 (JoinsAvoiding-alone s w.0 w.1))

@@ -14,7 +14,7 @@ use Rattle.plane_laws.specs.MapEditsCompleted.{IsExtended, Completion}
 use Rattle.plane_peeling.proofs.Counted.{marks_everywhere}
 use Rattle.map_lists.specs.declared.ids.DartId.{DartId}
 use Rattle.half_edges.specs.Map.{Map, dart_at, first_dart}
-use Rattle.pg_plane.specs.declared.segments.Point.{Point}
+use Rattle.pg_plane.specs.declared.grid_points.Point.{Point}
 use Rattle.plane_drawings.specs.Drawing.{IsCounterclockwise}
 use Rattle.draw_check.specs.Laws.{IsValid}
 use Rattle.draw_check.specs.Outer.{HasOuterFace}

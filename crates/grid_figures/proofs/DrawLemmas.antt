@@ -2,7 +2,7 @@
 use Rattle.std.proofs.Common.{◌≡◌, ◌+◌, ◌-◌, ◌^◌, ◌<◌, ℕ, List, length, get_or, All, pos, refl, ap₂, ◌∙◌, arith}
 use Rattle.map_lists.specs.Lists.{Lists}
 use Rattle.map_theory.specs.Maps.{Dart}
-use Rattle.pg_plane.specs.declared.segments.Point.{Point}
+use Rattle.pg_plane.specs.declared.grid_points.Point.{Point}
 use Rattle.canon_order.specs.Orders.{IsCanonicalOrder, IsRankOf}
 use Rattle.contour_runs.specs.Runs.{Step}
 use Rattle.order_drawings.specs.OrderRuns.{IsOrderRun}

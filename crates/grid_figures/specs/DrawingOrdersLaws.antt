@@ -5,7 +5,7 @@ use Rattle.map_theory.specs.Maps.{IsSimpleMap, IsPlane, vertex_count}
 use Rattle.plane_laws.specs.Triangulations.{IsTriangulation}
 use Rattle.plane_laws.specs.MapEditsCompleted.{IsExtended}
 use Rattle.half_edges.specs.Map.{first_dart}
-use Rattle.pg_plane.specs.declared.segments.Point.{Point}
+use Rattle.pg_plane.specs.declared.grid_points.Point.{Point}
 use Rattle.plane_drawings.specs.Drawing.{IsPlaneDrawing, KeepsRotations, IsCounterclockwise}
 use Rattle.draw_check.specs.Verdicts.{AllInGrid}
 use Rattle.draw_check.specs.Laws.{IsValid}

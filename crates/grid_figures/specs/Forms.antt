@@ -3,7 +3,7 @@ use Rattle.std.specs.Prelude.{ℕ, ◌<◌, ◌≤◌, ◌≡◌, List, length, 
 use Rattle.map_lists.specs.Lists.{Lists}
 use Rattle.map_theory.specs.Maps.{Dart, HasDart, IsSimpleMap, IsPlane, list_of, follows, vertex_count}
 use Rattle.half_edges.specs.Map.{first_dart}
-use Rattle.pg_plane.specs.declared.segments.Point.{Point}
+use Rattle.pg_plane.specs.declared.grid_points.Point.{Point}
 use Rattle.pg_plane.specs.declared.figures.GridFigure.{GridFigure}
 use Rattle.plane_drawings.specs.Drawing.{place}
 use Rattle.draw_check.specs.Laws.{IsValid}

@@ -1,6 +1,6 @@
 -- The points of vertices.
 use Rattle.std.specs.Prelude.{ℕ, ◌<◌, ◌≡◌, List, length, slice_index}
-use Rattle.pg_plane.specs.declared.segments.Point.{Point}
+use Rattle.pg_plane.specs.declared.grid_points.Point.{Point}
 use Rattle.plane_drawings.specs.Drawing.{place}
 use Rattle.contour_runs.specs.Runs.{Step}
 use Rattle.contour_runs.specs.Wood.{wood_points, point_of}

@@ -215,8 +215,7 @@ module _ (darts : List DartRecord) (vertices : List VertexRecord) (edges free sp
     pub walkable : (v : ℕ) → v < length map.lists → IsWalkable darts (vertex_at vertices v).first (vertex_at vertices v).degree
     walkable v l k m =
         let d = steps darts (vertex_at vertices v).first k in
-        let e = step_here v k l (omega (arith, m, degree_here v l)) in
-        let live = ap (λ o. is_some o) e in
+        let live = ap (λ o. is_some o) (step_here v k l (omega (arith, m, degree_here v l))) in
         (in_darts d live, twin_in d live)
 
     -- no step from a vertex leads to a number that is no neighbour

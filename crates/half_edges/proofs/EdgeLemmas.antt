@@ -68,12 +68,7 @@ module _ (darts : List DartRecord) (vertices : List VertexRecord) (edges free sp
 
   -- two corners for an edge name in the records what they name in the map
   pub corners_here : (c e : Corner) → IsCorner map c → IsCorner map e → ((u v : ℕ) (a b : Option ℕ) → corner_place map c ≡ Some (u, a) → corner_place map e ≡ Some (v, b) → u ≢ v) → ((u v : ℕ) (a b : Option ℕ) → corner_place map c ≡ Some (u, a) → corner_place map e ≡ Some (v, b) → ¬ HasDart map.lists u v) → AreCornersIn (arena_lists darts vertices) darts c e
-  corners_here c e at_c at_e two fresh = record {
-    first = corner_here c at_c;
-    second = corner_here e at_e;
-    two_vertices = two _ _ _ _ (place_here c at_c) (place_here e at_e);
-    not_adjacent = λ has. fresh _ _ _ _ (place_here c at_c) (place_here e at_e) (subst (λ (ls : Lists). HasDart ls (corner_tail darts c) (corner_tail darts e)) (of_lists (λ ls. ls)) has);
-  }
+  corners_here c e at_c at_e two fresh = grind (arith, corner_here, place_here, Lists, HasDart, corner_tail, of_lists)
 
   module _ (d : ℕ) (live : IsLive map d) where
     is_edge : HasDart (arena_lists darts vertices) (tail_of darts d) (head_of darts d)

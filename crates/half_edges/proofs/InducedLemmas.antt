@@ -48,12 +48,7 @@ kept_before-lt keep v w e l =
 
 -- two kept vertices with one number are one
 kept_before-injective : (keep : List Bool) (v w : ℕ) → is_kept keep v ≡ true → is_kept keep w ≡ true → kept_before keep v ≡ kept_before keep w → v ≡ w
-kept_before-injective keep v w at_v at_w e =
-    elim (cases_order v w) [
-      | inl same ↦ same
-      | inr (inl less) ↦ absurd (omega (arith, e, kept_before-lt keep v w at_v less))
-      | inr (inr more) ↦ absurd (omega (arith, e, kept_before-lt keep w v at_w more))
-    ]
+kept_before-injective keep v w at_v at_w e = grind (arith, cases_order, kept_before-lt)
 
 -- a kept vertex, and the place of its list among those of the kept ones
 pub record IsKeptAt (keep : List Bool) (lists : Lists) (v w : ℕ) : Type 0 where
@@ -63,18 +58,7 @@ pub record IsKeptAt (keep : List Bool) (lists : Lists) (v w : ℕ) : Type 0 wher
   pub list : list_of (kept_lists keep lists) w ≡ list_of lists v
 
 IsKeptAt-more : (k : Bool) (keep : List Bool) (us : List ℕ) (lists : Lists) (v w : ℕ) → IsKeptAt keep lists v w → IsKeptAt (k ∷ keep) (us ∷ lists) (suc v) (cond k 1 0 + w)
-IsKeptAt-more true keep us lists v w h = record {
-  kept = h.kept;
-  number = omega (arith, h.number);
-  below = omega (arith, h.below);
-  list = let e : 1 + w ≡ suc w = omega arith in ap (λ x. list_of (us ∷ kept_lists keep lists) x) e ∙ h.list;
-}
-IsKeptAt-more false keep us lists v w h = record {
-  kept = h.kept;
-  number = omega (arith, h.number);
-  below = omega (arith, h.below);
-  list = let e : 0 + w ≡ w = omega arith in ap (λ x. list_of (kept_lists keep lists) x) e ∙ h.list;
-}
+IsKeptAt-more x0 keep us lists v w h = grind (arith, list_of, kept_lists)
 
 -- each kept vertex has its place
 pub kept_at : (keep : List Bool) (lists : Lists) (v : ℕ) → length keep ≡ length lists → is_kept keep v ≡ true → IsKeptAt keep lists v (kept_before keep v)
@@ -163,8 +147,7 @@ module _ (keep : List Bool) (lists : Lists) (same : length keep ≡ length lists
     part_in_range : (w x : ℕ) → HasDart (induced_lists keep lists) w x → x < length (induced_lists keep lists)
     part_in_range w x d =
         let h = dart_from_induced w x d in
-        let at = kept_at keep lists h.1 same h.2.entry.kept in
-        omega (arith, at.below, h.2.entry.number, length-induced)
+        omega (arith, (kept_at keep lists h.1 same h.2.entry.kept).below, h.2.entry.number, length-induced)
 
     part_no_loop : (w x : ℕ) → HasDart (induced_lists keep lists) w x → x ≢ w
     part_no_loop w x d e =

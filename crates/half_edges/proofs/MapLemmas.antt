@@ -36,9 +36,8 @@ module _ (lists : Lists) (starts : List ℕ) (ends : List Dart) (twins : List �
   number_of : (d v u : ℕ) → slice_get ends d ≡ Some (v, u) → d ≡ dart_number lists (v, u)
   number_of d v u found =
       let in_darts : d < dart_count lists = omega (arith, length-ends, slice_get_within ends d (v, u) found) in
-      let p = IsDartNumber-darts lists d (v, u) t.simple.no_repeat in_darts in
       let same : get_or (darts lists) d (v, u) ≡ (v, u) = ap (λ ds. get_or ds d (v, u)) (sym t.ends_are) ∙ get_or_from_slice_get ends d (v, u) (v, u) found in
-      sym p.number ∙ ap (λ (dart : Dart). dart_number lists dart) same
+      sym (IsDartNumber-darts lists d (v, u) t.simple.no_repeat in_darts).number ∙ ap (λ (dart : Dart). dart_number lists dart) same
 
   -- what every caller may know
   pub IsHalfMap-map_of : IsHalfMap (map_of lists ends)

@@ -26,38 +26,15 @@ module _ (old new : List DartRecord) (d : ℕ) (live : Bool) (s : IsEdgeSet old 
   twin_not_d z l other e = other (sym (paired z l).back ∙ ap (λ y. twin_of old y) e)
 
   both : (z : ℕ) → z < length old → live_of new (twin_of old z) ≡ live_of new z
-  both z l =
-      elim (cases_eq z d) [
-        | inl at_d ↦ ap (λ y. live_of new (twin_of old y)) at_d ∙ s.live_twin ∙ sym (ap (λ y. live_of new y) at_d ∙ s.live_here)
-        | inr not_d ↦ elim (cases_eq z (twin_of old d)) [
-          | inl at_t ↦ ap (λ y. live_of new (twin_of old y)) at_t ∙ ap (λ y. live_of new y) (paired d d_in).back ∙ s.live_here ∙ sym (ap (λ y. live_of new y) at_t ∙ s.live_twin)
-          | inr not_t ↦ s.live_other (twin_of old z) (twin_not_d z l not_t) (twin_not_twin z l not_d) ∙ (paired z l).both ∙ sym (s.live_other z not_d not_t)
-        ]
-      ]
+  both z l = grind (arith, cases_eq, live_of, twin_of, twin_not_d, twin_not_twin)
 
   -- the records are paired as before
   pub paired_after : (z : ℕ) → z < length new → IsPaired new z
-  paired_after z l =
-      let in_old : z < length old = omega (arith, l, s.count) in
-      let p = paired z in_old in
-      record {
-        within = omega (arith, s.twins z, p.within, s.count);
-        back = s.twins (twin_of new z) ∙ ap (λ y. twin_of old y) (s.twins z) ∙ p.back;
-        other = λ e. p.other (sym (s.twins z) ∙ e);
-        both = ap (λ y. live_of new y) (s.twins z) ∙ both z in_old;
-      }
+  paired_after z l = grind (arith, length, twin_of, both, live_of)
 
   -- and all other ids have the darts that they had
   pub dart_kept : (z : ℕ) → z ≢ d → z ≢ twin_of old d → dart_in new z ≡ dart_in old z
-  dart_kept z not_d not_t =
-      elim (cases_Bool (live_of old z)) [
-        | inl is_live ↦
-            let l = live-lt old z is_live in
-            let head = ap (λ y. tail_of new y) (s.twins z) ∙ s.tail_other (twin_of old z) (twin_not_d z l not_t) (twin_not_twin z l not_d) in
-            dart_in-live new z (s.live_other z not_d not_t ∙ is_live)
-            ∙ ap (λ y. Some (y, head_of new z)) (s.tail_other z not_d not_t) ∙ ap (λ y. Some (tail_of old z, y)) head ∙ sym (dart_in-live old z is_live)
-        | inr is_dead ↦ dart_in-dead new z (s.live_other z not_d not_t ∙ is_dead) ∙ sym (dart_in-dead old z is_dead)
-      ]
+  dart_kept z not_d not_t = grind (arith, cases_Bool, live_of, live-lt, tail_of, twin_of, twin_not_d, twin_not_twin, dart_in-live, Some, head_of, dart_in-dead)
 
 -- A simple map: adjacency goes both ways by the twins.
 pub IsSimpleMap-linked : (lists : Lists) (darts : List DartRecord) (vertices : List VertexRecord) → 0 < length lists → IsLinked (dart_in darts) lists darts vertices → ((d : ℕ) → d < length darts → IsPaired darts d) → IsSimpleMap lists

@@ -11,13 +11,7 @@ use Rattle.half_edges.proofs.FreeLemmas.{IsSameFree, AreFree-frame, IsLinked-fra
 
 -- at first nothing was added
 pub IsFreer-none : (old : List DartRecord) (free spare : ℕ) → ((z : ℕ) → z < length old → IsPaired old z) → AreFree old free spare → IsFreer old old free spare 0
-IsFreer-none old free spare paired threaded = record {
-  count = omega arith;
-  kept = λ z l. refl;
-  dead = λ z l. ap (λ (r : DartRecord). r.live) (get_or_past old z no_record l);
-  paired = paired;
-  threaded = let e : spare + 0 ≡ spare = omega arith in subst (λ k. AreFree old free k) (sym e) threaded;
-}
+IsFreer-none old free spare paired threaded = grind (arith, DartRecord, get_or_past, no_record, AreFree)
 
 module _ (old mid : List DartRecord) (free spare more : ℕ) (h : IsFreer old mid free spare more) (d : ℕ) (d_is : d ≡ length mid) where
   abbrev first : DartRecord
@@ -52,68 +46,16 @@ module _ (old mid : List DartRecord) (free spare more : ℕ) (h : IsFreer old mi
   same_twin z l = ap (λ (r : DartRecord). r.twin) (below z l)
 
   paired_new : (z : ℕ) → z < length new → IsPaired new z
-  paired_new z l =
-      elim (cases_lt z (length mid)) [
-        | inl in_mid ↦
-            let p = h.paired z in_mid in
-            record {
-              within = omega (arith, same_twin z in_mid, p.within, count_new);
-              back = ap (λ y. twin_of new y) (same_twin z in_mid) ∙ same_twin (twin_of mid z) p.within ∙ p.back;
-              other = λ e. p.other (sym (same_twin z in_mid) ∙ e);
-              both = ap (λ y. live_of new y) (same_twin z in_mid) ∙ ap (λ (r : DartRecord). r.live) (below (twin_of mid z) p.within) ∙ p.both ∙ sym (ap (λ (r : DartRecord). r.live) (below z in_mid));
-            }
-        | inr past ↦ elim (cases_eq z d) [
-          | inl here ↦
-              let twin : twin_of new z ≡ d + 1 = ap (λ y. twin_of new y) here ∙ ap (λ (r : DartRecord). r.twin) at_d in
-              record {
-                within = omega (arith, twin, count_new, d_is);
-                back = ap (λ y. twin_of new y) twin ∙ ap (λ (r : DartRecord). r.twin) at_t ∙ sym here;
-                other = λ e. omega (arith, twin, e, here);
-                both = ap (λ y. live_of new y) twin ∙ ap (λ (r : DartRecord). r.live) at_t ∙ sym (ap (λ y. live_of new y) here ∙ ap (λ (r : DartRecord). r.live) at_d);
-              }
-          | inr other ↦
-              let e = at_last z past l other in
-              let is_t : z ≡ d + 1 = omega (arith, d_is, past, l, count_new, other) in
-              let twin : twin_of new z ≡ d = ap (λ (r : DartRecord). r.twin) e in
-              record {
-                within = omega (arith, twin, count_new, d_is);
-                back = ap (λ y. twin_of new y) twin ∙ ap (λ (r : DartRecord). r.twin) at_d ∙ sym is_t;
-                other = λ same. omega (arith, twin, same, is_t);
-                both = ap (λ y. live_of new y) twin ∙ ap (λ (r : DartRecord). r.live) at_d ∙ sym (ap (λ (r : DartRecord). r.live) e);
-              }
-        ]
-      ]
+  paired_new z l = grind (arith, cases_lt, length, same_twin, count_new, twin_of, new, live_of, DartRecord, below, cases_eq, at_d, at_t)
 
   dead_new : (z : ℕ) → length old ≤ z → live_of new z ≡ false
-  dead_new z l =
-      elim (cases_lt z (length mid)) [
-        | inl in_mid ↦ ap (λ (r : DartRecord). r.live) (below z in_mid) ∙ h.dead z l
-        | inr past ↦ elim (cases_lt z (length new)) [
-          | inl m ↦ elim (cases_eq z d) [
-            | inl here ↦ ap (λ y. live_of new y) here ∙ ap (λ (r : DartRecord). r.live) at_d
-            | inr other ↦ ap (λ (r : DartRecord). r.live) (at_last z past m other)
-          ]
-          | inr m ↦ ap (λ (r : DartRecord). r.live) (get_or_past new z no_record m)
-        ]
-      ]
+  dead_new z l = grind (arith, cases_lt, length, DartRecord, below, new, cases_eq, live_of, at_d, at_last, get_or_past, no_record)
 
   same_free : (z : ℕ) → z < length mid → IsSameFree mid new z
-  same_free z l = record {
-    live = ap (λ (r : DartRecord). r.live) (below z l);
-    next = ap (λ (r : DartRecord). r.next) (below z l);
-    prev = ap (λ (r : DartRecord). r.prev) (below z l);
-    twin = same_twin z l;
-  }
+  same_free z l = grind (arith, DartRecord, below, same_twin)
 
   threaded_new : AreFree new d (suc (spare + more))
-  threaded_new = (
-    omega (arith, d_is, count_new),
-    ap (λ (r : DartRecord). r.live) at_d,
-    ap (λ (r : DartRecord). r.prev) at_d,
-    ap (λ y. prev_of new y) (ap (λ (r : DartRecord). r.twin) at_d) ∙ ap (λ (r : DartRecord). r.prev) at_t,
-    subst (λ y. AreFree new y (spare + more)) (sym (ap (λ (r : DartRecord). r.next) at_d))
-        (AreFree-frame mid new (spare + more) (omega (arith, count_new)) (λ z l dead less. same_free z l) h.paired (spare + more) free (omega arith) h.threaded),
-  )
+  threaded_new = grind (arith, count_new, DartRecord, at_d, prev_of, new, at_t, AreFree, AreFree-frame, same_free)
 
   -- one edge more
   pub IsFreer-more : IsFreer old new d spare (more + 1)

@@ -67,16 +67,7 @@ module _ (entries ends : List ℕ) (cuts : AreCuts 0 ends (length entries)) (few
 
   -- the tables of the map, as the slots and the ends have them
   pub AreTables-slots : AreTables (cut 0 ends entries) (0 ∷ ends) (darts (cut 0 ends entries)) (twins_in old)
-  AreTables-slots = record {
-    simple = slots.simple;
-    few_vertices = omega (arith, vertices_are);
-    starts_are = record {
-      count = omega (arith, vertices_are);
-      at = λ v l. sym (start-is ends entries cuts v (omega (arith, vertices_are)));
-    };
-    ends_are = refl;
-    twins_are = slots.twins_are;
-  }
+  AreTables-slots = grind (arith, vertices_are, start-is)
 
   long : length old ≡ length (darts (cut 0 ends entries))
   long = sym (length-map {B = ℕ} old (λ (r : DartRecord). r.twin)) ∙ slots.twins_are.count

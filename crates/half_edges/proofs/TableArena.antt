@@ -83,11 +83,10 @@ module _ (lists : Lists) (starts : List ℕ) (ends : List Dart) (twins : List �
 
     next_dart_is : (d v u : ℕ) → slice_get ends d ≡ Some (v, u) → slice_get ends (next_of darts d) ≡ Some (v, follows lists v u)
     next_dart_is d v u e =
-        let l = slice_get_within ends d (v, u) e in
         let same : get_or ends d (0, 0) ≡ (v, u) = get_or_from_slice_get ends d (v, u) (0, 0) e in
         let start : get_or starts (get_or ends d (0, 0)).0 0 ≡ get_or starts v 0 = ap (λ (x : Dart). get_or starts x.0 0) same in
         let end : get_or starts ((get_or ends d (0, 0)).0 + 1) 0 ≡ get_or starts (v + 1) 0 = ap (λ (x : Dart). get_or starts (x.0 + 1) 0) same in
-        ap (λ x. slice_get ends x) (next_is d l)
+        ap (λ x. slice_get ends x) (next_is d (slice_get_within ends d (v, u) e))
         ∙ sym (dart_at-map_of lists ends _)
         ∙ next_at lists starts ends twins t (map_of lists ends) refl d (v, u) e (get_or starts (get_or ends d (0, 0)).0 0) (get_or starts ((get_or ends d (0, 0)).0 + 1) 0) start end
         ∙ ap (λ o. option_map (next_dart lists) o) (dart_at-map_of lists ends d ∙ e)
@@ -130,10 +129,9 @@ module _ (lists : Lists) (starts : List ℕ) (ends : List Dart) (twins : List �
           back = one_number (twin_of darts (twin_of darts d)) d (get_or ends d (0, 0)).0 (get_or ends d (0, 0)).1
               (twin_dart_is (twin_of darts d) m ∙ ap (λ (x : Dart). Some (twin_dart x)) (twin_end d l)) (slice_get-get_or ends d (0, 0) l);
           other = λ e.
-              let turned : twin_dart (get_or ends d (0, 0)) ≡ get_or ends d (0, 0) = sym (twin_end d l) ∙ ap (λ x. get_or ends x (0, 0)) e in
               t.simple.no_loop (get_or ends d (0, 0)).0 (get_or ends d (0, 0)).1
               (HasDart-from_slice_get lists ends d (get_or ends d (0, 0)).0 (get_or ends d (0, 0)).1 t.ends_are (slice_get-get_or ends d (0, 0) l))
-              (ap (λ (x : Dart). x.0) turned);
+              (ap (λ (x : Dart). x.0) (sym (twin_end d l) ∙ ap (λ x. get_or ends x (0, 0)) e));
           both = live_is (twin_of darts d) m ∙ sym (live_is d l);
         }
 

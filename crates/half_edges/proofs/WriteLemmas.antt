@@ -9,14 +9,7 @@ use Rattle.half_edges.specs.declared.dart_records.DartRecord.{DartRecord}
 
 -- a part that the written record has as before is as before at each place
 same_at : {A : Type 0} (part : DartRecord → A) (darts : List DartRecord) (i : ℕ) (r : DartRecord) (z : ℕ) → part r ≡ part (record_at darts i) → part (record_at (set darts i r) z) ≡ part (record_at darts z)
-same_at part darts i r z e =
-    elim (cases_eq z i) [
-      | inl same ↦ elim (cases_lt i (length darts)) [
-        | inl within ↦ ap (λ y. part (record_at (set darts i r) y)) same ∙ ap part (get_or-set_same darts i r no_record within) ∙ e ∙ ap (λ y. part (record_at darts y)) (sym same)
-        | inr past ↦ ap (λ ds. part (record_at ds z)) (set_past darts i r past)
-      ]
-      | inr other ↦ ap part (get_or-set_other darts i z r no_record other)
-    ]
+same_at part darts i r z e = grind (arith, cases_eq, cases_lt, length, record_at, set, get_or-set_same, no_record, set_past, get_or-set_other)
 
 -- and one that it has anew is so there, and elsewhere as before
 new_at : {A : Type 0} (part : DartRecord → A) (darts : List DartRecord) (i : ℕ) (r : DartRecord) (z : ℕ) → i < length darts → part (record_at (set darts i r) z) ≡ cond (eqb z i) (part r) (part (record_at darts z))

@@ -56,10 +56,9 @@ k5_has_no_sides left sides =
     let two = sides 3 0 4 (λ e. omega arith) in
     let low = sides 2 0 3 (λ e. omega arith) in
     -- (3, 1) and (4, 2) are on different sides, and each of them on that of (4, 1)
-    let a = (one.1 3 1 4 0 three_to_one four_to_none).0 (omega arith) in
     let b = (one.1 3 1 4 2 three_to_one four_to_two).1 (omega arith) in
     let c = (two.1 3 0 4 1 three_to_none four_to_one).1 (omega arith) in
     let d = (two.1 3 0 4 2 three_to_none four_to_two).1 (omega arith) in
     let e = (low.1 2 0 3 1 from_two from_three_by_two).1 (omega arith) in
     let f = (low.1 2 0 4 1 from_two from_four_by_two).1 (omega arith) in
-    no_fixed_bit one.0 (sym a ∙ (e ∙ (sym f ∙ (c ∙ (sym d ∙ b)))))
+    no_fixed_bit one.0 (sym ((one.1 3 1 4 0 three_to_one four_to_none).0 (omega arith)) ∙ (e ∙ (sym f ∙ (c ∙ (sym d ∙ b)))))

@@ -20,11 +20,7 @@ use Rattle.left_right_laws.proofs.Tours.{single, partner, paired, partner_in, at
 
 -- a merge makes one class less at most
 merge_count : (labels : List ℕ) (a b : ℕ) → IsLabels labels → a < length labels → b < length labels → class_count labels ≤ class_count (merge labels a b) + 1
-merge_count labels a b w la lb =
-    elim (cases_Together labels a b) [
-      | inl t ↦ omega (arith, ap class_count (merge-within labels a b w la lb t))
-      | inr t ↦ omega (arith, class_count-merge_apart labels a b w la lb t)
-    ]
+merge_count labels a b w la lb = grind (arith, cases_Together, class_count, merge-within, class_count-merge_apart)
 
 -- where a map with an edge has one component, no vertex is isolated
 none_isolated : (lists : Lists) → IsSimpleMap lists → component_count lists ≡ 1 → 0 < dart_count lists → isolated_count lists ≡ 0
@@ -89,10 +85,9 @@ module _ (lists : Lists) (along : ℕ → ℕ → Bool) (at : ℕ → Dart) (pla
         let a = num l in
         let b = num (Partner l) in
         let size = h.size in
-        let ra = num-lt l m in
         let rb = num-lt (Partner l) (in_range l m) in
-        let la : a < length labels = omega arith in
-        let lb : b < length labels = omega arith in
+        let la : a < length labels = omega (arith, num-lt l m) in
+        let lb : b < length labels = omega (arith, num-lt l m) in
         let stays = merge-keeps labels a b h.known la lb in
         record {
           known = IsLabels-merge labels a b h.known la lb;
@@ -100,9 +95,9 @@ module _ (lists : Lists) (along : ℕ → ℕ → Bool) (at : ℕ → Dart) (pla
           keeps = λ i j s. stays i j (h.keeps i j s);
           holds = λ i k s. elim (cases_eq i l) [
             | inl e ↦ subst (λ x. Together (merge labels a b) (num x) (num (Partner x))) (sym e) (merge-same labels a b h.known la lb)
-            | inr ne ↦ stays (num i) (num (Partner i)) (h.holds i (omega arith) s)
+            | inr ne ↦ stays (num i) (num (Partner i)) (h.holds i (omega (arith, num-lt l m)) s)
           ];
-          enough = omega (arith, h.enough, merge_count labels a b h.known la lb, ap (λ c. count_below test l + cond c 1 0) t);
+          enough = omega (arith, num-lt l m, h.enough, merge_count labels a b h.known la lb, ap (λ c. count_below test l + cond c 1 0) t);
         }
 
     kept : (l : ℕ) (labels : List ℕ) → test l ≡ false → IsJoined l labels → IsJoined (suc l) labels
@@ -123,14 +118,7 @@ module _ (lists : Lists) (along : ℕ → ℕ → Bool) (at : ℕ → Dart) (pla
 
     joined_is : (l : ℕ) → l ≤ n → IsJoined l (joined l)
     unfolding joined
-    joined_is zero m =
-        record {
-          known = IsLabels-face_orbits lists simple;
-          size = length-orbits_of (after (rotation lists) (twin lists)) n;
-          keeps = λ i j s. s;
-          holds = λ i k s. absurd (omega arith);
-          enough = omega arith;
-        }
+    joined_is zero m = grind (arith, IsLabels-face_orbits, length-orbits_of, after, rotation, twin)
     joined_is (suc l) m =
         let h = joined_is l (omega arith) in
         elim (cases_Bool (test l)) [
@@ -160,16 +148,14 @@ module _ (lists : Lists) (along : ℕ → ℕ → Bool) (at : ℕ → Dart) (pla
     pair_at : (g : ℕ) → g < n → g ≢ p → g ≢ Partner p → Pair g
     pair_at g m ne ne' e =
         let h = Partner g in
-        let mh = in_range g m in
         let bg = back g m in
         elim (cases_lt g h) [
           | inl l ↦ J.holds g m (test_true g l e ne)
           | inr l ↦
               let pairs = paired lists along at place simple turned tour in
-              let apart = pairs.other g m e in
               let low : h < Partner h = omega arith in
               let off : h ≢ p = λ z. ne' (sym bg ∙ ap Partner z) in
-              sym (J.holds h mh (test_true h low (pairs.both g m e) off) ∙ ap (λ x. label L (num x)) bg)
+              sym (J.holds h (in_range g m) (test_true h low (pairs.both g m e) off) ∙ ap (λ x. label L (num x)) bg)
         ]
 
     -- from a place to the next
@@ -198,26 +184,17 @@ module _ (lists : Lists) (along : ℕ → ℕ → Bool) (at : ℕ → Dart) (pla
     pair_p : Together L (num p) (num (Partner p))
     pair_p =
         let lq' = in_range q lq in
-        let lp' = in_range p lp in
         let last = n - 1 in
         let end : suc last ≡ n = omega arith in
-        let up = walk q (Partner p) (omega arith) lp' (λ g i j. pair_at g (omega arith) (λ e. omega arith) (λ e. omega arith)) in
-        let over = pair_at q lq (λ e. omega arith) (λ e. omega arith) chord_q in
+        let up = walk q (Partner p) (omega arith) (in_range p lp) (λ g i j. pair_at g (omega arith) (λ e. omega arith) (λ e. omega arith)) in
         let on = walk (Partner q) last (omega arith) (omega arith) (λ g i j. pair_at g (omega arith) (λ e. omega arith) (λ e. omega arith)) in
         let round = step_to last 0 (omega arith) (tour.round last end) (pair_at last (omega arith) (λ e. omega arith) (λ e. omega arith)) in
         let home = walk 0 p (omega arith) lp (λ g i j. pair_at g (omega arith) (λ e. omega arith) (λ e. omega arith)) in
-        sym (on ∙ (round ∙ home)) ∙ (sym over ∙ up)
+        sym (on ∙ (round ∙ home)) ∙ (sym (pair_at q lq (λ e. omega arith) (λ e. omega arith) chord_q) ∙ up)
 
     -- and all darts are in one
     pair_all : (g : ℕ) → g < n → Pair g
-    pair_all g m e =
-        elim (cases_eq g p) [
-          | inl z ↦ subst (λ x. Together L (num x) (num (Partner x))) (sym z) pair_p
-          | inr ne ↦ elim (cases_eq g (Partner p)) [
-            | inl z ↦ subst (λ x. Together L (num x) (num (Partner x))) (sym z) (sym pair_p ∙ ap (λ x. label L (num x)) (sym (back p lp)))
-            | inr ne' ↦ pair_at g m ne ne' e
-          ]
-        ]
+    pair_all g m e = grind (arith, cases_eq, Together, num, Partner, pair_p, label, back, pair_at)
 
     one_class : (i : ℕ) → i < n → Together L (num 0) i
     one_class i m =
@@ -239,9 +216,7 @@ module _ (lists : Lists) (along : ℕ → ℕ → Bool) (at : ℕ → Dart) (pla
         let counted = count_below_more (test p) Begins n p lp (and_right (Begins p) (not (eqb p p)) (ap not (eq-eqb p p refl))) (begins_true p (omega arith) chord_p)
         (λ i l ne. ap (λ b. Begins i && not b) (ne_eqb i p ne) ∙ and-true (Begins i)) in
         let pairs = pair_count-le n Single Partner (paired lists along at place simple turned tour) in
-        let enough = J.enough in
-        let most = few in
-        omega (arith, two_m lists simple, face_count-orbits lists simple)
+        omega (arith, few, J.enough, two_m lists simple, face_count-orbits lists simple)
 
 -- THE LAW: genus zero by nesting
 pub plane_by_nesting : PlaneByNesting

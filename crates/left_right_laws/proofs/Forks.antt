@@ -32,22 +32,11 @@ rising_true us a b c h =
 
 turn_from : (us : List ℕ) (a b c : ℕ) → turn_test us a b c ≡ true → IsInTurn us a b c
 unfolding turn_test
-turn_from us a b c t =
-    elim (or_cases (rising_test us a b c) (rising_test us b c a || rising_test us c a b) t) [
-      | inl h ↦ inl (rising_from us a b c h)
-      | inr h ↦ elim (or_cases (rising_test us b c a) (rising_test us c a b) h) [ inl k ↦ inr (inl (rising_from us b c a k)) | inr k ↦ inr (inr (rising_from us c a b k)) ]
-    ]
+turn_from us a b c t = grind (arith, us, or_cases, rising_test, rising_from)
 
 turn_true : (us : List ℕ) (a b c : ℕ) → IsInTurn us a b c → turn_test us a b c ≡ true
 unfolding turn_test
-turn_true us a b c turn =
-    elim turn [
-      | inl h ↦ or_left (rising_test us a b c) (rising_test us b c a || rising_test us c a b) (rising_true us a b c h)
-      | inr h ↦ or_right (rising_test us a b c) (rising_test us b c a || rising_test us c a b) (elim h [
-        | inl k ↦ or_left (rising_test us b c a) (rising_test us c a b) (rising_true us b c a k)
-        | inr k ↦ or_right (rising_test us b c a) (rising_test us c a b) (rising_true us c a b k)
-      ])
-    ]
+turn_true us a b c turn = grind (arith, us, or_left, rising_test, rising_true, or_right)
 
 -- tests of what holds together are alike, and of what excludes each other opposite
 same_tests : (one other : Bool) → ((one ≡ true) → (other ≡ true)) → ((other ≡ true) → (one ≡ true)) → one ≡ other
@@ -56,10 +45,7 @@ same_tests false true there back = back refl
 same_tests false false there back = refl
 
 opposite_tests : (one other : Bool) → ((one ≡ true) → ¬ (other ≡ true)) → ((one ≡ true) ⊎ (other ≡ true)) → one ≡ not other
-opposite_tests true true never some = absurd (never refl refl)
-opposite_tests true false never some = refl
-opposite_tests false true never some = refl
-opposite_tests false false never some = elim some [ inl e ↦ e | inr e ↦ e ]
+opposite_tests x0 x1 never some = grind arith
 
 -- the last vertex on the line up from t, before v, with w for it where t is v
 branch_last : (parent depth : ℕ → ℕ) (v e t w : ℕ) (k : ℕ) → k ≡ depth t - depth v → up parent k t ≡ v → IsBranch parent depth v e t w → last_on w (line parent t k) ≡ e
@@ -110,7 +96,6 @@ module _ (lists : Lists) (simple : IsSimpleMap lists) (plane : IsPlane lists) (p
     -- z is above w
     z_up : up parent (suc i) w ≡ z
     z_up =
-        let m = one.higher in
         let n : depth v - depth z ≡ suc j + suc i = omega arith in
         ap (up parent (suc i)) (sym v_up) ∙ (sym (up-add parent (suc j) (suc i) (depth v - depth z) v n) ∙ other.above.line)
 
@@ -122,17 +107,14 @@ module _ (lists : Lists) (simple : IsSimpleMap lists) (plane : IsPlane lists) (p
 
     way_vs : IsWay lists w vs v
     way_vs =
-        let m = one.under.depths in
         subst (IsWay lists w vs) one.under.line (IsWay-line lists simple parent depth forest w t k (simple.both_ways t w one.edge) (omega arith))
 
     way_high : IsWay lists w high z
     way_high =
-        let d = w_deeper in
-        subst (IsWay lists w high) z_up (IsWay-line lists simple parent depth forest w (parent w) i (forest.edges w (omega arith)) (omega arith))
+        subst (IsWay lists w high) z_up (IsWay-line lists simple parent depth forest w (parent w) i (forest.edges w (omega arith)) (omega (arith, w_deeper)))
 
     way_ws : IsWay lists w ws v
     way_ws =
-        let m = other.under.depths in
         IsWay-join lists w high z deep v way_high (subst (IsWay lists z deep) other.under.line (IsWay-line lists simple parent depth forest z s l (simple.both_ways s z other.edge) (omega arith)))
 
     -- ---- what stands where
@@ -153,50 +135,29 @@ module _ (lists : Lists) (simple : IsSimpleMap lists) (plane : IsPlane lists) (p
     branches u c c' =
         let p = line-in parent t k u c in
         let q = line-in parent s l u c' in
-        let a = p.1 in
-        let b = q.1 in
-        let mt = one.under.depths in
-        let ms = other.under.depths in
         let dp = depth-up lists simple parent depth forest p.0 t (omega arith) in
         let dq = depth-up lists simple parent depth forest q.0 s (omega arith) in
-        let ep = ap depth p.2 in
-        let eq = ap depth q.2 in
         let n = depth u - depth v - 1 in
-        let e_is : e ≡ up parent n u =
-        elim one.branch [
-          | inl h ↦ (let same = ap depth h.0 in absurd (omega arith))
-          | inr h ↦ (let sum : depth t - depth v - 1 ≡ p.0 + n = omega arith in h.1 ∙ (up-add parent p.0 n (depth t - depth v - 1) t sum ∙ ap (up parent n) (sym p.2)))
-        ] in
-        let f_is : f ≡ up parent n u =
-        elim other.branch [
-          | inl h ↦ (let same = ap depth h.0 in absurd (omega arith))
-          | inr h ↦ (let sum : depth s - depth v - 1 ≡ q.0 + n = omega arith in h.1 ∙ (up-add parent q.0 n (depth s - depth v - 1) s sum ∙ ap (up parent n) (sym q.2)))
-        ] in
+        let e_is : e ≡ up parent n u = grind (arith, up-add, up) in
+        let f_is : f ≡ up parent n u = grind (arith, up-add, up) in
         ne (e_is ∙ sym f_is)
 
     distinct_ws : AllPairs ◌≢◌ ws
     distinct_ws =
         let d = w_deeper in
-        let m = one.higher in
-        let ms = other.under.depths in
         AllPairs-append high (z ∷ deep) (distinct-line lists simple parent depth forest (parent w) i (omega arith))
         (AllPairs-more z deep (λ c. let h = at_deep z c in omega arith) (distinct-line lists simple parent depth forest s l (omega arith)))
         (λ u c c'.
         let h = at_high u c in
-        let a = h.0 in
-        let b = h.1 in
         elim (Contains-cons_cases z deep u c') [ inl e ↦ (let same = ap depth e in omega arith) | inr n ↦ (let g = at_deep u n in omega arith) ])
 
     distinct_rest : AllPairs ◌≢◌ (vs ++ ws)
     distinct_rest =
-        let m = one.higher in
-        let mt = one.under.depths in
         AllPairs-append vs ws (distinct-line lists simple parent depth forest t k (omega arith)) distinct_ws
         (λ u c c'.
-        let g = at_vs u c in
         elim (Contains-append_cases high (z ∷ deep) u c') [
-          | inl n ↦ (let h = at_high u n in let b = h.1 in omega arith)
-          | inr n ↦ elim (Contains-cons_cases z deep u n) [ inl e ↦ (let same = ap depth e in omega arith) | inr n' ↦ branches u c n' ]
+          | inl n ↦ (let h = at_high u n in let b = h.1 in omega (arith, at_vs u c))
+          | inr n ↦ elim (Contains-cons_cases z deep u n) [ inl e ↦ (let same = ap depth e in omega (arith, at_vs u c)) | inr n' ↦ branches u c n' ]
         ])
 
     -- what stands on the other two ways is not between v and w, and is neither
@@ -212,18 +173,14 @@ module _ (lists : Lists) (simple : IsSimpleMap lists) (plane : IsPlane lists) (p
 
     distinct_all : AllPairs ◌≢◌ (us ++ (vs ++ ws))
     distinct_all =
-        let m = one.higher in
         AllPairs-append us (vs ++ ws) (distinct-down lists simple parent depth forest v j (omega arith)) distinct_rest
         (λ u c c'.
         let h = at_us u c in
-        let a = h.0 in
-        let b = h.1 in
         elim (off_between u c') [ inl g ↦ omega arith | inr g ↦ omega arith ])
 
     -- w and v are on none of them
     off_w : ¬ Contains (us ++ (vs ++ ws)) w
     off_w c =
-        let m = one.higher in
         elim (Contains-append_cases us (vs ++ ws) w c) [
           | inl n ↦ (let h = at_us w n in let a = h.0 in omega arith)
           | inr n ↦ elim (off_between w n) [ inl g ↦ omega arith | inr g ↦ omega arith ]
@@ -231,7 +188,6 @@ module _ (lists : Lists) (simple : IsSimpleMap lists) (plane : IsPlane lists) (p
 
     off_v : ¬ Contains (us ++ (vs ++ ws)) v
     off_v c =
-        let m = one.higher in
         elim (Contains-append_cases us (vs ++ ws) v c) [
           | inl n ↦ (let h = at_us v n in let b = h.1 in omega arith)
           | inr n ↦ elim (off_between v n) [ inl g ↦ omega arith | inr g ↦ omega arith ]
@@ -252,8 +208,6 @@ module _ (lists : Lists) (simple : IsSimpleMap lists) (plane : IsPlane lists) (p
     -- ---- how they leave w and reach v
     first_us : first_on us v ≡ below t w
     first_us =
-        let m = one.higher in
-        let mt = one.under.depths in
         let sum : depth t - depth w - 1 ≡ k + j = omega arith in
         first_on-down parent v j ∙ (ap (up parent j) (sym one.under.line) ∙ sym (up-add parent k j (depth t - depth w - 1) t sum))
 
@@ -277,10 +231,7 @@ module _ (lists : Lists) (simple : IsSimpleMap lists) (plane : IsPlane lists) (p
 
     -- as tests
     fork_tests : turn_test (list_of lists w) (below t w) t (parent w) ≡ turn_test (list_of lists v) f e (parent v)
-    fork_tests =
-        same_tests (turn_test (list_of lists w) (below t w) t (parent w)) (turn_test (list_of lists v) f e (parent v))
-        (λ h. turn_true (list_of lists v) f e (parent v) (fork.0 (turn_from (list_of lists w) (below t w) t (parent w) h)))
-        (λ h. turn_true (list_of lists w) (below t w) t (parent w) (fork.1 (turn_from (list_of lists v) f e (parent v) h)))
+    fork_tests = grind (arith, same_tests, turn_test, list_of, below, turn_true, fork, turn_from)
 
     -- v has both edges and its parent as neighbours
     neighbours : HasDart lists v e × HasDart lists v f × HasDart lists v (parent v)
@@ -300,26 +251,11 @@ module _ (lists : Lists) (simple : IsSimpleMap lists) (plane : IsPlane lists) (p
 
   -- at a fork the two orders are opposite
   two_orders : (v e f : ℕ) → e ≢ f → e ≢ parent v → f ≢ parent v → HasDart lists v e → HasDart lists v f → HasDart lists v (parent v) → turn_test (list_of lists v) e f (parent v) ≡ not (turn_test (list_of lists v) f e (parent v))
-  two_orders v e f ne ne' ne'' has_e has_f has_p =
-      let us = list_of lists v in
-      let p = parent v in
-      opposite_tests (turn_test us e f p) (turn_test us f e p)
-      (λ h h'. turn_not_both us f e p (turn_from us f e p h') (turn_moved us f p e (turn_moved us e f p (turn_from us e f p h))))
-      (elim (turn_or us e f p has_e.1 has_f.1 has_p.1 ne ne'' ne') [
-        | inl h ↦ inl (turn_true us e f p h)
-        | inr h ↦ inr (turn_true us f e p (turn_moved us p f e h))
-      ])
+  two_orders v e f ne ne' ne'' has_e has_f has_p = grind (arith, us, list_of, opposite_tests, turn_test, turn_not_both, turn_from, turn_moved, turn_or, turn_true)
 
 -- THE LAW: the orders at a fork, and where what returns by it ends
 pub fork_order : ForkOrder
-fork_order lists parent depth simple plane forest v e f t w s z ne one other lower =
-    let law = fork lists simple plane parent depth forest v e f t w s z ne one other lower in
-    let c = up parent (depth t - depth w - 1) t in
-    let us = list_of lists w in
-    let vs = list_of lists v in (
-      λ turn. turn_moved vs e (parent v) f (turn_moved vs f e (parent v) (law.0 (turn_moved us (parent w) c t turn))),
-      λ turn. turn_moved us t (parent w) c (turn_moved us c t (parent w) (law.1 (turn_moved vs (parent v) f e turn))),
-    )
+fork_order lists parent depth simple plane forest v e f t w s z ne one other lower = grind (arith, fork, up, us, list_of, vs, turn_moved)
 
 -- THE LAW: a graph that has a map of genus zero is parted into left and right, by the sides on which its edges return in the map
 pub plane_is_left_right : PlaneIsLeftRight

@@ -100,21 +100,18 @@ module _ (lists : Lists) (simple : IsSimpleMap lists) (parent depth : ℕ → �
   pub IsWay-line : (x t k : ℕ) → HasDart lists x t → k ≤ depth t → IsWay lists x (line parent t k) (up parent k t)
   IsWay-line x t zero has l = has
   IsWay-line x t (suc k) has l =
-      let e = forest.deeper t (omega arith) in
       (has, IsWay-line t (parent t) k (forest.edges t (omega arith)) (omega arith))
 
   -- as one that comes from above
   pub IsWay-down : (v k : ℕ) → suc k ≤ depth v → IsWay lists (up parent (suc k) v) (down parent v k) v
   IsWay-down v zero l = simple.both_ways v (parent v) (forest.edges v (omega arith))
   IsWay-down v (suc k) l =
-      let e = forest.deeper v (omega arith) in
       IsWay-push lists (up parent (suc k) (parent v)) (down parent (parent v) k) (parent v) v (IsWay-down (parent v) k (omega arith)) (simple.both_ways v (parent v) (forest.edges v (omega arith)))
 
   -- the depth of what stands on them
   pub line-depth : (t k z : ℕ) → k ≤ depth t → Contains (line parent t k) z → (depth z ≤ depth t) × (depth t < depth z + k)
   line-depth t k z l c =
       let at = line-in parent t k z c in
-      let m = at.1 in
       let e = depth-up at.0 t (omega arith) in
       let same = ap depth at.2 in
       (omega arith, omega arith)
@@ -122,8 +119,6 @@ module _ (lists : Lists) (simple : IsSimpleMap lists) (parent depth : ℕ → �
   pub down-depth : (v k z : ℕ) → k ≤ depth v → Contains (down parent v k) z → (depth z < depth v) × (depth v ≤ depth z + k)
   down-depth v k z l c =
       let at = down-in parent v k z c in
-      let m = at.1 in
-      let n = at.2 in
       let e = depth-up at.0 v (omega arith) in
       let same = ap depth at.3 in
       (omega arith, omega arith)
@@ -131,12 +126,10 @@ module _ (lists : Lists) (simple : IsSimpleMap lists) (parent depth : ℕ → �
   pub distinct-line : (t k : ℕ) → k ≤ depth t → AllPairs ◌≢◌ (line parent t k)
   distinct-line t zero l = λ i j d m h. absurd (omega arith)
   distinct-line t (suc k) l =
-      let e = forest.deeper t (omega arith) in
       AllPairs-more t (line parent (parent t) k) (λ c. let at = line-depth (parent t) k t (omega arith) c in let m = at.0 in omega arith) (distinct-line (parent t) k (omega arith))
 
   pub distinct-down : (v k : ℕ) → k ≤ depth v → AllPairs ◌≢◌ (down parent v k)
   distinct-down v zero l = λ i j d m h. absurd (omega arith)
   distinct-down v (suc k) l =
-      let e = forest.deeper v (omega arith) in
       AllPairs-append (down parent (parent v) k) (parent v ∷ []) (distinct-down (parent v) k (omega arith)) (λ i j d m h. absurd (omega arith))
       (λ u c c'. let at = down-depth (parent v) k u (omega arith) c in let m = at.0 in let same = ap depth (only_one (parent v) u c') in omega arith)

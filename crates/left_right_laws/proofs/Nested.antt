@@ -34,26 +34,13 @@ module _ (n : ℕ) (single : ℕ → Bool) (partner : ℕ → ℕ) (pairs : IsPa
   reaches_no_single l g e = ap (λ b. not b && not (ltb (partner l) g)) e
 
   reaches_not : (l g : ℕ) → partner l < g → reaches l g ≡ false
-  reaches_not l g m = elim (cases_Bool (single l)) [
-    | inl e ↦ reaches_no_single l g e
-    | inr e ↦ ap₂ (λ b c. not b && not c) e (lt-ltb (partner l) g m)
-  ]
+  reaches_not l g m = grind (arith, cases_Bool, reaches_no_single, ap₂, not, lt-ltb)
 
   reaches_so : (l g : ℕ) → single l ≡ false → g ≤ partner l → reaches l g ≡ true
   reaches_so l g e m = ap₂ (λ b c. not b && not c) e (le-ltb (partner l) g m)
 
   reaches_same : (l g h : ℕ) → (single l ≡ false → (partner l < g → partner l < h) × (partner l < h → partner l < g)) → reaches l g ≡ reaches l h
-  reaches_same l g h same =
-      elim (cases_Bool (single l)) [
-        | inl e ↦ reaches_no_single l g e ∙ sym (reaches_no_single l h e)
-        | inr e ↦ elim (cases_lt (partner l) g) [
-          | inl m ↦ reaches_not l g m ∙ sym (reaches_not l h ((same e).0 m))
-          | inr m ↦ elim (cases_lt (partner l) h) [
-            | inl m' ↦ absurd (let m'' = (same e).1 m' in omega arith)
-            | inr m' ↦ reaches_so l g e m ∙ sym (reaches_so l h e m')
-          ]
-        ]
-      ]
+  reaches_same l g h same = grind (arith, cases_Bool, reaches_no_single, cases_lt, reaches_not, reaches_so)
 
   innermost_here : (l g : ℕ) → reaches l g ≡ true → innermost (suc l) g ≡ suc l
   unfolding innermost
@@ -85,17 +72,13 @@ module _ (n : ℕ) (single : ℕ → Bool) (partner : ℕ → ℕ) (pairs : IsPa
   pub mark_over : ArePairsNested n single partner → (p : ℕ) → p < n → single p ≡ false → p < partner p → mark (suc (partner p)) ≡ mark p
   mark_over nested p m e first =
       let q = partner p in
-      let lq = pairs.within p m e in
       let back = pairs.back p m e in
       innermost_below p (suc q) (suc q) (omega arith) (λ i a b.
       elim (cases_Bool (single i)) [
         | inl s ↦ reaches_no_single i (suc q) s
         | inr s ↦ reaches_not i (suc q) (elim (cases_eq i p) [
           | inl w ↦ (let w' = ap partner w in omega arith)
-          | inr w ↦ elim (cases_eq i q) [
-            | inl z ↦ (let z' = ap partner z in omega arith)
-            | inr z ↦ elim (cases_lt (partner i) (suc q)) [ inl t ↦ t | inr t ↦ absurd (nested p i m (omega arith) e s (omega arith) (omega arith) (omega arith)) ]
-          ]
+          | inr w ↦ grind (arith, cases_eq, cases_lt)
         ])
       ])
       ∙ innermost_same p (suc q) p (λ i l. reaches_same i (suc q) p (λ s.
@@ -103,13 +86,7 @@ module _ (n : ℕ) (single : ℕ → Bool) (partner : ℕ → ℕ) (pairs : IsPa
       let back_i = pairs.back i li s in (
         (λ a. elim (cases_lt (partner i) p) [
           | inl t ↦ t
-          | inr t ↦ elim (cases_eq (partner i) p) [
-            | inl w ↦ (let w' = ap partner w in absurd (omega arith))
-            | inr w ↦ elim (cases_eq (partner i) q) [
-              | inl z ↦ (let z' = ap partner z in absurd (omega arith))
-              | inr z ↦ absurd (nested i p li m s e l (omega arith) (omega arith))
-            ]
-          ]
+          | inr t ↦ grind (arith, cases_eq)
         ]),
         (λ a. omega arith),
       )))
@@ -121,21 +98,10 @@ module _ (n : ℕ) (single : ℕ → Bool) (partner : ℕ → ℕ) (pairs : IsPa
   pub mark_end : ArePairsNested n single partner → (q : ℕ) → q < n → single q ≡ false → q < partner q → mark (partner q) ≡ suc q
   mark_end nested q m e first =
       let p = partner q in
-      let lp = pairs.within q m e in
       innermost_below (suc q) p p first (λ i a b.
       elim (cases_Bool (single i)) [
         | inl s ↦ reaches_no_single i p s
-        | inr s ↦
-            let li : i < n = omega arith in
-            let back_i = pairs.back i li s in
-            let back_q = pairs.back q m e in
-            reaches_not i p (elim (cases_lt (partner i) p) [
-              | inl t ↦ t
-              | inr t ↦ elim (cases_eq (partner i) p) [
-                | inl w ↦ (let w' = ap partner w in absurd (omega arith))
-                | inr w ↦ absurd (nested q i m li e s a b (omega arith))
-              ]
-            ])
+        | inr s ↦ grind (arith, reaches_not, cases_lt, cases_eq)
       ])
       ∙ innermost_here q p (reaches_so q p e (omega arith))
 
@@ -163,22 +129,15 @@ module _ (n : ℕ) (single : ℕ → Bool) (partner : ℕ → ℕ) (pairs : IsPa
   begins_so p t = let both = and_parts (ltb p (partner p)) (not (single p)) t in (ltb-true p (partner p) both.0, not_single p both.1)
 
   ends_so : (p : ℕ) → ends p ≡ true → (partner p ≤ p) × (single p ≡ false)
-  ends_so p t =
-      let both = and_parts (not (ltb p (partner p))) (not (single p)) t in (
-        elim (cases_lt p (partner p)) [ inl l ↦ absurd (true≢false (sym both.0 ∙ ap not (lt-ltb p (partner p) l))) | inr l ↦ l ],
-        not_single p both.1,
-      )
+  ends_so p t = grind (arith, and_parts, not, ltb, cases_lt, true≢false, lt-ltb, not_single)
 
   as_many : count_below ends n ≤ count_below begins n
   as_many =
       count_below_into partner ends begins n n
       (λ p m t.
       let so = ends_so p t in
-      let e = so.1 in
-      let low = so.0 in
-      let ne = pairs.other p m e in
-      let back = pairs.back p m e in
-      (pairs.within p m e, ap₂ (λ b c. b && not c) (lt-ltb (partner p) (partner (partner p)) (omega arith)) (pairs.both p m e)))
+      let back = pairs.back p m so.1 in
+      (pairs.within p m so.1, ap₂ (λ b c. b && not c) (lt-ltb (partner p) (partner (partner p)) (omega arith)) (pairs.both p m so.1)))
       (λ p q m m' t t' same. sym (pairs.back p m (ends_so p t).1) ∙ (ap partner same ∙ pairs.back q m' (ends_so q t').1))
 
   as_many' : count_below begins n ≤ count_below ends n
@@ -186,25 +145,17 @@ module _ (n : ℕ) (single : ℕ → Bool) (partner : ℕ → ℕ) (pairs : IsPa
       count_below_into partner begins ends n n
       (λ p m t.
       let so = begins_so p t in
-      let e = so.1 in
-      let high = so.0 in
-      let back = pairs.back p m e in
-      (pairs.within p m e, ap₂ (λ b c. not b && not c) (le-ltb (partner p) (partner (partner p)) (omega arith)) (pairs.both p m e)))
+      let back = pairs.back p m so.1 in
+      (pairs.within p m so.1, ap₂ (λ b c. not b && not c) (le-ltb (partner p) (partner (partner p)) (omega arith)) (pairs.both p m so.1)))
       (λ p q m m' t t' same. sym (pairs.back p m (begins_so p t).1) ∙ (ap partner same ∙ pairs.back q m' (begins_so q t').1))
 
   pub pair_count-le : count_below single n + (count_below begins n + count_below begins n) ≤ n
   pair_count-le =
-      let a = count_below_not single n in
-      let b = count_below_split (λ p. not (single p)) (λ p. ltb p (partner p)) n in
-      let c = as_many' in
-      omega arith
+      omega (arith, as_many', count_below_split (λ p. not (single p)) (λ p. ltb p (partner p)) n, count_below_not single n)
 
   pub pair_count : n ≤ count_below single n + (count_below begins n + count_below begins n)
   pair_count =
-      let a = count_below_not single n in
-      let b = count_below_split (λ p. not (single p)) (λ p. ltb p (partner p)) n in
-      let c = as_many in
-      omega arith
+      omega (arith, as_many, count_below_split (λ p. not (single p)) (λ p. ltb p (partner p)) n, count_below_not single n)
 
   -- 0, and behind the beginning of each pair
   pub marked : ℕ → Bool
@@ -218,19 +169,7 @@ module _ (n : ℕ) (single : ℕ → Bool) (partner : ℕ → ℕ) (pairs : IsPa
 
   -- no pair begins at the last place
   pub marked_count : 0 < n → count_below marked n ≡ count_below begins n + 1
-  marked_count some = last n refl some
-    where
-      last : (k : ℕ) → k ≡ n → 0 < k → count_below marked k ≡ count_below begins k + 1
-      last zero e l = absurd (omega arith)
-      last (suc m) e l =
-          let none : begins m ≡ false = elim (cases_Bool (begins m)) [
-            | inr f ↦ f
-            | inl t ↦ (let so = begins_so m t in let a = so.0 in let w = pairs.within m (omega arith) so.1 in absurd (omega arith))
-          ] in
-          marked_shift m ∙ ap (λ c. c + 1) (sym (cond-none m none))
-        where
-          cond-none : (m : ℕ) → begins m ≡ false → count_below begins (suc m) ≡ count_below begins m
-          cond-none m none = omega (arith, ap (λ b. count_below begins m + cond b 1 0) none)
+  marked_count some = grind (arith, count_below, marked, begins, cases_Bool, begins_so, marked_shift, cond)
 
   pub marked-mark : (j : ℕ) → j < n → marked j ≡ true → mark j ≡ j
   unfolding marked

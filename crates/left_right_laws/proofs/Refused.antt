@@ -65,10 +65,7 @@ abbrev place : Dart → ℕ
 place d = get_or (get_or ((0 ∷ 0 ∷ 0 ∷ 6 ∷ 9 ∷ []) ∷ (0 ∷ 0 ∷ 4 ∷ 2 ∷ 3 ∷ []) ∷ (5 ∷ 1 ∷ []) ∷ (8 ∷ 7 ∷ []) ∷ (11 ∷ 10 ∷ []) ∷ []) d.0 []) d.1 0
 
 one_of_three : (P : ℕ → Type 0) (a b c x : ℕ) → Contains (a ∷ b ∷ c ∷ []) x → P a → P b → P c → P x
-one_of_three P a b c x (zero, l, e) p q r = subst P e p
-one_of_three P a b c x (suc zero, l, e) p q r = subst P e q
-one_of_three P a b c x (suc (suc zero), l, e) p q r = subst P e r
-one_of_three P a b c x (suc (suc (suc k)), l, e) p q r = absurd (omega arith)
+one_of_three P a b c x x5 p q r = grind arith
 
 one_of_two : (P : ℕ → Type 0) (a b x : ℕ) → Contains (a ∷ b ∷ []) x → P a → P b → P x
 one_of_two P a b x (zero, l, e) p q = subst P e p
@@ -76,27 +73,10 @@ one_of_two P a b x (suc zero, l, e) p q = subst P e q
 one_of_two P a b x (suc (suc k), l, e) p q = absurd (omega arith)
 
 each_dart : (P : ℕ → ℕ → Type 0) → P 0 2 → P 0 3 → P 0 4 → P 1 2 → P 1 3 → P 1 4 → P 2 0 → P 2 1 → P 3 0 → P 3 1 → P 4 0 → P 4 1 → (x y : ℕ) → HasDart twisted x y → P x y
-each_dart P a b c d e f g h i j k l zero y has = one_of_three (P 0) 2 3 4 y has.1 a b c
-each_dart P a b c d e f g h i j k l (suc zero) y has = one_of_three (P 1) 2 3 4 y has.1 d e f
-each_dart P a b c d e f g h i j k l (suc (suc zero)) y has = one_of_two (P 2) 0 1 y has.1 g h
-each_dart P a b c d e f g h i j k l (suc (suc (suc zero))) y has = one_of_two (P 3) 0 1 y has.1 i j
-each_dart P a b c d e f g h i j k l (suc (suc (suc (suc zero)))) y has = one_of_two (P 4) 0 1 y has.1 k l
-each_dart P a b c d e f g h i j k l (suc (suc (suc (suc (suc x))))) y has = let m = has.0 in absurd (omega arith)
+each_dart P a b c d e f g h i j k l x13 y has = grind (arith, has, one_of_three, one_of_two)
 
 each_place : (P : ℕ → Type 0) → P 0 → P 1 → P 2 → P 3 → P 4 → P 5 → P 6 → P 7 → P 8 → P 9 → P 10 → P 11 → (p : ℕ) → p < 12 → P p
-each_place P a b c d e f g h i j k l zero m = a
-each_place P a b c d e f g h i j k l (suc zero) m = b
-each_place P a b c d e f g h i j k l (suc (suc zero)) m = c
-each_place P a b c d e f g h i j k l (suc (suc (suc zero))) m = d
-each_place P a b c d e f g h i j k l (suc (suc (suc (suc zero)))) m = e
-each_place P a b c d e f g h i j k l (suc (suc (suc (suc (suc zero))))) m = f
-each_place P a b c d e f g h i j k l (suc (suc (suc (suc (suc (suc zero)))))) m = g
-each_place P a b c d e f g h i j k l (suc (suc (suc (suc (suc (suc (suc zero))))))) m = h
-each_place P a b c d e f g h i j k l (suc (suc (suc (suc (suc (suc (suc (suc zero)))))))) m = i
-each_place P a b c d e f g h i j k l (suc (suc (suc (suc (suc (suc (suc (suc (suc zero))))))))) m = j
-each_place P a b c d e f g h i j k l (suc (suc (suc (suc (suc (suc (suc (suc (suc (suc zero)))))))))) m = k
-each_place P a b c d e f g h i j k l (suc (suc (suc (suc (suc (suc (suc (suc (suc (suc (suc zero))))))))))) m = l
-each_place P a b c d e f g h i j k l (suc (suc (suc (suc (suc (suc (suc (suc (suc (suc (suc (suc p)))))))))))) m = absurd (omega arith)
+each_place P a b c d e f g h i j k l x13 m = grind arith
 
 twisted_dart : (v u : ℕ) → v < 5 → place_of u (list_of twisted v) < length (list_of twisted v) → HasDart twisted v u
 twisted_dart v u l m = (l, has (list_of twisted v) u m)

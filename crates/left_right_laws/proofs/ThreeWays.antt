@@ -133,21 +133,10 @@ module _ (lists : Lists) (simple : IsSimpleMap lists) (plane : IsPlane lists) (x
   Taken v z = Steps x us y v z ⊎ (Steps x vs y v z ⊎ Steps x ws y v z)
 
   taken_from : (v z : ℕ) → on_one v z ≡ true → Taken v z
-  taken_from v z t =
-      elim (or_cases (steps x us y v z) (steps x vs y v z || steps x ws y v z) t) [
-        | inl h ↦ inl (Steps-from x us y v z h)
-        | inr t' ↦ elim (or_cases (steps x vs y v z) (steps x ws y v z) t') [ inl h ↦ inr (inl (Steps-from x vs y v z h)) | inr h ↦ inr (inr (Steps-from x ws y v z h)) ]
-      ]
+  taken_from v z t = grind (arith, or_cases, steps, Steps-from)
 
   taken_true : (v z : ℕ) → Taken v z → on_one v z ≡ true
-  taken_true v z s =
-      elim s [
-        | inl h ↦ or_left (steps x us y v z) (steps x vs y v z || steps x ws y v z) (steps-true x us y v z h)
-        | inr t ↦ or_right (steps x us y v z) (steps x vs y v z || steps x ws y v z) (elim t [
-          | inl h ↦ or_left (steps x vs y v z) (steps x ws y v z) (steps-true x vs y v z h)
-          | inr h ↦ or_right (steps x vs y v z) (steps x ws y v z) (steps-true x ws y v z h)
-        ])
-      ]
+  taken_true v z s = grind (arith, or_left, steps, steps-true, or_right)
 
   keep_there : (v z : ℕ) → Taken v z → keep v z ≡ true
   keep_there v z s = or_left (on_one v z) (on_one z v) (taken_true v z s)
@@ -256,19 +245,16 @@ module _ (lists : Lists) (simple : IsSimpleMap lists) (plane : IsPlane lists) (x
       let only_x' = λ (z : ℕ) (h : HasDart map x z). moved z a b c (only_x z h) in
       let only_y' = λ (z : ℕ) (h : HasDart map y z). moved z b' c' a' (moved z a' b' c' (only_y z h)) in
       -- at x the second way leads on to the third; at y the first to the second, and the third to the first
-      let x_bc = next_at x b c a first_vs first_ws first_us only_x' (turn_moved (list_of lists x) a b c turn) in
-      let y_ab = next_at y a' b' c' back_us back_vs back_ws only_y turn' in
       let y_ca = next_at y c' a' b' back_ws back_us back_vs only_y' (turn_moved (list_of lists y) b' c' a' (turn_moved (list_of lists y) a' b' c' turn')) in
       let round : F x a ≡ F a x =
       forward map simple_map x us y way_us bends_us
-      ∙ (on a' y b' last_us y_ab
+      ∙ (on a' y b' last_us (next_at y a' b' c' back_us back_vs back_ws only_y turn')
       ∙ (backward map simple_map x vs y way_vs bends_vs
-      ∙ (on b x c (simple_map.both_ways x b first_vs) x_bc
+      ∙ (on b x c (simple_map.both_ways x b first_vs) (next_at x b c a first_vs first_ws first_us only_x' (turn_moved (list_of lists x) a b c turn))
       ∙ (forward map simple_map x ws y way_ws bends_ws
       ∙ (on c' y a' last_ws y_ca ∙ backward map simple_map x us y way_us bends_us))))) in
-      let more = (bridge_test map x a simple_map (kept.plane plane) first_us).0 (one_face map simple_map x a a x round) in
       let same = no_bridge map simple_map x us vs y way_us way_vs clear_us clear_vs (turn_apart (list_of lists x) a b c turn).0 in
-      omega (arith, more, same)
+      omega (arith, (bridge_test map x a simple_map (kept.plane plane) first_us).0 (one_face map simple_map x a a x round), same)
 
   pub opposite : IsInTurn (list_of lists x) a b c → IsInTurn (list_of lists y) c' b' a'
   opposite turn =

@@ -50,8 +50,6 @@ module _ (lists : Lists) (along : ℕ → ℕ → Bool) (at : ℕ → Dart) (pla
 
   pub pairs_nested : AreNested lists along place → ArePairsNested n single partner
   pairs_nested nested p q mp mq ep eq first next last =
-      let bp = tour.back p mp in
-      let bq = tour.back q mq in
       nested (at p) (at q) (chord p mp ep) (chord q mq eq) (omega arith) (omega arith) last
 
   -- the mark of a dart: the innermost chord round the corner before it
@@ -81,8 +79,7 @@ module _ (lists : Lists) (along : ℕ → ℕ → Bool) (at : ℕ → Dart) (pla
             let lq = partner_in p m in
             let back = partner_back p m in
             let eq = paired.both p m e in
-            let ne = paired.other p m e in
-            let first : q < partner q = omega arith in
+            let first : q < partner q = omega (arith, paired.other p m e) in
             mark_begin n single partner paired q lq eq first ∙ (sym (mark_end n single partner paired (pairs_nested nested) q lq eq first) ∙ ap M back)
       ]
 
@@ -103,8 +100,7 @@ module _ (lists : Lists) (along : ℕ → ℕ → Bool) (at : ℕ → Dart) (pla
 
   keeps : AreNested lists along place → KeepsFaces lists mark_of
   keeps nested u v h =
-      let p = place (u, v) in
-      ap (λ d. mark_of (face_step lists d)) (sym (tour.there u v h)) ∙ keeps_at nested p (tour.places u v h)
+      ap (λ d. mark_of (face_step lists d)) (sym (tour.there u v h)) ∙ keeps_at nested (place (u, v)) (tour.places u v h)
 
   abbrev test : ℕ → Bool
   test = marked n single partner paired
@@ -119,7 +115,5 @@ module _ (lists : Lists) (along : ℕ → ℕ → Bool) (at : ℕ → Dart) (pla
 
   pub plane : AreNested lists along place → 0 < n → component_count lists ≡ 1 → count_below single n + 2 ≤ 2 * vertex_count lists → IsPlane lists
   plane nested some one tree =
-      let pairs = pair_count n single partner paired in
       let faces = marked_count n single partner paired some in
-      let m = two_m lists simple in
-      genus_by_marks lists mark_of n test simple (keeps nested) marks (omega arith)
+      genus_by_marks lists mark_of n test simple (keeps nested) marks (omega (arith, pair_count n single partner paired))

@@ -9,12 +9,7 @@ use Rattle.left_right_laws.specs.Ways.{IsRising, IsInTurn}
 
 -- no two of them are one
 pub turn_apart : (us : List ℕ) (a b c : ℕ) → IsInTurn us a b c → (a ≢ b) × (b ≢ c) × (a ≢ c)
-turn_apart us a b c turn =
-    let at = λ (x y : ℕ) (e : x ≡ y). ap (λ z. place_of z us) e in (
-      λ e. elim turn [ inl h ↦ omega (arith, h.0, h.1, at a b e) | inr t ↦ elim t [ inl h ↦ omega (arith, h.0, h.1, at a b e) | inr h ↦ omega (arith, h.0, h.1, at a b e) ] ],
-      λ e. elim turn [ inl h ↦ omega (arith, h.0, h.1, at b c e) | inr t ↦ elim t [ inl h ↦ omega (arith, h.0, h.1, at b c e) | inr h ↦ omega (arith, h.0, h.1, at b c e) ] ],
-      λ e. elim turn [ inl h ↦ omega (arith, h.0, h.1, at a c e) | inr t ↦ elim t [ inl h ↦ omega (arith, h.0, h.1, at a c e) | inr h ↦ omega (arith, h.0, h.1, at a c e) ] ],
-    )
+turn_apart us a b c turn = grind (arith, place_of)
 
 -- read from the second on
 pub turn_moved : (us : List ℕ) (a b c : ℕ) → IsInTurn us a b c → IsInTurn us b c a
@@ -22,14 +17,7 @@ turn_moved us a b c turn = elim turn [ inl h ↦ inr (inr h) | inr t ↦ elim t 
 
 -- two orders of three are not both
 pub turn_not_both : (us : List ℕ) (a b c : ℕ) → IsInTurn us a b c → ¬ IsInTurn us c b a
-turn_not_both us a b c turn other =
-    elim turn [
-      | inl h ↦ elim other [ inl k ↦ omega (arith, h.0, h.1, k.0, k.1) | inr t ↦ elim t [ inl k ↦ omega (arith, h.0, h.1, k.0, k.1) | inr k ↦ omega (arith, h.0, h.1, k.0, k.1) ] ]
-      | inr s ↦ elim s [
-        | inl h ↦ elim other [ inl k ↦ omega (arith, h.0, h.1, k.0, k.1) | inr t ↦ elim t [ inl k ↦ omega (arith, h.0, h.1, k.0, k.1) | inr k ↦ omega (arith, h.0, h.1, k.0, k.1) ] ]
-        | inr h ↦ elim other [ inl k ↦ omega (arith, h.0, h.1, k.0, k.1) | inr t ↦ elim t [ inl k ↦ omega (arith, h.0, h.1, k.0, k.1) | inr k ↦ omega (arith, h.0, h.1, k.0, k.1) ] ]
-      ]
-    ]
+turn_not_both us a b c turn other = grind arith
 
 -- entries that are two stand at two places
 pub places_apart : (us : List ℕ) (a b : ℕ) → Contains us a → Contains us b → a ≢ b → place_of a us ≢ place_of b us
@@ -38,26 +26,7 @@ places_apart us a b has has' ne e =
 
 -- and one of the two orders is
 pub turn_or : (us : List ℕ) (a b c : ℕ) → Contains us a → Contains us b → Contains us c → a ≢ b → b ≢ c → a ≢ c → IsInTurn us a b c ⊎ IsInTurn us c b a
-turn_or us a b c has_a has_b has_c ab bc ac =
-    let p = places_apart us a b has_a has_b ab in
-    let q = places_apart us b c has_b has_c bc in
-    let r = places_apart us a c has_a has_c ac in
-    elim (cases_lt (place_of a us) (place_of b us)) [
-      | inl l ↦ elim (cases_lt (place_of b us) (place_of c us)) [
-        | inl m ↦ inl (inl (l, m))
-        | inr m ↦ elim (cases_lt (place_of a us) (place_of c us)) [
-          | inl n ↦ inr (inr (inr (n, omega (arith, m, q))))
-          | inr n ↦ inl (inr (inr (omega (arith, n, r), l)))
-        ]
-      ]
-      | inr l ↦ elim (cases_lt (place_of b us) (place_of c us)) [
-        | inl m ↦ elim (cases_lt (place_of a us) (place_of c us)) [
-          | inl n ↦ inr (inr (inl (omega (arith, l, p), n)))
-          | inr n ↦ inl (inr (inl (m, omega (arith, n, r))))
-        ]
-        | inr m ↦ inr (inl (omega (arith, m, q), omega (arith, l, p)))
-      ]
-    ]
+turn_or us a b c has_a has_b has_c ab bc ac = grind (arith, places_apart, cases_lt, place_of)
 
 -- entries that pass a test stand in their order in what is left
 place_of-filter : (p : ℕ → Bool) (us : List ℕ) (x y : ℕ) → p x ≡ true → p y ≡ true → place_of x us < place_of y us → place_of x (filter p us) < place_of y (filter p us)
@@ -82,11 +51,7 @@ rising-filter p us a b c pa pb pc h = (place_of-filter p us a b pa pb h.0, place
 
 -- so three that pass keep their order
 pub turn-filter : (p : ℕ → Bool) (us : List ℕ) (a b c : ℕ) → p a ≡ true → p b ≡ true → p c ≡ true → IsInTurn us a b c → IsInTurn (filter p us) a b c
-turn-filter p us a b c pa pb pc turn =
-    elim turn [
-      | inl h ↦ inl (rising-filter p us a b c pa pb pc h)
-      | inr t ↦ elim t [ inl h ↦ inr (inl (rising-filter p us b c a pb pc pa h)) | inr h ↦ inr (inr (rising-filter p us c a b pc pa pb h)) ]
-    ]
+turn-filter p us a b c pa pb pc turn = grind (arith, rising-filter)
 
 -- of three places in turn the second comes after the first, where there are no others
 second_place : (n p q r e : ℕ) → p < n → q < n → r < n → ((p < q) × (q < r)) ⊎ (((q < r) × (r < p)) ⊎ ((r < p) × (p < q))) → e ≡ place_after n p → (e ≡ p → ⊥) × (e ≡ r → ⊥)

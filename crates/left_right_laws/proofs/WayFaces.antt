@@ -66,12 +66,11 @@ module _ (lists : Lists) (simple : IsSimpleMap lists) where
   bends_along x (u ∷ us) y clear way only =
       let rest = IsClear-rest x u us y clear in
       let s = first_on us y in
-      let has_s = IsWay-first lists u us y way.1 in
       let here = Contains-here u us in
       let not_u : (v : ℕ) → Contains us v → v ≢ u = λ v c e. rest.off_start (subst (Contains us) e c) in
       let not_x : (v : ℕ) → Contains us v → x ≢ v = λ v c e. clear.off_start (Contains-there u us x (subst (Contains us) (sym e) c)) in
       let x_s : x ≢ s = λ e. x_not_first us clear e in (
-        two_bend u x s (simple.both_ways x u way.0) has_s x_s (λ z has. elim (only u z here has) [
+        two_bend u x s (simple.both_ways x u way.0) (IsWay-first lists u us y way.1) x_s (λ z has. elim (only u z here has) [
           | inl step ↦ elim step [
             | inl h ↦ absurd (clear.off_start (subst (Contains (u ∷ us)) (sym h.0) here))
             | inr h ↦ inr (from_start u us y z rest h)

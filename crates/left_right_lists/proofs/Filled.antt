@@ -34,9 +34,7 @@ pub record IsPlacedBy (graph : EdgeGraph) (tree : Tree) (sides : List Group) (op
 -- ---- rows for some vertices, as the code hands them over
 pub rows_within : {X : Type 0} (f : ℕ → List X) (rows : List (List X)) (n : ℕ) {us' us : List ℕ} → us' ≡ us → AreValues f [] rows n → ((u : ℕ) → Contains us u → u < n) → (u : ℕ) → Contains us' u → u < length rows
 rows_within f rows n e h within u m =
-    let l = within u (subst (λ z. Contains z u) e m) in
-    let all = h.long in
-    omega (arith, l, all)
+    omega (arith, within u (subst (λ z. Contains z u) e m), h.long)
 
 pub rows_joined : {X : Type 0} (f : ℕ → List X) (rows : List (List X)) (n : ℕ) (list : List X) {us' us : List ℕ} → us' ≡ us → AreValues f [] rows n → ((u : ℕ) → Contains us u → u < n) → list ≡ joined_lists (λ u. slice_index_or rows u []) us' → list ≡ joined_lists f us
 rows_joined f rows n list {us'} {us} e h within is =
@@ -44,15 +42,12 @@ rows_joined f rows n list {us'} {us} e h within is =
 
 pub order_by : (sides : List Group) (rows : List (List Dart)) (us : List ℕ) {ds' ds : List ℕ} {free' free : List Bool} → ds' ≡ ds → free' ≡ free → IsOrderOf ds' sides rows free' us → IsOrderOf ds sides rows free us
 order_by sides rows us {ds'} {ds} {free'} {free} d e h =
-    let first : IsOrderOf ds sides rows free' us = subst (λ z. IsOrderOf z sides rows free' us) d h in
-    subst (λ z. IsOrderOf ds sides rows z us) e first
+    subst (λ z. IsOrderOf ds sides rows z us) e (subst (λ z. IsOrderOf z sides rows free' us) d h)
 
 -- all vertices in an order are some of the graph
 pub order_within : (graph : EdgeGraph) (tree : Tree) (sides : List Group) (opens : List (List Dart)) (v : ℕ) (us : List ℕ) → IsOrderAt graph tree sides opens v us → (u : ℕ) → Contains us u → u < graph.n
 order_within graph tree sides opens v us h u c =
-    let l = in_free h.marks u ((h.order.all u).0 c) in
-    let e = h.tables.marked.long in
-    omega (arith, l, e)
+    omega (arith, in_free h.marks u ((h.order.all u).0 c), h.tables.marked.long)
 
 -- what a table that grows at its end has at a place
 at_end : {X : Type 0} (table new : List (List X)) (x : List X) (p : ℕ) → new ≡ table ++ x ∷ [] → p ≡ length table → slice_index_or new p [] ≡ x
@@ -129,9 +124,7 @@ module _ (graph : EdgeGraph) (tree : Tree) (h : IsTreeOf graph tree) (sides : Li
       let p : ℕ = n - 1 - k in
       let in_order : p < n = omega (arith, l, count) in
       let e : v ≡ slice_index tree.order.items p = is ∙ (ap (λ xs. slice_index xs (n' - 1 - k)) same ∙ ap (λ z. slice_index tree.order.items (z - 1 - k)) count) in
-      let a = h.place p in_order in
-      let b = ap number e in
-      (subst (λ z. z < n) (sym e) (h.vertex p in_order), omega (arith, a, b, l, count))
+      (subst (λ z. z < n) (sym e) (h.vertex p in_order), omega (arith, h.place p in_order, ap number e, l, count))
 
   module _ (entries : List (List ℕ)) (opens : List (List Dart)) (k v : ℕ) (f : IsFilled entries opens k) (in_n : v < n) (next : number v + (k + 1) ≡ n) where
     abbrev O : ℕ → List Dart
@@ -142,15 +135,12 @@ module _ (graph : EdgeGraph) (tree : Tree) (h : IsTreeOf graph tree) (sides : Li
 
     child_in : (u : ℕ) → is_child parent depth v u ≡ true → u < n
     child_in u t =
-        let has = child_edge n edge parent depth tree.root left h.tree parted v u t in
-        h.tree.in_range u v (h.tree.both_ways v u has)
+        h.tree.in_range u v (h.tree.both_ways v u (child_edge n edge parent depth tree.root left h.tree parted v u t))
 
     child_late : (u : ℕ) → is_child parent depth v u ≡ true → n ≤ number u + k
     child_late u t =
         let is = child_is parent depth v u t in
-        let r = h.rising u is.0 in
-        let e = ap number is.1 in
-        omega (arith, r, e, next)
+        omega (arith, h.rising u is.0, ap number is.1, next)
 
     same_open : (u : ℕ) → is_child parent depth v u ≡ true → opens_in n tree.number.items opens u ≡ O u
     same_open u t = f.opens_are u (child_in u t) (child_late u t)
@@ -171,10 +161,7 @@ module _ (graph : EdgeGraph) (tree : Tree) (h : IsTreeOf graph tree) (sides : Li
 
     pub children : HasChildren n tree opens v
     children u t =
-        let a = h.numbered u (child_in u t) in
-        let b = child_late u t in
-        let c = f.opens_long in
-        omega (arith, a, b, c)
+        omega (arith, h.numbered u (child_in u t), child_late u t, f.opens_long)
 
     module _ (marks : List Bool) (rows : List (List Dart)) (tables : AreTablesAt graph tree opens v marks rows) where
       abbrev Items : List ℕ
@@ -286,8 +273,7 @@ module _ (graph : EdgeGraph) (tree : Tree) (h : IsTreeOf graph tree) (sides : Li
     pub filled_map : (made : Lists) → AreRows graph tree entries made → IsMapOf made graph
     filled_map made rows =
         let a = long n edge parent depth tree.root left h.tree parted f.E W f.O facts in
-        let b = rows.long in
-        let same = same_kept (has_edge graph) Whole made (omega (arith, a, b)) (λ v l.
+        let same = same_kept (has_edge graph) Whole made (omega (arith, a, rows.long)) (λ v l.
         let l' : v < n = omega (arith, l, a) in
         ap (filter (has_edge graph v)) (row_is v l') ∙ sym (rows.at v l')) in
         subst (λ z. IsMapOf z graph) same (h.kept Whole (is_map n edge parent depth tree.root left h.tree parted f.E W f.O facts))

@@ -122,12 +122,7 @@ module _ (old new : List Group) (a b : Dart) (turn : Bool) (long : length old �
       λ d l.
           let g = group_of old d in
           let at = h.at (dart_place d) (let p = place_in d l in omega arith) in
-          elim (cases_eq g.0 two.0) [
-            | inl e ↦
-                let is = at ∙ moved_from one.0 two.0 flip g e in
-                fits.1 d l ∙ (ap (λ k. turned (fits.0 k) g.1) e ∙ (ap (λ f. turned f g.1) (flipped left tied fits) ∙ (ap (λ f. turned f g.1) (turned_eq flip (fits.0 one.0)) ∙ (turned_twice (fits.0 one.0) flip g.1 ∙ ap (λ (z : Group). turned (fits.0 z.0) z.1) (sym is)))))
-            | inr ne ↦ fits.1 d l ∙ ap (λ (z : Group). turned (fits.0 z.0) z.1) (sym (at ∙ moved_other one.0 two.0 flip g ne))
-          ],
+          grind (arith, cases_eq, two, moved_from, one, flip, turned, flipped, turned_eq, turned_twice, Group, moved_other),
     ),
     refl,
   )
@@ -141,8 +136,7 @@ module _ (old new : List Group) (a b : Dart) (turn : Bool) (long : length old �
   -- with what the code reads
   pub exact : (one' two' : Group) (flip' : Bool) (i : ℕ) → one' ≡ one → two' ≡ two → flip' ≡ turned turn (turned one'.1 two'.1) → length old ≤ i → AreMovedTo one'.0 two'.0 flip' old new i → AreMoved one.0 two.0 flip old new
   exact one' two' flip' i e e' ef all m =
-      let whole : AreMoved one'.0 two'.0 flip' old new = record { long = m.long; at = λ p l. m.before p (omega (arith, l, all)) } in
-      let first = subst (λ f. AreMoved one'.0 two'.0 f old new) ef whole in
+      let first = subst (λ f. AreMoved one'.0 two'.0 f old new) ef (record { long = m.long; at = λ p l. m.before p (omega (arith, l, all)) }) in
       let second = subst (λ (o : Group). AreMoved o.0 two'.0 (turned turn (turned o.1 two'.1)) old new) e first in
       subst (λ (o : Group). AreMoved one.0 o.0 (turned turn (turned one.1 o.1)) old new) e' second
 
@@ -159,7 +153,6 @@ met_more old new demands first x k long in_first placed l is merged met new_met 
       | inr ne ↦
           let y = get_or demands j none_demanded in
           let in_one = merged.within (group_of old first.0).0 in
-          let p_first = place_in first.0 in_first in
           let p_y = place_in y.0 (placed y (Contains-get_or demands j none_demanded (omega (arith, m, l)))) in
           let old_y = met j (omega (arith, m, ne)) in
           let at_first = in_one.1.1 (dart_place first.0) (omega arith) refl in

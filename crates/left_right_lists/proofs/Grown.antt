@@ -70,30 +70,17 @@ module _ (graph : EdgeGraph) (known : IsGraph graph) (order number last parents 
   tables = let a = deep.long in let b = all.parents in let c = length-graph_lists graph known in (omega arith, omega arith)
 
   depths_are : (v : ℕ) → Depth v ≡ slice_index depths' v
-  depths_are v =
-      let long = ds.long in
-      let t = tables.0 in
-      elim (cases_lt v graph.n) [
-        | inl l ↦ depth_is graph.n E P D r r_so.0 r_so.1 g v ∙ (ap (λ b. D v + cond b 1 0) (in_graph v l) ∙ sym (ds.at v l))
-        | inr l ↦
-            let none : D v ≡ 0 = get_or_past depths v 0 (omega arith) in
-            let e : Depth v ≡ D v + 0 = depth_is graph.n E P D r r_so.0 r_so.1 g v ∙ ap (λ b. D v + cond b 1 0) (past v l) in
-            let z : slice_index depths' v ≡ 0 = get_or_past depths' v 0 (omega arith) in
-            omega arith
-      ]
+  depths_are v = grind (arith, cases_lt, depth_is, r_so, cond, in_graph, get_or_past, tables, Depth, past)
 
   parents_are : (v : ℕ) → Parent v ≡ slice_index parents' v
   parents_are v =
-      let long = ps.long in
-      let t = tables.1 in
       elim (cases_lt v graph.n) [
         | inl l ↦ parent_is graph.n E P D r r_so.0 r_so.1 g v ∙ (ap (λ b. cond (eqb (D v) 0 && b) r (P v)) (in_graph v l) ∙ sym (ps.at v l))
         | inr l ↦
             let not_lone : Lone v ≡ false = elim (cases_Bool (Lone v)) [ inl t' ↦ absurd (true≢false (sym (and_parts (eqb (D v) 0) (Other v) t').1 ∙ past v l)) | inr f ↦ f ] in
             let e : Parent v ≡ P v = parent_is graph.n E P D r r_so.0 r_so.1 g v ∙ cond-false {A = ℕ} (Lone v) r (P v) not_lone in
-            let none : P v ≡ 0 = get_or_past parents v 0 (omega arith) in
-            let z : slice_index parents' v ≡ 0 = get_or_past parents' v 0 (omega arith) in
-            omega arith
+            let none : P v ≡ 0 = get_or_past parents v 0 (omega (arith, tables.1)) in
+            omega (arith, get_or_past parents' v 0 (omega arith))
       ]
 
   -- what holds of the functions of a forest's tree holds of the tables
@@ -106,32 +93,17 @@ module _ (graph : EdgeGraph) (known : IsGraph graph) (order number last parents 
 
   rises : (v : ℕ) → 0 < Depth v → slice_index number (Parent v) < slice_index number v
   rises v deep' =
-      let f = all.forest in
       let c = length-graph_lists graph known in
       elim (below_so graph.n E P D r r_so.0 r_so.1 g v deep') [
-        | inl t ↦
-            let so = lone_so graph.n E P D r r_so.0 r_so.1 g v t in
-            let v_in : v < graph.n = ltb-true v graph.n (and_parts (ltb v graph.n) (is_other parents depths r v) so.1).0 in
-            let r_at : slice_index number r ≡ 0 = ap (slice_index number) is_r ∙ f.place 0 (omega arith) in
-            let same = ap (slice_index number) (parent_lone graph.n E P D r r_so.0 r_so.1 g v t) in
-            elim (cases_eq (slice_index number v) 0) [
-              | inl z ↦
-                  let v_is : v ≡ r = sym (f.own v (omega arith)) ∙ (ap (slice_index order) z ∙ sym is_r) in
-                  absurd (true≢false (sym so.1 ∙ (ap Other v_is ∙ other_r graph.n E P D r r_so.0 r_so.1 g)))
-              | inr ne ↦ omega (arith, ne, r_at, same)
-            ]
+        | inl t ↦ grind (arith, lone_so, r_so, ltb-true, and_parts, ltb, is_other, slice_index, cases_eq, true≢false, Other, other_r, parent_lone)
         | inr d ↦
-            let same = ap (slice_index number) (parent_same graph.n E P D r r_so.0 r_so.1 g v d) in
             let up_one = rising graph known order number last parents depths all deep v d in
-            omega arith
+            omega (arith, ap (slice_index number) (parent_same graph.n E P D r r_so.0 r_so.1 g v d))
       ]
 
   pub of_tree : AreOfTree graph r order number parents' depths'
   of_tree =
-      let f = all.forest in
       let c = length-graph_lists graph known in
-      let o = all.orders in
-      let m = all.numbers in
       record {
         tree = moved (λ e p d. IsDepthFirstTree graph.n e p d r) (tree graph.n E P D r r_so.0 r_so.1 g);
         parted = λ lists map.
@@ -144,10 +116,10 @@ module _ (graph : EdgeGraph) (known : IsGraph graph) (order number last parents 
         depths_long = ds.long;
         order_long = omega arith;
         number_long = omega arith;
-        numbered = λ v l. (let a = f.numbered v (omega arith) in omega arith);
-        own = λ v l. f.own v (omega arith);
-        vertex = λ k l. (let a = f.vertex k (omega arith) in omega arith);
-        place = λ k l. f.place k (omega arith);
+        numbered = λ v l. (let a = all.forest.numbered v (omega arith) in omega arith);
+        own = λ v l. all.forest.own v (omega arith);
+        vertex = λ k l. (let a = all.forest.vertex k (omega arith) in omega arith);
+        place = λ k l. all.forest.place k (omega arith);
         rising = moved (λ e p d. (v : ℕ) → 0 < d v → slice_index number (p v) < slice_index number v) rises;
       }
 

@@ -30,15 +30,11 @@ module _ (n : ℕ) (edge : ℕ → ℕ → Bool) (parent depth : ℕ → ℕ) (r
     later : (u : ℕ) → Child v u ≡ true → number v < number u
     later u t =
         let is = child_is parent depth v u t in
-        let r = rising u is.0 in
-        let e = ap number is.1 in
-        omega arith
+        omega (arith, ap number is.1, rising u is.0)
 
     pub parts : (u : ℕ) → Child v u ≡ true → Part n edge parent depth root left g sides u (W u) (O u)
     parts u t =
-        let has = child_edge n edge parent depth root left g sides v u t in
-        let l = later u t in
-        (h.stands u (g.in_range u v (g.both_ways v u has)) (omega arith)).is_part
+        (h.stands u (g.in_range u v (g.both_ways v u (child_edge n edge parent depth root left g sides v u t))) (omega (arith, later u t))).is_part
 
     -- some order of what stands at v
     pub order : Sorted n edge parent depth root left g sides v W O parts

@@ -25,7 +25,6 @@ module _ (lists : Lists) (order number last parents depths : List ℕ) (all : Is
       let vertex : v < n = rw is (f.vertex k in_k) in
       let place : slice_index number v ≡ k = rw is (f.place k in_k) in
       let long = h.long in
-      let some = all.parents in
       let long' = length-set depths v x in
       let here : slice_index (set depths v x) v ≡ x = get_or-set_same depths v x 0 (omega arith) in
       -- a vertex by a parent other than v
@@ -38,27 +37,14 @@ module _ (lists : Lists) (order number last parents depths : List ℕ) (all : Is
       record {
         long = long' ∙ long;
         most = λ u. elim (cases_eq u v) [
-          | inl e ↦
-              let same = ap (slice_index (set depths v x)) e in
-              elim (cases_lt (slice_index parents v) (length depths)) [
-                | inl l ↦ (let a = by.below l in let b = h.most (slice_index parents v) in omega arith)
-                | inr l ↦ (let a = by.root l in omega arith)
-              ]
+          | inl e ↦ grind (arith, slice_index, set, cases_lt, length, by)
           | inr ne ↦ (let same = get_or-set_other depths v u x 0 ne in let b = h.most u in omega arith)
         ];
         done = λ j l. elim (cases_eq j k) [
           | inl e ↦
-              let at : slice_index order j ≡ v = ap (slice_index order) e ∙ sym is in
-              subst (λ u. IsDepthBy parents (set depths v x) u (slice_index (set depths v x) u)) (sym at)
+              subst (λ u. IsDepthBy parents (set depths v x) u (slice_index (set depths v x) u)) (sym (ap (slice_index order) e ∙ sym is))
               (subst (IsDepthBy parents (set depths v x) v) (sym here) (kept v x (λ m e'. (let r = rising v vertex m in let s = ap (slice_index number) e' in omega arith)) by))
-          | inr ne ↦
-              let in_j : j < k = omega (arith, l, ne) in
-              let u = slice_index order j in
-              let u_in : u < n = f.vertex j (omega arith) in
-              let u_at : slice_index number u ≡ j = f.place j (omega arith) in
-              let off : u ≢ v = λ e'. (let s = ap (slice_index number) e' in omega arith) in
-              let same = get_or-set_other depths v u x 0 off in
-              subst (IsDepthBy parents (set depths v x) u) (sym same) (kept u (slice_index depths u) (λ m e'. (let r = rising u u_in m in let s = ap (slice_index number) e' in omega arith)) (h.done j in_j))
+          | inr ne ↦ grind (arith, slice_index, get_or-set_other, IsDepthBy, set, rising)
         ];
       }
 
@@ -88,24 +74,19 @@ module _ (graph : EdgeGraph) (known : IsGraph graph) (order number last parents 
   by : (v : ℕ) → v < graph.n → IsDepthBy parents depths v (D v)
   by v l =
       let c = long in
-      let at : slice_index order (N v) ≡ v = f.own v (omega arith) in
-      subst (λ u. IsDepthBy parents depths u (D u)) at (deep.done (N v) (f.numbered v (omega arith)))
+      subst (λ u. IsDepthBy parents depths u (D u)) (f.own v (omega arith)) (deep.done (N v) (f.numbered v (omega arith)))
 
   pub deep_in : (v : ℕ) → 0 < D v → v < graph.n
   deep_in v some =
-      let t = table in
-      elim (cases_lt v graph.n) [ inl l ↦ l | inr m ↦ (let p = get_or_past depths v 0 (omega arith) in absurd (omega arith)) ]
+      elim (cases_lt v graph.n) [ inl l ↦ l | inr m ↦ (let p = get_or_past depths v 0 (omega (arith, table)) in absurd (omega arith)) ]
 
   pub parent_in : (v : ℕ) → 0 < D v → P v < graph.n
   parent_in v some =
-      let t = table in
-      elim (cases_lt (P v) graph.n) [ inl l ↦ l | inr m ↦ (let z = (by v (deep_in v some)).root (omega arith) in absurd (omega arith)) ]
+      elim (cases_lt (P v) graph.n) [ inl l ↦ l | inr m ↦ (let z = (by v (deep_in v some)).root (omega (arith, table)) in absurd (omega arith)) ]
 
   pub deeper : (v : ℕ) → 0 < D v → D v ≡ D (P v) + 1
   deeper v some =
-      let t = table in
-      let p = parent_in v some in
-      (by v (deep_in v some)).below (omega arith)
+      (by v (deep_in v some)).below (omega (arith, parent_in v some, table))
 
   -- a vertex below its parent is no root
   some_depth : (v : ℕ) → v < graph.n → P v < graph.n → 0 < D v
@@ -114,9 +95,7 @@ module _ (graph : EdgeGraph) (known : IsGraph graph) (order number last parents 
   pub rising : (v : ℕ) → 0 < D v → N (P v) < N v
   rising v some =
       let c = long in
-      let l = deep_in v some in
-      let m = parent_in v some in
-      (f.held v (omega arith) (omega arith)).after
+      (f.held v (omega (arith, deep_in v some)) (omega (arith, parent_in v some))).after
 
   held_above : (k u v : ℕ) → N v < k → u < graph.n → v < graph.n → Holds N (λ v. slice_index last v) u v → IsAbove P D u v
   held_above zero u v few lu lv h = absurd (omega (arith, few))
@@ -126,10 +105,8 @@ module _ (graph : EdgeGraph) (known : IsGraph graph) (order number last parents 
       let lv' : v < length Lists' = omega arith in
       let p = f.has_parent u v lu' lv' h in
       let near = f.nearest u v lu' lv' h in
-      let held = f.held v lv' p in
-      let some = some_depth v lv (omega arith) in
-      let up_one = parent_above P D deeper v some in
-      let after = held.after in
+      let up_one = parent_above P D deeper v (some_depth v lv (omega arith)) in
+      let after = (f.held v lv' p).after in
       let before = h.before in
       elim (cases_eq (N u) (N (P v))) [
         | inl e ↦ subst (λ z. IsAbove P D z v) (sym (same_vertex Lists' (λ k. slice_index order k) N (λ v. slice_index last v) P f u (P v) lu' p e)) up_one
@@ -167,10 +144,4 @@ module _ (graph : EdgeGraph) (known : IsGraph graph) (order number last parents 
 
   -- the first vertex of the order is a root
   pub first_root : 0 < graph.n → (slice_index order 0 < graph.n) × (D (slice_index order 0) ≡ 0)
-  first_root some =
-      let c = long in
-      let l = f.vertex 0 (omega arith) in
-      let at = f.place 0 (omega arith) in (
-        omega arith,
-        elim (cases_lt 0 (D (slice_index order 0))) [ inl deep' ↦ (let r = rising (slice_index order 0) deep' in absurd (omega arith)) | inr none ↦ omega (arith, none) ],
-      )
+  first_root some = grind (arith, long, cases_lt, slice_index, rising)

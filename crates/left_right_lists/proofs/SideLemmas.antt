@@ -24,7 +24,6 @@ module _ (graph : EdgeGraph) (root : ℕ) (order number parents depths : List �
 
   pub deep_in : (v : ℕ) → 0 < D v → v < graph.n
   deep_in v some =
-      let t = h.depths_long in
       elim (cases_lt v graph.n) [ inl l ↦ l | inr m ↦ (let p = get_or_past depths v 0 (omega arith) in absurd (omega arith)) ]
 
   pub ends_in : (u v : ℕ) → joined graph parents depths u v ≡ true → (u < graph.n) × (v < graph.n)
@@ -37,9 +36,6 @@ module _ (graph : EdgeGraph) (root : ℕ) (order number parents depths : List �
   pub placed : (v e : ℕ) (d : Dart) → R v e d → IsPlaced d
   placed v e d r =
       let l = ends_in d.0 d.1 r.edge in
-      let few = h.few in
-      let a = l.0 in
-      let b = l.1 in
       (omega arith, omega arith)
 
   -- an edge that returns leads upwards
@@ -48,18 +44,14 @@ module _ (graph : EdgeGraph) (root : ℕ) (order number parents depths : List �
 
   pub returns_in : (v e : ℕ) (d : Dart) → R v e d → (v < graph.n) × (e < graph.n)
   returns_in v e d r =
-      let high = r.higher in
       let l = ends_in d.0 d.1 r.edge in (
         deep_in v (omega arith),
         elim r.branch [
           | inl a ↦ subst (λ z. z < graph.n) (sym a.1) l.1
           | inr a ↦
               let u = up P (D d.0 - D v - 1) d.0 in
-              let near = r.under.depths in
               let below : D v < D d.0 = elim (cases_lt (D v) (D d.0)) [ inl less ↦ less | inr more ↦ absurd (a.0 (sym (above_same P D v d.0 r.under (omega arith)))) ] in
-              let b : IsBelow P D h.tree.forest.deeper v d.0 u = branch_below P D h.tree.forest.deeper v d.0 r.under below in
-              let deep = b.deep in
-              subst (λ z. z < graph.n) (sym a.1) (deep_in u (omega arith))
+              subst (λ z. z < graph.n) (sym a.1) (deep_in u (omega (arith, branch_below P D h.tree.forest.deeper v d.0 r.under below)))
         ],
       )
 
@@ -122,15 +114,14 @@ module _ (graph : EdgeGraph) (root : ℕ) (order number parents depths : List �
   pub fork_stays : (old new : List Group) (v e f : ℕ) → length old ≡ 65536 → AreMerged old new → IsForkMet graph parents depths old v e f → IsForkMet graph parents depths new v e f
   fork_stays old new v e f long merged met =
       let to = merged.within met.0 in
-      let b = met.1.0 in
       let goes : (d : Dart) (s : Bool) → IsPlaced d → group_of old d ≡ (met.0, s) → group_of new d ≡ (to.0, turned to.1.0 s) = λ d s l at.
       to.1.1 (dart_place d) (let x = l.0 in let y = l.1 in omega arith) (ap (λ (z : Group). z.0) at) ∙ ap (λ (z : Group). (to.0, turned to.1.0 z.1)) at in (
         to.0,
         (
-          turned to.1.0 b,
+          turned to.1.0 met.1.0,
           λ x y rx ry. (
-            (λ less. goes x b (placed v e x rx) ((met.1.1 x y rx ry).0 less)),
-            (λ less. goes y (not b) (placed v f y ry) ((met.1.1 x y rx ry).1 less) ∙ ap (λ s. (to.0, s)) (turned_not to.1.0 b)),
+            (λ less. goes x met.1.0 (placed v e x rx) ((met.1.1 x y rx ry).0 less)),
+            (λ less. goes y (not met.1.0) (placed v f y ry) ((met.1.1 x y rx ry).1 less) ∙ ap (λ s. (to.0, s)) (turned_not to.1.0 met.1.0)),
           ),
         ),
       )

@@ -11,14 +11,13 @@ pub tabled_more : (f : ℕ → ℕ) (table new : List ℕ) (n x : ℕ) → new �
 tabled_more f table new n x is e h =
     let long = h.long in
     let more = length-append table (x ∷ []) in
-    let a = ap length is in
     record {
-      long = omega arith;
+      long = omega (arith, ap length is);
       at = λ v l. elim (cases_lt v n) [
-        | inl less ↦ ap (λ z. slice_index z v) is ∙ (get_or-append table (x ∷ []) 0 v (omega arith) ∙ h.at v less)
+        | inl less ↦ ap (λ z. slice_index z v) is ∙ (get_or-append table (x ∷ []) 0 v (omega (arith, ap length is)) ∙ h.at v less)
         | inr late ↦
-            let at_end : v ≡ length table + 0 = omega arith in
-            let at_n : n ≡ v = omega arith in
+            let at_end : v ≡ length table + 0 = omega (arith, ap length is) in
+            let at_n : n ≡ v = omega (arith, ap length is) in
             ap (λ z. slice_index z v) is ∙ (ap (λ i. slice_index (table ++ x ∷ []) i) at_end ∙ (get_or-append-add table (x ∷ []) 0 0 ∙ (e ∙ ap f at_n)))
       ];
     }
@@ -27,14 +26,13 @@ pub values_more : {X : Type 0} (f : ℕ → X) (none : X) (table new : List X) (
 values_more f none table new n x is e h =
     let long = h.long in
     let more = length-append table (x ∷ []) in
-    let a = ap length is in
     record {
-      long = omega arith;
+      long = omega (arith, ap length is);
       at = λ v l. elim (cases_lt v n) [
-        | inl less ↦ ap (λ z. get_or z v none) is ∙ (get_or-append table (x ∷ []) none v (omega arith) ∙ h.at v less)
+        | inl less ↦ ap (λ z. get_or z v none) is ∙ (get_or-append table (x ∷ []) none v (omega (arith, ap length is)) ∙ h.at v less)
         | inr late ↦
-            let at_end : v ≡ length table + 0 = omega arith in
-            let at_n : n ≡ v = omega arith in
+            let at_end : v ≡ length table + 0 = omega (arith, ap length is) in
+            let at_n : n ≡ v = omega (arith, ap length is) in
             ap (λ z. get_or z v none) is ∙ (ap (λ i. get_or (table ++ x ∷ []) i none) at_end ∙ (get_or-append-add table (x ∷ []) 0 none ∙ (e ∙ ap f at_n)))
       ];
     }
@@ -47,5 +45,4 @@ joined_all f us i list l h = h ∙ ap (joined f) (take_all i us l)
 pub tabled_slices : (by : List ℕ → List ℕ → ℕ → ℕ → ℕ) (table : List ℕ) (root : ℕ) {parents' parents depths' depths : List ℕ} {n' n : ℕ} → parents' ≡ parents → depths' ≡ depths → n' ≡ n → IsTabled (by parents' depths' root) table n' → IsTabled (by parents depths root) table n
 tabled_slices by table root {parents'} {parents} {depths'} {depths} {n'} {n} e e' e'' h =
     let first : IsTabled (by parents depths' root) table n' = subst (λ ps. IsTabled (by ps depths' root) table n') e h in
-    let second : IsTabled (by parents depths root) table n' = subst (λ ds. IsTabled (by parents ds root) table n') e' first in
-    subst (IsTabled (by parents depths root) table) e'' second
+    subst (IsTabled (by parents depths root) table) e'' (subst (λ ds. IsTabled (by parents ds root) table n') e' first)

@@ -84,9 +84,8 @@ uppers_distinct v (d ∷ ds) ends distinct =
     (λ x y c c' e.
     let part = uppers_parts ds x c in
     let last : d.0 ≡ y = elim (here_or_there d.0 y [] c') [ inl h ↦ h | inr none ↦ absurd (none_in_none y none) ] in
-    let one : d.0 ≡ part.0.0 = last ∙ (sym e ∙ sym part.1.1) in
     let two : d.1 ≡ part.0.1 = ends d (here d ds) ∙ sym (ends part.0 (there d part.0 ds part.1.0)) in
-    pairs_head ◌≢◌ d ds distinct part.0 part.1.0 (ap (λ z. (z, d.1)) one ∙ ap (λ z. (part.0.0, z)) two))
+    pairs_head ◌≢◌ d ds distinct part.0 part.1.0 (ap (λ z. (z, d.1)) (last ∙ (sym e ∙ sym part.1.1)) ∙ ap (λ z. (part.0.0, z)) two))
 
 -- past edges that end at v, one by one
 pub joined_uppers : (f : ℕ → List Dart) (ds : List Dart) → ((d : Dart) → Contains ds d → f d.0 ≡ twin_dart d ∷ []) → joined f (uppers ds) ≡ ups ds
@@ -117,14 +116,13 @@ module _ (depth : ℕ → ℕ) (left : ℕ → ℕ → Bool) (v : ℕ) where
         | inl t ↦ behind_low x ds low (pairs_more R x ds (λ z c'. pairs_head R x (y ∷ ds) pairs z (there y z ds c')) (pairs_tail R y ds more)) (λ z c'. ends z (there y z ds c')) d (subst (λ z. Contains z d) (trail_true ends_off y ds t) c)
         | inr f ↦
             let at = off_at y f in
-            let same = ap depth at in
             elim (here_or_there y d ds (subst (λ z. Contains z d) (trail_false ends_off y ds f) c)) [
               | inl e ↦ ap (λ (z : Dart). z.1) (sym e) ∙ at
               | inr c' ↦ elim (ends d (there y d ds c')) [
                 | inl e ↦ e
                 | inr less ↦ absurd (elim (cases_Bool (left y.0 y.1)) [
-                  | inl l ↦ (let a = (pairs_head R x (y ∷ ds) pairs y (here y ds)).0 l in omega arith)
-                  | inr r ↦ (let a = (pairs_head R y ds more d c').1 r in omega arith)
+                  | inl l ↦ (let a = (pairs_head R x (y ∷ ds) pairs y (here y ds)).0 l in omega (arith, ap depth at))
+                  | inr r ↦ (let a = (pairs_head R y ds more d c').1 r in omega (arith, ap depth at))
                 ])
               ]
             ]

@@ -29,7 +29,6 @@ root_above : (n : ℕ) (edge : ℕ → ℕ → Bool) (parent depth : ℕ → ℕ
 root_above n edge parent depth g zero v e l = (v, (l, e))
 root_above n edge parent depth g (suc k) v e l =
     let some : 0 < depth v = omega arith in
-    let d = g.forest.deeper v some in
     root_above n edge parent depth g k (parent v) (omega arith) (g.in_range (parent v) v (g.both_ways v (parent v) (g.forest.edges v some)))
 
 module _ (n : ℕ) (edge : ℕ → ℕ → Bool) (parent depth : ℕ → ℕ) (r : ℕ) (r_in : r < n) (r_depth : depth r ≡ 0) (g : IsDepthFirst n edge parent depth) where
@@ -61,12 +60,10 @@ module _ (n : ℕ) (edge : ℕ → ℕ → Bool) (parent depth : ℕ → ℕ) (r
 
   top_above : (u v : ℕ) → Above u v → top u ≡ top v
   top_above u v a =
-      let l = a.depths in
       sym (up-add parent (depth v - depth u) (depth u) (depth v) v (omega arith) ∙ ap (λ z. up parent (depth u) z) a.line)
 
   top_parent : (v : ℕ) → 0 < depth v → top (parent v) ≡ top v
   top_parent v deep =
-      let e = deeper v deep in
       let k : depth v ≡ suc (depth (parent v)) = omega arith in
       sym (ap (λ k. up parent k v) k)
 
@@ -128,12 +125,7 @@ module _ (n : ℕ) (edge : ℕ → ℕ → Bool) (parent depth : ℕ → ℕ) (r
 
   -- two vertices of one tree are as far apart as before
   depth_apart : (u v : ℕ) → u < n → v < n → top u ≡ top v → depth' u + depth v ≡ depth' v + depth u
-  depth_apart u v lu lv e =
-      let same = other_same u v lu lv e in
-      elim (cases_Bool (other u)) [
-        | inl t ↦ (let a = depth_on u t in let b = depth_on v (sym same ∙ t) in omega arith)
-        | inr f ↦ (let a = depth_off u f in let b = depth_off v (sym same ∙ f) in omega arith)
-      ]
+  depth_apart u v lu lv e = grind (arith, other_same, cases_Bool, other, depth_on, depth_off)
 
   depth_r : depth' r ≡ 0
   depth_r = depth_off r other_r ∙ r_depth
@@ -152,7 +144,6 @@ module _ (n : ℕ) (edge : ℕ → ℕ → Bool) (parent depth : ℕ → ℕ) (r
   up_same : (k v : ℕ) → k ≤ depth v → up parent' k v ≡ up parent k v
   up_same zero v l = refl
   up_same (suc k) v l =
-      let e = deeper v (omega arith) in
       ap (λ z. up parent' k z) (parent_same v (omega arith)) ∙ up_same k (parent v) (omega arith)
 
   edge_old : (u v : ℕ) → edge u v ≡ true → edge' u v ≡ true
@@ -169,25 +160,14 @@ module _ (n : ℕ) (edge : ℕ → ℕ → Bool) (parent depth : ℕ → ℕ) (r
 
   edge_cases : (u v : ℕ) → edge' u v ≡ true → (edge u v ≡ true) ⊎ (((u ≡ r) × (lone v ≡ true)) ⊎ ((v ≡ r) × (lone u ≡ true)))
   unfolding edge'
-  edge_cases u v t =
-      elim (or_cases (edge u v) (new u v || new v u) t) [
-        | inl h ↦ inl h
-        | inr h ↦ elim (or_cases (new u v) (new v u) h) [
-          | inl k ↦ (let both = and_parts (eqb u r) (lone v) k in inr (inl (eqb-true u r both.0, both.1)))
-          | inr k ↦ (let both = and_parts (eqb v r) (lone u) k in inr (inr (eqb-true v r both.0, both.1)))
-        ]
-      ]
+  edge_cases u v t = grind (arith, or_cases, new, and_parts, eqb, lone, eqb-true)
 
   lone_in : (v : ℕ) → lone v ≡ true → v < n
   lone_in v t = (other_so v (lone_so v t).1).0
 
   -- a vertex below the root is one of the graph, and the root of a tree or below its parent
   pub below_so : (v : ℕ) → 0 < depth' v → (lone v ≡ true) ⊎ (0 < depth v)
-  below_so v deep =
-      elim (cases_eq (depth v) 0) [
-        | inr ne ↦ inr (omega (arith, ne))
-        | inl e ↦ elim (depth_either v) [ inl same ↦ absurd (omega arith) | inr h ↦ inl (lone_from v e h.0) ]
-      ]
+  below_so v deep = grind (arith, cases_eq, depth_either, lone_from)
 
   grown : IsForest (IsEdge edge') parent' depth'
   grown =
@@ -197,18 +177,9 @@ module _ (n : ℕ) (edge : ℕ → ℕ → Bool) (parent depth : ℕ → ℕ) (r
           | inr d ↦ subst (λ z. edge' v z ≡ true) (sym (parent_same v d)) (edge_old v (parent v) (g.forest.edges v d))
         ];
         deeper = λ v deep. elim (below_so v deep) [
-          | inl t ↦
-              let so = lone_so v t in
-              let a = depth_on v so.1 in
-              let b = ap depth' (parent_lone v t) in
-              let c = depth_r in
-              let e = so.0 in
-              omega arith
+          | inl t ↦ grind (arith, lone_so, depth_r, depth', parent_lone, depth_on)
           | inr d ↦
-              let a = depth_apart (parent v) v (parent_in v d) (in_graph v d) (top_parent v d) in
-              let b = deeper v d in
-              let c = ap depth' (parent_same v d) in
-              omega arith
+              omega (arith, ap depth' (parent_same v d), depth_apart (parent v) v (parent_in v d) (in_graph v d) (top_parent v d))
         ];
       }
 
@@ -216,20 +187,10 @@ module _ (n : ℕ) (edge : ℕ → ℕ → Bool) (parent depth : ℕ → ℕ) (r
   Above' = IsAbove parent' depth'
 
   above_new : (u v : ℕ) → u < n → v < n → Above u v → Above' u v
-  above_new u v lu lv a =
-      let l = a.depths in
-      let d = depth_apart u v lu lv (top_above u v a) in
-      let k : depth' v - depth' u ≡ depth v - depth u = omega arith in
-      record { depths = omega arith; line = ap (λ k. up parent' k v) k ∙ (up_same (depth v - depth u) v (omega arith) ∙ a.line) }
+  above_new u v lu lv a = grind (arith, depth_apart, top_above, depth', up, parent', up_same)
 
   above_r : (v : ℕ) → lone v ≡ true → Above' r v
-  above_r v t =
-      let so = lone_so v t in
-      let a = depth_on v so.1 in
-      let e = so.0 in
-      let c = depth_r in
-      let k : depth' v - depth' r ≡ 1 = omega arith in
-      record { depths = omega arith; line = ap (λ k. up parent' k v) k ∙ parent_lone v t }
+  above_r v t = grind (arith, lone_so, depth', depth_r, depth_on, up, parent', parent_lone)
 
   pub tree : IsDepthFirstTree n edge' parent' depth' r
   tree =
@@ -239,9 +200,8 @@ module _ (n : ℕ) (edge : ℕ → ℕ → Bool) (parent depth : ℕ → ℕ) (r
         others = λ v l ne. elim (cases_Bool (other v)) [
           | inl t ↦ (let a = depth_on v t in omega arith)
           | inr f ↦
-              let a = depth_off v f in
               let one_tree : top v ≡ r = elim (cases_eq (top v) r) [ inl e ↦ e | inr off ↦ absurd (true≢false (sym (and_from (ltb v n) (not (eqb (top v) r)) (lt-ltb v n l) (ap not (ne_eqb (top v) r off))) ∙ f)) ] in
-              elim (cases_eq (depth v) 0) [ inl e ↦ absurd (ne (sym (top_root v e) ∙ one_tree)) | inr deep ↦ omega (arith, deep) ]
+              elim (cases_eq (depth v) 0) [ inl e ↦ absurd (ne (sym (top_root v e) ∙ one_tree)) | inr deep ↦ omega (arith, depth_off v f, deep) ]
         ];
         in_range = λ u v t. elim (edge_cases u v t) [ inl h ↦ g.in_range u v h | inr h ↦ elim h [ inl k ↦ subst (λ z. z < n) (sym k.0) r_in | inr k ↦ lone_in u k.1 ] ];
         both_ways = λ u v t. elim (edge_cases u v t) [
@@ -250,26 +210,18 @@ module _ (n : ℕ) (edge : ℕ → ℕ → Bool) (parent depth : ℕ → ℕ) (r
         ];
         no_loop = λ v. not_so (edge' v v) (λ t. elim (edge_cases v v t) [
           | inl h ↦ true≢false (sym h ∙ g.no_loop v)
-          | inr h ↦ elim h [
-            | inl k ↦ true≢false (sym (lone_so v k.1).1 ∙ (ap other k.0 ∙ other_r))
-            | inr k ↦ true≢false (sym (lone_so v k.1).1 ∙ (ap other k.0 ∙ other_r))
-          ]
+          | inr h ↦ grind (arith, true≢false, lone_so, other, other_r)
         ]);
         forest = grown;
         on_lines = λ u v t. elim (edge_cases u v t) [
-          | inl h ↦
-              let lu = g.in_range u v h in
-              let lv = g.in_range v u (g.both_ways u v h) in
-              elim (g.on_lines u v h) [ inl a ↦ inl (above_new u v lu lv a) | inr a ↦ inr (above_new v u lv lu a) ]
+          | inl h ↦ grind (arith, above_new)
           | inr h ↦ elim h [ inl k ↦ inl (subst (λ z. Above' z v) (sym k.0) (above_r v k.1)) | inr k ↦ inr (subst (λ z. Above' z u) (sym k.0) (above_r u k.1)) ]
         ];
       }
 
   lone_child : (v : ℕ) → lone v ≡ true → is_child parent' depth' r v ≡ true
   lone_child v t =
-      let so = lone_so v t in
-      let a = depth_on v so.1 in
-      is_child_from parent' depth' r v (omega arith) (parent_lone v t)
+      is_child_from parent' depth' r v (omega (arith, depth_on v (lone_so v t).1)) (parent_lone v t)
 
   -- each edge is one of the graph or of the tree
   pub edge_by_tree : (u v : ℕ) → edge' u v ≡ (edge u v || in_tree parent' depth' u v)
@@ -286,10 +238,7 @@ module _ (n : ℕ) (edge : ℕ → ℕ → Bool) (parent depth : ℕ → ℕ) (r
       ])
       (λ t. elim (or_cases (edge u v) (down || back) t) [
         | inl h ↦ edge_old u v h
-        | inr h ↦ elim (or_cases down back h) [
-          | inl k ↦ (let is = child_is parent' depth' u v k in tree.both_ways v u (subst (λ z. edge' v z ≡ true) is.1 (grown.edges v is.0)))
-          | inr k ↦ (let is = child_is parent' depth' v u k in subst (λ z. edge' u z ≡ true) is.1 (grown.edges u is.0))
-        ]
+        | inr h ↦ grind (arith, or_cases, back, child_is, parent', depth', tree, edge', grown)
       ])
 
   -- ---- what returns there returns here
@@ -313,75 +262,38 @@ module _ (n : ℕ) (edge : ℕ → ℕ → Bool) (parent depth : ℕ → ℕ) (r
 
   under_old : (v e t w : ℕ) → New v e t w → Above v t × (depth t ≡ depth v + (depth' t - depth' v))
   under_old v e t w a =
-      let high = a.higher in
-      let most = depth_most t in
-      let one = most.1 in
-      above_old v t a.under (omega arith)
+      above_old v t a.under (omega (arith, depth_most t))
 
   -- it does not end at the root of all from another tree
   no_new : (v e t w : ℕ) → New v e t w → ¬ (depth v < depth' v - depth' w)
   no_new v e t w a far =
-      let most = depth_most v in
-      let one = most.1 in
       elim (depth_either v) [
         | inl same ↦ omega arith
         | inr h ↦
-            let up_one = h.1 in
             let k : depth' v - depth' w ≡ suc (depth v) = omega arith in
             let so = other_so v h.0 in
             let top_in : top v < n = up_in (depth v) v so.0 (omega arith) in
             let top_lone : lone (top v) ≡ true = lone_from (top v) (top_depth v) (other_same (top v) v top_in so.0 (top_root (top v) (top_depth v)) ∙ h.0) in
             let w_is : w ≡ r = sym a.above.line ∙ (ap (λ k. up parent' k v) k ∙ (up_last parent' depth' (depth v) v ∙ (ap parent' (up_same (depth v) v (omega arith)) ∙ parent_lone (top v) top_lone))) in
             let under = under_old v e t w a in
-            let one_tree = top_above v t under.0 in
             elim (edge_cases t w a.edge) [
-              | inl old ↦
-                  let at_r : edge t r ≡ true = subst (λ z. edge t z ≡ true) w_is old in
-                  elim (g.on_lines t r at_r) [
-                    | inl b ↦ so.1 (one_tree ∙ (top_above t r b ∙ top_root r r_depth))
-                    | inr b ↦ so.1 (one_tree ∙ (sym (top_above r t b) ∙ top_root r r_depth))
-                  ]
-              | inr k' ↦ elim k' [
-                | inl b ↦ true≢false (sym (lone_so w b.1).1 ∙ (ap other w_is ∙ other_r))
-                | inr b ↦
-                    let low = (lone_so t b.1).0 in
-                    let deep = under.0.depths in
-                    let same : v ≡ t = above_same parent depth v t under.0 (omega arith) in
-                    elim a.branch [
-                      | inl c ↦ a.away (c.1 ∙ (w_is ∙ sym (parent_lone v (subst (λ z. lone z ≡ true) (sym same) b.1))))
-                      | inr c ↦ c.0 (sym same)
-                    ]
-              ]
+              | inl old ↦ grind (arith, top_above, top_root)
+              | inr k' ↦ grind (arith, true≢false, lone_so, other, other_r, above_same, parent_lone, lone)
             ]
       ]
 
   back : (v e t w : ℕ) → New v e t w → Old v e t w
   back v e t w a =
-      let high = a.higher in
       let near : depth' v - depth' w ≤ depth v = elim (cases_lt (depth v) (depth' v - depth' w)) [ inl far ↦ absurd (no_new v e t w a far) | inr fine ↦ fine ] in
       let above = above_old w v a.above near in
       let under = under_old v e t w a in
-      let d = above.1 in
-      let d' = under.1 in
       let higher : depth w < depth v = omega arith in
       record {
-        edge = elim (edge_cases t w a.edge) [
-          | inl old ↦ old
-          | inr h ↦ elim h [
-            | inl k ↦
-                let so = other_so w (lone_so w k.1).1 in
-                let same = ap top k.0 in
-                absurd (so.1 (top_above w v above.0 ∙ (top_above v t under.0 ∙ (same ∙ top_root r r_depth))))
-            | inr k ↦ (let low = (lone_so t k.1).0 in absurd (omega arith))
-          ]
-        ];
+        edge = grind (arith, edge_cases, other_so, lone_so, top_above, top, top_root);
         higher = higher;
         above = above.0;
         under = under.0;
-        branch = elim a.branch [
-          | inl h ↦ inl h
-          | inr h ↦ (let k : depth' t - depth' v - 1 ≡ depth t - depth v - 1 = omega arith in inr (h.0, h.1 ∙ (ap (λ k. up parent' k t) k ∙ up_same (depth t - depth v - 1) t (omega arith))))
-        ];
+        branch = grind (arith, depth', up, parent', up_same);
         away = λ e'. a.away (e' ∙ sym (parent_same v (omega arith)));
       }
 

@@ -77,8 +77,7 @@ module _ (us : List ℕ) (distinct : AllPairs ◌≢◌ us) where
   pub goes_round : (xs ys : List ℕ) (p : ℕ) → us ≡ xs ++ (ys ++ p ∷ []) → Goes (λ x. entry_after x us) (first_on ys p) ys p
   goes_round xs [] p is = refl
   goes_round xs (y ∷ ys) p is =
-      let long : length (ys ++ p ∷ []) ≡ length ys + 1 = length-append ys (p ∷ []) in
-      let next : entry_after y us ≡ first_on ys p = after_is xs y (ys ++ p ∷ []) is (omega arith) ∙ first_is ys p in
+      let next : entry_after y us ≡ first_on ys p = after_is xs y (ys ++ p ∷ []) is (omega (arith, length-append ys (p ∷ []))) ∙ first_is ys p in
       (refl, subst (λ z. Goes (λ x. entry_after x us) z ys p) (sym next) (goes_round (xs ++ y ∷ []) ys p (is ∙ sym (append_assoc xs (y ∷ []) (ys ++ p ∷ [])))))
 
   -- round a list, from its first entry on back to it

@@ -26,13 +26,7 @@ module _ (parent depth : ℕ → ℕ) where
   above_same u v a e = let none : depth v - depth u ≡ 0 = omega arith in sym a.line ∙ ap (λ k. up parent k v) none
 
   pub above_over : (u v t : ℕ) → IsAbove parent depth u v → IsAbove parent depth v t → IsAbove parent depth u t
-  above_over u v t a b =
-      let l = a.depths in
-      let l' = b.depths in
-      record {
-        depths = omega arith;
-        line = up-add parent (depth t - depth v) (depth v - depth u) (depth t - depth u) t (omega arith) ∙ (ap (λ z. up parent (depth v - depth u) z) b.line ∙ a.line);
-      }
+  above_over u v t a b = grind (arith, up-add, up)
 
   -- two above one vertex, at one depth
   pub above_one : (u v t : ℕ) → IsAbove parent depth u t → IsAbove parent depth v t → depth u ≡ depth v → u ≡ v
@@ -42,20 +36,16 @@ module _ (parent depth : ℕ → ℕ) where
     pub up_depth : (k v : ℕ) → k ≤ depth v → depth v ≡ depth (up parent k v) + k
     up_depth zero v l = omega arith
     up_depth (suc k) v l =
-        let e = deeper v (omega arith) in
-        let rest = up_depth k (parent v) (omega arith) in
-        omega arith
+        omega (arith, up_depth k (parent v) (omega arith))
 
     -- what is above a child is above its parent, where it is higher
     pub above_parent : (w u : ℕ) → 0 < depth u → IsAbove parent depth w u → depth w < depth u → IsAbove parent depth w (parent u)
     above_parent w u some a less =
-        let e = deeper u some in
         let k : depth u - depth w ≡ suc (depth (parent u) - depth w) = omega arith in
         record { depths = omega arith; line = sym (ap (λ k. up parent k u) k) ∙ a.line }
 
     pub parent_above : (u : ℕ) → 0 < depth u → IsAbove parent depth (parent u) u
     parent_above u some =
-        let e = deeper u some in
         let k : depth u - depth (parent u) ≡ 1 = omega arith in
         record { depths = omega arith; line = ap (λ k. up parent k u) k }
 
@@ -65,20 +55,10 @@ module _ (parent depth : ℕ → ℕ) where
       pub above : IsAbove parent depth u t
 
     pub branch_below : (v t : ℕ) → IsAbove parent depth v t → depth v < depth t → IsBelow v t (up parent (depth t - depth v - 1) t)
-    branch_below v t a less =
-        let k = depth t - depth v - 1 in
-        let d = up_depth k t (omega arith) in
-        let k' : depth t - depth v ≡ suc k = omega arith in
-        let k'' : depth t - depth (up parent k t) ≡ k = omega arith in
-        record {
-          deep = omega arith;
-          parent_is = sym (up_last k t) ∙ (sym (ap (λ k. up parent k t) k') ∙ a.line);
-          above = record { depths = omega arith; line = ap (λ k. up parent k t) k'' };
-        }
+    branch_below v t a less = grind (arith, up_depth, up, up_last)
 
     -- and any child of v above t is that
     pub branch_is : (v t u : ℕ) → IsAbove parent depth u t → depth u ≡ depth v + 1 → u ≡ up parent (depth t - depth v - 1) t
     branch_is v t u a deep =
-        let l = a.depths in
         let k : depth t - depth u ≡ depth t - depth v - 1 = omega arith in
         sym a.line ∙ ap (λ k. up parent k t) k

@@ -63,12 +63,11 @@ module _ (passed : ℕ → ℕ → Bool) (turned : (v u : ℕ) → passed v u �
   close_left : (ds word middle : List Dart) → IsBalanced passed middle → IsOpen word ds → IsBalanced passed (ups ds ++ (middle ++ word))
   close_left [] word middle b o = balanced_append middle b word o
   close_left (d ∷ ds) word middle b o =
-      let f = o.0 in
       let w = o.1.0 in
-      let inner : List Dart = twin_dart d ∷ ((middle ++ f) ++ d ∷ []) in
-      let closed : IsBalanced passed inner = pair (turned d.1 d.0) (balanced_append middle b f o.1.1.1.0) none in
-      let tail : middle ++ word ≡ ((middle ++ f) ++ d ∷ []) ++ w =
-      ap (λ z. middle ++ z) o.1.1.0 ∙ (sym (append_assoc middle f (d ∷ w)) ∙ sym (append_assoc (middle ++ f) (d ∷ []) w)) in
+      let inner : List Dart = twin_dart d ∷ ((middle ++ o.0) ++ d ∷ []) in
+      let closed : IsBalanced passed inner = pair (turned d.1 d.0) (balanced_append middle b o.0 o.1.1.1.0) none in
+      let tail : middle ++ word ≡ ((middle ++ o.0) ++ d ∷ []) ++ w =
+      ap (λ z. middle ++ z) o.1.1.0 ∙ (sym (append_assoc middle o.0 (d ∷ w)) ∙ sym (append_assoc (middle ++ o.0) (d ∷ []) w)) in
       subst (IsBalanced passed) (sym (append_assoc (ups ds) (twin_dart d ∷ []) (middle ++ word) ∙ ap (λ z. ups ds ++ twin_dart d ∷ z) tail)) (close_left ds w inner closed o.1.1.1.1)
 
   -- the twins stand behind all, the last first
@@ -78,21 +77,18 @@ module _ (passed : ℕ → ℕ → Bool) (turned : (v u : ℕ) → passed v u �
       let f = o.0 in
       let w = o.1.0 in
       let t : List Dart = twin_dart d ∷ [] in
-      let inner = close_right ds w middle b o.1.1.1.1 in
-      let closed : IsBalanced passed (d ∷ ((w ++ (middle ++ ups ds)) ++ t)) = pair (turned d.0 d.1) inner none in
       let tail : w ++ (middle ++ (ups ds ++ t)) ≡ (w ++ (middle ++ ups ds)) ++ t =
       ap (λ z. w ++ z) (sym (append_assoc middle (ups ds) t)) ∙ sym (append_assoc w (middle ++ ups ds) t) in
       subst (IsBalanced passed) (sym (ap (λ z. z ++ (middle ++ (ups ds ++ t))) o.1.1.0 ∙ (append_assoc f (d ∷ w) (middle ++ (ups ds ++ t)) ∙ ap (λ z. f ++ d ∷ z) tail)))
-      (balanced_append f o.1.1.1.0 (d ∷ ((w ++ (middle ++ ups ds)) ++ t)) closed)
+      (balanced_append f o.1.1.1.0 (d ∷ ((w ++ (middle ++ ups ds)) ++ t)) (pair (turned d.0 d.1) (close_right ds w middle b o.1.1.1.1) none))
 
   -- what is below a child, between the edge to it and back, with the twins of what ends at its parent on both sides
   pub open_block : (v c : ℕ) (word lefts middle rights : List Dart) → passed v c ≡ true → IsOpen word (lefts ++ (middle ++ rights)) → IsOpen (ups lefts ++ (((v, c) ∷ (word ++ (c, v) ∷ [])) ++ ups rights)) middle
   open_block v c word lefts middle rights t o =
       let s = open_split word lefts (middle ++ rights) o in
       let s' = open_split s.two middle rights s.second in
-      let down : List Dart = (v, c) ∷ [] in
       let back : List Dart = (c, v) ∷ [] in
-      let left = close_left lefts s.one down (past t none) s.first in
+      let left = close_left lefts s.one ((v, c) ∷ []) (past t none) s.first in
       let right = close_right rights s'.two back (past (turned c v ∙ t) none) s'.second in
       let z : List Dart = (c, v) ∷ ups rights in
       let e : (word ++ back) ++ ups rights ≡ s.one ++ (s'.one ++ (s'.two ++ z)) =

@@ -13,20 +13,7 @@ module _ (depth : ℕ → ℕ) (left : ℕ → ℕ → Bool) where
       ((left e.0 e.1 ≡ true) × (depth d.1 < depth e.1)) ⊎ ((left d.0 d.1 ≡ false) × (depth e.1 < depth d.1))
 
   may_or_fails : (d e : Dart) → MayPrecede depth left d e ⊎ Fails d e
-  may_or_fails d e =
-      elim (cases_lt (depth d.1) (depth e.1)) [
-        | inl less ↦ elim (cases_Bool (left e.0 e.1)) [
-          | inl l ↦ inr (inl (l, less))
-          | inr r ↦ inl ((λ l. absurd (true≢false (sym l ∙ r))), (λ _. omega (arith, less)))
-        ]
-        | inr more ↦ elim (cases_lt (depth e.1) (depth d.1)) [
-          | inl less ↦ elim (cases_Bool (left d.0 d.1)) [
-            | inl l ↦ inl ((λ _. more), (λ r. absurd (true≢false (sym l ∙ r))))
-            | inr r ↦ inr (inr (r, less))
-          ]
-          | inr same ↦ inl ((λ _. more), (λ _. same))
-        ]
-      ]
+  may_or_fails d e = grind (arith, cases_lt, cases_Bool, true≢false)
 
   fails_not : (d e : Dart) → Fails d e → ¬ MayPrecede depth left d e
   fails_not d e fails may =
@@ -108,25 +95,11 @@ module _ (depth : ℕ → ℕ) (left : ℕ → ℕ → Bool) where
           | inr back ↦ λ d x c c'. (
             λ l. elim (cases_lt (depth d.1) (depth x.1)) [
               | inr fine ↦ fine
-              | inl less ↦
-                  let z = must.1.0 in
-                  let y = must.1.1.0 in
-                  let cz = must.1.1.1.0 in
-                  let cy = must.1.1.1.1.0 in
-                  let top = (must.0 y x cy c').0 l in
-                  absurd (elim must.1.1.1.1.1 [
-                    | inl h ↦ (let a = (first d y c cy).0 h.0 in omega arith)
-                    | inr h ↦ (let a = (back z d cz c).1 h.0 in let b = h.1 in omega arith)
-                  ])
+              | inl less ↦ grind arith
             ],
             λ r.
-                let z = must.1.0 in
-                let cy = must.1.1.1.1.0 in
-                let lowest = (least_of (returns f)).met must.1.1.0 cy in
-                let a = (first d lowest.0 c lowest.1.0).1 r in
-                let b = (least_of (returns g)).below x c' in
-                let e = lowest.1.1 in
-                omega arith,
+                let lowest = (least_of (returns f)).met must.1.1.0 must.1.1.1.1.0 in
+                omega (arith, (least_of (returns g)).below x c', (first d lowest.0 c lowest.1.0).1 r),
           )
         ]
 

@@ -81,7 +81,6 @@ module _ (n : ℕ) (edge : ℕ → ℕ → Bool) (parent depth : ℕ → ℕ) (r
     ends u t d c =
         let r = (parts u t).sound d c in
         let deep = child_deep v u t in
-        let high = r.higher in
         elim (cases_lt (depth d.1) (depth v)) [ inl less ↦ inr less | inr more ↦ inl (above_one parent depth d.1 v u r.above (child_above v u t) (omega arith)) ]
 
     l_in : (u : ℕ) (d : Dart) → Contains (L u) d → Contains (opens u) d
@@ -119,10 +118,7 @@ module _ (n : ℕ) (edge : ℕ → ℕ → Bool) (parent depth : ℕ → ℕ) (r
       away : u ≢ parent v
 
     chord_so : (u : ℕ) → chord_test u ≡ true → Chord u
-    chord_so u t =
-        let one = and_parts (edge v u) (ltb (depth u) (depth v) && not (eqb u (parent v))) t in
-        let two = and_parts (ltb (depth u) (depth v)) (not (eqb u (parent v))) one.1 in
-        record { has = one.0; higher = ltb-true (depth u) (depth v) two.0; away = λ e. true≢false (sym two.1 ∙ ap not (eq-eqb u (parent v) e)) }
+    chord_so u t = grind (arith, and_parts, ltb, not, eqb, ltb-true, true≢false, eq-eqb)
 
     chord_item : (u : ℕ) → Chord u → item u ≡ true
     chord_item u c =
@@ -130,11 +126,7 @@ module _ (n : ℕ) (edge : ℕ → ℕ → Bool) (parent depth : ℕ → ℕ) (r
 
     -- a child or a chord, and not both
     kind : (u : ℕ) → item u ≡ true → (child v u ≡ true) ⊎ ((child v u ≡ false) × Chord u)
-    kind u t =
-        elim (cases_Bool (child v u)) [
-          | inl t' ↦ inl t'
-          | inr f ↦ inr (f, chord_so u (elim (or_cases (child v u) (chord_test u) t) [ inl t' ↦ absurd (true≢false (sym t' ∙ f)) | inr t' ↦ t' ]))
-        ]
+    kind u t = grind (arith, cases_Bool, child, chord_so, or_cases, chord_test, true≢false)
 
     chord_above : (u : ℕ) → Chord u → Above u v
     chord_above u c = let high = c.higher in elim (g.on_lines u v (g.both_ways v u c.has)) [ inl a ↦ a | inr a ↦ (let l = a.depths in absurd (omega arith)) ]
@@ -165,13 +157,11 @@ module _ (n : ℕ) (edge : ℕ → ℕ → Bool) (parent depth : ℕ → ℕ) (r
               let r = (parts u t').sound d (m_in u d c') in
               let low = m_low u t' d c' in
               let deep = child_deep v u t' in
-              let far = r.under.depths in
               let is = child_is parent depth v u t' in
-              let high = r.higher in
               record {
                 edge = r.has;
                 higher = low;
-                above = subst (λ z. Above d.1 z) is.1 (above_parent parent depth deeper d.1 u is.0 r.above high);
+                above = subst (λ z. Above d.1 z) is.1 (above_parent parent depth deeper d.1 u is.0 r.above r.higher);
                 under = above_over parent depth v u d.0 (child_above v u t') r.under;
                 branch = inr ((λ e. let same = ap depth e in omega arith), branch_is parent depth deeper v d.0 u r.under deep);
                 away = λ e. let same = ap depth e in let up_one = deeper v (omega arith) in omega arith;
@@ -183,11 +173,7 @@ module _ (n : ℕ) (edge : ℕ → ℕ → Bool) (parent depth : ℕ → ℕ) (r
 
     -- an edge returns by one of them alone
     one_branch : (e f : ℕ) (d : Dart) → ReturnsBy e d → ReturnsBy f d → e ≡ f
-    one_branch e f d a b =
-        elim a.branch [
-          | inl h ↦ elim b.branch [ inl k ↦ h.1 ∙ sym k.1 | inr k ↦ absurd (k.0 h.0) ]
-          | inr h ↦ elim b.branch [ inl k ↦ absurd (h.0 k.0) | inr k ↦ h.1 ∙ sym k.1 ]
-        ]
+    one_branch e f d a b = grind arith
 
     -- the edges of the fork in an order in which what returns by them may stand
     abbrev pub Sorted : Type 0

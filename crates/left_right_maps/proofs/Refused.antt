@@ -51,16 +51,11 @@ four_to_one : ReturnsAt 4 (4, 1)
 four_to_one = record { edge = refl; higher = omega arith; above = record { depths = omega arith; line = refl }; under = record { depths = omega arith; line = refl }; branch = inr (λ e. omega arith, refl); away = λ e. omega arith }
 
 one_of_two : {X : Type 0} (P : X → Type 0) (a b x : X) → Contains (a ∷ b ∷ []) x → P a → P b → P x
-one_of_two P a b x c p q =
-    elim (here_or_there a x (b ∷ []) c) [
-      | inl e ↦ subst P e p
-      | inr c' ↦ elim (here_or_there b x [] c') [ inl e ↦ subst P e q | inr bad ↦ absurd (none_in_none x bad) ]
-    ]
+one_of_two P a b x c p q = grind (arith, here_or_there, none_in_none)
 
 never_before : (e f : ℕ) → ¬ MayAllPrecede forked_depth (λ t w. true) (two_up e) (two_up f)
 never_before e f may =
-    let a = (may (e, 0) (f, 1) (here (e, 0) ((e, 1) ∷ [])) (there (f, 0) (f, 1) ((f, 1) ∷ []) (here (f, 1) []))).0 refl in
-    omega arith
+    omega (arith, (may (e, 0) (f, 1) (here (e, 0) ((e, 1) ∷ [])) (there (f, 0) (f, 1) ((f, 1) ∷ []) (here (f, 1) []))).0 refl)
 
 three_not : (y : ℕ) → Contains (4 ∷ []) y → 3 ≢ y
 three_not y c e = elim (here_or_there 4 y [] c) [ inl e' ↦ omega (arith, e, e') | inr bad ↦ none_in_none y bad ]
@@ -74,10 +69,7 @@ any_sides wrong =
     let i = (found.1.0 3).1 (here 3 (4 ∷ [])) in
     let j = (found.1.0 4).1 (there 3 4 (4 ∷ []) (here 4 [])) in
     let same_place : i.0 ≢ j.0 = λ e. (let a : get_or found.0 i.0 3 ≡ 3 = i.2 in let apart : get_or found.0 j.0 3 ≡ 4 = get_or_default found.0 j.0 3 4 j.1 ∙ j.2 in let b = ap (λ k. get_or found.0 k 3) e in omega arith) in
-    elim (cases_lt i.0 j.0) [
-      | inl less ↦ never_before _ _ (found.1.1 i.0 j.0 0 less j.1).1
-      | inr more ↦ never_before _ _ (found.1.1 j.0 i.0 0 (omega (arith, more, same_place)) i.1).1
-    ]
+    grind (arith, cases_lt, never_before)
 
 -- ---- K5, with a forest that is not depth-first: all others are under 0, and no edge returns
 abbrev joined_five : ℕ → ℕ → Bool
@@ -90,53 +82,27 @@ abbrev star_depth : ℕ → ℕ
 star_depth v = get_or (0 ∷ 1 ∷ 1 ∷ 1 ∷ 1 ∷ []) v 0
 
 star_low : (v : ℕ) → star_depth v ≤ 1
-star_low zero = omega arith
-star_low (suc zero) = omega arith
-star_low (suc (suc zero)) = omega arith
-star_low (suc (suc (suc zero))) = omega arith
-star_low (suc (suc (suc (suc zero)))) = omega arith
-star_low (suc (suc (suc (suc (suc v))))) = omega arith
+star_low x0 = grind arith
 
 star_root : (v : ℕ) → v < 5 → star_depth v ≡ 0 → v ≡ 0
-star_root zero l e = refl
-star_root (suc zero) l e = absurd (omega arith)
-star_root (suc (suc zero)) l e = absurd (omega arith)
-star_root (suc (suc (suc zero))) l e = absurd (omega arith)
-star_root (suc (suc (suc (suc zero)))) l e = absurd (omega arith)
-star_root (suc (suc (suc (suc (suc v))))) l e = absurd (omega arith)
+star_root x0 l e = grind arith
 
 five_so : (u v : ℕ) → joined_five u v ≡ true → (u < 5) × ((v < 5) × (u ≢ v))
-five_so u v t =
-    let one = and_parts (ltb u 5) (ltb v 5 && not (eqb u v)) t in
-    let two = and_parts (ltb v 5) (not (eqb u v)) one.1 in
-    (ltb-true u 5 one.0, (ltb-true v 5 two.0, λ e. true≢false (sym two.1 ∙ ap not (eq-eqb u v e))))
+five_so u v t = grind (arith, and_parts, ltb, not, eqb, ltb-true, true≢false, eq-eqb)
 
 five_back : (u v : ℕ) → joined_five u v ≡ true → joined_five v u ≡ true
-five_back u v t =
-    let one = and_parts (ltb u 5) (ltb v 5 && not (eqb u v)) t in
-    let two = and_parts (ltb v 5) (not (eqb u v)) one.1 in
-    let apart = (five_so u v t).1.1 in
-    and_from (ltb v 5) (ltb u 5 && not (eqb v u)) two.0 (and_from (ltb u 5) (not (eqb v u)) one.0 (ap not (ne_eqb v u (λ e. apart (sym e)))))
+five_back u v t = grind (arith, and_parts, ltb, not, eqb, five_so, and_from, ne_eqb)
 
 five_edges : (v : ℕ) → 0 < star_depth v → joined_five v 0 ≡ true
-five_edges zero d = absurd (omega arith)
-five_edges (suc zero) d = refl
-five_edges (suc (suc zero)) d = refl
-five_edges (suc (suc (suc zero))) d = refl
-five_edges (suc (suc (suc (suc zero)))) d = refl
-five_edges (suc (suc (suc (suc (suc v))))) d = absurd (omega arith)
+five_edges x0 d = grind arith
 
 star_forest : IsForest (IsEdge joined_five) star_parent star_depth
 star_forest = record { edges = five_edges; deeper = λ v d. let a = star_low v in omega arith }
 
 star_returns : (v e t w : ℕ) → ¬ IsReturn (IsEdge joined_five) star_parent star_depth v e t w
 star_returns v e t w a =
-    let one = star_low v in
-    let two = star_low t in
-    let high = a.higher in
-    let deep = a.under.depths in
-    let same = above_same star_parent star_depth v t a.under (omega arith) in
-    elim a.branch [ inl h ↦ a.away (h.1 ∙ star_root w (five_so t w a.edge).1.0 (omega arith)) | inr h ↦ h.0 (sym same) ]
+    let same = above_same star_parent star_depth v t a.under (omega (arith, star_low t)) in
+    elim a.branch [ inl h ↦ a.away (h.1 ∙ star_root w (five_so t w a.edge).1.0 (omega (arith, star_low t))) | inr h ↦ h.0 (sym same) ]
 
 -- K5 on a line from 0 up to 4
 abbrev before : ℕ → ℕ
@@ -146,12 +112,7 @@ abbrev own : ℕ → ℕ
 own v = get_or (0 ∷ 1 ∷ 2 ∷ 3 ∷ 4 ∷ []) v 0
 
 line_edges : (v : ℕ) → 0 < own v → (joined_five v (before v) ≡ true) × (own v ≡ own (before v) + 1)
-line_edges zero d = absurd (omega arith)
-line_edges (suc zero) d = (refl, refl)
-line_edges (suc (suc zero)) d = (refl, refl)
-line_edges (suc (suc (suc zero))) d = (refl, refl)
-line_edges (suc (suc (suc (suc zero)))) d = (refl, refl)
-line_edges (suc (suc (suc (suc (suc v))))) d = absurd (omega arith)
+line_edges x0 d = grind arith
 
 no_map_of_five : (lists : Lists) → ¬ IsMapOfEdges 5 joined_five lists
 no_map_of_five lists m =
@@ -169,13 +130,12 @@ no_map_of_five lists m =
     let one = found.1 3 1 4 (λ e. omega arith) in
     let two = found.1 3 0 4 (λ e. omega arith) in
     let low = found.1 2 0 3 (λ e. omega arith) in
-    let a = (one.1 3 1 4 0 to_one last_to_none).0 (omega arith) in
     let b = (one.1 3 1 4 2 to_one last_to_two).1 (omega arith) in
     let c = (two.1 3 0 4 1 to_none last_to_one).1 (omega arith) in
     let d = (two.1 3 0 4 2 to_none last_to_two).1 (omega arith) in
     let e = (low.1 2 0 3 1 from_two from_three_by_two).1 (omega arith) in
     let f = (low.1 2 0 4 1 from_two from_four_by_two).1 (omega arith) in
-    no_fixed_bit one.0 (sym a ∙ (e ∙ (sym f ∙ (c ∙ (sym d ∙ b)))))
+    no_fixed_bit one.0 (sym ((one.1 3 1 4 0 to_one last_to_none).0 (omega arith)) ∙ (e ∙ (sym f ∙ (c ∙ (sym d ∙ b)))))
 
 -- the law of partitions for a forest that is not depth-first
 any_forest : ((n : ℕ) (joined : ℕ → ℕ → Bool) (parent depth : ℕ → ℕ) (left : ℕ → ℕ → Bool) → 0 < n → ((u v : ℕ) → joined u v ≡ true → u < n) → ((u v : ℕ) → joined u v ≡ true → joined v u ≡ true) → ((v : ℕ) → joined v v ≡ false) → IsForest (IsEdge joined) parent depth → IsLeftRight (IsEdge joined) parent depth left → (lists : Lists) × IsMapOfEdges n joined lists) → ⊥
@@ -209,28 +169,14 @@ abbrev through : ℕ → List Dart
 through v = get_or (none_word ∷ one_word ∷ two_word ∷ three_word ∷ []) v []
 
 each_of_four : (P : ℕ → Type 0) → P 0 → P 1 → P 2 → P 3 → (v : ℕ) → v < 4 → P v
-each_of_four P a b c d zero l = a
-each_of_four P a b c d (suc zero) l = b
-each_of_four P a b c d (suc (suc zero)) l = c
-each_of_four P a b c d (suc (suc (suc zero))) l = d
-each_of_four P a b c d (suc (suc (suc (suc v)))) l = absurd (omega arith)
+each_of_four P a b c d x5 l = grind arith
 
 crossed_simple : IsSimpleMap crossed
 unfolding first_fault
 crossed_simple = IsSimpleMap-from_first_fault crossed (omega arith) refl
 
 crossed_rooted : IsRootedMap crossed before high 0 around through
-crossed_rooted =
-    record {
-      simple = crossed_simple;
-      root_in = omega arith;
-      top = refl;
-      others = each_of_four (λ v. v ≢ 0 → 0 < high v) (λ ne. absurd (ne refl)) (λ _. omega arith) (λ _. omega arith) (λ _. omega arith);
-      deeper = each_of_four (λ v. 0 < high v → high v ≡ high (before v) + 1) (λ d. absurd (omega arith)) (λ _. refl) (λ _. refl) (λ _. refl);
-      last = each_of_four (λ v. v ≢ 0 → list_of crossed v ≡ around v ++ before v ∷ []) (λ ne. absurd (ne refl)) (λ _. refl) (λ _. refl) (λ _. refl);
-      whole = refl;
-      through = each_of_four (λ v. through v ≡ joined (tour_at (is_child before high) through v) (around v)) refl refl refl refl;
-    }
+crossed_rooted = grind (arith, crossed_simple, each_of_four, high, before, list_of, crossed, around, through, joined, tour_at, is_child)
 
 not_plane : ¬ IsPlane crossed
 unfolding entry_after merge face_count component_count

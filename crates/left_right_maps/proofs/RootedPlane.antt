@@ -40,9 +40,8 @@ module _ (lists : Lists) (parent depth : ℕ → ℕ) (root : ℕ) (entries : �
       elim (cases_eq v root) [
         | inl e ↦ subst (AreJoined lists root) (sym e) (root ∷ [], JoinsAvoiding-itself lists [] root m.root_in (none_in_none root))
         | inr ne ↦
-            let lp = parent_in lists parent depth root entries words m v l ne in
             let one = m.deeper v l (m.others v l ne) in
-            let up = from_root k (parent v) (omega arith) lp in
+            let up = from_root k (parent v) (omega arith) (parent_in lists parent depth root entries words m v l ne) in
             (_, JoinsAvoiding-more lists [] root (parent v) v up.0 (m.simple.both_ways v (parent v) (parent_dart lists parent depth root entries words m v l ne)) l (none_in_none v) up.1)
       ]
 
@@ -52,9 +51,7 @@ module _ (lists : Lists) (parent depth : ℕ → ℕ) (root : ℕ) (entries : �
   connected : component_count lists ≡ 1
   connected =
       one_component lists m.simple (λ v l.
-      let zero_in = with_root 0 m.simple.some_vertex in
-      let v_in = with_root v l in
-      eq-eqb _ _ (sym (eqb-true _ _ zero_in) ∙ eqb-true _ _ v_in))
+      eq-eqb _ _ (sym (eqb-true _ _ (with_root 0 m.simple.some_vertex)) ∙ eqb-true _ _ (with_root v l)))
 
   -- ---- the darts of the tree
   abbrev at : ℕ → Dart
@@ -95,56 +92,20 @@ module _ (lists : Lists) (parent depth : ℕ → ℕ) (root : ℕ) (entries : �
 
   counted : (p : ℕ) → p < dart_count lists → along (at p).0 (at p).1 ≡ true → (number (at p) < V + V) × (test (number (at p)) ≡ true)
   counted p l t =
-      let d = at p in
-      let has = T.darts p l in
-      let in_range = m.simple.in_range d.0 d.1 has in
-      let in_range' = has.0 in
-      elim (cases_Bool (child d.0 d.1)) [
-        | inl t' ↦
-            let k = number_down d t' in
-            let ne = off_root d.1 (so d.0 d.1 t').0 in
-            (omega (arith, k), ap test k ∙ passes d.1 ne (λ e. omega arith))
-        | inr f ↦
-            let k = number_up d f in
-            let ne = off_root d.0 (so d.1 d.0 (up_of d t f)).0 in
-            let r = m.root_in in
-            (omega (arith, k), ap test k ∙ passes (V + d.0) (λ e. omega arith) (λ e. ne (omega (arith, e))))
-      ]
+      grind (arith, T.darts p l, cases_Bool, child, number_down, test, passes, off_root, so, number_up, up_of)
 
   tree_dart : (d e : Dart) → HasDart lists d.0 d.1 → HasDart lists e.0 e.1 → along d.0 d.1 ≡ true → along e.0 e.1 ≡ true → number d ≡ number e → d ≡ e
   tree_dart d e has has' t t' same =
-      let ld = m.simple.in_range d.0 d.1 has in
-      let le = m.simple.in_range e.0 e.1 has' in
-      elim (cases_Bool (child d.0 d.1)) [
-        | inl down ↦ elim (cases_Bool (child e.0 e.1)) [
-          | inl down' ↦
-              let u : d.1 ≡ e.1 = sym (number_down d down) ∙ (same ∙ number_down e down') in
-              ap₂ (λ x y. (x, y)) (sym (so d.0 d.1 down).1 ∙ (ap parent u ∙ (so e.0 e.1 down').1)) u
-          | inr f' ↦ (let a = number_down d down in let b = number_up e f' in absurd (omega arith))
-        ]
-        | inr f ↦ elim (cases_Bool (child e.0 e.1)) [
-          | inl down' ↦ (let a = number_up d f in let b = number_down e down' in absurd (omega arith))
-          | inr f' ↦
-              let a = number_up d f in
-              let b = number_up e f' in
-              let u : d.0 ≡ e.0 = omega arith in
-              ap₂ (λ x y. (x, y)) u (sym (so d.1 d.0 (up_of d t f)).1 ∙ (ap parent u ∙ (so e.1 e.0 (up_of e t' f')).1))
-        ]
-      ]
+      grind (arith, m.simple.in_range e.0 e.1 has', m.simple.in_range d.0 d.1 has, cases_Bool, child, number_down, ap₂, so, number_up, up_of)
 
   tree_count : count_below (λ p. along (at p).0 (at p).1) (dart_count lists) + 2 ≤ 2 * V
   tree_count =
       let few = count_below_into (λ p. number (at p)) (λ p. along (at p).0 (at p).1) test (dart_count lists) (V + V) counted (λ p q l l' t t' e.
-      let same : at p ≡ at q = tree_dart (at p) (at q) (T.darts p l) (T.darts q l') t t' e in
-      sym (T.back p l) ∙ (ap place same ∙ T.back q l')) in
-      let r = m.root_in in
+      sym (T.back p l) ∙ (ap place (tree_dart (at p) (at q) (T.darts p l) (T.darts q l') t t' e) ∙ T.back q l')) in
       let removed = count_below_but_two test (λ i. true) (V + V) root (V + root) (omega arith) (omega arith) (λ e. omega arith) (λ i l one two. passes i one two) in
-      let all = count_below_all (V + V) in
-      let none : test root ≡ false = ap (λ b. not b && not (eqb root (V + root))) (eq-eqb root root refl) in
       let none' : test (V + root) ≡ false = ap₂ (λ b c. not b && not c) (ne_eqb (V + root) root (λ e. omega arith)) (eq-eqb (V + root) (V + root) refl) in
-      let a : one_if (test root) ≡ 0 = ap one_if none in
       let b : one_if (test (V + root)) ≡ 0 = ap one_if none' in
-      omega arith
+      omega (arith, ap one_if (ap (λ b. not b && not (eqb root (V + root))) (eq-eqb root root refl)), count_below_all (V + V))
 
   nested : IsBalanced along (words root) → AreNested lists along place
   nested balanced d e cd ce one two =

@@ -39,12 +39,7 @@ place_here (e ∷ es) d x c =
 
 pub place_back : (es : List Dart) (p : ℕ) (x : Dart) → AllPairs ◌≢◌ es → p < length es → place_in es (get_or es p x) ≡ p
 place_back es p x distinct l =
-    let q = place_in es (get_or es p x) in
-    let at = place_here es (get_or es p x) x (Contains-get_or es p x l) in
-    elim (cases_lt q p) [
-      | inl less ↦ absurd (distinct q p x less l at.1)
-      | inr more ↦ elim (cases_lt p q) [ inl less ↦ absurd (distinct p q x less at.0 (sym at.1)) | inr same ↦ omega arith ]
-    ]
+    grind (arith, cases_lt, place_here es (get_or es p x) x (Contains-get_or es p x l))
 
 module _ (lists : Lists) (parent depth : ℕ → ℕ) (root : ℕ) (entries : ℕ → List ℕ) (words : ℕ → List Dart) (m : IsRootedMap lists parent depth root entries words) where
   abbrev child : ℕ → ℕ → Bool
@@ -69,11 +64,7 @@ module _ (lists : Lists) (parent depth : ℕ → ℕ) (root : ℕ) (entries : �
   so = child_so lists parent depth root entries words m
 
   around_first : (v u : ℕ) → Contains (around v u) (v, u)
-  around_first v u =
-      elim (cases_Bool (child v u)) [
-        | inl t ↦ subst (λ ds. Contains ds (v, u)) (sym (down v u t)) (here (v, u) (words u ++ (u, v) ∷ []))
-        | inr f ↦ subst (λ ds. Contains ds (v, u)) (sym (past v u f)) (here (v, u) [])
-      ]
+  around_first v u = grind (arith, cases_Bool, child, Contains, down, here, past)
 
   around_inner : (v u : ℕ) (d : Dart) → child v u ≡ true → Contains (words u) d → Contains (around v u) d
   around_inner v u d t c =
@@ -171,11 +162,7 @@ module _ (lists : Lists) (parent depth : ℕ → ℕ) (root : ℕ) (entries : �
 
   -- two neighbours with one entry after them
   one_after : (v u a b : ℕ) → HasDart lists v a → HasDart lists u b → ◌≡◌ {A = Dart} (v, follows lists v a) (u, follows lists u b) → (v ≡ u) × (a ≡ b)
-  one_after v u a b has has' e =
-      let heads : v ≡ u = ap (λ (d : Dart). d.0) e in
-      let back : HasDart lists v b = subst (λ z. HasDart lists z b) (sym heads) has' in
-      let after : follows lists v a ≡ follows lists v b = ap (λ (d : Dart). d.1) e ∙ ap (λ z. follows lists z b) (sym heads) in
-      (heads, entry_after-injective (list_of lists v) a b (m.simple.no_repeat v has.0) has.1 back.1 after)
+  one_after v u a b has has' e = grind (arith, Dart, HasDart, follows, entry_after-injective, list_of)
 
   mixed : (d e : Dart) → HasDart lists d.0 d.1 → HasDart lists e.0 e.1 → along d.0 d.1 ≡ true → along e.0 e.1 ≡ false → step d ≢ step e
   mixed d e has has' t f same =
@@ -185,10 +172,7 @@ module _ (lists : Lists) (parent depth : ℕ → ℕ) (root : ℕ) (entries : �
   step_apart : (d e : Dart) → HasDart lists d.0 d.1 → HasDart lists e.0 e.1 → step d ≡ step e → d ≡ e
   step_apart d e has has' same =
       elim (cases_Bool (along d.0 d.1)) [
-        | inl t ↦ elim (cases_Bool (along e.0 e.1)) [
-          | inl t' ↦ face_step-injective lists d e m.simple has has' (sym (step_along d t) ∙ (same ∙ step_along e t'))
-          | inr f' ↦ absurd (mixed d e has has' t f' same)
-        ]
+        | inl t ↦ grind (arith, cases_Bool, along, face_step-injective, step_along, mixed)
         | inr f ↦ elim (cases_Bool (along e.0 e.1)) [
           | inl t' ↦ absurd (mixed e d has' has t' f (sym same))
           | inr f' ↦ (let at = one_after d.0 e.0 d.1 e.1 has has' (sym (step_off d f) ∙ (same ∙ step_off e f')) in ap₂ (λ x y. (x, y)) at.0 at.1)
@@ -221,10 +205,9 @@ module _ (lists : Lists) (parent depth : ℕ → ℕ) (root : ℕ) (entries : �
   first_once (u ∷ us) rest distinct low is c =
       let not_below : (w : ℕ) → Contains (u ∷ us) w → child root w ≡ true → (Contains (words w) (root, u) ⊎ (◌≡◌ {A = Dart} (w, root) (root, u))) → ⊥ = λ w cw t h. (
       let is = so root w t in
-      let some = is.0 in
       elim h [
         | inl c' ↦ (let a = (word_darts w (low w cw) (root, u) c').1 in let b = m.top in omega arith)
-        | inr e ↦ below_root lists parent depth root entries words m w some (ap (λ (d : Dart). d.0) e)
+        | inr e ↦ below_root lists parent depth root entries words m w is.0 (ap (λ (d : Dart). d.0) e)
       ]
       ) in
       let later : Contains (joined (around root) us) (root, u) → ⊥ = λ c'. (
@@ -288,9 +271,7 @@ module _ (lists : Lists) (parent depth : ℕ → ℕ) (root : ℕ) (entries : �
       let many = count_below_into (λ p. dart_number lists (at p)) (λ i. true) (λ i. true) (length W) n (λ p l t. (dart_number-lt lists (at p).0 (at p).1 (is_dart p l), refl)) (λ p q l l' t t' e.
       let same : at p ≡ at q = dart_number-injective lists (at p) (at q) (is_dart p l) (is_dart q l') e in
       sym (place_back W p (0, 0) distinct_word l) ∙ (ap place same ∙ place_back W q (0, 0) distinct_word l')) in
-      let a = count_below_all n in
-      let b = count_below_all (length W) in
-      omega arith
+      omega (arith, count_below_all (length W), count_below_all n)
 
   pub tour : 0 < dart_count lists → IsTour lists along at place
   tour some =

@@ -135,12 +135,7 @@ module _ (lists : Lists) (parent depth : ℕ → ℕ) (root : ℕ) (entries : �
   Below v u = Goes step (u, follows lists u v) (words u) (u, v)
 
   goes_at : (v u : ℕ) → (child v u ≡ true → Below v u) → child u v ≡ false → Goes step (v, u) (around v u) (v, follows lists v u)
-  goes_at v u below off =
-      elim (cases_Bool (child v u)) [
-        | inl t ↦ subst (λ ds. Goes step (v, u) ds (v, follows lists v u)) (sym (around_down v u t))
-            (refl, subst (λ d. Goes step d (words u ++ (u, v) ∷ []) (v, follows lists v u)) (sym (step_down v u t)) (goes_on step (u, follows lists u v) (words u) ((u, v) ∷ []) (u, v) (v, follows lists v u) (below t) (refl, step_up v u t)))
-        | inr f ↦ subst (λ ds. Goes step (v, u) ds (v, follows lists v u)) (sym (around_past v u f)) (refl, step_past v u f off)
-      ]
+  goes_at v u below off = grind (arith, cases_Bool, child, Goes, step, follows, around_down, step_down, goes_on, step_up, around_past, step_past)
 
   pub joined_goes : (v : ℕ) (us : List ℕ) (a b : ℕ) → Goes (follows lists v) a us b → ((u : ℕ) → Contains us u → (child v u ≡ true → Below v u) × (child u v ≡ false)) → Goes step (v, a) (joined (around v) us) (v, b)
   joined_goes v [] a b goes each = ap (λ x. (v, x)) goes
@@ -166,9 +161,7 @@ module _ (lists : Lists) (parent depth : ℕ → ℕ) (root : ℕ) (entries : �
         (λ t.
             let so = child_so v u t in
             let lu = child_in v u l c in
-            let deep = m.deeper u lu so.0 in
-            let same = ap depth so.1 in
-            subst (λ z. Below z u) so.1 (goes_below most low k u (omega arith) lu (below_root u so.0))),
+            subst (λ z. Below z u) so.1 (goes_below most low k u (omega (arith, ap depth so.1, m.deeper u lu so.0)) lu (below_root u so.0))),
         not_up v u l c,
       )))
 
@@ -177,8 +170,6 @@ module _ (lists : Lists) (parent depth : ℕ → ℕ) (root : ℕ) (entries : �
     λ t.
         let so = child_so v u t in
         let lu = child_in v u l c in
-        let deep = m.deeper u lu so.0 in
-        let same = ap depth so.1 in
-        subst (λ z. Below z u) so.1 (goes_below most low k u (omega arith) lu (below_root u so.0)),
+        subst (λ z. Below z u) so.1 (goes_below most low k u (omega (arith, ap depth so.1, m.deeper u lu so.0)) lu (below_root u so.0)),
     not_up v u l c,
   )

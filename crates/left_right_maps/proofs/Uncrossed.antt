@@ -32,9 +32,7 @@ place_left (x ∷ ds) es d c =
 place_right : (ds es : List Dart) (d : Dart) → ¬ Contains ds d → place_in (ds ++ es) d ≡ length ds + place_in es d
 place_right [] es d off = omega arith
 place_right (x ∷ ds) es d off =
-    let rest = place_right ds es d (λ c. off (there x d ds c)) in
-    let later = place_later x (ds ++ es) d (λ e. off (subst (Contains (x ∷ ds)) e (here x ds))) in
-    omega (arith, rest, later)
+    omega (arith, place_right ds es d (λ c. off (there x d ds c)), place_later x (ds ++ es) d (λ e. off (subst (Contains (x ∷ ds)) e (here x ds))))
 
 module _ (passed : ℕ → ℕ → Bool) where
   -- what does not pass has its twin there
@@ -67,11 +65,9 @@ module _ (passed : ℕ → ℕ → Bool) where
   past_cross v u ds t b old d e cd ce fd fe fd' fe' one two three =
       let behind : (x : Dart) → Contains ((v, u) ∷ ds) x → passed x.0 x.1 ≡ false → Contains ds x = λ x c f. elim (here_or_there (v, u) x ds c) [ inl e ↦ absurd (true≢false (sym t ∙ (ap (λ (z : Dart). passed z.0 z.1) e ∙ f))) | inr c' ↦ c' ] in
       let shift : (x : Dart) → passed x.0 x.1 ≡ false → place_in ((v, u) ∷ ds) x ≡ suc (place_in ds x) = λ x f. place_later (v, u) ds x (λ e. true≢false (sym t ∙ (ap (λ (z : Dart). passed z.0 z.1) e ∙ f))) in
-      let a = shift d fd in
       let b' = shift e fe in
       let c = shift (twin_dart d) fd' in
-      let h = shift (twin_dart e) fe' in
-      old d e (behind d cd fd) (behind e ce fe) fd fe fd' fe' (omega arith) (omega arith) (omega arith)
+      old d e (behind d cd fd) (behind e ce fe) fd fe fd' fe' (omega (arith, shift d fd)) (omega arith) (omega (arith, shift (twin_dart e) fe'))
 
   module _ (v u : ℕ) (ds es : List Dart) (distinct : AllPairs ◌≢◌ ((v, u) ∷ (ds ++ (u, v) ∷ es))) where
     abbrev first : Dart
@@ -108,10 +104,8 @@ module _ (passed : ℕ → ℕ → Bool) where
 
     at_outer : (x : Dart) → Contains es x → place_in whole x ≡ length ds + 2 + place_in es x
     at_outer x c =
-        let tail : AllPairs ◌≢◌ (other ∷ es) = pairs_right ◌≢◌ ds (other ∷ es) (pairs_tail ◌≢◌ first rest distinct) in
-        let a = at_behind x (there other x es c) in
-        let b = place_later other es x (pairs_head ◌≢◌ other es tail x c) in
-        omega arith
+        let b = place_later other es x (pairs_head ◌≢◌ other es (pairs_right ◌≢◌ ds (other ∷ es) (pairs_tail ◌≢◌ first rest distinct)) x c) in
+        omega (arith, at_behind x (there other x es c))
 
     -- where a dart of the word stands
     stands : (x : Dart) → Contains whole x → (first ≡ x) ⊎ (Contains ds x ⊎ ((other ≡ x) ⊎ Contains es x))
@@ -128,58 +122,24 @@ module _ (passed : ℕ → ℕ → Bool) where
     pair_cross b b' old old' d e cd ce fd fe fd' fe' one two three =
         elim (stands d cd) [
           | inl first_d ↦
-              let p : place_in whole (twin_dart d) ≡ suc (length ds) = ap (λ (z : Dart). place_in whole (twin_dart z)) (sym first_d) ∙ at_other in
               elim (stands e ce) [
                 | inl same ↦ (let q = ap (place_in whole) (sym same ∙ first_d) in omega arith)
-                | inr h ↦ elim h [
-                  | inl c ↦ (let q = inner_low (twin_dart e) (closed ds b e c fe) in omega arith)
-                  | inr k ↦ elim k [
-                    | inl same ↦ (let q = ap (place_in whole) (sym same) ∙ at_other in omega arith)
-                    | inr c ↦ (let q = at_outer e c in omega arith)
-                  ]
-                ]
+                | inr h ↦ grind (arith, inner_low, twin_dart, closed, place_in, whole, at_other, at_outer)
               ]
           | inr h ↦ elim h [
             | inl c ↦
-                let twin = closed ds b d c fd in
-                let low = inner_low (twin_dart d) twin in
-                let p = at_inner d c in
-                let p' = at_inner (twin_dart d) twin in
+                let low = inner_low (twin_dart d) (closed ds b d c fd) in
                 elim (stands e ce) [
                   | inl same ↦ (let q = ap (place_in whole) (sym same) ∙ at_first in omega arith)
-                  | inr h' ↦ elim h' [
-                    | inl c' ↦
-                        let twin' = closed ds b e c' fe in
-                        let q = at_inner e c' in
-                        let q' = at_inner (twin_dart e) twin' in
-                        old d e c c' fd fe fd' fe' (omega arith) (omega arith) (omega arith)
-                    | inr k ↦ elim k [
-                      | inl same ↦ (let q = ap (place_in whole) (sym same) ∙ at_other in omega arith)
-                      | inr c' ↦ (let q = at_outer e c' in omega arith)
-                    ]
-                  ]
+                  | inr h' ↦ grind (arith, at_inner, twin_dart, closed, place_in, whole, at_other, at_outer)
                 ]
             | inr k ↦ elim k [
               | inl same ↦
-                  let p : place_in whole (twin_dart d) ≡ 0 = ap (λ (z : Dart). place_in whole (twin_dart z)) (sym same) ∙ at_first in
-                  omega arith
+                  omega (arith, ap (λ (z : Dart). place_in whole (twin_dart z)) (sym same) ∙ at_first)
               | inr c ↦
-                  let twin = closed es b' d c fd in
-                  let p = at_outer d c in
-                  let p' = at_outer (twin_dart d) twin in
                   elim (stands e ce) [
                     | inl same ↦ (let q = ap (place_in whole) (sym same) ∙ at_first in omega arith)
-                    | inr h' ↦ elim h' [
-                      | inl c' ↦ (let q = inner_low e c' in omega arith)
-                      | inr k' ↦ elim k' [
-                        | inl same ↦ (let q = ap (place_in whole) (sym same) ∙ at_other in omega arith)
-                        | inr c' ↦
-                            let twin' = closed es b' e c' fe in
-                            let q = at_outer e c' in
-                            let q' = at_outer (twin_dart e) twin' in
-                            old' d e c c' fd fe fd' fe' (omega arith) (omega arith) (omega arith)
-                      ]
-                    ]
+                    | inr h' ↦ grind (arith, inner_low, place_in, whole, at_other, at_outer, twin_dart, closed)
                   ]
             ]
           ]

@@ -121,49 +121,28 @@ module _ (n : ℕ) (edge : ℕ → ℕ → Bool) (parent depth : ℕ → ℕ) (r
       ]
 
   edges : (v u : ℕ) → HasDart lists v u ↔ (edge v u ≡ true)
-  edges v u = (
-    (λ has. let l : v < n = (let a = has.0 in let b = long in omega arith) in row_so v u l (subst (λ z. Contains z u) (list_is v l) has.1)),
-    (λ t.
-        let l = g.in_range v u t in
-        let b = long in
-        (omega arith, subst (λ z. Contains z u) (sym (list_is v l)) (row_all v u l t))),
-  )
+  edges v u = grind (arith, long, row_so, Contains, list_is, row_all)
 
   below : (v : ℕ) → v < length lists → v < n
   below v l = let b = long in omega arith
 
   simple : IsSimpleMap lists
   simple =
-      let b = long in
-      let r = g.root_in in
       record {
-        some_vertex = omega arith;
-        in_range = λ v u has. (let l = g.in_range u v (g.both_ways v u ((edges v u).0 has)) in omega arith);
+        some_vertex = omega (arith, long);
+        in_range = λ v u has. (let l = g.in_range u v (g.both_ways v u ((edges v u).0 has)) in omega (arith, long));
         no_loop = λ v u has e. true≢false (sym ((edges v u).0 has) ∙ (ap (λ z. edge v z) e ∙ g.no_loop v));
         no_repeat = λ v l. subst (AllPairs ◌≢◌) (sym (list_is v (below v l))) (row_distinct v (below v l));
         both_ways = λ v u has. (edges u v).1 (g.both_ways v u ((edges v u).0 has));
       }
 
   rooted : IsRootedMap lists parent depth root E W
-  rooted =
-      let b = long in
-      let r = g.root_in in
-      record {
-        simple = simple;
-        root_in = omega arith;
-        top = g.top;
-        others = λ v l ne. g.others v (below v l) ne;
-        deeper = λ v l some. g.forest.deeper v some;
-        last = λ v l ne. list_is v (below v l) ∙ row_other v ne;
-        whole = list_is root g.root_in ∙ row_root;
-        through = λ v l. (facts v (below v l)).through;
-      }
+  rooted = grind (arith, simple, long, below, list_is, row_other, row_root, facts)
 
   -- nothing waits at the root
   balanced : IsBalanced (in_tree parent depth) (W root)
   balanced =
-      let p = (facts root g.root_in).is_part in
-      none_waits (O root) refl p
+      none_waits (O root) refl ((facts root g.root_in).is_part)
     where
       none_waits : (ds : List Dart) → O root ≡ ds → IsPart root (W root) (O root) → IsBalanced (in_tree parent depth) (W root)
       none_waits [] is p = subst (IsOpen (passed n edge parent depth root left g sides) (turned n edge parent depth root left g sides) (W root)) is p.opened
@@ -180,11 +159,9 @@ module _ (n : ℕ) (edge : ℕ → ℕ → Bool) (parent depth : ℕ → ℕ) (r
         | inr none ↦
             let no_edge : (v u : ℕ) → edge v u ≢ true = λ v u t. (let l = dart_number-lt lists v u ((edges v u).1 t) in omega arith) in
             let lone : (v : ℕ) → v < n → v ≡ root = λ v l. elim (cases_eq v root) [ inl e ↦ e | inr ne ↦ absurd (no_edge v (parent v) (g.forest.edges v (g.others v l ne))) ] in
-            let r = g.root_in in
             let zero_root = lone 0 (omega arith) in
             let one : n ≡ 1 = elim (cases_lt 1 n) [ inl more ↦ (let a = lone 1 more in absurd (omega arith)) | inr fine ↦ omega arith ] in
-            let empty : row 0 ≡ [] = is_empty (row 0) (λ u c. no_edge 0 u (row_so 0 u (omega arith) c)) in
-            lone_lists one empty
+            lone_lists one (is_empty (row 0) (λ u c. no_edge 0 u (row_so 0 u (omega arith) c)))
       ]
     where
       is_empty : (us : List ℕ) → ((u : ℕ) → ¬ Contains us u) → us ≡ []
@@ -237,8 +214,7 @@ module _ (n : ℕ) (edge : ℕ → ℕ → Bool) (parent depth : ℕ → ℕ) (r
         | inl e ↦
             let parts : (u : ℕ) → Child v u ≡ true → PartOf u (old.words u) (old.opens u) = λ u t. (
             let deep = child_deep n edge parent depth root left g sides v u t in
-            let has = child_edge n edge parent depth root left g sides v u t in
-            good u (g.in_range u v (g.both_ways v u has)) (omega arith)
+            good u (g.in_range u v (g.both_ways v u (child_edge n edge parent depth root left g sides v u t))) (omega arith)
             ) in
             let order = some_order n edge parent depth root left g sides v old.words old.opens parts in
             record {
@@ -279,7 +255,6 @@ module _ (n : ℕ) (edge : ℕ → ℕ → Bool) (parent depth : ℕ → ℕ) (r
   unfolding E W O stage
   facts_at v j l e =
       let k : suc j ≡ N - depth v = omega arith in
-      let a = bound.1 v l in
       subst (λ i. Facts (stage j).0 v ((stage i).0.entries_of v) ((stage i).0.words v) ((stage i).0.opens v)) k (next_facts j (stage j).0 (stage j).1 v l (omega arith))
 
   height : (v : ℕ) → v < n → N - depth v - 1 + 1 ≡ N - depth v
@@ -300,8 +275,7 @@ module _ (n : ℕ) (edge : ℕ → ℕ → Bool) (parent depth : ℕ → ℕ) (r
       elim (cases_Bool (Child v u)) [
         | inl t ↦
             let deep = child_deep n edge parent depth root left g sides v u t in
-            let same : old u ≡ W u = word_same u j (omega arith) in
-            ap (λ z. cond (Child v u) ((v, u) ∷ (z ++ (u, v) ∷ [])) ((v, u) ∷ [])) same
+            ap (λ z. cond (Child v u) ((v, u) ∷ (z ++ (u, v) ∷ [])) ((v, u) ∷ [])) (word_same u j (omega arith))
         | inr f ↦ cond-false {A = List Dart} (Child v u) ((v, u) ∷ (old u ++ (u, v) ∷ [])) ((v, u) ∷ []) f ∙ sym (cond-false {A = List Dart} (Child v u) ((v, u) ∷ (W u ++ (u, v) ∷ [])) ((v, u) ∷ []) f)
       ])
 

@@ -4,7 +4,7 @@ use Rattle.std.specs.Prelude.{neg_ℤ}
 use Rattle.std.proofs.lemmas.Int.{ints}
 use Rattle.std.proofs.Math.ListN.{get_or-append}
 use Rattle.std.proofs.Math.Seq.{get_or-append_seam}
-use Rattle.pg_plane.specs.declared.segments.Point.{Point}
+use Rattle.pg_plane.specs.declared.grid_points.Point.{Point}
 use Rattle.pg_plane.specs.Range.{IsInRange, IsWithin}
 use Rattle.std.proofs.lemmas.List.{length-map, length-drop, drop-drop}
 use Rattle.std.proofs.lemmas.List.Elements.{All-nil}
@@ -288,14 +288,12 @@ module _ (text : List ℕ) (first number : ℕ) (line : List ℕ) (plain : IsPla
 -- an item at the front of what stands behind an offset
 pub drawn-at : (bytes : List ℕ) (at first : ℕ) (fig : Figure) (next after : ℕ) → at ≤ length bytes → IsAnswer (drop at bytes) 0 first (Ok (Drawn fig next after)) → IsAnswer bytes at first (Ok (Drawn fig (at + next) after))
 drawn-at bytes at first fig next after within (kind, n, text, begins, (body, inside, counted)) =
-    let l = length-drop at bytes in
-    let le : at + next ≤ length bytes = omega arith in
+    let le : at + next ≤ length bytes = omega (arith, length-drop at bytes) in
     (kind, n, text, begins, (subst (λ (x : List ℕ). IsBody kind n begins.line text x fig) (drop-drop next at bytes) body, le, counted))
 
 pub note-at : (bytes : List ℕ) (at first next after : ℕ) → at ≤ length bytes → IsAnswer (drop at bytes) 0 first (Ok (Note next after)) → IsAnswer bytes at first (Ok (Note (at + next) after))
 note-at bytes at first next after within (line, is, note, inside, counted) =
-    let l = length-drop at bytes in
-    let le : at + next ≤ length bytes = omega arith in
+    let le : at + next ≤ length bytes = omega (arith, length-drop at bytes) in
     (line, subst (λ (x : List ℕ). IsLine (drop at bytes) line x) (drop-drop next at bytes) is, note, le, counted)
 
 -- what a closed line makes of what stands behind the items, and what is read then
@@ -404,11 +402,10 @@ within-word Other = within-size 0
 in_range-more : (points : List Point) (words : List Word) → ((v : ℕ) → v < length points → IsInRange (point_at points v)) → (v : ℕ) → v < length (points ++ point_of words ∷ []) → IsInRange (point_at (points ++ point_of words ∷ []) v)
 in_range-more points words all v in_list =
     let origin : Point = record { x = pos 0; y = pos 0 } in
-    let long = length-append points (point_of words ∷ []) in
     let here : IsInRange (point_of words) = record { x = within-word (word_at words 2); y = within-word (word_at words 3) } in
     below_more (λ (k : ℕ). IsInRange (point_at (points ++ point_of words ∷ []) k)) (length points)
     (λ k below. rw (get_or-append points (point_of words ∷ []) origin k below) (all k below))
-    (rw (get_or-append_seam points (point_of words) [] origin) here) v (omega arith)
+    (rw (get_or-append_seam points (point_of words) [] origin) here) v (omega (arith, length-append points (point_of words ∷ [])))
 
 one_more : {A B : Type 0} (xs : List A) (ys : List B) (x : A) (y : B) → length xs ≡ length ys → length (xs ++ x ∷ []) ≡ length (ys ++ y ∷ [])
 one_more xs ys x y same = let l = length-append xs (x ∷ []) in let m = length-append ys (y ∷ []) in omega arith
@@ -432,27 +429,6 @@ AreDrawn-more (GridHead job) draft words drawn =
       bars = λ none. absurd (cc);
       rects = λ none. absurd (cc);
     }
-AreDrawn-more BarsHead draft words drawn =
-    let d = drawn.bars refl in
-    record {
-      points = λ job none. absurd (cc);
-      bars = λ same. record {
-        y = one_more draft.y draft.lists (integer_in 2 words) (vertices_from 6 words) d.y;
-        x1 = one_more draft.x1 draft.lists (integer_in 4 words) (vertices_from 6 words) d.x1;
-        x2 = one_more draft.x2 draft.lists (integer_in 5 words) (vertices_from 6 words) d.x2;
-      };
-      rects = λ none. absurd (cc);
-    }
-AreDrawn-more RectsHead draft words drawn =
-    let d = drawn.rects refl in
-    record {
-      points = λ job none. absurd (cc);
-      bars = λ none. absurd (cc);
-      rects = λ same. record {
-        x1 = one_more draft.x1 draft.lists (integer_in 2 words) (vertices_from 7 words) d.x1;
-        x2 = one_more draft.x2 draft.lists (integer_in 3 words) (vertices_from 7 words) d.x2;
-        y1 = one_more draft.y draft.lists (integer_in 5 words) (vertices_from 7 words) d.y1;
-        y2 = one_more draft.y2 draft.lists (integer_in 6 words) (vertices_from 7 words) d.y2;
-      };
-    }
+AreDrawn-more BarsHead draft words drawn = grind (arith, one_more, integer_in, vertices_from)
+AreDrawn-more RectsHead draft words drawn = grind (arith, one_more, integer_in, vertices_from)
 AreDrawn-more (WitnessHead kind graph) draft words drawn = record { points = λ job none. absurd (cc); bars = λ none. absurd (cc); rects = λ none. absurd (cc) }

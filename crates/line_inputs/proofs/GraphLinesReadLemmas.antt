@@ -51,9 +51,8 @@ pub IsAt-too_long : (state : State) (consumed : List ℕ) (graphs : List EdgeGra
 IsAt-too_long state consumed graphs at full byte tail =
     let p = at.progress in
     let front : first_bytes (consumed ++ byte ∷ tail) ≡ consumed = take_at consumed (byte ∷ tail) input_limit full in
-    let long : input_limit < length (consumed ++ byte ∷ tail) = let l = length-append consumed (byte ∷ tail) in omega arith in
     record {
       rest = behind_header state.first state.pending;
       has = subst (λ (x : List ℕ). HasLines (lines_in x) graphs (behind_header state.first state.pending)) (sym front) (open-text state.first consumed graphs state.pending p.stands);
-      ends = (long, behind-plain state.first state.pending p.plain);
+      ends = (let l = length-append consumed (byte ∷ tail) in omega arith, behind-plain state.first state.pending p.plain);
     }

@@ -106,13 +106,7 @@ record IsRead (total : ℕ) (text : List ℕ) (k : ℕ) : Type 0 where
   ends : EndsAs total rest (length graphs + k) ending
 
 is-too-many : (f : G6Fault) → IsTooMany f ⊎ (¬ IsTooMany f)
-is-too-many (BadByte i) = inr (λ n. n)
-is-too-many LongCount = inr (λ n. n)
-is-too-many (TooMany n) = inl tt
-is-too-many ShortLine = inr (λ n. n)
-is-too-many (ExtraByte i) = inr (λ n. n)
-is-too-many (Padding i) = inr (λ n. n)
-is-too-many NoMemory = inr (λ n. n)
+is-too-many x0 = grind (arith, BadByte, LongCount, TooMany, ShortLine, ExtraByte, Padding, NoMemory)
 
 plain-read : (total : ℕ) (text : List ℕ) (k : ℕ) → IsPlain text → IsRead total text k
 plain-read total text k plain = elim (cases_lt input_limit total) [

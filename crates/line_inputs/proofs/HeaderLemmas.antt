@@ -69,23 +69,10 @@ header-before c more not = by_test (nat_eq 10 c) refl
     by_test false e = rw e refl
 
 header-none : (bytes : List ℕ) → Begins bytes graph_header ≡ false → header_length bytes ≡ 0
-header-none bytes e = by_long (Begins bytes (graph_header ++ 10 ∷ [])) refl
-  where
-    by_long : (b : Bool) → Begins bytes (graph_header ++ 10 ∷ []) ≡ b → header_length bytes ≡ 0
-    by_long true long =
-        let p = begins-parts bytes (graph_header ++ 10 ∷ []) long in
-        absurd (true≢false (sym (parts-begin bytes graph_header (10 ∷ p.0) (p.1 ∙ append_assoc graph_header (10 ∷ []) p.0)) ∙ e))
-    by_long false long = rw long (rw e refl)
+header-none bytes e = grind (arith, Begins, graph_header, header_length, begins-parts, true≢false, parts-begin, append_assoc)
 
 none-closed : (line more : List ℕ) → Begins line graph_header ≡ false → Begins (line ++ 10 ∷ more) graph_header ≡ false
-none-closed line more e = by (Begins (line ++ 10 ∷ more) graph_header) refl
-  where
-    by : (b : Bool) → Begins (line ++ 10 ∷ more) graph_header ≡ b → Begins (line ++ 10 ∷ more) graph_header ≡ false
-    by true t =
-        let p = begins-parts (line ++ 10 ∷ more) graph_header t in
-        let r = separated graph_header line p.0 more header-plain p.1 in
-        absurd (true≢false (sym (parts-begin line graph_header r.0 r.1) ∙ e))
-    by false f = f
+none-closed line more e = grind (arith, Begins, graph_header, begins-parts, separated, header-plain, true≢false, parts-begin)
 
 -- a line that is not the header alone keeps its header when it is closed
 pub header-of-line : (line more : List ℕ) → IsPlain line → line ≢ graph_header → header_length (line ++ 10 ∷ more) ≡ header_length line
@@ -98,12 +85,7 @@ header-of-line line more plain not = by (front_of line plain)
 
 -- it is within the bytes
 pub header-within : (line : List ℕ) → IsPlain line → header_length line ≤ length line
-header-within line plain = by (front_of line plain)
-  where
-    by : Front line → header_length line ≤ length line
-    by (alone e) = rw e (omega arith)
-    by (before c rest other e) = rw e (rw (header-before c rest other) (omega arith))
-    by (none e) = rw (header-none line e) (omega arith)
+header-within line plain = grind (arith, front_of, header_length, length, other, header-before, header-none)
 
 -- where a line is closed the header is settled
 pub settled-line : (line : List ℕ) → IsPlain line → line ≢ graph_header → IsSettled (line ++ 10 ∷ [])

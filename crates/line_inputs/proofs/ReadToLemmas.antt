@@ -41,14 +41,9 @@ module _ (bytes line : List ℕ) (at first next number behind : ℕ) (begun : Op
 
   placed : at + length closed_text ≡ behind
   placed =
-      let a = length-append read.text line in
-      let b = length-append (read.text ++ line) (10 ∷ []) in
-      let l = length-drop next bytes in
-      let m = length-drop behind bytes in
       let e = ap length is.parts in
       let n = length-append line (10 ∷ drop behind bytes) in
-      let p = read.placed in
-      omega arith
+      omega (arith, length-drop behind bytes, length-drop next bytes, length-append (read.text ++ line) (10 ∷ []), length-append read.text line)
 
   pub line-open : IsOpen begun first number (read.text ++ line) line
   line-open = open-more begun first number read.text (read.text ++ line) [] line refl read.stands
@@ -74,17 +69,12 @@ module _ (bytes line : List ℕ) (at first next number behind : ℕ) (begun : Op
 -- no line is closed any more
 pub answers-end : (bytes : List ℕ) (at first next number : ℕ) (begun : Option Begun) → at < length bytes → IsReadTo bytes at first next number begun → IsPlain (drop next bytes) → IsAnswer bytes at first (Err (end_fault begun first))
 answers-end bytes at first next number None some read plain =
-    let e : drop at bytes ≡ drop next bytes = read.parts ∙ ap (λ (x : List ℕ). x ++ drop next bytes) read.stands.1 in
     let l = length-drop at bytes in
-    open-bad bytes at first (subst IsPlain (sym e) plain) (omega arith)
+    open-bad bytes at first (subst IsPlain (sym (read.parts ∙ ap (λ (x : List ℕ). x ++ drop next bytes) read.stands.1)) plain) (omega arith)
 answers-end bytes at first next number (Some begun) some read plain =
     begun-ends bytes at first number (drop next bytes) begun plain (open-more (Some begun) first number read.text (drop at bytes) [] (drop next bytes) read.parts read.stands)
 
 -- a line that is closed has a byte at least
 pub behind-more : (bytes line : List ℕ) (next behind : ℕ) → next ≤ length bytes → behind ≤ length bytes → IsLine (drop next bytes) line (drop behind bytes) → length bytes - behind < length bytes - next
 behind-more bytes line next behind within end is =
-    let l = length-drop next bytes in
-    let m = length-drop behind bytes in
-    let e = ap length is.parts in
-    let n = length-append line (10 ∷ drop behind bytes) in
-    omega arith
+    omega (arith, length-append line (10 ∷ drop behind bytes), ap length is.parts, length-drop behind bytes, length-drop next bytes)

@@ -61,14 +61,7 @@ head-said (Witness kind) line none = let said = graph-said (part_at line 4) none
 
 -- and how many lines it announces
 few-due : (kind : Kind) (line : List ℕ) → TailInRange (Some kind) line → (1 ≤ rows_due kind (words_of line)) × (rows_due kind (words_of line) ≤ 4095)
-few-due (Grid job) line range = range
-few-due Bars line range = range
-few-due Rects line range = range
-few-due (Witness kind) line none = by_kind kind
-  where
-    by_kind : (kind : Subdivided) → (1 ≤ rows_due (Witness kind) (words_of line)) × (rows_due (Witness kind) (words_of line) ≤ 4095)
-    by_kind K5 = (omega arith, omega arith)
-    by_kind K33 = (omega arith, omega arith)
+few-due x0 line x2 = grind (arith, Grid, Bars, Rects, Witness, Subdivided, rows_due, words_of, K5, K33)
 
 -- where all lines of vertices, or of branches and paths, have come
 all-drawn : (head : Head) (first : ℕ) (draft : Draft) → 0 < length draft.lists → length draft.lists < 4096 → AreDrawn head draft → (after : After) × IsGrown head (length draft.lists) first draft after
@@ -127,7 +120,6 @@ module _ (number : ℕ) (line : List ℕ) (plain : IsPlain line) where
         good is =
             let draft : Draft = with_row (head_kind rows.held.head) rows.held.draft (words_of line) in
             let long = lists-with_row (head_kind rows.held.head) rows.held.draft (words_of line) in
-            let due = rows.due in
             let within : length draft.lists ≤ rows.held.n = omega arith in
             let grown = some-grown rows.held.head rows.held.n first draft (omega arith) rows.few within (AreDrawn-more rows.held.head rows.held.draft (words_of line) rows.drawn) in
             (grown.0, makes-grown text first number line plain rows.held.head rows.held.n rows.held.draft b is draft refl within first refl grown.0 grown.1)

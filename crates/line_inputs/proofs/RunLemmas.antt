@@ -54,10 +54,6 @@ module _ (consumed : List ℕ) (figures : List Figure) (number first : ℕ) (row
   pub run-line : (n : ℕ) → n < length part → ((k : ℕ) → k < n → get_or part k 0 ≢ 10) → get_or part n 0 ≡ 10 → length consumed + length part ≤ input_limit → IsRow (head_kind rows.held.head) (length rows.held.draft.lists + 1) (words_of (take n part)) × RowInRange (head_kind rows.held.head) (words_of (take n part)) × (rows'.held.draft ≡ with_row (head_kind rows.held.head) rows.held.draft (words_of (take n part))) → TakesRun consumed figures number part [] (n + 1) 1 (begun_by first rows')
   run-line n within none ten few good =
       let line : List ℕ = take n part in
-      let kind = head_kind rows.held.head in
-      let long = ap (λ (d : Draft). length d.lists) good.2 ∙ lists-with_row kind rows.held.draft (words_of line) in
-      let due = rows'.due in
-      let was = rows.due in
       closes-line consumed figures number [] line (Some (begun_by first rows)) (Goes (Some (begun_by first rows'))) part n within none ten few refl p
       (λ text start plain open_line. makes-grown text start number line plain rows.held.head rows.held.n rows.held.draft open_line.1 (good.0, good.1) rows'.held.draft good.2 (omega arith) first open_line.0 (Goes (Some (begun_by first rows'))) (refl, (omega arith, same_head, same_n, refl)))
 

@@ -69,21 +69,7 @@ name_of k = get_or (name.Figure ∷ name.Shift ∷ name.Schnyder ∷ name.Bars �
 
 name-again : (n : Name) → name_of (number_of n) ≡ n
 unfolding name_of number_of
-name-again name.Figure = refl
-name-again name.Shift = refl
-name-again name.Schnyder = refl
-name-again name.Bars = refl
-name-again name.At = refl
-name-again name.Y = refl
-name-again name.X = refl
-name-again name.Columns = refl
-name-again name.Witness = refl
-name-again name.K5 = refl
-name-again name.K33 = refl
-name-again name.Branch = refl
-name-again name.Path = refl
-name-again name.Convex = refl
-name-again name.Rect = refl
+name-again x0 = grind (arith, Bars, Witness)
 
 told-name : (n m : Name) → Told (n ≡ m)
 told-name n m = told-by (λ e. sym (name-again n) ∙ ap name_of e ∙ name-again m) (λ e. ap number_of e) (told-equal (number_of n) (number_of m))

@@ -80,8 +80,7 @@ square_even a zero mirror diagonal = refl
 square_even a (suc n) mirror diagonal =
     let inner = square_even a n (λ v u h l. mirror v u (omega (arith, h)) (omega (arith, l))) (λ v h. diagonal v (omega (arith, h))) in
     let column : sum_below (λ v. a v n) n ≡ sum_below (λ v. a n v) n = sum_below-same (λ v. a v n) (λ v. a n v) n (λ v h. mirror v n (omega (arith, h)) (omega arith)) in
-    let split = sum_below-add (λ v. sum_below (λ u. a v u) n) (λ v. a v n) n in
-    omega (arith, inner, column, split, diagonal n (omega arith))
+    omega (arith, inner, column, sum_below-add (λ v. sum_below (λ u. a v u) n) (λ v. a v n) n, diagonal n (omega arith))
 
 module _ (lists : Lists) (simple : IsSimpleMap lists) where
   count_below : (v u : ℕ) → v < length lists → u < length lists → count_of u (list_of lists v) ≤ count_of v (list_of lists u)
@@ -111,8 +110,7 @@ module _ (lists : Lists) (simple : IsSimpleMap lists) where
       let a : ℕ → ℕ → ℕ = λ v u. count_of u (list_of lists v) in
       let rows = sum_below-same (λ v. length (list_of lists v)) (λ v. sum_below (a v) n) n
       (λ v h. sym (sum_below-count_of (list_of lists v) n (λ u c. simple.in_range v u (h, c)))) in
-      let even = square_even a n count_mirrored count_alone in
-      (sum_below (λ v. sum_below (λ u. a v u) v) n, dart_count-sum_below lists ∙ rows ∙ even)
+      (sum_below (λ v. sum_below (λ u. a v u) v) n, dart_count-sum_below lists ∙ rows ∙ (square_even a n count_mirrored count_alone))
 
   pub dart_count-edge_count : dart_count lists ≡ 2 * edge_count lists
   dart_count-edge_count = let e = dart_count-even in omega (arith, e.1)
@@ -120,8 +118,7 @@ module _ (lists : Lists) (simple : IsSimpleMap lists) where
 -- fewer than 4096 vertices have fewer than 2 ^ 24 darts
 pub few_darts : (lists : Lists) → length lists < 4096 → ((v u : ℕ) → HasDart lists v u → u < length lists) → ((v : ℕ) → v < length lists → AllPairs ◌≢◌ (list_of lists v)) → dart_count lists < 16777216
 few_darts lists few within distinct =
-    let square : length lists * length lists ≤ 4095 * 4095 = mul-le (length lists) (length lists) 4095 4095 (omega arith) (omega arith) in
-    omega (arith, dart_count-le lists within distinct, square)
+    omega (arith, dart_count-le lists within distinct, mul-le (length lists) (length lists) 4095 4095 (omega arith) (omega arith))
 
 pub few_darts-simple : (lists : Lists) → length lists < 4096 → IsSimpleMap lists → dart_count lists < 16777216
 few_darts-simple lists few simple = few_darts lists few simple.in_range simple.no_repeat

@@ -180,12 +180,7 @@ two_places n i j h there back = grind (arith, nat_tests)
 -- the entry after one that stands in the list
 pub entry_after-place : (x : ℕ) (us : List ℕ) (d : ℕ) → place_of x us < length us → entry_after x us ≡ get_or us (place_after (length us) (place_of x us)) d
 unfolding entry_after
-entry_after-place x us d h =
-    let p = place_of x us in
-    elim (cases_lt (p + 1) (length us)) [
-      | inl l ↦ get_or_default us (p + 1) (get_or us 0 x) d l ∙ ap (λ n. get_or us n d) (sym (cond-true (ltb (p + 1) (length us)) (p + 1) 0 (lt-ltb (p + 1) (length us) l)))
-      | inr l ↦ get_or_past us (p + 1) (get_or us 0 x) l ∙ get_or_default us 0 x d (omega arith) ∙ ap (λ n. get_or us n d) (sym (cond-false (ltb (p + 1) (length us)) (p + 1) 0 (le-ltb (p + 1) (length us) l)))
-    ]
+entry_after-place x us d h = grind (arith, place_of, cases_lt, length, get_or_default, get_or, cond-true, ltb, lt-ltb, get_or_past, cond-false, le-ltb)
 
 pub Contains-entry_after : (x : ℕ) (us : List ℕ) → Contains us x → Contains us (entry_after x us)
 Contains-entry_after x us h =
@@ -209,11 +204,10 @@ entry_after-injective us x y distinct h l e =
 -- two entries that follow each other are all
 pub two_entries : (us : List ℕ) (x y : ℕ) → AllPairs ◌≢◌ us → Contains us x → entry_after x us ≡ y → entry_after y us ≡ x → length us ≤ 2
 two_entries us x y distinct has there back =
-    let in_x = place_of-lt-length x us has in
     let first : place_of y us ≡ place_after (length us) (place_of x us) = ap (λ z. place_of z us) (sym there) ∙ place_of-entry_after x us distinct has in
     let second : place_of x us ≡ place_after (length us) (place_of y us) =
     ap (λ z. place_of z us) (sym back) ∙ place_of-entry_after y us distinct (subst (λ z. Contains us z) there (Contains-entry_after x us has)) in
-    two_places (length us) (place_of x us) (place_of y us) in_x first second
+    two_places (length us) (place_of x us) (place_of y us) (place_of-lt-length x us has) first second
 
 -- darts and their numbers
 
@@ -243,8 +237,7 @@ pub record IsDartNumber (lists : Lists) (i : ℕ) (d : Dart) : Type 0 where
 
 dart_number_at : (lists : Lists) (i v k : ℕ) (d : Dart) → AllPairs ◌≢◌ (list_of lists v) → IsPlaceOf lists i v k → IsDartNumber lists i (get_or (darts lists) i d)
 dart_number_at lists i v k d distinct p =
-    let e = ap (λ n. get_or (darts lists) n d) p.number ∙ dart_at_place lists v k d 0 p.list_in p.entry_in in
-    rw e record {
+    rw (ap (λ n. get_or (darts lists) n d) p.number ∙ dart_at_place lists v k d 0 p.list_in p.entry_in) record {
       is_dart = HasDart-at lists v k 0 p.list_in p.entry_in;
       number = ap (λ n. darts_before lists v + n) (place_of-get_or (list_of lists v) k 0 distinct p.entry_in) ∙ sym p.number;
     }
@@ -270,8 +263,7 @@ face_step-injective lists d e simple h l same =
     let heads : d.1 ≡ e.1 = ap (λ x. x.0) same in
     let twin : HasDart lists d.1 e.0 = rw heads (simple.both_ways e.0 e.1 l) in
     let after : follows lists d.1 d.0 ≡ follows lists d.1 e.0 = ap (λ x. x.1) same ∙ ap (λ x. follows lists x e.0) (sym heads) in
-    let tails : d.0 ≡ e.0 = entry_after-injective (list_of lists d.1) d.0 e.0 (simple.no_repeat d.1 back.0) back.1 twin.1 after in
-    ap₂ (λ x y. (x, y)) tails heads
+    ap₂ (λ x y. (x, y)) (entry_after-injective (list_of lists d.1) d.0 e.0 (simple.no_repeat d.1 back.0) back.1 twin.1 after) heads
 
 -- the images of the face step
 
@@ -283,9 +275,8 @@ get_or-face_images lists i x d h = get_or-map {Y = ℕ} (λ d. dart_number lists
 
 face_images-lt : (lists : Lists) (i x : ℕ) → IsSimpleMap lists → i < dart_count lists → get_or (face_images lists) i x < dart_count lists
 face_images-lt lists i x simple h =
-    let d : Dart = get_or (darts lists) i (0, 0) in
     let p = IsDartNumber-darts lists i (0, 0) simple.no_repeat h in
-    rw (get_or-face_images lists i x (0, 0) h) (dart_number-lt lists _ _ (HasDart-face_step lists d simple p.is_dart))
+    rw (get_or-face_images lists i x (0, 0) h) (dart_number-lt lists _ _ (HasDart-face_step lists (get_or (darts lists) i (0, 0)) simple p.is_dart))
 
 face_images-injective : (lists : Lists) (i j x : ℕ) → IsSimpleMap lists → i < dart_count lists → j < dart_count lists → get_or (face_images lists) i x ≡ get_or (face_images lists) j x → i ≡ j
 face_images-injective lists i j x simple h l same =
@@ -299,23 +290,15 @@ face_images-injective lists i j x simple h l same =
 
 -- the face step of a simple map is a bijection of the numbers of its darts
 pub IsPermutationOfBelow-face_images : (lists : Lists) → IsSimpleMap lists → IsPermutationOfBelow (face_images lists)
-IsPermutationOfBelow-face_images lists simple =
-    let n = length-face_images lists in
-    record {
-      within = λ i x h. omega (arith, n, face_images-lt lists i x simple (omega (arith, n, h)));
-      distinct = λ i j x below h same.
-          let e = face_images-injective lists i j x simple (omega (arith, n, h, below)) (omega (arith, n, h)) same in
-          omega (arith, e, below);
-    }
+IsPermutationOfBelow-face_images lists simple = grind (arith, length-face_images, face_images-lt, face_images-injective)
 
 -- the first place of a number, from what stands before it
 
 pub place_of-is : (x : ℕ) (us : List ℕ) (k : ℕ) → k < length us → get_or us k 0 ≡ x → ((i : ℕ) → i < k → get_or us i 0 ≢ x) → place_of x us ≡ k
 place_of-is x us k l e before =
-    let le : place_of x us ≤ k = place_of-le x us k 0 e in
     elim (cases_lt (place_of x us) k) [
       | inl less ↦ absurd (before (place_of x us) less (get_or-place_of x us 0 (omega arith)))
-      | inr more ↦ omega arith
+      | inr more ↦ omega (arith, place_of-le x us k 0 e)
     ]
 
 pub not-Contains-from : (x : ℕ) (us : List ℕ) → ((i : ℕ) → i < length us → get_or us i 0 ≢ x) → ¬ Contains us x

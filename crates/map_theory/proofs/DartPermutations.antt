@@ -129,14 +129,11 @@ module _ (lists : Lists) (simple : IsSimpleMap lists) where
   pub rotation_at : (v n : ℕ) → v < length lists → suc n < length (list_of lists v) → rotation lists (darts_before lists v + n) ≡ darts_before lists v + suc n
   rotation_at v n l m =
       let us = list_of lists v in
-      let x = get_or us n 0 in
       let e = ap (λ d. dart_number lists (turned_dart lists d)) (dart_at v n l (omega arith)) in
       let distinct = simple.no_repeat v l in
-      let has = HasDart-at lists v n 0 l (omega arith) in
-      let place = place_of-entry_after x us distinct has.1 in
-      let here = place_of-get_or us n 0 distinct (omega arith) in
+      let place = place_of-entry_after (get_or us n 0) us distinct (HasDart-at lists v n 0 l (omega arith)).1 in
       let next : place_after (length us) n ≡ suc n = cond-true (ltb (n + 1) (length us)) (n + 1) 0 (lt-ltb (n + 1) (length us) (omega arith)) ∙ omega arith in
-      e ∙ ap (λ y. darts_before lists v + y) (place ∙ (ap (place_after (length us)) here ∙ next))
+      e ∙ ap (λ y. darts_before lists v + y) (place ∙ (ap (place_after (length us)) (place_of-get_or us n 0 distinct (omega arith)) ∙ next))
 
   -- the darts of a vertex lie in one orbit of the rotation, with its first
   pub vertex_together : (v n : ℕ) → v < length lists → n < length (list_of lists v) → Together (orbits_of (rotation lists) (dart_count lists)) (darts_before lists v) (darts_before lists v + n)
@@ -152,12 +149,7 @@ module _ (lists : Lists) (simple : IsSimpleMap lists) where
 
   -- a dart lies in one orbit with the first dart of its vertex
   pub first_together : (i : ℕ) → i < dart_count lists → Together (orbits_of (rotation lists) (dart_count lists)) i (darts_before lists (tail_of lists i))
-  first_together i l =
-      let d = dart_of lists i in
-      let p = dart_of-number i l in
-      let n = place_of d.1 (list_of lists d.0) in
-      let m = place_of-lt-length d.1 (list_of lists d.0) p.is_dart.1 in
-      ap (label (orbits_of (rotation lists) (dart_count lists))) (sym p.number) ∙ sym (vertex_together d.0 n p.is_dart.0 m)
+  first_together i l = grind (arith, dart_of, dart_of-number, place_of, list_of, place_of-lt-length, label, orbits_of, rotation, dart_count, vertex_together)
 
   -- the first dart of a vertex that has an edge
   pub first_in : (v : ℕ) → has_edge lists v ≡ true → darts_before lists v < dart_count lists
@@ -171,8 +163,7 @@ module _ (lists : Lists) (simple : IsSimpleMap lists) where
   -- the vertex of a dart has an edge
   pub has_edge-tail : (i : ℕ) → i < dart_count lists → has_edge lists (tail_of lists i) ≡ true
   has_edge-tail i l =
-      let p = (dart_of-number i l).is_dart.1 in
-      has_entry (list_of lists (tail_of lists i)) (omega (arith, p.1))
+      has_entry (list_of lists (tail_of lists i)) (omega (arith, ((dart_of-number i l).is_dart.1).1))
 
   -- two darts lie in one orbit of the rotation exactly where they leave one vertex
   pub same_vertex : (i j : ℕ) → i < dart_count lists → j < dart_count lists → Together (orbits_of (rotation lists) (dart_count lists)) i j → tail_of lists i ≡ tail_of lists j
@@ -234,8 +225,7 @@ module _ (lists : Lists) (simple : IsSimpleMap lists) where
   components-marked mark h =
       classes-marked mark (length lists) (darts lists) darts_below (λ i d l.
       let m : i < dart_count lists = omega (arith, length-darts lists) in
-      let e : get_or (darts lists) i d ≡ dart_of lists i = get_or_default (darts lists) i d (0, 0) l in
-      rw e (h i m ∙ ap (λ d. mark d.0) (dart_of-twin i m)))
+      rw (get_or_default (darts lists) i d (0, 0) l) (h i m ∙ ap (λ d. mark d.0) (dart_of-twin i m)))
 
   -- the classes of the rotation and the twin together
   abbrev pub dart_classes : List ℕ
@@ -282,10 +272,9 @@ module _ (lists : Lists) (simple : IsSimpleMap lists) where
   pub component_count-classes : component_count lists ≡ class_count dart_classes + isolated_count lists
   unfolding component_count
   component_count-classes =
-      let k = dart_count lists in
       let n = length lists in
       let w = IsLabels-components in
-      let jn = length-joint (rotation lists) (twin lists) k IsPermuting-rotation.within IsPairing-twin.within in
+      let jn = length-joint (rotation lists) (twin lists) (dart_count lists) IsPermuting-rotation.within IsPairing-twin.within in
       let cn = length-classes n (darts lists) in
       let edges = components-marked (has_edge lists) (λ i l. has_edge-tail i l ∙ sym (has_edge-tail (twin lists i) (IsPairing-twin.within i l))) in
       let transfer : IsTransfer dart_classes components (tail_of lists) (darts_before lists) (has_edge lists) = record {
@@ -325,7 +314,6 @@ module _ (lists : Lists) (simple : IsSimpleMap lists) where
   pub euler_bound_map : (d : ℕ) × (vertex_count lists + face_count lists + 2 * d ≡ 2 * component_count lists + edge_count lists)
   euler_bound_map =
       let e = two_m in
-      let w : IsPermuting (rotation lists) (edge_count lists + edge_count lists) = subst (IsPermuting (rotation lists)) e IsPermuting-rotation in
       let v : IsPairing (twin lists) (edge_count lists + edge_count lists) = subst (IsPairing (twin lists)) e IsPairing-twin in
-      let found = euler_bound (rotation lists) (twin lists) (edge_count lists) w v in
+      let found = euler_bound (rotation lists) (twin lists) (edge_count lists) (subst (IsPermuting (rotation lists)) e IsPermuting-rotation) v in
       (found.0, map_balances found.0 (subst (λ k. Balances (rotation lists) (twin lists) k (edge_count lists) found.0) (sym e) found.1))

@@ -22,23 +22,11 @@ pub record AreEntryMore (short grown : Lists) (w x : ℕ) : Type 0 where
 
 -- the list of w is written with the entry more
 pub AreEntryMore-with : (lists : Lists) (w x : ℕ) (us : List ℕ) → w < length lists → IsEntryMore (list_of lists w) us x → AreEntryMore lists (set lists w us) w x
-AreEntryMore-with lists w x us l more =
-    let at : list_of (set lists w us) w ≡ us = get_or-set_same lists w us [] l in
-    record {
-      vertex = omega (arith, l, length-set lists w us);
-      count = sym (length-set lists w us);
-      here = subst (λ vs. IsEntryMore (list_of lists w) vs x) (sym at) more;
-      there = λ v other. sym (get_or-set_other lists w v us [] other);
-    }
+AreEntryMore-with lists w x us l more = grind (arith, length-set, list_of, get_or-set_same, get_or-set_other)
 
 -- or without it
 pub AreEntryMore-without : (lists : Lists) (w x : ℕ) → AllPairs ◌≢◌ (list_of lists w) → HasDart lists w x → AreEntryMore (set lists w (without_entry (list_of lists w) x)) lists w x
-AreEntryMore-without lists w x distinct has = record {
-  vertex = has.0;
-  count = length-set lists w (without_entry (list_of lists w) x);
-  here = record { distinct = distinct; has = has.1; rest = get_or-set_same lists w (without_entry (list_of lists w) x) [] has.0 };
-  there = λ v other. get_or-set_other lists w v (without_entry (list_of lists w) x) [] other;
-}
+AreEntryMore-without lists w x distinct has = grind (arith, length-set, without_entry, list_of, get_or-set_same, get_or-set_other)
 
 module _ (short grown : Lists) (w x : ℕ) (m : AreEntryMore short grown w x) where
   rest_is : (v : ℕ) → v ≡ w → list_of short v ≡ without_entry (list_of grown w) x
@@ -47,12 +35,11 @@ module _ (short grown : Lists) (w x : ℕ) (m : AreEntryMore short grown w x) wh
   -- an old dart is a dart, and not the new one
   pub has_up : (v u : ℕ) → HasDart short v u → HasDart grown v u × (v ≡ w → u ≢ x)
   has_up v u has =
-      let n = m.count in
       elim (cases_eq v w) [
         | inl e ↦
             let o = without-old (list_of grown w) x m.here.distinct m.here.has u (subst (λ (us : List ℕ). Contains us u) (rest_is v e) has.1) in
-            ((omega (arith, n, has.0), subst (λ y. Contains (list_of grown y) u) (sym e) o.0), λ _. o.1)
-        | inr other ↦ ((omega (arith, n, has.0), subst (λ (us : List ℕ). Contains us u) (m.there v other) has.1), λ e. absurd (other e))
+            ((omega (arith, m.count, has.0), subst (λ y. Contains (list_of grown y) u) (sym e) o.0), λ _. o.1)
+        | inr other ↦ ((omega (arith, m.count, has.0), subst (λ (us : List ℕ). Contains us u) (m.there v other) has.1), λ e. absurd (other e))
       ]
 
   -- and every dart but the new one is an old one

@@ -35,9 +35,7 @@ module _ (part whole : List ℕ) (f g : ℕ → ℕ) (hit : ℕ → Bool) (w : I
       let to : ℕ → ℕ = λ y. label part (g y) in
       count_below_into to own_hit (λ i. eqb (label part i) i) (length whole) (length part)
       (λ y l e.
-      let both = and_parts (hit y) (eqb (label whole y) y) e in
-      let in_g = t.from y l both.0 in
-      (label-lt part w (g y) in_g, eq-eqb (label part (to y)) (to y) (w.own (g y))))
+      (label-lt part w (g y) (t.from y l (and_parts (hit y) (eqb (label whole y) y) e).0), eq-eqb (label part (to y)) (to y) (w.own (g y))))
       (λ y z l m e e' s.
       let one = and_parts (hit y) (eqb (label whole y) y) e in
       let other = and_parts (hit z) (eqb (label whole z) z) e' in

@@ -90,17 +90,7 @@ module _ (lists : Lists) (simple : IsSimpleMap lists) (u v : ℕ) (edge : HasDar
 
   -- two darts less, one edge less
   pub dart_count-without : dart_count lists ≡ dart_count (without_edge lists u v) + 2
-  dart_count-without =
-      let one = without_entry (list_of lists u) v in
-      let other = without_entry (list_of lists v) u in
-      omega (
-        arith,
-        sum_by-set length lists u one [] edge.0,
-        sum_by-set length half v other [] back_half.0,
-        ap length half_list,
-        length-without (list_of lists u) v (simple.no_repeat u edge.0) edge.1,
-        length-without (list_of lists v) u (simple.no_repeat v back.0) back.1,
-      )
+  dart_count-without = grind (arith, sum_by-set, length, without_entry, list_of, half, back_half, half_list, length-without, back)
 
   pub edge_count-without : edge_count lists ≡ edge_count (without_edge lists u v) + 1
   edge_count-without =

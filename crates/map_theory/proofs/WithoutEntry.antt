@@ -50,24 +50,14 @@ module _ (us : List ℕ) (x : ℕ) (distinct : AllPairs ◌≢◌ us) (has : Con
   length-without = length-remove us (place_of x us) in_x
 
   without-at : (j : ℕ) → j < length (without_entry us x) → get_or (without_entry us x) j 0 ≡ get_or us (old_place (place_of x us) j) 0
-  without-at j l =
-      elim (cases_lt j (place_of x us)) [
-        | inl s ↦
-            let same : old_place (place_of x us) j ≡ j = grind (arith, nat_tests) in
-            get_or-remove_below us (place_of x us) 0 j s in_x ∙ ap (λ q. get_or us q 0) (sym same)
-        | inr s ↦
-            let same : old_place (place_of x us) j ≡ j + 1 = grind (arith, nat_tests) in
-            get_or-remove_above us (place_of x us) 0 j s in_x ∙ ap (λ q. get_or us q 0) (sym same)
-      ]
+  without-at j l = grind (arith, cases_lt, place_of, old_place, nat_tests, get_or-remove_below, in_x, get_or, get_or-remove_above)
 
   -- what is left stood in the list, and is not x
   pub without-old : (z : ℕ) → Contains (without_entry us x) z → Contains us z × (z ≢ x)
   without-old z h =
-      let n = length-without in
-      let l = h.1 in
       let q = old_place (place_of x us) h.0 in
-      let in_q : q < length us = old_place-lt (length us) (place_of x us) h.0 in_x (omega arith) in
-      let at : get_or us q 0 ≡ z = sym (without-at h.0 l) ∙ (get_or_default (without_entry us x) h.0 0 z l ∙ h.2) in (
+      let in_q : q < length us = old_place-lt (length us) (place_of x us) h.0 in_x (omega (arith, length-without)) in
+      let at : get_or us q 0 ≡ z = sym (without-at h.0 h.1) ∙ (get_or_default (without_entry us x) h.0 0 z h.1 ∙ h.2) in (
         (q, in_q, get_or_default us q z 0 in_q ∙ at),
         λ e. old_place-other (place_of x us) h.0 (sym (place_of-get_or us q 0 distinct in_q) ∙ ap (λ y. place_of y us) (at ∙ e)),
       )
@@ -75,12 +65,11 @@ module _ (us : List ℕ) (x : ℕ) (distinct : AllPairs ◌≢◌ us) (has : Con
   -- and all but x is left
   pub without-new : (z : ℕ) → Contains us z → z ≢ x → Contains (without_entry us x) z
   without-new z h ne =
-      let n = length-without in
       let j = place_of z us in
       let l = place_of-lt-length z us h in
       let other : j ≢ place_of x us = λ e. ne (sym (get_or-place_of z us 0 l) ∙ (ap (λ y. get_or us y 0) e ∙ get_or-place_of x us 0 in_x)) in
       let i = new_place (place_of x us) j in
-      let in_i : i < length (without_entry us x) = let m = new_place-lt (length us) (place_of x us) j other in_x l in omega arith in
+      let in_i : i < length (without_entry us x) = let m = new_place-lt (length us) (place_of x us) j other in_x l in omega (arith, length-without) in
       (i, in_i, get_or_default (without_entry us x) i z 0 in_i ∙ (without-at i in_i ∙ (ap (λ y. get_or us y 0) (old_new (place_of x us) j other) ∙ get_or-place_of z us 0 l)))
 
   pub without-distinct : AllPairs ◌≢◌ (without_entry us x)
@@ -95,15 +84,14 @@ module _ (us : List ℕ) (x : ℕ) (distinct : AllPairs ◌≢◌ us) (has : Con
   -- what comes after z in the list that is left, by its place in the whole one
   after-place : (z : ℕ) → Contains (without_entry us x) z → (j : ℕ) × (j < length us - 1) × (place_of z us ≡ old_place (place_of x us) j) × (entry_after z (without_entry us x) ≡ get_or us (old_place (place_of x us) (place_after (length us - 1) j)) 0)
   after-place z h =
-      let n = length-without in
       let rest = without_entry us x in
       let j = place_of z rest in
       let l = place_of-lt-length z rest h in
       let q = old_place (place_of x us) j in
-      let in_q = old_place-lt (length us) (place_of x us) j in_x (omega arith) in
-      let m : length rest ≡ length us - 1 = omega arith in (
+      let in_q = old_place-lt (length us) (place_of x us) j in_x (omega (arith, length-without)) in
+      let m : length rest ≡ length us - 1 = omega (arith, length-without) in (
         j,
-        omega arith,
+        omega (arith, length-without),
         ap (λ y. place_of y us) (sym (sym (without-at j l) ∙ get_or-place_of z rest 0 l)) ∙ place_of-get_or us q 0 distinct in_q,
         entry_after-place z rest 0 l ∙ without-at (place_after (length rest) j) (place_after-lt (length rest) j l) ∙ ap (λ y. get_or us (old_place (place_of x us) (place_after y j)) 0) m,
       )
@@ -134,7 +122,6 @@ module _ (us : List ℕ) (x : ℕ) (distinct : AllPairs ◌≢◌ us) (has : Con
   -- the first entry that is left: what came after x where x was the first
   pub first-without_skip : get_or us 0 0 ≡ x → 0 < length (without_entry us x) → get_or (without_entry us x) 0 0 ≡ entry_after x us
   first-without_skip first some =
-      let n = length-without in
       let place : place_of x us ≡ 0 = ap (λ y. place_of y us) (sym first) ∙ place_of-get_or us 0 0 distinct (omega arith) in
       let at : old_place 0 0 ≡ place_after (length us) 0 = grind (arith, nat_tests) in
       without-at 0 some ∙ ap (λ p. get_or us (old_place p 0) 0) place ∙ ap (λ k. get_or us k 0) at ∙ ap (λ k. get_or us (place_after (length us) k) 0) (sym place) ∙ sym (entry_after-place x us 0 in_x)
@@ -142,7 +129,6 @@ module _ (us : List ℕ) (x : ℕ) (distinct : AllPairs ◌≢◌ us) (has : Con
   -- and else the first as before
   pub first-without : get_or us 0 0 ≢ x → 0 < length (without_entry us x) → get_or (without_entry us x) 0 0 ≡ get_or us 0 0
   first-without other some =
-      let later : place_of x us ≢ 0 = λ e. other (ap (λ k. get_or us k 0) (sym e) ∙ get_or-place_of x us 0 in_x) in
       let at : old_place (place_of x us) 0 ≡ 0 = grind (arith, nat_tests) in
       without-at 0 some ∙ ap (λ k. get_or us k 0) at
 

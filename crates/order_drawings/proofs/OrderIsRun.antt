@@ -83,12 +83,7 @@ module _ (lists : Lists) (base : Dart) (at : List ℕ) (triangulation : IsTriang
 
     -- one vertex has one place of the contour
     one_place : (k i j : ℕ) → k + 2 ≤ length at → i < (stage k).width → j < (stage k).width → name ((stage k).vertex i) ≡ name ((stage k).vertex j) → i ≡ j
-    one_place k i j l a b e =
-        let g = sound k l in
-        let c = count-stage_after steps k in
-        let p = g.placed i a in
-        let q = g.placed j b in
-        sym (g.own i a) ∙ ap (stage k).place (same_place at ((stage k).vertex i) ((stage k).vertex j) order.built.once (omega arith) (omega arith) e) ∙ g.own j b
+    one_place k i j l a b e = grind (arith, sound, count-stage_after, stage, same_place)
 
     -- a neighbour of a new vertex on the cycle before stands at one of the places from the first to the last
     on_row : (k i : ℕ) → k + 2 < length at → i < (stage k).width → HasDart lists (name (k + 2)) (name ((stage k).vertex i)) → ((steps k).first ≤ i) × (i ≤ (steps k).last)

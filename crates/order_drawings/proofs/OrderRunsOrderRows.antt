@@ -51,16 +51,11 @@ module _ (lists : Lists) (at ranks : List ℕ) (steps : ℕ → Step) (k v : ℕ
   -- the first vertex of all is the first entry, if it is one, and the second the last
   zero_first : (c : ℕ) → c < length ws → get_or ranks (get_or ws c 0) 0 ≡ 0 → c ≡ 0
   zero_first c m z =
-      let w = row.step.within in
-      let reach = row.reach in
       let zero_at = sym (row.rank_is c m) ∙ z ∙ sym row.stage.begin in
-      let same = sym (row.stage.own ((steps k).first + c) (omega arith)) ∙ ap (stage_after steps k).place zero_at ∙ row.stage.own 0 (omega arith) in
-      omega (arith, same)
+      omega (arith, sym (row.stage.own ((steps k).first + c) (omega arith)) ∙ ap (stage_after steps k).place zero_at ∙ row.stage.own 0 (omega arith))
 
   pub one_last : (c : ℕ) → c < length ws → get_or ranks (get_or ws c 0) 0 ≡ 1 → suc c ≡ length ws
   one_last c m z =
-      let w = row.step.within in
-      let reach = row.reach in
       let width : ℕ = (stage_after steps k).width in
       let one_at = sym (row.rank_is c m) ∙ z ∙ sym (row.stage.end (width - 1) (omega arith)) in
       let same = sym (row.stage.own ((steps k).first + c) (omega arith)) ∙ ap (stage_after steps k).place one_at ∙ row.stage.own (width - 1) (omega arith) in
@@ -81,12 +76,9 @@ module _ (lists : Lists) (base : Dart) (at ranks : List ℕ) (triangulation : Is
   -- each vertex stands at its rank
   at_rank : (u : ℕ) → u < length lists → (get_or ranks u 0 < length at) × (name (get_or ranks u 0) ≡ u)
   at_rank u l =
-      let n = order.count in
       let on = all_of_them at u (λ i d m. let o = order.vertices i d m in omega arith) order.built.once (omega arith) in
-      let i = on.0 in
-      let in_at = on.1 in
-      let here : name i ≡ u = get_or_default at i 0 u in_at ∙ on.2 in
-      let r : get_or ranks u 0 ≡ i = ap (λ u. get_or ranks u 0) (sym here) ∙ rank.of_place i in_at in
+      let here : name on.0 ≡ u = get_or_default at on.0 0 u on.1 ∙ on.2 in
+      let r : get_or ranks u 0 ≡ on.0 = ap (λ u. get_or ranks u 0) (sym here) ∙ rank.of_place on.0 on.1 in
       (omega arith, ap name r ∙ here)
 
   module _ (k : ℕ) (l : k + 2 < length at) where
@@ -122,11 +114,9 @@ module _ (lists : Lists) (base : Dart) (at ranks : List ℕ) (triangulation : Is
     is_earlier u t ne =
         let c = Contains-from_list_any u us t in
         let len = length-take-le (suc (k + 2)) at (omega arith) in
-        let i = c.0 in
-        let in_us = c.1 in
-        let here : name i ≡ u = sym (get_or-take (suc (k + 2)) at i 0 (omega arith)) ∙ get_or_default us i 0 u in_us ∙ c.2 in
-        let r : get_or ranks u 0 ≡ i = ap (λ u. get_or ranks u 0) (sym here) ∙ rank.of_place i (omega arith) in
-        elim (cases_eq i (k + 2)) [ inl e ↦ absurd (ne (sym here ∙ ap name e)) | inr other ↦ omega arith ]
+        let here : name c.0 ≡ u = sym (get_or-take (suc (k + 2)) at c.0 0 (omega arith)) ∙ get_or_default us c.0 0 u c.1 ∙ c.2 in
+        let r : get_or ranks u 0 ≡ c.0 = ap (λ u. get_or ranks u 0) (sym here) ∙ rank.of_place c.0 (omega arith) in
+        elim (cases_eq c.0 (k + 2)) [ inl e ↦ absurd (ne (sym here ∙ ap name e)) | inr other ↦ omega arith ]
 
     stands_earlier : (u : ℕ) → u < length lists → get_or ranks u 0 < k + 2 → stands_in us u ≡ true
     stands_earlier u m r =
@@ -156,8 +146,7 @@ module _ (lists : Lists) (base : Dart) (at ranks : List ℕ) (triangulation : Is
     turns : (c : ℕ) → suc c < length ws → follows lists v (get_or ws (suc c) 0) ≡ get_or ws c 0
     turns c m =
         let e : c + 1 ≡ suc c = omega arith in
-        let len = length-ws in
-        ap (λ i. follows lists v (get_or ws i 0)) (sym e) ∙ (put.fan.faces c (omega arith)).round
+        ap (λ i. follows lists v (get_or ws i 0)) (sym e) ∙ (put.fan.faces c (omega (arith, length-ws))).round
 
     -- an earlier neighbour stands in the row
     on_row : (u : ℕ) → HasDart lists v u → get_or ranks u 0 < k + 2 → (c : ℕ) × (c < length ws) × (get_or ws c 0 ≡ u)
@@ -189,22 +178,18 @@ module _ (lists : Lists) (base : Dart) (at ranks : List ℕ) (triangulation : Is
 
     first_is : s.first ≡ length put.front
     first_is =
-        let o = step.order in
-        let w = step.within in
         let i : ℕ = length put.front + 1 in
         let h : Stage = stage_after steps (suc k) in
         let count = count-stage_after steps k in
-        let new = length-new in
-        let in_i : i < h.width = omega arith in
+        let in_i : i < h.width = omega (arith, length-new) in
         let old = stage_next.placed i in_i in
         let there : name (h.vertex i) ≡ v =
         ap name (sym (get_or-contour h i in_i))
-        ∙ sym (get_or-map name (contour h) i 0 0 (omega (arith, length-contour h)))
+        ∙ sym (get_or-map name (contour h) i 0 0 (omega (arith, length-new, length-contour h)))
         ∙ ap (λ xs. get_or xs i 0) (sym next_is ∙ put.after)
         ∙ get_or-append-add put.front (put.p ∷ v ∷ put.q ∷ put.back) 1 0 in
-        let same : h.vertex i ≡ k + 2 = same_place at (h.vertex i) (k + 2) order.built.once (omega (arith, count)) l there in
-        let e = sym (stage_next.own i in_i) ∙ ap h.place same ∙ place_after-new g s (k + 2) (sym count) in
-        omega (arith, e)
+        let same : h.vertex i ≡ k + 2 = same_place at (h.vertex i) (k + 2) order.built.once (omega (arith, length-new, count)) l there in
+        omega (arith, length-new, sym (stage_next.own i in_i) ∙ ap h.place same ∙ place_after-new g s (k + 2) (sym count))
 
     last_is : s.last ≡ length put.front + length put.middle + 1
     last_is = let o = step.order in let w = step.within in omega (arith, first_is, length-old, length-new)
@@ -228,20 +213,16 @@ module _ (lists : Lists) (base : Dart) (at ranks : List ℕ) (triangulation : Is
     -- and its rank is its place in the order
     rank_is : (c : ℕ) → c < length ws → get_or ranks (get_or ws c 0) 0 ≡ g.vertex (s.first + c)
     rank_is c m =
-        let w = step.within in
-        let len = length-ws in
         let first = first_is in
         let last = last_is in
-        let old = stage.placed (s.first + c) (omega arith) in
-        let count = count-stage_after steps k in
-        ap (λ u. get_or ranks u 0) (sym (named c m)) ∙ rank.of_place (g.vertex (s.first + c)) (omega arith)
+        let old = stage.placed (s.first + c) (omega (arith, length-ws, step.within)) in
+        ap (λ u. get_or ranks u 0) (sym (named c m)) ∙ rank.of_place (g.vertex (s.first + c)) (omega (arith, count-stage_after steps k))
 
     -- the last vertex of all is put over the whole contour
     whole : suc (k + 2) ≡ length at → (s.first ≡ 0) × (suc s.last ≡ g.width)
     whole e =
         let d : suc k ≡ length at - 2 = omega arith in
         let w = ap (λ i. (stage_after steps i).width) d ∙ run.end in
-        let o = step.order in
         let n = step.within in
         (omega arith, omega arith)
 

@@ -59,11 +59,10 @@ module _ (lists : Lists) (at ranks : List ℕ) (simple : IsSimpleMap lists) (ste
   entries zero m = get_or-place_of p list 0 start_in
   entries (suc c) m =
       let i : ℕ = back (length list) start c in
-      let less = entries c (omega arith) in
       let d = (row.dart (suc c) m).1 in
       let b = back_in (suc c) in
       entry_after-injective list (get_or list (place_before (length list) i) 0) (get_or ws (suc c) 0) distinct (Contains-get_or list (place_before (length list) i) 0 b) d
-      (entry_at_before list i distinct (back_in c) ∙ less ∙ sym (row.turns c m))
+      (entry_at_before list i distinct (back_in c) ∙ (entries c (omega arith)) ∙ sym (row.turns c m))
 
   after_is : (i : ℕ) → i < length list → get_or list (place_after (length list) i) 0 ≡ follows lists v (get_or list i 0)
   after_is i m = entry_at_after list i distinct m
@@ -85,9 +84,7 @@ module _ (lists : Lists) (at ranks : List ℕ) (simple : IsSimpleMap lists) (ste
   inner c m f = elim f [
     | inl z ↦ (let e = entries c (omega arith) in absurd (omega (arith, one_last lists at ranks steps k v ws row c (omega arith) (ap rank (sym e) ∙ z))))
     | inr h ↦
-        let e = entries (suc c) m in
-        let r = row.earlier (suc c) m in
-        absurd (omega (arith, ap rank e))
+        absurd (omega (arith, ap rank (entries (suc c) m)))
   ]
 
   last_place : (c : ℕ) → suc c ≡ length ws → IsLastPlace list ranks (k + 2) (back (length list) start c)
@@ -103,8 +100,6 @@ module _ (lists : Lists) (at ranks : List ℕ) (simple : IsSimpleMap lists) (ste
   -- the row has no repeats, so it is no longer than the list
   ws_distinct : AllPairs ◌≢◌ ws
   ws_distinct a b d m o e =
-      let w = row.step.within in
-      let reach = row.reach in
       let g : Stage = stage_after steps k in
       let e' : get_or ws a 0 ≡ get_or ws b 0 = get_or_default ws a 0 d (omega arith) ∙ e ∙ sym (get_or_default ws b 0 d o) in
       let same = sym (row.stage.own ((steps k).first + a) (omega arith)) ∙ ap g.place (sym (row.rank_is a (omega arith)) ∙ ap rank e' ∙ row.rank_is b o) ∙ row.stage.own ((steps k).first + b) (omega arith) in
@@ -115,13 +110,11 @@ module _ (lists : Lists) (at ranks : List ℕ) (simple : IsSimpleMap lists) (ste
 
   short : length ws ≤ length list
   short =
-      let places = map (λ u. place_of u list) ws in
-      let n = length-map ws (λ u. place_of u list) in
-      let le = length-le-below places (length list)
+      let le = length-le-below (map (λ u. place_of u list) ws) (length list)
       (λ x on. let u = Contains-from_map (λ u. place_of u list) ws x on in subst (λ x. x < length list) u.2 (place_of-lt-length u.0 list (in_list u.0 u.1)))
       (AllPairs-map (λ u. place_of u list) ws
       (λ z w on on' e. sym (get_or-place_of z list 0 (place_of-lt-length z list (in_list z on))) ∙ ap (λ i. get_or list i 0) e ∙ get_or-place_of w list 0 (place_of-lt-length w list (in_list w on'))) ws_distinct) in
-      omega arith
+      omega (arith, length-map ws (λ u. place_of u list))
 
   pub order_row : IsOrderRow list ranks steps k
   order_row = record {

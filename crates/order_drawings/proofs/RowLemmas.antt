@@ -12,8 +12,7 @@ module _ (list ranks : List ℕ) (k start : ℕ) (us : List ℕ) (h : IsRowIn li
   -- one rank more
   pub ranked-more : (items : List ℕ) → items ≡ map (λ u. get_or ranks u 0) (take j us) → items ++ rank_at list ranks i ∷ [] ≡ map (λ u. get_or ranks u 0) (take (suc j) us)
   ranked-more items e =
-      let here : get_or list i 0 ≡ get_or us j 0 = ap (λ i. get_or list i 0) at ∙ h.entries j low in
-      ap₂ (λ xs u. xs ++ get_or ranks u 0 ∷ []) e here
+      ap₂ (λ xs u. xs ++ get_or ranks u 0 ∷ []) e (ap (λ i. get_or list i 0) at ∙ h.entries j low)
       ∙ sym (map-append (λ u. get_or ranks u 0) (take j us) (get_or us j 0 ∷ []))
       ∙ ap (map (λ u. get_or ranks u 0)) (sym (take-suc us j 0 low))
 

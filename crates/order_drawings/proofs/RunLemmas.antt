@@ -3,7 +3,7 @@ use Rattle.std.proofs.Common.{◌≡◌, ℕ, suc, ◌+◌, ◌-◌, ◌<◌, �
 use Rattle.std.specs.List.{range_with_len}
 use Rattle.std.proofs.lemmas.List.{get_or_default}
 use Rattle.std.proofs.lemmas.List.FromFn.{length-map-range_with_len, get_or-map-range_with_len}
-use Rattle.pg_plane.specs.declared.segments.Point.{Point}
+use Rattle.pg_plane.specs.declared.grid_points.Point.{Point}
 use Rattle.pg_plane.specs.Geometry.{area}
 use Rattle.pg_plane.proofs.Identities.{area_turned}
 use Rattle.map_lists.specs.Lists.{Lists}
@@ -28,16 +28,9 @@ use Rattle.order_drawings.specs.RunDrawings.{ArePlacedBy, IsCounterclockwiseRun,
 -- the vertices of a face that a run makes are placed
 ends : (steps : ℕ → Step) (n : ℕ) → IsRun steps n → (k i a b v : ℕ) → k < n → IsFaceOf steps k i a b v → (a < n + 2) × (b < n + 2) × (v < n + 2)
 ends steps n run k i a b v l f =
-    let g = stage_after steps k in
     let stage = IsStage-run steps k (IsRun-less steps k n (omega arith) run) in
     let w = (run k l).within in
-    let hi = f.high in
     let c = count-stage_after steps k in
-    let p = stage.placed i (omega arith) in
-    let q = stage.placed (suc i) (omega arith) in
-    let e = f.left in
-    let d = f.right in
-    let t = f.new in
     (omega arith, omega arith, omega arith)
 
 -- the darts of the face of the base
@@ -71,8 +64,7 @@ module _ (lists : Lists) (base : Dart) (triangulation : IsTriangulation lists) (
     -- the corners of a face by a dart of it
     corner : (a b c x y : ℕ) → x ≡ a → y ≡ b → follows lists b a ≡ c → pos 0 <ℤ area (place points a) (place points b) (place points c) → pos 0 <ℤ area (place points x) (place points y) (place points (follows lists y x))
     corner a b c x y ex ey f p =
-        let e : c ≡ follows lists y x = sym f ∙ ap₂ (λ u w. follows lists u w) (sym ey) (sym ex) in
-        subst (λ z. pos 0 <ℤ area (place points x) (place points y) (place points z)) e
+        subst (λ z. pos 0 <ℤ area (place points x) (place points y) (place points z)) (sym f ∙ ap₂ (λ u w. follows lists u w) (sym ey) (sym ex))
         (subst (λ z. pos 0 <ℤ area (place points x) (place points z) (place points c)) (sym ey) (subst (λ z. pos 0 <ℤ area (place points z) (place points b) (place points c)) (sym ex) p))
 
     by_dart : (a b v x y : ℕ) → IsFaceOfThree lists a b v → pos 0 <ℤ area (place points a) (place points b) (place points v) → IsDartOfThree a b v x y → pos 0 <ℤ area (place points x) (place points y) (place points (follows lists y x))
@@ -89,15 +81,12 @@ module _ (lists : Lists) (base : Dart) (triangulation : IsTriangulation lists) (
 
     place_third : place points third ≡ point (length at - 1)
     place_third =
-        let some = some_at in
-        let n = order.count in
         let e : length lists - 1 ≡ length at - 1 = omega arith in
         ap (place points) (sym order.last ∙ ap name e) ∙ placed (length at - 1) (omega arith)
 
     -- a face that was made, at its points
     made_area : (k i a b v : ℕ) → k + 2 < length at → IsFaceOf steps k i a b v → pos 0 <ℤ area (place points (name a)) (place points (name b)) (place points (name v))
     made_area k i a b v l f =
-        let some = some_at in
         let low = ends steps (length at - 2) run.run k i a b v (omega arith) f in
         let p = good.made k i a b v l f in
         subst (λ z. pos 0 <ℤ area (place points (name a)) (place points (name b)) z) (sym (placed v (omega (arith, low.2))))
@@ -106,9 +95,8 @@ module _ (lists : Lists) (base : Dart) (triangulation : IsTriangulation lists) (
     -- so is each dart of it
     made_dart : (x y : ℕ) → IsMadeByStep at steps x y → pos 0 <ℤ area (place points x) (place points y) (place points (follows lists y x))
     made_dart x y m =
-        let p = made_area m.step m.place m.a m.b m.v m.earlier m.face in
         let f = run.faces m.step m.place m.a m.b m.v m.earlier m.face in
-        by_dart (name m.a) (name m.b) (name m.v) x y f p m.dart
+        by_dart (name m.a) (name m.b) (name m.v) x y f (made_area m.step m.place m.a m.b m.v m.earlier m.face) m.dart
 
     inner : (x y : ℕ) → HasDart lists x y → ¬ SameFace lists base (x, y) → pos 0 <ℤ area (place points x) (place points y) (place points (follows lists y x))
     inner x y d other = made_dart x y (run.made x y d (λ three. other (on_base x y d three)))
@@ -120,7 +108,6 @@ module _ (lists : Lists) (base : Dart) (triangulation : IsTriangulation lists) (
 
     pub drawing : CounterclockwiseIsPlane → IsRunDrawing lists base point points
     drawing law =
-        let n = order.count in
         let ccw : IsCounterclockwise lists points base = record { inner = inner; outer = base_outside } in
         let plane = law lists points base triangulation dart ccw in
         record {
@@ -128,20 +115,17 @@ module _ (lists : Lists) (base : Dart) (triangulation : IsTriangulation lists) (
           plane = plane.0;
           rotations = plane.1;
           each = λ v l.
-              let all = all_of_them at v (subst (λ m. All (λ u. u < m) at) (sym n) order.vertices) order.built.once (omega arith) in
-              let k = all.0 in
-              let on = all.1 in
-              let same : name k ≡ v = get_or_default at k 0 v on ∙ all.2 in
-              (k, omega arith, ap (place points) (sym same) ∙ placed k on);
+              let all = all_of_them at v (subst (λ m. All (λ u. u < m) at) (sym order.count) order.vertices) order.built.once (omega arith) in
+              let same : name all.0 ≡ v = get_or_default at all.0 0 v all.1 ∙ all.2 in
+              (all.0, omega arith, ap (place points) (sym same) ∙ placed all.0 all.1);
           first = place_first;
           second = place_second;
-          top = place_third ∙ ap (λ m. point (m - 1)) n;
+          top = place_third ∙ ap (λ m. point (m - 1)) order.count;
         }
 
 -- points for the places of an order
 pub points_of_order : (lists : Lists) (base : Dart) (at : List ℕ) (point : ℕ → Point) → IsCanonicalOrder lists base at → (points : List Point) × (length points ≡ length lists) × ArePlacedBy at point points
 points_of_order lists base at point order =
-    let n = order.count in
     let drawn = map (λ v. point (place_of v at)) (range_with_len 0 (length lists)) in (
       drawn,
       length-map-range_with_len (λ v. point (place_of v at)) 0 (length lists),

@@ -1,7 +1,7 @@
 -- Schnyder's coordinates over a canonical order are a drawing.
 use Rattle.std.proofs.Common.{◌≡◌, ℕ, ◌-◌, ◌<◌, List, length, pos, sym, ap, ap₂, ◌∙◌, subst, arith}
 use Rattle.std.proofs.lemmas.Int.{ints}
-use Rattle.pg_plane.specs.declared.segments.Point.{Point}
+use Rattle.pg_plane.specs.declared.grid_points.Point.{Point}
 use Rattle.map_lists.specs.Lists.{Lists}
 use Rattle.map_theory.specs.Maps.{Dart, HasDart}
 use Rattle.plane_laws.specs.Triangulations.{IsTriangulation}
@@ -34,7 +34,6 @@ module _ (lists : Lists) (base : Dart) (at : List ℕ) (points : List Point) (tr
   pub drawing : CounterclockwiseRunDraws → IsSchnyderDrawing lists base points
   drawing law =
       let d = law lists base at h.steps point points triangulation dart order h.order good h.placed in
-      let n = order.count in
       let c = cornered h.steps last (length at) whole in
       record {
         counterclockwise = d.counterclockwise;
@@ -42,10 +41,9 @@ module _ (lists : Lists) (base : Dart) (at : List ℕ) (points : List Point) (tr
         rotations = d.rotations;
         grid = λ v l.
             let k = d.each v l in
-            let in_order : k.0 < length at = let small = k.1 in omega arith in
-            let g = in_grid h.steps last (length at) whole k.0 in_order in
+            let g = in_grid h.steps last (length at) whole k.0 (let small = k.1 in omega arith) in
             subst (λ z. IsInGrid (pos (length lists - 2)) (pos (length lists - 2)) z) (sym k.2) record { left = omega (arith, ints); right = omega (arith, ints, g.0); bottom = omega (arith, ints); top = omega (arith, ints, g.1) };
-        root_one = d.first ∙ at_point 0 (length at - 2) 1 c.first ∙ ap (λ m. record { x = pos (m - 2); y = pos 1 }) n;
-        root_two = d.second ∙ at_point 1 0 (length at - 2) c.second ∙ ap (λ m. record { x = pos 0; y = pos (m - 2) }) n;
-        root_three = d.top ∙ ap (λ m. point (m - 1)) (sym n) ∙ at_point (length at - 1) 1 0 c.top;
+        root_one = d.first ∙ at_point 0 (length at - 2) 1 c.first ∙ ap (λ m. record { x = pos (m - 2); y = pos 1 }) order.count;
+        root_two = d.second ∙ at_point 1 0 (length at - 2) c.second ∙ ap (λ m. record { x = pos 0; y = pos (m - 2) }) order.count;
+        root_three = d.top ∙ ap (λ m. point (m - 1)) (sym order.count) ∙ at_point (length at - 1) 1 0 c.top;
       }

@@ -3,7 +3,7 @@ use Rattle.std.proofs.Common.{◌≡◌, ◌≢◌, ℕ, ◌+◌, ◌<◌, ◌�
 use Rattle.std.proofs.lemmas.Bool.{cases_Bool, cases_eq, true≢false, or_cases}
 use Rattle.std.proofs.lemmas.Int.{ints}
 use lib.Signed.{lt_z}
-use Rattle.pg_plane.specs.declared.segments.Point.{Point}
+use Rattle.pg_plane.specs.declared.grid_points.Point.{Point}
 use Rattle.pg_plane.specs.Geometry.{vector, cross, area}
 use Rattle.classes.specs.Classes.{count_below}
 use Rattle.classes.proofs.Counting.{one_if}
@@ -49,7 +49,6 @@ pub record IsMetBack (p a b c : Point) : Type 0 where
 
 pub clockwise_met : (p a b c : Point) → area a b c <ℤ pos 0 → IsMetBack p a b c
 clockwise_met p a b c negative =
-    let other : area a c b ≡ neg_ℤ (area a b c) = cross_back (vector a b) (vector a c) in
     let m = triangle_met p a c b (omega (arith, ints)) in
     let there : there_at p a c b ≡ back_at p a b c = omega arith in
     let back : back_at p a c b ≡ there_at p a b c = omega arith in
@@ -98,31 +97,20 @@ module _ (k : ℕ) (twin step : ℕ → ℕ) (at : ℕ → Point) (base : ℕ) (
   meets_twin : (i : ℕ) → i < k → R (twin i) ≡ meets p (at (step i)) (at i)
   unfolding R
   meets_twin i l =
-      let e : at (twin i) ≡ at (step i) = sym (d.head i l) in
-      let f : at (step (twin i)) ≡ at i = d.head (twin i) (d.twins.within i l) ∙ ap at (d.back i l) in
-      rw (e, f) refl
+      rw (sym (d.head i l), d.head (twin i) (d.twins.within i l) ∙ ap at (d.back i l)) refl
 
   meets_against : (i : ℕ) → i < k → back i ≡ one_if (R (twin i)) + one_if (R (twin (step i))) + one_if (R (twin (step (step i))))
   unfolding back
   meets_against i l =
       let s = d.steps.within i l in
-      let ss = d.steps.within (step i) s in
-      rw (meets_twin i l, meets_twin (step i) s, meets_twin (step (step i)) ss, d.thrice i l) refl
+      rw (meets_twin i l, meets_twin (step i) s, meets_twin (step (step i)) (d.steps.within (step i) s), d.thrice i l) refl
 
   -- the darts of the base's face are walked clockwise
   pub base_area : (i : ℕ) → in_base step base i ≡ true → area (at i) (at (step i)) (at (step (step i))) <ℤ pos 0
   base_area i e =
-      let o = d.outer in
       let t = d.thrice base d.base_in in
       let one = area_turned (at base) (at (step base)) (at (step (step base))) in
-      let two = area_turned (at (step base)) (at (step (step base))) (at base) in
-      elim (or_cases (eqb i base) (eqb i (step base) || eqb i (step (step base))) e) [
-        | inl f ↦ rw (eqb-true i base f) o
-        | inr g ↦ elim (or_cases (eqb i (step base)) (eqb i (step (step base))) g) [
-          | inl f ↦ rw (eqb-true i (step base) f, t, one) o
-          | inr f ↦ rw (eqb-true i (step (step base)) f, t, two, one) o
-        ]
-      ]
+      grind (arith, or_cases, eqb, eqb-true, area_turned)
 
   equation : (i : ℕ) → i < k → there i + one_if (within i) ≡ back i + one_if (inside i)
   unfolding there back inside within
@@ -139,13 +127,11 @@ module _ (k : ℕ) (twin step : ℕ → ℕ) (at : ℕ → Point) (base : ℕ) (
       let ss : IsPermuting (λ i. step (step i)) k = record { within = λ i l. s.within (step i) (s.within i l); apart = λ i j l m e. s.apart i j l m (s.apart (step i) (step j) (s.within i l) (s.within j m) e) } in
       let sums = count_sums R (λ i. R (step i)) (λ i. R (step (step i))) (λ i. R (twin i)) (λ i. R (twin (step i))) (λ i. R (twin (step (step i)))) inside within k
       (λ i l. let e = equation i l in let a = meets_along i l in let b = meets_against i l in omega arith) in
-      let c1 = count_below-images step k s R in
-      let c2 = count_below-images (λ i. step (step i)) k ss R in
       let T : ℕ → Bool = λ i. R (twin i) in
       let t0 = count_below-images twin k d.twins R in
       let t1 = count_below-images step k s T in
       let t2 = count_below-images (λ i. step (step i)) k ss T in
-      omega arith
+      omega (arith, count_below-images (λ i. step (step i)) k ss R, count_below-images step k s R)
 
   -- the base has three darts
   few_within : count_below within k ≤ 3
@@ -205,9 +191,8 @@ module _ (k : ℕ) (twin step : ℕ → ℕ) (at : ℕ → Point) (base : ℕ) (
   holds_inside : (i : ℕ) → i < k → in_base step base i ≡ false → IsHeld step at base p i → inside i ≡ true
   unfolding inside there back
   holds_inside i l e h =
-      let m = triangle_met p (at i) (at (step i)) (at (step (step i))) (d.inner i l e) in
       let n = h.inner e in
-      rw (e, m.inside n.1 n.2 n.0) refl
+      rw (e, (triangle_met p (at i) (at (step i)) (at (step (step i))) (d.inner i l e)).inside n.1 n.2 n.0) refl
 
   -- The face of a dart holds the place, by what of it is met.
   pub record IsMetAsHeld (i : ℕ) : Type 0 where
@@ -258,9 +243,7 @@ module _ (k : ℕ) (twin step : ℕ → ℕ) (at : ℕ → Point) (base : ℕ) (
                     let in_ss = inside_along i (step (step i)) li (inr (inr refl)) ∙ in_i in
                     let in_j = hj.inner bj in
                     let four = count_four inside k i (step i) (step (step i)) j li ls lss lj in_i in_s in_ss in_j (corner_apart i li) (far_apart i li) (corner_apart (step i) ls) n1 n2 n3 in
-                    let same = same_count in
-                    let few = few_within in
-                    omega arith)
+                    omega (arith, few_within, same_count))
               ]
             ]
           ]

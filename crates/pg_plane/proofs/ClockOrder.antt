@@ -1,45 +1,25 @@
 -- The clockwise order of directions from west: it can be decided, no two directions come before each other, and it chains.
 use Rattle.std.proofs.Common.{◌≡◌, ◌⊎◌, ℤ, pos, ◌*ℤ◌, ◌<ℤ◌, ◌≤ℤ◌, ap, ◌∙◌, inl, inr, ⊎_elim, arith}
 use Rattle.std.proofs.lemmas.Int.{ints, by_lt_z}
-use Rattle.pg_plane.specs.declared.segments.Point.{Point}
+use Rattle.pg_plane.specs.declared.grid_points.Point.{Point}
 use Rattle.pg_plane.specs.Geometry.{cross, IsFirstHalf, IsClockBefore}
 use Rattle.pg_plane.proofs.Ring.{sums, mul_neg, product_signs}
 use Rattle.pg_plane.proofs.Identities.{heights, cross_back}
 
 -- a direction is of the first half or not
 half_cases : (d : Point) → IsFirstHalf d ⊎ ¬ IsFirstHalf d
-half_cases d =
-    by_lt_z (pos 0) d.y (λ l. inl (inl l))
-    (λ l. by_lt_z d.y (pos 0) (λ l'. inr (λ f. ⊎_elim (λ p. omega (arith, ints)) (λ q. let z = q.0 in omega (arith, ints)) f))
-    (λ l'.
-    let level : d.y ≡ pos 0 = omega (arith, ints) in
-    by_lt_z d.x (pos 0) (λ west. inl (inr (level, west))) (λ east. inr (λ f. ⊎_elim (λ p. omega (arith, ints)) (λ q. let west = q.1 in omega (arith, ints)) f))))
+half_cases d = grind (arith, by_lt_z, pos, ints)
 
 -- a direction comes before another or not
 pub clock_cases : (d e : Point) → IsClockBefore d e ⊎ ¬ IsClockBefore d e
-clock_cases d e =
-    elim (half_cases d) [
-      | inl f ↦ elim (half_cases e) [
-        | inl g ↦ by_lt_z (cross d e) (pos 0) (λ l. inl (inr (inl (f, g, l)))) (λ l. inr (λ b. ⊎_elim (λ x. x.1 g) (λ x. ⊎_elim (λ y. let less = y.2 in omega (arith, ints)) (λ y. y.0 f) x) b))
-        | inr g ↦ inl (inl (f, g))
-      ]
-      | inr f ↦ elim (half_cases e) [
-        | inl g ↦ inr (λ b. ⊎_elim (λ x. f x.0) (λ x. ⊎_elim (λ y. f y.0) (λ y. y.1 g) x) b)
-        | inr g ↦ by_lt_z (cross d e) (pos 0) (λ l. inl (inr (inr (f, g, l)))) (λ l. inr (λ b. ⊎_elim (λ x. f x.0) (λ x. ⊎_elim (λ y. f y.0) (λ y. let less = y.2 in omega (arith, ints)) x) b))
-      ]
-    ]
+clock_cases d e = grind (arith, half_cases, by_lt_z, cross, pos, ints)
 
 turns_back : (d e : Point) → cross d e <ℤ pos 0 → cross e d <ℤ pos 0 → ⊥
 turns_back d e l l' = let back = cross_back d e in omega (arith, sums)
 
 -- no two directions come before each other
 pub clock_apart : (d e : Point) → IsClockBefore d e → ¬ IsClockBefore e d
-clock_apart d e b b' =
-    ⊎_elim (λ x. ⊎_elim (λ y. x.1 y.0) (λ y. ⊎_elim (λ z. x.1 z.0) (λ z. z.1 x.0) y) b')
-    (λ x. ⊎_elim
-    (λ f. ⊎_elim (λ y. y.1 f.0) (λ y. ⊎_elim (λ z. turns_back d e f.2 z.2) (λ z. z.1 f.0) y) b')
-    (λ s. ⊎_elim (λ y. s.1 y.0) (λ y. ⊎_elim (λ z. s.1 z.0) (λ z. turns_back d e s.2 z.2) y) b')
-    x) b
+clock_apart d e b b' = grind (arith, turns_back)
 
 zero_product : (a b : ℤ) → b ≡ pos 0 → a *ℤ b ≡ pos 0
 zero_product a b e = let n = mul_neg a (pos 0) in ap (λ z. a *ℤ z) e ∙ omega (arith, sums)
@@ -50,17 +30,14 @@ upper_turns u v w hu hv hw west uv vw =
     by_lt_z (cross u w) (pos 0) (λ l. l)
     (λ l.
     let h = heights u v w in
-    let back = cross_back u w in
     let one = product_signs (cross v w) u.y in
     let two = (product_signs (cross w u) v.y).down_up (omega (arith, sums)) hv in
-    let three = product_signs (cross u v) w.y in
     by_lt_z (pos 0) w.y
-    (λ up. let x = three.below_above uv up in let y = one.down_up (omega (arith, ints)) hu in absurd (omega (arith, sums)))
+    (λ up. let x = (product_signs (cross u v) w.y).below_above uv up in let y = one.down_up (omega (arith, ints)) hu in absurd (omega (arith, sums)))
     (λ down.
     let level : w.y ≡ pos 0 = omega (arith, ints) in
     let none = zero_product v.x w.y level in
-    let some = (product_signs w.x v.y).down_up (let left = west level in omega (arith, ints)) hv in
-    absurd (omega (arith, sums))))
+    absurd (omega (arith, (product_signs w.x v.y).down_up (let left = west level in omega (arith, ints)) hv, sums))))
 
 -- and in the lower half
 lower_turns : (u v w : Point) → u.y ≤ℤ pos 0 → v.y ≤ℤ pos 0 → w.y ≤ℤ pos 0 → (w.y ≡ pos 0 → pos 0 ≤ℤ w.x) → cross u v <ℤ pos 0 → cross v w <ℤ pos 0 → cross u w <ℤ pos 0
@@ -68,7 +45,6 @@ lower_turns u v w hu hv hw east uv vw =
     by_lt_z (cross u w) (pos 0) (λ l. l)
     (λ l.
     let h = heights u v w in
-    let back = cross_back u w in
     let one = product_signs (cross v w) u.y in
     let two = (product_signs (cross w u) v.y).both_down (omega (arith, sums)) hv in
     let three = product_signs (cross u v) w.y in
@@ -76,9 +52,7 @@ lower_turns u v w hu hv hw east uv vw =
     (λ down. let x = three.both_below uv down in let y = one.both_down (omega (arith, ints)) hu in absurd (omega (arith, sums)))
     (λ up.
     let level : w.y ≡ pos 0 = omega (arith, ints) in
-    let none = zero_product v.x w.y level in
-    let some = (product_signs w.x v.y).up_down (east level) hv in
-    absurd (omega (arith, sums))))
+    absurd (omega (arith, (product_signs w.x v.y).up_down (east level) hv, zero_product v.x w.y level, sums))))
 
 -- heights of the first half
 first_up : (d : Point) → IsFirstHalf d → pos 0 ≤ℤ d.y

@@ -18,13 +18,7 @@ pub count_but : (p : ℕ → Bool) (n m : ℕ) → m < n → p m ≡ true → co
 count_but p n m l e = count_below_more (but p m) p n m l (but-here p m) e (λ i h d. but-other p m i d)
 
 pub count_but-le : (p : ℕ → Bool) (n m : ℕ) → m < n → count_below p n ≤ count_below (but p m) n + 1
-count_but-le p n m l =
-    elim (cases_Bool (p m)) [
-      | inl e ↦ omega (arith, count_but p n m l e)
-      | inr e ↦
-          let same = count_below_same p (but p m) n (λ i h. elim (cases_eq i m) [ inl s ↦ rw s (e ∙ sym (but-here p m)) | inr d ↦ sym (but-other p m i d) ]) in
-          omega arith
-    ]
+count_but-le p n m l = grind (arith, cases_Bool, count_but, count_below_same, but, cases_eq, but-here, but-other)
 
 pub count_none : (p : ℕ → Bool) (n : ℕ) → ((i : ℕ) → i < n → p i ≡ false) → count_below p n ≡ 0
 count_none p zero h = refl
@@ -35,30 +29,24 @@ pub count_four : (p : ℕ → Bool) (n a b c d : ℕ) → a < n → b < n → c 
 count_four p n a b c d la lb lc ld pa pb pc pd ba ca cb da db dc =
     let p1 = but p a in
     let p2 = but p1 b in
-    let p3 = but p2 c in
-    let one = count_but p n a la pa in
-    let two = count_but p1 n b lb (but-other p a b ba ∙ pb) in
     let three = count_but p2 n c lc (but-other p1 b c cb ∙ but-other p a c ca ∙ pc) in
-    let four = count_but p3 n d ld (but-other p2 c d dc ∙ but-other p1 b d db ∙ but-other p a d da ∙ pd) in
-    omega arith
+    let four = count_but (but p2 c) n d ld (but-other p2 c d dc ∙ but-other p1 b d db ∙ but-other p a d da ∙ pd) in
+    omega (arith, count_but p1 n b lb (but-other p a b ba ∙ pb), count_but p n a la pa)
 
 -- a test that passes at three numbers at most
 pub count_three-le : (p : ℕ → Bool) (n a b c : ℕ) → a < n → b < n → c < n → ((i : ℕ) → i < n → i ≢ a → i ≢ b → i ≢ c → p i ≡ false) → count_below p n ≤ 3
 count_three-le p n a b c la lb lc h =
     let p1 = but p a in
     let p2 = but p1 b in
-    let p3 = but p2 c in
-    let one = count_but-le p n a la in
-    let two = count_but-le p1 n b lb in
     let three = count_but-le p2 n c lc in
-    let rest = count_none p3 n (λ i l. elim (cases_eq i c) [
+    let rest = count_none (but p2 c) n (λ i l. elim (cases_eq i c) [
       | inl e ↦ rw e (but-here p2 c)
       | inr dc ↦ but-other p2 c i dc ∙ elim (cases_eq i b) [
         | inl e ↦ rw e (but-here p1 b)
         | inr db ↦ but-other p1 b i db ∙ elim (cases_eq i a) [ inl e ↦ rw e (but-here p a) | inr da ↦ but-other p a i da ∙ h i l da db dc ]
       ]
     ]) in
-    omega arith
+    omega (arith, count_but-le p1 n b lb, count_but-le p n a la)
 
 pub count_one : (p : ℕ → Bool) (n a : ℕ) → a < n → p a ≡ true → 1 ≤ count_below p n
 count_one p n a l e = let h = count_but p n a l e in omega arith

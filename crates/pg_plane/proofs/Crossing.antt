@@ -2,7 +2,7 @@
 use Rattle.std.proofs.Common.{◌≡◌, ℕ, ◌+◌, ◌<◌, ℤ, pos, neg_ℤ, ◌-ℤ◌, ◌+ℤ◌, ◌*ℤ◌, ◌<ℤ◌, sym, ap, ap₂, subst, ◌∙◌, inl, inr, arith}
 use Rattle.std.proofs.lemmas.Int.{ints}
 use Rattle.std.proofs.lemmas.Bool.{cases_Bool}
-use Rattle.pg_plane.specs.declared.segments.Point.{Point}
+use Rattle.pg_plane.specs.declared.grid_points.Point.{Point}
 use Rattle.pg_plane.specs.Geometry.{vector, cross, area, DoCross}
 use Rattle.pg_plane.specs.Faced.{in_base, IsFaced}
 use Rattle.pg_plane.proofs.Faces.{face_back, face_then}
@@ -148,26 +148,19 @@ no_crossing k twin step at base drawn i j li lj x =
     let weight = one_weight (at i) (at (step i)) (at j) (at (step j)) in
     elim x.ends_of_second [
       | inr s ↦
-          let s0 = s.0 in
-          let s1 = s.1 in
           elim x.ends_of_first [
             | inl f ↦ no_left_crossing k twin step at base drawn i j li lj s.0 s.1 f.0 f.1
             | inr f ↦ (let f0 = f.0 in let f1 = f.1 in absurd (omega (arith, ints)))
           ]
       | inl s ↦
-          let s0 = s.0 in
-          let s1 = s.1 in
           elim x.ends_of_first [
             | inl f ↦ (let f0 = f.0 in let f1 = f.1 in absurd (omega (arith, ints)))
             | inr f ↦
-                let f0 = f.0 in
-                let f1 = f.1 in
                 let one = area_back (at j) (at (step j)) (at i) in
                 let two = area_back (at j) (at (step j)) (at (step i)) in
                 let place = twin_place k twin step at base drawn j lj in
                 let head = twin_head k twin step at base drawn j lj in
-                let lt = drawn.twins.within j lj in
-                no_left_crossing k twin step at base drawn i (twin j) li lt
-                (rw place s1) (rw head s0) (rw (place, head) (omega (arith, ints))) (rw (place, head) (omega (arith, ints)))
+                no_left_crossing k twin step at base drawn i (twin j) li (drawn.twins.within j lj)
+                (rw place s.1) (rw head s.0) (rw (place, head) (omega (arith, ints))) (rw (place, head) (omega (arith, ints)))
           ]
     ]

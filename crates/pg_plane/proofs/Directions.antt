@@ -3,7 +3,7 @@ use Rattle.std.proofs.Common.{◌≡◌, ◌<ℤ◌, ◌↔◌, pos, Bool, true,
 use Rattle.std.specs.Prelude.{IsTrue}
 use Rattle.std.specs.Bool.{beq}
 use Rattle.std.proofs.lemmas.Bool.{true≢false}
-use Rattle.pg_plane.specs.declared.segments.Point.{Point}
+use Rattle.pg_plane.specs.declared.grid_points.Point.{Point}
 use Rattle.pg_plane.specs.Geometry.{cross, IsFirstHalf, IsClockBefore}
 
 -- two directions of one half

@@ -3,7 +3,7 @@ use Rattle.std.proofs.Common.{◌≡◌, pos, neg_ℤ, ◌+ℤ◌, ◌*ℤ◌, �
 use Rattle.std.proofs.lemmas.Int.{ints, by_lt_z}
 use lib.Signed.{lt_z}
 use borrow.Author.Differences.{true_is_lt, false_is_lt}
-use Rattle.pg_plane.specs.declared.segments.Point.{Point}
+use Rattle.pg_plane.specs.declared.grid_points.Point.{Point}
 use Rattle.pg_plane.specs.Geometry.{vector, cross, area}
 use Rattle.pg_plane.proofs.Ring.{ring, sums}
 use Rattle.pg_plane.proofs.Triangle.{IsLeftTurn}
@@ -43,6 +43,5 @@ triangle_turn p a b c positive = record {
   not_flat = λ e f.
       let g : b.y ≡ a.y = omega (arith, ints) in
       let h : c.y ≡ a.y = omega (arith, ints) in
-      let z = flat_area a b c g h in
-      omega (arith, ints);
+      omega (arith, flat_area a b c g h, ints);
 }

@@ -3,7 +3,7 @@ use Rattle.std.proofs.Common.{◌≡◌, ℕ, ◌+◌, ◌*◌, ◌<◌, ◌≤�
 use Rattle.std.proofs.lemmas.Int.{ints}
 use Rattle.std.specs.Int.RustNames.{unsigned_abs}
 use Rattle.std.proofs.lemmas.Nat.{mul-le}
-use Rattle.pg_plane.specs.declared.segments.Point.{Point}
+use Rattle.pg_plane.specs.declared.grid_points.Point.{Point}
 use Rattle.pg_plane.specs.Geometry.{vector, cross, area}
 use Rattle.pg_plane.specs.Faced.{IsFaced, in_base}
 use Rattle.pg_plane.proofs.Identities.{cross_back}
@@ -50,8 +50,7 @@ IsFaced-scaled k twin step at base n positive d = record {
 -- a multiple wins over a constant
 pub large : (c s : ℤ) (n : ℕ) → unsigned_abs c < n → pos 0 <ℤ s → pos 0 <ℤ ((pos n *ℤ s) -ℤ c)
 large c (pos s) n l p =
-    let h : n * 1 ≤ n * s = mul-le n 1 n s (omega arith) (omega (arith, ints)) in
-    omega (arith, ints)
+    omega (arith, mul-le n 1 n s (omega arith) (omega (arith, ints)), ints)
 large c (negsuc s) n l p = absurd (omega (arith, ints))
 
 -- a multiple of u less v
@@ -136,8 +135,7 @@ near_held k twin step at base d i l s t v ps pt left =
           rw (near_first a b c v s t (pos m)) (product_positive (pos m) ((s +ℤ t) *ℤ cross (vector a b) v) K (product_positive (s +ℤ t) (cross (vector a b) v) w left)) in
           record {
             inner = λ e.
-                let positive = d.inner i l e in
-                let g = product_positive (s +ℤ t) (area a b c) w positive in (
+                let g = product_positive (s +ℤ t) (area a b c) w (d.inner i l e) in (
                   first,
                   rw (near_second a b c v s t (pos m)) (product_positive (pos m) ((pos m *ℤ (s *ℤ ((s +ℤ t) *ℤ area a b c))) -ℤ c2) K (large c2 (s *ℤ ((s +ℤ t) *ℤ area a b c)) m (omega arith) (product_positive s ((s +ℤ t) *ℤ area a b c) ps g))),
                   rw (near_third a b c v s t (pos m)) (product_positive (pos m) ((pos m *ℤ (t *ℤ ((s +ℤ t) *ℤ area a b c))) -ℤ c3) K (large c3 (t *ℤ ((s +ℤ t) *ℤ area a b c)) m (omega arith) (product_positive t ((s +ℤ t) *ℤ area a b c) pt g))),

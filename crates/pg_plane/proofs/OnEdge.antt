@@ -4,7 +4,7 @@ use Rattle.std.proofs.lemmas.Int.{ints, by_lt_z}
 use Rattle.std.proofs.lemmas.Bool.{cases_Bool, true≢false}
 use Rattle.std.specs.Int.RustNames.{unsigned_abs}
 use Rattle.std.proofs.Math.IntN.{*ℤ-zero, zero-*ℤ}
-use Rattle.pg_plane.specs.declared.segments.Point.{Point}
+use Rattle.pg_plane.specs.declared.grid_points.Point.{Point}
 use Rattle.pg_plane.specs.Geometry.{vector, cross, area, IsBetween, IsOnSegment}
 use Rattle.pg_plane.specs.Faced.{in_base, IsFaced, IsTailed, turn}
 use Rattle.pg_plane.proofs.Faces.{face_back, face_then}
@@ -21,13 +21,11 @@ between_end : (s t v : ℤ) → IsBetween s t v → (pos 0 ≤ℤ ((t -ℤ v) *�
 between_end s t v b =
     elim b [
       | inl h ↦
-          let h0 = h.0 in
           let h1 = h.1 in (
             (product_signs (t -ℤ v) (t -ℤ s)).both_up (omega (arith, ints)) (omega (arith, ints)),
             λ z. by_lt_z v t (λ l. let p = (product_signs (t -ℤ v) (t -ℤ s)).both_above (omega (arith, ints)) (omega (arith, ints)) in absurd (omega (arith, sums))) (λ l. omega (arith, ints)),
           )
       | inr h ↦
-          let h0 = h.0 in
           let h1 = h.1 in (
             (product_signs (t -ℤ v) (t -ℤ s)).both_down (omega (arith, ints)) (omega (arith, ints)),
             λ z. by_lt_z t v (λ l. let p = (product_signs (t -ℤ v) (t -ℤ s)).both_below (omega (arith, ints)) (omega (arith, ints)) in absurd (omega (arith, sums))) (λ l. omega (arith, ints)),
@@ -176,13 +174,10 @@ split_into g h u y z = simp ring (omega (arith, sums))
 -- a turn that is seen by two directions of a corner is that of nothing
 parallel : (u y z : Point) → cross u y ≡ pos 0 → cross u z ≡ pos 0 → ¬ (cross y z ≡ pos 0) → (u.x ≡ pos 0) × (u.y ≡ pos 0)
 parallel u y z e f apart =
-    let back = cross_back u z in
     let by_zero : (n : ℤ) → pos 0 *ℤ n ≡ pos 0 = zero-*ℤ in
-    let w = widths u y z in
-    let h = heights u y z in
-    let zu : cross z u ≡ pos 0 = back ∙ ap neg_ℤ f in (
-      factor_zero (cross y z) u.x apart (let a = ap (λ n. n *ℤ y.x) zu ∙ by_zero y.x in let b = ap (λ n. n *ℤ z.x) e ∙ by_zero z.x in omega (arith, sums)),
-      factor_zero (cross y z) u.y apart (let a = ap (λ n. n *ℤ y.y) zu ∙ by_zero y.y in let b = ap (λ n. n *ℤ z.y) e ∙ by_zero z.y in omega (arith, sums)),
+    let zu : cross z u ≡ pos 0 = (cross_back u z) ∙ ap neg_ℤ f in (
+      factor_zero (cross y z) u.x apart (let a = ap (λ n. n *ℤ y.x) zu ∙ by_zero y.x in let b = ap (λ n. n *ℤ z.x) e ∙ by_zero z.x in omega (arith, widths u y z, sums)),
+      factor_zero (cross y z) u.y apart (let a = ap (λ n. n *ℤ y.y) zu ∙ by_zero y.y in let b = ap (λ n. n *ℤ z.y) e ∙ by_zero z.y in omega (arith, heights u y z, sums)),
     )
 
 module _ (k : ℕ) (twin step : ℕ → ℕ) (at : ℕ → Point) (base : ℕ) (d : IsFaced k twin step at base) (tail : ℕ → ℕ) (r : IsTailed k twin step at tail) where
@@ -296,8 +291,6 @@ module _ (k : ℕ) (twin step : ℕ → ℕ) (at : ℕ → Point) (base : ℕ) (
         (λ n2. by_lt_z (cross u (v (pos 2))) (pos 0) (λ l. not_right (pos 2) (omega (arith, ints)) (omega (arith, sums)))
         (λ g2.
         let flat = parallel u y z (omega (arith, sums)) (omega (arith, sums)) (some_area k twin step at base d m lm) in
-        let f0 = flat.0 in
-        let f1 = flat.1 in
         let same : at (step i) ≡ at i = same_point (at (step i)) (at i) (omega (arith, ints)) (omega (arith, ints)) in
         some_area k twin step at base d i li (ap (λ x. area (at i) x (at (step (step i)))) same ∙ flat_first (at i) (at (step (step i))))))))
 

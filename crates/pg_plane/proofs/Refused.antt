@@ -1,7 +1,7 @@
 -- Answers on points that wrong bodies would give.
 use Rattle.std.proofs.Common.{ℕ, pos, inl, ⊎_elim, refl, arith}
 use Rattle.std.proofs.lemmas.Int.{ints}
-use Rattle.pg_plane.specs.declared.segments.Point.{Point}
+use Rattle.pg_plane.specs.declared.grid_points.Point.{Point}
 use Rattle.pg_plane.specs.Geometry.{vector, IsOnSegment, DoCross, IsClockBefore}
 
 abbrev point : ℕ → ℕ → Point

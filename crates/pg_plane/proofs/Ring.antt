@@ -49,8 +49,7 @@ product_not_negative (negsuc a) b p q = absurd (omega (arith, ints))
 
 pub product_positive : (a b : ℤ) → pos 0 <ℤ a → pos 0 <ℤ b → pos 0 <ℤ (a *ℤ b)
 product_positive (pos a) (pos b) p q =
-    let one : 1 * 1 ≤ a * b = mul-le 1 1 a b (omega (arith, ints)) (omega (arith, ints)) in
-    omega (arith, ints)
+    omega (arith, mul-le 1 1 a b (omega (arith, ints)) (omega (arith, ints)), ints)
 product_positive (pos a) (negsuc b) p q = absurd (omega (arith, ints))
 product_positive (negsuc a) b p q = absurd (omega (arith, ints))
 
@@ -66,17 +65,4 @@ pub record Signs (a b c : ℤ) : Type 0 where
 
 -- the sign of a product, by those of its factors
 pub product_signs : (a b : ℤ) → Signs a b (a *ℤ b)
-product_signs a b =
-    let n = mul_neg a b in
-    let m = neg_mul a b in
-    let nn = neg_mul a (neg_ℤ b) in
-    record {
-      both_up = product_not_negative a b;
-      up_down = λ p q. let h = product_not_negative a (neg_ℤ b) p (omega (arith, ints)) in omega (arith, sums);
-      down_up = λ p q. let h = product_not_negative (neg_ℤ a) b (omega (arith, ints)) q in omega (arith, sums);
-      both_down = λ p q. let h = product_not_negative (neg_ℤ a) (neg_ℤ b) (omega (arith, ints)) (omega (arith, ints)) in omega (arith, sums);
-      both_above = product_positive a b;
-      above_below = λ p q. let h = product_positive a (neg_ℤ b) p (omega (arith, ints)) in omega (arith, sums);
-      below_above = λ p q. let h = product_positive (neg_ℤ a) b (omega (arith, ints)) q in omega (arith, sums);
-      both_below = λ p q. let h = product_positive (neg_ℤ a) (neg_ℤ b) (omega (arith, ints)) (omega (arith, ints)) in omega (arith, sums);
-    }
+product_signs a b = grind (arith, mul_neg, neg_mul, neg_ℤ, product_not_negative, ints, product_positive)

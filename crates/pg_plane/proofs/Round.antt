@@ -6,7 +6,7 @@ use Rattle.std.proofs.lemmas.Bool.{cases_Bool, true≢false, and_parts, cases_lt
 use Rattle.std.proofs.Math.Bool.{and-false, and-true}
 use lib.Signed.{lt_z}
 use borrow.Author.Differences.{true_is_lt, false_is_lt}
-use Rattle.pg_plane.specs.declared.segments.Point.{Point}
+use Rattle.pg_plane.specs.declared.grid_points.Point.{Point}
 use Rattle.pg_plane.specs.Geometry.{vector, cross, area}
 use Rattle.classes.proofs.Orbits.{IsPermuting, marks_back}
 use Rattle.pg_plane.specs.Faced.{in_base, IsFaced, IsTailed, turn}
@@ -32,21 +32,17 @@ find_below p (suc n) =
 -- three vectors of one half of the plane: a left turn after a left turn is a left turn
 up_turns : (u v w : Point) → pos 0 <ℤ u.y → pos 0 <ℤ v.y → pos 0 <ℤ w.y → pos 0 <ℤ cross u v → pos 0 <ℤ cross v w → pos 0 <ℤ cross u w
 up_turns u v w hu hv hw uv vw =
-    let h = heights u v w in
     let a = (product_signs (cross v w) u.y).both_above vw hu in
     let b = (product_signs (cross u v) w.y).both_above uv hw in
-    let back = cross_back u w in
     by_lt_z (pos 0) (cross u w) (λ l. l)
-    (λ l. let c = (product_signs (cross w u) v.y).both_up (omega (arith, sums)) (omega (arith, ints)) in absurd (omega (arith, sums)))
+    (λ l. let c = (product_signs (cross w u) v.y).both_up (omega (arith, sums)) (omega (arith, ints)) in absurd (omega (arith, heights u v w, sums)))
 
 down_turns : (u v w : Point) → u.y <ℤ pos 0 → v.y <ℤ pos 0 → w.y <ℤ pos 0 → pos 0 <ℤ cross u v → pos 0 <ℤ cross v w → pos 0 <ℤ cross u w
 down_turns u v w hu hv hw uv vw =
-    let h = heights u v w in
     let a = (product_signs (cross v w) u.y).above_below vw hu in
     let b = (product_signs (cross u v) w.y).above_below uv hw in
-    let back = cross_back u w in
     by_lt_z (pos 0) (cross u w) (λ l. l)
-    (λ l. let c = (product_signs (cross w u) v.y).up_down (omega (arith, sums)) (omega (arith, ints)) in absurd (omega (arith, sums)))
+    (λ l. let c = (product_signs (cross w u) v.y).up_down (omega (arith, sums)) (omega (arith, ints)) in absurd (omega (arith, heights u v w, sums)))
 
 level_here : (p : Point) → up p p ≡ false
 level_here p = let e : p.y -ℤ p.y ≡ pos 0 = omega (arith, ints) in rw e refl
@@ -66,12 +62,10 @@ meets_right p q r negative = rw (sym (false_is_lt (pos 0) (side p q r) (omega (a
 -- what the corner p meets of its own triangle
 corner_there : (p q r : Point) → pos 0 <ℤ area p q r → (there_at p p q r ≡ one_if (not (up p q) && up p r)) × (back_at p p q r ≡ 0)
 corner_there p q r positive =
-    let back = cross_back (vector p q) (vector p r) in
     (rw (meets_from p q, meets_to p r, meets_left p q r positive) (omega arith), rw (meets_to p q, meets_from p r, meets_right p r q (omega (arith, ints))) (omega arith))
 
 corner_back : (p q r : Point) → area p q r <ℤ pos 0 → (there_at p p q r ≡ 0) × (back_at p p q r ≡ one_if (not (up p r) && up p q))
 corner_back p q r negative =
-    let back = cross_back (vector p q) (vector p r) in
     (rw (meets_from p q, meets_to p r, meets_right p q r negative) (omega arith), rw (meets_to p q, meets_from p r, meets_left p r q (omega (arith, ints))) (omega arith))
 
 not_true : (x : Bool) → not x ≡ true → x ≡ false
@@ -107,8 +101,7 @@ module _ (k : ℕ) (twin step : ℕ → ℕ) (at : ℕ → Point) (base : ℕ) (
 
   pub turn_place : (i : ℕ) → i < k → at (turn twin step i) ≡ at i
   turn_place i l =
-      let s = d.steps.within i l in
-      twin_place k twin step at base d (step (step i)) (d.steps.within (step i) s) ∙ ap at (d.thrice i l)
+      twin_place k twin step at base d (step (step i)) (d.steps.within (step i) (d.steps.within i l)) ∙ ap at (d.thrice i l)
 
   pub turn_head : (i : ℕ) → i < k → at (step (turn twin step i)) ≡ at (step (step i))
   turn_head i l = twin_head k twin step at base d (step (step i)) (d.steps.within (step i) (d.steps.within i l))
@@ -144,13 +137,7 @@ module _ (k : ℕ) (twin step : ℕ → ℕ) (at : ℕ → Point) (base : ℕ) (
       ]
 
   pub turns : IsPermuting (turn twin step) k
-  turns = record {
-    within = λ i l. d.twins.within (step (step i)) (d.steps.within (step i) (d.steps.within i l));
-    apart = λ i j l m e.
-        let ls = d.steps.within i l in
-        let ms = d.steps.within j m in
-        d.steps.apart i j l m (d.steps.apart (step i) (step j) ls ms (d.twins.apart (step (step i)) (step (step j)) (d.steps.within (step i) ls) (d.steps.within (step j) ms) e));
-  }
+  turns = grind arith
 
   pub turn_tail : (tail : ℕ → ℕ) → IsTailed k twin step at tail → (i : ℕ) → i < k → tail (turn twin step i) ≡ tail i
   turn_tail tail r i l = sym (r.tails (step (step i)) (d.steps.within (step i) (d.steps.within i l))) ∙ ap tail (d.thrice i l)
@@ -270,5 +257,4 @@ module _ (k : ℕ) (twin step : ℕ → ℕ) (at : ℕ → Point) (base : ℕ) (
     places_apart i j li lj same =
         let a = holds_some i li in
         let b = holds_some j lj in
-        let here : at a.0 ≡ at b.0 = r.places a.0 i a.1 li a.2 ∙ same ∙ sym (r.places b.0 j b.1 lj b.2) in
-        sym a.2 ∙ ap tail (holds_once a.0 b.0 a.1 b.1 here a.3 b.3) ∙ b.2
+        sym a.2 ∙ ap tail (holds_once a.0 b.0 a.1 b.1 (r.places a.0 i a.1 li a.2 ∙ same ∙ sym (r.places b.0 j b.1 lj b.2)) a.3 b.3) ∙ b.2

@@ -1,7 +1,7 @@
 -- Segments with their ends exchanged, and crossings with the two segments exchanged.
 use Rattle.std.proofs.Common.{ℤ, neg_ℤ, ap, ◌∙◌, inl, inr, ⊎_elim, arith}
 use Rattle.std.proofs.lemmas.Int.{ints}
-use Rattle.pg_plane.specs.declared.segments.Point.{Point}
+use Rattle.pg_plane.specs.declared.grid_points.Point.{Point}
 use Rattle.pg_plane.specs.Geometry.{area, IsBetween, IsOnSegment, AreOpposite, DoCross}
 use Rattle.pg_plane.proofs.Crossing.{area_back}
 

@@ -4,7 +4,7 @@ use Rattle.std.proofs.lemmas.Int.{ints, by_lt_z}
 use Rattle.std.proofs.lemmas.Nat.{mul-le}
 use Rattle.std.proofs.lemmas.Bool.{cases_Bool, cases_lt, true≢false}
 use Rattle.std.specs.Int.RustNames.{unsigned_abs}
-use Rattle.pg_plane.specs.declared.segments.Point.{Point}
+use Rattle.pg_plane.specs.declared.grid_points.Point.{Point}
 use Rattle.pg_plane.specs.Geometry.{vector, cross, area, IsFirstHalf, IsClockBefore}
 use Rattle.pg_plane.specs.Faced.{in_base, IsFaced, IsTailed, turn}
 use Rattle.pg_plane.proofs.Ring.{sums, ring, product_positive, product_signs}
@@ -45,15 +45,7 @@ bound_below f (suc k) =
 
 -- a number of less than n in size is no multiple of n but zero
 steep : (n : ℕ) (v : Point) → unsigned_abs v.x < n → (pos 0 <ℤ v.y → (v.x -ℤ (pos n *ℤ v.y)) <ℤ pos 0) × (v.y <ℤ pos 0 → pos 0 <ℤ (v.x -ℤ (pos n *ℤ v.y)))
-steep n v l = (λ h. up_case v.y h, λ h. down_case v.y h)
-  where
-    up_case : (y : ℤ) → pos 0 <ℤ y → (v.x -ℤ (pos n *ℤ y)) <ℤ pos 0
-    up_case (pos y) h = let m : n * 1 ≤ n * y = mul-le n 1 n y (omega arith) (omega (arith, ints)) in omega (arith, ints)
-    up_case (negsuc y) h = absurd (omega (arith, ints))
-
-    down_case : (y : ℤ) → y <ℤ pos 0 → pos 0 <ℤ (v.x -ℤ (pos n *ℤ y))
-    down_case (pos y) h = absurd (omega (arith, ints))
-    down_case (negsuc y) h = let m : n * 1 ≤ n * suc y = mul-le n 1 n (suc y) (omega arith) (omega arith) in omega (arith, ints)
+steep n v l = grind (arith, pos, mul-le, ints, negsuc)
 
 zero_times : (n y : ℤ) → y ≡ pos 0 → n *ℤ y ≡ pos 0
 zero_times n y e = rw e (omega (arith, ints))
@@ -66,28 +58,12 @@ half_of n v l some =
       λ h. by_lt_z (pos 0) v.y (λ a. inl a)
           (λ a. by_lt_z v.y (pos 0) (λ b. let c = s.1 b in absurd (omega (arith, ints)))
           (λ b. let e : v.y ≡ pos 0 = omega (arith, ints) in
-          let z = zero_times (pos n) v.y e in
-          inr (e, by_lt_z v.x (pos 0) (λ c. c) (λ c. absurd (some (omega (arith, ints)) e))))),
+          inr (e, by_lt_z v.x (pos 0) (λ c. c) (λ c. absurd (some (omega (arith, zero_times (pos n) v.y e, ints)) e))))),
     )
 
 -- which of two directions comes first, by halves and the turn between them
 before_cases : (up_d up_e : Bool) (d e : Point) → (up_d ≡ true → ¬ IsFirstHalf d) → (up_d ≡ false → IsFirstHalf d) → (up_e ≡ true → ¬ IsFirstHalf e) → (up_e ≡ false → IsFirstHalf e) → (cross d e <ℤ pos 0 → ((not up_e && up_d) ≡ true → ¬ IsClockBefore d e) × (¬ IsClockBefore d e → (not up_e && up_d) ≡ true)) × (pos 0 <ℤ cross d e → (not (not up_d && up_e) ≡ true → ¬ IsClockBefore d e) × (¬ IsClockBefore d e → not (not up_d && up_e) ≡ true))
-before_cases true true d e dt df et ef = (
-  λ n. (λ h. absurd (true≢false (sym h)), λ b. absurd (b (inr (inr (dt refl, et refl, n))))),
-  λ g. (λ h b. ⊎_elim (λ x. dt refl x.0) (λ x. ⊎_elim (λ y. dt refl y.0) (λ y. let c = y.2 in omega (arith, ints)) x) b, λ b. refl),
-)
-before_cases true false d e dt df et ef = (
-  λ n. (λ h b. ⊎_elim (λ x. dt refl x.0) (λ x. ⊎_elim (λ y. dt refl y.0) (λ y. y.1 (ef refl)) x) b, λ b. refl),
-  λ g. (λ h b. ⊎_elim (λ x. dt refl x.0) (λ x. ⊎_elim (λ y. dt refl y.0) (λ y. y.1 (ef refl)) x) b, λ b. refl),
-)
-before_cases false true d e dt df et ef = (
-  λ n. (λ h. absurd (true≢false (sym h)), λ b. absurd (b (inl (df refl, et refl)))),
-  λ g. (λ h. absurd (true≢false (sym h)), λ b. absurd (b (inl (df refl, et refl)))),
-)
-before_cases false false d e dt df et ef = (
-  λ n. (λ h. absurd (true≢false (sym h)), λ b. absurd (b (inr (inl (df refl, ef refl, n))))),
-  λ g. (λ h b. ⊎_elim (λ x. x.1 (ef refl)) (λ x. ⊎_elim (λ y. let c = y.2 in omega (arith, ints)) (λ y. y.0 (df refl)) x) b, λ b. refl),
-)
+before_cases x0 x1 d e dt df et ef = grind (arith, true≢false, ints)
 
 module _ (k : ℕ) (twin step : ℕ → ℕ) (at : ℕ → Point) (base : ℕ) (d : IsFaced k twin step at base) (tail : ℕ → ℕ) (r : IsTailed k twin step at tail) where
   -- the direction of a dart
@@ -123,7 +99,6 @@ module _ (k : ℕ) (twin step : ℕ → ℕ) (at : ℕ → Point) (base : ℕ) (
       let h = height_tilted (pos n) (at i) (at (step i)) in
       let v = way i in
       let s = steep n v (short i l) in
-      let zero : (v.x -ℤ (pos n *ℤ v.y)) ≡ pos 0 = omega (arith, ints) in
       by_lt_z (pos 0) v.y (λ a. let c = s.0 a in omega (arith, ints))
       (λ a. by_lt_z v.y (pos 0) (λ b. let c = s.1 b in omega (arith, ints))
       (λ b. let y : v.y ≡ pos 0 = omega (arith, ints) in let z = zero_times (pos n) v.y y in some_way i l (omega (arith, ints)) y))
@@ -149,17 +124,14 @@ module _ (k : ℕ) (twin step : ℕ → ℕ) (at : ℕ → Point) (base : ℕ) (
       let cases = before_cases (up_of j) (up_of i) (way j) (way i) (half j lj).0 (half j lj).1 (half i l).0 (half i l).1 in
       let same : cross (way j) (way i) ≡ cross (vector (at i) (at (step (step i)))) (way i) =
       ap₂ (λ p q. cross (vector p q) (way i)) (turn_place k twin step at base d i l) (turn_head k twin step at base d i l) in
-      let back = cross_back (way i) (vector (at i) (at (step (step i)))) in
       let is = holds_is k twin step (λ g. tilted (pos n) (at g)) base t i in
       elim (cases_Bool (in_base step base i)) [
         | inl e ↦
-            let a = base_area k twin step at base d (at i) i e in
-            let c = cases.1 (omega (arith, ints)) in
+            let c = cases.1 (omega (arith, base_area k twin step at base d (at i) i e, ints)) in
             let is' : holds k twin step (λ g. tilted (pos n) (at g)) base t i ≡ not (not (up_of j) && up_of i) = is ∙ rw e refl in
             (λ h. c.0 (sym is' ∙ h), λ b. is' ∙ c.1 b)
         | inr e ↦
-            let a = d.inner i l e in
-            let c = cases.0 (omega (arith, ints)) in
+            let c = cases.0 (omega (arith, d.inner i l e, ints)) in
             let is' : holds k twin step (λ g. tilted (pos n) (at g)) base t i ≡ (not (up_of i) && up_of j) = is ∙ rw e refl in
             (λ h. c.0 (sym is' ∙ h), λ b. is' ∙ c.1 b)
       ]

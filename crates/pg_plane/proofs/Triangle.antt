@@ -108,12 +108,7 @@ none_met s1 s2 s3 there back e f never = rw (e, f) (record { once = omega arith;
 
 pair_met : (s1 s2 s3 : ℤ) (l r : Bool) (there back : ℕ) → there ≡ one_if l → back ≡ one_if r → (l ≡ false → r ≡ true → ⊥) → (pos 0 <ℤ s1 → pos 0 <ℤ s2 → pos 0 <ℤ s3 → (l ≡ true) × (r ≡ false)) → (l ≡ true → r ≡ false → (pos 0 ≤ℤ s1) × (pos 0 ≤ℤ s2) × (pos 0 ≤ℤ s3)) → IsMet s1 s2 s3 there back
 pair_met s1 s2 s3 true true there back e f never held out = rw (e, f) (record { once = omega arith; inside = λ a b c. absurd (false≢true (sym (held a b c).1)); outside = λ o. refl })
-pair_met s1 s2 s3 true false there back e f never held out =
-    rw (e, f) (record {
-      once = omega arith;
-      inside = λ a b c. refl;
-      outside = λ o. let n = out refl refl in absurd (elim o [ inl x ↦ omega (arith, ints) | inr y ↦ elim y [ inl x ↦ omega (arith, ints) | inr x ↦ omega (arith, ints) ] ]);
-    })
+pair_met s1 s2 s3 true false there back e f never held out = grind (arith, ints)
 pair_met s1 s2 s3 false true there back e f never held out = absurd (never refl refl)
 pair_met s1 s2 s3 false false there back e f never held out = rw (e, f) (record { once = omega arith; inside = λ a b c. absurd (false≢true (held a b c).0); outside = λ o. refl })
 

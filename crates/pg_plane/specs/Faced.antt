@@ -1,6 +1,6 @@
 -- A drawing by its darts: each has a place, that of the vertex that it leaves; the twin is the dart the other way, and the step goes on along the face on the left.
 use Rattle.std.specs.Prelude.{ℕ, ◌<◌, ◌≡◌, ◌||◌, ◌==◌, Bool, false, pos, ◌<ℤ◌}
-use Rattle.pg_plane.specs.declared.segments.Point.{Point}
+use Rattle.pg_plane.specs.declared.grid_points.Point.{Point}
 use Rattle.pg_plane.specs.Geometry.{area}
 use Rattle.classes.proofs.Orbits.{IsPermuting}
 

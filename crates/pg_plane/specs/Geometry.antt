@@ -1,6 +1,6 @@
 -- Areas, segments, crossings and directions, over whole numbers of any size.
 use Rattle.std.specs.Prelude.{ℤ, pos, ◌-ℤ◌, ◌*ℤ◌, ◌≤ℤ◌, ◌<ℤ◌, ◌≡◌, ◌⊎◌}
-use Rattle.pg_plane.specs.declared.segments.Point.{Point}
+use Rattle.pg_plane.specs.declared.grid_points.Point.{Point}
 
 -- the vector from the first point to the second
 abbrev pub vector : Point → Point → Point

@@ -1,6 +1,6 @@
 -- What counterclockwise faces imply of a drawing, said of its darts.
 use Rattle.std.specs.Prelude.{ℕ, ◌<◌, ◌≡◌, ◌≢◌}
-use Rattle.pg_plane.specs.declared.segments.Point.{Point}
+use Rattle.pg_plane.specs.declared.grid_points.Point.{Point}
 use Rattle.pg_plane.specs.Geometry.{vector, IsOnSegment, DoCross, IsClockBefore}
 use Rattle.pg_plane.specs.Faced.{IsFaced, IsTailed, turn}
 

@@ -1,6 +1,6 @@
 -- The range of coordinates for which the calls are promised.
 use Rattle.std.specs.Prelude.{ℤ, pos, neg_ℤ, ◌≤ℤ◌}
-use Rattle.pg_plane.specs.declared.segments.Point.{Point}
+use Rattle.pg_plane.specs.declared.grid_points.Point.{Point}
 
 -- a number is from -n to n
 pub record IsWithin (n : ℤ) (z : ℤ) : Type 0 where

@@ -6,7 +6,7 @@
 
 pub mod face_geometry;
 mod figures;
-mod segments;
+mod grid_points;
 
 pub use figures::{BarFigure, GridFigure, Ints, Points, RectFigure};
-pub use segments::{Point, area2, clock_before, crosses, on_segment};
+pub use grid_points::{Point, area2, clock_before, crosses, on_segment};

@@ -3,7 +3,7 @@ use Rattle.std.proofs.Common.{◌≡◌, ◌+◌, ◌<◌, ◌≤◌, ℕ, zero,
 use Rattle.std.proofs.Math.ListN.{set}
 use Rattle.std.proofs.lemmas.List.{take_more, take_more_set, take_all}
 use Rattle.map_lists.specs.Cuts.{AreCuts}
-use Rattle.pg_plane.specs.declared.segments.Point.{Point}
+use Rattle.pg_plane.specs.declared.grid_points.Point.{Point}
 use Rattle.map_lists.proofs.CutLemmas.{length-cut}
 use Rattle.pg_plane.specs.Range.{IsInRange}
 use Rattle.plane_drawings.specs.Drawing.{place}

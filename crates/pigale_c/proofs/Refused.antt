@@ -1,6 +1,6 @@
 -- Wrong bodies that the clauses exclude.
 use Rattle.std.proofs.Common.{◌≡◌, ℕ, List, [], ◌∷◌, ℤ, pos, refl, ap, ◌∙◌, arith, lit<}
-use Rattle.pg_plane.specs.declared.segments.Point.{Point}
+use Rattle.pg_plane.specs.declared.grid_points.Point.{Point}
 use Rattle.plane_drawings.specs.Drawing.{place}
 use Rattle.draw_check.specs.declared.verdict.Verdict.TheVariants.{Yes}
 use Rattle.pigale_c.specs.Counted.{IsCounted}

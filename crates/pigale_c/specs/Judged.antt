@@ -5,7 +5,7 @@ use Rattle.map_theory.specs.Maps.{HasDart}
 use Rattle.simple_maps.specs.Faults.{first_fault}
 use Rattle.refusals.specs.Conditions.{fault_refusal}
 use Rattle.half_edges.specs.Map.{first_dart}
-use Rattle.pg_plane.specs.declared.segments.Point.{Point}
+use Rattle.pg_plane.specs.declared.grid_points.Point.{Point}
 use Rattle.draw_check.specs.Verdicts.{IsVerdict}
 use Rattle.draw_check.specs.declared.verdict.Verdict.TheVariants.{Yes}
 use Rattle.convex_check.specs.Verdicts.{IsConvexVerdict}

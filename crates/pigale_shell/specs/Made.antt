@@ -3,7 +3,7 @@ use Rattle.std.specs.Prelude.{ℕ, ◌≡◌, ◌⊎◌, true, List, [], ◌∷�
 use Rattle.std.specs.Fmt.{signed_decimal}
 use Rattle.map_lists.specs.Lists.{Lists}
 use Rattle.map_gen.specs.Stacked.{stacked}
-use Rattle.pg_plane.specs.declared.segments.Point.{Point}
+use Rattle.pg_plane.specs.declared.grid_points.Point.{Point}
 use Rattle.pg_plane.specs.declared.figures.GridFigure.{GridFigure}
 use Rattle.grid_figures.specs.ShiftFiguresFigures.{IsShiftFigure}
 use Rattle.record_runs.specs.Texts.{Reads, Answers}

@@ -283,15 +283,3 @@ pub job_words-law : JobWords
 job_words-law words j = (spelled_by words j, job_by words j)
 
 -- the words of `count`, written out
-
-no_job_alone : {words : List Text} → Spell words None [] → (words ≡ []) ⊎ (words ≡ codes "--" ∷ [])
-no_job_alone nothing = inl refl
-no_job_alone hyphens = inr refl
-
-job_alone : {words : List Text} {word : Text} → Spell words (Some word) [] → (words ≡ word ∷ []) ⊎ ((words ≡ codes "--" ∷ word ∷ []) ⊎ (words ≡ word ∷ codes "--" ∷ []))
-job_alone behind = inr (inl refl)
-job_alone (job_word {word = word} spell) = go (no_job_alone spell)
-  where
-    go : {words : List Text} → (words ≡ []) ⊎ (words ≡ codes "--" ∷ []) → (word ∷ words ≡ word ∷ []) ⊎ ((word ∷ words ≡ codes "--" ∷ word ∷ []) ⊎ (word ∷ words ≡ word ∷ codes "--" ∷ []))
-    go (inl e) = inl (ap (λ ws. word ∷ ws) e)
-    go (inr e) = inr (inr (ap (λ ws. word ∷ ws) e))

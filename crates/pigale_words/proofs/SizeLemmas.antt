@@ -18,12 +18,7 @@ within-range : (least most n m : ℕ) → within least most n ≡ Some m → (le
 within-range least most n m is = (grind (arith, nat_tests), grind (arith, nat_tests))
 
 number_in-range : (least most : ℕ) (text : List ℕ) (n : ℕ) → number_in least most text ≡ Some n → (least ≤ n) × (n ≤ most)
-number_in-range least most text n is = go (canonical text) (decimal_from 0 text) is
-  where
-    go : (c : Bool) (d : Option ℕ) → (if c then option_and_then (within least most) d else None) ≡ Some n → (least ≤ n) × (n ≤ most)
-    go false d e = absurd (none-some n e)
-    go true None e = absurd (none-some n e)
-    go true (Some d) e = within-range least most d n e
+number_in-range least most text n is = grind (arith, canonical, decimal_from, Option, option_and_then, within, None, Some, none-some, within-range)
 
 abbrev is_made : Job → Bool
 is_made (Gen size number) = true

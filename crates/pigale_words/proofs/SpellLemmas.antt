@@ -370,12 +370,11 @@ ends_by behind rows p true end full fresh due awaits plains adds = absurd (none-
 ends_by (behind {word = word}) rows p false end full fresh due awaits plains adds = subst (Ends (idle_at rows p false) (codes "--" ∷ word ∷ [])) adds (job_ends rows p full fresh word awaits.0)
 ends_by (job_word spell) rows p true end full fresh due awaits plains adds = absurd (none-some _ (sym due))
 ends_by (job_word {word = word} {words = words} {options = options} spell) rows p false end full fresh due awaits plains adds =
-    let plain_word = awaits.1 in
-    let goes = plain_stays idle (held rows p) 1 word plain_word.2 in
+    let goes = plain_stays idle (held rows p) 1 word awaits.1.2 in
     let once = none_settled rows p full fresh the_job awaits.0 in
     next_step (idle_at rows p false) (idle_at (settled_rows rules (pend p) rows) (text_of the_job word) true) word words end
-    (turn_fault_by idle (held rows p) 1 word false None plain_word.0 plain_word.1 ∙ goes.0 ∙ first_fault (held rows p) ∙ fresh_settles p rows fresh)
-    (walked_by idle (held rows p) 1 word false None plain_word.0 plain_word.1 ∙ goes.1 ∙ first_takes false rows p word)
+    (turn_fault_by idle (held rows p) 1 word false None awaits.1.0 awaits.1.1 ∙ goes.0 ∙ first_fault (held rows p) ∙ fresh_settles p rows fresh)
+    (walked_by idle (held rows p) 1 word false None awaits.1.0 awaits.1.1 ∙ goes.1 ∙ first_takes false rows p word)
     (ends_by spell (settled_rows rules (pend p) rows) (text_of the_job word) true end (full_settled p rows fresh full) once refl tt plains
     (subst (λ g. Adds options (put the_job word g) end) (sym (given_settled p rows fresh)) adds))
 ends_by (apart {name = nm} {text = text} {words = words} {word = want} {options = options} spell) rows p met end full fresh due awaits plains (k, is, same, none, adds) =
@@ -384,15 +383,14 @@ ends_by (apart {name = nm} {text = text} {words = words} {word = want} {options 
     let sits = given_settled p rows fresh in
     let once = none_settled rows p full fresh k (sym (get_with k want g is) ∙ none) in
     let read = option_word_is k None in
-    let plain_text = plains.0 in
-    let goes = plain_stays (option (name k)) (waiting_held there k) (place met) text plain_text.2 in
+    let goes = plain_stays (option (name k)) (waiting_held there k) (place met) text plains.0.2 in
     subst (λ m. Ends (idle_at rows p met) ((codes "--" ++ m) ∷ text ∷ words) end) (sym same)
     (next_step (idle_at rows p met) (waiting_at there k met) (long_word (name k) None) (text ∷ words) end
     (turn_fault_by idle (held rows p) (place met) (long_word (name k) None) false (Some (name k, None)) read.0 read.1 ∙ apart_fault (held rows p) idle (place met) k (long_word (name k) None) is ∙ nil-or_else _ _ (fresh_settles p rows fresh) refl)
     (walked_by idle (held rows p) (place met) (long_word (name k) None) false (Some (name k, None)) read.0 read.1 ∙ apart_met (held rows p) idle (place met) k (long_word (name k) None) is)
     (next_step (waiting_at there k met) (idle_at there (text_of k text) met) text words end
-    (turn_fault_by (option (name k)) (waiting_held there k) (place met) text false None plain_text.0 plain_text.1 ∙ goes.0)
-    (walked_by (option (name k)) (waiting_held there k) (place met) text false None plain_text.0 plain_text.1 ∙ goes.1 ∙ waiting_takes there k met text)
+    (turn_fault_by (option (name k)) (waiting_held there k) (place met) text false None plains.0.0 plains.0.1 ∙ goes.0)
+    (walked_by (option (name k)) (waiting_held there k) (place met) text false None plains.0.0 plains.0.1 ∙ goes.1 ∙ waiting_takes there k met text)
     (ends_by spell there (text_of k text) met end (full_settled p rows fresh full) once due
     (subst (λ h. Awaits want (put k text h)) (sym sits) (awaits_put k text want g is awaits)) plains.1
     (subst (λ h. Adds options (with_job want (put k text h)) end) (sym sits) (subst (λ h. Adds options h end) (sym (put_with k text want g is)) adds)))))

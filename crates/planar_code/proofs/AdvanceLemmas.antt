@@ -86,12 +86,7 @@ module _ (piece : List ℕ) (some : 0 < length piece) (now : Open) (lent : Lists
 module _ (count : ℕ) (old new : Open) (lent : Lists) (piece : List ℕ) (k : ℕ) (some : 0 < k) (within : k ≤ length piece) where
   -- the numbers leave some lists open
   still-open : (few limit : ℕ) (numbers : List ℕ) → IsOpen few limit count old.lists old.last → Gathers limit count numbers old new → (length new.lists ≡ count → ⊥) → IsOpen few limit count new.lists new.last
-  still-open few limit numbers is gathers not = record {
-    few_lists = is.few_lists;
-    some_left = let f = gathers.few in omega (arith, not);
-    small_lists = gathers.small_lists;
-    small_last = gathers.small_last;
-  }
+  still-open few limit numbers is gathers not = grind arith
 
   -- how many lists the numbers close
   closes : (limit : ℕ) (numbers : List ℕ) → Gathers limit count numbers old new → zeros (numbers_of old.lists old.last ++ numbers) ≡ length new.lists
@@ -107,16 +102,12 @@ module _ (count : ℕ) (old new : Open) (lent : Lists) (piece : List ℕ) (k : �
   few-before limit front last positive gathers all =
       let whole : record_numbers new.lists ≡ (numbers_of old.lists old.last ++ front) ++ last ∷ [] = sym (whole-numbers limit (front ++ last ∷ []) gathers all) ∙ sym (append_assoc (numbers_of old.lists old.last) front (last ∷ [])) in
       let is_zero : last ≡ 0 = ends-zero new.lists (numbers_of old.lists old.last ++ front) last (omega (arith, all)) whole in
-      let one : zeros (last ∷ []) ≡ 1 = ap (λ (x : ℕ). zeros (x ∷ [])) is_zero in
       let split : zeros ((numbers_of old.lists old.last ++ front) ++ last ∷ []) ≡ length new.lists = ap zeros (append_assoc (numbers_of old.lists old.last) front (last ∷ [])) ∙ closes limit (front ++ last ∷ []) gathers in
-      omega (arith, zeros-append (numbers_of old.lists old.last ++ front) (last ∷ []), all)
+      omega (arith, ap (λ (x : ℕ). zeros (x ∷ [])) is_zero, zeros-append (numbers_of old.lists old.last ++ front) (last ∷ []), all)
 
   -- lists of a narrow record that leave some open
   pub narrow-more : IsScanned (Narrow count) old → Gathers 255 count (take k piece) old new → (length new.lists ≡ count → ⊥) → Advances (Narrow count) old lent piece (Narrow count) (More k) new lent
   narrow-more is gathers not =
-      let positive : length old.lists < count = is.some_left in
-      let f = gathers.few in
-      let r = gathers.room in
       record {
         is = still-open 256 255 (take k piece) is gathers not;
         scans = (
@@ -132,7 +123,6 @@ module _ (count : ℕ) (old new : Open) (lent : Lists) (piece : List ℕ) (k : �
   -- and those that end it
   pub narrow-ends : (after : Open) (lists : Lists) → IsScanned (Narrow count) old → Gathers 255 count (take k piece) old new → length new.lists ≡ count → lists ≡ new.lists → after.lists ≡ [] → after.last ≡ [] → Advances (Narrow count) old lent piece Start (Ended k) after lists
   narrow-ends after lists is gathers all same none none' =
-      let positive : length old.lists < count = is.some_left in
       let small : count < 256 = is.few_lists in
       let front = take (k - 1) piece in
       let b = get_or piece (k - 1) 0 in
@@ -160,8 +150,6 @@ module _ (count : ℕ) (old new : Open) (lent : Lists) (piece : List ℕ) (k : �
   -- lists of a wide record that leave some open
   pub wide-more : IsScanned (Wide count) old → GathersWide count (take k piece) old new → (length new.lists ≡ count → ⊥) → Advances (Wide count) old lent piece (Wide count) (More k) new lent
   wide-more is gathers not =
-      let positive : length old.lists < count = is.some_left in
-      let f = gathers.2.few in
       let P : List ℕ → Type 0 = λ x. Passes (wide_bytes count (numbers_of old.lists old.last)) x in
       record {
         is = still-open 4096 65535 gathers.0 is gathers.2 not;
@@ -202,7 +190,6 @@ module _ (count : ℕ) (old new : Open) (lent : Lists) (piece : List ℕ) (k : �
   -- and those that end it
   pub wide-ends : (after : Open) (lists : Lists) → IsScanned (Wide count) old → GathersWide count (take k piece) old new → length new.lists ≡ count → lists ≡ new.lists → after.lists ≡ [] → after.last ≡ [] → Advances (Wide count) old lent piece Start (Ended k) after lists
   wide-ends after lists is gathers all same none none' =
-      let positive : length old.lists < count = is.some_left in
       let xs = numbers_of old.lists old.last in
       let cut = before-last gathers.0 gathers.1 in
       let P : List ℕ → Type 0 = λ x. Gathers 65535 count x old new in
@@ -239,7 +226,6 @@ module _ (count high low n : ℕ) (old new : Open) (lent : Lists) (piece : List 
   pub half-more : (length new.lists ≡ count → ⊥) → Advances (WideHalf count high) old lent piece (Wide count) (More 1) new lent
   half-more not =
       let gathers = half-gathers in
-      let f = gathers.few in
       let few : zeros (numbers_of old.lists old.last ++ n ∷ []) < count = omega (arith, ap zeros gathers.joined, zeros-numbers_of new.lists new.last, not) in
       let P : List ℕ → Type 0 = λ x. GoesOn x in
       one-more (WideHalf count high) (Wide count) old new lent piece low some at
@@ -252,7 +238,6 @@ module _ (count high low n : ℕ) (old new : Open) (lent : Lists) (piece : List 
   pub half-ends : (after : Open) (lists : Lists) → length new.lists ≡ count → lists ≡ new.lists → after.lists ≡ [] → after.last ≡ [] → Advances (WideHalf count high) old lent piece Start (Ended 1) after lists
   half-ends after lists all same none none' =
       let gathers = half-gathers in
-      let positive : length old.lists < count = is.some_left in
       let numbers : numbers_of new.lists new.last ≡ record_numbers new.lists = rw (gathers.full all) (append-nil (record_numbers new.lists)) in
       let first : low ∷ [] ≡ take 1 piece = ap (λ (x : ℕ). x ∷ []) (sym at) ∙ sym (take-first piece some) in
       let spelled : bytes_of (WideHalf count high) old ++ take 1 piece ≡ 0 ∷ flat_map two_bytes (length new.lists ∷ record_numbers new.lists) =

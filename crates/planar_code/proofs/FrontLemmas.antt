@@ -16,8 +16,7 @@ GoesOn xs b = (length xs < 15) × (b ≡ get_or header (length xs) 0)
 front_from_push : (xs : List ℕ) (b : ℕ) → xs ++ b ∷ [] ≡ take (length (xs ++ b ∷ [])) header → (xs ≡ take (length xs) header) × GoesOn xs b
 front_from_push xs b is =
     let pushed : length (xs ++ b ∷ []) ≡ length xs + 1 = length-append xs (b ∷ []) in
-    let taken = length-take (length (xs ++ b ∷ [])) header in
-    let within : length xs < 15 = omega (arith, ap length is) in
+    let within : length xs < 15 = omega (arith, length-take (length (xs ++ b ∷ [])) header, ap length is) in
     let parts = same_from_push xs (take (length xs) header) b (get_or header (length xs) 0) (is ∙ ap (λ (n : ℕ). take n header) pushed ∙ take_more header (length xs) 0 within) in
     (parts.0, (within, parts.1))
 
@@ -28,12 +27,7 @@ push_from_front xs b is =
 
 -- A test that is true exactly where a front of the header goes on with a byte.
 pub front-push : (xs : List ℕ) (b : ℕ) (on : Bool) → Decides on (IsTrue (is_front xs) × (length xs < 15) × (b ≡ get_or header (length xs) 0)) → on ≡ is_front (xs ++ b ∷ [])
-front-push xs b on goes =
-    let front = bytes_eq-Decides xs (take (length xs) header) in
-    same_from_decides on (is_front (xs ++ b ∷ [])) goes
-    (Decides-like (is_front (xs ++ b ∷ [])) (λ (is : xs ++ b ∷ [] ≡ take (length (xs ++ b ∷ [])) header). let parts = front_from_push xs b is in (front.1 parts.0, parts.1.0, parts.1.1))
-    (λ (is : IsTrue (is_front xs) × (length xs < 15) × (b ≡ get_or header (length xs) 0)). push_from_front xs b (front.0 is.0, (is.1, is.2)))
-    (bytes_eq-Decides (xs ++ b ∷ []) (take (length (xs ++ b ∷ [])) header)))
+front-push xs b on goes = grind (arith, bytes_eq-Decides, take, length, header, same_from_decides, is_front, Decides-like, front_from_push, IsTrue, get_or, push_from_front)
 
 -- a front of the header is the header exactly where it has its length
 header-front : (xs : List ℕ) → IsTrue (is_front xs) × (length xs ≡ 15) → xs ≡ header
@@ -64,12 +58,7 @@ after-no_header state bytes is = rw is refl
 pub counted-push : (may : Bool) (pending : List ℕ) (b count : ℕ) (front on : Bool) → IsCounted may pending count front → Decides on (IsTrue front × (count < 15) × (b ≡ get_or header count 0)) → IsCounted may (pending ++ b ∷ []) (count + 1) on
 counted-push true pending b count front on is goes =
     (rw (length-append pending (b ∷ [])) (omega (arith, is.0)), front-push pending b on (rw (← is.1, ← is.0) goes))
-counted-push false pending b count front on is goes =
-    (rw (length-append pending (b ∷ [])) (omega (arith, is.0)), never on (λ e. false≢true (sym is.1 ∙ (goes.0 e).0)))
-  where
-    never : (on : Bool) → (on ≡ true → ⊥) → on ≡ false
-    never true not = absurd (not refl)
-    never false not = refl
+counted-push false pending b count front on is goes = grind (arith, length-append, false≢true)
 
 -- What a front of the header begins with is a front of it.
 pub front-shorter : (xs : List ℕ) (b : ℕ) → IsTrue (is_front (xs ++ b ∷ [])) → IsTrue (is_front xs)

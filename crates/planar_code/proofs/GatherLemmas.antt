@@ -8,23 +8,12 @@ use Rattle.planar_code.proofs.ScanLemmas.{collected, collected-closed, collected
 
 -- no numbers
 pub gathers-none : (few limit count : ℕ) (now : Open) → IsOpen few limit count now.lists now.last → Gathers limit count [] now now
-gathers-none few limit count now is =
-    let some : length now.lists < count = is.some_left in
-    record {
-      joined = sym (append-nil (numbers_of now.lists now.last));
-      few = omega arith;
-      full = λ e. absurd (omega arith);
-      small_lists = is.small_lists;
-      small_last = is.small_last;
-      room = omega arith;
-      most = refl;
-    }
+gathers-none few limit count now is = grind (arith, append-nil, numbers_of)
 
 -- one number more, where not all lists are closed
 pub gathers-more : (limit count number : ℕ) (numbers : List ℕ) (old mid new : Open) → number ≤ limit → length mid.lists < count → Gathers limit count numbers old mid → Collects number mid.lists mid.last new.lists new.last → mid.room ≤ new.room + 1 → new.most ≡ mid.most → Gathers limit count (numbers ++ number ∷ []) old new
 gathers-more limit count number numbers old mid new low some is collects room most =
     let more = collected-length number mid.lists mid.last new.lists new.last collects in
-    let r = is.room in
     record {
       joined = collected number mid.lists mid.last new.lists new.last collects ∙ ap (λ (x : List ℕ). x ++ number ∷ []) is.joined ∙ append_assoc (numbers_of old.lists old.last) numbers (number ∷ []);
       few = omega arith;
@@ -38,9 +27,7 @@ gathers-more limit count number numbers old mid new low some is collects room mo
 -- the lists are not yet as many as the count says where the number is no 0, or where they are not as many then
 pub still-some : (count number : ℕ) (mid new : Open) → length mid.lists < count → Collects number mid.lists mid.last new.lists new.last → (number ≡ 0 → length new.lists ≡ count → ⊥) → length new.lists < count
 still-some count zero mid new some collects not =
-    let more = collected-length zero mid.lists mid.last new.lists new.last collects in
-    let differs : length new.lists ≡ count → ⊥ = not refl in
-    omega arith
+    omega (arith, collected-length zero mid.lists mid.last new.lists new.last collects)
 still-some count (suc u) mid new some collects not = omega (arith, ap length collects.0)
 
 -- the bytes of a narrow record so far, and one more
@@ -65,13 +52,12 @@ take-pair piece k within =
 -- the pairs of a wide record so far, and one more
 pub wide-gathers : (count k number : ℕ) (piece : List ℕ) (old mid new : Open) → ((i : ℕ) → get_or piece i 0 < 256) → 2 * k + 1 < length piece → number ≡ 256 * get_or piece (2 * k) 0 + get_or piece (2 * k + 1) 0 → length mid.lists < count → GathersWide count (take (2 * k) piece) old mid → Collects number mid.lists mid.last new.lists new.last → mid.room ≤ new.room + 1 → new.most ≡ mid.most → GathersWide count (take (2 * (k + 1)) piece) old new
 wide-gathers count k number piece old mid new bytes within is_number some is collects room most =
-    let high = get_or piece (2 * k) 0 in
     let low = get_or piece (2 * k + 1) 0 in
     let next : 2 * k + 2 ≡ 2 * (k + 1) = omega arith in (
       is.0 ++ number ∷ [],
       flat_map-append two_bytes is.0 (number ∷ [])
           ∙ ap (λ (x : List ℕ). x ++ two_bytes number) is.1
-          ∙ ap (λ (x : List ℕ). take (2 * k) piece ++ x) (ap two_bytes is_number ∙ pair_of high low (bytes (2 * k + 1)))
+          ∙ ap (λ (x : List ℕ). take (2 * k) piece ++ x) (ap two_bytes is_number ∙ pair_of (get_or piece (2 * k) 0) low (bytes (2 * k + 1)))
           ∙ sym (take-pair piece (2 * k) within)
           ∙ ap (λ (n : ℕ). take n piece) next,
       gathers-more 65535 count number is.0 old mid new (omega (arith, is_number, bytes (2 * k), bytes (2 * k + 1))) some is.2 collects room most,
@@ -85,7 +71,6 @@ pairs-length (n ∷ numbers) = omega (arith, pairs-length numbers)
 -- there is room left for the bytes to come
 pub wide-room : (count : ℕ) (bytes : List ℕ) (old new : Open) → GathersWide count bytes old new → old.room ≤ new.room + length bytes
 wide-room count bytes old new is =
-    let r = is.2.room in
     omega (arith, pairs-length is.0, ap length is.1)
 
 -- there is room for a pair to come

@@ -34,8 +34,7 @@ cut-more from (end ∷ ends) entries more is =
 -- and joins the open one
 pub last-more : (ends entries more : List ℕ) → AreWithin 0 ends (length entries) → drop (last_end 0 ends) (entries ++ more) ≡ drop (last_end 0 ends) entries ++ more
 last-more ends entries more is =
-    let within = within-end 0 ends (length entries) is in
-    drop-append-le (last_end 0 ends) entries more within.1
+    drop-append-le (last_end 0 ends) entries more (within-end 0 ends (length entries) is).1
 
 -- one end more closes the open list
 cut-close-from : (from : ℕ) (ends entries : List ℕ) → cut from (ends ++ length entries ∷ []) entries ≡ cut from ends entries ++ drop (last_end from ends) entries ∷ []

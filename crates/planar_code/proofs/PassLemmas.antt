@@ -21,8 +21,7 @@ Passes-append bytes (x ∷ xs) ys first then =
 pub narrow-passes : (count : ℕ) (xs more : List ℕ) → 0 < count → zeros (xs ++ more) < count → Passes (count ∷ xs) more
 narrow-passes count xs [] some few = tt
 narrow-passes count xs (b ∷ more) some few =
-    let whole : (xs ++ b ∷ []) ++ more ≡ xs ++ (b ∷ more) = append_assoc xs (b ∷ []) more in
-    let e : zeros ((xs ++ b ∷ []) ++ more) ≡ zeros (xs ++ (b ∷ more)) = ap zeros whole in
+    let e : zeros ((xs ++ b ∷ []) ++ more) ≡ zeros (xs ++ (b ∷ more)) = ap zeros (append_assoc xs (b ∷ []) more) in
     let here : zeros (xs ++ b ∷ []) < count = omega (arith, zeros-append (xs ++ b ∷ []) more) in
     ((not_bad-first count (xs ++ b ∷ []) some, narrow-no_record count (xs ++ b ∷ []) some here), narrow-passes count (xs ++ b ∷ []) more some (omega arith))
 
@@ -52,8 +51,7 @@ wide-goes_on count n xs few =
 pub wide-passes : (count : ℕ) (xs more : List ℕ) → zeros (xs ++ more) < count → Passes (wide_bytes count xs) (flat_map two_bytes more)
 wide-passes count xs [] few = tt
 wide-passes count xs (n ∷ more) few =
-    let whole : (xs ++ n ∷ []) ++ more ≡ xs ++ (n ∷ more) = append_assoc xs (n ∷ []) more in
-    let e : zeros ((xs ++ n ∷ []) ++ more) ≡ zeros (xs ++ (n ∷ more)) = ap zeros whole in
+    let e : zeros ((xs ++ n ∷ []) ++ more) ≡ zeros (xs ++ (n ∷ more)) = ap zeros (append_assoc xs (n ∷ []) more) in
     let here : zeros (xs ++ n ∷ []) < count = omega (arith, zeros-append (xs ++ n ∷ []) more) in
     let P : List ℕ → Type 0 = λ x. Passes x (flat_map two_bytes more) in
     (half-goes_on count (n / 256) xs, (wide-goes_on count n xs here, subst P (sym (wide-push count n xs)) (wide-passes count (xs ++ n ∷ []) more (omega arith))))

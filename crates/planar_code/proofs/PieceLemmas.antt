@@ -32,10 +32,9 @@ Progress-ended consumed records old new piece k p takes =
     let b : ℕ = get_or piece (k - 1) 0 in
     let mid : State = after_all old front in
     let is : new ≡ after_record mid (with_byte mid b) new.lists = ap (λ (s : State). record s { lists = new.lists }) takes.3.2 in
-    let bytes : (consumed ++ front) ++ b ∷ [] ≡ consumed ++ take k piece = append_assoc consumed front (b ∷ []) ∙ ap (λ (x : List ℕ). consumed ++ x) (sym (take-next piece k takes.0 takes.1)) in
     let P : List ℕ → Type 0 = λ x. Progress x (records ++ new.lists ∷ []) new in
     let Q : State → Type 0 = λ s. Progress ((consumed ++ front) ++ b ∷ []) (records ++ new.lists ∷ []) s in
-    subst P bytes
+    subst P (append_assoc consumed front (b ∷ []) ∙ ap (λ (x : List ℕ). consumed ++ x) (sym (take-next piece k takes.0 takes.1)))
     (subst Q (sym is) (Progress-record {lent = new.lists} (consumed ++ front) records mid b new.lists (Progress-all consumed records old front p takes.2) takes.3.1))
 
 -- A bad count with byte k of the piece ends the reading, whatever follows.
@@ -62,22 +61,13 @@ pub record Moves (old new : State) (k : ℕ) : Type 0 where
   pub rises : old.start ≤ new.start
 
 moves-more : (may is : Bool) (pending bytes : List ℕ) (start : ℕ) (lent : Lists) → is_header bytes ≡ is → (may ≡ true → start ≡ 0) → length bytes ≡ length pending + 1 → Moves (record { pending = pending; start = start; header_may_come = may; lists = lent }) (after_more (record { pending = pending; start = start; header_may_come = may; lists = lent }) bytes) 1
-moves-more true true pending bytes start lent e front more =
-    let same : bytes ≡ header = (bytes_eq-Decides bytes header).0 e in
-    rw e (record { count = omega (arith, ap length same, front refl); front = λ h. cc; rises = omega (arith, front refl) })
-moves-more true false pending bytes start lent e front more =
-    rw e (record { count = omega arith; front = front; rises = omega arith })
-moves-more false is pending bytes start lent e front more = record { count = omega arith; front = λ h. cc; rises = omega arith }
+moves-more x0 x1 pending bytes start lent e front more = grind (arith, header, bytes_eq-Decides, length)
 
 moves-all : (state : State) (bytes : List ℕ) → (state.header_may_come ≡ true → state.start ≡ 0) → Moves state (after_all state bytes) (length bytes)
 moves-all state [] front = record { count = omega arith; front = front; rises = omega arith }
 moves-all state (b ∷ bytes) front =
     let one = moves-more state.header_may_come (is_header (with_byte state b)) state.pending (with_byte state b) state.start state.lists refl front (length-append state.pending (b ∷ [])) in
     let all = moves-all (after_more state (with_byte state b)) bytes one.front in
-    let c = one.count in
-    let d = all.count in
-    let r = one.rises in
-    let s = all.rises in
     record { count = omega arith; front = all.front; rises = omega arith }
 
 -- A piece that joins the bytes pending moves a reader by its length.
@@ -93,12 +83,8 @@ ended-moves old new piece k front takes =
     let b : ℕ = get_or piece (k - 1) 0 in
     let mid : State = after_all old bytes in
     let all = moves-all old bytes front in
-    let c = all.count in
-    let r = all.rises in
     let is : new ≡ after_record mid (with_byte mid b) new.lists = ap (λ (s : State). record s { lists = new.lists }) takes.3.2 in
     let long : k ≡ length bytes + 1 = sym (length-take-le k piece takes.1) ∙ ap length (take-next piece k takes.0 takes.1) ∙ length-append bytes (b ∷ []) in
     let more : length (with_byte mid b) ≡ length mid.pending + 1 = length-append mid.pending (b ∷ []) in
-    let none : new.pending ≡ [] = ap (λ (s : State). s.pending) is in
     let start : new.start ≡ mid.start + length (with_byte mid b) = ap (λ (s : State). s.start) is in
-    let may : new.header_may_come ≡ false = ap (λ (s : State). s.header_may_come) is in
-    (record { count = omega (arith, ap length none); front = λ h. cc; rises = omega arith }, omega arith)
+    (record { count = omega (arith, ap length (ap (λ (s : State). s.pending) is)); front = λ h. cc; rises = omega arith }, omega arith)

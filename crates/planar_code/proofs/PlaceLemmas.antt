@@ -37,20 +37,10 @@ abbrev pub NoHeader : State → Type 0
 NoHeader state = IsFalse (state.header_may_come && is_front state.pending)
 
 no_header-here : (may : Bool) (bytes : List ℕ) (b : ℕ) → IsFalse (may && is_front bytes) → IsFalse (may && is_header (bytes ++ b ∷ []))
-no_header-here true bytes b not = never (is_header (bytes ++ b ∷ [])) (λ e. false≢true (sym not ∙ header-longer bytes b e))
-  where
-    never : (on : Bool) → (on ≡ true → ⊥) → on ≡ false
-    never true not = absurd (not refl)
-    never false not = refl
-no_header-here false bytes b not = refl
+no_header-here x0 bytes b not = grind (arith, is_header, false≢true, header-longer)
 
 no_header-next : (may : Bool) (bytes : List ℕ) (b : ℕ) → IsFalse (may && is_front bytes) → IsFalse (may && is_front (bytes ++ b ∷ []))
-no_header-next true bytes b not = never (is_front (bytes ++ b ∷ [])) (λ e. false≢true (sym not ∙ front-shorter bytes b e))
-  where
-    never : (on : Bool) → (on ≡ true → ⊥) → on ≡ false
-    never true not = absurd (not refl)
-    never false not = refl
-no_header-next false bytes b not = refl
+no_header-next x0 bytes b not = grind (arith, is_front, false≢true, front-shorter)
 
 -- Bytes that pass join those pending where no header comes.
 pub all-joined : (state : State) (bytes : List ℕ) → NoHeader state → Passes state.pending bytes → AllJoin state bytes × (after_all state bytes ≡ record state { pending = state.pending ++ bytes })
@@ -89,17 +79,16 @@ module _ (old new : Scan) (place : Place) (piece : List ℕ) (off : IsFalse plac
       let bytes : new.bytes ≡ old.bytes ++ piece = scans.2 ∙ ap (λ (x : List ℕ). old.bytes ++ x) all in
       (joined.0, ap₂ (λ (x : List ℕ) (y : Lists). record (state_of old place) { pending = x; lists = y }) bytes scans.3 ∙ sym joined.1)
   plain-takes (ScannedEnded k) scans whole =
-      let some = scans.0.0 in
       let within = scans.0.1 in
       let front = take (k - 1) piece in
       let b = get_or piece (k - 1) 0 in
       let joined = all-joined (state_of old place) front no_header scans.0.2 in
-      let is : (old.bytes ++ front) ++ b ∷ [] ≡ old.bytes ++ take k piece = with-next k some within in
+      let is : (old.bytes ++ front) ++ b ∷ [] ≡ old.bytes ++ take k piece = with-next k scans.0.0 within in
       let P : List ℕ → Type 0 = λ x. IsFalse (is_bad_count x) in
       let Q : List ℕ → Type 0 = λ x. IsRecord x new.lists in
       let R : State → Type 0 = λ s. Feeds s b (FedRecord new.lists) (record (state_of new (moved place (ScannedEnded k))) { lists = [] }) in
       let long : place.start + (place.pending_len + k) ≡ place.start + length ((old.bytes ++ front) ++ b ∷ []) = omega (arith, ap length is, length-append old.bytes (take k piece), length-take-le k piece within, counted.0) in (
-        some,
+        scans.0.0,
         within,
         joined.0,
         subst R (sym joined.1) (
@@ -109,16 +98,14 @@ module _ (old new : Scan) (place : Place) (piece : List ℕ) (off : IsFalse plac
         ),
       )
   plain-takes (ScannedBad k) scans whole =
-      let some = scans.0.0 in
-      let within = scans.0.1 in
       let front = take (k - 1) piece in
       let b = get_or piece (k - 1) 0 in
       let joined = all-joined (state_of old place) front no_header scans.0.2 in
-      let is : (old.bytes ++ front) ++ b ∷ [] ≡ old.bytes ++ take k piece = with-next k some within in
+      let is : (old.bytes ++ front) ++ b ∷ [] ≡ old.bytes ++ take k piece = with-next k scans.0.0 scans.0.1 in
       let P : List ℕ → Type 0 = λ x. IsTrue (is_bad_count x) in
       let R : State → Type 0 = λ s. Feeds s b (FedBad place.start) (state_of new (moved place (ScannedBad k))) in (
-        some,
-        within,
+        scans.0.0,
+        scans.0.1,
         joined.0,
         subst R (sym joined.1) (
           subst P (sym is) scans.1,
@@ -129,17 +116,7 @@ module _ (old new : Scan) (place : Place) (piece : List ℕ) (off : IsFalse plac
 
   -- What the reader keeps of the bytes pending then.
   plain-counted : (scanned : Scanned) → Scans old piece scanned new → IsCounted (moved place scanned).header_may_come new.bytes (moved place scanned).pending_len (moved place scanned).in_header
-  plain-counted (ScannedMore k) scans = (
-    omega (arith, ap length scans.2, length-append old.bytes (take k piece), length-take-le k piece scans.0, counted.0),
-    off ∙ sym (rw scans.2 (no_header-all place.header_may_come old.bytes (take k piece) no_header)),
-  )
-  plain-counted (ScannedEnded k) scans = (sym (ap length scans.3), refl)
-  plain-counted (ScannedBad k) scans =
-      let some = scans.0.0 in
-      let within = scans.0.1 in (
-        omega (arith, ap length scans.2, length-append old.bytes (take (k - 1) piece), length-take-le (k - 1) piece (omega arith), counted.0),
-        off ∙ sym (rw scans.2 (no_header-all place.header_may_come old.bytes (take (k - 1) piece) no_header)),
-      )
+  plain-counted x0 scans = grind (arith, ScannedMore, length, length-append, take, length-take-le, no_header-all, no_header, ScannedEnded, ScannedBad)
 
   -- A piece where no header comes, with the answer and the place told by equations.
   pub answered-takes : (scanned : Scanned) (place' : Place) (taken : Taken) → place' ≡ moved place scanned → taken ≡ told place scanned → Scans old piece scanned new → Exhausts piece scanned → Takes (state_of old place) piece taken (state_of new place')
@@ -156,12 +133,8 @@ module _ (old new : Scan) (place : Place) (piece : List ℕ) (off : IsFalse plac
 -- the same of a stop
 stops-parts : (old mid : State) (piece : List ℕ) (n k : ℕ) → n ≤ length piece → AllJoin old (take n piece) → mid ≡ after_all old (take n piece) → (Does : State → ℕ → Type 0) → StopsAt mid (drop n piece) k Does → StopsAt old piece (n + k) Does
 stops-parts old mid piece n k within first is Does stops =
-    let some = stops.0 in
-    let less = stops.1 in
-    let far = length-drop n piece in
     let m : n + (k - 1) ≡ n + k - 1 = omega arith in
     let front : take n piece ++ take (k - 1) (drop n piece) ≡ take (n + k - 1) piece = sym (take-parts piece n (k - 1) within) ∙ ap (λ (i : ℕ). take i piece) m in
-    let byte : get_or (drop n piece) (k - 1) 0 ≡ get_or piece (n + k - 1) 0 = get_or-drop n piece (k - 1) 0 ∙ ap (λ (i : ℕ). get_or piece i 0) m in
     let at : after_all mid (take (k - 1) (drop n piece)) ≡ after_all old (take (n + k - 1) piece) =
     ap (λ (s : State). after_all s (take (k - 1) (drop n piece))) is ∙ sym (after_all-append old (take n piece) (take (k - 1) (drop n piece))) ∙ ap (λ (x : List ℕ). after_all old x) front in
     let P : State → Type 0 = λ s. AllJoin s (take (k - 1) (drop n piece)) in
@@ -169,9 +142,9 @@ stops-parts old mid piece n k within first is Does stops =
     let R : State → Type 0 = λ s. Does s (get_or (drop n piece) (k - 1) 0) in
     let S : ℕ → Type 0 = λ b. Does (after_all old (take (n + k - 1) piece)) b in (
       omega arith,
-      omega arith,
+      omega (arith, length-drop n piece),
       subst Q front (AllJoin-append old (take n piece) (take (k - 1) (drop n piece)) first (subst P is stops.2)),
-      subst S byte (subst R at stops.3),
+      subst S (get_or-drop n piece (k - 1) 0 ∙ ap (λ (i : ℕ). get_or piece i 0) m) (subst R at stops.3),
     )
 
 -- The first bytes of a piece joined, and what then came of the rest.
@@ -210,14 +183,12 @@ module _ (old new : Scan) (place : Place) (b k : ℕ) (on : Bool) (counted : IsC
 -- a stop within a piece is one within a longer piece
 stops-longer : (old : State) (xs ys : List ℕ) (k : ℕ) (Does : State → ℕ → Type 0) → StopsAt old xs k Does → StopsAt old (xs ++ ys) k Does
 stops-longer old xs ys k Does stops =
-    let some = stops.0 in
-    let within = stops.1 in
     let front : take (k - 1) xs ≡ take (k - 1) (xs ++ ys) = sym (take-append-le (k - 1) xs ys (omega arith)) in
     let byte : get_or xs (k - 1) 0 ≡ get_or (xs ++ ys) (k - 1) 0 = sym (get_or_append_left xs ys 0 (k - 1) (omega arith)) in
     let P : List ℕ → Type 0 = λ x. AllJoin old x in
     let Q : List ℕ → Type 0 = λ x. Does (after_all old x) (get_or xs (k - 1) 0) in
     let R : ℕ → Type 0 = λ b. Does (after_all old (take (k - 1) (xs ++ ys))) b in
-    (some, omega (arith, length-append xs ys), subst P front stops.2, subst R byte (subst Q front stops.3))
+    (stops.0, omega (arith, length-append xs ys), subst P front stops.2, subst R byte (subst Q front stops.3))
 
 Takes-longer : (old new : State) (xs ys : List ℕ) (taken : Taken) → (taken ≡ More → ⊥) → Takes old xs taken new → Takes old (xs ++ ys) taken new
 Takes-longer old new xs ys More not takes = absurd (not refl)

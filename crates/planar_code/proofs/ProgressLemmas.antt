@@ -14,16 +14,7 @@ use Rattle.planar_code.proofs.RecordLemmas.{NoRecord-nil, NoRecord-push, no_bad_
 
 -- before the first byte nothing has been read
 pub Progress-start : Progress [] [] at_front
-Progress-start = record {
-  front = [];
-  bytes = [];
-  parts = refl;
-  are = refl;
-  start = refl;
-  no_record = NoRecord-nil;
-  no_bad_count = refl;
-  front_is = (refl, refl, refl, refl);
-}
+Progress-start = grind (arith, NoRecord-nil)
 
 -- one more byte at the end of three parts
 parts-push : (consumed front bytes pending : List ℕ) (b : ℕ) → consumed ≡ front ++ (bytes ++ pending) → consumed ++ b ∷ [] ≡ front ++ (bytes ++ (pending ++ b ∷ []))
@@ -160,12 +151,7 @@ suc_first : (x y z : ℕ) → IsTrue (is_bad_count (suc x ∷ y ∷ z ∷ [])) �
 suc_first x y z bad = grind (arith, nat_tests)
 
 bad_count-first : (xs : List ℕ) → IsTrue (is_bad_count xs) → get_or xs 0 1 ≡ 0
-bad_count-first [] bad = cc
-bad_count-first (x ∷ []) bad = cc
-bad_count-first (x ∷ y ∷ []) bad = cc
-bad_count-first (zero ∷ y ∷ z ∷ []) bad = refl
-bad_count-first (suc x ∷ y ∷ z ∷ []) bad = absurd (suc_first x y z bad)
-bad_count-first (x ∷ y ∷ z ∷ w ∷ xs) bad = absurd (let e = bad_count-parts (x ∷ y ∷ z ∷ w ∷ xs) bad in omega (arith, e.0))
+bad_count-first x0 bad = grind (arith, suc_first, bad_count-parts)
 
 get_or-first-append : (xs ys : List ℕ) → 0 < length xs → get_or (xs ++ ys) 0 1 ≡ get_or xs 0 1
 get_or-first-append [] ys some = absurd (omega arith)
@@ -188,7 +174,6 @@ take-long xs ys n le =
 pub Progress-bad : (consumed : List ℕ) (records : List Lists) (state : State) (b : ℕ) (rest : List ℕ) → Progress consumed records state → IsTrue (is_bad_count (with_byte state b)) → length consumed < input_limit → IsReading (consumed ++ b ∷ rest) records (bad_count state.start)
 Progress-bad consumed records state b rest p bad within =
     let l = consumed-length consumed records state p in
-    let s = p.start in
     let three = bad_count-parts (with_byte state b) bad in
     let pushed = length-append state.pending (b ∷ []) in
     reading-from (consumed ++ b ∷ rest) records (bad_count state.start) p.front p.bytes (state.pending ++ b ∷ rest)
@@ -210,7 +195,6 @@ front-long false consumed bytes records front rest is long = is rest
 pub Progress-too_long : (consumed : List ℕ) (records : List Lists) (state : State) (b : ℕ) (rest : List ℕ) → Progress consumed records state → length consumed ≡ input_limit → IsReading (consumed ++ b ∷ rest) records too_long
 Progress-too_long consumed records state b rest p full =
     let l = consumed-length consumed records state p in
-    let s = p.start in
     let window : take (input_limit - (length p.front + length p.bytes)) (state.pending ++ b ∷ rest) ≡ state.pending = take_at state.pending (b ∷ rest) (input_limit - (length p.front + length p.bytes)) (omega arith) in
     reading-from (consumed ++ b ∷ rest) records too_long p.front p.bytes (state.pending ++ b ∷ rest)
     (front-long state.header_may_come consumed p.bytes records p.front (b ∷ rest) p.front_is (omega arith))

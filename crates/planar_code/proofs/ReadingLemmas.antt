@@ -35,8 +35,7 @@ module _ (spell : ℕ → List ℕ) (spells : Spells spell) where
   -- a list that is closed by 0
   same_list : (us vs : List ℕ) (xs ys : List ℕ) → flat_map spell (list_numbers us) ++ xs ≡ flat_map spell (list_numbers vs) ++ ys → (us ≡ vs) × (xs ≡ ys)
   same_list [] [] xs ys e =
-      let parts = spells 0 0 ([] ++ xs) ([] ++ ys) (sym (append_assoc (spell 0) [] xs) ∙ e ∙ append_assoc (spell 0) [] ys) in
-      (refl, parts.1)
+      (refl, (spells 0 0 ([] ++ xs) ([] ++ ys) (sym (append_assoc (spell 0) [] xs) ∙ e ∙ append_assoc (spell 0) [] ys)).1)
   same_list [] (v ∷ vs) xs ys e =
       let parts = spells 0 (v + 1) ([] ++ xs) (flat_map spell (list_numbers vs) ++ ys) (sym (append_assoc (spell 0) [] xs) ∙ e ∙ append_assoc (spell (v + 1)) (flat_map spell (list_numbers vs)) ys) in
       absurd (omega (arith, parts.0))
@@ -72,7 +71,6 @@ module _ (spell : ℕ → List ℕ) (spells : Spells spell) where
 
 narrow-wide : (xs ys xs' ys' : List ℕ) (lists lists' : Lists) → IsNarrow xs lists → IsWide ys lists' → xs ++ xs' ≡ ys ++ ys' → ⊥
 narrow-wide xs ys xs' ys' lists lists' narrow wide e =
-    let whole : (length lists ∷ record_numbers lists) ++ xs' ≡ (0 ∷ flat_map two_bytes (length lists' ∷ record_numbers lists')) ++ ys' = ap (λ (x : List ℕ). x ++ xs') (sym narrow.spelled) ∙ e ∙ ap (λ (x : List ℕ). x ++ ys') wide.spelled in
     let none : length lists ≡ 0 = cc in
     omega (arith, narrow.some_list)
 
@@ -85,7 +83,6 @@ same-lists xs ys xs' ys' lists lists' (inl narrow) (inl narrow') e =
 same-lists xs ys xs' ys' lists lists' (inl narrow) (inr wide) e = absurd (narrow-wide xs ys xs' ys' lists lists' narrow wide e)
 same-lists xs ys xs' ys' lists lists' (inr wide) (inl narrow) e = absurd (narrow-wide ys xs ys' xs' lists' lists narrow wide (sym e))
 same-lists xs ys xs' ys' lists lists' (inr wide) (inr wide') e =
-    let whole : 0 ∷ (flat_map two_bytes (length lists ∷ record_numbers lists) ++ xs') ≡ 0 ∷ (flat_map two_bytes (length lists' ∷ record_numbers lists') ++ ys') = ap (λ (x : List ℕ). x ++ xs') (sym wide.spelled) ∙ e ∙ ap (λ (x : List ℕ). x ++ ys') wide'.spelled in
     same_record two_bytes two_bytes-spells lists lists' xs' ys' (cc)
 
 -- Records at the front of the same bytes are the same bytes and the same lists.
@@ -120,13 +117,10 @@ record-positive (x ∷ xs) lists is = omega arith
 -- no ending stands where a record does
 ends-no_record : (total at : ℕ) (rest first later : List ℕ) (lists : Lists) (ending : Ending) → IsRecord first lists → rest ≡ first ++ later → at + length first ≤ input_limit → EndsAs total at rest ending → ⊥
 ends-no_record total at rest first later lists well is parts within ends =
-    let some = record-positive first lists is in
-    let none : first ++ later ≡ [] = sym parts ∙ ends.1 in
-    omega (arith, length-append first later, ap length none)
+    omega (arith, record-positive first lists is, length-append first later, ap length (sym parts ∙ ends.1))
 ends-no_record total at rest first later lists (end_in_record place) is parts within ends =
-    let front : take (length first) rest ≡ first = ap (λ (x : List ℕ). take (length first) x) parts ∙ take_at first later (length first) refl in
     let P : List ℕ → Type 0 = λ x. IsRecord x lists in
-    ends.4 (length first) lists (subst P (sym front) is)
+    ends.4 (length first) lists (subst P (sym (ap (λ (x : List ℕ). take (length first) x) parts ∙ take_at first later (length first) refl)) is)
 ends-no_record total at rest first later lists (bad_count place) is parts within ends =
     let far : input_limit - at ≡ length first + (input_limit - at - length first) = omega arith in
     let window : take (input_limit - at) rest ≡ first ++ take (input_limit - at - length first) later = ap (λ (x : List ℕ). take (input_limit - at) x) parts ∙ ap (λ (n : ℕ). take n (first ++ later)) far ∙ take-append-add first later (input_limit - at - length first) in
@@ -147,30 +141,14 @@ window-bad n rest none bad =
 
 -- the ending at a place is one
 ending-unique : (total at : ℕ) (rest : List ℕ) (ending ending' : Ending) → EndsAs total at rest ending → EndsAs total at rest ending' → ending ≡ ending'
-ending-unique total at rest well well ends ends' = refl
-ending-unique total at rest well (end_in_record place) ends ends' = absurd (omega (arith, ap length ends.1, ends'.2))
-ending-unique total at rest well (bad_count place) ends ends' = absurd (none-bad (input_limit - at) rest ends.1 ends'.1)
-ending-unique total at rest well too_long ends ends' = absurd (omega (arith, ends.0, ends'.0))
-ending-unique total at rest (end_in_record place) well ends ends' = absurd (omega (arith, ap length ends'.1, ends.2))
-ending-unique total at rest (end_in_record place) (end_in_record place') ends ends' = ap end_in_record (ends.0 ∙ sym ends'.0)
-ending-unique total at rest (end_in_record place) (bad_count place') ends ends' = absurd (window-bad (input_limit - at) rest ends.3 ends'.1)
-ending-unique total at rest (end_in_record place) too_long ends ends' = absurd (omega (arith, ends.1, ends'.0))
-ending-unique total at rest (bad_count place) well ends ends' = absurd (none-bad (input_limit - at) rest ends'.1 ends.1)
-ending-unique total at rest (bad_count place) (end_in_record place') ends ends' = absurd (window-bad (input_limit - at) rest ends'.3 ends.1)
-ending-unique total at rest (bad_count place) (bad_count place') ends ends' = ap bad_count (ends.0 ∙ sym ends'.0)
-ending-unique total at rest (bad_count place) too_long ends ends' = absurd (false≢true (sym ends'.1 ∙ ends.1))
-ending-unique total at rest too_long well ends ends' = absurd (omega (arith, ends'.0, ends.0))
-ending-unique total at rest too_long (end_in_record place) ends ends' = absurd (omega (arith, ends'.1, ends.0))
-ending-unique total at rest too_long (bad_count place) ends ends' = absurd (false≢true (sym ends.1 ∙ ends'.1))
-ending-unique total at rest too_long too_long ends ends' = refl
+ending-unique total at rest x3 x4 ends ends' = grind (arith, well, end_in_record, length, bad_count, none-bad, input_limit, too_long, window-bad, false≢true)
 
 -- Where no record is left, none is left in the other reading.
 rest-record : (total at : ℕ) (records' : List Lists) (lists' : Lists) (bytes bytes' rest rest' : List ℕ) (ending : Ending) → bytes ++ rest ≡ bytes' ++ rest' → bytes ≡ [] → AreRecords bytes' (lists' ∷ records') → at + length bytes' ≤ input_limit → EndsAs total (at + length bytes) rest ending → ⊥
 rest-record total at records' lists' bytes bytes' rest rest' ending e none are' within' ends =
     let parts : rest ≡ are'.0 ++ (are'.1 ++ rest') = ap (λ (x : List ℕ). x ++ rest) (sym none) ∙ e ∙ ap (λ (x : List ℕ). x ++ rest') are'.4 ∙ append_assoc are'.0 are'.1 rest' in
     let long = ap length are'.4 ∙ length-append are'.0 are'.1 in
-    let short : length bytes ≡ 0 = ap length none in
-    ends-no_record total (at + length bytes) rest are'.0 (are'.1 ++ rest') lists' ending are'.2 parts (omega arith) ends
+    ends-no_record total (at + length bytes) rest are'.0 (are'.1 ++ rest') lists' ending are'.2 parts (omega (arith, ap length none)) ends
 
 -- Records from a place on, and how they end there.
 records-unique : (total at : ℕ) (records records' : List Lists) (bytes bytes' rest rest' : List ℕ) (ending ending' : Ending) → bytes ++ rest ≡ bytes' ++ rest' → AreRecords bytes records → AreRecords bytes' records' → at + length bytes ≤ input_limit → at + length bytes' ≤ input_limit → EndsAs total (at + length bytes) rest ending → EndsAs total (at + length bytes') rest' ending' → (records ≡ records') × (ending ≡ ending')

@@ -125,12 +125,7 @@ wide-with bytes lists =
     ]
 
 neither : (bytes : List ℕ) → (IsNarrow bytes (narrow_lists bytes) → ⊥) → (IsWide bytes (wide_lists bytes) → ⊥) → (lists : Lists) → IsRecord bytes lists → ⊥
-neither bytes narrow wide lists (inl is) =
-    let P : Lists → Type 0 = λ x. IsNarrow bytes x in
-    narrow (subst P (narrow-lists bytes lists is) is)
-neither bytes narrow wide lists (inr is) =
-    let P : Lists → Type 0 = λ x. IsWide bytes x in
-    wide (subst P (wide-lists bytes lists is) is)
+neither bytes narrow wide lists x4 = grind (arith, Lists, IsNarrow, narrow-lists, IsWide, wide-lists)
 
 -- bytes are a record with some lists, or with none
 record-or-none : (bytes : List ℕ) → ((lists : Lists) × IsRecord bytes lists) ⊎ ((lists : Lists) → ¬ IsRecord bytes lists)

@@ -81,22 +81,7 @@ record-has_zero bytes lists (inr wide) = (0, rw wide.spelled (omega arith), ap (
 
 -- the header holds none
 pub header-no_zero : (i : ℕ) → get_or header i 1 ≡ 0 → ⊥
-header-no_zero zero e = cc
-header-no_zero (suc zero) e = cc
-header-no_zero (suc (suc zero)) e = cc
-header-no_zero (suc (suc (suc zero))) e = cc
-header-no_zero (suc (suc (suc (suc zero)))) e = cc
-header-no_zero (suc (suc (suc (suc (suc zero))))) e = cc
-header-no_zero (suc (suc (suc (suc (suc (suc zero)))))) e = cc
-header-no_zero (suc (suc (suc (suc (suc (suc (suc zero))))))) e = cc
-header-no_zero (suc (suc (suc (suc (suc (suc (suc (suc zero)))))))) e = cc
-header-no_zero (suc (suc (suc (suc (suc (suc (suc (suc (suc zero))))))))) e = cc
-header-no_zero (suc (suc (suc (suc (suc (suc (suc (suc (suc (suc zero)))))))))) e = cc
-header-no_zero (suc (suc (suc (suc (suc (suc (suc (suc (suc (suc (suc zero))))))))))) e = cc
-header-no_zero (suc (suc (suc (suc (suc (suc (suc (suc (suc (suc (suc (suc zero)))))))))))) e = cc
-header-no_zero (suc (suc (suc (suc (suc (suc (suc (suc (suc (suc (suc (suc (suc zero))))))))))))) e = cc
-header-no_zero (suc (suc (suc (suc (suc (suc (suc (suc (suc (suc (suc (suc (suc (suc zero)))))))))))))) e = cc
-header-no_zero (suc (suc (suc (suc (suc (suc (suc (suc (suc (suc (suc (suc (suc (suc (suc i))))))))))))))) e = cc
+header-no_zero x0 e = grind arith
 
 -- bytes whose first 15 are not the header have none
 pub header_of-none : (xs : List ℕ) → IsFalse (is_header (take 15 xs)) → header_of xs ≡ []

@@ -15,7 +15,6 @@ entry_as_printed r =
 -- the header is kept as the front of a record
 header_kept : IsReading header [] (end_in_record 0) → ⊥
 header_kept r =
-    let l : length header ≡ length (header ++ (r.bytes ++ r.rest)) = ap length r.parts in
     omega (arith, length-append header (r.bytes ++ r.rest), length-append r.bytes r.rest, r.ends.2)
 
 -- a record of more lists than the limit

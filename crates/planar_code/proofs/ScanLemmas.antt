@@ -81,7 +81,6 @@ not_bad-long xs long = grind (arith, nat_tests)
 -- a first byte 0 begins no narrow record
 pub zero-not_narrow : (xs : List ℕ) (lists : Lists) → IsNarrow (0 ∷ xs) lists → ⊥
 zero-not_narrow xs lists is =
-    let spelled = is.spelled in
     let none : 0 ≡ length lists = cc in
     omega (arith, is.some_list)
 
@@ -96,15 +95,7 @@ pair-no_record b lists (inr is) = let spelled = is.spelled in cc
 
 -- numbers with fewer zeros than the count says are no narrow record
 pub narrow-no_record : (n : ℕ) (xs : List ℕ) → 0 < n → zeros xs < n → (lists : Lists) → IsRecord (n ∷ xs) lists → ⊥
-narrow-no_record n xs positive few lists (inl is) =
-    let spelled = is.spelled in
-    let count : n ≡ length lists = cc in
-    let rest : xs ≡ record_numbers lists = cc in
-    omega (arith, zeros-numbers lists, ap zeros rest)
-narrow-no_record n xs positive few lists (inr is) =
-    let spelled = is.spelled in
-    let none : n ≡ 0 = cc in
-    omega arith
+narrow-no_record n xs positive few lists x5 = grind (arith, length, record_numbers, zeros-numbers, zeros)
 
 -- pairs of bytes are the bytes of one list of numbers
 pairs-injective : (xs ys : List ℕ) → flat_map two_bytes xs ≡ flat_map two_bytes ys → xs ≡ ys
@@ -129,7 +120,6 @@ half-not_pairs (x ∷ xs) (y ∷ ys) high e = half-not_pairs xs ys high (cc)
 pub wide-no_record : (n : ℕ) (xs : List ℕ) → zeros xs < n → (lists : Lists) → IsRecord (0 ∷ flat_map two_bytes (n ∷ xs)) lists → ⊥
 wide-no_record n xs few lists (inl is) = zero-not_narrow (flat_map two_bytes (n ∷ xs)) lists is
 wide-no_record n xs few lists (inr is) =
-    let spelled = is.spelled in
     let pairs : flat_map two_bytes (n ∷ xs) ≡ flat_map two_bytes (length lists ∷ record_numbers lists) = cc in
     let numbers : n ∷ xs ≡ length lists ∷ record_numbers lists = pairs-injective (n ∷ xs) (length lists ∷ record_numbers lists) pairs in
     let count : n ≡ length lists = cc in
@@ -140,7 +130,6 @@ wide-no_record n xs few lists (inr is) =
 pub half-no_record : (xs : List ℕ) (high : ℕ) (lists : Lists) → IsRecord (0 ∷ (flat_map two_bytes xs ++ high ∷ [])) lists → ⊥
 half-no_record xs high lists (inl is) = zero-not_narrow (flat_map two_bytes xs ++ high ∷ []) lists is
 half-no_record xs high lists (inr is) =
-    let spelled = is.spelled in
     half-not_pairs xs (length lists ∷ record_numbers lists) high (cc)
 
 -- two bytes of a number

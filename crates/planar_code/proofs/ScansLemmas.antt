@@ -18,9 +18,8 @@ shifted passed (Bad k) = Bad (passed + k)
 -- the first bytes of a piece, in two parts
 pub take-parts : (piece : List ℕ) (n k : ℕ) → n ≤ length piece → take (n + k) piece ≡ take n piece ++ take k (drop n piece)
 take-parts piece n k within =
-    let long : length (take n piece) ≡ n = length-take-le n piece within in
     ap (λ (x : List ℕ). take (n + k) x) (sym (take-append-drop n piece))
-    ∙ ap (λ (m : ℕ). take (m + k) (take n piece ++ drop n piece)) (sym long)
+    ∙ ap (λ (m : ℕ). take (m + k) (take n piece ++ drop n piece)) (sym (length-take-le n piece within))
     ∙ take-append-add (take n piece) (drop n piece) k
 
 module _ (bytes piece : List ℕ) (n : ℕ) (within : n ≤ length piece) where
@@ -34,23 +33,16 @@ module _ (bytes piece : List ℕ) (n : ℕ) (within : n ≤ length piece) where
 
   before-parts : (k : ℕ) → Passes bytes (take n piece) → PassesBefore (bytes ++ take n piece) (drop n piece) k → PassesBefore bytes piece (n + k)
   before-parts k first then =
-      let far = length-drop n piece in
-      let some = then.0 in
-      let less = then.1 in
       let m : n + (k - 1) ≡ n + k - 1 = omega arith in
       let P : ℕ → Type 0 = λ m. Passes bytes (take m piece) in
-      (omega arith, omega arith, subst P m (passes-parts (k - 1) first then.2))
+      (omega arith, omega (arith, length-drop n piece), subst P m (passes-parts (k - 1) first then.2))
 
 -- The first bytes of a piece passed, and what then came of the rest.
 pub Scans-parts : (old mid new : Scan) (piece : List ℕ) (n : ℕ) (scanned : Scanned) → Scans old piece (More n) mid → Scans mid (drop n piece) scanned new → Scans old piece (shifted n scanned) new
 Scans-parts old mid new piece n (More k) first then =
     let P : List ℕ → Type 0 = λ x. Passes x (take k (drop n piece)) in
-    let far = length-drop n piece in
-    let within = first.0 in
-    let less = then.0 in
-    let room = first.4 in
     let room' = then.4 in (
-      omega arith,
+      omega (arith, length-drop n piece),
       passes-parts old.bytes piece n first.0 k first.1 (subst P first.2 then.1),
       then.2 ∙ ap (λ (x : List ℕ). x ++ take k (drop n piece)) first.2 ∙ joined old.bytes piece n first.0 k,
       then.3 ∙ first.3,
@@ -65,11 +57,9 @@ Scans-parts old mid new piece n (Ended k) first then =
 Scans-parts old mid new piece n (Bad k) first then =
     let P : List ℕ → Type 0 = λ x. PassesBefore x (drop n piece) k in
     let Q : List ℕ → Type 0 = λ x. IsTrue (is_bad_count x) in
-    let whole : mid.bytes ++ take k (drop n piece) ≡ old.bytes ++ take (n + k) piece = ap (λ (x : List ℕ). x ++ take k (drop n piece)) first.2 ∙ joined old.bytes piece n first.0 k in
-    let some = then.0.0 in
     let m : n + (k - 1) ≡ n + k - 1 = omega arith in (
       before-parts old.bytes piece n first.0 k first.1 (subst P first.2 then.0),
-      subst Q whole then.1,
+      subst Q (ap (λ (x : List ℕ). x ++ take k (drop n piece)) first.2 ∙ joined old.bytes piece n first.0 k) then.1,
       then.2 ∙ ap (λ (x : List ℕ). x ++ take (k - 1) (drop n piece)) first.2 ∙ joined old.bytes piece n first.0 (k - 1) ∙ ap (λ (i : ℕ). old.bytes ++ take i piece) m,
       then.3 ∙ first.3,
     )

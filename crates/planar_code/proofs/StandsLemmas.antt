@@ -28,13 +28,8 @@ module _ (front bytes rest : List ℕ) (lists : Lists) (is : IsRecord bytes list
       let n = end - length front in
       let here : IsRecord (take n (bytes ++ rest)) read = subst (λ (xs : List ℕ). IsRecord (take n xs) read) behind h.2 in
       let same = record-unique (take n (bytes ++ rest)) bytes (drop n (bytes ++ rest)) rest read lists here is (take-append-drop n (bytes ++ rest)) in
-      let l = h.0 in
-      let m = h.1 in
-      let z = size in
-      let len = length-append bytes rest in
-      let count = length-take-le n (bytes ++ rest) (omega arith) in
-      let known = ap length same.0 in
-      let e : end ≡ length front + length bytes = omega arith in
+      let count = length-take-le n (bytes ++ rest) (omega (arith, length-append bytes rest, size)) in
+      let e : end ≡ length front + length bytes = omega (arith, ap length same.0) in
       ap (λ (x : Lists). found.Lists x end) same.1 ∙ ap (found.Lists lists) e
   stands found.End h = absurd (let p = record-positive bytes lists is in let z = size in omega arith)
 

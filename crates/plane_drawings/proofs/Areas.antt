@@ -1,7 +1,7 @@
 -- Points over and under two segments, and segments that do not cross, by signs of areas.
 use Rattle.std.proofs.Common.{◌≡◌, ℤ, pos, neg_ℤ, ◌+ℤ◌, ◌-ℤ◌, ◌*ℤ◌, ◌≤ℤ◌, ◌<ℤ◌, ◌⊎◌, inl, inr, sym, ap, arith}
 use Rattle.std.proofs.lemmas.Int.{ints, by_lt_z}
-use Rattle.pg_plane.specs.declared.segments.Point.{Point}
+use Rattle.pg_plane.specs.declared.grid_points.Point.{Point}
 use Rattle.pg_plane.specs.Geometry.{vector, cross, area, AreOpposite, IsOnSegment, DoCross}
 use Rattle.pg_plane.proofs.Ring.{ring, sums, mul_neg, neg_mul, product_signs}
 use Rattle.pg_plane.proofs.Crossing.{one_crossing, one_weight, flat_last, flat_ends}
@@ -39,22 +39,19 @@ first_positive s a t b u c v d e ps pa pt nb pu nc pv =
     by_lt_z (pos 0) d
     (λ h. h)
     (λ h.
-    let x = (product_signs s a).both_above ps pa in
-    let y = (product_signs t b).up_down pt nb in
     let z = (product_signs u c).up_down pu nc in
     let w = (product_signs v d).up_down pv h in
-    absurd (omega (arith, sums)))
+    absurd (omega (arith, (product_signs t b).up_down pt nb, (product_signs s a).both_above ps pa, sums)))
 
 sum_positive : (s a t b u c v d : ℤ) → s *ℤ a ≡ ((t *ℤ b) +ℤ (u *ℤ c)) +ℤ (v *ℤ d) → pos 0 <ℤ s → pos 0 ≤ℤ t → pos 0 ≤ℤ b → pos 0 ≤ℤ u → pos 0 ≤ℤ c → pos 0 <ℤ v → pos 0 <ℤ d → pos 0 <ℤ a
 sum_positive s a t b u c v d e ps pt pb pu pc pv pd =
     by_lt_z (pos 0) a
     (λ h. h)
     (λ h.
-    let x = (product_signs s a).up_down (omega (arith, ints)) h in
     let y = (product_signs t b).both_up pt pb in
     let z = (product_signs u c).both_up pu pc in
     let w = (product_signs v d).both_above pv pd in
-    absurd (omega (arith, sums)))
+    absurd (omega (arith, (product_signs s a).up_down (omega (arith, ints)) h, sums)))
 
 negated : (s a t b u c v d : ℤ) → s *ℤ a ≡ ((t *ℤ b) +ℤ (u *ℤ c)) +ℤ (v *ℤ d) → s *ℤ neg_ℤ a ≡ ((t *ℤ neg_ℤ b) +ℤ (u *ℤ neg_ℤ c)) +ℤ (v *ℤ neg_ℤ d)
 negated s a t b u c v d e = rw (mul_neg s a, mul_neg t b, mul_neg u c, mul_neg v d) (omega (arith, sums))
@@ -85,16 +82,7 @@ module _ (a b c d m k w : Point) (h : IsBetweenLines a b c d m k w) where
 
   -- where m and k have one width, w is between them in height
   level : k.x ≤ℤ m.x → (w.x ≡ k.x) × (w.x ≡ m.x) × (w.y ≤ℤ k.y) × (m.y ≤ℤ w.y)
-  level l =
-      let x = late in
-      let y = early in
-      let e : w.x ≡ k.x = omega (arith, ints) in
-      let f : w.x ≡ m.x = omega (arith, ints) in (
-        e,
-        f,
-        elim h.before [ inl n ↦ elim n [ inl z ↦ absurd (omega (arith, ints)) | inr z ↦ (let g = z.1 in omega (arith, ints)) ] | inr z ↦ (let g = ap (λ (p : Point). p.y) z in omega (arith, ints)) ],
-        elim h.after [ inl z ↦ absurd (omega (arith, ints)) | inr z ↦ (let g = z.1 in omega (arith, ints)) ],
-      )
+  level l = grind (arith, late, early, ints, Point)
 
   -- What is strictly above the upper segment is strictly above the lower one.
   pub over_both : pos 0 <ℤ area c d w → pos 0 <ℤ area a b w
@@ -108,10 +96,8 @@ module _ (a b c d m k w : Point) (h : IsBetweenLines a b c d m k w) where
       sum_positive (k.x -ℤ m.x) (area a b w) (k.x -ℤ w.x) (area a b m) (w.x -ℤ m.x) (area a b k) (b.x -ℤ a.x) (area m k w) (by_segment a b m k w) (omega (arith, ints)) (omega (arith, ints)) h.low_above (omega (arith, ints)) h.high_above (omega (arith, ints)) over)
       (λ l.
       let v = level l in
-      let e = upright c d k w v.0 in
       let g = (product_signs (d.x -ℤ c.x) (w.y -ℤ k.y)).up_down (omega (arith, ints)) (let z = v.2 in omega (arith, ints)) in
-      let n = h.high_below in
-      absurd (omega (arith, sums)))
+      absurd (omega (arith, upright c d k w v.0, sums)))
 
   -- What is strictly below the lower segment is strictly below the upper one.
   pub under_both : area a b w <ℤ pos 0 → area c d w <ℤ pos 0
@@ -122,10 +108,6 @@ module _ (a b c d m k w : Point) (h : IsBetweenLines a b c d m k w) where
       let second = negated (k.x -ℤ m.x) (area c d w) (k.x -ℤ w.x) (area c d m) (w.x -ℤ m.x) (area c d k) (d.x -ℤ c.x) (area m k w) (by_segment c d m k w) in
       by_lt_z m.x k.x
       (λ l.
-      let low = h.low_above in
-      let high = h.high_above in
-      let low_2 = h.low_below in
-      let high_2 = h.high_below in
       let over : pos 0 <ℤ neg_ℤ (area m k w) =
       first_positive (k.x -ℤ m.x) (neg_ℤ (area a b w)) (k.x -ℤ w.x) (neg_ℤ (area a b m)) (w.x -ℤ m.x) (neg_ℤ (area a b k)) (b.x -ℤ a.x) (neg_ℤ (area m k w)) first (omega (arith, ints)) (omega (arith, ints)) (omega (arith, ints)) (omega (arith, ints)) (omega (arith, ints)) (omega (arith, ints)) (omega (arith, ints)) in
       let z : pos 0 <ℤ neg_ℤ (area c d w) =
@@ -133,10 +115,8 @@ module _ (a b c d m k w : Point) (h : IsBetweenLines a b c d m k w) where
       omega (arith, ints))
       (λ l.
       let v = level l in
-      let e = upright a b m w v.1 in
       let g = (product_signs (b.x -ℤ a.x) (w.y -ℤ m.y)).both_up (omega (arith, ints)) (let z = v.3 in omega (arith, ints)) in
-      let n = h.low_above in
-      absurd (omega (arith, sums)))
+      absurd (omega (arith, upright a b m w v.1, sums)))
 
 -- two segments of which the second is above the first where they begin and where they end
 pub stays_up : (a b c d : Point) → (pos 0 ≤ℤ area a b c) ⊎ (area c d a ≤ℤ pos 0) → (pos 0 ≤ℤ area a b d) ⊎ (area c d b ≤ℤ pos 0) → ¬ DoCross a b c d
@@ -155,8 +135,7 @@ flat a b c e f = rw (e, f) (simp ring (omega (arith, sums)))
 -- a crossing as a weighted mean of both pairs of ends, seen from an end
 from_end : (p q r s a b c d : ℤ) → s +ℤ neg_ℤ r ≡ neg_ℤ q +ℤ p → (s *ℤ a) +ℤ (neg_ℤ r *ℤ b) ≡ (neg_ℤ q *ℤ c) +ℤ (p *ℤ d) → s *ℤ (a -ℤ b) ≡ (neg_ℤ q *ℤ (c -ℤ b)) +ℤ (p *ℤ (d -ℤ b))
 from_end p q r s a b c d e f =
-    let g : (s +ℤ neg_ℤ r) *ℤ b ≡ (neg_ℤ q +ℤ p) *ℤ b = ap (λ z. z *ℤ b) e in
-    let h = simp ring at g in
+    let h = simp ring at (ap (λ z. z *ℤ b) e) in
     let i = simp ring at f in
     simp ring (omega (arith, sums))
 
@@ -172,10 +151,8 @@ one_mean s t u a c d e ps pt pu na pc pd =
 
 one_width : (p q r s a b c d : ℤ) → s +ℤ neg_ℤ r ≡ neg_ℤ q +ℤ p → (s *ℤ a) +ℤ (neg_ℤ r *ℤ b) ≡ (neg_ℤ q *ℤ c) +ℤ (p *ℤ d) → AreOpposite p q → AreOpposite r s → a ≤ℤ b → b ≤ℤ c → c ≤ℤ d → (a -ℤ b ≡ pos 0) × (c -ℤ b ≡ pos 0)
 one_width p q r s a b c d e f (inl x) y l m n =
-    let z = y in
     let g = from_end p q r s a b c d e f in
     let h : neg_ℤ s *ℤ (a -ℤ b) ≡ (q *ℤ (c -ℤ b)) +ℤ (neg_ℤ p *ℤ (d -ℤ b)) = let i = simp (neg_mul) at g in rw (neg_mul s (a -ℤ b), neg_mul p (d -ℤ b)) (omega (arith, sums)) in
-    let down : s <ℤ pos 0 = elim y [ inl o ↦ omega (arith, ints) | inr o ↦ omega (arith, ints) ] in
     one_mean (neg_ℤ s) q (neg_ℤ p) (a -ℤ b) (c -ℤ b) (d -ℤ b) h (omega (arith, ints)) (omega (arith, ints)) (omega (arith, ints)) (omega (arith, ints)) (omega (arith, ints)) (omega (arith, ints))
 one_width p q r s a b c d e f (inr x) y l m n =
     let g = from_end p q r s a b c d e f in
@@ -186,8 +163,6 @@ one_width p q r s a b c d e f (inr x) y l m n =
 pub disjoint : (a b c d : Point) → a.x ≤ℤ b.x → b.x ≤ℤ c.x → c.x ≤ℤ d.x → ¬ DoCross a b c d
 disjoint a b c d l m n h =
     let one = one_width (area a b c) (area a b d) (area c d a) (area c d b) a.x b.x c.x d.x (one_weight a b c d) (ap (λ (p : Point). p.x) (one_crossing a b c d)) h.ends_of_second h.ends_of_first l m n in
-    let e = one.0 in
-    let f = one.1 in
     let z = flat a b c (omega (arith, ints)) (omega (arith, ints)) in
     elim h.ends_of_second [ inl o ↦ omega (arith, ints) | inr o ↦ omega (arith, ints) ]
 
@@ -199,13 +174,9 @@ early_off p a b (inl l) s h =
       | inr m ↦ (let e = m.0 in elim h.between_x [ inl v ↦ (let w = v.0 in omega (arith, ints)) | inr v ↦ (let w = v.0 in omega (arith, ints)) ])
     ]
 early_off p a b (inr l) s h =
-    let low = l.1 in
     elim s [
       | inl m ↦ (let e = upright a b a p l.0 in
-          let z = flat_ends a b in
-          let g = (product_signs (b.x -ℤ a.x) (p.y -ℤ a.y)).above_below (omega (arith, ints)) (omega (arith, ints)) in
-          let on = h.on_line in
-          omega (arith, sums))
+          omega (arith, (product_signs (b.x -ℤ a.x) (p.y -ℤ a.y)).above_below (omega (arith, ints)) (omega (arith, ints)), flat_ends a b, sums))
       | inr m ↦ (let up = m.1 in elim h.between_y [ inl v ↦ (let w = v.0 in omega (arith, ints)) | inr v ↦ (let w = v.0 in omega (arith, ints)) ])
     ]
 
@@ -217,12 +188,8 @@ late_off p a b s (inl l) h =
       | inr m ↦ (let e = m.0 in elim h.between_x [ inl v ↦ (let w = v.1 in omega (arith, ints)) | inr v ↦ (let w = v.1 in omega (arith, ints)) ])
     ]
 late_off p a b s (inr l) h =
-    let high = l.1 in
     elim s [
       | inl m ↦ (let e = upright a b b p (sym l.0) in
-          let z = flat_last a b in
-          let g = (product_signs (b.x -ℤ a.x) (p.y -ℤ b.y)).both_above (omega (arith, ints)) (omega (arith, ints)) in
-          let on = h.on_line in
-          omega (arith, sums))
+          omega (arith, (product_signs (b.x -ℤ a.x) (p.y -ℤ b.y)).both_above (omega (arith, ints)) (omega (arith, ints)), sums))
       | inr m ↦ (let up = m.1 in elim h.between_y [ inl v ↦ (let w = v.1 in omega (arith, ints)) | inr v ↦ (let w = v.1 in omega (arith, ints)) ])
     ]

@@ -10,7 +10,7 @@ use Rattle.map_theory.specs.Paths.{SameFace}
 use Rattle.map_theory.proofs.DartLemmas.{dart_number-lt, get_or-dart_number}
 use Rattle.map_theory.proofs.DartPermutations.{dart_of, tail_of, turned_dart, rotation, twin, dart_of-number, dart_of-twin, dart_of-rotation, IsPermuting-rotation, IsPairing-twin, orbits-face_images, tail_of-rotation}
 use Rattle.plane_laws.proofs.Triangles.{triangles_where_met}
-use Rattle.pg_plane.specs.declared.segments.Point.{Point}
+use Rattle.pg_plane.specs.declared.grid_points.Point.{Point}
 use Rattle.pg_plane.specs.Geometry.{area}
 use Rattle.pg_plane.specs.Faced.{in_base, IsFaced, IsTailed}
 use Rattle.pg_plane.proofs.Near.{IsOnFace}

@@ -5,7 +5,7 @@ use Rattle.std.proofs.lemmas.Bool.{cases_lt}
 use Rattle.std.proofs.lemmas.List.Elements.{All-contains}
 use Rattle.map_lists.specs.Lists.{Lists}
 use Rattle.map_theory.specs.Maps.{HasDart, IsSimpleMap}
-use Rattle.pg_plane.specs.declared.segments.Point.{Point}
+use Rattle.pg_plane.specs.declared.grid_points.Point.{Point}
 use Rattle.pg_plane.specs.Geometry.{IsOnSegment, DoCross}
 use Rattle.plane_drawings.specs.Drawing.{place, IsPlaneDrawing}
 use Rattle.pg_plane.proofs.Segments.{IsOnSegment-back, DoCross-first_back, DoCross-second_back}
@@ -29,16 +29,8 @@ swept_at n at order lines lines_in status sweep (suc i) l =
 -- A point on a line of which it is no end comes between its ends.
 pub between_ends : (n : ℕ) (at : ℕ → Point) → AreInOrder n at → (e : Line) (w : ℕ) → IsLine n e → w < n → w ≢ e.low → w ≢ e.high → IsOnSegment (at w) (at e.low) (at e.high) → (e.low < w) × (w < e.high)
 between_ends n at order e w line_is w_in not_low not_high h =
-    let up = line_is.rises in
-    let within = line_is.within in
-    let line = order e.low e.high up within in
-    elim (cases_lt w e.low) [
-      | inl l ↦ absurd (early_off (at w) (at e.low) (at e.high) (order w e.low l (omega arith)) line h)
-      | inr l ↦ elim (cases_lt e.high w) [
-        | inl m ↦ absurd (late_off (at w) (at e.low) (at e.high) line (order e.high w m w_in) h)
-        | inr m ↦ (omega (arith, not_low), omega (arith, not_high))
-      ]
-    ]
+    let line = order e.low e.high line_is.rises line_is.within in
+    grind (arith, cases_lt, early_off, at, line, late_off)
 
 module _ (n : ℕ) (at : ℕ → Point) (order : AreInOrder n at) (lines : List Line) (lines_in : All (IsLine n) lines) (status : List Line) (s : IsSwept at lines n status) where
   is_line : (e : Line) → Contains lines e → IsLine n e

@@ -6,7 +6,7 @@ use Rattle.map_lists.specs.Lists.{Lists}
 use Rattle.map_theory.specs.Maps.{IsSimpleMap, list_of}
 use Rattle.plane_laws.specs.Kept.{IsKeptMap}
 use Rattle.plane_laws.proofs.KeptEdges.{filter-all, length-with_kept, list_of-with_kept, same_kept, kept_edges}
-use Rattle.pg_plane.specs.declared.segments.Point.{Point}
+use Rattle.pg_plane.specs.declared.grid_points.Point.{Point}
 use Rattle.plane_drawings.specs.Drawing.{place, IsPlaneDrawing}
 use Rattle.plane_drawings.specs.declared.plane_sweep.line.Line.{Line}
 use Rattle.plane_drawings.specs.PlaneSweepLines.{IsLine}

@@ -4,7 +4,7 @@ use Rattle.std.specs.List.{All, AllPairs, Contains}
 use Rattle.std.proofs.lemmas.Int.{ints}
 use Rattle.std.proofs.lemmas.Bool.{cases_lt}
 use Rattle.std.proofs.lemmas.List.Elements.{All-nil, All-append, All-contains, All-contains_itself, Contains-append_left, Contains-append_right, Contains-append_cases, at_from_Contains}
-use Rattle.pg_plane.specs.declared.segments.Point.{Point}
+use Rattle.pg_plane.specs.declared.grid_points.Point.{Point}
 use Rattle.pg_plane.proofs.Crossing.{flat_last, flat_ends}
 use Rattle.pg_plane.proofs.Segments.{DoCross-exchanged}
 use Rattle.plane_drawings.specs.declared.plane_sweep.line.Line.{Line}
@@ -51,13 +51,7 @@ in_pair R xs x y pairs in_x in_y =
     let is_y : get_or xs j x ≡ y = (at_from_Contains xs y in_y).2 x in
     let i_in : i < length xs = (at_from_Contains xs x in_x).1 in
     let j_in : j < length xs = (at_from_Contains xs y in_y).1 in
-    elim (cases_lt i j) [
-      | inl l ↦ inl (subst (λ z. R z y) is_x (subst (λ z. R (get_or xs i x) z) is_y (pairs i j x l j_in)))
-      | inr l ↦ elim (cases_lt j i) [
-        | inl m ↦ inr (inl (subst (λ z. R z x) is_y (subst (λ z. R (get_or xs j x) z) is_x (pairs j i x m i_in))))
-        | inr m ↦ inr (inr (sym is_x ∙ ap (λ k. get_or xs k x) (let e : i ≡ j = omega arith in e) ∙ is_y))
-      ]
-    ]
+    grind (arith, cases_lt, get_or)
 
 module _ (n : ℕ) (at : ℕ → Point) (order : AreInOrder n at) (lines : List Line) (lines_in : All (IsLine n) lines) (i : ℕ) (i_in : i < n) (old new : List Line) (s : IsSwept at lines i old) (t : IsStep at lines i old new) where
   abbrev parts : List Line

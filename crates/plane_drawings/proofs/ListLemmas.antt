@@ -29,7 +29,6 @@ gap_up {X = X} xs begin end place order less within ys e =
     let part_long : length part ≡ top - end = length-take-le (top - end) (drop end xs) (omega (arith, length-drop end xs)) in
     let lower_long : length (take begin xs ++ part) ≡ place = length-append (take begin xs) part ∙ omega (arith, front_long, part_long) in
     let front : take place ys ≡ take begin xs ++ part = ap (take place) e ∙ take_at (take begin xs ++ part) rest place lower_long in
-    let place_is : begin + (top - end) ≡ place = omega arith in
     let back : drop top ys ≡ drop top xs =
     ap (drop top) e ∙ ap (λ (n : ℕ). drop n (copy_within xs end top begin)) (omega arith) ∙ sym (drop-drop (top - place) place (copy_within xs end top begin)) ∙ ap (drop (top - place)) (drop_at (take begin xs ++ part) rest place lower_long) ∙ drop-drop (top - place) (begin + (top - end)) xs ∙ ap (λ (n : ℕ). drop n xs) (omega arith) in
     let upper : part ++ drop top xs ≡ drop end xs = ap (λ (us : List X). part ++ us) (ap (λ (n : ℕ). drop n xs) (omega arith) ∙ sym (drop-drop (top - end) end xs)) ∙ take-append-drop (top - end) (drop end xs) in

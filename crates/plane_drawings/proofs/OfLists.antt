@@ -6,7 +6,7 @@ use Rattle.map_theory.specs.Maps.{Dart, HasDart, is_empty_list, list_of, follows
 use Rattle.map_theory.proofs.DartLemmas.{dart_number-lt, HasDart-at, get_or-dart_number}
 use Rattle.map_theory.proofs.DartPermutations.{dart_of, tail_of, rotation, twin, dart_of-number, dart_of-twin, dart_of-rotation, IsPermuting-rotation, IsPairing-twin, tail_of-rotation, count_by-count_below}
 use Rattle.plane_laws.proofs.EdgeBound.{none_isolated, met_connected}
-use Rattle.pg_plane.specs.declared.segments.Point.{Point}
+use Rattle.pg_plane.specs.declared.grid_points.Point.{Point}
 use Rattle.pg_plane.specs.Geometry.{vector, IsClockBefore}
 use Rattle.pg_plane.specs.Faced.{turn}
 use Rattle.pg_plane.specs.Law.{IsPlaneByDarts, direction}
@@ -87,8 +87,7 @@ module _ (lists : Lists) (points : List Point) (c : IsTriangulation lists) (thri
   turn_back : (i : ℕ) → i < dart_count lists → turn (twin lists) h' (rotation lists i) ≡ i
   turn_back i l =
       let back = (IsPairing-twin lists c.simple).back i l in
-      let from : h' (twin lists i) ≡ rotation lists i = ap (rotation lists) back in
-      ap (λ (x : ℕ). twin lists (h' (h' x))) (sym from) ∙ ap (twin lists) (thrice (twin lists i) (twins_in i l)) ∙ back
+      ap (λ (x : ℕ). twin lists (h' (h' x))) (sym (ap (rotation lists) back)) ∙ ap (twin lists) (thrice (twin lists i) (twins_in i l)) ∙ back
 
   abbrev way : ℕ → Point
   way i = direction h' (λ j. place points (tail_of lists j)) i
@@ -117,19 +116,16 @@ module _ (lists : Lists) (points : List Point) (c : IsTriangulation lists) (thri
   rotations_kept v lv two = record {
     some =
         let a = some_dart v lv in
-        let o = number v a.0 in
-        let lo = number_in v a.0 a.1 in
-        let found = p.some_break o lo in
+        let found = p.some_break (number v a.0) (number_in v a.0 a.1) in
         let i = found.0 in
         let before = turn (twin lists) h' i in
         let lb : before < dart_count lists = twins_in (h' (h' i)) (rotations.within (twin lists (h' i)) (twins_in (h' i) (rotations.within (twin lists i) (twins_in i found.1)))) in
         let again : rotation lists before ≡ i = thrice i found.1 in
         let tail_is : (dart_of lists before).0 ≡ v =
         sym (tail_of-rotation lists c.simple before lb) ∙ ap (tail_of lists) again ∙ found.2 ∙ number_tail v a.0 a.1 in
-        let is_dart = (dart_of-number lists c.simple before lb).is_dart in
         let broken = break_from before lb (subst (λ (x : ℕ). ¬ IsClockBefore (way (turn (twin lists) h' x)) (way x)) (sym again) found.3) in (
           (dart_of lists before).1,
-          subst (λ (x : ℕ). HasDart lists x (dart_of lists before).1) tail_is is_dart,
+          subst (λ (x : ℕ). HasDart lists x (dart_of lists before).1) tail_is ((dart_of-number lists c.simple before lb).is_dart),
           subst (λ (x : ℕ). IsBreak lists points x (dart_of lists before).1) tail_is broken,
         );
     one = one_of_lists lists c.simple points (λ i j li lj tails bi bj. p.one_break (rotation lists i) (rotation lists j) (rotations.within i li) (rotations.within j lj) tails (break_to i li bi) (break_to j lj bj)) v;

@@ -4,7 +4,7 @@ use Rattle.std.proofs.Math.Seq.{get_or-append_seam}
 use Rattle.std.specs.List.{All, Contains}
 use Rattle.std.proofs.lemmas.Int.{ints}
 use Rattle.std.proofs.lemmas.List.Elements.{All-nil, All-cons, All-contains}
-use Rattle.pg_plane.specs.declared.segments.Point.{Point}
+use Rattle.pg_plane.specs.declared.grid_points.Point.{Point}
 use Rattle.plane_drawings.specs.declared.plane_sweep.line.Line.{Line}
 use Rattle.plane_drawings.specs.PlaneSweepLines.{rise, Ends}
 use Rattle.plane_drawings.specs.Steps.{AreStacked, IsAboveLast, IsBelowFirst, IsStep, IsSweep}
@@ -32,7 +32,6 @@ rises = (refl, refl, omega (arith, ints))
 stacked_more : (e f : Line) (fs : List Line) → Ends at e f → AreStacked at (f ∷ fs) → AreStacked at (e ∷ f ∷ fs)
 stacked_more e f fs h rest zero d l = h
 stacked_more e f fs h rest (suc k) d l =
-    let j : k + 1 ≡ suc k + 0 = omega arith in
     let m : suc k + 1 ≡ suc (k + 1) = omega arith in
     subst (λ z. Ends at (get_or (f ∷ fs) k d) (get_or (e ∷ f ∷ fs) z d)) (sym m) (rest k d (omega arith))
 
@@ -53,13 +52,10 @@ begins i fresh given whole e = (λ h. All-contains (λ f. Contains lines f × (f
 
 above_last : (i : ℕ) (xs : List Line) (x : Line) → pos 0 <ℤ rise at x i → IsAboveLast at (xs ++ (x ∷ [])) i
 above_last i xs x up rest e same =
-    let a = length-append xs (x ∷ []) in
     let b = length-append rest (e ∷ []) in
-    let c = ap length same in
-    let j : length xs ≡ length rest = omega arith in
+    let j : length xs ≡ length rest = omega (arith, ap length same, length-append xs (x ∷ [])) in
     let one : x ≡ e = sym (get_or-append_seam xs x [] x) ∙ ap (λ es. get_or es (length xs) x) same ∙ ap (λ k. get_or (rest ++ (e ∷ [])) k x) j ∙ get_or-append_seam rest e [] x in
-    let there = subst (λ f. pos 0 <ℤ rise at f i) one up in
-    omega (arith, ints)
+    omega (arith, subst (λ f. pos 0 <ℤ rise at f i) one up, ints)
 
 above_none : (i : ℕ) → IsAboveLast at [] i
 above_none i rest e same = absurd (let a = length-append rest (e ∷ []) in let b = ap length same in omega arith)
@@ -147,11 +143,4 @@ step_3 = record {
 }
 
 k4_sweep : IsSweep at lines 4 status
-k4_sweep = record { begin = refl; steps = steps }
-  where
-    steps : (i : ℕ) → i < 4 → IsStep at lines i (status i) (status (i + 1))
-    steps zero l = step_0
-    steps (suc zero) l = step_1
-    steps (suc (suc zero)) l = step_2
-    steps (suc (suc (suc zero))) l = step_3
-    steps (suc (suc (suc (suc i)))) l = absurd (omega arith)
+k4_sweep = grind (arith, IsStep, at, lines, status, step_0, step_1, step_2, step_3)

@@ -4,7 +4,7 @@ use Rattle.std.specs.List.{All, AllPairs}
 use Rattle.std.proofs.lemmas.Int.{ints}
 use Rattle.std.proofs.lemmas.Bool.{cases_lt}
 use Rattle.std.proofs.lemmas.List.Elements.{All-nil, All-cons, All-head, All-tail, All-contains}
-use Rattle.pg_plane.specs.declared.segments.Point.{Point}
+use Rattle.pg_plane.specs.declared.grid_points.Point.{Point}
 use Rattle.pg_plane.proofs.Crossing.{flat_last, flat_ends}
 use Rattle.plane_drawings.specs.declared.plane_sweep.line.Line.{Line}
 use Rattle.plane_drawings.specs.PlaneSweepLines.{AreInOrder, IsLine, rise, Starts, Ends}
@@ -47,25 +47,22 @@ module _ (n : ℕ) (at : ℕ → Point) (order : AreInOrder n at) where
     between e f r s begin end =
         let u = low_place e f i r.low s.low begin in
         let v = high_place e f i r.high s.high end in
-        let m = u.0 in
-        let k = v.0 in
         let low = u.1 in
         let high = v.1 in
-        let e_in = is_line e r in
         let f_in = is_line f s in (
-          m,
-          k,
+          u.0,
+          v.0,
           record {
-            first_low = rightward n at order e.low m low.first (omega arith);
-            second_low = rightward n at order f.low m low.second (omega arith);
-            first_high = rightward n at order k e.high high.first e_in.within;
-            second_high = rightward n at order k f.high high.second f_in.within;
+            first_low = rightward n at order e.low u.0 low.first (omega arith);
+            second_low = rightward n at order f.low u.0 low.second (omega arith);
+            first_high = rightward n at order v.0 e.high high.first (is_line e r).within;
+            second_high = rightward n at order v.0 f.high high.second f_in.within;
             low_above = low.over;
             low_below = low.under;
             high_above = high.over;
             high_below = high.under;
-            after = order m i low.passed i_in;
-            before = elim (cases_lt i k) [ inl l ↦ inl (order i k l (omega arith)) | inr l ↦ inr (ap at (let g : i ≡ k = omega arith in g)) ];
+            after = order u.0 i low.passed i_in;
+            before = elim (cases_lt i v.0) [ inl l ↦ inl (order i v.0 l (omega arith)) | inr l ↦ inr (ap at (let g : i ≡ v.0 = omega arith in g)) ];
           },
         )
 

@@ -2,7 +2,7 @@
 use Rattle.std.specs.Prelude.{ℕ, ◌<◌, ◌≤◌, ◌≡◌, List, length, All, Contains}
 use Rattle.map_lists.specs.Lists.{Lists}
 use Rattle.map_theory.specs.Maps.{HasDart, IsSimpleMap}
-use Rattle.pg_plane.specs.declared.segments.Point.{Point}
+use Rattle.pg_plane.specs.declared.grid_points.Point.{Point}
 use Rattle.plane_drawings.specs.Drawing.{place, IsPlaneDrawing}
 use Rattle.plane_drawings.specs.declared.plane_sweep.line.Line.{Line}
 use Rattle.plane_drawings.specs.PlaneSweepLines.{AreInOrder, IsLine}

@@ -1,6 +1,6 @@
 -- The lines of a sweep over points at 0, 1, 2 and on: i is the number of a vertex in the order of the sweep, and `at i` its point.
 use Rattle.std.specs.Prelude.{ℕ, ◌<◌, ◌≤◌, ◌≡◌, ◌⊎◌, ℤ, pos, ◌≤ℤ◌, ◌<ℤ◌}
-use Rattle.pg_plane.specs.declared.segments.Point.{Point}
+use Rattle.pg_plane.specs.declared.grid_points.Point.{Point}
 use Rattle.pg_plane.specs.Geometry.{area, DoCross}
 use Rattle.plane_drawings.specs.declared.plane_sweep.line.Line.{Line}
 

@@ -1,7 +1,7 @@
 -- A step of the sweep. The status is the list of the lines that reach over the place of the sweep, bottom to top.
 use Rattle.std.specs.Prelude.{ℕ, ◌+◌, ◌<◌, ◌≡◌, ◌↔◌, List, [], ◌∷◌, ◌++◌, length, All, Contains, pos, ◌<ℤ◌}
 use Rattle.std.specs.List.{AllAdjacentBelow}
-use Rattle.pg_plane.specs.declared.segments.Point.{Point}
+use Rattle.pg_plane.specs.declared.grid_points.Point.{Point}
 use Rattle.plane_drawings.specs.declared.plane_sweep.line.Line.{Line}
 use Rattle.plane_drawings.specs.PlaneSweepLines.{rise, Ends}
 

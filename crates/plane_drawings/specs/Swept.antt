@@ -1,6 +1,6 @@
 -- What a sweep keeps: what is true of the status when the points before i have been passed.
 use Rattle.std.specs.Prelude.{ℕ, ◌<◌, ◌≤◌, ◌≢◌, List, All, AllPairs, Contains, pos}
-use Rattle.pg_plane.specs.declared.segments.Point.{Point}
+use Rattle.pg_plane.specs.declared.grid_points.Point.{Point}
 use Rattle.plane_drawings.specs.declared.plane_sweep.line.Line.{Line}
 use Rattle.plane_drawings.specs.PlaneSweepLines.{rise, Starts, Cross}
 use Rattle.plane_drawings.specs.Steps.{AreStacked}

@@ -28,9 +28,8 @@ module _ (us : List ℕ) (a : ℕ) (distinct : AllPairs ◌≢◌ us) (has : Con
   pub length-from_entry : length (from_entry a us) ≡ length us
   length-from_entry =
       let p = place_of a us in
-      let e = length-append (drop p us) (take p us) in
       let l = in_a in
-      omega (arith, e, length-drop p us, length-take-le p us (omega arith))
+      omega (arith, length-append (drop p us) (take p us), length-drop p us, length-take-le p us (omega arith))
 
   from_entry-at : (i : ℕ) → i < length us → get_or (from_entry a us) i 0 ≡ get_or us (turned_place (length us) (place_of a us) i) 0
   from_entry-at i l =
@@ -38,14 +37,7 @@ module _ (us : List ℕ) (a : ℕ) (distinct : AllPairs ◌≢◌ us) (has : Con
       let n = length us in
       let m = in_a in
       let d = length-drop p us in
-      elim (cases_lt (p + i) n) [
-        | inl s ↦
-            let same : turned_place n p i ≡ p + i = grind (arith, nat_tests) in
-            get_or_append_left (drop p us) (take p us) 0 i (omega arith) ∙ (get_or-drop p us i 0 ∙ ap (λ q. get_or us q 0) (sym same))
-        | inr s ↦
-            let same : turned_place n p i ≡ i - (n - p) = grind (arith, nat_tests) in
-            get_or-append_right (drop p us) (take p us) (n - p) i 0 d (omega arith) ∙ (get_or-take p us (i - (n - p)) 0 (omega arith) ∙ ap (λ q. get_or us q 0) (sym same))
-      ]
+      grind (arith, cases_lt, turned_place, nat_tests, get_or_append_left, drop, take, get_or-drop, get_or, get_or-append_right, get_or-take)
 
   -- it begins with a
   pub from_entry-first : get_or (from_entry a us) 0 0 ≡ a
@@ -74,24 +66,11 @@ module _ (us : List ℕ) (a : ℕ) (distinct : AllPairs ◌≢◌ us) (has : Con
 
   -- no later entry is a
   pub from_entry-not_first : (i : ℕ) → 0 < i → i < length us → get_or (from_entry a us) i 0 ≢ a
-  from_entry-not_first i pos l e =
-      let n = length us in
-      let p = place_of a us in
-      let q = turned_place n p i in
-      let m = turned_place-lt n p i in_a l in
-      let place : q ≡ p = sym (place_of-get_or us q 0 distinct m) ∙ ap (λ y. place_of y us) (sym (from_entry-at i l) ∙ e) in
-      let first : turned_place n p 0 ≡ p = let r = in_a in grind (arith, nat_tests) in
-      absurd (omega (arith, turned_place-apart n p i 0 in_a l (omega arith) (place ∙ sym first)))
+  from_entry-not_first i pos l e = grind (arith, length, place_of, turned_place, turned_place-lt, in_a, place_of-get_or, from_entry-at, turned_place-apart, nat_tests)
 
   -- the entries of an arc stand before b
   pub arc-at : (b s : ℕ) → Contains (arc us a b) s → (i : ℕ) × (i < length us) × (i < place_of b (from_entry a us)) × (get_or (from_entry a us) i 0 ≡ s)
-  arc-at b s h =
-      let r = from_entry a us in
-      let n = length-from_entry in
-      let t = length-take (place_of b r) r in
-      let within : h.0 < place_of b r = let l = h.1 in omega (arith, t) in
-      let len : h.0 < length r = let l = h.1 in omega (arith, t) in
-      (h.0, omega arith, within, get_or_default r h.0 0 s len ∙ (sym (get_or-take (place_of b r) r h.0 s within) ∙ h.2))
+  arc-at b s h = grind (arith, from_entry, length-take, place_of, length, length-from_entry, get_or_default, get_or-take)
 
   -- no entry of an arc is b
   pub before_end : (b i : ℕ) → i < place_of b (from_entry a us) → get_or (from_entry a us) i 0 ≢ b
@@ -100,9 +79,7 @@ module _ (us : List ℕ) (a : ℕ) (distinct : AllPairs ◌≢◌ us) (has : Con
   -- where a is b it holds nothing
   pub arc-itself : (s : ℕ) → ¬ Contains (arc us a a) s
   arc-itself s h =
-      let at = arc-at a s h in
-      let first = place_of-le a (from_entry a us) 0 0 from_entry-first in
-      omega (arith, first, at.2)
+      omega (arith, place_of-le a (from_entry a us) 0 0 from_entry-first, (arc-at a s h).2)
 
   -- an entry before b is in the arc
   pub arc-has : (b i : ℕ) → i < length us → i < place_of b (from_entry a us) → Contains (arc us a b) (get_or (from_entry a us) i 0)
@@ -128,15 +105,7 @@ module _ (us : List ℕ) (a : ℕ) (distinct : AllPairs ◌≢◌ us) (has : Con
 
   -- the turned list holds nothing twice
   pub from_entry-apart : (i j : ℕ) → i < length us → j < length us → get_or (from_entry a us) i 0 ≡ get_or (from_entry a us) j 0 → i ≡ j
-  from_entry-apart i j l m e =
-      let n = length us in
-      let p = place_of a us in
-      let qi = turned_place-lt n p i in_a l in
-      let qj = turned_place-lt n p j in_a m in
-      let same : turned_place n p i ≡ turned_place n p j =
-      sym (place_of-get_or us (turned_place n p i) 0 distinct qi)
-      ∙ (ap (λ y. place_of y us) (sym (from_entry-at i l) ∙ (e ∙ from_entry-at j m)) ∙ place_of-get_or us (turned_place n p j) 0 distinct qj) in
-      turned_place-apart n p i j in_a l m same
+  from_entry-apart i j l m e = grind (arith, length, place_of, turned_place-lt, in_a, turned_place, place_of-get_or, from_entry-at, turned_place-apart)
 
   -- what stands before b is in the arc to b, where that is not a
   pub arc-last : (b s : ℕ) → a ≢ b → Contains us b → Contains us s → entry_after s us ≡ b → Contains (arc us a b) s
@@ -160,14 +129,11 @@ module _ (us : List ℕ) (a : ℕ) (distinct : AllPairs ◌≢◌ us) (has : Con
       let n = length-from_entry in
       let at = arc-at b s h in
       let in_b = place_of-lt-length b r (from_entry-has b has_b) in
-      let j = place_of b r in
-      let at_b = get_or-place_of b r 0 in_b in
       let later : at.0 < place_of c r =
       elim (cases_lt at.0 (place_of c r)) [
         | inl l ↦ l
         | inr l ↦
-            let in_c : place_of c r < length r = let m = at.1 in omega arith in
-            let at_c = get_or-place_of c r 0 in_c in
+            let at_c = get_or-place_of c r 0 (let m = at.1 in omega arith) in
             elim (cases_eq (place_of c r) 0) [
               | inl z ↦ absurd (ne (sym from_entry-first ∙ (ap (λ q. get_or r q 0) (sym z) ∙ at_c)))
               | inr z ↦
@@ -175,9 +141,7 @@ module _ (us : List ℕ) (a : ℕ) (distinct : AllPairs ◌≢◌ us) (has : Con
                   let next : suc i ≡ place_of c r = omega arith in
                   let step = from_entry-next i (omega arith) in
                   let same = entry_after-injective us (get_or r i 0) b distinct (from_entry-in i (omega arith)) has_b (step ∙ (ap (λ q. get_or r q 0) next ∙ (at_c ∙ sym e))) in
-                  let j_is = from_entry-apart i j (omega arith) (omega arith) (same ∙ sym at_b) in
-                  let before = at.2 in
-                  absurd (omega arith)
+                  absurd (omega (arith, from_entry-apart i (place_of b r) (omega arith) (omega arith) (same ∙ sym (get_or-place_of b r 0 in_b))))
             ]
       ] in
       subst (Contains (arc us a c)) at.3 (arc-has c at.0 at.1 later)
@@ -186,7 +150,6 @@ module _ (us : List ℕ) (a : ℕ) (distinct : AllPairs ◌≢◌ us) (has : Con
   pub arc-first : (b : ℕ) → a ≢ b → Contains us b → Contains (arc us a b) a
   arc-first b ne has_b =
       let r = from_entry a us in
-      let n = length-from_entry in
       let l = place_of-lt-length b r (from_entry-has b has_b) in
       let pos : 0 < place_of b r = elim (cases_eq (place_of b r) 0) [ inl z ↦ absurd (ne (sym from_entry-first ∙ (ap (λ q. get_or r q 0) (sym z) ∙ get_or-place_of b r 0 l))) | inr z ↦ omega arith ] in
       subst (Contains (arc us a b)) from_entry-first (arc-has b 0 (omega arith) pos)
@@ -197,19 +160,15 @@ arc-longer us a b s distinct has_a has_b ne h =
     let c = entry_after a us in
     let has_c = Contains-entry_after a us has_a in
     let r = from_entry a us in
-    let r' = from_entry c us in
     let at = arc-at us c distinct has_c b s h in
-    let n = length-from_entry us a distinct has_a in
     let n' = length-from_entry us c distinct has_c in
-    let in_b' = place_of-lt-length b r' (from_entry-has us c distinct has_c b has_b) in
-    let in_b = place_of-lt-length b r (from_entry-has us a distinct has_a b has_b) in
-    let l = at.2 in
+    let in_b' = place_of-lt-length b (from_entry c us) (from_entry-has us c distinct has_c b has_b) in
     let more : suc at.0 < length us = omega arith in
     let later : suc at.0 < place_of b r =
     elim (cases_lt (suc at.0) (place_of b r)) [
       | inl m ↦ m
       | inr m ↦
-          let at_b = get_or-place_of b r 0 in_b in
+          let at_b = get_or-place_of b r 0 (place_of-lt-length b r (from_entry-has us a distinct has_a b has_b)) in
           elim (cases_eq (place_of b r) 0) [
             | inl z ↦ absurd (ne (sym (from_entry-first us a distinct has_a) ∙ (ap (λ q. get_or r q 0) (sym z) ∙ at_b)))
             | inr z ↦

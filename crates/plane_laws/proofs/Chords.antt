@@ -67,8 +67,7 @@ not_two x x' y ne ne' h = elim (Contains-cons_cases x (x' ∷ []) y h) [ inl e �
 two_along : (lists : Lists) → IsSimpleMap lists → (a b c : ℕ) → HasDart lists a b → follows lists b a ≡ c → Together (orbits_of (after (rotation lists) (twin lists)) (dart_count lists)) (dart_number lists (a, b)) (dart_number lists (c, follows lists c b))
 two_along lists simple a b c has e =
     let L = label (orbits_of (after (rotation lists) (twin lists)) (dart_count lists)) in
-    let back = simple.both_ways a b has in
-    let has_bc : HasDart lists b c = subst (HasDart lists b) e (HasDart-follows lists b a back) in
+    let has_bc : HasDart lists b c = subst (HasDart lists b) e (HasDart-follows lists b a (simple.both_ways a b has)) in
     face_step_together lists simple (a, b) has ∙ (ap (λ z. L (dart_number lists (b, z))) e ∙ face_step_together lists simple (b, c) has_bc)
 
 -- THE LAW: of two neighbouring chords one may be put in
@@ -76,8 +75,7 @@ pub one_chord : OneChord
 one_chord lists a b c x simple plane has e e' x_a lone =
     let back = simple.both_ways a b has in
     let has_bc : HasDart lists b c = subst (HasDart lists b) e (HasDart-follows lists b a back) in
-    let has_cb = simple.both_ways b c has_bc in
-    let has_cx : HasDart lists c x = subst (HasDart lists c) e' (HasDart-follows lists c b has_cb) in
+    let has_cx : HasDart lists c x = subst (HasDart lists c) e' (HasDart-follows lists c b (simple.both_ways b c has_bc)) in
     elim (cases_eq a c) [
       | inl q ↦ inr ((λ s. lone (q, s)), λ h. x_a (alone lists simple b a x back (e ∙ sym q) h))
       | inr ne ↦
@@ -101,8 +99,7 @@ one_chord lists a b c x simple plane has e e' x_a lone =
 -- THE LAW: a chord past a vertex that a face meets twice
 pub corner_chord : CornerChord
 corner_chord lists a b c y simple plane has e e' e'' ne =
-    let back = simple.both_ways a b has in
-    let has_bc : HasDart lists b c = subst (HasDart lists b) e (HasDart-follows lists b a back) in
+    let has_bc : HasDart lists b c = subst (HasDart lists b) e (HasDart-follows lists b a (simple.both_ways a b has)) in
     let has_ca : HasDart lists c a = subst (HasDart lists c) e' (HasDart-follows lists c b (simple.both_ways b c has_bc)) in
     let has_ac = simple.both_ways c a has_ca in
     let has_ay : HasDart lists a y = subst (HasDart lists a) e'' (HasDart-follows lists a c has_ac) in
@@ -112,24 +109,21 @@ corner_chord lists a b c y simple plane has e e' e'' ne =
     let us = list_of lists a in
     let distinct = simple.no_repeat a has.0 in
     let b_y : b ≢ y = λ s. ne (sym s) in
-    let in_s = arc-last us b distinct has.1 y c b_y has_ay.1 has_ac.1 e'' in
     let in_t = arc-first us y distinct has_ay.1 b ne has.1 in
     apart_from_paths lists (a ∷ []) c y simple has_ca.0
     (not_one a c (λ s. simple.no_loop a c has_ac (sym s)))
     (not_one a y (λ s. simple.no_loop a y has_ay (sym s)))
-    (corner_split lists a b y simple plane has has_ay b_y face c y in_s in_t)
+    (corner_split lists a b y simple plane has has_ay b_y face c y (arc-last us b distinct has.1 y c b_y has_ay.1 has_ac.1 e'') in_t)
 
 -- THE LAW: a face that is no triangle has an ear
 pub some_ear : SomeEar
 some_ear lists a b simple plane one some has large =
     let c = follows lists b a in
     let x = follows lists c b in
-    let back = simple.both_ways a b has in
-    let has_bc = HasDart-follows lists b a back in
+    let has_bc = HasDart-follows lists b a (simple.both_ways a b has) in
     let has_cx = HasDart-follows lists c b (simple.both_ways b c has_bc) in
     elim (cases_eq x a) [
       | inl q ↦
-          let y = follows lists x c in
           let y_b : follows lists a c ≢ b = λ s. large (ap₂ (λ v w. (v, w)) q (ap (λ v. follows lists v c) q ∙ s)) in
           inr (inr (has_cx, subst (λ v. CanJoin lists c (follows lists v c)) (sym q) (corner_chord lists a b c (follows lists a c) simple plane has refl q refl y_b)))
       | inr ne ↦
@@ -160,9 +154,7 @@ ear_cut lists p a b c simple plane has_p e e' join =
     let closes : follows lists w (follows lists z w) ≡ z = ap (λ v. follows lists v (follows lists z w)) (sym third) ∙ ap (λ d. d.1) t in
     let zw = simple.both_ways w z h in
     let off : z ≡ a → w ≢ p = λ q r.
-    let to_b : follows lists z w ≡ b = ap₂ (follows lists) q r ∙ e in
-    let is_c : c ≡ p = sym e' ∙ (ap₂ (follows lists) (sym to_b) (sym q) ∙ (third ∙ r)) in
-    join.1 (subst (HasDart lists a) (sym is_c) has_p) in
+    join.1 (subst (HasDart lists a) (sym (sym e' ∙ (ap₂ (follows lists) (sym (ap₂ (follows lists) q r ∙ e)) (sym q) ∙ (third ∙ r)))) has_p) in
     let off' : z ≡ c → w ≢ b = λ q r.
     let t' = follows lists z w in
     let has_t : HasDart lists w t' =
@@ -180,8 +172,7 @@ ear_cut lists p a b c simple plane has_p e e' join =
           let h1 = HasDart-face_step lists d simple h in
           let h2 = HasDart-face_step lists (face_step lists d) simple h1 in
           let t1 = ap (face_step lists) t in
-          let t2 = ap (face_step lists) t1 in
           ap (λ x. face_step new (face_step new x)) (same w z h t)
           ∙ (ap (face_step new) (same (face_step lists d).0 (face_step lists d).1 h1 t1)
-          ∙ (same (face_step lists (face_step lists d)).0 (face_step lists (face_step lists d)).1 h2 t2 ∙ t));
+          ∙ (same (face_step lists (face_step lists d)).0 (face_step lists (face_step lists d)).1 h2 (ap (face_step lists) t1) ∙ t));
     }

@@ -29,13 +29,10 @@ one_component lists simple all =
     let C = component_classes lists in
     let known = IsLabels-components lists simple in
     let n = length-classes (length lists) (darts lists) in
-    let some = simple.some_vertex in
-    let low = known.low 0 in
     let most = count_below_into (λ i. 0) (λ i. eqb (label C i) i) (λ i. true) (length C) 1 (λ i l t. (omega arith, refl))
     (λ i j l m t t' e.
-    let at = Together-from C 0 i (all i (omega arith)) in
     let at' = Together-from C 0 j (all j (omega arith)) in
-    sym (eqb-true (label C i) i t) ∙ (sym at ∙ (at' ∙ eqb-true (label C j) j t'))) in
+    sym (eqb-true (label C i) i t) ∙ (sym (Together-from C 0 i (all i (omega arith))) ∙ (at' ∙ eqb-true (label C j) j t'))) in
     let least = count_below_into (λ i. 0) (λ i. true) (λ i. eqb (label C i) i) 1 (length C) (λ i l t. (omega arith, eq-eqb (label C 0) 0 (omega arith))) (λ i j l m t t' e. omega arith) in
     omega arith
 
@@ -52,11 +49,9 @@ before_entry lists simple v a has =
 ear_step : (lists : Lists) → IsSimpleMap lists → IsPlane lists → (a b : ℕ) → IsEar lists a b → (new : Lists) × IsSimpleMap new × IsPlane new × IsExtended lists new × (edge_count new ≡ edge_count lists + 1)
 ear_step lists simple plane a b ear =
     let c = follows lists b a in
-    let join = ear.1 in
     let p = before_entry lists simple a b ear.0 in
-    let back = simple.both_ways a b ear.0 in
-    let has_cb = simple.both_ways b c (HasDart-follows lists b a back) in
-    let cut = ear_cut lists p.0 a b c simple plane p.1 p.2 refl join in
+    let has_cb = simple.both_ways b c (HasDart-follows lists b a (simple.both_ways a b ear.0)) in
+    let cut = ear_cut lists p.0 a b c simple plane p.1 p.2 refl ear.1 in
     let in_i = place_of-lt-length p.0 (list_of lists a) p.1.1 in
     let in_j = place_of-lt-length b (list_of lists c) has_cb.1 in
     let i = place_of p.0 (list_of lists a) + 1 in
@@ -64,8 +59,8 @@ ear_step lists simple plane a b ear =
       with_edge_after lists a p.0 c b,
       cut.simple,
       cut.split.plane,
-      IsExtended-edge lists a i c j simple ear.0.0 has_cb.0 join.0 join.1 (omega arith) (omega arith),
-      edge_count-edge lists a i c j simple ear.0.0 has_cb.0 join.0 join.1 (omega arith) (omega arith),
+      IsExtended-edge lists a i c j simple ear.0.0 has_cb.0 ear.1.0 ear.1.1 (omega arith) (omega arith),
+      edge_count-edge lists a i c j simple ear.0.0 has_cb.0 ear.1.0 ear.1.1 (omega arith) (omega arith),
     )
 
 -- two components are joined: one edge more
@@ -86,9 +81,8 @@ join_step lists simple plane v l far =
 -- a map is a triangulation, or an edge can be put in
 done_or_more : (lists : Lists) → IsSimpleMap lists → IsPlane lists → 3 ≤ vertex_count lists → IsTriangulation lists ⊎ ((new : Lists) × IsSimpleMap new × IsPlane new × IsExtended lists new × (edge_count new ≡ edge_count lists + 1))
 done_or_more lists simple plane some =
-    let C = component_classes lists in
     let h = after (rotation lists) (twin lists) in
-    elim (all_or_some (same_class C 0) (length lists)) [
+    elim (all_or_some (same_class (component_classes lists) 0) (length lists)) [
       | inr r ↦ inr (join_step lists simple plane r.0 r.1 (λ t. true≢false (sym t ∙ r.2)))
       | inl all ↦
           let one = one_component lists simple all in
@@ -115,8 +109,6 @@ completed_by (suc n) lists simple plane some l =
     elim (done_or_more lists simple plane some) [
       | inl done ↦ (lists, done, IsExtended-itself lists)
       | inr more ↦
-          let same = more.3.vertices in
-          let one = more.4 in
           let rest = completed_by n more.0 more.1 more.2 (omega arith) (omega arith) in
           (rest.0, rest.1, IsExtended-chained lists more.0 rest.0 more.3 rest.2)
     ]

@@ -15,17 +15,7 @@ use Rattle.plane_laws.specs.Laws.{AreJoined, ComponentsArePaths}
 
 -- a vertex by itself is a path
 pub JoinsAvoiding-itself : (lists : Lists) (avoided : List ℕ) (u : ℕ) → u < length lists → ¬ Contains avoided u → JoinsAvoiding lists avoided u u (u ∷ [])
-JoinsAvoiding-itself lists avoided u l off =
-    record {
-      is_path = record {
-        some = omega arith;
-        vertices = All-cons (λ v. v < length lists) u [] l (λ i d m. absurd (omega arith));
-        steps = λ i m. absurd (omega arith);
-      };
-      start = refl;
-      end = refl;
-      avoids = λ x c a. elim (Contains-cons_cases u [] x c) [ inl e ↦ off (subst (Contains avoided) (sym e) a) | inr none ↦ (let some = none.1 in absurd (omega arith)) ];
-    }
+JoinsAvoiding-itself lists avoided u l off = grind (arith, All-cons, length, Contains-cons_cases, Contains)
 
 -- so a vertex is joined to itself
 AreJoined-itself : (lists : Lists) (u : ℕ) → u < length lists → AreJoined lists u u
@@ -77,10 +67,8 @@ module _ (lists : Lists) (simple : IsSimpleMap lists) where
 
   from_joined : (u v : ℕ) → AreJoined lists u v → Together (components lists simple) u v
   from_joined u v joined =
-      let j = joined.1 in
-      let some = j.is_path.some in
       let C = label (components lists simple) in
-      ap C (sym j.start) ∙ (path_together joined.0 j.is_path (length joined.0 - 1) (omega arith) ∙ ap C j.end)
+      ap C (sym joined.1.start) ∙ (path_together joined.0 joined.1.is_path (length joined.0 - 1) (omega arith) ∙ ap C joined.1.end)
 
   -- who is joined to u is in each component whole or not at all
   to_joined : (u v : ℕ) → u < length lists → v < length lists → Together (components lists simple) u v → AreJoined lists u v

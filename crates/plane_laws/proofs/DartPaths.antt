@@ -110,16 +110,7 @@ pub record HoldsCut (lists : Lists) (labels avoided : List ℕ) (cut : ℕ → �
 
 -- so do the joint classes of the twin and a rotation that is changed at the cut corners alone
 pub HoldsCut-joint : (lists : Lists) → IsSimpleMap lists → (h : ℕ → ℕ) (avoided : List ℕ) (cut : ℕ → ℕ → Type 0) → IsPermuting h (dart_count lists) → ((p z : ℕ) → HasDart lists p z → ¬ cut p (follows lists p z) → h (dart_number lists (p, z)) ≡ rotation lists (dart_number lists (p, z))) → ((p z : ℕ) → cut p z → Contains avoided p) → HoldsCut lists (joint h (twin lists) (dart_count lists)) avoided cut
-HoldsCut-joint lists simple h avoided cut w same away =
-    let g = twin lists in
-    let k = dart_count lists in
-    let K = joint h g k in
-    let v = IsPairing-twin lists simple in
-    record {
-      turns = λ p z has uncut. joint-first h g k w.within v.within (dart_number lists (p, z)) (dart_number-lt lists p z has) ∙ ap (label K) (same p z has uncut ∙ rotation-number lists p z has);
-      twins = λ p z has. joint-second h g k w.within v.within (dart_number lists (p, z)) (dart_number-lt lists p z has) ∙ ap (label K) (twin-number lists p z has);
-      away = away;
-    }
+HoldsCut-joint lists simple h avoided cut w same away = grind (arith, twin, dart_count, joint, IsPairing-twin, joint-first, dart_number, dart_number-lt, label, rotation-number, joint-second, twin-number)
 
 module _ (lists : Lists) (simple : IsSimpleMap lists) (labels avoided : List ℕ) (cut : ℕ → ℕ → Type 0) (holds : HoldsCut lists labels avoided cut) where
   -- round a vertex, up to where a corner is cut
@@ -140,9 +131,7 @@ module _ (lists : Lists) (simple : IsSimpleMap lists) (labels avoided : List ℕ
       let us = list_of lists p in
       let distinct = simple.no_repeat p has.0 in
       let at = arc-at us a distinct has.1 b s h in
-      let l = at.1 in
-      let m = at.2 in
-      turned_held p a has at.0 l (λ j n c. elim (ends (get_or (from_entry a us) (suc j) 0) c) [
+      turned_held p a has at.0 at.1 (λ j n c. elim (ends (get_or (from_entry a us) (suc j) 0) c) [
         | inl e ↦ from_entry-not_first us a distinct has.1 (suc j) (omega arith) (omega arith) e
         | inr e ↦ before_end us a distinct has.1 b (suc j) (omega arith) e
       ])
@@ -155,9 +144,8 @@ module _ (lists : Lists) (simple : IsSimpleMap lists) (labels avoided : List ℕ
       let distinct = simple.no_repeat p has.0 in
       let at = from_entry-has us z distinct has.1 z' has'.1 in
       let n = length-from_entry us z distinct has.1 in
-      let l = at.1 in
       turned_held p z has at.0 (omega arith) (λ j m c. off (holds.away p (get_or (from_entry z us) (suc j) 0) c))
-      ∙ ap (λ x. label labels (dart_number lists (p, x))) (get_or_default (from_entry z us) at.0 0 z' l ∙ at.2)
+      ∙ ap (λ x. label labels (dart_number lists (p, x))) (get_or_default (from_entry z us) at.0 0 z' at.1 ∙ at.2)
 
   -- a path that meets no avoided vertex
   path_held : (path : List ℕ) → IsPath lists path → ((x : ℕ) → Contains path x → ¬ Contains avoided x) → (z : ℕ) → HasDart lists (get_or path 0 0) z → (n : ℕ) → n < length path → (z' : ℕ) → HasDart lists (get_or path n 0) z' → Together labels (dart_number lists (get_or path 0 0, z)) (dart_number lists (get_or path n 0, z'))
@@ -172,7 +160,6 @@ module _ (lists : Lists) (simple : IsSimpleMap lists) (labels avoided : List ℕ
   -- So where a path joins entries of two arcs, their first darts are in one class.
   pub arcs_joined : (p a b q c d : ℕ) → HasDart lists p a → HasDart lists q c → ((z : ℕ) → cut p z → (z ≡ a) ⊎ (z ≡ b)) → ((z : ℕ) → cut q z → (z ≡ c) ⊎ (z ≡ d)) → (s t : ℕ) → Contains (arc (list_of lists p) a b) s → Contains (arc (list_of lists q) c d) t → (path : List ℕ) → JoinsAvoiding lists avoided s t path → Together labels (dart_number lists (p, a)) (dart_number lists (q, c))
   arcs_joined p a b q c d has has' ends ends' s t in_s in_t path j =
-      let some = j.is_path.some in
       let has_s = arc_dart lists simple p a b has s in_s in
       let has_t = arc_dart lists simple q c d has' t in_t in
       let from_s = subst (λ x. HasDart lists x p) (sym j.start) (simple.both_ways p s has_s) in

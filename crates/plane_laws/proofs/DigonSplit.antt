@@ -107,8 +107,7 @@ module _ (lists : Lists) (simple : IsSimpleMap lists) (plane : IsPlane lists) (u
             elim sides [
               | inl far ↦ law t near_v.0 (far_first ne t far) path (avoids_v s t path j)
               | inr far ↦
-                  let after_v = HasDart-follows lists u v edge in
-                  let has_t = arc_dart lists simple u (follows lists u v) a after_v t far in
+                  let has_t = arc_dart lists simple u (follows lists u v) a (HasDart-follows lists u v edge) t far in
                   law u near_v.0 (u_far ne) (path ++ u ∷ []) (JoinsAvoiding-more lists (v ∷ []) s t u path (simple.both_ways u t has_t) edge.0 (not_alone v u (λ e. u_v (sym e))) (avoids_v s t path j))
             ]
       ]
@@ -199,8 +198,7 @@ module _ (lists : Lists) (simple : IsSimpleMap lists) (plane : IsPlane lists) (u
 -- THE LAW: corners of two adjacent vertices in one face of a map of genus zero
 pub digon_split : DigonSplit
 digon_split lists u v a b simple plane edge has_a has_b face =
-    let test = same_class (face_classes lists) (dart_number lists (u, a)) (dart_number lists (u, v)) in
-    elim (cases_Bool test) [
+    elim (cases_Bool (same_class (face_classes lists) (dart_number lists (u, a)) (dart_number lists (u, v)))) [
       | inl same ↦ left lists simple plane u v a b edge has_a has_b face same
       | inr differ ↦ other lists simple plane u v a b edge has_a has_b face (λ same. false≢true (sym differ ∙ same))
     ]

@@ -30,7 +30,6 @@ edge_in_face lists u v simple edge more more' plane face =
     let n = length-without_edge lists simple u v edge in
     let m = edge_count-without lists simple u v edge in
     let few = fewer_components lists simple u v edge in
-    let total = bound.1 in
     record { plane = omega arith; faces = faces; components = omega arith; apart = apart }
 
 -- THE LAW: an edge between two components
@@ -40,12 +39,4 @@ edge_between lists u v simple edge plane far =
     let bound = euler_bound_map lists simple in
     let n = length-without_edge lists simple u v edge in
     let m = edge_count-without lists simple u v edge in
-    let total = bound.1 in
-    elim (cases_Bool (same_class (face_classes lists) (dart_number lists (u, v)) (dart_number lists (v, u)))) [
-      | inl one ↦
-          let faces = one_face_counts lists simple u v edge one in
-          record { plane = omega arith; faces = faces; components = components_fall; one = one }
-      | inr two ↦
-          let faces = two_faces_count lists simple u v edge (λ one. false≢true (sym two ∙ one)) in
-          absurd (omega arith)
-    ]
+    grind (arith, cases_Bool, same_class, face_classes, dart_number, one_face_counts, components, two_faces_count, false≢true)

@@ -21,10 +21,8 @@ count_two : (p : ℕ → Bool) (n a b : ℕ) → a < n → b < n → a ≢ b →
 count_two p n a b la lb ne ta tb =
     let both : ℕ → Bool = λ i. eqb i a || eqb i b in
     let none = count_below_but_two both (λ i. false) n a b la lb ne (λ i l d d'. rw (ne_eqb i a d, ne_eqb i b d') refl) in
-    let at_a : both a ≡ true = or_left (eqb a a) (eqb a b) (eq-eqb a a refl) in
-    let at_b : both b ≡ true = or_right (eqb b a) (eqb b b) (eq-eqb b b refl) in
     let less = count_below_weaker both p n (λ i l t. elim (or_cases (eqb i a) (eqb i b) t) [ inl e ↦ ap p (eqb-true i a e) ∙ ta | inr e ↦ ap p (eqb-true i b e) ∙ tb ]) in
-    omega (arith, none, less, ap one_if at_a, ap one_if at_b)
+    omega (arith, none, less, ap one_if (or_left (eqb a a) (eqb a b) (eq-eqb a a refl)), ap one_if (or_right (eqb b a) (eqb b b) (eq-eqb b b refl)))
 
 -- at most two numbers below k: then k is at most two
 at_most_two : (k a b : ℕ) → ((i : ℕ) → i < k → (i ≡ a) ⊎ (i ≡ b)) → k ≤ 2
@@ -60,8 +58,7 @@ one_class labels w few i j l m =
       | inl e ↦ e
       | inr ne ↦
           let low = w.low i in
-          let low' = w.low j in
-          let two = count_two (λ x. eqb (label labels x) x) (length labels) (label labels i) (label labels j) (omega arith) (omega arith) ne (eq-eqb (label labels (label labels i)) (label labels i) (w.own i)) (eq-eqb (label labels (label labels j)) (label labels j) (w.own j)) in
+          let two = count_two (λ x. eqb (label labels x) x) (length labels) (label labels i) (label labels j) (omega (arith, w.low j)) (omega arith) ne (eq-eqb (label labels (label labels i)) (label labels i) (w.own i)) (eq-eqb (label labels (label labels j)) (label labels j) (w.own j)) in
           absurd (omega arith)
     ]
 
@@ -109,12 +106,9 @@ module _ (lists : Lists) (simple : IsSimpleMap lists) where
   -- and where it leads back in two steps, its dart and the twin are alone at their vertices
   pub two_steps : (i : ℕ) → i < k → h (h i) ≡ i → h i ≡ g i
   two_steps i l e =
-      let d = dart_of lists i in
-      let c = dart_of lists (h i) in
       let in_h = hw.within i l in
-      let from_head = tail_h i l in
-      let to_tail : c.1 ≡ d.0 = sym (tail_h (h i) in_h) ∙ ap (tail_of lists) e in
-      sym (dart_of-number lists simple (h i) in_h).number ∙ ap₂ (λ x y. dart_number lists (x, y)) from_head to_tail
+      let to_tail : (dart_of lists (h i)).1 ≡ (dart_of lists i).0 = sym (tail_h (h i) in_h) ∙ ap (tail_of lists) e in
+      sym (dart_of-number lists simple (h i) in_h).number ∙ ap₂ (λ x y. dart_number lists (x, y)) (tail_h i l) to_tail
 
   pub own : ℕ → Bool
   own i = eqb (label P i) i
@@ -129,34 +123,7 @@ module _ (lists : Lists) (simple : IsSimpleMap lists) where
   -- of a dart and the next two of its face one is the least, or two where they are the same
   pub one_of_three : (i : ℕ) → i < k → one_if (own i) + one_if (own (h i)) + one_if (own (h (h i))) ≤ 1 + one_if (short i)
   unfolding short own
-  one_of_three i l =
-      let l1 = hw.within i l in
-      let l2 = hw.within (h i) l1 in
-      let s1 = turn i l in
-      let s2 = turn (h i) l1 in
-      elim (cases_Bool (own (h i))) [
-        | inl t1 ↦
-            let n0 : own i ≡ false = not_own (h i) i t1 (λ e. no_fixed i l e) (sym s1) in
-            let n2 : own (h (h i)) ≡ false = not_own (h i) (h (h i)) t1 (λ e. no_fixed (h i) l1 (sym e)) s2 in
-            omega (arith, ap one_if n0, ap one_if n2, ap one_if t1)
-        | inr t1 ↦
-            elim (cases_Bool (own i)) [
-              | inl t0 ↦
-                  elim (cases_eq (h (h i)) i) [
-                    | inl e ↦
-                        let s : short i ≡ true = rw (t0, eq-eqb (h (h i)) i e) refl in
-                        let t2 : own (h (h i)) ≡ true = ap own e ∙ t0 in
-                        omega (arith, ap one_if t0, ap one_if t1, ap one_if t2, ap one_if s)
-                    | inr ne ↦
-                        let n2 : own (h (h i)) ≡ false = not_own i (h (h i)) t0 (λ e. ne (sym e)) (s1 ∙ s2) in
-                        omega (arith, ap one_if t0, ap one_if t1, ap one_if n2)
-                  ]
-              | inr t0 ↦ elim (own (h (h i))) as (λ v. one_if (own i) + one_if (own (h i)) + one_if v ≤ 1 + one_if (short i)) [ true ↦ omega (arith, ap one_if t0, ap one_if t1) | false ↦ omega (arith, ap one_if t0, ap one_if t1) ]
-            ]
-      ]
-    where
-      not_own : (x y : ℕ) → own x ≡ true → x ≢ y → Together P x y → own y ≡ false
-      not_own x y t ne e = elim (cases_Bool (own y)) [ inl t' ↦ absurd (ne (own_same x y t t' e)) | inr t' ↦ t' ]
+  one_of_three i l = grind (arith, hw, turn, cases_Bool, own, no_fixed, one_if, cases_eq, short, eq-eqb, Together, own_same)
 
   -- a label is the least of its face
   pub own_label : (i : ℕ) → own (label P i) ≡ true
@@ -171,11 +138,8 @@ module _ (lists : Lists) (simple : IsSimpleMap lists) where
   pub three_faces : 3 * class_count P ≤ k + count_below short k
   unfolding own
   three_faces =
-      let n = length-orbits_of h k in
-      let first = count_below-images h k hw own in
-      let second = count_below-images h k hw (λ i. own (h i)) in
       let all = count_three own (λ i. own (h i)) (λ i. own (h (h i))) short k one_of_three in
-      omega (arith, first, second, all, own_count)
+      omega (arith, count_below-images h k hw own, count_below-images h k hw (λ i. own (h i)), all, own_count)
 
   abbrev pub J : List ℕ
   J = dart_classes lists simple
@@ -214,13 +178,7 @@ module _ (lists : Lists) (simple : IsSimpleMap lists) where
         ]
       ] in
       let twins : (y : ℕ) → y < k → one_if (test y) ≡ one_if (test (g y)) = λ y n.
-      elim (cases_eq y i) [
-        | inl q ↦ ap one_if (ap test q ∙ (at_i ∙ sym (ap (λ z. test (g z)) q ∙ at_g)))
-        | inr a ↦ elim (cases_eq y (g i)) [
-          | inl q ↦ ap one_if (ap test q ∙ (at_g ∙ sym (ap (λ z. test (g z)) q ∙ (ap test (pair.back i l) ∙ at_i))))
-          | inr b ↦ ap one_if (off y a b ∙ sym (off (g y) (λ s. b (sym (pair.back y n) ∙ ap g s)) (λ s. a (gw.apart y i n l s))))
-        ]
-      ] in
+      grind (arith, cases_eq, one_if, pair) in
       let same = joint-marked f g k w.within pair.within (λ y. one_if (test y)) turns twins i j l m t in
       elim (cases_eq j i) [
         | inl q ↦ inl q
@@ -234,17 +192,15 @@ module _ (lists : Lists) (simple : IsSimpleMap lists) where
   short_faces : count_below short k ≤ class_count J
   unfolding short own
   short_faces =
-      let n = J_size in
       count_below_into (label J) short (λ i. eqb (label J i) i) k (length J)
-      (λ i l t. let low = J_known.low i in (omega arith, eq-eqb (label J (label J i)) (label J i) (J_known.own i)))
+      (λ i l t. let low = J_known.low i in (omega (arith, J_size), eq-eqb (label J (label J i)) (label J i) (J_known.own i)))
       (λ i j l m t t' e.
       let ends = short_ends i l (short_round i t) in
       elim (pair_class i l ends.0 ends.1 j m e) [
         | inl q ↦ sym q
         | inr q ↦
             let one = (and_parts (eqb (label P i) i) (eqb (h (h i)) i) t).0 in
-            let other = (and_parts (eqb (label P j) j) (eqb (h (h j)) j) t').0 in
-            own_same i j one other (turn i l ∙ ap (label P) (ends.1 ∙ sym q))
+            own_same i j one ((and_parts (eqb (label P j) j) (eqb (h (h j)) j) t').0) (turn i l ∙ ap (label P) (ends.1 ∙ sym q))
       ])
 
   -- one class and a face of two darts: an edge by itself
@@ -268,8 +224,7 @@ module _ (lists : Lists) (simple : IsSimpleMap lists) where
       let points = vertex_count-orbits lists simple in
       let parts = component_count-classes lists simple in
       let most = count_below-le (λ i. eqb (label (orbits_of f k) i) i) (length (orbits_of f k)) in
-      let size = length-orbits_of f k in
-      elim (cases_lt 0 k) [ inl l ↦ let one = some_class l in omega arith | inr l ↦ omega arith ]
+      elim (cases_lt 0 k) [ inl l ↦ let one = some_class l in omega arith | inr l ↦ omega (arith, length-orbits_of f k) ]
 
   -- and no face of two darts
   pub none_of_two : component_count lists ≤ 1 → 3 ≤ vertex_count lists → (i : ℕ) → i < k → h (h i) ≡ i → ⊥
@@ -277,10 +232,7 @@ module _ (lists : Lists) (simple : IsSimpleMap lists) where
       let points = vertex_count-orbits lists simple in
       let parts = component_count-classes lists simple in
       let most = count_below-le (λ i. eqb (label (orbits_of f k) i) i) (length (orbits_of f k)) in
-      let size = length-orbits_of f k in
-      let small = lone_edge_map (omega arith) i l round in
-      let alone = none_isolated few some in
-      omega arith
+      omega (arith, lone_edge_map (omega arith) i l round, length-orbits_of f k, none_isolated few some)
 
   edge_bound_here : IsPlane lists → 3 ≤ vertex_count lists → edge_count lists + 6 ≤ 3 * vertex_count lists
   edge_bound_here plane some =
@@ -293,7 +245,6 @@ module _ (lists : Lists) (simple : IsSimpleMap lists) where
       elim (cases_lt (component_count lists) 2) [
         | inr l ↦ let one = some_class in elim (cases_lt 0 k) [ inl m ↦ let c = one m in omega arith | inr m ↦ omega arith ]
         | inl l ↦
-            let alone = none_isolated (omega arith) some in
             elim (some_pass short k) [
               | inl none ↦ let one = some_class in elim (cases_lt 0 k) [ inl m ↦ let c = one m in omega arith | inr m ↦ omega arith ]
               | inr r ↦ absurd (none_of_two (omega arith) some r.0 r.1 (short_round r.0 r.2))
@@ -306,12 +257,7 @@ module _ (lists : Lists) (simple : IsSimpleMap lists) where
       let balance : Balances f g k (edge_count lists) 0 = balances_map lists simple 0 (omega (arith, plane)) in
       let points = vertex_count-orbits lists simple in
       let parts = component_count-classes lists simple in
-      let double = two_m lists simple in
-      let most = count_below-le (λ i. eqb (label (orbits_of f k) i) i) (length (orbits_of f k)) in
-      let size = length-orbits_of f k in
-      let few = three_faces in
-      let shorts = short_faces in
-      elim (cases_lt 0 k) [ inl l ↦ let one = some_class l in omega arith | inr l ↦ omega arith ]
+      elim (cases_lt 0 k) [ inl l ↦ let one = some_class l in omega (arith, short_faces, three_faces, two_m lists simple) | inr l ↦ omega arith ]
 
 -- THE BOUND on the number of edges
 pub edge_bound : EdgeBound

@@ -30,7 +30,6 @@ module _ (lists : Lists) (simple : IsSimpleMap lists) (u v : ℕ) (edge : HasDar
   components_merged =
       let C = components lists simple in
       let D = components rest simple' in
-      let cw = IsLabels-components lists simple in
       let dw = IsLabels-components rest simple' in
       let cn = length-classes (length lists) (darts lists) in
       let dn = length-classes (length rest) (darts rest) in
@@ -57,7 +56,7 @@ module _ (lists : Lists) (simple : IsSimpleMap lists) (u v : ℕ) (edge : HasDar
       let finer = components-marked rest simple' (label C) (λ i l.
       let h = (dart_of-number rest simple' i l).is_dart in
       edge_together lists simple (tail_of rest i) (dart_of rest i).1 (dart_old lists simple u v edge (tail_of rest i) (dart_of rest i).1 h).0 ∙ ap (λ c. label C c.0) (sym (dart_of-twin rest simple' i l))) in
-      labels_same C (merge D u v) cw (IsLabels-merge D u v dw in_u in_v) (omega (arith, length-merge D u v))
+      labels_same C (merge D u v) (IsLabels-components lists simple) (IsLabels-merge D u v dw in_u in_v) (omega (arith, length-merge D u v))
       (λ x y l m t. components-marked lists simple (label (merge D u v)) (λ i n.
       across (tail_of lists i) (dart_of lists i).1 (dart_of-number lists simple i n).is_dart ∙ ap (λ c. label (merge D u v) c.0) (sym (dart_of-twin lists simple i n))) x y (omega arith) (omega arith) t)
       (λ x y l m t.

@@ -117,20 +117,17 @@ module _ (lists : Lists) (simple : IsSimpleMap lists) (u v : ℕ) (edge : HasDar
   counted n step =
       let counts = rest_counts lists simple u v edge p q lp lq fp fq in
       let next = second_alike f g k (edge_count lists) d p q (two_m lists simple) w pair ld lp lq fp fq (apart_twin lists simple u v edge) (apart_twin' lists simple u v edge) in
-      let same = n' in
-      omega (arith, step, next, counts.orbits, counts.faces, vertex_count-orbits lists simple, face_count-orbits lists simple, vertex_count-orbits rest simple', face_count-orbits rest simple')
+      omega (arith, n', step, next, counts.orbits, counts.faces, vertex_count-orbits lists simple, face_count-orbits lists simple, vertex_count-orbits rest simple', face_count-orbits rest simple')
 
   -- without an edge in one face there is a face more
   pub one_face_counts : SameFace lists (u, v) (v, u) → face_count rest ≡ face_count lists + 1
   one_face_counts face =
-      let step = off_alike f g k p d w pair lp ld fp (before_d ∙ to_both face) in
-      omega (arith, counted 0 (omega (arith, step)))
+      omega (arith, counted 0 (omega (arith, off_alike f g k p d w pair lp ld fp (before_d ∙ to_both face))))
 
   -- and without one in two faces there is one less
   pub two_faces_count : ¬ SameFace lists (u, v) (v, u) → face_count lists ≡ face_count rest + 1
   two_faces_count faces =
-      let step = off_joined f g k p d w pair lp ld fp (λ t. faces (from_both (sym before_d ∙ t))) in
-      omega (arith, counted 2 step)
+      omega (arith, counted 2 (off_joined f g k p d w pair lp ld fp (λ t. faces (from_both (sym before_d ∙ t)))))
 
   -- Let the edge be alone at neither end.
   module _ (big : f d ≢ d) (big' : f (g d) ≢ g d) where
@@ -251,10 +248,7 @@ module _ (lists : Lists) (simple : IsSimpleMap lists) (u v : ℕ) (edge : HasDar
     -- a dart that is left is on no orbit with the two that are not
     left_not_out : (b : Dart) → HasDart rest b.0 b.1 → (y : ℕ) → y < k → Together P2 (dart_number lists b) y → neither d (g d) y ≡ true
     left_not_out b h y l t =
-        let n = p2n in
-        let m = qn in
-        let lb = left_in b h in
-        faces_over.hits (dart_number rest b) y (omega arith) (omega arith) (ap (label P2) (number_over b h) ∙ t)
+        faces_over.hits (dart_number rest b) y (omega (arith, left_in b h, qn)) (omega (arith, p2n)) (ap (label P2) (number_over b h) ∙ t)
 
     cut_to_rest : (b c : Dart) → HasDart rest b.0 b.1 → HasDart rest c.0 c.1 → Together P1 (dart_number lists b) (dart_number lists c) → SameFace rest b c
     cut_to_rest b c h h' t =
@@ -286,8 +280,7 @@ module _ (lists : Lists) (simple : IsSimpleMap lists) (u v : ℕ) (edge : HasDar
         let lc = left_in c h' in
         let gq = pair.within q lq in
         let gg = pair.within (g d) le in
-        let q' = face_together rest simple' b c face in
-        let over = faces_over.there (dart_number rest b) (dart_number rest c) (omega arith) (omega arith) q' in
+        let over = faces_over.there (dart_number rest b) (dart_number rest c) (omega arith) (omega arith) (face_together rest simple' b c face) in
         let t2 : Together P2 (dart_number lists b) (dart_number lists c) = ap (label P2) (sym (number_over b h)) ∙ (over ∙ ap (label P2) (number_over c h')) in
         rw second_cuts (merge-keeps P2 (g q) (g (g d)) w_P2 (omega arith) (omega arith) (dart_number lists b) (dart_number lists c) t2)
 

@@ -80,14 +80,7 @@ module _ (to new : ℕ → ℕ) (kept : ℕ → Bool) (k k' : ℕ) (r : IsRenumb
 
   kept_mark-step : (labels : List ℕ) (f f' : ℕ → ℕ) → StaysBelow f' k' → GoesOver to kept k k' f f' → ((i : ℕ) → i < k' → Together labels i (f' i)) → (y : ℕ) → y < k → kept_mark labels y ≡ kept_mark labels (f y)
   unfolding kept_mark
-  kept_mark-step labels f f' stays h first y l =
-      elim (cases_Bool (kept y)) [
-        | inl e ↦
-            let s = kept_step f f' stays h y l e in
-            ap (λ c. cond c (suc (label labels (new y))) 0) e ∙ (ap suc (first (new y) (r.new_below y l e) ∙ ap (label labels) (sym s.1)) ∙ sym (ap (λ c. cond c (suc (label labels (new (f y)))) 0) s.0))
-        | inr e ↦
-            ap (λ c. cond c (suc (label labels (new y))) 0) e ∙ sym (ap (λ c. cond c (suc (label labels (new (f y)))) 0) (h.out y l e))
-      ]
+  kept_mark-step labels f f' stays h first y l = grind (arith, cases_Bool, kept_step, cond, label)
 
   kept_same : (f f' : ℕ → ℕ) → StaysBelow f' k' → GoesOver to kept k k' f f' → (y : ℕ) → y < k → one_if (kept y) ≡ one_if (kept (f y))
   kept_same f f' stays h y l =
@@ -104,8 +97,6 @@ module _ (to new : ℕ → ℕ) (kept : ℕ → Bool) (k k' : ℕ) (r : IsRenumb
   pub IsTransfer-renumbered : (whole part : List ℕ) (f g f' g' : ℕ → ℕ) → IsGenerated whole f g k → IsGenerated part f' g' k' → GoesOver to kept k k' f f' → GoesOver to kept k k' g g' → IsTransfer part whole to new kept
   unfolding kept_mark
   IsTransfer-renumbered whole part f g f' g' w p h h' =
-      let n = w.size in
-      let n' = p.size in
       let marks = w.least (kept_mark part) (kept_mark-step part f f' p.stays h p.first) (kept_mark-step part g g' p.stays' h' p.second) in
       let keeps = w.least (λ y. one_if (kept y)) (kept_same f f' p.stays h) (kept_same g g' p.stays' h') in
       record {
@@ -157,19 +148,9 @@ pub left_out : (labels : List ℕ) (d e : ℕ) → d ≢ e → d < length labels
 left_out labels d e ne l m =
     let p : ℕ → Bool = λ y. not (neither d e y) && eqb (label labels y) y in
     let none = count_below_but_two p (λ y. false) (length labels) d e l m ne (λ y n a b. ap (λ c. not c && eqb (label labels y) y) (neither_other d e y a b)) in
-    let at_d : p d ≡ eqb (label labels d) d = ap (λ c. not c && eqb (label labels d) d) (neither_first d e) in
     let at_e : p e ≡ eqb (label labels e) e = ap (λ c. not c && eqb (label labels e) e) (neither_second d e) in
-    omega (arith, none, ap one_if at_d, ap one_if at_e, count_below_none (length labels))
+    omega (arith, none, ap one_if (ap (λ c. not c && eqb (label labels d) d) (neither_first d e)), ap one_if at_e, count_below_none (length labels))
 
 -- in one class, and none other with them: one
 pub left_out_one : (labels : List ℕ) (d e : ℕ) → IsLabels labels → d ≢ e → Together labels d e → ((label labels d ≡ d) ⊎ (label labels d ≡ e)) → one_if (eqb (label labels d) d) + one_if (eqb (label labels e) e) ≡ 1
-left_out_one labels d e w ne t h =
-    elim h [
-      | inl q ↦
-          let no : label labels e ≢ e = omega (arith, t) in
-          omega (arith, ap one_if (eq-eqb (label labels d) d q), ap one_if (ne_eqb (label labels e) e no))
-      | inr q ↦
-          let no : label labels d ≢ d = omega arith in
-          let own : label labels e ≡ e = sym t ∙ q in
-          omega (arith, ap one_if (ne_eqb (label labels d) d no), ap one_if (eq-eqb (label labels e) e own))
-    ]
+left_out_one labels d e w ne t h = grind (arith, label, one_if, eq-eqb, ne_eqb)

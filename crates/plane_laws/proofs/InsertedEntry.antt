@@ -114,12 +114,7 @@ module _ (us : List ℕ) (x y : ℕ) (ne : y ≢ x) (has : Contains us x) where
       let m = length-remove ys (place_of x ys) (omega arith) in
       ext_get_or 0 (without_entry ys x) (set us p y) (omega (arith, length-set us p y)) (λ k r.
       elim (cases_lt k (p + 1)) [
-        | inl s ↦
-            get_or-remove_below ys (place_of x ys) 0 k (omega arith) (omega arith)
-            ∙ elim (cases_eq k p) [
-              | inl e ↦ rw e (get_or-insert_at us p y 0 (omega arith) ∙ sym (get_or-set_same us p y 0 l))
-              | inr d ↦ get_or-insert_below us p y 0 k (omega arith) (omega arith) ∙ sym (get_or-set_other us p k y 0 d)
-            ]
+        | inl s ↦ grind (arith, get_or-remove_below, place_of, cases_eq, get_or-insert_at, get_or-set_same, get_or-insert_below, get_or-set_other)
         | inr s ↦
             let d : k ≢ p = omega arith in
             get_or-remove_above ys (place_of x ys) 0 k (omega arith) (omega arith) ∙ (get_or-insert_above us p y 0 k (omega arith) (omega arith) ∙ sym (get_or-set_other us p k y 0 d))

@@ -21,9 +21,8 @@ filter-without p (y ∷ us) x e =
     elim (cases_eq y x) [
       | inl q ↦ ap (λ n. filter p (remove (y ∷ us) n)) (place_of-here x y us q) ∙ sym (cond-false (p y) (y ∷ filter p us) (filter p us) (ap p q ∙ e))
       | inr ne ↦
-          let rest = filter-without p us x e in
           ap (λ n. filter p (remove (y ∷ us) n)) (place_of-there x y us ne)
-          ∙ ap (λ l. cond (p y) (y ∷ l) l) rest
+          ∙ ap (λ l. cond (p y) (y ∷ l) l) (filter-without p us x e)
     ]
 
 -- where all pass, all stay
@@ -53,8 +52,7 @@ list_of-with_kept keep lists v = let z : 0 + v ≡ v = omega arith in list_of-ke
 pub same_kept : (keep : ℕ → ℕ → Bool) (lists others : Lists) → length lists ≡ length others → ((v : ℕ) → v < length lists → filter (keep v) (list_of lists v) ≡ list_of others v) → with_kept keep lists ≡ others
 same_kept keep lists others n h =
     ext_get_or [] (with_kept keep lists) others (length-with_kept keep lists ∙ n) (λ v l.
-    let len = length-with_kept keep lists in
-    list_of-with_kept keep lists v ∙ h v (omega arith))
+    list_of-with_kept keep lists v ∙ h v (omega (arith, length-with_kept keep lists)))
 
 -- a test that passes always, or not at some number
 pub all_or_some : (p : ℕ → Bool) (n : ℕ) → ((i : ℕ) → i < n → p i ≡ true) ⊎ ((i : ℕ) × (i < n) × (p i ≡ false))
@@ -96,8 +94,7 @@ module _ (keep : ℕ → ℕ → Bool) (turned : (v u : ℕ) → keep v u ≡ ke
       let now : follows rest v u ≡ follows lists v w → follows (with_kept keep rest) v u ≡ follows lists v w = λ at. h.follows_same v u d (ap (keep v) at ∙ e') ∙ at in
       let later : (v ≡ a → w ≢ b) → (v ≡ b → w ≢ a) → follows (with_kept keep rest) v u ≡ follows lists v w = λ n n'.
       let at = follows_same lists simple a b edge v u left n n' in
-      let old = dart_old lists simple a b edge v u left in
-      let there = dart_new lists simple a b edge v w (HasDart-follows lists v u old.0) n n' in
+      let there = dart_new lists simple a b edge v w (HasDart-follows lists v u (dart_old lists simple a b edge v u left).0) n n' in
       let no = not_out a b out v (follows lists v w) e' in
       let next = ap (follows rest v) at ∙ follows_same lists simple a b edge v w there no.0 no.1 in
       h.follows_skip v u d (ap (keep v) at ∙ e) (ap (keep v) next ∙ e') ∙ next in
@@ -122,10 +119,9 @@ module _ (keep : ℕ → ℕ → Bool) (turned : (v u : ℕ) → keep v u ≡ ke
   one_less : (lists : Lists) (simple : IsSimpleMap lists) (a b : ℕ) → HasDart lists a b → keep a b ≡ false → IsKeptMap (without_edge lists a b) (with_kept keep (without_edge lists a b)) keep → IsKeptMap lists (with_kept keep lists) keep
   one_less lists simple a b edge out h =
       let rest = without_edge lists a b in
-      let n = length-without_edge lists simple a b edge in
       let out' : keep b a ≡ false = turned b a ∙ out in
       let same : with_kept keep rest ≡ with_kept keep lists =
-      same_kept keep rest (with_kept keep lists) (n ∙ sym (length-with_kept keep lists)) (λ v l.
+      same_kept keep rest (with_kept keep lists) ((length-without_edge lists simple a b edge) ∙ sym (length-with_kept keep lists)) (λ v l.
       elim (cases_eq v a) [
         | inl e ↦ rw e (ap (filter (keep a)) (list_at_first lists simple a b edge) ∙ (filter-without (keep a) (list_of lists a) b out ∙ sym (list_of-with_kept keep lists a)))
         | inr na ↦

@@ -23,8 +23,7 @@ lone_balances f g k m p d double w v lp ld e plane =
           let same : (i : ℕ) → i < k → exchange f p d i ≡ f i = λ i l. ap (λ x. f (swapped x d i)) q ∙ ap f (swapped_itself d i) in
           let first = orbits_of-same (exchange f p d) f k same in
           let second = orbits_of-same (after (exchange f p d) g) (after f g) k (λ i l. same (g i) (v.within i l)) in
-          let third : joint (exchange f p d) g k ≡ joint f g k = ap (λ o. merge_all o (steps g k)) first in
-          omega (arith, plane, ap class_count first, ap class_count second, ap class_count third)
+          omega (arith, plane, ap class_count first, ap class_count second, ap class_count (ap (λ o. merge_all o (steps g k)) first))
       | inr ne ↦ plane_cut f g k m p d double w v lp ld ne (lone_together f k p d w lp e) plane
     ]
 
@@ -41,14 +40,12 @@ module _ (f g : ℕ → ℕ) (k p d : ℕ) (w : IsPermuting f k) (v : IsPairing 
       let gw = IsPermuting-pairing g k v in
       elim (cases_eq p d) [
         | inl q ↦
-            let points = orbits_of-same (exchange f p d) f k (λ i l. same_images q i) in
             let faces = orbits_of-same (after (exchange f p d) g) (after f g) k (λ i l. same_images q (g i)) in
-            omega (arith, ap class_count points, ap class_count faces)
+            omega (arith, ap class_count (orbits_of-same (exchange f p d) f k (λ i l. same_images q i)), ap class_count faces)
         | inr ne ↦
             let apart : g p ≢ g d = λ q. ne (gw.apart p d lp ld q) in
-            let points = (cut_orbits f g k p d w v.within lp ld ne (lone_together f k p d w lp e)).fewer in
             let faces = ((exchange_orbits (after f g) k (g p) (g d) (IsPermuting-after f g k w gw) (v.within p lp) (v.within d ld) apart).cut (same_class-from (orbits_of (after f g) k) (g p) (g d) face)).fewer in
-            omega (arith, points, faces, ap class_count turned)
+            omega (arith, (cut_orbits f g k p d w v.within lp ld ne (lone_together f k p d w lp e)).fewer, faces, ap class_count turned)
       ]
 
   pub off_joined : (Together (orbits_of (after f g) k) (g p) (g d) → ⊥) → class_count (orbits_of (after (exchange f p d) g) k) + class_count (orbits_of f k) + 2 ≡ class_count (orbits_of (after f g) k) + class_count (orbits_of (exchange f p d) k)
@@ -56,9 +53,8 @@ module _ (f g : ℕ → ℕ) (k p d : ℕ) (w : IsPermuting f k) (v : IsPairing 
       let gw = IsPermuting-pairing g k v in
       let ne : p ≢ d = λ q. face (ap (λ x. label (orbits_of (after f g) k) (g x)) q) in
       let apart : g p ≢ g d = λ q. ne (gw.apart p d lp ld q) in
-      let points = (cut_orbits f g k p d w v.within lp ld ne (lone_together f k p d w lp e)).fewer in
       let faces = ((exchange_orbits (after f g) k (g p) (g d) (IsPermuting-after f g k w gw) (v.within p lp) (v.within d ld) apart).joined (apart-from (orbits_of (after f g) k) (g p) (g d) face)).fewer in
-      omega (arith, points, faces, ap class_count turned)
+      omega (arith, (cut_orbits f g k p d w v.within lp ld ne (lone_together f k p d w lp e)).fewer, faces, ap class_count turned)
 
 -- What two orbits, one face and one class more make of one pair of permutations another.
 pub record IsLeftOut (f g : ℕ → ℕ) (k : ℕ) (f' g' : ℕ → ℕ) (k' : ℕ) : Type 0 where
@@ -103,8 +99,7 @@ module _ (f g : ℕ → ℕ) (k m d p q : ℕ) (double : k ≡ m + m) (w : IsPer
   -- what led to d leads on
   pub lone_edge-skip : (i : ℕ) → i < k → i ≢ d → i ≢ g d → f i ≡ d → lone_edge i ≡ f d
   lone_edge-skip i l nd ne h =
-      let at : i ≡ p = w.apart i p l lp (h ∙ sym fp) in
-      let one : exchange f p d i ≡ f d = ap (exchange f p d) at ∙ lone_before f p d in
+      let one : exchange f p d i ≡ f d = ap (exchange f p d) (w.apart i p l lp (h ∙ sym fp)) ∙ lone_before f p d in
       let not_q : i ≢ q = λ e. apart (sym one ∙ (ap (exchange f p d) e ∙ fq)) in
       lone_other (exchange f p d) q (g d) i not_q ne ∙ one
 
@@ -112,9 +107,7 @@ module _ (f g : ℕ → ℕ) (k m d p q : ℕ) (double : k ≡ m + m) (w : IsPer
   pub lone_edge-skip_second : (i : ℕ) → i < k → i ≢ d → i ≢ g d → f i ≡ g d → lone_edge i ≡ f (g d)
   lone_edge-skip_second i l nd ne h =
       let not_p : i ≢ p = λ e. d_not_e (sym fp ∙ (ap f (sym e) ∙ h)) in
-      let one : exchange f p d i ≡ g d = lone_other f p d i not_p nd ∙ h in
-      let at : i ≡ q = w1.apart i q l lq (one ∙ sym fq) in
-      ap lone_edge at ∙ (lone_before (exchange f p d) q (g d) ∙ one_e)
+      ap lone_edge (w1.apart i q l lq ((lone_other f p d i not_p nd ∙ h) ∙ sym fq)) ∙ (lone_before (exchange f p d) q (g d) ∙ one_e)
 
   -- the rest is as it was
   pub lone_edge-other : (i : ℕ) → i < k → i ≢ d → i ≢ g d → f i ≢ d → f i ≢ g d → lone_edge i ≡ f i
@@ -142,7 +135,6 @@ module _ (f g : ℕ → ℕ) (k m d p q : ℕ) (double : k ≡ m + m) (w : IsPer
   pub out_label : (labels : List ℕ) (h h' : ℕ → ℕ) → IsGenerated labels h h' k → ((y : ℕ) → y < k → neither d (g d) y ≡ neither d (g d) (h y)) → ((y : ℕ) → y < k → neither d (g d) y ≡ neither d (g d) (h' y)) → (label labels d ≡ d) ⊎ (label labels d ≡ g d)
   out_label labels h h' made same same' =
       let u = made.known in
-      let low = u.low d in
       let keeps = made.least (λ y. one_if (neither d (g d) y)) (λ y l. ap one_if (same y l)) (λ y l. ap one_if (same' y l)) d (label labels d) ld (omega arith) (Together-label labels u d) in
       neither_cases d (g d) (label labels d) (elim (cases_Bool (neither d (g d) (label labels d))) [
         | inl t ↦ absurd (omega (arith, keeps, ap one_if t, ap one_if (neither_first d (g d))))
@@ -151,31 +143,11 @@ module _ (f g : ℕ → ℕ) (k m d p q : ℕ) (double : k ≡ m + m) (w : IsPer
 
   -- a bijection that leaves d and its partner among themselves keeps the rest
   pub neither_kept : (h : ℕ → ℕ) → IsPermuting h k → neither d (g d) (h d) ≡ false → neither d (g d) (h (g d)) ≡ false → (y : ℕ) → y < k → neither d (g d) y ≡ neither d (g d) (h y)
-  neither_kept h hw at_d at_e y l =
-      let out : ℕ → Bool = λ x. not (neither d (g d) x) in
-      let keeps : (x : ℕ) → x < k → out x ≡ true → out (h x) ≡ true = λ x n t.
-      elim (neither_cases d (g d) x (not-true (neither d (g d) x) t)) [
-        | inl e ↦ ap not (ap (λ z. neither d (g d) (h z)) e ∙ at_d)
-        | inr e ↦ ap not (ap (λ z. neither d (g d) (h z)) e ∙ at_e)
-      ] in
-      elim (cases_Bool (neither d (g d) y)) [
-        | inl t ↦
-            elim (cases_Bool (neither d (g d) (h y))) [
-              | inl t' ↦ t ∙ sym t'
-              | inr t' ↦ absurd (false≢true (sym (ap not t) ∙ marks_back h k hw out keeps y l (ap not t')))
-            ]
-        | inr t ↦ t ∙ sym (not-true (neither d (g d) (h y)) (keeps y l (ap not t)))
-      ]
+  neither_kept h hw at_d at_e y l = grind (arith, not, neither, neither_cases, not-true, cases_Bool, false≢true, marks_back)
 
   -- d and its partner are two orbits
   pub lone_points : one_if (eqb (label (orbits_of lone_edge k) d) d) + one_if (eqb (label (orbits_of lone_edge k) (g d)) (g d)) ≡ 2
-  lone_points =
-      let O = orbits_of lone_edge k in
-      let known = IsLabels-orbits_of lone_edge k IsPermuting-lone_edge.within in
-      let alone : (x : ℕ) → x < k → lone_edge x ≡ x → label O x ≡ x = λ x l fixed.
-      let low = known.low x in
-      fixed_alone lone_edge k IsPermuting-lone_edge x l fixed (label O x) (omega arith) (sym (Together-label O known x)) in
-      omega (arith, ap one_if (eq-eqb (label O d) d (alone d ld lone_edge-first)), ap one_if (eq-eqb (label O (g d)) (g d) (alone (g d) le lone_edge-second)))
+  lone_points = grind (arith, orbits_of, lone_edge, IsLabels-orbits_of, IsPermuting-lone_edge, label, fixed_alone, Together-label, one_if, eq-eqb, lone_edge-first, le, lone_edge-second)
 
   pub twin_out : neither d (g d) (g d) ≡ false
   twin_out = neither_second d (g d)
@@ -184,22 +156,7 @@ module _ (f g : ℕ → ℕ) (k m d p q : ℕ) (double : k ≡ m + m) (w : IsPer
   back_out = ap (neither d (g d)) (v.back d ld) ∙ neither_first d (g d)
 
   pub GoesOver-out : (to : ℕ → ℕ) (k' : ℕ) (f' g' : ℕ → ℕ) → ((i : ℕ) → i < k' → lone_edge (to i) ≡ to (f' i)) → ((i : ℕ) → i < k' → g (to i) ≡ to (g' i)) → GoesOver to (neither d (g d)) k k' lone_edge f' × GoesOver to (neither d (g d)) k k' g g'
-  GoesOver-out to k' f' g' h h' = (
-    record {
-      step = h;
-      out = λ y l t. elim (neither_cases d (g d) y t) [
-        | inl e ↦ ap (neither d (g d)) (ap lone_edge e ∙ lone_edge-first) ∙ neither_first d (g d)
-        | inr e ↦ ap (neither d (g d)) (ap lone_edge e ∙ lone_edge-second) ∙ twin_out
-      ];
-    },
-    record {
-      step = h';
-      out = λ y l t. elim (neither_cases d (g d) y t) [
-        | inl e ↦ ap (λ x. neither d (g d) (g x)) e ∙ twin_out
-        | inr e ↦ ap (λ x. neither d (g d) (g x)) e ∙ back_out
-      ];
-    },
-  )
+  GoesOver-out to k' f' g' h h' = grind (arith, neither_cases, neither, lone_edge, lone_edge-first, neither_first, lone_edge-second, twin_out, back_out)
 
   -- Left out, the edge takes two orbits, one face and one class with it.
   pub lone_edge_counts : (to new : ℕ → ℕ) (k' : ℕ) (f' g' : ℕ → ℕ) → StaysBelow f' k' → StaysBelow g' k' → IsRenumbering to new (neither d (g d)) k k' → ((i : ℕ) → i < k' → lone_edge (to i) ≡ to (f' i)) → ((i : ℕ) → i < k' → g (to i) ≡ to (g' i)) → IsLeftOut lone_edge g k f' g' k'
@@ -226,13 +183,6 @@ module _ (f g : ℕ → ℕ) (k m d p q : ℕ) (double : k ≡ m + m) (w : IsPer
       let count_O = class_count-transfer O' O to new kept part_O.known made_O.known (IsTransfer-renumbered to new kept k k' r O O' lone_edge lone_edge f' f' made_O part_O over.0 over.0) in
       let count_A = class_count-transfer A' A to new kept part_A.known made_A.known (IsTransfer-renumbered to new kept k k' r A A' (after lone_edge g) (after lone_edge g) (after f' g') (after f' g') made_A part_A over_A over_A) in
       let count_J = class_count-transfer J' J to new kept part_J.known made_J.known (IsTransfer-renumbered to new kept k k' r J J' lone_edge g f' g' made_J part_J over.0 over.1) in
-      let On = made_O.size in
-      let An = made_A.size in
-      let Jn = made_J.size in
-      let l' = le in
-      let rest_O = left_out O d e d_not_e (omega arith) (omega arith) in
-      let rest_A = left_out A d e d_not_e (omega arith) (omega arith) in
-      let rest_J = left_out J d e d_not_e (omega arith) (omega arith) in
       let kept_f = neither_kept lone_edge hw (ap kept lone_edge-first ∙ neither_first d e) (ap kept lone_edge-second ∙ twin_out) in
       let kept_g = neither_kept g gw twin_out back_out in
       let face_d : after lone_edge g d ≡ e = lone_edge-second in
@@ -241,7 +191,7 @@ module _ (f g : ℕ → ℕ) (k m d p q : ℕ) (double : k ≡ m + m) (w : IsPer
       let one_A = left_out_one A d e made_A.known d_not_e (made_A.first d ld ∙ ap (label A) face_d) (out_label A (after lone_edge g) (after lone_edge g) made_A kept_A kept_A) in
       let one_J = left_out_one J d e made_J.known d_not_e (made_J.second d ld) (out_label J lone_edge g made_J kept_f kept_g) in
       record {
-        orbits = omega (arith, count_O, rest_O, lone_points);
-        faces = omega (arith, count_A, rest_A, one_A);
-        classes = omega (arith, count_J, rest_J, one_J);
+        orbits = omega (arith, count_O, left_out O d e d_not_e (omega arith) (omega arith), lone_points);
+        faces = omega (arith, count_A, left_out A d e d_not_e (omega arith) (omega arith), one_A);
+        classes = omega (arith, count_J, left_out J d e d_not_e (omega arith) (omega arith), one_J);
       }

@@ -40,19 +40,7 @@ chord_not g outer i t =
 module _ (f g : ℕ → ℕ) (k m : ℕ) (outer : ℕ → Bool) (double : k ≡ m + m) (w : IsPermuting f k) (v : IsPairing g k) (plane : Balances f g k m 0) (o : IsOuter f g k outer) where
   -- a number is outer, or its partner is, or it is a chord
   one_kind : (i : ℕ) → i < k → one_if (outer i) + one_if (outer (g i)) + one_if (chord g outer i) ≤ 1
-  one_kind i l =
-      elim (cases_Bool (outer i)) [
-        | inl t ↦
-            elim (cases_Bool (chord g outer i)) [
-              | inl c ↦ absurd (true≢false (sym t ∙ chord_inner g outer i c))
-              | inr c ↦ omega (arith, ap one_if t, ap one_if c, ap one_if (o.single i l t))
-            ]
-        | inr t ↦
-            elim (cases_Bool (outer (g i))) [
-              | inl t' ↦ omega (arith, ap one_if t, ap one_if t', ap one_if (chord_not g outer i t'))
-              | inr t' ↦ elim (cases_Bool (chord g outer i)) [ inl c ↦ omega (arith, ap one_if t, ap one_if t', ap one_if c) | inr c ↦ omega (arith, ap one_if t, ap one_if t', ap one_if c) ]
-            ]
-      ]
+  one_kind i l = grind (arith, cases_Bool, chord, true≢false, chord_inner, one_if, chord_not)
 
   -- nearly two chords for each face are too many
   pub few_chords : 0 < k → 2 * class_count (orbits_of (after f g) k) ≤ count_below (chord g outer) k + 3 → ⊥
@@ -60,10 +48,6 @@ module _ (f g : ℕ → ℕ) (k m : ℕ) (outer : ℕ → Bool) (double : k ≡ 
       let J = joint f g k in
       let n = length-joint f g k w.within v.within in
       let classes = IsLabels-joint f g k w.within v.within in
-      let low = classes.low 0 in
       let some = count_below_into (λ i. 0) (λ i. true) (λ i. eqb (label J i) i) 1 (length J) (λ i l t. (omega arith, eq-eqb (label J 0) 0 (omega arith))) (λ i j l m t t' e. omega arith) in
       let kinds = count_three outer (λ i. outer (g i)) (chord g outer) (λ i. false) k (λ i l. omega (arith, one_kind i l)) in
-      let nothing = count_below_none k in
-      let twins = count_below-images g k (IsPermuting-pairing g k v) outer in
-      let each = o.each in
-      omega (arith, plane, many, some, kinds, nothing, twins)
+      omega (arith, plane, many, some, kinds, count_below_none k, count_below-images g k (IsPermuting-pairing g k v) outer)

@@ -46,10 +46,9 @@ module _ (lists : Lists) (next : ℕ → ℕ) (simple : IsSimpleMap lists) (face
   forward : (i : ℕ) → i < k → outer i ≡ true → outer (after f g i) ≡ true
   forward i l t =
       let d = dart_of lists i in
-      let u = d.0 in
       let at = outer_is i t in
-      let turn : follows lists d.1 u ≡ next d.1 = ap (λ x. follows lists x u) at ∙ (face.turns u (outer_dart i l t) ∙ ap next (sym at)) in
-      ap (λ c. eqb c.1 (next c.0)) (dart_of-face_step lists simple i l) ∙ eq-eqb (follows lists d.1 u) (next d.1) turn
+      let turn : follows lists d.1 d.0 ≡ next d.1 = ap (λ x. follows lists x d.0) at ∙ (face.turns d.0 (outer_dart i l t) ∙ ap next (sym at)) in
+      ap (λ c. eqb c.1 (next c.0)) (dart_of-face_step lists simple i l) ∙ eq-eqb (follows lists d.1 d.0) (next d.1) turn
 
   pub IsOuter-face : IsOuter f g k outer
   IsOuter-face =
@@ -91,26 +90,24 @@ module _ (lists : Lists) (next : ℕ → ℕ) (simple : IsSimpleMap lists) (face
       let pair = IsPairing-twin lists simple in
       let found = some_leaf f g k (edge_count lists) b outer (two_m lists simple) (IsPermuting-rotation lists simple) pair balance IsOuter-face (dart_number-lt lists p (next p) has) (outer-number p has) in
       let i = found.0 in
-      let is = found.1 in
       let d = dart_of lists i in
-      let own = dart_of-number lists simple i is.within in (
+      let own = dart_of-number lists simple i found.1.within in (
         d.0,
         d.1,
         record {
           dart = own.is_dart;
-          inner = λ e. true≢false (sym (eq-eqb d.1 (next d.0) e) ∙ is.inner);
+          inner = λ e. true≢false (sym (eq-eqb d.1 (next d.0) e) ∙ found.1.inner);
           others = λ x y at same ne.
               let j = dart_number lists (x, y) in
               let l = dart_number-lt lists x y at in
               let dart_j : dart_of lists j ≡ (x, y) = get_or-dart_number lists x y (0, 0) at in
               let together : Together (orbits_of (after f g) k) j i = sym (ap (label (orbits_of (after f g) k)) (sym own.number) ∙ face_together lists simple d (x, y) same) in
               let apart : j ≢ i = λ e. let q : (x, y) ≡ d = sym dart_j ∙ ap (dart_of lists) e in ne (ap (λ c. c.0) q, ap (λ c. c.1) q) in
-              let other = is.others j l together apart in
+              let other = found.1.others j l together apart in
               let twin_j : dart_of lists (g j) ≡ (y, x) = dart_of-twin lists simple j l ∙ ap (λ c. (c.1, c.0)) dart_j in (
                 sym (sym (ap (λ c. c.1) twin_j) ∙ (outer_is (g j) other.0 ∙ ap (λ c. next c.0) twin_j)),
                 λ e.
-                    let tail : tail_of lists (g j) ≡ p = ap (λ c. c.0) twin_j ∙ e in
-                    other.1 (sym (number_is (g j) (pair.within j l) other.0) ∙ ap (λ z. dart_number lists (z, next z)) tail),
+                    other.1 (sym (number_is (g j) (pair.within j l) other.0) ∙ ap (λ z. dart_number lists (z, next z)) (ap (λ c. c.0) twin_j ∙ e)),
               );
         },
       )
@@ -123,14 +120,12 @@ module _ (lists : Lists) (next : ℕ → ℕ) (simple : IsSimpleMap lists) (face
       let w = found.1 in
       let leaf = found.2 in
       let y = follows lists w u in
-      let z = follows lists y w in
       let dart_y = HasDart-follows lists w u (simple.both_ways u w leaf.dart) in
       let back = simple.both_ways w y dart_y in
-      let dart_z = HasDart-follows lists y w back in
       let face_y = same_face-step lists simple (u, w) (u, w) leaf.dart (same_face lists simple (u, w) (u, w) refl) in
       let face_z = same_face-step lists simple (u, w) (w, y) dart_y face_y in
       let one = leaf.others w y dart_y face_y (λ e. simple.no_loop u w leaf.dart e.0) in
-      let two = leaf.others y z dart_z face_z (λ e. leaf.inner (sym (ap next (sym e.0) ∙ one.0))) in (
+      let two = leaf.others y (follows lists y w) (HasDart-follows lists y w back) face_z (λ e. leaf.inner (sym (ap next (sym e.0) ∙ one.0))) in (
         y,
         record {
           dart = subst (HasDart lists y) (sym one.0) back;

@@ -38,15 +38,7 @@ module _ (f g : ℕ → ℕ) (k m b : ℕ) (outer : ℕ → Bool) (double : k �
   plain i j = eqb j i || (not (eqb (label P j) (label P i)) || behind j)
 
   plain_is : (i j : ℕ) → plain i j ≡ true → Together P j i → j ≢ i → (outer (g j) ≡ true) × (g j ≢ b)
-  plain_is i j t e ne =
-      elim (or_cases (eqb j i) (not (eqb (label P j) (label P i)) || behind j) t) [
-        | inl q ↦ absurd (ne (eqb-true j i q))
-        | inr r ↦
-            elim (or_cases (not (eqb (label P j) (label P i))) (behind j) r) [
-              | inl far ↦ absurd (true≢false (sym (eq-eqb (label P j) (label P i) e) ∙ not-true (eqb (label P j) (label P i)) far))
-              | inr s ↦ let parts = and_parts (outer (g j)) (not (eqb (g j) b)) s in (parts.0, eqb-false (g j) b (not-true (eqb (g j) b) parts.1))
-            ]
-      ]
+  plain_is i j t e ne = grind (arith, or_cases, eqb, not, label, behind, eqb-true, true≢false, eq-eqb, not-true, and_parts, eqb-false)
 
   -- a chord, or the partner of b
   special : ℕ → Bool
@@ -62,27 +54,7 @@ module _ (f g : ℕ → ℕ) (k m b : ℕ) (outer : ℕ → Bool) (double : k �
 
   other_from : (i j : ℕ) → i < k → outer i ≡ false → j < k → plain i j ≡ false → IsOther i j
   unfolding special
-  other_from i j l inner l' f =
-      let parts = or_parts (eqb j i) (not (eqb (label P j) (label P i)) || behind j) f in
-      let parts' = or_parts (not (eqb (label P j) (label P i))) (behind j) parts.1 in
-      let e : Together P i j = sym (eqb-true (label P j) (label P i) (not-false (eqb (label P j) (label P i)) parts'.0)) in
-      let inner' : outer j ≡ false = sym (same_kind i j l l' e) ∙ inner in
-      record {
-        within = l';
-        special = elim (and_cases (outer (g j)) (not (eqb (g j) b)) parts'.1) [
-          | inl out ↦
-              elim (chord_or g outer j inner') [
-                | inl c ↦ or_left (chord g outer j) (eqb j (g b)) c
-                | inr t ↦ absurd (true≢false (sym t ∙ out))
-              ]
-          | inr q ↦
-              let at_b : g j ≡ b = eqb-true (g j) b (not-false (eqb (g j) b) q) in
-              or_right (chord g outer j) (eqb j (g b)) (eq-eqb j (g b) (sym (v.back j l') ∙ ap g at_b))
-        ];
-        together = e;
-        inner = inner';
-        other = eqb-false j i parts.0;
-      }
+  other_from i j l inner l' f = grind (arith, or_parts, eqb, not, label, behind, Together, eqb-true, not-false, same_kind, special, and_cases, chord_or)
 
   -- a leaf, or another special number beside each inner one
   search_leaf : (n : ℕ) → n ≤ k → ((i : ℕ) × IsLeaf f g k b outer i) ⊎ ((i : ℕ) → i < n → outer i ≡ false → (j : ℕ) × (j < k) × (plain i j ≡ false))
@@ -137,8 +109,7 @@ module _ (f g : ℕ → ℕ) (k m b : ℕ) (outer : ℕ → Bool) (double : k �
     -- the special number of an inner face that is not picked
     second : (i : ℕ) → i < k → inner_own i ≡ true → IsOther (pick i) (pick (pick i)) × Together P i (pick (pick i))
     second i l t =
-        let a = inner_is i t in
-        let one = pick_is i l a.0 in
+        let one = pick_is i l (inner_is i t).0 in
         let two = pick_is (pick i) one.within one.inner in
         (two, one.together ∙ two.together)
 
@@ -146,9 +117,7 @@ module _ (f g : ℕ → ℕ) (k m b : ℕ) (outer : ℕ → Bool) (double : k �
     counts : 2 * class_count P ≤ count_below (chord g outer) k + 3
     unfolding is_picked inner_own own special
     counts =
-        let n = length-orbits_of h k in
-        let faces : class_count P ≡ count_below own k = ap (count_below own) n in
-        let by_outer = count_below_split own outer k in
+        let faces : class_count P ≡ count_below own k = ap (count_below own) (length-orbits_of h k) in
         let one_outer = count_below_into (λ i. 0) (λ i. outer i && own i) (λ i. true) k 1 (λ i l t. (omega arith, refl))
         (λ i j l m t t' e. let a = and_parts (outer i) (own i) t in let c = and_parts (outer j) (own j) t' in own_same i j a.1 c.1 (o.one i j l m a.0 c.0)) in
         let firsts = count_below_into pick inner_own (λ i. is_picked i && special i) k k
@@ -168,9 +137,7 @@ module _ (f g : ℕ → ℕ) (k m b : ℕ) (outer : ℕ → Bool) (double : k �
         (c.0.within, and_from (not (is_picked (pick (pick i)))) (special (pick (pick i))) (ap not (ne_eqb (pick (pick i)) (pick (label P (pick (pick i)))) (λ q. c.0.other (q ∙ back)))) c.0.special))
         (λ i j l m t t' e.
         let a = inner_is i t in
-        let a' = inner_is j t' in
-        own_same i j a.1 a'.1 ((second i l t).1 ∙ (ap (label P) e ∙ sym (second j m t').1))) in
-        let by_picked = count_below_split special is_picked k in
+        own_same i j a.1 (inner_is j t').1 ((second i l t).1 ∙ (ap (label P) e ∙ sym (second j m t').1))) in
         let by_b = count_below_split special (λ i. eqb i (g b)) k in
         let one_b = count_below_into (λ i. 0) (λ i. eqb i (g b) && special i) (λ i. true) k 1 (λ i l t. (omega arith, refl))
         (λ i j l m t t' e. eqb-true i (g b) (and_parts (eqb i (g b)) (special i) t).0 ∙ sym (eqb-true j (g b) (and_parts (eqb j (g b)) (special j) t').0)) in
@@ -180,7 +147,7 @@ module _ (f g : ℕ → ℕ) (k m b : ℕ) (outer : ℕ → Bool) (double : k �
           | inl c ↦ c
           | inr q ↦ absurd (true≢false (sym q ∙ not-true (eqb i (g b)) a.0))
         ]) in
-        omega (arith, faces, by_outer, one_outer, firsts, seconds, by_picked, by_b, one_b, rest)
+        omega (arith, faces, count_below_split own outer k, one_outer, firsts, seconds, count_below_split special is_picked k, by_b, one_b, rest)
 
   -- there is a leaf
   pub some_leaf : (i : ℕ) × IsLeaf f g k b outer i

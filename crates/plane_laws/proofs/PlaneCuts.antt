@@ -39,18 +39,16 @@ module _ (f g : ℕ → ℕ) (k m x y : ℕ) (double : k ≡ m + m) (w : IsPermu
       let apart : g x ≢ g y = λ e. ne (gw.apart x y lx ly e) in
       let law = exchange_orbits (after f g) k (g x) (g y) (IsPermuting-after f g k w gw) (v.within x lx) (v.within y ly) apart in
       let faces = ap class_count turned ∙ (law.cut (same_class-from (orbits_of (after f g) k) (g x) (g y) face)).fewer in
-      let points = (cut_orbits f g k x y w v.within lx ly ne one).fewer in
       let same : class_count (joint f g k) ≡ class_count K =
       ap class_count (joint-cut f g k x y w v.within lx ly ne one ∙ merge-within K x y (IsLabels-joint h g k hw.within v.within) (omega arith) (omega arith) t) in
-      omega (arith, plane, plane_cut, faces, points, same)
+      omega (arith, plane, plane_cut, faces, (cut_orbits f g k x y w v.within lx ly ne one).fewer, same)
 
   -- nor are their images then in one class
   pub plane_cut-images_apart : Together (orbits_of (after f g) k) (g x) (g y) → Together (joint (exchange f x y) g k) (f x) (f y) → ⊥
   plane_cut-images_apart face t =
       let h = exchange f x y in
-      let hw = IsPermuting-exchange f k x y lx ly w in
       let L = label (joint h g k) in
-      let step = joint-first h g k hw.within v.within in
+      let step = joint-first h g k (IsPermuting-exchange f k x y lx ly w).within v.within in
       plane_cut-apart face (step x lx ∙ (ap L (ap f (swapped_first x y)) ∙ (sym t ∙ sym (step y ly ∙ ap L (ap f (swapped_second x y))))))
 
 -- Let x and y lie in one orbit of f, and z and w in another; let x and z, and y and w, lead to the same two faces. Cut both pairs: then neither's images are in one class.
@@ -85,10 +83,9 @@ module _ (f g : ℕ → ℕ) (k m x y z w : ℕ) (double : k ≡ m + m) (p : IsP
       let gw = IsPermuting-pairing g k v in
       let fw = IsPermuting-after f g k p gw in
       let n = length-orbits_of (after f g) k in
-      let lgx = v.within x lx in
       let lgy = v.within y ly in
       let ne : g x ≢ g y = λ e. x_y (gw.apart x y lx ly e) in
-      let joined = ((exchange_orbits (after f g) k (g x) (g y) fw lgx lgy ne).joined (apart-from F (g x) (g y) faces)).joined in
+      let joined = ((exchange_orbits (after f g) k (g x) (g y) fw (v.within x lx) lgy ne).joined (apart-from F (g x) (g y) faces)).joined in
       let same = orbits_of-same (after (exchange f x y) g) (exchange (after f g) (g x) (g y)) k (after-exchange f g k x y v lx ly) in
       rw (same, joined) (joined-merge F (g x) (g y) (IsLabels-orbits_of (after f g) k fw.within) (omega arith) (omega arith) (g z) (g w) (inr (inl (sym first, second))))
 
@@ -103,26 +100,7 @@ module _ (f g : ℕ → ℕ) (k m x y z w : ℕ) (double : k ≡ m + m) (p : IsP
 
 -- exchanges of two pairs that share no number come in any order
 pub swapped_commute : (x y z w : ℕ) → x ≢ z → x ≢ w → y ≢ z → y ≢ w → (i : ℕ) → swapped x y (swapped z w i) ≡ swapped z w (swapped x y i)
-swapped_commute x y z w xz xw yz yw i =
-    elim (cases_eq i x) [
-      | inl e ↦ rw e (ap (swapped x y) (swapped_other z w x xz xw) ∙ (swapped_first x y ∙ sym (ap (swapped z w) (swapped_first x y) ∙ swapped_other z w y yz yw)))
-      | inr nx ↦
-          elim (cases_eq i y) [
-            | inl e ↦ rw e (ap (swapped x y) (swapped_other z w y yz yw) ∙ (swapped_second x y ∙ sym (ap (swapped z w) (swapped_second x y) ∙ swapped_other z w x xz xw)))
-            | inr ny ↦
-                let same = ap (swapped z w) (swapped_other x y i nx ny) in
-                elim (cases_eq i z) [
-                  | inl e ↦ swapped_other x y (swapped z w i) (λ q. xw (sym q ∙ (ap (swapped z w) e ∙ swapped_first z w))) (λ q. yw (sym q ∙ (ap (swapped z w) e ∙ swapped_first z w))) ∙ sym same
-                  | inr nz ↦
-                      elim (cases_eq i w) [
-                        | inl e ↦ swapped_other x y (swapped z w i) (λ q. xz (sym q ∙ (ap (swapped z w) e ∙ swapped_second z w))) (λ q. yz (sym q ∙ (ap (swapped z w) e ∙ swapped_second z w))) ∙ sym same
-                        | inr nw ↦
-                            let at = swapped_other z w i nz nw in
-                            swapped_other x y (swapped z w i) (λ q. nx (sym at ∙ q)) (λ q. ny (sym at ∙ q)) ∙ sym same
-                      ]
-                ]
-          ]
-    ]
+swapped_commute x y z w xz xw yz yw i = grind (arith, cases_eq, swapped, swapped_other, swapped_first, swapped_second)
 
 -- the joint classes depend on the images alone
 pub joint-same : (f f' g : ℕ → ℕ) (k : ℕ) → ((i : ℕ) → i < k → f i ≡ f' i) → joint f g k ≡ joint f' g k
@@ -147,10 +125,9 @@ image_of_some f k w d l =
     elim (find_image f d k) [
       | inl r ↦ r
       | inr h ↦
-          let images = count_below-images f k w (λ i. eqb i d) in
           let none = count_below_same (λ i. eqb (f i) d) (λ i. false) k (λ i l. ne_eqb (f i) d (h i l)) in
           let some = count_below_more (λ i. false) (λ i. eqb i d) k d l refl (eq-eqb d d refl) (λ i l ne. sym (ne_eqb i d ne)) in
-          absurd (omega (arith, images, none, some, count_below_none k))
+          absurd (omega (arith, count_below-images f k w (λ i. eqb i d), none, some, count_below_none k))
     ]
 
 -- d, the image of p, made a fixed point, and p led to where d led: the rest is as it was

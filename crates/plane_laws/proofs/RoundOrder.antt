@@ -24,13 +24,10 @@ from_entry-has : (us : List ℕ) (a x : ℕ) → AllPairs ◌≢◌ us → Conta
 from_entry-has us a x distinct has_a has =
     let p = place_of a us in
     let whole = take-append-drop p us in
-    let n = length-from_entry us a distinct has_a in
     let parts = length-append (take p us) (drop p us) in
-    let turned = length-append (drop p us) (take p us) in
     let q = place_of x us in
     let lq = place_of-lt-length x us has in
-    let at : get_or us q 0 ≡ x = get_or-place_of x us 0 lq in
-    let at' : get_or (take p us ++ drop p us) q 0 ≡ x = ap (λ l. get_or l q 0) whole ∙ at in
+    let at' : get_or (take p us ++ drop p us) q 0 ≡ x = ap (λ l. get_or l q 0) whole ∙ (get_or-place_of x us 0 lq) in
     elim (cases_lt q (length (take p us))) [
       | inl l ↦ (
         length (drop p us) + q,
@@ -68,12 +65,7 @@ module _ (R : ℕ → ℕ → Type 0) (decided : (x y : ℕ) → R x y ⊎ ¬ R 
       let n = length-from_entry us a distinct has_a in
       let step : (k : ℕ) → suc k < length us → R (get_or zs k 0) (get_or zs (suc k) 0) = λ k lk.
       let next = from_entry-next us a distinct has_a k lk in
-      elim (decided (get_or zs k 0) (entry_after (get_or zs k 0) us)) [
-        | inl r ↦ subst (R (get_or zs k 0)) next r
-        | inr b ↦
-            (let same : get_or zs k 0 ≡ x = one (get_or zs k 0) (from_entry-in us a distinct has_a k (omega arith)) b in
-            absurd (from_entry-not_first us a distinct has_a (suc k) (omega arith) lk (sym next ∙ ap (λ y. entry_after y us) same)))
-      ] in
+      grind (arith, get_or, entry_after, from_entry-in, from_entry-not_first) in
       let e : j ≡ suc (i + (j - suc i)) = omega arith in
       let r = in_order zs (length us) step i (j - suc i) j e (omega arith) in
       subst (λ y. R y (get_or zs j d)) (get_or_default zs i 0 d (omega arith)) (subst (R (get_or zs i 0)) (get_or_default zs j 0 d l) r)
@@ -100,14 +92,7 @@ module _ (R : ℕ → ℕ → Type 0) (decided : (x y : ℕ) → R x y ⊎ ¬ R 
             apart x y r (subst (λ z. R z x) at.2 (sorted at.0 last 0 lj (omega arith))),
         λ y has_y b.
             let at = from_entry-has us a y distinct has_a has_y in
-            elim (cases_eq y x) [
-              | inl e ↦ e
-              | inr ne ↦
-                  (let lj = at_end y at.0 at.1 at.2 ne in
-                  let next = from_entry-next us a distinct has_a at.0 (omega arith) in
-                  let r = sorted at.0 (suc at.0) 0 (omega arith) (omega arith) in
-                  absurd (b (subst (λ z. R z (entry_after z us)) at.2 (subst (R (get_or zs at.0 0)) (sym next) r))))
-            ],
+            grind (arith, cases_eq, from_entry-next, entry_after, get_or),
       )
 
   -- two parts, in order with the second first

@@ -18,7 +18,6 @@ one_always p q r zero h many i l = absurd (omega arith)
 one_always p q r (suc n) h many i l =
     let most = count_three p q r (λ j. false) n (λ j m. omega (arith, h j (omega arith))) in
     let none = count_below_none n in
-    let here = h n (omega arith) in
     elim (cases_eq i n) [
       | inl e ↦ rw e (omega arith)
       | inr ne ↦ one_always p q r n (λ j m. h j (omega arith)) (omega arith) i (omega arith)
@@ -61,8 +60,7 @@ module _ (lists : Lists) (simple : IsSimpleMap lists) where
   -- so a dart is on a triangle exactly where three steps lead its number back
   pub IsTriangle-number : (d : Dart) → HasDart lists d.0 d.1 → step (step (step (dart_number lists d))) ≡ dart_number lists d → IsTriangle lists d
   IsTriangle-number d has e =
-      let next = HasDart-face_step lists d simple has in
-      let last = HasDart-face_step lists (face_step lists d) simple next in
+      let last = HasDart-face_step lists (face_step lists d) simple (HasDart-face_step lists d simple has) in
       let third = face_step lists (face_step lists (face_step lists d)) in
       dart_number-injective lists third d (HasDart-face_step lists (face_step lists (face_step lists d)) simple last) has (sym (three-number d has) ∙ e)
 
@@ -74,20 +72,14 @@ module _ (lists : Lists) (simple : IsSimpleMap lists) where
   met_rounds none many i l =
       let w = hw lists simple in
       let mine = own lists simple in
-      let n = length-orbits_of step k in
       let l1 = w.within i l in
       let l2 = w.within (step i) l1 in
       let l3 = w.within (step (step i)) l2 in
-      let s1 = turn lists simple i l in
-      let s2 = turn lists simple (step i) l1 in
-      let s3 = turn lists simple (step (step i)) l2 in
       let count = own_count lists simple in
       let first = count_below-images step k w mine in
       let second = count_below-images step k w (λ j. mine (step j)) in
       let at_most : (j : ℕ) → j < k → one_if (mine j) + one_if (mine (step j)) + one_if (mine (step (step j))) ≤ 1 = λ j m.
-      let at = one_of_three lists simple j m in
-      let off = false_from_ne_true (short lists simple j) (none j m) in
-      omega (arith, at, ap one_if off) in
+      omega (arith, one_of_three lists simple j m, ap one_if (false_from_ne_true (short lists simple j) (none j m))) in
       let here = one_always mine (λ j. mine (step j)) (λ j. mine (step (step j))) k at_most (omega arith) in
       let now = here i l in
       let then' = here (step i) l1 in
@@ -96,19 +88,7 @@ module _ (lists : Lists) (simple : IsSimpleMap lists) where
       let m1 = w.within j m in
       let m2 = w.within (step j) m1 in
       sym (own_same lists simple j (step (step (step j))) t t' (turn lists simple j m ∙ (turn lists simple (step j) m1 ∙ turn lists simple (step (step j)) m2))) in
-      elim (cases_Bool (mine i)) [
-        | inl t ↦ round i l t (one_if_same (mine i) (mine (step (step (step i)))) t (omega arith))
-        | inr t ↦
-            elim (cases_Bool (mine (step i))) [
-              | inl t1 ↦
-                  w.apart (step (step (step i))) i l3 l (round (step i) l1 t1 (one_if_same (mine (step i)) (mine (step (step (step (step i))))) t1 (omega arith)))
-              | inr t1 ↦
-                  let t2 : mine (step (step i)) ≡ true = one_if_is (mine (step (step i))) (omega (arith, now, ap one_if t, ap one_if t1)) in
-                  let next = here (step (step (step i))) l3 in
-                  let back = round (step (step i)) l2 t2 (one_if_same (mine (step (step i))) (mine (step (step (step (step (step i)))))) t2 (omega arith)) in
-                  w.apart (step (step (step i))) i l3 l (w.apart (step (step (step (step i)))) (step i) (w.within (step (step (step i))) l3) l1 back)
-            ]
-      ]
+      grind (arith, cases_Bool, step, one_if)
     where
       one_if_is : (b : Bool) → one_if b ≡ 1 → b ≡ true
       one_if_is true e = refl
@@ -127,7 +107,6 @@ module _ (lists : Lists) (simple : IsSimpleMap lists) where
       let first = count_below-images step k w mine in
       let second = count_below-images step k w (λ j. mine (step j)) in
       let some : (i : ℕ) → i < k → 1 ≤ one_if (mine i) + one_if (mine (step i)) + one_if (mine (step (step i))) = λ i l.
-      let low = known.low i in
       let at = orbits_of-marked (in_round i) step k w.within (in_round-step i l) i (label F i) l (omega arith) (sym (known.own i)) in
       let mine_label : mine (label F i) ≡ true = own_label lists simple i in
       elim (in_round_cases i (label F i) (sym at ∙ or_left (eqb i i) (eqb i (step i) || eqb i (step (step i))) (eq-eqb i i refl))) [
@@ -182,16 +161,14 @@ module _ (lists : Lists) (simple : IsSimpleMap lists) where
 
   pub met_where_triangles : IsPlane lists → 3 ≤ vertex_count lists → component_count lists ≡ 1 → ((u v : ℕ) → HasDart lists u v → IsTriangle lists (u, v)) → edge_count lists + 6 ≡ 3 * vertex_count lists
   met_where_triangles plane some one triangles =
-      let balance = balances_map lists simple 0 (omega (arith, plane)) in
       let points = vertex_count-orbits lists simple in
       let parts = component_count-classes lists simple in
-      let double = two_m lists simple in
       let many = met_counts (λ i l.
       let p = dart_of-number lists simple i l in
       let d = dart_of lists i in
       ap (λ x. step (step (step x))) (sym p.number) ∙ (three-number d p.is_dart ∙ (ap (dart_number lists) (triangles d.0 d.1 p.is_dart) ∙ p.number))) in
       let bound = edge_bound lists simple plane some in
-      omega arith
+      omega (arith, balances_map lists simple 0 (omega (arith, plane)))
 
 -- THE LAW: no face of a large connected map has fewer than three darts
 pub faces_have_three : FacesHaveThree

@@ -47,8 +47,7 @@ module _ (lists : Lists) (x a b : ℕ) (simple : IsSimpleMap lists) (in_x : x < 
 
   a_b : a ≢ b
   a_b =
-      let distinct : AllPairs ◌≢◌ (a ∷ b ∷ []) = subst (AllPairs ◌≢◌) two (simple.no_repeat x in_x) in
-      distinct 0 1 0 (omega arith) (omega arith)
+      (subst (AllPairs ◌≢◌) two (simple.no_repeat x in_x)) 0 1 0 (omega arith) (omega arith)
 
   abbrev p : ℕ
   p = place_of x (list_of lists a)
@@ -91,9 +90,8 @@ module _ (lists : Lists) (x a b : ℕ) (simple : IsSimpleMap lists) (in_x : x < 
   plane_new plane =
       let not_b : follows new a b ≢ b = λ e. b_x (sym e ∙ next) in
       let not_a : follows new b a ≢ a = λ e. far (simple.both_ways b a (subst (HasDart lists b) (sym next' ∙ e) (HasDart-follows lists b x has_bx))) in
-      let plane' : IsPlane (without_edge new a b) = subst IsPlane (sym more.without) plane in
       let face' : SameFace (without_edge new a b) (a, follows new a b) (b, follows new b a) = rw (more.without, next, next') beside in
-      (edge_in_face new a b more.simple more.edge not_b not_a plane' face').plane
+      (edge_in_face new a b more.simple more.edge not_b not_a (subst IsPlane (sym more.without) plane) face').plane
 
   -- x's two edges taken away
   has_ax' : HasDart new a x
@@ -112,22 +110,19 @@ module _ (lists : Lists) (x a b : ℕ) (simple : IsSimpleMap lists) (in_x : x < 
   lists_are =
       let us = list_of lists a in
       let vs = list_of lists b in
-      let lx = in_x in
       let la = has_ax.0 in
-      let lb = has_bx.0 in
       let i = q + 1 in
-      let n = length-new lists a p b i simple la lb a_b far in_p in_q in
+      let n = length-new lists a p b i simple la has_bx.0 a_b far in_p in_q in
       let n1 = length-without_edge new more.simple a x has_ax' in
       let n2 = length-without_edge rest simple' b x has_bx' in
       let one = set lists a (replaced us x b) in
       let both = set one b (replaced vs x a) in
       let m1 = length-set lists a (replaced us x b) in
       let m2 = length-set one b (replaced vs x a) in
-      let m3 = length-set both x [] in
-      let new_a = new_first lists a p b i simple la lb a_b far in_p in_q in
-      let new_b = new_second lists a p b i simple la lb a_b far in_p in_q in
-      let new_other = new_elsewhere lists a p b i simple la lb a_b far in_p in_q in
-      ext_get_or [] (without_edge rest b x) (smoothed lists x a b) (omega arith) (λ w l.
+      let new_a = new_first lists a p b i simple la has_bx.0 a_b far in_p in_q in
+      let new_b = new_second lists a p b i simple la has_bx.0 a_b far in_p in_q in
+      let new_other = new_elsewhere lists a p b i simple la has_bx.0 a_b far in_p in_q in
+      ext_get_or [] (without_edge rest b x) (smoothed lists x a b) (omega (arith, length-set both x [])) (λ w l.
       elim (cases_eq w x) [
         | inl e ↦
             rw e (list_at_second rest simple' b x has_bx'
@@ -155,8 +150,7 @@ module _ (lists : Lists) (x a b : ℕ) (simple : IsSimpleMap lists) (in_x : x < 
 
   pub smoothed_here : IsPlane lists → IsSimpleMap (smoothed lists x a b) × IsPlane (smoothed lists x a b)
   smoothed_here plane =
-      let first = edge_removed_plane new more.simple a x has_ax' (plane_new plane) in
-      let second = edge_removed_plane rest simple' b x has_bx' first in
+      let second = edge_removed_plane rest simple' b x has_bx' (edge_removed_plane new more.simple a x has_ax' (plane_new plane)) in
       (subst IsSimpleMap lists_are (IsSimpleMap-without_edge rest simple' b x has_bx'), subst IsPlane lists_are second)
 
 -- THE LAW: a vertex taken out of its edge

@@ -49,8 +49,7 @@ module _ (lists : Lists) (u i v j : ℕ) (simple : IsSimpleMap lists) (in_u : u 
   -- a dart of the new lists is an old one, or one of the edge
   new_dart : (w z : ℕ) → HasDart new w z → HasDart lists w z ⊎ (((w ≡ u) × (z ≡ v)) ⊎ ((w ≡ v) × (z ≡ u)))
   new_dart w z h =
-      let n = length-new in
-      let in_w : w < length lists = let l = h.0 in omega arith in
+      let in_w : w < length lists = let l = h.0 in omega (arith, length-new) in
       elim (cases_eq w u) [
         | inl e ↦
             elim (insert-old us i v absent at_u z (subst (λ l. Contains l z) (ap (list_of new) e ∙ new_first) h.1)) [
@@ -71,8 +70,7 @@ module _ (lists : Lists) (u i v j : ℕ) (simple : IsSimpleMap lists) (in_u : u 
   -- each old dart is one of the new
   kept_dart : (w z : ℕ) → HasDart lists w z → HasDart new w z
   kept_dart w z h =
-      let n = length-new in
-      let in_w : w < length new = let l = h.0 in omega arith in (
+      let in_w : w < length new = let l = h.0 in omega (arith, length-new) in (
         in_w,
         elim (cases_eq w u) [
           | inl e ↦ subst (λ l. Contains l z) (sym (ap (list_of new) e ∙ new_first)) (insert-kept us i v absent at_u z (subst (λ x. Contains (list_of lists x) z) e h.1))
@@ -104,14 +102,7 @@ module _ (lists : Lists) (u i v j : ℕ) (simple : IsSimpleMap lists) (in_u : u 
           | inr r ↦ elim r [ inl e ↦ (λ q. u_v (sym e.0 ∙ (sym q ∙ e.1))) | inr e ↦ (λ q. u_v (sym e.1 ∙ (q ∙ e.0))) ]
         ];
         no_repeat = λ w l.
-            elim (cases_eq w u) [
-              | inl e ↦ subst (AllPairs ◌≢◌) (sym (ap (list_of new) e ∙ new_first)) (insert-distinct us i v absent at_u (simple.no_repeat u in_u))
-              | inr nu ↦
-                  elim (cases_eq w v) [
-                    | inl e ↦ subst (AllPairs ◌≢◌) (sym (ap (list_of new) e ∙ new_second)) (insert-distinct vs j u absent' at_v (simple.no_repeat v in_v))
-                    | inr nv ↦ subst (AllPairs ◌≢◌) (sym (new_elsewhere w nu nv)) (simple.no_repeat w (omega arith))
-                  ]
-            ];
+            grind (arith, cases_eq, AllPairs, list_of, new, new_first, insert-distinct, us, absent, new_second, vs, absent', new_elsewhere);
         both_ways = λ w z h. elim (new_dart w z h) [
           | inl d ↦ kept_dart z w (simple.both_ways w z d)
           | inr r ↦ elim r [
@@ -124,9 +115,7 @@ module _ (lists : Lists) (u i v j : ℕ) (simple : IsSimpleMap lists) (in_u : u 
   old_again : without_edge new u v ≡ lists
   old_again =
       let s = IsSimpleMap-new in
-      let n = length-new in
-      let m = length-without_edge new s u v edge_there in
-      ext_get_or [] (without_edge new u v) lists (omega arith) (λ w l.
+      ext_get_or [] (without_edge new u v) lists (omega (arith, length-without_edge new s u v edge_there, length-new)) (λ w l.
       elim (cases_eq w u) [
         | inl e ↦ rw e (list_at_first new s u v edge_there ∙ (ap (λ l. without_entry l v) new_first ∙ without-insert us i v absent at_u))
         | inr nu ↦
@@ -156,7 +145,6 @@ with_edge lists u i v j simple in_u in_v u_v far at_u at_v = edge_more lists u i
 pub entry_at-after : (us : List ℕ) (a x : ℕ) → Contains us a → entry_at us (place_of a us + 1) x ≡ entry_after a us
 unfolding entry_after
 entry_at-after us a x has =
-    let l = place_of-lt-length a us has in
     ap (get_or us (place_of a us + 1)) (get_or_default us 0 x a (omega arith))
 
 -- no two entries of a list have one entry after them
@@ -186,8 +174,7 @@ with_edge_after_law lists u a v c simple has_a has_c u_v far =
         next' = more.next' ∙ entry_at-after vs c u has_c.1;
         other = λ w z h not_a not_c.
             let there = more.kept w z h in
-            let old : HasDart (without_edge new u v) w z = subst (λ l. HasDart l w z) (sym more.without) h in
-            let stays = follows_same new more.simple u v more.edge w z old
+            let stays = follows_same new more.simple u v more.edge w z (subst (λ l. HasDart l w z) (sym more.without) h)
             (λ e q. not_a e (follows_apart new more.simple u z a (subst (λ x. HasDart new x z) e there) (more.kept u a has_a) (ap (λ x. follows new x z) (sym e) ∙ (q ∙ sym turn))))
             (λ e q. not_c e (follows_apart new more.simple v z c (subst (λ x. HasDart new x z) e there) (more.kept v c has_c) (ap (λ x. follows new x z) (sym e) ∙ (q ∙ sym turn')))) in
             sym stays ∙ ap (λ l. follows l w z) more.without;
@@ -212,8 +199,7 @@ edge_put_in_face lists u a v c simple plane has_a has_c u_v far face =
     let plane' : IsPlane (without_edge new u v) = subst IsPlane (sym more.without) plane in
     let face' : SameFace (without_edge new u v) (u, follows new u v) (v, follows new v u) =
     rw (more.without, next, next') face in
-    let split = edge_in_face new u v more.simple more.edge not_v not_u plane' face' in
-    (more.simple, subst (λ old. IsSplitFace old new u v) more.without split)
+    (more.simple, subst (λ old. IsSplitFace old new u v) more.without (edge_in_face new u v more.simple more.edge not_v not_u plane' face'))
 
 -- An edge put between two components, at any places, in the words of the map before.
 pub edge_put_between : (lists : Lists) (u i v j : ℕ) → IsSimpleMap lists → IsPlane lists → u < length lists → v < length lists → ¬ SameComponent lists u v → i ≤ length (list_of lists u) → j ≤ length (list_of lists v) → IsSimpleMap (with_edge_at lists u i v j) × IsJoinedFaces lists (with_edge_at lists u i v j) u v

@@ -79,9 +79,7 @@ module _ (lists : Lists) (s t : ℕ) (ws : List ℕ) (simple : IsSimpleMap lists
       ] in
       let marked = orbits_of-marked on_cycle h k w.within alike i j (dart_number-lt lists t s base) (dart_number-lt lists x y has) (face_together lists simple (t, s) (x, y) same) in
       let first = is-on_cycle i t s (get_or-dart_number lists t s (0, 0) base) (last_on lists s t ws simple cycle, (next-last lists s t ws simple cycle)) in
-      let o = on_cycle-is j (sym marked ∙ first) in
-      let at = get_or-dart_number lists x y (0, 0) has in
-      subst (λ (d : Dart). IsOuterDart ws d.0 d.1) at o
+      subst (λ (d : Dart). IsOuterDart ws d.0 d.1) (get_or-dart_number lists x y (0, 0) has) (on_cycle-is j (sym marked ∙ first))
 
   pub outer_is_face : (x y : ℕ) → HasDart lists x y → SameFace lists (t, s) (x, y) ↔ IsOuterDart ws x y
   outer_is_face x y has = (

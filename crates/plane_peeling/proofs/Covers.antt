@@ -35,10 +35,9 @@ entry_after-separated us front x y back distinct e = ap (entry_after x) e ∙ en
 front_alike : (front : List ℕ) (p : ℕ) (rest other : List ℕ) → AllPairs ◌≢◌ (front ++ p ∷ rest) → AllPairs ◌≢◌ (front ++ p ∷ other) → (x : ℕ) → Contains front x → entry_after x (front ++ p ∷ rest) ≡ entry_after x (front ++ p ∷ other)
 front_alike front p rest other distinct distinct' x c =
     let parts = separated_at front x c in
-    let f1 = parts.0 in
-    let whole : (tail : List ℕ) → front ++ p ∷ tail ≡ f1 ++ (x ∷ parts.1 ++ p ∷ tail) = λ tail.
-    ap (λ l. l ++ p ∷ tail) parts.2 ∙ append_assoc f1 (x ∷ parts.1) (p ∷ tail) in
-    at f1 parts.1 (whole rest) (whole other)
+    let whole : (tail : List ℕ) → front ++ p ∷ tail ≡ parts.0 ++ (x ∷ parts.1 ++ p ∷ tail) = λ tail.
+    ap (λ l. l ++ p ∷ tail) parts.2 ∙ append_assoc parts.0 (x ∷ parts.1) (p ∷ tail) in
+    at parts.0 parts.1 (whole rest) (whole other)
   where
     at : (f1 f2 : List ℕ) → front ++ p ∷ rest ≡ f1 ++ (x ∷ f2 ++ p ∷ rest) → front ++ p ∷ other ≡ f1 ++ (x ∷ f2 ++ p ∷ other) → entry_after x (front ++ p ∷ rest) ≡ entry_after x (front ++ p ∷ other)
     at f1 [] e e' = entry_after-separated (front ++ p ∷ rest) f1 x p rest distinct e ∙ sym (entry_after-separated (front ++ p ∷ other) f1 x p other distinct' e')
@@ -103,11 +102,9 @@ module _ (lists : Lists) (kept : ℕ → Bool) (s t : ℕ) (ws : List ℕ) (v : 
   nbrs_distinct : AllPairs ◌≢◌ nbrs
   nbrs_distinct =
       AllPairs-from_counts nbrs (λ u _.
-      let one = count-run u front p mid q back in
-      let two = count_of-le-one u after after_distinct in
       let three = count_of-append u (p ∷ []) (mid ++ q ∷ []) in
       let four = count_of-append u mid (q ∷ []) in
-      omega arith)
+      omega (arith, count_of-le-one u after after_distinct, count-run u front p mid q back))
 
   run : (u : ℕ) → count_of u nbrs ≡ count_of u (list_of M v)
   run = same_counts nbrs (list_of M v) nbrs_distinct (simple.no_repeat v in_v) (λ u c. ((off.fan.neighbours u).1 c).1) (λ u c. (off.fan.neighbours u).0 (in_v, c))
@@ -137,13 +134,11 @@ module _ (lists : Lists) (kept : ℕ → Bool) (s t : ℕ) (ws : List ℕ) (v : 
   from_v : (y : ℕ) → HasDart M v y → ¬ IsOuterDart ws v y → OnFan v y
   from_v y d n =
       let c = (off.fan.neighbours y).0 d in
-      let j = c.0 in
-      let at : get_or nbrs j 0 ≡ y = get_or_default nbrs j 0 y c.1 ∙ c.2 in
+      let at : get_or nbrs c.0 0 ≡ y = get_or_default nbrs c.0 0 y c.1 ∙ c.2 in
       let v_q : entry_after v ws ≡ q = entry_after-separated ws (front ++ p ∷ []) v q back distinct (off.before ∙ sym (append_assoc front (p ∷ []) (v ∷ q ∷ back))) in
       let on_v = on_ws v (Contains-append_right front (p ∷ v ∷ q ∷ back) v (Contains-there p (v ∷ q ∷ back) v (Contains-here v (q ∷ back)))) in
-      let ne : j ≢ length mid + 1 = λ e. n (on_v, v_q ∙ (sym last_nbr ∙ (ap (λ k. get_or nbrs k 0) (sym e) ∙ at))) in
-      let l = c.1 in
-      (j, omega (arith, size, l, ne), inl (refl, sym at))
+      let ne : c.0 ≢ length mid + 1 = λ e. n (on_v, v_q ∙ (sym last_nbr ∙ (ap (λ k. get_or nbrs k 0) (sym e) ∙ at))) in
+      (c.0, omega (arith, size, c.1, ne), inl (refl, sym at))
 
   -- from a neighbour to v
   to_v : (x : ℕ) → HasDart M x v → ¬ IsOuterDart ws x v → OnFan x v
@@ -153,9 +148,8 @@ module _ (lists : Lists) (kept : ℕ → Bool) (s t : ℕ) (ws : List ℕ) (v : 
       let p_v : entry_after p ws ≡ v = entry_after-separated ws front p v (q ∷ back) distinct off.before in
       let on_p = on_ws p (Contains-append_right front (p ∷ v ∷ q ∷ back) p (Contains-here p (v ∷ q ∷ back))) in
       let ne : c.0 ≢ 0 = λ e. let x_p : x ≡ p = sym at ∙ ap (λ k. get_or nbrs k 0) e in n (subst (Contains ws) (sym x_p) on_p, ap (λ z. entry_after z ws) x_p ∙ p_v) in
-      let l = c.1 in
       let one : c.0 ≡ c.0 - 1 + 1 = omega (arith, ne) in
-      (c.0 - 1, omega (arith, size, l, ne), inr (inr (sym at ∙ ap (λ k. get_or nbrs k 0) one, refl)))
+      (c.0 - 1, omega (arith, size, c.1, ne), inr (inr (sym at ∙ ap (λ k. get_or nbrs k 0) one, refl)))
 
   -- along the new cycle, but not the old one
   pub along : (x y : ℕ) → IsOuterDart after x y → ¬ IsOuterDart ws x y → OnFan x y
@@ -181,11 +175,9 @@ module _ (lists : Lists) (kept : ℕ → Bool) (s t : ℕ) (ws : List ℕ) (v : 
       between f1 f2 e =
           let row : (tail : List ℕ) → p ∷ mid ++ q ∷ tail ≡ f1 ++ (x ∷ f2 ++ q ∷ tail) = λ tail. ap (λ l. l ++ q ∷ tail) e ∙ append_assoc f1 (x ∷ f2) (q ∷ tail) in
           let at = inside_at f1 x (f2 ++ q ∷ []) 0 in
-          let n1 = length-append f1 (x ∷ f2) in
-          let n2 = ap length e in
           let whole : after ≡ (front ++ f1) ++ (x ∷ f2 ++ q ∷ back) = ap (λ l. front ++ l) (row back) ∙ sym (append_assoc front f1 (x ∷ f2 ++ q ∷ back)) in (
             length f1,
-            omega arith,
+            omega (arith, ap length e, length-append f1 (x ∷ f2)),
             inr (inl (sym (ap (λ l. get_or l (length f1) 0) (row []) ∙ at.0), sym o.1 ∙ (head f2 whole ∙ sym (ap (λ l. get_or l (length f1 + 1) 0) (row []) ∙ at.1)))),
           )
         where

@@ -7,19 +7,15 @@ use Rattle.plane_peeling.proofs.RestrictedMaps.{cases_Contains}
 -- u, counted in a list with three entries inside
 pub count-three : (u : ℕ) (front : List ℕ) (a b c : ℕ) (back : List ℕ) → count_of u (front ++ a ∷ b ∷ c ∷ back) ≡ count_of u front + (count_of u (a ∷ []) + (count_of u (b ∷ []) + (count_of u (c ∷ []) + count_of u back)))
 count-three u front a b c back =
-    let one = count_of-append u front (a ∷ b ∷ c ∷ back) in
-    let two = count_of-append u (a ∷ []) (b ∷ c ∷ back) in
     let three = count_of-append u (b ∷ []) (c ∷ back) in
     let four = count_of-append u (c ∷ []) back in
-    omega (arith, one, two, three, four)
+    omega (arith, count_of-append u front (a ∷ b ∷ c ∷ back), count_of-append u (a ∷ []) (b ∷ c ∷ back), three, four)
 
 pub count-run : (u : ℕ) (front : List ℕ) (a : ℕ) (mid : List ℕ) (c : ℕ) (back : List ℕ) → count_of u (front ++ (a ∷ mid ++ c ∷ back)) ≡ count_of u front + (count_of u (a ∷ []) + (count_of u mid + (count_of u (c ∷ []) + count_of u back)))
 count-run u front a mid c back =
-    let one = count_of-append u front (a ∷ mid ++ c ∷ back) in
-    let two = count_of-append u (a ∷ []) (mid ++ c ∷ back) in
     let three = count_of-append u mid (c ∷ back) in
     let four = count_of-append u (c ∷ []) back in
-    omega (arith, one, two, three, four)
+    omega (arith, count_of-append u front (a ∷ mid ++ c ∷ back), count_of-append u (a ∷ []) (mid ++ c ∷ back), three, four)
 
 pub not_counted : (u : ℕ) (us : List ℕ) → ¬ Contains us u → count_of u us ≡ 0
 not_counted u us n = elim (cases_lt (count_of u us) 1) [ inl l ↦ omega arith | inr l ↦ absurd (n (Contains-from_count_of u us l)) ]
@@ -40,10 +36,8 @@ module _ (ws front : List ℕ) (p v : ℕ) (mid : List ℕ) (q : ℕ) (back us :
 
   count_run : (u : ℕ) → count_of u us ≡ count_of u (p ∷ []) + (count_of u mid + count_of u (q ∷ []))
   count_run u =
-      let one = run u in
-      let two = count_of-append u (p ∷ []) (mid ++ q ∷ []) in
       let three = count_of-append u mid (q ∷ []) in
-      omega (arith, one, two, three)
+      omega (arith, run u, count_of-append u (p ∷ []) (mid ++ q ∷ []), three)
 
   count_after : (u : ℕ) → count_of u after ≡ count_of u front + (count_of u (p ∷ []) + (count_of u mid + (count_of u (q ∷ []) + count_of u back)))
   count_after u = count-run u front p mid q back
@@ -55,31 +49,26 @@ module _ (ws front : List ℕ) (p v : ℕ) (mid : List ℕ) (q : ℕ) (back us :
         | inl d ↦ inr d
         | inr n ↦
             let some = Contains-counted u after c in
-            let one = count_before u in
-            let two = count_run u in
             let three = count_after u in
             let none = not_counted u us n in
             inl (
-              Contains-from_count_of u ws (omega arith),
+              Contains-from_count_of u ws (omega (arith, count_run u, count_before u)),
               λ e.
                   let once = count_of-le-one u ws distinct in
                   let here = ap (λ w. count_of u (w ∷ [])) e in
                   let itself = counted_itself u in
-                  absurd (omega arith),
+                  absurd (omega (arith, count_run u, count_before u)),
             )
       ]
 
   pub after_has : (u : ℕ) → (Contains ws u × (u ≢ v)) ⊎ Contains us u → Contains after u
   after_has u h =
-      let one = count_before u in
-      let two = count_run u in
-      let three = count_after u in
       elim h [
         | inl on ↦
             let some = Contains-counted u ws on.0 in
             let none = not_counted_other u v on.1 in
-            Contains-from_count_of u after (omega arith)
-        | inr d ↦ let some = Contains-counted u us d in Contains-from_count_of u after (omega arith)
+            Contains-from_count_of u after (omega (arith, count_after u, count_before u))
+        | inr d ↦ let some = Contains-counted u us d in Contains-from_count_of u after (omega (arith, count_after u, count_run u))
       ]
 
   -- and no vertex twice

@@ -86,12 +86,11 @@ module _ (lists : Lists) (s t : ℕ) (triangulation : IsTriangulation lists) (ba
 -- A near triangulation of which nothing is taken off.
 pub whole_is_peeled : (lists : Lists) (kept : ℕ → Bool) (s t : ℕ) (ws : List ℕ) → IsNearTriangulation lists s t ws → ((v : ℕ) → v < length lists → kept v ≡ true) → IsPeeled lists kept s t ws
 whole_is_peeled lists kept s t ws near all =
-    let simple = near.simple in
-    let e = restricted_all lists kept simple all in
+    let e = restricted_all lists kept near.simple all in
     record {
       near = subst (λ m. IsNearTriangulation m s t ws) (sym e) near;
       inner = λ x y d n. ap (λ m. follows m y x) e;
-      border = λ v u k d out. absurd (true≢false (sym (all u (simple.in_range v u d)) ∙ out));
+      border = λ v u k d out. absurd (true≢false (sym (all u (near.simple.in_range v u d)) ∙ out));
     }
 
 pub nothing_taken_off : NothingTakenOff
@@ -117,7 +116,6 @@ module _ (lists : Lists) (kept : ℕ → Bool) (s t : ℕ) (ws : List ℕ) (peel
       let weaker : (i : ℕ) → i < length lists → on i ≡ true → kept i ≡ true = λ i l t. (on_kept i (Contains-from_list_any i ws t)).1 in
       let most = count_below_weaker on kept (length lists) weaker in
       let least = list-count_below ws (length lists) cM.distinct (λ u c. (on_kept u c).0) in
-      let long = cM.long in
       (omega arith, λ u l k. Contains-from_list_any u ws (weaker_test_back on kept (length lists) weaker (omega arith) u l k))
 
   three_of : (us : List ℕ) → length us ≡ 3 → get_or us 0 0 ≡ s → get_or us (length us - 1) 0 ≡ t → (x : ℕ) × (us ≡ s ∷ x ∷ t ∷ [])
@@ -134,25 +132,20 @@ module _ (lists : Lists) (kept : ℕ → Bool) (s t : ℕ) (ws : List ℕ) (peel
       let e = found.1 in
       let simple = peeled.near.simple in
       let distinct = subst (AllPairs ◌≢◌) e cM.distinct in
-      let s_x : entry_after s ws ≡ x = ap (entry_after s) e ∙ entry_after-inside [] s x (t ∷ []) distinct in
       let x_t : entry_after x ws ≡ t = ap (entry_after x) e ∙ entry_after-inside (s ∷ []) x t [] distinct in
       let t_s : entry_after t ws ≡ s = ap (entry_after t) e ∙ entry_after-last (s ∷ x ∷ []) t distinct in
       let x_not_t : x ≢ t = distinct 1 2 0 (omega arith) (omega arith) in
-      let x_not_s : s ≢ x = distinct 0 1 0 (omega arith) (omega arith) in
-      let s_not_t : s ≢ t = distinct 0 2 0 (omega arith) (omega arith) in
       let on_t : Contains ws t = subst (λ l. Contains l t) (sym e) (Contains-there s (x ∷ t ∷ []) t (Contains-there x (t ∷ []) t (Contains-here t []))) in
-      let base : HasDart M t s = subst (HasDart M t) t_s (cM.darts t on_t) in
-      let d = simple.both_ways t s base in
-      let out1 : ¬ IsOuterDart ws s t = λ o. x_not_t (sym s_x ∙ o.1) in
-      let f = inner_face M s t ws peeled.near s t d out1 in
+      let d = simple.both_ways t s (subst (HasDart M t) t_s (cM.darts t on_t)) in
+      let out1 : ¬ IsOuterDart ws s t = λ o. x_not_t (sym (ap (entry_after s) e ∙ entry_after-inside [] s x (t ∷ []) distinct) ∙ o.1) in
       let z = follows M t s in
-      let f' = IsFaceOfThree-turned M s t z simple f in
+      let f' = IsFaceOfThree-turned M s t z simple (inner_face M s t ws peeled.near s t d out1) in
       let f'' = IsFaceOfThree-turned M t z s simple f' in
       let old = restricted-old lists kept z s f''.dart in
       let z_x : z ≡ x =
       each_of_three (λ w. w ≡ z → w ≡ x) s x t (λ q. absurd (simple.no_loop z s f''.dart q)) (λ q. refl) (λ q. absurd (simple.no_loop t z f'.dart (sym q))) z (subst (λ l. Contains l z) e (counts.1 z old.0.0 old.1)) refl in
-      let out2 : ¬ IsOuterDart ws t z = λ o. x_not_s (sym t_s ∙ (o.1 ∙ z_x)) in
-      let out3 : ¬ IsOuterDart ws z s = λ o. s_not_t (sym o.1 ∙ (ap (λ w. entry_after w ws) z_x ∙ x_t)) in (
+      let out2 : ¬ IsOuterDart ws t z = λ o. (distinct 0 1 0 (omega arith) (omega arith)) (sym t_s ∙ (o.1 ∙ z_x)) in
+      let out3 : ¬ IsOuterDart ws z s = λ o. (distinct 0 2 0 (omega arith) (omega arith)) (sym o.1 ∙ (ap (λ w. entry_after w ws) z_x ∙ x_t)) in (
         x,
         e,
         subst (λ w. IsFaceOfThree lists w s t) z_x record {

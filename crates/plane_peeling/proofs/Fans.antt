@@ -82,11 +82,7 @@ module _ (lists : Lists) (kept : ℕ → Bool) (s t : ℕ) (ws : List ℕ) (v : 
   next_after-other z h = cond-false (turned z) (follows map z v) (next z) out
     where
       out : turned z ≡ false
-      out =
-          elim (cases_Contains (list_of map v) z) [
-            | inl c ↦ and_right (list_any (λ w. w == z) (list_of map v)) (not (eqb z q)) (ap not (eq-eqb z q (h (in_v, c))))
-            | inr n ↦ and_left (list_any (λ w. w == z) (list_of map v)) (not (eqb z q)) (false_from_ne_true (list_any (λ w. w == z) (list_of map v)) (λ t. n (Contains-from_list_any z (list_of map v) t)))
-          ]
+      out = grind (arith, cases_Contains, list_of, map, and_right, list_any, not, eqb, eq-eqb, in_v, and_left, false_from_ne_true, Contains-from_list_any)
 
   -- on the cycle all but the vertex before v lead on as they did
   pub next_after-on : (p : ℕ) → Contains ws p → next p ≡ v → (z : ℕ) → Contains ws z → z ≢ p → next_after z ≡ next z
@@ -113,18 +109,16 @@ module _ (lists : Lists) (kept : ℕ → Bool) (s t : ℕ) (ws : List ℕ) (v : 
         let us = list_of map v in
         let g : ℕ → ℕ = λ u. entry_after u us in
         let distinct = simple.no_repeat v in_v in
-        let has_q = cycle.darts v removable.on in
-        let ring = ring_from us q distinct has_q.1 in
+        let ring = ring_from us q distinct (cycle.darts v removable.on).1 in
         let rest = ring.0 in
         let way = Leads-part g q rest (q ∷ []) q ring.1 in
         let y = way.0 in
         let nbr : (z : ℕ) → Contains (q ∷ rest) z → HasDart map v z = λ z c. (in_v, Contains-counts (q ∷ rest) us ring.2 z c) in
         let end : y ≡ p = entry_after-injective us y p distinct (nbr y (Leads-in g q rest y way.1)).1 dart_p.1 (way.2.0 ∙ sym corner_v) in
-        let once = AllPairs-counts (q ∷ rest) us ring.2 distinct in
         let undone : (z : ℕ) → Contains rest (g z) → Contains (q ∷ rest) z → next_after (g z) ≡ z = λ z c c'.
         let d = nbr z c' in
         let d' = HasDart-follows map v z d in
-        let n : g z ≢ q = λ e. head_apart q rest once (subst (Contains rest) e c) in
+        let n : g z ≢ q = λ e. head_apart q rest (AllPairs-counts (q ∷ rest) us ring.2 distinct) (subst (Contains rest) e c) in
         let f = (fan (g z) d' n).0 in
         let back = simple.both_ways (follows map (g z) v) v (IsFaceOfThree-turned map (g z) (follows map (g z) v) v simple (IsFaceOfThree-turned map v (g z) (follows map (g z) v) simple f)).dart in
         next_after-turned (g z) d' n ∙ entry_after-injective us (follows map (g z) v) z distinct back.1 d.1 f.round in

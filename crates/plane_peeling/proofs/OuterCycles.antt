@@ -51,10 +51,8 @@ IsFaceOfThree-triangle lists x y d t =
 -- and such a face is a triangle
 pub IsTriangle-face : (lists : Lists) (x y z : ℕ) → IsFaceOfThree lists x y z → IsTriangle lists (x, y)
 IsTriangle-face lists x y z f =
-    let one : face_step lists (x, y) ≡ (y, z) = ap (λ w. (y, w)) f.second in
-    let two : face_step lists (y, z) ≡ (z, x) = ap (λ w. (z, w)) f.third in
     let three : face_step lists (z, x) ≡ (x, y) = ap (λ w. (x, w)) f.round in
-    ap (λ d. face_step lists (face_step lists d)) one ∙ (ap (face_step lists) two ∙ three)
+    ap (λ d. face_step lists (face_step lists d)) (ap (λ w. (y, w)) f.second) ∙ (ap (face_step lists) (ap (λ w. (z, w)) f.third) ∙ three)
 
 module _ (lists : Lists) (s t : ℕ) (ws : List ℕ) (simple : IsSimpleMap lists) (cycle : IsOuterCycle lists s t ws) where
   abbrev pub next : ℕ → ℕ

@@ -113,14 +113,13 @@ module _ (lists : Lists) (kept : ℕ → Bool) (s d p t : ℕ) (connected : comp
   -- d and t are not adjacent: else all vertices would be on the cycle
   no_chord : ¬ HasDart lists d t
   no_chord chord =
-      let back = simple.both_ways d t chord in
       let f : IsFaceOfThree lists d s t =
       elim (none s d t dart_sd chord dart_ts) [
         | inl f ↦ absurd (p_not_t (sym turn_d ∙ f.second))
         | inr f ↦ f
       ] in
       let g : IsFaceOfThree lists p d t =
-      elim (none d p t dart_dp dart_pt back) [
+      elim (none d p t dart_dp dart_pt (simple.both_ways d t chord)) [
         | inl g ↦ absurd (s_not_d (sym turn_t ∙ g.third))
         | inr g ↦ g
       ] in
@@ -209,12 +208,11 @@ module _ (lists : Lists) (kept : ℕ → Bool) (s d p t : ℕ) (connected : comp
     -- which follows p round d
     face_a : follows lists d p ≡ a
     face_a =
-        let f = (off.fan.faces (length mid) (omega arith)).round in
         let n : length mid ≡ length row - 1 = omega arith in
         let first : get_or (row ++ p ∷ []) (length mid) 0 ≡ a = get_or_append_left row (p ∷ []) 0 (length mid) (omega arith) ∙ ap (λ k. get_or row k 0) n in
         let m : length mid + 1 ≡ length (row ++ p ∷ []) - 1 = omega (arith, length-append row (p ∷ [])) in
         let second : get_or (row ++ p ∷ []) (length mid + 1) 0 ≡ p = ap (λ k. get_or (row ++ p ∷ []) k 0) m ∙ last-entry row p 0 in
-        ap (follows lists d) (sym second) ∙ (f ∙ first)
+        ap (follows lists d) (sym second) ∙ (((off.fan.faces (length mid) (omega arith)).round) ∙ first)
 
     removable_p : IsRemovable (restricted kept1 lists) s t ws1 p
     removable_p =
@@ -308,11 +306,9 @@ module _ (lists : Lists) (kept : ℕ → Bool) (s d p t : ℕ) (connected : comp
 
   quadrangle_here : (ws2 : List ℕ) × IsPeeled lists (kept_but (kept_but kept d) p) s t ws2 × IsOpenOutside lists (kept_but (kept_but kept d) p) t ws2
   quadrangle_here =
-      let one = off_d.0 in
-      let mid = one.2 in
-      let off = off_d_is one.0 one.1 mid one.3 one.4 one.5 in
-      let two = (off_p mid off off_d.1).0 in
-      (two.0 ++ (two.1 ∷ two.2 ++ two.3 ∷ two.4), two.5.left, opened mid off two.0 two.1 two.2 two.3 two.4 two.5)
+      let off = off_d_is off_d.0.0 off_d.0.1 off_d.0.2 off_d.0.3 off_d.0.4 off_d.0.5 in
+      let two = (off_p off_d.0.2 off off_d.1).0 in
+      (two.0 ++ (two.1 ∷ two.2 ++ two.3 ∷ two.4), two.5.left, opened off_d.0.2 off two.0 two.1 two.2 two.3 two.4 two.5)
 
 -- A connected near triangulation with a quadrangle as its outer cycle and at least one vertex inside, in which no triangle separates: without the two vertices that are not of the base it is peeled, and open outside.
 pub quadrangle_opened : (lists : Lists) (kept : ℕ → Bool) (s d p t : ℕ) → component_count lists ≡ 1 → 4 < length lists → IsNearTriangulation lists s t (s ∷ d ∷ p ∷ t ∷ []) → HasNoSeparatingTriangle lists → ((v : ℕ) → v < length lists → kept v ≡ true) → (ws : List ℕ) × IsPeeled lists (kept_but (kept_but kept d) p) s t ws × IsOpenOutside lists (kept_but (kept_but kept d) p) t ws

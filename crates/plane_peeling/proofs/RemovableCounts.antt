@@ -30,10 +30,9 @@ two_entries_length us p q distinct has_p has_q ne only =
           let a = only (get_or us 0 0) (Contains-get_or us 0 0 (omega arith)) in
           let b = only (get_or us 1 0) (Contains-get_or us 1 0 (omega arith)) in
           let c = only (get_or us 2 0) (Contains-get_or us 2 0 (omega arith)) in
-          let ab = distinct 0 1 0 (omega arith) (omega arith) in
           let ac = distinct 0 2 0 (omega arith) (omega arith) in
           let bc = distinct 1 2 0 (omega arith) (omega arith) in
-          absurd (three_of_two (get_or us 0 0) (get_or us 1 0) (get_or us 2 0) p q a b c ab ac bc)
+          absurd (three_of_two (get_or us 0 0) (get_or us 1 0) (get_or us 2 0) p q a b c (distinct 0 1 0 (omega arith) (omega arith)) ac bc)
     ]
   where
     three_of_two : (a b c p q : ℕ) → (a ≡ p) ⊎ (a ≡ q) → (b ≡ p) ⊎ (b ≡ q) → (c ≡ p) ⊎ (c ≡ q) → a ≢ b → a ≢ c → b ≢ c → ⊥
@@ -48,10 +47,7 @@ length_two_entries us p q u two has_p has_q ne has =
     let at : (z : ℕ) → place_of z us < length us → place_of u us ≡ place_of z us → u ≡ z = λ z l e.
     sym (get_or-place_of u us 0 in_u) ∙ (ap (λ n. get_or us n 0) e ∙ get_or-place_of z us 0 l) in
     let apart : place_of p us ≢ place_of q us = λ e. ne (sym (get_or-place_of p us 0 in_p) ∙ (ap (λ n. get_or us n 0) e ∙ get_or-place_of q us 0 in_q)) in
-    elim (cases_eq (place_of u us) (place_of p us)) [
-      | inl e ↦ inl (at p in_p e)
-      | inr n ↦ inr (at q in_q (omega arith))
-    ]
+    grind (arith, cases_eq, place_of)
 
 -- ---- neighbours that are marked
 module _ (lists : Lists) (kept marked : ℕ → Bool) (s t : ℕ) (ws : List ℕ) (v : ℕ) (peeled : IsPeeled lists kept s t ws) (marks : (u : ℕ) → (marked u ≡ true) ↔ Contains ws u) (on_v : Contains ws v) where
@@ -93,8 +89,7 @@ module _ (lists : Lists) (kept marked : ℕ → Bool) (s t : ℕ) (ws : List ℕ
       let b = entry_before ws v cM.distinct on_v in
       let p = b.0 in
       let q = next v in
-      let dart_p : HasDart M v p = simple.both_ways p v (subst (HasDart M p) b.2 (cM.darts p b.1)) in
-      let has_p = few_has p dart_p b.1 in
+      let has_p = few_has p (simple.both_ways p v (subst (HasDart M p) b.2 (cM.darts p b.1))) b.1 in
       let has_q = few_has q (cM.darts v on_v) (next-on M s t ws simple cM v on_v) in
       let ne : p ≢ q = λ e. two_steps_on M s t ws simple cM p b.1 (ap next b.2 ∙ sym e) in (
         (λ removable.

@@ -118,12 +118,10 @@ module _ (lists : Lists) (s t : ℕ) (ws : List ℕ) (simple : IsSimpleMap lists
     between_removable : (v : ℕ) → Contains between v → IsRemovable lists s t ws v
     between_removable v c =
         let i = c.0 in
-        let l : i < length between = c.1 in
         let here : at (suc i) ≡ v = place_is step u between w way distinct v (suc i, omega arith, c.2) in
         let next_v : step v ≡ at (suc (suc i)) = ap step (sym here) ∙ place_next step u between w way distinct (suc i) (omega arith) in
-        let on_v = subst (Contains ws) here (on_row (suc i) (omega arith)) in
         removable_between (at i) v (on_row i (omega arith)) (place_next step u between w way distinct i (omega arith) ∙ here) (not_last_at i (omega arith)) (λ e. not_last_at (suc i) (omega arith) (here ∙ e))
-        (cycle_dart lists s t ws simple plane cycle v on_v)
+        (cycle_dart lists s t ws simple plane cycle v (subst (Contains ws) here (on_row (suc i) (omega arith))))
         (ap (follows R v) next_v ∙ (ap (λ z. follows R z (at (suc (suc i)))) (sym here) ∙ turns_back i (omega arith)))
 
     some_between : 0 < length between
@@ -135,8 +133,7 @@ module _ (lists : Lists) (s t : ℕ) (ws : List ℕ) (simple : IsSimpleMap lists
 
     stretch_here : (front : List ℕ) × (back : List ℕ) × IsRemovableStretch lists s t ws front u between w back
     stretch_here =
-        let on_u = on_ws u w leaf.dart in
-        let parts = separated_at ws u on_u in
+        let parts = separated_at ws u (on_ws u w leaf.dart) in
         let whole = Leads-part step t parts.0 (u ∷ parts.1) t (subst (λ l. Leads step t l t) parts.2 (round lists s t ws simple cycle)) in
         let more = Leads-front step u parts.1 between t w whole.2.1 way (λ z c.
         let l = c.1 in
@@ -157,25 +154,19 @@ module _ (lists : Lists) (s t : ℕ) (ws : List ℕ) (simple : IsSimpleMap lists
       let found = outer_leaf_law R step t sR ((restricted-map lists (on lists s t ws simple plane cycle) simple).plane plane) (outer_face lists s t ws simple plane cycle) (cycle_dart lists s t ws simple plane cycle t last) in
       let u = found.0 in
       let w = found.1 in
-      let leaf = found.2 in
-      let on_u = on_ws u w leaf.dart in
-      let on_w = on_ws w u (sR.both_ways u w leaf.dart) in
-      let ring = ring_from ws u cycle.distinct on_u in
+      let ring = ring_from ws u cycle.distinct (on_ws u w found.2.dart) in
       let ring_distinct = AllPairs-counts (u ∷ ring.0) ws ring.2 cycle.distinct in
-      let in_ring = Contains-counts ws (u ∷ ring.0) (λ z. sym (ring.2 z)) w on_w in
       let in_rest : Contains ring.0 w =
-      elim (Contains-cons_cases u ring.0 w in_ring) [
-        | inl e ↦ absurd (sR.no_loop u w leaf.dart (sym e))
+      elim (Contains-cons_cases u ring.0 w (Contains-counts ws (u ∷ ring.0) (λ z. sym (ring.2 z)) w (on_ws w u (sR.both_ways u w found.2.dart)))) [
+        | inl e ↦ absurd (sR.no_loop u w found.2.dart (sym e))
         | inr c ↦ c
       ] in
       let parts = separated_at ring.0 w in_rest in
       let whole = Leads-part step u ring.0 (u ∷ []) u ring.1 in
       let to_w = Leads-part step u parts.0 (w ∷ parts.1) whole.0 (subst (λ l. Leads step u l whole.0) parts.2 whole.1) in
-      let end : Leads step to_w.0 (w ∷ []) w = (to_w.2.0, refl) in
-      let way = Leads-join step u parts.0 to_w.0 (w ∷ []) w to_w.1 end in
       let row_distinct : AllPairs ◌≢◌ (u ∷ parts.0 ++ w ∷ []) =
       AllPairs-left (u ∷ parts.0 ++ w ∷ []) parts.1 (subst (λ l. AllPairs ◌≢◌ (u ∷ l)) (parts.2 ∙ sym (append_assoc parts.0 (w ∷ []) parts.1)) ring_distinct) in
-      let is = stretch_here u w leaf parts.0 way row_distinct in
+      let is = stretch_here u w found.2 parts.0 (Leads-join step u parts.0 to_w.0 (w ∷ []) w to_w.1 ((to_w.2.0, refl))) row_distinct in
       (is.0, u, parts.0, w, is.1, is.2)
 
 -- And a chord, or else the base, cuts off a stretch of such vertices.
@@ -185,6 +176,4 @@ some_removable_stretch lists s t ws simple plane cycle = stretch lists s t ws si
 pub some_removable : SomeRemovable
 some_removable lists s t ws simple plane cycle =
     let found = some_removable_stretch lists s t ws simple plane cycle in
-    let between = found.2 in
-    let is = found.5 in
-    (get_or between 0 0, is.removable (get_or between 0 0) (Contains-get_or between 0 0 is.some))
+    (get_or found.2 0 0, found.5.removable (get_or found.2 0 0) (Contains-get_or found.2 0 0 found.5.some))

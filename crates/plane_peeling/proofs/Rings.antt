@@ -97,10 +97,9 @@ leads_on us front x [] t distinct e init last = one init last
     one [] q = ap (λ l. get_or l 0 0) q
     one (y ∷ init) q = absurd (let n = ap length q in omega (arith, n, length-append init (t ∷ [])))
 leads_on us front x (y ∷ back) t distinct e init last =
-    let e' : us ≡ (front ++ x ∷ []) ++ y ∷ back = e ∙ sym (append_assoc front (x ∷ []) (y ∷ back)) in
     let step : entry_after x us ≡ y = ap (entry_after x) e ∙ entry_after-inside front x y back (subst (AllPairs ◌≢◌) e distinct) in
     let rest = shorter init last in
-    (step, leads_on us (front ++ x ∷ []) y back t distinct e' rest.0 rest.1)
+    (step, leads_on us (front ++ x ∷ []) y back t distinct (e ∙ sym (append_assoc front (x ∷ []) (y ∷ back))) rest.0 rest.1)
   where
     shorter : (init : List ℕ) → x ∷ y ∷ back ≡ init ++ t ∷ [] → (less : List ℕ) × (y ∷ back ≡ less ++ t ∷ [])
     shorter [] q = absurd (let n = ap length q in omega (arith, n))
@@ -119,11 +118,9 @@ leads_round (w ∷ l) t distinct front e =
 pub round-entry : (next : ℕ → ℕ) (us : List ℕ) (t : ℕ) → AllPairs ◌≢◌ us → Leads next t us t → (x : ℕ) → Contains us x → entry_after x us ≡ next x
 round-entry next us t distinct h x c =
     let parts = separated_at us x c in
-    let front = parts.0 in
-    let back = parts.1 in
     let e = parts.2 in
-    let way = Leads-part next t front (x ∷ back) t (subst (λ l. Leads next t l t) e h) in
-    ap (entry_after x) e ∙ at front back way.0 (subst (AllPairs ◌≢◌) e distinct) way.1 way.2
+    let way = Leads-part next t parts.0 (x ∷ parts.1) t (subst (λ l. Leads next t l t) e h) in
+    ap (entry_after x) e ∙ at parts.0 parts.1 way.0 (subst (AllPairs ◌≢◌) e distinct) way.1 way.2
   where
     at : (front back : List ℕ) (y : ℕ) → AllPairs ◌≢◌ (front ++ x ∷ back) → Leads next t front y → Leads next y (x ∷ back) t → entry_after x (front ++ x ∷ back) ≡ next x
     at front (z ∷ back) y distinct first second = entry_after-inside front x z back distinct ∙ sym second.1.0
@@ -137,23 +134,18 @@ ring_from us q distinct c =
     let parts = separated_at us q c in
     let front = parts.0 in
     let back = parts.1 in
-    let e = parts.2 in
     let some : 0 < length us = omega (arith, c.1) in
     let end = ends_with us (get_or us (length us - 1) 0) 0 some refl in
     let t = get_or us (length us - 1) 0 in
-    let whole = leads_round us t distinct end.0 end.1 in
-    let way = Leads-part g t front (q ∷ back) t (subst (λ l. Leads g t l t) e whole) in
-    let y = way.0 in
-    let round : Leads g y (q ∷ []) q = (way.2.0, refl) in (
+    let way = Leads-part g t front (q ∷ back) t (subst (λ l. Leads g t l t) parts.2 (leads_round us t distinct end.0 end.1)) in
+    let round : Leads g way.0 (q ∷ []) q = (way.2.0, refl) in (
       back ++ front,
-      Leads-join g q (back ++ front) y (q ∷ []) q (Leads-join g q back t front y way.2.1 way.1) round,
+      Leads-join g q (back ++ front) way.0 (q ∷ []) q (Leads-join g q back t front way.0 way.2.1 way.1) round,
       λ u.
-          let one = count_of-cons u q (back ++ front) in
-          let two = count_of-append u back front in
           let three = count_of-append u front (q ∷ back) in
           let four = count_of-cons u q back in
-          let five = ap (count_of u) e in
-          omega (arith, one, two, three, four, five),
+          let five = ap (count_of u) parts.2 in
+          omega (arith, count_of-cons u q (back ++ front), count_of-append u back front, three, four, five),
     )
 
 -- A way read backwards: where f undoes each step of g, it leads back, and on along what it led before.
@@ -162,11 +154,9 @@ Leads-back g f x [] y more q back h on = (
   more,
   subst (λ z. Leads f z more q) h on,
   λ u.
-      let one = count_of-cons u y more in
-      let two = count_of-cons u x [] in
       let same = ap (λ z. count_of u (z ∷ [])) h in
       let three = count_of-cons u y [] in
-      omega (arith, one, two, three, same),
+      omega (arith, count_of-cons u y more, count_of-cons u x [], three, same),
 )
 Leads-back g f x (w ∷ xs) y more q back h on =
     let undone : f w ≡ x = ap f (sym h.0) ∙ back x (subst (Contains (w ∷ xs)) (sym h.0) (Contains-here w xs)) (Contains-here x (w ∷ xs)) in
@@ -174,10 +164,8 @@ Leads-back g f x (w ∷ xs) y more q back h on =
       rest.0,
       rest.1,
       λ u.
-          let one = rest.2 u in
-          let two = count_of-cons u x more in
           let three = count_of-cons u x (w ∷ xs) in
-          omega (arith, one, two, three),
+          omega (arith, rest.2 u, count_of-cons u x more, three),
     )
 
 -- lists that hold each number as often hold the same, and one has no repeats where the other has none
@@ -208,25 +196,12 @@ AllPairs-put x us n distinct =
 -- two entries that follow each other are all
 pub only_two : (us : List ℕ) (x y z : ℕ) → AllPairs ◌≢◌ us → Contains us x → entry_after x us ≡ y → entry_after y us ≡ x → Contains us z → (z ≡ x) ⊎ (z ≡ y)
 only_two us x y z distinct has there back c =
-    let short = two_entries us x y distinct has there back in
     let has_y : Contains us y = subst (Contains us) there (Contains-entry_after x us has) in
     let in_x = place_of-lt-length x us has in
-    let in_y = place_of-lt-length y us has_y in
     let in_z = place_of-lt-length z us c in
     let at : (w : ℕ) → Contains us w → place_of z us ≡ place_of w us → z ≡ w = λ w c' e.
     sym (get_or-place_of z us 0 in_z) ∙ (ap (λ n. get_or us n 0) e ∙ get_or-place_of w us 0 (place_of-lt-length w us c')) in
-    elim (cases_eq (place_of z us) (place_of x us)) [
-      | inl e ↦ inl (at x has e)
-      | inr n ↦
-          elim (cases_eq (place_of z us) (place_of y us)) [
-            | inl e ↦ inr (at y has_y e)
-            | inr n' ↦
-                let same : place_of x us ≡ place_of y us = omega arith in
-                let places : place_of y us ≡ place_after (length us) (place_of x us) = ap (λ w. place_of w us) (sym there) ∙ place_of-entry_after x us distinct has in
-                let one : place_after (length us) (place_of x us) ≡ place_of x us = sym places ∙ sym same in
-                absurd (fixed (length us) (place_of x us) (place_of z us) in_x in_z n one)
-          ]
-    ]
+    grind (arith, cases_eq, place_of, place_of-lt-length, two_entries, place_after, length, place_of-entry_after)
   where
     fixed : (n i j : ℕ) → i < n → j < n → j ≢ i → place_after n i ≡ i → ⊥
     fixed n i j l m ne e = grind (arith, nat_tests)
@@ -258,16 +233,12 @@ separated_round next us t p v q h c e e' n n' =
     let parts = separated_at us p c in
     let way = Leads-part next t parts.0 (p ∷ parts.1) t (subst (λ l. Leads next t l t) parts.2 h) in
     let rest = two parts.1 way.2.1 in
-    let upto : Leads next way.0 (p ∷ []) p = (way.2.0, refl) in
-    (parts.0, rest.0, parts.2 ∙ ap (λ l. parts.0 ++ p ∷ l) rest.1, Leads-join next t parts.0 way.0 (p ∷ []) p way.1 upto, rest.2)
+    (parts.0, rest.0, parts.2 ∙ ap (λ l. parts.0 ++ p ∷ l) rest.1, Leads-join next t parts.0 way.0 (p ∷ []) p way.1 ((way.2.0, refl)), rest.2)
   where
     two : (l : List ℕ) → Leads next p l t → (back : List ℕ) × (l ≡ v ∷ q ∷ back) × Leads next q back t
     two [] g = absurd (n g)
     two (a ∷ []) g = absurd (n' (sym e ∙ (g.0 ∙ g.1)))
-    two (a ∷ b ∷ l) g =
-        let first : a ≡ v = sym g.0 ∙ e in
-        let second : b ≡ q = sym g.1.0 ∙ (ap next first ∙ e') in
-        (l, ap₂ (λ x y. x ∷ y ∷ l) first second, subst (λ x. Leads next x l t) second g.1.1)
+    two (a ∷ b ∷ l) g = grind (arith, ap₂, Leads)
 
 -- each entry of a way is what the function gives at the one before
 pub Leads-at : (next : ℕ → ℕ) (x : ℕ) (l : List ℕ) (t d i : ℕ) → Leads next x l t → i < length l → get_or (x ∷ l) (suc i) d ≡ next (get_or (x ∷ l) i d)

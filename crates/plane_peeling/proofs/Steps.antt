@@ -25,16 +25,12 @@ use Rattle.plane_peeling.proofs.TakenOff.{left}
 pub all_on_cycle : (lists : Lists) (kept : ℕ → Bool) (s t : ℕ) (ws : List ℕ) → IsSimpleMap lists → component_count lists ≡ 1 → IsPeeled lists kept s t ws → ((x u : ℕ) → Contains ws x → HasDart (restricted kept lists) x u → Contains ws u) → count_below kept (length lists) ≤ length ws
 all_on_cycle lists kept s t ws whole one peeled closed =
     let on : ℕ → Bool = λ u. list_any (λ w. w == u) ws in
-    let simple = peeled.near.simple in
     let cycle = peeled.near.cycle in
     let mark : ℕ → Bool = λ u. on u || not (kept u) in
     let on_is : (u : ℕ) → Contains ws u → mark u ≡ true = λ u c. or_left (on u) (not (kept u)) (list_any-from_Contains u ws c) in
     let out_is : (u : ℕ) → kept u ≡ false → mark u ≡ true = λ u e. or_right (on u) (not (kept u)) (ap not e) in
     let is_on : (u : ℕ) → kept u ≡ true → mark u ≡ true → Contains ws u = λ u k m.
-    elim (or_cases (on u) (not (kept u)) m) [
-      | inl t ↦ Contains-from_list_any u ws t
-      | inr f ↦ absurd (true≢false (sym k ∙ not-true (kept u) f))
-    ] in
+    grind (arith, or_cases, not, Contains-from_list_any, true≢false, not-true) in
     let over : (x u : ℕ) → HasDart lists x u → mark x ≡ true → mark u ≡ true = λ x u d m.
     elim (cases_Bool (kept u)) [
       | inr out ↦ out_is u out
@@ -44,7 +40,7 @@ all_on_cycle lists kept s t ws whole one peeled closed =
             | inl k' ↦ on_is u (closed x u (is_on x k' m) (restricted-new lists kept x u d k' k))
           ]
     ] in
-    let first = first_on (restricted kept lists) s t ws simple cycle in
+    let first = first_on (restricted kept lists) s t ws peeled.near.simple cycle in
     let in_first = (restricted-old lists kept s (entry_after s ws) (cycle.darts s first)).0.0 in
     count_below-within kept ws (length lists) (λ u l k. is_on u k (marks_everywhere lists whole one mark over s u in_first l (on_is s first)))
 
@@ -91,8 +87,7 @@ module _ (lists : Lists) (kept : ℕ → Bool) (s t : ℕ) (ws : List ℕ) (v : 
           neighbours = λ u. ((λ d. Contains-counts (list_of M v) nbrs (λ w. sym (counts w)) u d.1), neighbour u);
           faces = λ i l.
               let a = get_or nbrs i 0 in
-              let c = Contains-get_or nbrs i 0 (omega arith) in
-              let d = neighbour a c in
+              let d = neighbour a (Contains-get_or nbrs i 0 (omega arith)) in
               let one : i + 1 ≡ suc i = omega arith in
               let at : get_or nbrs (i + 1) 0 ≡ step' a = ap (λ k. get_or nbrs k 0) one ∙ Leads-at step' p (mid ++ q ∷ []) q 0 i way (omega arith) in
               let ne : a ≢ q = λ e. nbrs_distinct i (length mid + 1) 0 (omega arith) (omega arith) (e ∙ sym last_nbr) in
@@ -133,13 +128,10 @@ module _ (lists : Lists) (kept : ℕ → Bool) (s t : ℕ) (ws : List ℕ) (v : 
     ring_after : Leads step' t after t
     ring_after =
         let one = Leads-part step t front (p ∷ []) p way_front in
-        let y = one.0 in
-        let first = Leads-same step step' t front y stays_front one.1 in
         let two = Leads-part step' p mid (q ∷ []) q way in
-        let z = two.0 in
         let last = Leads-same step step' q back t stays_back way_back in
-        Leads-join step' t front y (p ∷ mid ++ q ∷ back) t first
-        (stays_front y (Leads-in step t front y one.1) ∙ one.2.0, Leads-join step' p mid z (q ∷ back) t two.1 (two.2.0, last))
+        Leads-join step' t front one.0 (p ∷ mid ++ q ∷ back) t (Leads-same step step' t front one.0 stays_front one.1)
+        (stays_front one.0 (Leads-in step t front one.0 one.1) ∙ one.2.0, Leads-join step' p mid two.0 (q ∷ back) t two.1 (two.2.0, last))
 
     on_after : (u : ℕ) → Contains after u → (Contains ws u × (u ≢ v)) ⊎ HasDart M v u
     on_after u c = elim (after_is ws front p v mid q back (list_of M v) cM.distinct was (sM.no_repeat v in_M) counts u c) [ inl h ↦ inl h | inr h ↦ inr (in_M, h) ]
@@ -171,14 +163,13 @@ module _ (lists : Lists) (kept : ℕ → Bool) (s t : ℕ) (ws : List ℕ) (v : 
         let q_v : follows M q v ≡ p = cM.turns v removable.on ∙ to_p in
         let q_p : follows M q p ≡ v = ap (λ z. follows M z p) (sym p_v) ∙ (fan lists kept s t ws v whole peeled removable p d_p pq).0.third in
         let on_q = next-on M s t ws sM cM v removable.on in
-        let d_q = cM.darts v removable.on in
         let at_p : HasDart M p u → Contains ws u = λ d'.
         let p_to_v = sM.both_ways v p d_p in
         elim (only_two (list_of M p) v q u (sM.no_repeat p d'.0) p_to_v.1 p_v p_q d'.1) [ inl h ↦ subst (Contains ws) (sym h) removable.on | inr h ↦ subst (Contains ws) (sym h) on_q ] in
         let at_v : HasDart M v u → Contains ws u = λ d'.
         each_of_two (Contains ws) p q on_p on_q u (subst (λ l. Contains (p ∷ l ++ q ∷ []) u) no_mid (Contains-counts (list_of M v) nbrs (λ w. sym (counts w)) u d'.1)) in
         let at_q : HasDart M q u → Contains ws u = λ d'.
-        let q_to_v = sM.both_ways v q d_q in
+        let q_to_v = sM.both_ways v q (cM.darts v removable.on) in
         elim (only_two (list_of M q) v p u (sM.no_repeat q d'.0) q_to_v.1 q_v q_p d'.1) [ inl h ↦ subst (Contains ws) (sym h) removable.on | inr h ↦ subst (Contains ws) (sym h) on_p ] in
         each_of_three (λ z. HasDart M z u → Contains ws u) p v q at_p at_v at_q x (subst (λ l. Contains l x) (was ∙ ap₂ (λ l r. l ++ p ∷ v ∷ q ∷ r) no_front no_back) c) d
 
@@ -219,8 +210,7 @@ module _ (lists : Lists) (kept : ℕ → Bool) (s t : ℕ) (ws : List ℕ) (v : 
 -- So it can where the whole map is any connected one.
 pub connected_taken_off : (lists : Lists) (kept : ℕ → Bool) (s t : ℕ) (ws : List ℕ) (v : ℕ) → IsSimpleMap lists → component_count lists ≡ 1 → IsPeeled lists kept s t ws → 3 < count_below kept (length lists) → IsRemovable (restricted kept lists) s t ws v → CanBeTakenOff lists kept s t ws v
 connected_taken_off lists kept s t ws v whole connected peeled many removable =
-    let d = peeled.near.cycle.darts v removable.on in
-    let old = restricted-old lists kept v (entry_after v ws) d in
+    let old = restricted-old lists kept v (entry_after v ws) (peeled.near.cycle.darts v removable.on) in
     (step_here lists kept s t ws v whole peeled removable connected many, count-kept_but kept v (length lists) old.0.0 old.1)
 
 pub removable_taken_off : RemovableTakenOff

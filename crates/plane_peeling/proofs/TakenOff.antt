@@ -64,12 +64,10 @@ module _ (lists : Lists) (kept : ℕ → Bool) (s t : ℕ) (ws : List ℕ) (v : 
   turn_skip : (x u : ℕ) → HasDart M' x u → follows M x u ≡ v → follows M x v ≢ v → follows M' x u ≡ follows M x v
   turn_skip x u d e n =
       let o = old x u d in
-      let d' : HasDart M x v = subst (HasDart M x) e (HasDart-follows M x u o.0) in
-      let d'' = HasDart-follows M x v d' in
-      let out : both but x (follows M x u) ≡ false = and_right (but x) (but (follows M x u)) (ap but e ∙ kept_but-itself kept v) in
+      let d'' = HasDart-follows M x v (subst (HasDart M x) e (HasDart-follows M x u o.0)) in
       let next_in : both but x (follows M x (follows M x u)) ≡ true =
       and_from (but x) (but (follows M x (follows M x u))) (is_but x u o.0 o.1) (ap (λ w. but (follows M x w)) e ∙ is_but (follows M x v) x (sM.both_ways x (follows M x v) d'') n) in
-      less.follows_skip x u d out next_in ∙ ap (follows M x) e
+      less.follows_skip x u d (and_right (but x) (but (follows M x u)) (ap but e ∙ kept_but-itself kept v)) next_in ∙ ap (follows M x) e
 
   -- the darts of v lead away from v
   not_v : (z : ℕ) → HasDart M v z → z ≢ v
@@ -134,8 +132,7 @@ module _ (lists : Lists) (kept : ℕ → Bool) (s t : ℕ) (ws : List ℕ) (v : 
           let y = follows M x v in
           let f = (fan lists kept s t ws v whole peeled removable x d n).0 in
           let f' = IsFaceOfThree-turned M v x y sM f in
-          let back = (IsFaceOfThree-turned M x y v sM f').dart in
-          let d_y = sM.both_ways y v back in
+          let d_y = sM.both_ways y v ((IsFaceOfThree-turned M x y v sM f').dart) in
           let dart : HasDart M' x y = new x y f'.dart (not_v x d) (not_v y d_y) in
           let turn : follows M' y x ≡ step' y = turn_skip y x (simple' x y dart) f.third (turn_not_v y d_y) ∙ turn_on y d_y in
           record {
@@ -202,12 +199,10 @@ module _ (lists : Lists) (kept : ℕ → Bool) (s t : ℕ) (ws : List ℕ) (v : 
   -- and its face has not v
   inner_without : (x y : ℕ) → HasDart M' x y → ¬ IsOuterDart after x y → follows M y x ≢ v
   inner_without x y d n e =
-      let was = old x y d in
       let out = not_outer x y d n in
-      let f = inner_face M s t ws peeled.near x y was.0 out in
+      let f = inner_face M s t ws peeled.near x y (old x y d).0 out in
       let z = follows M y x in
-      let dart = (IsFaceOfThree-turned M y z x sM (IsFaceOfThree-turned M x y z sM f)).dart in
-      let d_x : HasDart M v x = subst (λ w. HasDart M w x) e dart in
+      let d_x : HasDart M v x = subst (λ w. HasDart M w x) e ((IsFaceOfThree-turned M y z x sM (IsFaceOfThree-turned M x y z sM f)).dart) in
       let to_y : follows M x v ≡ y = ap (follows M x) (sym e) ∙ f.round in
       elim (cases_eq x (step v)) [
         | inl q ↦ out (subst (Contains ws) (sym q) (next-on M s t ws sM cM v removable.on), ap step q ∙ (sym (cM.turns v removable.on) ∙ (ap (λ w. follows M w v) (sym q) ∙ to_y)))
@@ -219,20 +214,16 @@ module _ (lists : Lists) (kept : ℕ → Bool) (s t : ℕ) (ws : List ℕ) (v : 
   face_after : (x y : ℕ) → HasDart M' x y → ¬ IsOuterDart after x y → IsFaceOfThree M' x y (follows M y x)
   face_after x y d n =
       let was = old x y d in
-      let out = not_outer x y d n in
-      let f = inner_face M s t ws peeled.near x y was.0 out in
+      let f = inner_face M s t ws peeled.near x y was.0 (not_outer x y d n) in
       let z = follows M y x in
       let z_v = inner_without x y d n in
       let f' = IsFaceOfThree-turned M x y z sM f in
-      let f'' = IsFaceOfThree-turned M y z x sM f' in
-      let d_yz = new y z f'.dart was.2 z_v in
-      let d_zx = new z x f''.dart z_v was.1 in
       let both_ways = less.simple.both_ways in
       record {
         dart = d;
         second = turn_same y x (both_ways x y d) z_v;
-        third = turn_same z y (both_ways y z d_yz) (λ e. was.1 (sym f.third ∙ e)) ∙ f.third;
-        round = turn_same x z (both_ways z x d_zx) (λ e. was.2 (sym f.round ∙ e)) ∙ f.round;
+        third = turn_same z y (both_ways y z (new y z f'.dart was.2 z_v)) (λ e. was.1 (sym f.third ∙ e)) ∙ f.third;
+        round = turn_same x z (both_ways z x (new z x (IsFaceOfThree-turned M y z x sM f').dart z_v was.1)) (λ e. was.2 (sym f.round ∙ e)) ∙ f.round;
       }
 
   pub left : IsPeeled lists but s t after

@@ -58,8 +58,7 @@ module _ (lists : Lists) (kept : ℕ → Bool) (s t : ℕ) (ws : List ℕ) (whol
     way =
         let one = Leads-part step t front (u ∷ between ++ w ∷ back) t (subst (λ l. Leads step t l t) is.parts (round M s t ws sM cM)) in
         let two = Leads-part step u between (w ∷ back) t one.2.1 in
-        let end : Leads step two.0 (w ∷ []) w = (two.2.0, refl) in
-        Leads-join step u between two.0 (w ∷ []) w two.1 end
+        Leads-join step u between two.0 (w ∷ []) w two.1 ((two.2.0, refl))
 
     abbrev at : ℕ → ℕ
     at i = place u between w i
@@ -99,13 +98,7 @@ module _ (lists : Lists) (kept : ℕ → Bool) (s t : ℕ) (ws : List ℕ) (whol
 
     -- two vertices beyond two darts in a row
     found : (i : ℕ) → suc i < m → beyond i ≢ beyond (suc i) → IsRemovableOfTwo lists kept s t ws (at i) (at (suc i))
-    found i l ne =
-        record {
-          removable = removable_at i l;
-          on = on_at i (omega arith);
-          next = goes_on i (omega arith);
-          two = λ e. ne (e ∙ ap (λ y. follows lists y (at (suc i))) (goes_on (suc i) l));
-        }
+    found i l ne = grind (arith, removable_at, on_at, goes_on, follows, at)
 
     -- one beyond all
     module _ (all : (i : ℕ) → suc i < m → beyond i ≡ beyond (suc i)) where

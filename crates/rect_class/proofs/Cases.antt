@@ -24,14 +24,7 @@ two_tops = (1 ∷ 3 ∷ 2 ∷ 4 ∷ []) ∷ (2 ∷ 3 ∷ 0 ∷ 4 ∷ []) ∷ (0 
 
 waist : IsSeparating two_tops 0 1 2
 unfolding entry_after
-waist = record {
-  first = omega arith;
-  second = omega arith;
-  low = (omega arith, (0, omega arith, refl));
-  high = (omega arith, (0, omega arith, refl));
-  across = (omega arith, (2, omega arith, refl));
-  no_face = ⊎_elim (λ f. let e = f.second in omega (arith, e)) (λ f. let e = f.second in omega (arith, e));
-}
+waist = grind arith
 
 -- with a vertex of one of them there is a face
 side : ¬ IsSeparating two_tops 0 1 3

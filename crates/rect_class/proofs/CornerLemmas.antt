@@ -40,19 +40,7 @@ IsClosedOver-sides lists marks v u last next stamped before after sides w (lv, a
 
 -- of two vertices one comes before the other
 ComesBefore-one : (degrees : List ℕ) (u v : ℕ) → u ≢ v → ComesBefore degrees u v ⊎ ComesBefore degrees v u
-ComesBefore-one degrees u v n =
-    let a = get_or degrees u 0 in
-    let b = get_or degrees v 0 in
-    elim (cases_lt a b) [
-      | inl l ↦ inl (inl l)
-      | inr l ↦ elim (cases_lt b a) [
-        | inl m ↦ inr (inl m)
-        | inr m ↦ elim (cases_lt u v) [
-          | inl k ↦ inl (inr (omega arith, k))
-          | inr k ↦ inr (inr (omega arith, omega arith))
-        ]
-      ]
-    ]
+ComesBefore-one degrees u v n = grind (arith, get_or, cases_lt)
 
 -- each edge is closed at one end, where each vertex is over those that come before it
 pub AreClosed-before : (lists : Lists) (degrees : List ℕ) → IsSimpleMap lists
@@ -89,16 +77,13 @@ module _ (lists : Lists) (simple : IsSimpleMap lists) (frame : HasFrame lists) (
   -- so none separates where each edge is closed at one end
   pub NoneSeparating-closed : AreClosed lists → NoneSeparating lists
   NoneSeparating-closed closed a b c s =
-      let ba = simple.both_ways a b s.low in
-      let cb = simple.both_ways b c s.high in
-      let ca = simple.both_ways a c s.across in
       elim (closed a b s.low) [
         | inl over ↦ elim (over c s.across s.high) [
           | inl e ↦ s.no_face (inr (corner a b c s.low s.high e))
-          | inr e ↦ s.no_face (inl (IsFaceOfThree-turned lists c a b simple (corner a c b s.across cb e)))
+          | inr e ↦ s.no_face (inl (IsFaceOfThree-turned lists c a b simple (corner a c b s.across (simple.both_ways b c s.high) e)))
         ]
         | inr over ↦ elim (over c s.high s.across) [
-          | inl e ↦ s.no_face (inl (corner b a c ba s.across e))
-          | inr e ↦ s.no_face (inr (IsFaceOfThree-turned lists c b a simple (corner b c a s.high ca e)))
+          | inl e ↦ s.no_face (inl (corner b a c (simple.both_ways a b s.low) s.across e))
+          | inr e ↦ s.no_face (inr (IsFaceOfThree-turned lists c b a simple (corner b c a s.high (simple.both_ways a c s.across) e)))
         ]
       ]

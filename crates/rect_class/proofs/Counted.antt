@@ -78,11 +78,9 @@ module _ (lists : Lists) (simple : IsSimpleMap lists) (plane : IsPlane lists) (o
   triangles : (u v : ℕ) → HasDart C u v → IsTriangle C (u, v)
   triangles =
       let n = same_length in
-      let whole = ear.split.plane in
-      let faces = ear.split.faces in
       let parts = ear.split.components in
-      let met : edge_count C + 6 ≡ 3 * vertex_count C = omega (arith, n, whole, faces, parts, plane, full) in
-      ((edge_bound_met C more.simple whole (omega (arith, n, some))).0 met).1
+      let met : edge_count C + 6 ≡ 3 * vertex_count C = omega (arith, n, ear.split.plane, ear.split.faces, parts, plane, full) in
+      ((edge_bound_met C more.simple ear.split.plane (omega (arith, n, some))).0 met).1
 
   -- ---- each face but the outer one is a triangle
   -- the face of a dart

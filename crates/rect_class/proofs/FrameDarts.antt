@@ -15,23 +15,7 @@ use Rattle.rect_class.specs.Loops.{IsDart, IsFrameDart}
 
 -- four distinct numbers
 pub distinct_four : (a b c e : ℕ) → a ≢ b → a ≢ c → a ≢ e → b ≢ c → b ≢ e → c ≢ e → AllPairs ◌≢◌ (a ∷ b ∷ c ∷ e ∷ [])
-distinct_four a b c e ab ac ae bc be ce zero zero d l m = absurd (omega arith)
-distinct_four a b c e ab ac ae bc be ce zero (suc zero) d l m = ab
-distinct_four a b c e ab ac ae bc be ce zero (suc (suc zero)) d l m = ac
-distinct_four a b c e ab ac ae bc be ce zero (suc (suc (suc zero))) d l m = ae
-distinct_four a b c e ab ac ae bc be ce (suc zero) zero d l m = absurd (omega arith)
-distinct_four a b c e ab ac ae bc be ce (suc zero) (suc zero) d l m = absurd (omega arith)
-distinct_four a b c e ab ac ae bc be ce (suc zero) (suc (suc zero)) d l m = bc
-distinct_four a b c e ab ac ae bc be ce (suc zero) (suc (suc (suc zero))) d l m = be
-distinct_four a b c e ab ac ae bc be ce (suc (suc zero)) zero d l m = absurd (omega arith)
-distinct_four a b c e ab ac ae bc be ce (suc (suc zero)) (suc zero) d l m = absurd (omega arith)
-distinct_four a b c e ab ac ae bc be ce (suc (suc zero)) (suc (suc zero)) d l m = absurd (omega arith)
-distinct_four a b c e ab ac ae bc be ce (suc (suc zero)) (suc (suc (suc zero))) d l m = ce
-distinct_four a b c e ab ac ae bc be ce (suc (suc (suc i))) zero d l m = absurd (omega arith)
-distinct_four a b c e ab ac ae bc be ce (suc (suc (suc i))) (suc zero) d l m = absurd (omega arith)
-distinct_four a b c e ab ac ae bc be ce (suc (suc (suc i))) (suc (suc zero)) d l m = absurd (omega arith)
-distinct_four a b c e ab ac ae bc be ce (suc (suc (suc i))) (suc (suc (suc zero))) d l m = absurd (omega arith)
-distinct_four a b c e ab ac ae bc be ce i (suc (suc (suc (suc j)))) d l m = absurd (omega arith)
+distinct_four a b c e ab ac ae bc be ce x10 x11 d l m = grind arith
 
 -- the entries of a ring of four
 module _ (a b c e : ℕ) (distinct : AllPairs ◌≢◌ (a ∷ b ∷ c ∷ e ∷ [])) where
@@ -77,7 +61,6 @@ module _ (lists : Lists) (simple : IsSimpleMap lists) where
       let eq = last_entry s d p q h.distinct in
       let dp = dart_behind s d p h.dart h.second in
       let pq = dart_behind d p q dp h.third in
-      let qs = dart_behind p q s pq h.fourth in
       record {
         long = omega arith;
         first = refl;
@@ -85,7 +68,7 @@ module _ (lists : Lists) (simple : IsSimpleMap lists) where
         distinct = h.distinct;
         darts =
             each_of_four (λ x. HasDart lists x (entry_after x ws)) s d p q (subst (λ y. HasDart lists s y) (sym es) h.dart) (subst (λ y. HasDart lists d y) (sym ed) dp)
-            (subst (λ y. HasDart lists p y) (sym ep) pq) (subst (λ y. HasDart lists q y) (sym eq) qs);
+            (subst (λ y. HasDart lists p y) (sym ep) pq) (subst (λ y. HasDart lists q y) (sym eq) (dart_behind p q s pq h.fourth));
         turns =
             each_of_four (λ x. follows lists (entry_after x ws) x ≡ entry_after (entry_after x ws) ws) s d p q (turn s d p es ed h.second) (turn d p q ed ep h.third) (turn p q s ep eq h.fourth)
             (turn q s d eq es h.again);
@@ -100,37 +83,11 @@ IsRingDart a b c e x y = (IsDart x y a b ⊎ IsDart x y b c) ⊎ (IsDart x y c e
 
 -- the darts of a ring of four
 IsRingDart-entry : (a b c e x y : ℕ) → AllPairs ◌≢◌ (a ∷ b ∷ c ∷ e ∷ []) → IsOuterDart (a ∷ b ∷ c ∷ e ∷ []) x y ↔ IsRingDart a b c e x y
-IsRingDart-entry a b c e x y distinct = ((λ o. from x o.0 o.1), to)
-  where
-    from : (x : ℕ) → Contains (a ∷ b ∷ c ∷ e ∷ []) x → entry_after x (a ∷ b ∷ c ∷ e ∷ []) ≡ y → IsRingDart a b c e x y
-    from =
-        each_of_four (λ x. entry_after x (a ∷ b ∷ c ∷ e ∷ []) ≡ y → IsRingDart a b c e x y) a b c e (λ h. inl (inl (refl, sym h ∙ first_entry a b c e distinct))) (λ h. inl (inr (refl, sym h ∙ second_entry a b c e distinct)))
-        (λ h. inr (inl (refl, sym h ∙ third_entry a b c e distinct))) (λ h. inr (inr (refl, sym h ∙ last_entry a b c e distinct)))
-
-    at : (i w z : ℕ) → i < 4 → get_or (a ∷ b ∷ c ∷ e ∷ []) i w ≡ w → entry_after w (a ∷ b ∷ c ∷ e ∷ []) ≡ z → IsDart x y w z → IsOuterDart (a ∷ b ∷ c ∷ e ∷ []) x y
-    at i w z l here next h = (subst (Contains (a ∷ b ∷ c ∷ e ∷ [])) (sym h.0) (i, l, here), ap (λ v. entry_after v (a ∷ b ∷ c ∷ e ∷ [])) h.0 ∙ (next ∙ sym h.1))
-
-    to : IsRingDart a b c e x y → IsOuterDart (a ∷ b ∷ c ∷ e ∷ []) x y
-    to (inl (inl h)) = at 0 a b (omega arith) refl (first_entry a b c e distinct) h
-    to (inl (inr h)) = at 1 b c (omega arith) refl (second_entry a b c e distinct) h
-    to (inr (inl h)) = at 2 c e (omega arith) refl (third_entry a b c e distinct) h
-    to (inr (inr h)) = at 3 e a (omega arith) refl (last_entry a b c e distinct) h
+IsRingDart-entry a b c e x y distinct = grind (arith, Contains, entry_after, IsRingDart, each_of_four, first_entry, second_entry, third_entry, last_entry, get_or, IsDart, IsOuterDart)
 
 -- from the last of them on they are the same
 IsRingDart-turned : (a b c e x y : ℕ) → IsRingDart a b c e x y ↔ IsRingDart b c e a x y
-IsRingDart-turned a b c e x y = (there, back)
-  where
-    there : IsRingDart a b c e x y → IsRingDart b c e a x y
-    there (inl (inl h)) = inr (inr h)
-    there (inl (inr h)) = inl (inl h)
-    there (inr (inl h)) = inl (inr h)
-    there (inr (inr h)) = inr (inl h)
-
-    back : IsRingDart b c e a x y → IsRingDart a b c e x y
-    back (inl (inl h)) = inl (inr h)
-    back (inl (inr h)) = inr (inl h)
-    back (inr (inl h)) = inr (inr h)
-    back (inr (inr h)) = inl (inl h)
+IsRingDart-turned a b c e x y = grind (arith, IsRingDart)
 
 -- the darts of the frame are the outer face
 pub IsOuter-frame : (lists : Lists) → IsSimpleMap lists → HasFrame lists → (x y : ℕ) → HasDart lists x y → IsOuter lists x y ↔ IsFrameDart (top_vertex lists) (right_vertex lists) (bottom_vertex lists) x y
@@ -151,14 +108,4 @@ IsOuterDart-outer lists simple h x y has o =
 
 -- what is not no triangle is one
 pub IsTriangle-from_not : (lists : Lists) (v u : ℕ) → ¬ (¬ IsTriangle lists (v, u)) → IsTriangle lists (v, u)
-IsTriangle-from_not lists v u h = pair_from_not (face_step lists (face_step lists (face_step lists (v, u)))) v u h
-  where
-    pair_from_not : (e : Dart) (v u : ℕ) → ¬ (¬ (◌≡◌ {A = Dart} e (v, u))) → ◌≡◌ {A = Dart} e (v, u)
-    pair_from_not e v u h =
-        elim (cases_eq e.0 v) [
-          | inr n ↦ absurd (h (λ same. n (ap (λ (d : Dart). d.0) same)))
-          | inl a ↦ elim (cases_eq e.1 u) [
-            | inr n ↦ absurd (h (λ same. n (ap (λ (d : Dart). d.1) same)))
-            | inl b ↦ subst (λ x. ◌≡◌ {A = Dart} e (x, u)) a (subst (λ y. ◌≡◌ {A = Dart} e (e.0, y)) b refl)
-          ]
-        ]
+IsTriangle-from_not lists v u h = grind (arith, face_step, Dart, cases_eq)

@@ -31,20 +31,14 @@ module _ (lists : Lists) (simple : IsSimpleMap lists) (frame : HasFrame lists) w
 -- the same by the numbers of the frame
 pub MatchOption-large : (lists : Lists) (d p q : ℕ) (found : Option (VertexId × VertexId)) → IsSimpleMap lists → IsFrame lists d p q → MatchOption found ((v u : ℕ) → ¬ IsLargeDart lists d p q v u) (λ (e : VertexId × VertexId). IsLeastPair (IsLargeDart lists d p q) e.0.0 e.1.0)
     → MatchOption found (HasTriangles lists) (λ (e : VertexId × VertexId). IsLeastPair (HasLargeFace lists) e.0.0 e.1.0)
-MatchOption-large lists d p q found simple f h =
-    large_alike lists simple f.quadrangle found
-    (subst (λ x. Found x (right_vertex lists) (bottom_vertex lists)) f.top (subst (λ x. Found d x (bottom_vertex lists)) f.right (subst (λ x. Found d p x) f.bottom h)))
-  where
-    Found : ℕ → ℕ → ℕ → Type 0
-    Found x y z = MatchOption found ((v u : ℕ) → ¬ IsLargeDart lists x y z v u) (λ (e : VertexId × VertexId). IsLeastPair (IsLargeDart lists x y z) e.0.0 e.1.0)
+MatchOption-large lists d p q found simple f h = grind (arith, large_alike, right_vertex, bottom_vertex, MatchOption, IsLargeDart, VertexId, IsLeastPair)
 
 -- all four of a quadrangle are vertices
 pub vertices_of : (lists : Lists) (s d p q : ℕ) → IsSimpleMap lists → IsQuadrangle lists s d p q → (s < length lists) × (d < length lists) × (p < length lists) × (q < length lists)
 vertices_of lists s d p q simple h =
     let second = IsQuadrangle-turned lists simple s d p q h in
     let third = IsQuadrangle-turned lists simple d p q s second in
-    let last = IsQuadrangle-turned lists simple p q s d third in
-    (h.dart.0, second.dart.0, third.dart.0, last.dart.0)
+    (h.dart.0, second.dart.0, third.dart.0, (IsQuadrangle-turned lists simple p q s d third).dart.0)
 
 -- with one vertex off them there are five
 five_vertices : (n d p q v : ℕ) → 0 < n → d < n → p < n → q < n → v < n → 0 ≢ d → 0 ≢ p → 0 ≢ q → d ≢ p → d ≢ q → p ≢ q → v ≢ 0 → v ≢ d → v ≢ p → v ≢ q → 4 < n
@@ -65,29 +59,11 @@ abbrev IsOff : ℕ → ℕ → ℕ → ℕ → Type 0
 IsOff d p q v = (v ≢ d) × (v ≢ p) × (v ≢ q)
 
 placed_or_off : (d p q v : ℕ) → IsPlaced d p q v ⊎ IsOff d p q v
-placed_or_off d p q v =
-    elim (cases_eq v d) [
-      | inl e ↦ inl (0, omega arith, sym e)
-      | inr nd ↦ elim (cases_eq v p) [
-        | inl e ↦ inl (1, omega arith, sym e)
-        | inr np ↦ elim (cases_eq v q) [
-          | inl e ↦ inl (2, omega arith, sym e)
-          | inr nq ↦ inr (nd, np, nq)
-        ]
-      ]
-    ]
+placed_or_off d p q v = grind (arith, cases_eq)
 
 -- four numbers have not three places
 too_many : (d p q : ℕ) → IsPlaced d p q 1 → IsPlaced d p q 2 → IsPlaced d p q 3 → IsPlaced d p q 4 → ⊥
-too_many d p q (i, li, ei) (j, lj, ej) (k, lk, ek) (m, lm, em) =
-    let at : ℕ → ℕ = λ x. get_or (d ∷ p ∷ q ∷ []) x 0 in
-    let ij : i ≢ j = λ e. let s = ap at e in omega (arith, ei, ej, s) in
-    let ik : i ≢ k = λ e. let s = ap at e in omega (arith, ei, ek, s) in
-    let im : i ≢ m = λ e. let s = ap at e in omega (arith, ei, em, s) in
-    let jk : j ≢ k = λ e. let s = ap at e in omega (arith, ej, ek, s) in
-    let jm : j ≢ m = λ e. let s = ap at e in omega (arith, ej, em, s) in
-    let km : k ≢ m = λ e. let s = ap at e in omega (arith, ek, em, s) in
-    omega arith
+too_many d p q (i, li, ei) (j, lj, ej) (k, lk, ek) (m, lm, em) = grind (arith, get_or)
 
 -- so one of the first five is off
 pub HasInner-more : (lists : Lists) → 4 < length lists → HasInner lists

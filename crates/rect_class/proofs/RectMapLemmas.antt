@@ -21,8 +21,6 @@ nothing_broken biconnected_all lists refusal some h b = biconnected_all 3 lists 
 
 pub open_quadrangle : BiconnectedAreRectMaps
 open_quadrangle lists h =
-    let d = top_vertex lists in
-    let p = right_vertex lists in
     let q = bottom_vertex lists in
     let simple = h.biconnected.simple in
     record {
@@ -31,7 +29,7 @@ open_quadrangle lists h =
       near = record {
         simple = simple;
         plane = h.biconnected.plane;
-        cycle = IsOuterCycle-quadrangle lists simple 0 d p q h.frame;
+        cycle = IsOuterCycle-quadrangle lists simple 0 (top_vertex lists) (right_vertex lists) q h.frame;
         inner = λ x y has off. h.faces x y has (λ o. off (IsOuterDart-outer lists simple h.frame x y has o));
       };
       triangles = HasNoSeparatingTriangle-rising lists simple h.triangles;

@@ -25,17 +25,7 @@ third_at lists a b w end l (Some x) least = record { here = least.here.1; before
 
 -- whether three steps go round three vertices is decided
 IsFaceOfThree-decided : (lists : Lists) (a b c : ℕ) → HasDart lists a b → IsFaceOfThree lists a b c ⊎ (¬ IsFaceOfThree lists a b c)
-IsFaceOfThree-decided lists a b c d =
-    elim (cases_eq (follows lists b a) c) [
-      | inr n ↦ inr (λ f. n f.second)
-      | inl first ↦ elim (cases_eq (follows lists c b) a) [
-        | inr n ↦ inr (λ f. n f.third)
-        | inl second ↦ elim (cases_eq (follows lists a c) b) [
-          | inr n ↦ inr (λ f. n f.round)
-          | inl third ↦ inl (record { dart = d; second = first; third = second; round = third })
-        ]
-      ]
-    ]
+IsFaceOfThree-decided lists a b c d = grind (arith, cases_eq, follows)
 
 -- the three edges bound a face, on the one side or on the other
 abbrev IsFaced : Lists → ℕ → ℕ → ℕ → Type 0

@@ -58,7 +58,6 @@ AreUpperCut-more lists k end ends new_ends entries new_entries w grown added tot
         | inl less ↦ ap (λ (z : Lists). list_of z v) now ∙ (get_or_append_left old (row ∷ []) [] v (omega (arith, less, w.number)) ∙ w.each v less)
         | inr most ↦
             let e : v ≡ k = omega (arith, most, l) in
-            let here : list_of new k ≡ row = ap (λ (z : Lists). list_of z k) now ∙ get_or_push old row [] k w.number in
-            subst (λ z. list_of new z ≡ upper_of lists z) (sym e) here
+            subst (λ z. list_of new z ≡ upper_of lists z) (sym e) (ap (λ (z : Lists). list_of z k) now ∙ get_or_push old row [] k w.number)
       ];
     }

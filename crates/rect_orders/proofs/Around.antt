@@ -43,9 +43,7 @@ new_kinds c j = elim (cases_lt c j) [ inl l ↦ inr (cond-false (leb j c) run_in
 over_later : (steps : ℕ → Step) (n k u v : ℕ) → IsRun steps n → k < n → StandsOver steps k u v → u < v
 over_later steps n k u v run l a =
     let stage = IsStage-run steps k (IsRun-less steps k n (omega arith) run) in
-    let w = (run k l).within in
-    let hi = a.high in
-    omega (arith, a.new, stage.placed a.place (omega arith), a.vertex, count-stage_after steps k)
+    omega (arith, a.new, stage.placed a.place (omega (arith, (run k l).within)), a.vertex, count-stage_after steps k)
 
 -- an edge to a vertex before enters, to one behind leaves
 pub enters : (steps : ℕ → Step) (n u v : ℕ) (e : End) → IsRun steps n → IsEndAt steps n u v e → v < u → (e ≡ run_in) ⊎ (e ≡ rise_in)
@@ -62,16 +60,7 @@ leaves steps n u v e run h l = elim h [
 
 -- an edge that enters and one behind it that leaves: a run, and a rise
 between : (a b : End) → Follows a b → (a ≡ run_in) ⊎ (a ≡ rise_in) → (b ≡ run_out) ⊎ (b ≡ rise_out) → (a ≡ run_in) × (b ≡ rise_out)
-between a b f i o = elim i [
-  | inl e ↦ elim f [
-    | inl q ↦ absurd (elim o [ inl x ↦ (let z : run_in ≡ run_out = sym e ∙ (q ∙ x) in cc) | inr x ↦ (let z : run_in ≡ rise_out = sym e ∙ (q ∙ x) in cc) ])
-    | inr q ↦ (e, sym q ∙ ap next e)
-  ]
-  | inr e ↦ elim f [
-    | inl q ↦ absurd (elim o [ inl x ↦ (let z : rise_in ≡ run_out = sym e ∙ (q ∙ x) in cc) | inr x ↦ (let z : rise_in ≡ rise_out = sym e ∙ (q ∙ x) in cc) ])
-    | inr q ↦ absurd (elim o [ inl x ↦ (let z : run_in ≡ run_out = sym (ap next e) ∙ (q ∙ x) in cc) | inr x ↦ (let z : run_in ≡ rise_out = sym (ap next e) ∙ (q ∙ x) in cc) ])
-  ]
-]
+between a b f i o = grind (arith, run_in, run_out, rise_out, next, rise_in)
 
 not_run_in : (a : End) → (a ≡ run_out) ⊎ (a ≡ rise_out) → a ≢ run_in
 not_run_in a o e = elim o [ inl x ↦ (let z : run_in ≡ run_out = sym e ∙ x in cc) | inr x ↦ (let z : run_in ≡ rise_out = sym e ∙ x in cc) ]
@@ -115,13 +104,9 @@ module _ (lists : Lists) (s d p t : ℕ) (at ranks : List ℕ) (steps : ℕ → 
   -- each vertex stands at its rank
   pub at_rank : (u : ℕ) → u < length lists → (get_or ranks u 0 < length at) × (name (get_or ranks u 0) ≡ u)
   at_rank u l =
-      let z = size in
-      let n = z.0 in
-      let on = all_of_them at u (λ i d m. let o = order.canonical.vertices i d m in let c = order.canonical.count in omega arith) order.canonical.built.once (omega arith) in
-      let i = on.0 in
-      let in_at = on.1 in
-      let here : name i ≡ u = get_or_default at i 0 u in_at ∙ on.2 in
-      let r : get_or ranks u 0 ≡ i = ap (λ u. get_or ranks u 0) (sym here) ∙ rank.of_place i in_at in
+      let on = all_of_them at u (λ i d m. let o = order.canonical.vertices i d m in let c = order.canonical.count in omega arith) order.canonical.built.once (omega (arith, size)) in
+      let here : name on.0 ≡ u = get_or_default at on.0 0 u on.1 ∙ on.2 in
+      let r : get_or ranks u 0 ≡ on.0 = ap (λ u. get_or ranks u 0) (sym here) ∙ rank.of_place on.0 on.1 in
       (omega arith, ap name r ∙ here)
 
   module _ (k : ℕ) (hi : k + 2 + 2 < length at) (ws : List ℕ) (row : IsRowOf (closed lists s d p t) at ranks steps k (get_or at (k + 2) 0) ws) where
@@ -218,7 +203,6 @@ module _ (lists : Lists) (s d p t : ℕ) (at ranks : List ℕ) (steps : ℕ → 
     only i l a b =
         let on = row.on_row (entry i) ((more lists s d p t h).kept v (entry i) (dart i l)) a in
         let c : ℕ = on.0 in
-        let c_in : c < length ws = on.1 in
         let c_is : get_or ws c 0 ≡ entry i = on.2 in
         elim (cases_eq c 0) [
           | inl e ↦ sym (place_of-get_or L i 0 (simple.no_repeat v v_in) l) ∙ ap (λ u. place_of u L) (sym c_is ∙ ap (λ c. get_or ws c 0) e)
@@ -226,8 +210,7 @@ module _ (lists : Lists) (s d p t : ℕ) (at ranks : List ℕ) (steps : ℕ → 
               let z : suc (c - 1) ≡ c = omega arith in
               let turn = row.turns (c - 1) (omega arith) in
               let same : entry (place_after m i) ≡ get_or ws (c - 1) 0 = sym (goes i l) ∙ (ap (entry_after (entry i)) (sym same_list) ∙ (ap (follows C v) (sym c_is ∙ ap (λ c. get_or ws c 0) (sym z)) ∙ turn)) in
-              let e = row.earlier (c - 1) (omega arith) in
-              absurd (omega (arith, ap (λ u. get_or ranks u 0) same, e, b))
+              absurd (omega (arith, ap (λ u. get_or ranks u 0) same, row.earlier (c - 1) (omega arith), b))
         ]
 
     abbrev st : ℕ
@@ -239,14 +222,13 @@ module _ (lists : Lists) (s d p t : ℕ) (at ranks : List ℕ) (steps : ℕ → 
     all_early : r st < y → (j : ℕ) → j < m → r (cyclic m st j) < y
     all_early a zero l = let e = cyclic-low m st 0 (omega (arith, st_in)) in let z : st + 0 ≡ st = omega arith in omega (arith, ap r (e ∙ z), a)
     all_early a (suc j) l =
-        let before = all_early a j (omega (arith, l)) in
         let p_in = cyclic-lt m st st_in j (omega (arith, l)) in
         let goes_on = cyclic-suc m st st_in j l in
         elim (cases_lt (r (cyclic m st (suc j))) y) [
           | inl b ↦ b
           | inr b ↦
               let ne = r_apart (cyclic m st (suc j)) (cyclic-lt m st st_in (suc j) l) in
-              let is = only (cyclic m st j) p_in before (omega (arith, ap r goes_on, b, ne)) in
+              let is = only (cyclic m st j) p_in (all_early a j (omega (arith, l))) (omega (arith, ap r goes_on, b, ne)) in
               omega (arith, a, b, ap r (sym goes_on ∙ ap (place_after m) is))
         ]
 
@@ -255,15 +237,11 @@ module _ (lists : Lists) (s d p t : ℕ) (at ranks : List ℕ) (steps : ℕ → 
       | inr b ↦ let ne = r_apart st st_in in omega arith
       | inl b ↦
           let two = order.later y (omega arith) hi in
-          let j : ℕ = two.j in
-          let less : y < j = two.first in
-          let j_in : j < length at = two.first_in in
-          let has : Contains L (name j) = two.one.1 in
-          let i : ℕ = place_of (name j) L in
-          let i_in = place_of-lt-length (name j) L has in
-          let is : r i ≡ j = ap (λ u. get_or ranks u 0) (get_or-place_of (name j) L 0 i_in) ∙ rank.of_place j j_in in
+          let i : ℕ = place_of (name two.j) L in
+          let i_in = place_of-lt-length (name two.j) L two.one.1 in
+          let is : r i ≡ two.j = ap (λ u. get_or ranks u 0) (get_or-place_of (name two.j) L 0 i_in) ∙ rank.of_place two.j two.first_in in
           let on = cyclic-onto m st st_in i i_in in
-          absurd (omega (arith, all_early b on.0 on.1, ap r on.2, is, less))
+          absurd (omega (arith, all_early b on.0 on.1, ap r on.2, is, two.first))
     ]
 
     begins : (E i0 ≡ run_in) × (E st ≡ rise_out)
@@ -273,7 +251,6 @@ module _ (lists : Lists) (s d p t : ℕ) (at ranks : List ℕ) (steps : ℕ → 
     may i l ne = record {
       follows = follow i l;
       inside =
-          let q = place_after m i in
           let q_in = after-lt m i l in
           elim (cases_lt (r i) y) [
             | inr b ↦ let ap' = r_apart i l in inl (not_run_in (E i) (leaves short N y (r i) (E i) short_run (end_at i l) (omega arith)))
@@ -298,7 +275,6 @@ module _ (lists : Lists) (s d p t : ℕ) (at ranks : List ℕ) (steps : ℕ → 
         (at_place (m - 1) rise_out (omega arith) ∙ (ap E (cyclic-last m st st_in i0 (m - 1) i0_in refl last) ∙ begins.0))
         (λ i b.
         let l : suc i < m = omega arith in
-        let p = cyclic-lt m st st_in i (omega arith) in
-        let step = may (cyclic m st i) p (cyclic-not_last m st st_in i0 i i0_in refl l) in
+        let step = may (cyclic m st i) (cyclic-lt m st st_in i (omega arith)) (cyclic-not_last m st st_in i0 i i0_in refl l) in
         subst (λ a. MayFollow a (get_or (from_place (map (end v) L) st) (suc i) run_in)) (sym (at_place i run_in (omega arith)))
         (subst (MayFollow (E (cyclic m st i))) (ap E (cyclic-suc m st st_in i l) ∙ sym (at_place (suc i) run_in l)) step))

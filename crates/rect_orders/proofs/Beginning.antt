@@ -34,7 +34,6 @@ module _ (lists map : Lists) (s d p t x : ℕ) (h : IsClosedOf lists map s d p t
   pub taken_within : All (λ v. v < length us) us
   taken_within =
       let n = length-reverse us in
-      let c = order.canonical.count in
       λ k d' l. let lt = All-from_reverse (λ v. v < length (closed map s d p t)) us order.canonical.vertices k d' l in omega arith
 
   pub taken_count : length us ≡ length lists

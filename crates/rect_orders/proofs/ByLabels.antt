@@ -48,7 +48,6 @@ module _ (lists : Lists) (s d p t : ℕ) (at ranks : List ℕ) (steps : ℕ → 
       let all = of_map.run.labelled.run in
       let in_run : k < suc (length at - 3) = omega arith in
       let w = (all k in_run).within in
-      let hi = over.high in
       ap (stage_after sh k).place (sym over.vertex) ∙ (IsStage-run sh k (IsRun-less sh k (suc (length at - 3)) (omega arith) all)).own over.place (omega arith)
 
   end_of-earlier : (k i j : ℕ) → i < j → k < length at - 2 → 3 ≤ length at → (over : StandsOver sh k i j) → end_of i j ≡ at_older (turn_of sh k) over.place
@@ -89,13 +88,11 @@ module _ (lists : Lists) (s d p t : ℕ) (at ranks : List ℕ) (steps : ℕ → 
     -- an edge off the frame, by the ranks of its vertices
     stands : (u v : ℕ) → HasDart lists u v → ¬ IsFrameEdge s d p t u v → IsEndAt sh (suc (length at - 3)) (get_or ranks u 0) (get_or ranks v 0) (end u v)
     stands u v has off =
-        let z = (size lists s d p t at ranks steps end h order rank run ends).1 in
-        let back = h.near.simple.both_ways u v has in
         let qu = at_rank lists s d p t at ranks steps end h order rank run ends u has.0 in
-        let qv = at_rank lists s d p t at ranks steps end h order rank run ends v back.0 in
+        let qv = at_rank lists s d p t at ranks steps end h order rank run ends v (h.near.simple.both_ways u v has).0 in
         let i : ℕ = get_or ranks u 0 in
         let j : ℕ = get_or ranks v 0 in
-        let next : length at - 2 ≡ suc (length at - 3) = omega arith in
+        let next : length at - 2 ≡ suc (length at - 3) = omega (arith, (size lists s d p t at ranks steps end h order rank run ends).1) in
         let has' = subst (λ w. HasDart lists w (name j)) (sym qu.1) (subst (HasDart lists u) (sym qv.1) has) in
         let off' = subst (λ w. ¬ IsFrameEdge s d p t w (name j)) (sym qu.1) (subst (λ w. ¬ IsFrameEdge s d p t u w) (sym qv.1) off) in
         subst (λ k. IsEndAt sh k i j (end u v)) next (subst (IsEndAt sh (length at - 2) i j) (ap₂ end qu.1 qv.1) (ends i j qu.0 qv.0 has' off'))
@@ -103,11 +100,9 @@ module _ (lists : Lists) (s d p t : ℕ) (at ranks : List ℕ) (steps : ℕ → 
     -- it is not that of the first vertex and the last one
     off_top : (u v : ℕ) → HasDart lists u v → ¬ IsFrameEdge s d p t u v → ¬ ((get_or ranks u 0 ≡ 0) × (get_or ranks v 0 ≡ (length at - 3) + 2))
     off_top u v has off e =
-        let z = (size lists s d p t at ranks steps end h order rank run ends).1 in
-        let back = h.near.simple.both_ways u v has in
         let qu = at_rank lists s d p t at ranks steps end h order rank run ends u has.0 in
-        let qv = at_rank lists s d p t at ranks steps end h order rank run ends v back.0 in
-        let last : get_or ranks v 0 ≡ length at - 1 = omega (arith, e.1, z) in
+        let qv = at_rank lists s d p t at ranks steps end h order rank run ends v (h.near.simple.both_ways u v has).0 in
+        let last : get_or ranks v 0 ≡ length at - 1 = omega (arith, e.1, (size lists s d p t at ranks steps end h order rank run ends).1) in
         off (inl (inl (sym qu.1 ∙ (ap name e.0 ∙ order.canonical.built.first), sym qv.1 ∙ (ap name last ∙ top lists s d p t at ranks steps end h order rank run ends))))
 
     runs_meet : (u v : ℕ) → HasDart lists u v → ¬ IsFrameEdge s d p t u v → end u v ≡ run_out → right_of fig u ≡ left_of fig v

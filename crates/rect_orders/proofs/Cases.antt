@@ -15,17 +15,7 @@ closed_wheel = refl
 
 -- in the order left, bottom, hub, right, top the hub has two later neighbours
 hub_has_two : HasTwoLater wheel (0 ∷ 3 ∷ 4 ∷ 2 ∷ 1 ∷ []) 2
-hub_has_two = record {
-  j = 3;
-  k = 4;
-  apart = λ e. omega (arith, e);
-  first = omega arith;
-  second = omega arith;
-  first_in = omega arith;
-  second_in = omega arith;
-  one = (omega arith, (2, omega arith, refl));
-  other = (omega arith, (1, omega arith, refl));
-}
+hub_has_two = grind arith
 
 -- a step that ends a place earlier
 shorter : shortened (λ k. record { first = 0; last = 2 }) 1 1 ≡ record { first = 0; last = 1 }

@@ -113,9 +113,8 @@ module _ (lists : Lists) (s d p t : ℕ) (h : IsRectMap lists s d p t) where
       let o = opened kept (λ v l. refl) in
       let rest = restricted fewer lists in
       let near = o.1.near in
-      let on = first_on rest s t o.0 near.simple near.cycle in
       let y = entry_after s o.0 in
-      let dart = restricted-old lists fewer s y (near.cycle.darts s on) in
+      let dart = restricted-old lists fewer s y (near.cycle.darts s (first_on rest s t o.0 near.simple near.cycle)) in
       let y_not_d : y ≢ d = λ e. true≢false (sym (kept_but-old (kept_but kept d) p y dart.2).0 ∙ (ap (kept_but kept d) e ∙ kept_but-itself kept d)) in
       let y_not_t : y ≢ t = λ e.
       two_steps_on rest s t o.0 near.simple near.cycle t (last_on rest s t o.0 near.simple near.cycle) (ap (λ x. entry_after x o.0) (next-last rest s t o.0 near.simple near.cycle) ∙ e) in
@@ -207,20 +206,13 @@ module _ (lists : Lists) (s d p t : ℕ) (h : IsRectMap lists s d p t) where
         | inr r ↦ elim r [ inl e ↦ is_triangle x y d t s e.0 e.1 face_dts | inr e ↦ is_triangle x y t d p e.0 e.1 face_tdp ]
         | inl old ↦ elim (cases_outer ws x y) [
           | inr n ↦ ear.kept x y old (h.near.inner x y old n)
-          | inl o ↦
-              each_of_four (λ z. z ≡ x → IsTriangle C (x, y)) s d p t
-              (λ e. is_triangle x y s d t (sym e) (sym o.1 ∙ (ap (λ z. entry_after z ws) (sym e) ∙ s_d)) face_sdt)
-              (λ e. is_triangle x y d p t (sym e) (sym o.1 ∙ (ap (λ z. entry_after z ws) (sym e) ∙ d_p)) face_dpt)
-              (λ e. is_triangle x y p t d (sym e) (sym o.1 ∙ (ap (λ z. entry_after z ws) (sym e) ∙ p_t)) face_ptd)
-              (λ e. is_triangle x y t s d (sym e) (sym o.1 ∙ (ap (λ z. entry_after z ws) (sym e) ∙ t_s)) face_tsd) x o.0 refl
+          | inl o ↦ grind (arith, each_of_four, IsTriangle, is_triangle, entry_after, ws, s_d, face_sdt, d_p, face_dpt, p_t, face_ptd, t_s)
         ]
       ]
 
   pub triangulation : IsTriangulation C
   triangulation =
-      let n = length-closed in
-      let large = h.large in
-      let some : 3 ≤ length C = omega arith in
+      let some : 3 ≤ length C = omega (arith, length-closed) in
       record {
         simple = more.simple;
         plane = ear.split.plane;

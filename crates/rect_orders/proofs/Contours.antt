@@ -46,8 +46,7 @@ module _ (map : Lists) (s d p t x : ℕ) (L : Lists) (h : IsClosedOf L map s d p
       let begin = IsRectLeft-begin map s d p t class (kept_of gone) all (λ v k. (let l = (kept_of-parts gone v k).0 in omega arith)) in
       let d_in = (dart_dp map s d p t class).0 in
       let p_in = class.near.simple.in_range d p (dart_dp map s d p t class) in
-      let first = kept_of-set gone d (omega arith) in
-      let g1 : kept_but (kept_of gone) d ≡ kept_of gone1 = first ∙ sym (ap kept_of one.gone_is) in
+      let g1 : kept_but (kept_of gone) d ≡ kept_of gone1 = (kept_of-set gone d (omega arith)) ∙ sym (ap kept_of one.gone_is) in
       let n1 : length gone1 ≡ length L = ap length one.gone_is ∙ (length-set gone d true ∙ n) in
       let g2 : kept_but (kept_but (kept_of gone) d) p ≡ kept_of gone2 = ap (λ k. kept_but k p) g1 ∙ (kept_of-set gone1 p (omega arith) ∙ sym (ap kept_of two.gone_is)) in
       let marks1 = marks_after C gone marked d gone1 marked1 (s ∷ d ∷ t ∷ []) begin.0 simple (omega arith) (omega arith) (omega arith) (all d d_in) begin.2 marks (taken_closed d marked gone marked1 gone1 one) in
@@ -74,9 +73,7 @@ module _ (map : Lists) (s d p t x : ℕ) (L : Lists) (h : IsClosedOf L map s d p
     pub on_left : (v : ℕ) → is_set marked v ≡ true → (v < length L) × (is_set gone v ≡ false) × (kept v ≡ true)
     on_left v e =
         let old = restricted-old C kept v (entry_after v o.ws) (o.left.left.peeled.near.cycle.darts v ((o.marks v).0 e)) in
-        let l = old.0.0 in
-        let n = ap length h.closed_is in
-        (omega arith, (kept_of-parts gone v old.1).1, old.1)
+        (omega (arith, ap length h.closed_is), (kept_of-parts gone v old.1).1, old.1)
 
     not_top : (v : ℕ) → is_set marked v ≡ true → v ≢ d
     not_top v e q = true≢false (sym (on_left v e).2 ∙ (ap kept q ∙ o.left.top))
@@ -161,7 +158,6 @@ module _ (map : Lists) (s d p t x : ℕ) (L : Lists) (h : IsClosedOf L map s d p
     -- three are left
     pub IsContour-three : length rest + 3 ≡ length L → IsRectOrder map s d p t (s ∷ t ∷ x ∷ rest)
     IsContour-three few =
-        let count = o.left.left.count in
         let e = ap length h.closed_is in
         let inner : follows C t s ≡ x =
         (put map s d p t class).other t s (dart_ts map s d p t class) (λ q. absurd (d_not_t map s d p t class (sym q))) (λ _. s_not_p map s d p t class) ∙ sym h.inner_is in

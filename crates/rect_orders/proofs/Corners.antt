@@ -56,8 +56,7 @@ module _ (lists : Lists) (s d p t : ℕ) (at : List ℕ) (steps : ℕ → Step) 
 
   top : name (n + 2) ≡ d
   top =
-      let m = many in
-      let e : length C - 1 ≡ n + 2 = omega (arith, order.canonical.count) in
+      let e : length C - 1 ≡ n + 2 = omega (arith, many, order.canonical.count) in
       ap name (sym e) ∙ (order.canonical.last ∙ (face_tsd lists s d p t h).second)
 
   -- an inner vertex is none of the frame's
@@ -70,56 +69,13 @@ module _ (lists : Lists) (s d p t : ℕ) (at : List ℕ) (steps : ℕ → Step) 
 
   -- the vertices of a face
   within : (k j a b v : ℕ) → k < suc n → IsFaceOf steps k j a b v → (a < length at) × (b < length at) × (v < length at)
-  within k j a b v l f =
-      let m = many in
-      let w = (all k l).within in
-      let hi = f.high in
-      let stage = IsStage-run steps k (IsRun-less steps k (suc n) (omega arith) all) in
-      let count = count-stage_after steps k in (
-        omega (arith, f.left, stage.placed j (omega arith), count),
-        omega (arith, f.right, stage.placed (suc j) (omega arith), count),
-        omega (arith, f.new, count),
-      )
+  within k j a b v l f = grind (arith, many, all, IsStage-run, IsRun-less, count-stage_after)
 
   -- a face with an inner vertex is made in the shorter run too
   in_short : (k j a b v i : ℕ) → k < suc n → IsFaceOf steps k j a b v → 2 ≤ i → i + 2 < length at → (i ≡ a) ⊎ ((i ≡ b) ⊎ (i ≡ v)) → IsFaceOf short k j a b v
   in_short k j a b v i l f lo hi on = elim (cases_eq k n) [
-    | inr ne ↦
-        let same = stage-same steps n all some end k (omega arith) in
-        let step = short-old steps n all some end k (omega arith) in
-        record {
-          low = subst (λ z. z.first ≤ j) (sym step) f.low;
-          high = subst (λ z. j < z.last) (sym step) f.high;
-          left = ap (λ g. g.vertex j) same ∙ f.left;
-          right = ap (λ g. g.vertex (suc j)) same ∙ f.right;
-          new = ap (λ g. g.count) same ∙ f.new;
-        }
-    | inl e ↦
-        let same : stage_after short k ≡ stage_after steps k = stage-same steps n all some end k (omega arith) in
-        let step : short k ≡ record { first = (steps n).first; last = (steps n).last - 1 } = ap short e ∙ short-last steps n all some end in
-        let step' : steps k ≡ steps n = ap steps e in
-        let w = (all k l).within in
-        let high = f.high in
-        let wide : (stage_after short k).width ≡ (stage_after steps k).width = ap (λ g. g.width) same in
-        let stage = IsStage-run steps k (IsRun-less steps k (suc n) (omega arith) all) in
-        let last : suc (suc (short k).last) ≡ (stage_after short k).width = subst (λ k. suc (suc (short k).last) ≡ (stage_after short k).width) (sym e) rect.top_last in
-        let down : (short k).last ≡ (steps n).last - 1 = ap (λ z. z.last) step in
-        let up : (steps k).last ≡ (steps n).last = ap (λ z. z.last) step' in
-        elim (cases_eq (suc j) (steps k).last) [
-          | inr ne ↦ record {
-            low = subst (λ z. z.first ≤ j) (sym step) (subst (λ z. z.first ≤ j) step' f.low);
-            high = omega arith;
-            left = ap (λ g. g.vertex j) same ∙ f.left;
-            right = ap (λ g. g.vertex (suc j)) same ∙ f.right;
-            new = ap (λ g. g.count) same ∙ f.new;
-          }
-          | inl q ↦
-              let m = many in
-              let right : b ≡ 1 = sym f.right ∙ stage.end (suc j) (omega arith) in
-              let left : a ≡ n + 1 = sym f.left ∙ (ap (λ g. g.vertex j) (sym same) ∙ right_stands short n rect k j e (omega arith)) in
-              let new : v ≡ n + 2 = sym f.new ∙ (count-stage_after steps k ∙ ap (λ z. z + 2) e) in
-              absurd (elim on [ inl o ↦ omega arith | inr (inl o) ↦ omega arith | inr (inr o) ↦ omega arith ])
-        ]
+    | inr ne ↦ grind (arith, stage-same, all, some, end, short-old)
+    | inl e ↦ grind (arith, stage_after, short, stage-same, all, some, end, short-last, IsStage-run, IsRun-less, rect, cases_eq, right_stands)
   ]
 
   module _ (x y z : ℕ) (lo : 2 ≤ y) (hi : y + 2 < length at) (x_in : x < length at) (z_in : z < length at) (dart : HasDart lists (name y) (name x)) (goes : follows lists (name y) (name x) ≡ name z) where
@@ -145,23 +101,7 @@ module _ (lists : Lists) (s d p t : ℕ) (at : List ℕ) (steps : ℕ → Step) 
         let f : IsFaceOfThree C (name m.a) (name m.b) (name m.v) = run.faces m.step m.place m.a m.b m.v m.earlier m.face in
         let w = within m.step m.place m.a m.b m.v l m.face in
         let make = λ (on : (y ≡ m.a) ⊎ ((y ≡ m.b) ⊎ (y ≡ m.v))). corners_of_faces short m.step (suc n) m.place m.a m.b m.v rect.labelled l (in_short m.step m.place m.a m.b m.v y l m.face lo hi on) in
-        elim m.dart [
-          | inl q ↦
-              let ex = same_name x m.a x_in w.0 q.0 in
-              let ey = same_name y m.b (omega arith) w.1 q.1 in
-              let ez = same_name z m.v z_in w.2 (sym goes_C ∙ (ap (λ u. follows C u (name x)) q.1 ∙ (ap (follows C (name m.b)) q.0 ∙ f.second))) in
-              subst (λ u. IsCorner short (suc n) u y z) (sym ex) (subst (λ u. IsCorner short (suc n) m.a u z) (sym ey) (subst (λ u. IsCorner short (suc n) m.a m.b u) (sym ez) ((make (inr (inl ey))).1 (omega arith))))
-          | inr (inl q) ↦
-              let ex = same_name x m.b x_in w.1 q.0 in
-              let ey = same_name y m.v (omega arith) w.2 q.1 in
-              let ez = same_name z m.a z_in w.0 (sym goes_C ∙ (ap (λ u. follows C u (name x)) q.1 ∙ (ap (follows C (name m.v)) q.0 ∙ f.third))) in
-              subst (λ u. IsCorner short (suc n) u y z) (sym ex) (subst (λ u. IsCorner short (suc n) m.b u z) (sym ey) (subst (λ u. IsCorner short (suc n) m.b m.v u) (sym ez) (make (inr (inr ey))).0))
-          | inr (inr q) ↦
-              let ex = same_name x m.v x_in w.2 q.0 in
-              let ey = same_name y m.a (omega arith) w.0 q.1 in
-              let ez = same_name z m.b z_in w.1 (sym goes_C ∙ (ap (λ u. follows C u (name x)) q.1 ∙ (ap (follows C (name m.a)) q.0 ∙ f.round))) in
-              subst (λ u. IsCorner short (suc n) u y z) (sym ex) (subst (λ u. IsCorner short (suc n) m.v u z) (sym ey) (subst (λ u. IsCorner short (suc n) m.v m.a u) (sym ez) ((make (inl ey)).2 (omega arith))))
-        ]
+        grind (arith, same_name, goes_C, follows, name, IsCorner, short)
 
 pub corners_of_map : CornersOfMap
 corners_of_map lists s d p t at steps h order run x y z lo hi x_in z_in dart goes =

@@ -32,22 +32,7 @@ module _ (m st : ℕ) (here : st < m) where
   cyclic-lt j l = elim (cases_lt (st + j) m) [ inl a ↦ omega (arith, cyclic-low m st j a) | inr a ↦ omega (arith, cyclic-high m st j a) ]
 
   pub cyclic-suc : (j : ℕ) → suc j < m → place_after m (cyclic m st j) ≡ cyclic m st (suc j)
-  cyclic-suc j l = elim (cases_lt (st + suc j) m) [
-    | inl a ↦
-        let c = cyclic-low m st j (omega arith) in
-        let e : st + j + 1 ≡ st + suc j = omega arith in
-        ap (place_after m) c ∙ (after-low m (st + j) (omega arith) ∙ (e ∙ sym (cyclic-low m st (suc j) a)))
-    | inr a ↦ elim (cases_lt (st + j) m) [
-      | inl b ↦
-          let c = cyclic-low m st j b in
-          let e : 0 ≡ st + suc j - m = omega arith in
-          ap (place_after m) c ∙ (after-high m (st + j) (omega arith) ∙ (e ∙ sym (cyclic-high m st (suc j) a)))
-      | inr b ↦
-          let c = cyclic-high m st j b in
-          let e : st + j - m + 1 ≡ st + suc j - m = omega arith in
-          ap (place_after m) c ∙ (after-low m (st + j - m) (omega arith) ∙ (e ∙ sym (cyclic-high m st (suc j) a)))
-    ]
-  ]
+  cyclic-suc j l = grind (arith, cases_lt, place_after, cyclic-low, after-low, after-high, cyclic-high)
 
   -- each place is one of them
   pub cyclic-onto : (i : ℕ) → i < m → (j : ℕ) × (j < m) × (cyclic m st j ≡ i)
@@ -65,23 +50,7 @@ module _ (m st : ℕ) (here : st < m) where
 
   -- and no other
   pub cyclic-not_last : (i j : ℕ) → i < m → place_after m i ≡ st → suc j < m → cyclic m st j ≢ i
-  cyclic-not_last i j l e s q = elim (cases_lt (st + j) m) [
-    | inl a ↦
-        let c = cyclic-low m st j a in
-        elim (cases_lt (i + 1) m) [ inl b ↦ omega (arith, after-low m i b) | inr b ↦ omega (arith, after-high m i b) ]
-    | inr a ↦
-        let c = cyclic-high m st j a in
-        elim (cases_lt (i + 1) m) [ inl b ↦ omega (arith, after-low m i b) | inr b ↦ omega (arith, after-high m i b) ]
-  ]
+  cyclic-not_last i j l e s q = grind (arith, cases_lt, cyclic-low, after-low, after-high, cyclic-high)
 
   pub get_or-from_place : (E : List End) (d : End) (j : ℕ) → length E ≡ m → j < m → get_or (from_place E st) j d ≡ get_or E (cyclic m st j) d
-  get_or-from_place E d j size l =
-      let front : length (drop st E) ≡ m - st = length-drop st E ∙ ap (λ z. z - st) size in
-      elim (cases_lt (st + j) m) [
-        | inl a ↦
-            let e = sym (cyclic-low m st j a) in
-            get_or_append_left (drop st E) (take st E) d j (omega arith) ∙ (get_or-drop st E j d ∙ ap (λ i. get_or E i d) e)
-        | inr a ↦
-            let e : j - (m - st) ≡ cyclic m st j = omega (arith, cyclic-high m st j a) in
-            get_or-append_right (drop st E) (take st E) (m - st) j d front (omega arith) ∙ (get_or-take st E (j - (m - st)) d (omega arith) ∙ ap (λ i. get_or E i d) e)
-      ]
+  get_or-from_place E d j size l = grind (arith, length, drop, length-drop, cases_lt, get_or_append_left, take, get_or-drop, get_or, cyclic-low, cyclic-high, get_or-append_right, get_or-take)

@@ -27,8 +27,7 @@ use Rattle.rect_orders.proofs.Renamed.{total-renamed}
 greatest-is : (zs : List ℤ) (k m : ℕ) → k < length zs → number_at zs k ≡ pos m → ((v : ℕ) → v < length zs → number_at zs v ≤ℤ pos m) → greatest zs ≡ pos m
 greatest-is zs k m l e most =
     let r = greatest zs in
-    let bounds = fold-int_max_bounds (pos 0) zs r refl in
-    let at_k = bounds.1 k (pos 0) l in
+    let at_k = (fold-int_max_bounds (pos 0) zs r refl).1 k (pos 0) l in
     let least : r ≤ℤ pos m = elim (fold-int_max_reached (pos 0) zs r refl) [
       | inl z ↦ omega (arith, ints)
       | inr c ↦ subst (λ z. z ≤ℤ pos m) (get_or_default zs c.0 (pos 0) r c.1 ∙ c.2) (most c.0 c.1)
@@ -66,10 +65,7 @@ module _ (lists : Lists) (s d p t : ℕ) (at ranks : List ℕ) (steps : ℕ → 
   place-lt : (v : ℕ) → v < n + 3 → place v < n + 3
   place-lt v l =
       let c = all_of_them at v (λ k d m. (let w = order.canonical.vertices k d m in let e = order.canonical.count in omega arith)) order.canonical.built.once (omega arith) in
-      let e : name c.0 ≡ v = get_or_default at c.0 0 v c.1 ∙ c.2 in
-      let i = c.1 in
-      let q = ap place (sym e) ∙ place-name c.0 (omega arith) in
-      omega (arith, q, i, size)
+      omega (arith, ap place (sym (get_or_default at c.0 0 v c.1 ∙ c.2)) ∙ place-name c.0 (omega arith), c.1, size)
 
   place-apart : (u v : ℕ) → u < n + 3 → v < n + 3 → u ≢ v → place u ≢ place v
   place-apart u v l m ne e = ne (sym (name-place u l) ∙ (ap name e ∙ name-place v m))
@@ -77,20 +73,11 @@ module _ (lists : Lists) (s d p t : ℕ) (at ranks : List ℕ) (steps : ℕ → 
   rect : (v : ℕ) → v < length lists → IsRect (length lists) fig v
   rect v l =
       let k = many in
-      let i = place v in
       let m = place-lt v (omega arith) in
-      let w = dual.filling.wide i m in
-      let o = dual.filling.tall i m in
-      let in_grid = dual.filling.within i m in
-      let bound = dual.bounded in
       let e1 = drawn.left v l in
       let e2 = drawn.right v l in
       let e3 = drawn.low v l in
       let e4 = drawn.high v l in
-      let a = in_grid.0 in
-      let c = in_grid.1 in
-      let x = bound.0 in
-      let y = bound.1 in
       record {
         wide = record { first = omega (arith, ints); order = omega (arith, ints); last = omega (arith, ints, many) };
         tall = record { first = omega (arith, ints); order = omega (arith, ints); last = omega (arith, ints, many) };
@@ -107,10 +94,6 @@ module _ (lists : Lists) (s d p t : ℕ) (at ranks : List ℕ) (steps : ℕ → 
       let f2 = drawn.right v m in
       let f3 = drawn.low v m in
       let f4 = drawn.high v m in
-      let q1 = meet.left in
-      let q2 = meet.right in
-      let q3 = meet.low in
-      let q4 = meet.high in
       elim a [
         | inl c ↦ elim c [ inl x ↦ omega (arith, ints) | inr x ↦ omega (arith, ints) ]
         | inr c ↦ elim c [ inl x ↦ omega (arith, ints) | inr x ↦ omega (arith, ints) ]
@@ -125,12 +108,10 @@ module _ (lists : Lists) (s d p t : ℕ) (at ranks : List ℕ) (steps : ℕ → 
   apart : (u v : ℕ) → u < v → v < length lists → ¬ DoMeet fig u v
   apart u v less l =
       let k = many in
-      let i = place-lt u (omega arith) in
-      let j = place-lt v (omega arith) in
       let ne = place-apart u v (omega arith) (omega arith) (λ e. omega (arith, less, e)) in
       not_meet u v (omega arith) l (elim (cases_lt (place u) (place v)) [
-        | inl m ↦ dual.filling.apart (place u) (place v) m j
-        | inr m ↦ apart_turned (place v) (place u) (dual.filling.apart (place v) (place u) (omega (arith, m, ne)) i)
+        | inl m ↦ dual.filling.apart (place u) (place v) m (place-lt v (omega arith))
+        | inr m ↦ apart_turned (place v) (place u) (dual.filling.apart (place v) (place u) (omega (arith, m, ne)) (place-lt u (omega arith)))
       ])
 
   -- sides of rectangles, and of boxes
@@ -213,7 +194,6 @@ module _ (lists : Lists) (s d p t : ℕ) (at ranks : List ℕ) (steps : ℕ → 
 
   place_d : place d ≡ n + 2
   place_d =
-      let c = order.canonical.count in
       let e : length (closed lists s d p t) - 1 ≡ n + 2 = omega arith in
       ap place (sym (face_tsd lists s d p t h).second ∙ (sym order.canonical.last ∙ ap name e)) ∙ place-name (n + 2) (omega arith)
 
@@ -239,19 +219,15 @@ module _ (lists : Lists) (s d p t : ℕ) (at ranks : List ℕ) (steps : ℕ → 
   wide =
       greatest-is fig.x2 t width (let c = drawn.shape.x2 in omega (arith, t_in)) (is_at (right_of fig) b.right t 1 width (drawn.right t t_in) place_t dual.frame.bottom.1)
       (λ v l.
-      let c = drawn.shape.x2 in
       let e = drawn.right v (omega arith) in
-      let m = (dual.filling.within (place v) (place-lt v (omega (arith, many)))).0 in
-      omega (arith, ints))
+      omega (arith, (dual.filling.within (place v) (place-lt v (omega (arith, many)))).0, ints))
 
   tall : height_of fig ≡ pos height
   tall =
       greatest-is fig.y2 d height (let c = drawn.shape.y2 in omega (arith, d_in)) (is_at (high_of fig) b.high d (n + 2) height (drawn.high d d_in) place_d dual.frame.top.2)
       (λ v l.
-      let c = drawn.shape.y2 in
       let e = drawn.high v (omega arith) in
-      let m = (dual.filling.within (place v) (place-lt v (omega (arith, many)))).1 in
-      omega (arith, ints))
+      omega (arith, (dual.filling.within (place v) (place-lt v (omega (arith, many)))).1, ints))
 
   framed : IsFramed fig s d p t
   framed = record {
@@ -285,8 +261,6 @@ module _ (lists : Lists) (s d p t : ℕ) (at ranks : List ℕ) (steps : ℕ → 
   areas_below (suc k) l =
       let i = place k in
       let m = place-lt k (omega (arith, l, many)) in
-      let w = dual.filling.wide i m in
-      let o = dual.filling.tall i m in
       let one = difference (right_of fig k) (left_of fig k) (b.right i) (b.left i) (drawn.right k (omega arith)) (drawn.left k (omega arith)) (omega arith) in
       let two = difference (high_of fig k) (low_of fig k) (b.high i) (b.low i) (drawn.high k (omega arith)) (drawn.low k (omega arith)) (omega arith) in
       ap₂ ◌+ℤ◌ (areas_below k (omega arith)) (ap₂ ◌*ℤ◌ one two ∙ pos-*ℤ-pos (b.right i - b.left i) (b.high i - b.low i)) ∙ pos-+ℤ-pos (total (λ v. size_at (place v)) k) (size_at i)
@@ -304,9 +278,6 @@ module _ (lists : Lists) (s d p t : ℕ) (at ranks : List ℕ) (steps : ℕ → 
 -- THE LAWS
 pub boxes_are_dual_of_map : BoxesAreDualOfMap
 boxes_are_dual_of_map lists s d p t at ranks steps fig order h rank of_map drawn =
-    let c = order.canonical.count in
-    let e = length-closed lists s d p t h in
-    let l = h.large in
     let n : ℕ = length at - 3 in
     let m : length at - 2 ≡ suc n = omega arith in
     dual_here lists s d p t at ranks steps fig order h rank of_map n (omega arith) (boxes_are_dual steps n of_map.run)

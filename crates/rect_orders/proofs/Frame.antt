@@ -65,11 +65,8 @@ module _ (lists : Lists) (s d p t : ℕ) (at ranks : List ℕ) (steps : ℕ → 
 
   around : (v : ℕ) → v < length lists → v ≢ s → v ≢ d → v ≢ p → v ≢ t → IsOnceRound (map (end v) (list_of lists v))
   around v l ns nd np nt =
-      let z = here in
-      let m = z.1 in
       let q = rank_of v l in
       let r : ℕ = get_or ranks v 0 in
-      let q0 : r < length at = q.0 in
       let n0 : r ≢ 0 = λ e. ns (sym q.1 ∙ (ap at' e ∙ order.canonical.built.first)) in
       let n1 : r ≢ 1 = λ e. nt (sym q.1 ∙ (ap at' e ∙ order.canonical.built.second)) in
       let n2 : r ≢ length at - 2 = λ e. np (sym q.1 ∙ (ap at' e ∙ order.right)) in
@@ -107,23 +104,17 @@ module _ (lists : Lists) (s d p t : ℕ) (at ranks : List ℕ) (steps : ℕ → 
   -- by the places of the four
   left : (u : ℕ) → HasDart lists s u → u ≢ d → u ≢ t → end s u ≡ run_out
   left u a nd nt =
-      let z = here in
-      let m = z.1 in
       let e = order.canonical.built.first in
-      ap (λ w. end w u) (sym e) ∙ frame.first (get_or ranks u 0) (end (at' 0) u) (stands 0 u (omega arith) (subst (λ w. HasDart lists w u) (sym e) a) (subst (λ w. ¬ IsFrameEdge s d p t w u) (sym e) (off_left u nd nt)))
+      ap (λ w. end w u) (sym e) ∙ frame.first (get_or ranks u 0) (end (at' 0) u) (stands 0 u (omega (arith, here)) (subst (λ w. HasDart lists w u) (sym e) a) (subst (λ w. ¬ IsFrameEdge s d p t w u) (sym e) (off_left u nd nt)))
 
   bottom : (u : ℕ) → HasDart lists t u → u ≢ p → u ≢ s → end t u ≡ rise_out
   bottom u a np ns =
-      let z = here in
-      let m = z.1 in
       let e = order.canonical.built.second in
-      ap (λ w. end w u) (sym e) ∙ frame.second (get_or ranks u 0) (end (at' 1) u) (stands 1 u (omega arith) (subst (λ w. HasDart lists w u) (sym e) a) (subst (λ w. ¬ IsFrameEdge s d p t w u) (sym e) (off_bottom u np ns)))
+      ap (λ w. end w u) (sym e) ∙ frame.second (get_or ranks u 0) (end (at' 1) u) (stands 1 u (omega (arith, here)) (subst (λ w. HasDart lists w u) (sym e) a) (subst (λ w. ¬ IsFrameEdge s d p t w u) (sym e) (off_bottom u np ns)))
 
   right : (u : ℕ) → HasDart lists p u → u ≢ d → u ≢ t → end p u ≡ run_in
   right u a nd nt =
-      let z = here in
-      let m = z.1 in
-      let i : length at - 2 ≡ n + 1 = omega arith in
+      let i : length at - 2 ≡ n + 1 = omega (arith, here) in
       let e : at' (n + 1) ≡ p = ap at' (sym i) ∙ order.right in
       let q = rank_of u (h.near.simple.in_range p u a) in
       let j : length at - 1 ≡ n + 2 = omega arith in
@@ -135,14 +126,11 @@ module _ (lists : Lists) (s d p t : ℕ) (at ranks : List ℕ) (steps : ℕ → 
 
   top_is : (u : ℕ) → HasDart lists d u → u ≢ s → u ≢ p → end d u ≡ rise_in
   top_is u a ns np =
-      let z = here in
-      let m = z.1 in
-      let j : length at - 1 ≡ n + 2 = omega arith in
+      let j : length at - 1 ≡ n + 2 = omega (arith, here) in
       let e : at' (n + 2) ≡ d = ap at' (sym j) ∙ top lists s d p t at ranks steps end h order rank run ends in
-      let q = rank_of u (h.near.simple.in_range d u a) in
       ap (λ w. end w u) (sym e)
       ∙ frame.top (get_or ranks u 0) (end (at' (n + 2)) u)
-      (λ x. ns (sym q.1 ∙ (ap at' x ∙ order.canonical.built.first)))
+      (λ x. ns (sym (rank_of u (h.near.simple.in_range d u a)).1 ∙ (ap at' x ∙ order.canonical.built.first)))
       (stands (n + 2) u (omega arith) (subst (λ w. HasDart lists w u) (sym e) a) (subst (λ w. ¬ IsFrameEdge s d p t w u) (sym e) (off_top u ns np)))
 
 pub labels_of_order : LabelsOfOrder

@@ -23,26 +23,11 @@ cases_pair x y a b =
     ]
 
 cases_three : (a b c x y : ℕ) → IsDartOfThree a b c x y ⊎ (¬ IsDartOfThree a b c x y)
-cases_three a b c x y =
-    elim (cases_pair x y a b) [
-      | inl e ↦ inl (inl e)
-      | inr n ↦ elim (cases_pair x y b c) [
-        | inl e ↦ inl (inr (inl e))
-        | inr n' ↦ elim (cases_pair x y c a) [
-          | inl e ↦ inl (inr (inr e))
-          | inr n'' ↦ inr (λ d. elim d [ inl e ↦ n e | inr (inl e) ↦ n' e | inr (inr e) ↦ n'' e ])
-        ]
-      ]
-    ]
+cases_three a b c x y = grind (arith, cases_pair)
 
 -- a triangle goes along an edge in one direction
 one_direction : (a b c x y : ℕ) → a ≢ b → b ≢ c → c ≢ a → IsDartOfThree a b c x y → IsDartOfThree a b c y x → ⊥
-one_direction a b c x y ab bc ca d e =
-    elim d [
-      | inl h ↦ elim e [ inl k ↦ ab (sym h.0 ∙ k.1) | inr (inl k) ↦ ca (sym k.1 ∙ h.0) | inr (inr k) ↦ bc (sym h.1 ∙ k.0) ]
-      | inr (inl h) ↦ elim e [ inl k ↦ ca (sym h.1 ∙ k.0) | inr (inl k) ↦ bc (sym h.0 ∙ k.1) | inr (inr k) ↦ ab (sym k.1 ∙ h.0) ]
-      | inr (inr h) ↦ elim e [ inl k ↦ bc (sym k.1 ∙ h.0) | inr (inl k) ↦ ab (sym h.1 ∙ k.0) | inr (inr k) ↦ ca (sym h.0 ∙ k.1) ]
-    ]
+one_direction a b c x y ab bc ca d e = grind arith
 
 module _ (lists : Lists) (base : Dart) (at : List ℕ) (triangulation : IsTriangulation lists) (order : IsCanonicalOrder lists base at) (steps : ℕ → Step) (n : ℕ) (size : length at ≡ n + 3) (h : IsOrderRun lists base at order.cycle steps) (apart : (base.0 ≢ base.1) × (base.1 ≢ follows lists base.1 base.0) × (follows lists base.1 base.0 ≢ base.0)) where
   pub whole : IsRun steps (suc n)
@@ -58,20 +43,13 @@ module _ (lists : Lists) (base : Dart) (at : List ℕ) (triangulation : IsTriang
   within : (k i a b v : ℕ) → k < suc n → IsFaceOf steps k i a b v → (a < length at) × (b < length at) × (v < length at)
   within k i a b v l f =
       let w = (whole k l).within in
-      let hi = f.high in
       let g = IsStage-run steps k (IsRun-less steps k (suc n) (omega arith) whole) in
       let c = count-stage_after steps k in
-      let p = g.placed i (omega arith) in
-      let q = g.placed (suc i) (omega arith) in
-      let left = f.left in
-      let right = f.right in
-      let new = f.new in
       (omega arith, omega arith, omega arith)
 
   -- a dart that a step makes, by places
   made_dart : (i j : ℕ) → i < length at → j < length at → IsMadeByStep at steps (name i) (name j) → (k : ℕ) × (place : ℕ) × (k < suc n) × IsDartOf steps k place i j
   made_dart i j l m made =
-      let e = made.earlier in
       let k : made.step < suc n = omega arith in
       let w = within made.step made.place made.a made.b made.v k made.face in (
         made.step,
@@ -95,11 +73,10 @@ module _ (lists : Lists) (base : Dart) (at : List ℕ) (triangulation : IsTriang
   dart_made k place i j l d =
       let f = h.faces k place d.a d.b d.v (omega arith) d.face in
       let f' = IsFaceOfThree-turned lists (name d.a) (name d.b) (name d.v) triangulation.simple f in
-      let f'' = IsFaceOfThree-turned lists (name d.b) (name d.v) (name d.a) triangulation.simple f' in
       elim d.dart [
         | inl e ↦ named i j d.a d.b e.0 e.1 f.dart
         | inr (inl e) ↦ named i j d.b d.v e.0 e.1 f'.dart
-        | inr (inr e) ↦ named i j d.v d.a e.0 e.1 f''.dart
+        | inr (inr e) ↦ named i j d.v d.a e.0 e.1 (IsFaceOfThree-turned lists (name d.b) (name d.v) (name d.a) triangulation.simple f').dart
       ]
     where
       named : (i j a b : ℕ) → i ≡ a → j ≡ b → HasDart lists (name a) (name b) → HasDart lists (name i) (name j)

@@ -36,8 +36,6 @@ two_later_here lists kept v rest simple gone g =
     let other = gone g.other (simple.in_range v g.other g.second) g.second_gone in
     let at_one : get_or rest one.0 0 ≡ g.one = get_or_default rest one.0 0 g.one one.1 ∙ one.2 in
     let at_other : get_or rest other.0 0 ≡ g.other = get_or_default rest other.0 0 g.other other.1 ∙ other.2 in
-    let l = one.1 in
-    let l' = other.1 in
     record {
       j = suc one.0;
       k = suc other.0;
@@ -54,10 +52,6 @@ two_later_here lists kept v rest simple gone g =
 HasTwoLater-behind : (lists : Lists) (u : ℕ) (rest : List ℕ) (i : ℕ) → HasTwoLater lists rest i → HasTwoLater lists (u ∷ rest) (suc i)
 HasTwoLater-behind lists u rest i h =
     let j = h.apart in
-    let l = h.first in
-    let m = h.second in
-    let l' = h.first_in in
-    let m' = h.second_in in
     record {
       j = suc h.j;
       k = suc h.k;

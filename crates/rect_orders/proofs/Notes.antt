@@ -12,18 +12,7 @@ use Rattle.rect_orders.specs.Contours.{IsStacked, IsPrepared}
 
 -- nothing is removable where none is gone
 pub IsPrepared-begin : (lists : Lists) (t s : ℕ) (marked : List Bool) (near : List ℕ) (gone : List Bool) (away stack : List ℕ) → IsTally lists marked near → IsUnmarked lists gone away → stack ≡ [] → IsPrepared lists t s marked near gone away stack
-IsPrepared-begin lists t s marked near gone away stack tally none e = record {
-  tally = tally;
-  tally_gone = IsTally-none lists gone away none;
-  vertices = subst (All (λ v. v < length lists)) (sym e) (All-nil (λ v. v < length lists));
-  stacked = λ v removable.
-      let two = removable.two_gone in
-      let n = none.counts_of_all in
-      elim (cases_lt v (length lists)) [
-        | inl l ↦ absurd (omega (arith, none.zeros v l, two))
-        | inr l ↦ absurd (omega (arith, get_or_past away v 0 (omega arith), two))
-      ];
-}
+IsPrepared-begin lists t s marked near gone away stack tally none e = grind (arith, IsTally-none, All, length, All-nil, cases_lt, get_or_past)
 
 -- A vertex taken off: what is noted was removable before, since the counts of those gone change at its neighbours alone, and these are on the stack where they are marked.
 pub IsPrepared-taken : (lists : Lists) (t s : ℕ) (marked : List Bool) (near : List ℕ) (gone : List Bool) (away stack : List ℕ) (v : ℕ) (marked' : List Bool) (near' : List ℕ) (gone' : List Bool) (away' stack' : List ℕ) → ((u : ℕ) → Contains (list_of lists v) u → is_set marked' u ≡ true → get_or near' u 0 ≡ 2 → Contains stack' u) → ((u : ℕ) → ¬ Contains (list_of lists v) u → get_or away' u 0 ≡ get_or away u 0) → IsTally lists gone' away' → IsNoted lists marked near stack marked' near' stack' → IsPrepared lists t s marked near gone away stack → IsPrepared lists t s marked' near' gone' away' stack'
@@ -49,9 +38,4 @@ IsStacked-prepared lists t s marked near gone away stack h = record { vertices =
 
 -- with another such stack
 pub IsPrepared-stacked : (lists : Lists) (t s : ℕ) (marked : List Bool) (near : List ℕ) (gone : List Bool) (away stack stack' : List ℕ) → IsPrepared lists t s marked near gone away stack → IsStacked t s marked near away stack' → IsPrepared lists t s marked near gone away stack'
-IsPrepared-stacked lists t s marked near gone away stack stack' h new = record {
-  tally = h.tally;
-  tally_gone = h.tally_gone;
-  vertices = subst (λ n. All (λ v. v < n) stack') h.tally.marks_of_all new.vertices;
-  stacked = new.stacked;
-}
+IsPrepared-stacked lists t s marked near gone away stack stack' h new = grind (arith, All)

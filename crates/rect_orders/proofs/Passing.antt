@@ -8,12 +8,10 @@ use Rattle.map_theory.proofs.EntryLemmas.{Contains-here, Contains-there, AllPair
 one_passes : (p : ℕ → Bool) (us : List ℕ) → 1 ≤ count_by p us → (a : ℕ) × Contains us a × (p a ≡ true)
 one_passes p [] l = absurd (omega (arith, l))
 one_passes p (x ∷ us) l =
-    let sum = sum_by-cons (λ u. cond (p u) 1 0) x us in
     elim (cases_Bool (p x)) [
       | inl e ↦ (x, Contains-here x us, e)
       | inr e ↦
-          let zero' = ap {B = ℕ} (λ b. cond b 1 0) e in
-          let rest = one_passes p us (omega (arith, l, sum, zero')) in
+          let rest = one_passes p us (omega (arith, l, sum_by-cons (λ u. cond (p u) 1 0) x us, ap {B = ℕ} (λ b. cond b 1 0) e)) in
           (rest.0, Contains-there x us rest.0 rest.1, rest.2)
     ]
 
@@ -24,40 +22,20 @@ two_pass p (x ∷ us) distinct l =
     let sum = sum_by-cons (λ u. cond (p u) 1 0) x us in
     elim (cases_Bool (p x)) [
       | inl e ↦
-          let one = ap {B = ℕ} (λ b. cond b 1 0) e in
-          let rest = one_passes p us (omega (arith, l, sum, one)) in
+          let rest = one_passes p us (omega (arith, l, sum, ap {B = ℕ} (λ b. cond b 1 0) e)) in
           (x, rest.0, (λ q. head_apart x us distinct (subst (Contains us) (sym q) rest.1)), Contains-here x us, Contains-there x us rest.0 rest.1, e, rest.2)
       | inr e ↦
-          let zero' = ap {B = ℕ} (λ b. cond b 1 0) e in
-          let rest = two_pass p us (AllPairs-tail x us distinct) (omega (arith, l, sum, zero')) in
+          let rest = two_pass p us (AllPairs-tail x us distinct) (omega (arith, l, sum, ap {B = ℕ} (λ b. cond b 1 0) e)) in
           (rest.0, rest.1, rest.2, Contains-there x us rest.0 rest.3, Contains-there x us rest.1 rest.4, rest.5, rest.6)
     ]
 
 -- and where two pass, they are counted
 pub two_counted : (p : ℕ → Bool) (us : List ℕ) (a b : ℕ) → a ≢ b → Contains us a → Contains us b → p a ≡ true → p b ≡ true → 2 ≤ count_by p us
 two_counted p us a b ne c c' e e' =
-    let most = at_least us in
-    omega (arith, most, Contains-counted a us c, Contains-counted b us c')
+    omega (arith, at_least us, Contains-counted a us c, Contains-counted b us c')
   where
     here : (x : ℕ) → cond (eqb x a) 1 0 + cond (eqb x b) 1 0 ≤ cond (p x) 1 0
-    here x = elim (cases_eq x a) [
-      | inl q ↦
-          let one = ap {B = ℕ} (λ z. cond z 1 0) (eq-eqb x a q) in
-          let none = ap {B = ℕ} (λ z. cond z 1 0) (ne_eqb x b (λ r. ne (sym q ∙ r))) in
-          let passes = ap {B = ℕ} (λ z. cond z 1 0) (ap p q ∙ e) in
-          omega (arith, one, none, passes)
-      | inr n ↦ elim (cases_eq x b) [
-        | inl q ↦
-            let none = ap {B = ℕ} (λ z. cond z 1 0) (ne_eqb x a n) in
-            let one = ap {B = ℕ} (λ z. cond z 1 0) (eq-eqb x b q) in
-            let passes = ap {B = ℕ} (λ z. cond z 1 0) (ap p q ∙ e') in
-            omega (arith, one, none, passes)
-        | inr n' ↦
-            let none = ap {B = ℕ} (λ z. cond z 1 0) (ne_eqb x a n) in
-            let none' = ap {B = ℕ} (λ z. cond z 1 0) (ne_eqb x b n') in
-            omega (arith, none, none')
-      ]
-    ]
+    here x = grind (arith, cases_eq, cond, eq-eqb, ne_eqb)
 
     at_least : (us : List ℕ) → count_of a us + count_of b us ≤ count_by p us
     at_least [] = omega arith

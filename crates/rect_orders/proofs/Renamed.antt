@@ -8,8 +8,7 @@ total-single : (f : ℕ → ℕ) (m v : ℕ) → v < m → ((u : ℕ) → u < m 
 total-single f zero v l h = absurd (omega arith)
 total-single f (suc m) v l h = elim (cases_eq v m) [
   | inl e ↦
-      let none = total-same f (λ k. 0) m (λ k o. h k (omega arith) (λ q. omega arith)) in
-      omega (arith, none, total-const 0 m, ap f e)
+      omega (arith, total-same f (λ k. 0) m (λ k o. h k (omega arith) (λ q. omega arith)), total-const 0 m, ap f e)
   | inr ne ↦ omega (arith, total-single f m v (omega arith) (λ u o d. h u (omega arith) d), h m (omega arith) (λ q. omega arith))
 ]
 
@@ -18,16 +17,13 @@ pub total-renamed : (f name back : ℕ → ℕ) (m : ℕ) → ((v : ℕ) → v <
 total-renamed f name back m within within' there here =
     total-same (λ v. f (name v)) (λ v. total (λ i. at v i) m) m
     (λ v l.
-    let n = within v l in
     let size : suc (name v) - name v ≡ 1 = omega arith in
-    let one : (suc (name v) - name v) * f (name v) ≡ f (name v) = ap (λ c. c * f (name v)) size ∙ omega arith in
-    sym (total-stretch (name v) (suc (name v)) (f (name v)) m (omega arith) (omega arith) ∙ one))
+    sym (total-stretch (name v) (suc (name v)) (f (name v)) m (omega arith) (omega arith) ∙ (ap (λ c. c * f (name v)) size ∙ omega arith)))
     ∙ total-swap (λ v i. at v i) m m
     ∙ total-same (λ i. total (λ v. at v i) m) f m
     (λ i l.
-    let e = there i l in
     total-single (λ v. at v i) m (back i) (within' i l) (λ u o ne. off u i (λ q. ne (sym (here u o) ∙ ap back q)))
-    ∙ stretch-in (name (back i)) (suc (name (back i))) (f (name (back i))) i (omega arith) (omega arith) ∙ ap f e)
+    ∙ stretch-in (name (back i)) (suc (name (back i))) (f (name (back i))) i (omega arith) (omega arith) ∙ ap f (there i l))
   where
     at : ℕ → ℕ → ℕ
     at v i = stretch (name v) (suc (name v)) (f (name v)) i

@@ -73,8 +73,7 @@ module _ (lists : Lists) (s d p t : ℕ) (at : List ℕ) (steps : ℕ → Step) 
           | inl old ↦ old
           | inr r ↦ elim r [
             | inl e ↦
-                let i' = same_name i (n + 2) (omega arith) (omega arith) (e.0 ∙ sym top) in
-                absurd (omega (arith, i', less, l, size))
+                absurd (omega (arith, same_name i (n + 2) (omega arith) (omega arith) (e.0 ∙ sym top), less, l, size))
             | inr e ↦ absurd (o.1 (same_name i 1 (omega arith) (omega arith) (e.0 ∙ sym bottom), same_name j (n + 2) l (omega arith) (e.1 ∙ sym top)))
           ]
         ],
@@ -88,17 +87,14 @@ module _ (lists : Lists) (s d p t : ℕ) (at : List ℕ) (steps : ℕ → Step) 
       elim ((joined 1 (n + 1) (omega (arith, some)) (omega arith)).0 a) [
         | inl b ↦ absurd (omega (arith, b.0))
         | inr (k', l, over) ↦
-            let new = over.new in
             let same : k' ≡ k = omega arith in
             let over' = subst (λ k. StandsOver steps k 1 (n + 1)) same over in
             let w = (all k (omega arith)).within in
-            let hi = over'.high in
             let g = IsStage-run steps k (IsRun-less steps k (suc n) (omega arith) all) in
-            let wide = g.wide in
             let z : ℕ = (stage_after steps k).width - 1 in
             let last : (stage_after steps k).vertex z ≡ 1 = g.end z (omega arith) in
             let q : over'.place ≡ z = sym (g.own over'.place (omega arith)) ∙ (ap (stage_after steps k).place (over'.vertex ∙ sym last) ∙ g.own z (omega arith)) in
-            omega (arith, q, hi, w, wide)
+            omega (arith, q, over'.high, w, g.wide)
       ]
 
   -- a covered vertex is neither of the base nor the right one
@@ -107,46 +103,36 @@ module _ (lists : Lists) (s d p t : ℕ) (at : List ℕ) (steps : ℕ → Step) 
       let short_all = short_run steps n all some end in
       let g = IsStage-run short k (IsRun-less short k (suc n) (omega arith) short_all) in
       let w = (short_all k l).within in
-      let lo = c.low in
-      let hi = c.high in
-      let e = c.vertex in
       let own = g.own c.place (omega arith) in
       let count = count-stage_after short k in
       let older = g.placed c.place (omega arith) in
-      let place : (stage_after short k).place v ≡ c.place = ap (stage_after short k).place (sym e) ∙ own in
-      let wide = g.wide in
+      let place : (stage_after short k).place v ≡ c.place = ap (stage_after short k).place (sym c.vertex) ∙ own in
       let z : ℕ = (stage_after short k).width - 1 in
       let first : (stage_after short k).place 0 ≡ 0 = ap (stage_after short k).place (sym g.begin) ∙ g.own 0 (omega arith) in
       let second : (stage_after short k).place 1 ≡ z = ap (stage_after short k).place (sym (g.end z (omega arith))) ∙ g.own z (omega arith) in
-      let not_first : v ≢ 0 = λ q. (let r = ap (stage_after short k).place q in omega (arith, r, first, place, lo)) in
-      let not_second : v ≢ 1 = λ q. (let r = ap (stage_after short k).place q in omega (arith, r, second, place, hi, w)) in
+      let not_first : v ≢ 0 = λ q. (let r = ap (stage_after short k).place q in omega (arith, r, first, place, c.low)) in
+      let not_second : v ≢ 1 = λ q. (let r = ap (stage_after short k).place q in omega (arith, r, second, place, c.high, w)) in
       let not_right : v ≢ n + 1 = λ q.
       elim (cases_eq k n) [
         | inl f ↦ right_uncovered steps n all some end ends_right (subst (λ k. IsCovered short k (n + 1)) f (subst (IsCovered short k) q c))
-        | inr ne ↦ omega (arith, q, older, count, e, ne, l)
+        | inr ne ↦ omega (arith, q, older, count, c.vertex, ne, l)
       ] in
-      (omega (arith, not_first, not_second), omega (arith, not_right, older, count, e, l, size))
+      (omega (arith, not_first, not_second), omega (arith, not_right, older, count, c.vertex, l, size))
 
   two : HaveTwoLater short (suc n)
   two = HaveTwoLater-from short (suc n) (short_run steps n all some end) (λ k v l c.
       let inner = covered_inner k v l c in
       let later = order.later v inner.0 inner.1 in
-      let a = over later.j later.first later.first_in later.one inner.0 in
       let b = over later.k later.second later.second_in later.other inner.0 in
       let j = later.first in
-      let k' = later.second in
-      let i = inner.0 in
-      let jn = later.first_in in
-      let kn = later.second_in in
       let ne = later.apart in
-      (later.j - 2, later.k - 2, (λ e. ne (omega arith)), omega arith, omega arith, a, b))
+      (later.j - 2, later.k - 2, (λ e. ne (omega arith)), omega arith, omega arith, over later.j later.first later.first_in later.one inner.0, b))
     where
       over : {v : ℕ} (j : ℕ) → v < j → j < length at → HasDart lists (name v) (name j) → 2 ≤ v → StandsOver short (j - 2) v (j - 2 + 2)
       over {v} j less l a inner =
           elim ((joined_here v j less l).0 a) [
             | inl b ↦ absurd (omega (arith, b.0, inner))
             | inr (k, m, h) ↦
-                let new = h.new in
                 let e : k ≡ j - 2 = omega arith in
                 let f : j ≡ j - 2 + 2 = omega arith in
                 subst (λ z. StandsOver short (j - 2) v z) f (subst (λ z. StandsOver short z v j) e h)
@@ -158,9 +144,7 @@ module _ (lists : Lists) (s d p t : ℕ) (at : List ℕ) (steps : ℕ → Step) 
 -- THE LAW
 pub rect_order_is_run : RectOrderIsRun
 rect_order_is_run lists s d p t at steps h order run =
-    let c = order.canonical.count in
     let e = length-closed lists s d p t h in
-    let l = h.large in
     let size : length at ≡ length at - 3 + 3 = omega arith in
     let m : suc (length at - 3) ≡ length at - 2 = omega arith in
     record {

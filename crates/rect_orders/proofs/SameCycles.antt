@@ -15,11 +15,9 @@ same_cycle lists s t ws ws' simple one two x c =
     (entries_closed Both ws t x one.distinct (last_on lists s t ws simple one)
     (last_on lists s t ws simple one, (last_on lists s t ws' simple two, next-last lists s t ws simple one ∙ sym (next-last lists s t ws' simple two)))
     (λ z h.
-    let e = h.1.1 in
-    let there : Contains ws' (entry_after z ws) = subst (Contains ws') (sym e) (Contains-entry_after z ws' h.1.0) in
     let turn : entry_after (entry_after z ws) ws ≡ entry_after (entry_after z ws) ws' =
-    sym (one.turns z h.0) ∙ (ap (λ y. follows lists y z) e ∙ (two.turns z h.1.0 ∙ ap (λ y. entry_after y ws') (sym e))) in
-    (Contains-entry_after z ws h.0, (there, turn))) c).1
+    sym (one.turns z h.0) ∙ (ap (λ y. follows lists y z) h.1.1 ∙ (two.turns z h.1.0 ∙ ap (λ y. entry_after y ws') (sym h.1.1))) in
+    (Contains-entry_after z ws h.0, (subst (Contains ws') (sym h.1.1) (Contains-entry_after z ws' h.1.0), turn))) c).1
   where
     Both : ℕ → Type 0
     Both z = Contains ws z × (Contains ws' z × (entry_after z ws ≡ entry_after z ws'))

@@ -66,47 +66,14 @@ module _ (steps : ℕ → Step) (n : ℕ) (whole : IsRun steps (suc n)) (some : 
       subst (λ k. 3 ≤ (stage_after steps k).width) e (omega (arith, w))
 
   pub short_run : IsRun short (suc n)
-  short_run k l =
-      elim (cases_eq k n) [
-        | inl e ↦
-            let lo = last_over_all in
-            let m : ℕ = n - 1 in
-            let w = wide m (omega arith) in
-            let first = ap Step.first short-last in
-            let last = ap Step.last short-last in
-            let g = ap Stage.width (stage-same n (omega arith)) in
-            subst (λ k. IsStep (stage_after short k) (short k)) (sym e) record { order = omega arith; within = omega arith }
-        | inr ne ↦
-            let h = whole k l in
-            let old = short-old k (omega arith) in
-            let g = stage-same k (omega arith) in
-            subst (λ s. IsStep (stage_after short k) s) (sym old) (subst (λ g. IsStep g (steps k)) (sym g) h)
-      ]
+  short_run k l = grind (arith, cases_eq, last_over_all, wide, Step, short-last, Stage, stage-same, IsStep, stage_after, short, short-old)
 
   -- what is put over what, but for the last over the second of the base
   over-old : (k u v : ℕ) → k < n → StandsOver steps k u v → StandsOver short k u v
-  over-old k u v l h =
-      let old = short-old k l in
-      let g = stage-same k (omega arith) in
-      record {
-        new = h.new;
-        place = h.place;
-        low = subst (λ s. s.first ≤ h.place) (sym old) h.low;
-        high = subst (λ s. h.place ≤ s.last) (sym old) h.high;
-        vertex = ap (λ g. g.vertex h.place) g ∙ h.vertex;
-      }
+  over-old k u v l h = grind (arith, short-old, stage-same)
 
   over-short : (k u v : ℕ) → k < n → StandsOver short k u v → StandsOver steps k u v
-  over-short k u v l h =
-      let old = short-old k l in
-      let g = stage-same k (omega arith) in
-      record {
-        new = h.new;
-        place = h.place;
-        low = subst (λ s. s.first ≤ h.place) old h.low;
-        high = subst (λ s. h.place ≤ s.last) old h.high;
-        vertex = sym (ap (λ g. g.vertex h.place) g) ∙ h.vertex;
-      }
+  over-short k u v l h = grind (arith, short-old, stage-same)
 
   sound : (k : ℕ) → k ≤ suc n → IsStage (stage_after steps k)
   sound k l = IsStage-run steps k (IsRun-less steps k (suc n) l whole)
@@ -169,12 +136,7 @@ module _ (steps : ℕ → Step) (n : ℕ) (whole : IsRun steps (suc n)) (some : 
                     new = h'.new;
                     place = h'.place;
                     low = omega arith;
-                    high = elim (cases_lt h'.place (steps n).last) [
-                      | inl less ↦ omega arith
-                      | inr more ↦
-                          let p : h'.place ≡ (steps n).last = omega arith in
-                          absurd (ne (sym h'.vertex ∙ (ap (stage_after steps n).vertex p ∙ (sound n (omega arith)).end (steps n).last last_over_all.1), h'.new))
-                    ];
+                    high = grind (arith, cases_lt, stage_after, sound, last_over_all);
                     vertex = ap (λ g. g.vertex h'.place) g ∙ h'.vertex;
                   },
                 )
@@ -202,16 +164,4 @@ module _ (steps : ℕ → Step) (n : ℕ) (whole : IsRun steps (suc n)) (some : 
 
   -- so it is a run that boxes can be made of
   pub IsRectRun-short : ((k : ℕ) → suc k ≡ n → suc (steps k).last ≡ (stage_after steps k).width) → HaveTwoLater short (suc n) → IsRectRun short n
-  IsRectRun-short right two =
-      let over = last_over_all in
-      let g = ap Stage.width (stage-same n (omega arith)) in
-      let first = ap Step.first short-last in
-      let last = ap Step.last short-last in
-      let o = (whole n (omega arith)).order in
-      record {
-        labelled = two_later_sort short (suc n) short_run two;
-        some = some;
-        right = λ k e. ap (λ s. suc s.last) (short-old k (omega arith)) ∙ (right k e ∙ sym (ap Stage.width (stage-same k (omega arith))));
-        top_first = first ∙ over.0;
-        top_last = omega arith;
-      }
+  IsRectRun-short right two = grind (arith, last_over_all, Stage, stage-same, Step, short-last, two_later_sort, short, short_run, short-old)

@@ -20,18 +20,13 @@ module _ (lists : Lists) (s d p t : ℕ) (h : IsRectMap lists s d p t) where
   order_of_left zero kept ws rest r n = (s ∷ t ∷ follows C t s ∷ rest, IsRectLeft-three lists s d p t h kept ws rest r n)
   order_of_left (suc k) kept ws rest r n =
       let found = some_two_gone lists s d p t h kept ws rest r in
-      let v = found.0 in
-      let less = IsRectLeft-less lists s d p t h kept ws rest r v found.1 found.2 (omega arith) in
-      let n' = less.3 in
-      order_of_left k (kept_but kept v) less.0 (v ∷ rest) less.2 (omega arith)
+      let less = IsRectLeft-less lists s d p t h kept ws rest r found.0 found.1 found.2 (omega arith) in
+      order_of_left k (kept_but kept found.0) less.0 (found.0 ∷ rest) less.2 (omega arith)
 
 -- THE LAW
 pub some_rect_order : SomeRectOrder
 some_rect_order lists s d p t h =
     let n = length lists in
-    let large = h.large in
-    let same = length-closed lists s d p t h in
     let kept : ℕ → Bool = λ v. ltb v n in
     let begin = IsRectLeft-begin lists s d p t h kept (λ v l. lt-ltb v n l) (λ v e. ltb-true v n e) in
-    let count = begin.4.left.count in
-    order_of_left lists s d p t h (n - 5) (kept_but (kept_but kept d) p) begin.1 (p ∷ d ∷ []) begin.4 (omega arith)
+    order_of_left lists s d p t h (n - 5) (kept_but (kept_but kept d) p) begin.1 (p ∷ d ∷ []) begin.4 (omega (arith, length-closed lists s d p t h))

@@ -68,15 +68,12 @@ module _ (lists : Lists) (s d p t : ℕ) (h : IsRectMap lists s d p t) (kept : �
     face_old a b c ka kb kc f =
         let new = (more lists s d p t h).simple in
         let f' = IsFaceOfThree-turned C a b c new f in
-        let f'' = IsFaceOfThree-turned C b c a new f' in
         let ab = old_dart a b f.dart ka kb in
-        let bc = old_dart b c f'.dart kb kc in
-        let ca = old_dart c a f''.dart kc ka in
         record {
           dart = ab;
           second = sym (same_follows b a (simple.both_ways a b ab) kb ka) ∙ f.second;
-          third = sym (same_follows c b (simple.both_ways b c bc) kc kb) ∙ f.third;
-          round = sym (same_follows a c (simple.both_ways c a ca) ka kc) ∙ f.round;
+          third = sym (same_follows c b (simple.both_ways b c (old_dart b c f'.dart kb kc)) kc kb) ∙ f.third;
+          round = sym (same_follows a c (simple.both_ways c a (old_dart c a (IsFaceOfThree-turned C b c a new f').dart kc ka)) ka kc) ∙ f.round;
         }
 
     IsFan-old : (v a : ℕ) (mid : List ℕ) (b : ℕ) → IsFan C kept v a mid b → IsFan lists kept v a mid b
@@ -89,8 +86,7 @@ module _ (lists : Lists) (s d p t : ℕ) (h : IsRectMap lists s d p t) (kept : �
           neighbours = subst (λ m. (u : ℕ) → HasDart m v u ↔ Contains row u) same_restricted fan.neighbours;
           faces = λ i l.
               let one = around i (omega arith) in
-              let two = around (i + 1) (omega arith) in
-              face_old v (get_or row i 0) (get_or row (i + 1) 0) one.0 one.1 two.1 (fan.faces i l);
+              face_old v (get_or row i 0) (get_or row (i + 1) 0) one.0 one.1 (around (i + 1) (omega arith)).1 (fan.faces i l);
         }
 
     -- a vertex taken off the one is taken off the other

@@ -16,18 +16,7 @@ covers-inside : (b : Boxes) (v a c : ℕ) → IsInside b v a c → covers b v a 
 covers-inside b v a c i = stretch-in (b.left v) (b.right v) _ a i.left i.right ∙ stretch-in (b.low v) (b.high v) 1 c i.low i.high
 
 covers-outside : (b : Boxes) (v a c : ℕ) → (IsInside b v a c → ⊥) → covers b v a c ≡ 0
-covers-outside b v a c out = elim (cases_lt a (b.left v)) [
-  | inl l ↦ stretch-below (b.left v) (b.right v) _ a l
-  | inr l ↦ elim (cases_lt a (b.right v)) [
-    | inr m ↦ stretch-above (b.left v) (b.right v) _ a m
-    | inl m ↦
-        stretch-in (b.left v) (b.right v) _ a l m
-        ∙ elim (cases_lt c (b.low v)) [
-          | inl o ↦ stretch-below (b.low v) (b.high v) 1 c o
-          | inr o ↦ elim (cases_lt c (b.high v)) [ inr p ↦ stretch-above (b.low v) (b.high v) 1 c p | inl p ↦ absurd (out record { left = l; right = m; low = o; high = p }) ]
-        ]
-  ]
-]
+covers-outside b v a c out = grind (arith, cases_lt, stretch-below, stretch-above, stretch-in)
 
 -- boxes whose cells are cells of the grid
 covers-area : (b : Boxes) (v width top : ℕ) → b.left v ≤ b.right v → b.low v ≤ b.high v → b.right v ≤ width → b.high v ≤ top → total (λ a. total (λ c. covers b v a c) top) width ≡ (b.right v - b.left v) * (b.high v - b.low v)
@@ -65,19 +54,4 @@ area_of-covering b m width top h =
 
 -- boxes with no cell in common are apart
 pub apart_of : (b : Boxes) (u v : ℕ) → b.left u < b.right u → b.low u < b.high u → b.left v < b.right v → b.low v < b.high v → ((a c : ℕ) → IsInside b u a c → IsInside b v a c → ⊥) → AreApart b u v
-apart_of b u v wu tu wv tv none = elim (cases_lt (b.left v) (b.right u)) [
-  | inr l ↦ inl (inl l)
-  | inl l ↦ elim (cases_lt (b.left u) (b.right v)) [
-    | inr m ↦ inl (inr m)
-    | inl m ↦ elim (cases_lt (b.low v) (b.high u)) [
-      | inr o ↦ inr (inl o)
-      | inl o ↦ elim (cases_lt (b.low u) (b.high v)) [
-        | inr p ↦ inr (inr p)
-        | inl p ↦
-            let x = common (b.left u) (b.right u) (b.left v) (b.right v) wu wv m l in
-            let y = common (b.low u) (b.high u) (b.low v) (b.high v) tu tv p o in
-            absurd (none x.at y.at record { left = x.first.0; right = x.first.1; low = y.first.0; high = y.first.1 } record { left = x.second.0; right = x.second.1; low = y.second.0; high = y.second.1 })
-      ]
-    ]
-  ]
-]
+apart_of b u v wu tu wv tv none = grind (arith, cases_lt, common)

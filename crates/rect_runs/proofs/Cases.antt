@@ -29,18 +29,11 @@ wheel_y = refl
 
 wheel_steps : IsRun wheel 3
 unfolding vertex_after
-wheel_steps zero l = record { order = omega arith; within = omega arith }
-wheel_steps (suc zero) l = record { order = omega arith; within = omega arith }
-wheel_steps (suc (suc zero)) l = record { order = omega arith; within = omega arith }
-wheel_steps (suc (suc (suc k))) l = absurd (omega arith)
+wheel_steps x0 l = grind arith
 
 wheel_sorted : (k : ℕ) → k < 3 → IsSorted (labels wheel k) (wheel k)
 unfolding labels_after
-wheel_sorted zero l i a b e = absurd (omega arith)
-wheel_sorted (suc zero) l i a b e = absurd (omega arith)
-wheel_sorted (suc (suc zero)) l zero a b e = refl
-wheel_sorted (suc (suc zero)) l (suc i) a b e = absurd (omega arith)
-wheel_sorted (suc (suc (suc k))) l i a b e = absurd (omega arith)
+wheel_sorted x0 l x2 a b e = grind arith
 
 pub wheel_run : IsLabelledRun wheel 3
 wheel_run = record { run = wheel_steps; sorted = wheel_sorted }

@@ -31,23 +31,13 @@ module _ (steps : ℕ → Step) (n : ℕ) (b : Boxes) (width top : ℕ) (h : IsL
   upon = settled_high steps n b width top h 0 0 (omega arith) (omega arith) refl
 
   inside_base : (v a c : ℕ) → v < 2 → IsInside b v a c → ((v ≡ 0) × (b.low 0 ≤ c)) ⊎ ((v ≡ 1) × (c < b.low 0))
-  inside_base v a c l i =
-      let low = i.low in
-      let high = i.high in
-      let up = upon in
-      elim (cases_eq v 0) [ inl e ↦ inl (e, omega (arith, ap b.low e)) | inr ne ↦ let e : v ≡ 1 = omega arith in inr (e, omega (arith, ap b.high e)) ]
+  inside_base v a c l i = grind (arith, cases_eq, upon)
 
   AreCells-base : AreCells steps b 0
   AreCells-base =
       let up = upon in
-      let z0 = h.zeros.0 in
-      let z1 = h.zeros.1 in
-      let z2 = h.zeros.2 in
       record {
         found = λ a c u.
-            let r = u.right in
-            let t = u.high in
-            let w = u.within in
             let wider = right_le steps n b width top h 0 0 1 (omega arith) (omega arith) (omega arith) in
             elim (cases_eq u.place 0) [
               | inl e ↦
@@ -91,31 +81,18 @@ module _ (steps : ℕ → Step) (n : ℕ) (b : Boxes) (width top : ℕ) (h : IsL
     pub new_outside : (a d : ℕ) → IsUnder g b a d → IsInside b (k + 2) a d → ⊥
     new_outside a d u i =
         let t = turn_at steps n b width top h k l in
-        let lo = t.low in
-        let hi = t.high in
         let w = (step_at steps n b width top h k l).within in
         let within = u.within in
-        let r = u.right in
-        let up = u.high in
-        let left = i.left in
-        let low = i.low in
         elim (cases_lt c u.place) [
-          | inr m ↦ omega (arith, right_le steps n b width top h k u.place c (omega arith) m (omega arith), h.right_is k c l lo (omega arith))
-          | inl m ↦ omega (arith, high_le steps n b width top h k (suc c) u.place (omega arith) m within, h.high_is k (suc c) l (omega arith) hi)
+          | inr m ↦ omega (arith, right_le steps n b width top h k u.place c (omega arith) m (omega arith), h.right_is k c l t.low (omega arith))
+          | inl m ↦ omega (arith, high_le steps n b width top h k (suc c) u.place (omega arith) m within, h.high_is k (suc c) l (omega arith) t.high)
         ]
 
     -- what was under the contour is so after the step
     still_under : (a d : ℕ) → IsUnder g b a d → IsUnder (after g s) b a d
     still_under a d u =
-        let t = turn_at steps n b width top h k l in
-        let lo = t.low in
-        let hi = t.high in
-        let step = step_at steps n b width top h k l in
-        let w = step.within in
-        let o = step.order in
+        let w = (step_at steps n b width top h k l).within in
         let within = u.within in
-        let r = u.right in
-        let up = u.high in
         let p = u.place in
         let at_first : a < b.right (g.vertex s.first) → d < b.high (g.vertex s.first) → IsUnder (after g s) b a d = λ x y.
         let e = vertex_after-low g s s.first (omega arith) in
@@ -129,7 +106,7 @@ module _ (steps : ℕ → Step) (n : ℕ) (b : Boxes) (width top : ℕ) (h : IsL
               let e = vertex_after-low g s p m in
               record { place = p; within = omega arith; right = omega (arith, ap b.right e); high = omega (arith, ap b.high e) }
           | inl m ↦ elim (cases_lt p s.last) [
-            | inr q ↦ from_high p q within r up
+            | inr q ↦ from_high p q within u.right u.high
             | inl q ↦ elim (cases_lt c p) [
               | inr f ↦ at_first (omega (arith, at_left, h.right_is k p l (omega arith) f)) (omega (arith, high_le steps n b width top h k s.first p (omega arith) (omega arith) within))
               | inl f ↦ from_high s.last (omega arith) w (omega (arith, right_le steps n b width top h k p s.last (omega arith) (omega arith) w)) (omega (arith, at_bottom, h.high_is k p l f (omega arith)))
@@ -140,26 +117,17 @@ module _ (steps : ℕ → Step) (n : ℕ) (b : Boxes) (width top : ℕ) (h : IsL
     AreCells-after : AreCells steps b k → AreCells steps b (suc k)
     AreCells-after before =
         let step = step_at steps n b width top h k l in
-        let w = step.within in
-        let o = step.order in
         let count = count-stage_after steps k in
         let older : (a d : ℕ) → IsUnder g b a d → (v : ℕ) × (v < suc k + 2) × IsInside b v a d = λ a d u. let f = before.found a d u in let m = f.1 in (f.0, omega arith, f.2) in
         record {
           found = λ a d u.
-              let r = u.right in
-              let up = u.high in
               let m = mid in
-              let m1 = m.right in
-              let m2 = m.high in
               elim (cases_place g s u.place step u.within) [
                 | inl p ↦
-                    let p1 = p.low in
-                    let e = vertex_after-low g s u.place p1 in
+                    let e = vertex_after-low g s u.place p.low in
                     older a d record { place = u.place; within = omega arith; right = omega (arith, ap b.right e); high = omega (arith, ap b.high e) }
                 | inr (inr p) ↦
-                    let p1 = p.high in
-                    let p2 = p.to in
-                    let e = vertex_after-high g s u.place p.from (omega arith) p1 p2 in
+                    let e = vertex_after-high g s u.place p.from (omega arith) p.high p.to in
                     older a d record { place = p.from; within = p.within; right = omega (arith, ap b.right e); high = omega (arith, ap b.high e) }
                 | inr (inl p) ↦
                     let e = vertex_after-new g s u.place p.new ∙ count in
@@ -168,7 +136,7 @@ module _ (steps : ℕ → Step) (n : ℕ) (b : Boxes) (width top : ℕ) (h : IsL
                     elim (cases_lt a (b.left (k + 2))) [
                       | inl x ↦ older a d record { place = s.first; within = omega arith; right = omega (arith, at_left); high = omega arith }
                       | inr x ↦ elim (cases_lt d (b.low (k + 2))) [
-                        | inl y ↦ older a d record { place = s.last; within = w; right = omega arith; high = omega (arith, at_bottom) }
+                        | inl y ↦ older a d record { place = s.last; within = step.within; right = omega arith; high = omega (arith, at_bottom) }
                         | inr y ↦ (k + 2, omega arith, record { left = x; right = r'; low = y; high = up' })
                       ]
                     ]
@@ -178,8 +146,6 @@ module _ (steps : ℕ → Step) (n : ℕ) (b : Boxes) (width top : ℕ) (h : IsL
             | inr new ↦
                 let z : v ≡ k + 2 = omega arith in
                 let e = vertex_after-new g s (suc s.first) refl ∙ count ∙ sym z in
-                let r = i.right in
-                let up = i.high in
                 record { place = suc s.first; within = omega arith; right = omega (arith, ap b.right e); high = omega (arith, ap b.high e) }
           ];
           alone = λ u v a d mu mv iu iv. elim (cases_lt u (k + 2)) [

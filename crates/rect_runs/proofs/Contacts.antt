@@ -33,8 +33,6 @@ column g b i (suc d) c h p q = elim (cases_lt c (b.low (g.vertex i))) [
   | inl a ↦
       let e : i + suc d ≡ suc i + d = omega arith in
       let r = column g b (suc i) d c (λ j m o. h j (omega arith) (omega arith)) (omega (arith, h i (omega arith) (omega arith))) (omega (arith, ap (λ j. b.low (g.vertex j)) e)) in
-      let f = r.from in
-      let t = r.to in
       record { place = r.place; from = omega arith; to = omega arith; low = r.low; high = r.high }
 ]
 
@@ -46,8 +44,6 @@ row g b i (suc d) a h p q = elim (cases_lt a (b.right (g.vertex i))) [
   | inr m ↦
       let e : i + suc d ≡ suc i + d = omega arith in
       let r = row g b (suc i) d a (λ j x y. h j (omega arith) (omega arith)) (omega (arith, h i (omega arith) (omega arith))) (omega (arith, ap (λ j. b.right (g.vertex j)) e)) in
-      let f = r.from in
-      let t = r.to in
       record { place = r.place; from = omega arith; to = omega arith; left = r.left; right = r.right }
 ]
 
@@ -77,30 +73,21 @@ module _ (steps : ℕ → Step) (n : ℕ) (b : Boxes) (width top : ℕ) (h : IsL
   left_shares : (j : ℕ) → s.first ≤ j → j ≤ c → IsBeside b (g.vertex j) z
   left_shares j p q =
       let stair = stair_at steps n b width top h (suc k) l in
-      let m = between steps n b width top h k l stair in
-      let first = m.low in
+      let first = (between steps n b width top h k l stair).low in
       let t = turn_at steps n b width top h k l in
-      let hi = t.high in
       let w = (step_at steps n b width top h k l).within in
       record {
         line = h.right_is k j l p q;
-        first = elim (cases_eq j s.first) [
-          | inl e ↦ omega (arith, ap (λ j. b.low (g.vertex j)) e)
-          | inr ne ↦ omega (arith, (h.numbered k (omega arith)).rise s.first j (omega arith) (t.rises s.first (omega arith) (omega arith)) (omega arith))
-        ];
+        first = grind (arith, cases_eq);
         second = omega (arith, over_low steps n b width top h k l stair j p q);
       }
 
   below_shares : (j : ℕ) → c < j → j ≤ s.last → IsAbove b (g.vertex j) z
   below_shares j p q =
-      let stair = stair_at steps n b width top h (suc k) l in
-      let m = between steps n b width top h k l stair in
+      let m = between steps n b width top h k l (stair_at steps n b width top h (suc k) l) in
       let last = m.left in
-      let wider = m.right in
       let t = turn_at steps n b width top h k l in
-      let lo = t.low in
       let w = (step_at steps n b width top h k l).within in
-      let wide = h.wide z (omega arith) in
       record {
         line = h.high_is k j l p q;
         first = elim (cases_eq j s.last) [
@@ -119,10 +106,7 @@ module _ (steps : ℕ → Step) (n : ℕ) (b : Boxes) (width top : ℕ) (h : IsL
       }
 
   pub joined_shares : (u v : ℕ) → StandsOver steps k u v → ShareSide b u v
-  joined_shares u v p = elim (cases_lt c p.place) [
-    | inr a ↦ inl (inl (subst (λ u. IsBeside b u v) p.vertex (subst (IsBeside b (g.vertex p.place)) (sym p.new) (left_shares p.place p.low a))))
-    | inl a ↦ inr (inl (subst (λ u. IsAbove b u v) p.vertex (subst (IsAbove b (g.vertex p.place)) (sym p.new) (below_shares p.place a p.high))))
-  ]
+  joined_shares u v p = grind (arith, cases_lt, IsBeside, left_shares, IsAbove, below_shares)
 
   -- what shares a side is a neighbour
   module _ (u : ℕ) (older : u < z) where
@@ -131,27 +115,18 @@ module _ (steps : ℕ → Step) (n : ℕ) (b : Boxes) (width top : ℕ) (h : IsL
 
     shares_left : IsBeside b u z → StandsOver steps k u z
     shares_left x =
-        let line = x.line in
         let t = turn_at steps n b width top h k l in
-        let lo = t.low in
-        let hi = t.high in
         let w = (step_at steps n b width top h k l).within in
-        let o = (step_at steps n b width top h k l).order in
         let m = between steps n b width top h k l (stair_at steps n b width top h (suc k) l) in
-        let m1 = m.high in
         let wu = h.wide u (omega arith) in
         let d = common (b.low u) (b.high u) (b.low z) (b.high z) (h.tall u (omega arith)) (h.tall z (omega arith)) x.first x.second in
         let d1 = d.first in
         let d2 = d.second in
         let e : c ≡ s.first + (c - s.first) = omega arith in
-        let level : b.low (g.vertex c) ≤ b.low z = elim (cases_Bool (labels steps k c)) [
-          | inl f ↦ omega (arith, ((h.put k l).at_run f).0)
-          | inr f ↦ omega (arith, ((h.put k l).at_rise f).1)
-        ] in
+        let level : b.low (g.vertex c) ≤ b.low z = grind (arith, cases_Bool, labels) in
         let f = column g b s.first (c - s.first) d.at
         (λ j p q. settled_high steps n b width top h k j (omega arith) (omega arith) (t.rises j p (omega arith))) (omega (arith, d2.1)) (omega (arith, d2.0, ap (λ j. b.low (g.vertex j)) e)) in
         let f1 = f.from in
-        let f2 = f.to in
         let at = h.right_is k f.place l f1 (omega arith) in
         let beyond = (h.put k l).left f.place (omega arith) in
         let a : ℕ = b.left z - 1 in
@@ -165,27 +140,17 @@ module _ (steps : ℕ → Step) (n : ℕ) (b : Boxes) (width top : ℕ) (h : IsL
 
     shares_below : IsAbove b u z → StandsOver steps k u z
     shares_below x =
-        let line = x.line in
         let t = turn_at steps n b width top h k l in
-        let lo = t.low in
-        let hi = t.high in
         let w = (step_at steps n b width top h k l).within in
-        let o = (step_at steps n b width top h k l).order in
         let m = between steps n b width top h k l (stair_at steps n b width top h (suc k) l) in
-        let m1 = m.right in
         let tu = h.tall u (omega arith) in
         let d = common (b.left u) (b.right u) (b.left z) (b.right z) (h.wide u (omega arith)) (h.wide z (omega arith)) x.first x.second in
         let d1 = d.first in
         let d2 = d.second in
         let e : s.last ≡ suc c + (s.last - suc c) = omega arith in
-        let level : b.left (g.vertex (suc c)) ≤ b.left z = elim (cases_Bool (labels steps k c)) [
-          | inl f ↦ omega (arith, ((h.put k l).at_run f).1)
-          | inr f ↦ omega (arith, ((h.put k l).at_rise f).0)
-        ] in
+        let level : b.left (g.vertex (suc c)) ≤ b.left z = grind (arith, cases_Bool, labels) in
         let f = row g b (suc c) (s.last - suc c) d.at
         (λ j p q. settled_right steps n b width top h k j (omega arith) (omega arith) (t.runs j (omega arith) (omega arith))) (omega (arith, d2.0)) (omega (arith, d2.1, ap (λ j. b.right (g.vertex j)) e)) in
-        let f1 = f.from in
-        let f2 = f.to in
         let at = h.high_is k f.place l (omega arith) (omega arith) in
         let beyond = (h.put k l).below f.place (omega arith) (omega arith) in
         let a : ℕ = b.low z - 1 in
@@ -200,34 +165,21 @@ module _ (steps : ℕ → Step) (n : ℕ) (b : Boxes) (width top : ℕ) (h : IsL
     -- nothing older is right of the new box, or above it
     none_right : IsBeside b z u → ⊥
     none_right x =
-        let line = x.line in
-        let wu = h.wide u (omega arith) in
-        let wz = h.wide z (omega arith) in
         let d = common (b.low z) (b.high z) (b.low u) (b.high u) (h.tall z (omega arith)) (h.tall u (omega arith)) x.first x.second in
         let d1 = d.first in
         let d2 = d.second in
         let under = (cells_at steps n b width top h k (omega arith)).under u (b.right z) d.at older record { left = omega arith; right = omega arith; low = d2.0; high = d2.1 } in
-        let r = under.right in
         let a : ℕ = b.right z - 1 in
         new_outside steps n b width top h k l a d.at record { place = under.place; within = under.within; right = omega arith; high = under.high } record { left = omega arith; right = omega arith; low = d1.0; high = d1.1 }
 
     none_above : IsAbove b z u → ⊥
     none_above x =
-        let line = x.line in
-        let tu = h.tall u (omega arith) in
-        let tz = h.tall z (omega arith) in
         let d = common (b.left z) (b.right z) (b.left u) (b.right u) (h.wide z (omega arith)) (h.wide u (omega arith)) x.first x.second in
         let d1 = d.first in
         let d2 = d.second in
         let under = (cells_at steps n b width top h k (omega arith)).under u d.at (b.high z) older record { left = d2.0; right = d2.1; low = omega arith; high = omega arith } in
-        let r = under.high in
         let a : ℕ = b.high z - 1 in
         new_outside steps n b width top h k l d.at a record { place = under.place; within = under.within; right = under.right; high = omega arith } record { left = d1.0; right = d1.1; low = omega arith; high = omega arith }
 
     pub shares_joined : ShareSide b u z → StandsOver steps k u z
-    shares_joined x = elim x [
-      | inl (inl x) ↦ shares_left x
-      | inl (inr x) ↦ absurd (none_right x)
-      | inr (inl x) ↦ shares_below x
-      | inr (inr x) ↦ absurd (none_above x)
-    ]
+    shares_joined x = grind (arith, shares_left, none_right, shares_below, none_above)

@@ -80,35 +80,12 @@ module _ (label : ℕ → Bool) (s : Step) (c : ℕ) (t : IsTurn label s c) wher
   -- a rise is not behind the turn, and only at the turn may a run be
   corners : (j : ℕ) → s.first ≤ j → j < s.last → AreCorners (label j) c j
   corners j l h = elim (cases_lt j c) [
-    | inl a ↦
-        let e = t.rises j l a in
-        record {
-          earlier = after_it _ _ run_out (older-left c j (omega arith)) (earlier-rise (label j) e);
-          later = after_it _ _ rise_out (later-rise (label j) e) (older-left c (suc j) (omega arith));
-          new = same _ _ run_in (new-left c (suc j) (omega arith)) (new-left c j (omega arith));
-        }
+    | inl a ↦ grind (arith, after_it, run_out, older-left, earlier-rise, rise_out, later-rise, same, run_in, new-left)
     | inr a ↦ elim (cases_eq j c) [
       | inl m ↦
           let new : Follows (at_new c (suc j)) (at_new c j) = after_it _ _ rise_in (new-below c (suc j) (omega arith)) (new-left c j (omega arith)) in
-          elim (cases_Bool (label j)) [
-            | inl e ↦ record {
-              earlier = same _ _ run_out (older-left c j (omega arith)) (earlier-run (label j) e);
-              later = after_it _ _ run_in (later-run (label j) e) (older-below c (suc j) (omega arith));
-              new = new;
-            }
-            | inr e ↦ record {
-              earlier = after_it _ _ run_out (older-left c j (omega arith)) (earlier-rise (label j) e);
-              later = same _ _ rise_out (later-rise (label j) e) (older-below c (suc j) (omega arith));
-              new = new;
-            }
-          ]
-      | inr ne ↦
-          let e = t.runs j (omega arith) h in
-          record {
-            earlier = after_it _ _ rise_out (older-below c j (omega arith)) (earlier-run (label j) e);
-            later = after_it _ _ run_in (later-run (label j) e) (older-below c (suc j) (omega arith));
-            new = same _ _ rise_in (new-below c (suc j) (omega arith)) (new-below c j (omega arith));
-          }
+          grind (arith, cases_Bool, same, run_out, older-left, earlier-run, after_it, run_in, later-run, older-below, earlier-rise, rise_out, later-rise)
+      | inr ne ↦ grind (arith, after_it, rise_out, older-below, earlier-run, run_in, later-run, same, rise_in, new-below)
     ]
   ]
 
@@ -131,12 +108,8 @@ covered_leaves steps k n v h l covered =
       | inl a ↦ (
         record { step = k; earlier = l; place = covered.place; low = omega arith; high = omega arith; vertex = at },
         elim ((parents steps k i run (omega arith)).rise (t.rises i (omega arith) a)) [
-          | inl base ↦
-              let end : ℕ = (stage_after steps k).width - 1 in
-              let same = ap (stage_after steps k).place (base.1 ∙ sym (stage.end end (omega arith))) in
-              absurd (omega (arith, same, stage.own (suc i) (omega arith), stage.own end (omega arith)))
+          | inl base ↦ grind (arith, stage_after, same)
           | inr p ↦
-              let m = p.earlier in
               record { step = p.step; earlier = omega arith; place = (steps p.step).last; low = (turn-step steps p.step n h (omega arith)).high; high = omega arith; vertex = sym p.last ∙ at' }
         ],
       )

@@ -54,8 +54,6 @@ pub record IsHighEdge (g : Stage) (s : Step) (label : ℕ → Bool) (i : ℕ) : 
 
 pub cases_edge : (g : Stage) (s : Step) (label : ℕ → Bool) (i : ℕ) → IsStep g s → suc i < (after g s).width → IsLowEdge g s label i ⊎ (IsNewRun g s label i ⊎ (IsNewRise g s label i ⊎ IsHighEdge g s label i))
 cases_edge g s label i h l =
-    let o = h.order in
-    let w = h.within in
     elim (cases_lt i s.first) [
       | inl a ↦ inl record { low = a; label_is = labels_after-low s label i a; start = vertex_after-low g s i (omega arith); end = vertex_after-low g s (suc i) (omega arith) }
       | inr a ↦ elim (cases_eq i s.first) [
@@ -83,8 +81,6 @@ IsFirstRun-first_run label i (suc d) = elim (cases_Bool (label i)) [
   | inl e ↦ subst (IsFirstRun label i (suc d)) (sym (cond-true (label i) i (first_run label (suc i) d) e)) record { low = omega arith; high = omega arith; rises = λ j a b. absurd (omega arith); end = inr e }
   | inr e ↦
       let h = IsFirstRun-first_run label (suc i) d in
-      let lo = h.low in
-      let hi = h.high in
       subst (IsFirstRun label i (suc d)) (sym (cond-false (label i) i (first_run label (suc i) d) e))
       record {
         low = omega arith;
@@ -117,7 +113,6 @@ IsTurn-turn label s o h =
     let f = IsFirstRun-first_run label s.first (s.last - suc s.first) in
     let c = turn label s in
     let lo = f.low in
-    let hi = f.high in
     record {
       low = lo;
       high = omega arith;

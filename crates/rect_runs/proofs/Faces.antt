@@ -11,52 +11,23 @@ module _ (steps : ℕ → Step) (n : ℕ) (run : IsRun steps n) where
   -- what stands at a step is older than its vertex
   older : (k i : ℕ) → k < n → i ≤ (steps k).last → (stage_after steps k).vertex i < k + 2
   older k i l m =
-      let w = (run k l).within in
-      let p = (IsStage-run steps k (IsRun-less steps k n (omega arith) run)).placed i (omega arith) in
-      let c = count-stage_after steps k in
-      omega arith
+      let p = (IsStage-run steps k (IsRun-less steps k n (omega arith) run)).placed i (omega (arith, (run k l).within)) in
+      omega (arith, count-stage_after steps k)
 
   -- the two ends of an edge of a contour, the older one first
   edge_joined : (k i u v : ℕ) → k ≤ n → suc i < (stage_after steps k).width → u < v → ((stage_after steps k).vertex i ≡ u) × ((stage_after steps k).vertex (suc i) ≡ v) ⊎ ((stage_after steps k).vertex i ≡ v) × ((stage_after steps k).vertex (suc i) ≡ u) → AreJoined steps n u v
   edge_joined k i u v l m less e =
       let h = parents steps k i (IsRun-less steps k n l run) m in
-      elim (cases_Bool (labels steps k i)) [
-        | inl f ↦
-            let p = h.run f in
-            let p1 = p.earlier in
-            let p2 = p.new in
-            let p3 = p.first in
-            let o = (run p.step (omega arith)).order in
-            let young = older p.step (steps p.step).first (omega arith) (omega arith) in
-            elim e [
-              | inl e ↦ inr (p.step, omega arith, record { new = sym e.1 ∙ p2; place = (steps p.step).first; low = omega arith; high = omega arith; vertex = sym p3 ∙ e.0 })
-              | inr e ↦ absurd (omega (arith, e.0, e.1))
-            ]
-        | inr f ↦ elim (h.rise f) [
-          | inl p ↦ elim e [ inl e ↦ inl (sym e.0 ∙ p.0, sym e.1 ∙ p.1) | inr e ↦ absurd (omega (arith, e.0, e.1, p.0, p.1)) ]
-          | inr p ↦
-              let p1 = p.earlier in
-              let p2 = p.new in
-              let p3 = p.last in
-              let o = (run p.step (omega arith)).order in
-              let young = older p.step (steps p.step).last (omega arith) (omega arith) in
-              elim e [
-                | inl e ↦ absurd (omega (arith, e.0, e.1))
-                | inr e ↦ inr (p.step, omega arith, record { new = sym e.0 ∙ p2; place = (steps p.step).last; low = omega arith; high = omega arith; vertex = sym p3 ∙ e.1 })
-              ]
-        ]
-      ]
+      grind (arith, cases_Bool, labels, older)
 
   dart_joined : (k i u v : ℕ) → k < n → u < v → IsDartOf steps k i u v ⊎ IsDartOf steps k i v u → AreJoined steps n u v
   dart_joined k i u v l less d =
       let step = run k l in
-      let w = step.within in
       let count = count-stage_after steps k in
       elim d [
         | inl d ↦
             let f = d.face in
             let a = older k i l (omega (arith, f.high)) in
-            let b = older k (suc i) l f.high in
             elim d.dart [
               | inl x ↦ edge_joined k i u v (omega arith) (omega (arith, f.high)) less (inl (f.left ∙ sym x.0, f.right ∙ sym x.1))
               | inr (inl x) ↦ inr (k, l, record { new = x.1 ∙ sym f.new ∙ count; place = suc i; low = omega (arith, f.low); high = f.high; vertex = f.right ∙ sym x.0 })
@@ -64,7 +35,6 @@ module _ (steps : ℕ → Step) (n : ℕ) (run : IsRun steps n) where
             ]
         | inr d ↦
             let f = d.face in
-            let a = older k i l (omega (arith, f.high)) in
             let b = older k (suc i) l f.high in
             elim d.dart [
               | inl x ↦ edge_joined k i u v (omega arith) (omega (arith, f.high)) less (inr (f.left ∙ sym x.0, f.right ∙ sym x.1))
@@ -84,11 +54,9 @@ module _ (steps : ℕ → Step) (n : ℕ) (run : IsRun steps n) where
         let w = (run 0 some).within in
         (0, 0, some, inl record { a = 0; b = 1; v = 2; face = face_over 0 0 (omega arith) (omega arith); dart = inl (b.0, b.1) })
     | inr (k, l, p) ↦
-        let lo = p.low in
-        let hi = p.high in
         let o = (run k l).order in
         elim (cases_lt p.place (steps k).last) [
-          | inl m ↦ (k, p.place, l, inr record { a = _; b = _; v = _; face = face_over k p.place lo m; dart = inr (inr (p.new, sym p.vertex)) })
+          | inl m ↦ (k, p.place, l, inr record { a = _; b = _; v = _; face = face_over k p.place p.low m; dart = inr (inr (p.new, sym p.vertex)) })
           | inr m ↦
               let i : ℕ = p.place - 1 in
               let e : p.place ≡ suc i = omega arith in

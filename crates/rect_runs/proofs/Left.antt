@@ -52,13 +52,7 @@ module _ (g : Stage) (s : Step) (label : ℕ → Bool) (c : ℕ) (at : Numbers) 
 
   -- all up to the place behind the turn are no greater than the new one
   up_to : (j : ℕ) → j ≤ suc c → x j ≤ at.x g.count
-  up_to j l = elim (cases_eq j (suc c)) [
-    | inr ne ↦ let p = put.left j (omega arith) in omega (arith, p)
-    | inl e ↦ elim (cases_Bool (label c)) [
-      | inl t ↦ omega (arith, ap x e, (put.at_run t).1)
-      | inr t ↦ let p = (put.at_rise t).0 in omega (arith, ap x e, p)
-    ]
-  ]
+  up_to j l = grind (arith, cases_eq, cases_Bool)
 
   -- what is greater than those is greater than the new one
   past_new : (i : ℕ) → i < g.width → suc c < i → ((j : ℕ) → j < i → x j < x i) → at.x g.count < x i
@@ -69,34 +63,25 @@ module _ (g : Stage) (s : Step) (label : ℕ → Bool) (c : ℕ) (at : Numbers) 
 
   yes : (i j : ℕ) → i < (after g s).width → lead' (vertex_after g s i) ≡ true → j < i → x' j < x' i
   yes i j l t less =
-      let (lo, hi, w) = IsTurn-within g s label c step turns in
       elim (cases_place g s i step l) [
         | inl a ↦
-            let a1 = a.low in
-            let e = vertex_after-low g s i a1 in
+            let e = vertex_after-low g s i a.low in
             let m = marks.others i (omega arith) (inr (omega arith)) in
             omega (arith, ap at.x e, ap at.x (vertex_after-low g s j (omega arith)), h.yes i j (omega arith) (sym m ∙ (sym (ap lead' e) ∙ t)) less)
         | inr (inl a) ↦
-            let a1 = a.new in
-            omega (arith, ap at.x (vertex_after-new g s i a1), ap at.x (vertex_after-low g s j (omega arith)), put.left j (omega arith))
+            omega (arith, ap at.x (vertex_after-new g s i a.new), ap at.x (vertex_after-low g s j (omega arith)), put.left j (omega arith))
         | inr (inr a) ↦
-            let a1 = a.high in
-            let a2 = a.to in
             let b = a.within in
-            let e = vertex_after-high g s i a.from (omega arith) a1 a2 in
-            let far : (suc c ≢ s.last) ⊎ (a.from ≢ s.last) = elim (cases_eq (suc c) s.last) [
-              | inr ne ↦ inl ne
-              | inl q ↦ inr (λ z. both_ways (lead' (g.vertex a.from)) (ap (λ k. lead' (g.vertex k)) z ∙ marks.end q) (sym (ap lead' e) ∙ t))
-            ] in
+            let e = vertex_after-high g s i a.from (omega arith) a.high a.to in
+            let far : (suc c ≢ s.last) ⊎ (a.from ≢ s.last) = grind (arith, cases_eq, both_ways) in
             let old : lead (g.vertex a.from) ≡ true = sym (marks.others a.from b far) ∙ (sym (ap lead' e) ∙ t) in
             let behind : suc c < a.from = elim far [ inl ne ↦ omega arith | inr ne ↦ omega arith ] in
             elim (cases_place g s j step (omega arith)) [
               | inl k ↦ let k1 = k.low in omega (arith, ap at.x e, ap at.x (vertex_after-low g s j k1), h.yes a.from j b old (omega arith))
               | inr (inl k) ↦ let k1 = k.new in omega (arith, ap at.x e, ap at.x (vertex_after-new g s j k1), past_new a.from b behind (λ u p. h.yes a.from u b old p))
               | inr (inr k) ↦
-                  let k1 = k.high in
                   let k2 = k.to in
-                  omega (arith, ap at.x e, ap at.x (vertex_after-high g s j k.from (omega arith) k1 k2), h.yes a.from k.from b old (omega arith))
+                  omega (arith, ap at.x e, ap at.x (vertex_after-high g s j k.from (omega arith) k.high k2), h.yes a.from k.from b old (omega arith))
             ]
       ]
 
@@ -111,26 +96,19 @@ module _ (g : Stage) (s : Step) (label : ℕ → Bool) (c : ℕ) (at : Numbers) 
 
   no : (i : ℕ) → i < (after g s).width → lead' (vertex_after g s i) ≡ false → (j : ℕ) × (j < i) × (x' i ≤ x' j)
   no i l t =
-      let (lo, hi, w) = IsTurn-within g s label c step turns in
       elim (cases_place g s i step l) [
         | inl a ↦
-            let a1 = a.low in
-            let e = vertex_after-low g s i a1 in
-            let m = marks.others i (omega arith) (inr (omega arith)) in
-            let q = h.no i (omega arith) (sym m ∙ (sym (ap lead' e) ∙ t)) in
-            let q1 = q.1 in
-            (q.0, q1, omega (arith, ap at.x e, ap at.x (vertex_after-low g s q.0 (omega arith)), q.2))
+            let e = vertex_after-low g s i a.low in
+            let q = h.no i (omega arith) (sym (marks.others i (omega arith) (inr (omega arith))) ∙ (sym (ap lead' e) ∙ t)) in
+            (q.0, q.1, omega (arith, ap at.x e, ap at.x (vertex_after-low g s q.0 (omega arith)), q.2))
         | inr (inl a) ↦ absurd (both_ways (lead' g.count) (sym (ap lead' (vertex_after-new g s i a.new)) ∙ t) marks.new)
         | inr (inr a) ↦
-            let a1 = a.high in
-            let a2 = a.to in
             let b = a.within in
-            let e = vertex_after-high g s i a.from (omega arith) a1 a2 in
+            let e = vertex_after-high g s i a.from (omega arith) a.high a.to in
             let far : suc s.first < i = omega arith in
             let old : lead (g.vertex a.from) ≡ false → (j : ℕ) × (j < i) × (x a.from ≤ x' j) = λ f.
             let q = h.no a.from b f in
             let j : ℕ = q.0 in
-            let q1 : j < a.from = q.1 in
             let q2 : x a.from ≤ x j = q.2 in
             elim (cases_lt s.first j) [
               | inr n ↦ (j, omega arith, omega (arith, q2, ap at.x (vertex_after-low g s j n)))
@@ -175,13 +153,10 @@ greatest g x lead h j (suc d) w t none k l = elim (cases_lt k (j + suc d)) [
   | inl a ↦ greatest g x lead h j d (omega arith) t (λ i m o. none i m (omega arith)) k (omega arith)
   | inr a ↦
       let q = h.no k (omega arith) (none k (omega arith) l) in
-      let q1 = q.1 in
-      let p = greatest g x lead h j d (omega arith) t (λ i m o. none i m (omega arith)) q.0 (omega arith) in
-      omega (arith, q.2, p)
+      omega (arith, q.2, greatest g x lead h j d (omega arith) t (λ i m o. none i m (omega arith)) q.0 (omega arith))
 ]
 
 -- The nearest marked vertex at or before a place has the greatest number up to there.
 pub left_is_greatest : (g : Stage) (x : ℕ → ℕ) (lead : ℕ → Bool) (i : ℕ) → AreLeft g x lead → (j : ℕ) → i < g.width → j ≤ i → lead (g.vertex j) ≡ true → ((k : ℕ) → j < k → k ≤ i → lead (g.vertex k) ≡ false) → (k : ℕ) → k ≤ i → x (g.vertex k) ≤ x (g.vertex j)
 left_is_greatest g x lead i h j w l t none k m =
-    let e : j + (i - j) ≡ i = omega arith in
     greatest g x lead h j (i - j) (omega arith) t (λ k a b. none k a (omega arith)) k (omega arith)

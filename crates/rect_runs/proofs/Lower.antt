@@ -19,13 +19,7 @@ module _ (g : Stage) (s : Step) (label : ℕ → Bool) (c : ℕ) (at : Numbers) 
 
   -- all from the turn on are no greater than the new one
   from_turn : (j : ℕ) → c ≤ j → j < g.width → y j ≤ at.y g.count
-  from_turn j l w = elim (cases_eq j c) [
-    | inr ne ↦ let p = put.below j (omega arith) w in omega (arith, p)
-    | inl e ↦ elim (cases_Bool (label c)) [
-      | inl t ↦ let p = (put.at_run t).0 in omega (arith, ap y e, p)
-      | inr t ↦ omega (arith, ap y e, (put.at_rise t).1)
-    ]
-  ]
+  from_turn j l w = grind (arith, cases_eq, cases_Bool)
 
   -- what is greater than those is greater than the new one
   past_new : (i : ℕ) → i < c → i < g.width → ((j : ℕ) → i < j → j < g.width → y j < y i) → at.y g.count < y i
@@ -36,47 +30,21 @@ module _ (g : Stage) (s : Step) (label : ℕ → Bool) (c : ℕ) (at : Numbers) 
 
   yes : (i j : ℕ) → j < (after g s).width → lead' (vertex_after g s i) ≡ true → i < j → y' j < y' i
   yes i j l t less =
-      let (lo, hi, w) = IsTurn-within g s label c step turns in
       elim (cases_place g s i step (omega arith)) [
         | inl a ↦
-            let a1 = a.low in
-            let e = vertex_after-low g s i a1 in
-            let far : (c ≢ s.first) ⊎ (i ≢ s.first) = elim (cases_eq c s.first) [
-              | inr ne ↦ inl ne
-              | inl q ↦ inr (λ z. both_ways (lead' (g.vertex i)) (ap (λ k. lead' (g.vertex k)) z ∙ marks.end q) (sym (ap lead' e) ∙ t))
-            ] in
+            let e = vertex_after-low g s i a.low in
+            let far : (c ≢ s.first) ⊎ (i ≢ s.first) = grind (arith, cases_eq, both_ways) in
             let old : lead (g.vertex i) ≡ true = sym (marks.others i (omega arith) far) ∙ (sym (ap lead' e) ∙ t) in
             let before : i < c = elim far [ inl ne ↦ omega arith | inr ne ↦ omega arith ] in
-            elim (cases_place g s j step l) [
-              | inl k ↦ let k1 = k.low in omega (arith, ap at.y e, ap at.y (vertex_after-low g s j k1), h.yes i j (omega arith) old less)
-              | inr (inl k) ↦ let k1 = k.new in omega (arith, ap at.y e, ap at.y (vertex_after-new g s j k1), past_new i before (omega arith) (λ u p b. h.yes i u b old p))
-              | inr (inr k) ↦
-                  let k1 = k.high in
-                  let k2 = k.to in
-                  omega (arith, ap at.y e, ap at.y (vertex_after-high g s j k.from (omega arith) k1 k2), h.yes i k.from k.within old (omega arith))
-            ]
-        | inr (inl a) ↦
-            let a1 = a.new in
-            elim (cases_place g s j step l) [
-              | inl k ↦ let k1 = k.low in absurd (omega arith)
-              | inr (inl k) ↦ let k1 = k.new in absurd (omega arith)
-              | inr (inr k) ↦
-                  let k1 = k.high in
-                  let k2 = k.to in
-                  omega (arith, ap at.y (vertex_after-new g s i a1), ap at.y (vertex_after-high g s j k.from (omega arith) k1 k2), put.below k.from (omega arith) k.within)
-            ]
+            grind (arith, cases_place, vertex_after-low, vertex_after-new, past_new, vertex_after-high)
+        | inr (inl a) ↦ grind (arith, cases_place, vertex_after-new, vertex_after-high)
         | inr (inr a) ↦
-            let a1 = a.high in
-            let a2 = a.to in
-            let e = vertex_after-high g s i a.from (omega arith) a1 a2 in
+            let e = vertex_after-high g s i a.from (omega arith) a.high a.to in
             let old : lead (g.vertex a.from) ≡ true = sym (marks.others a.from a.within (inr (omega arith))) ∙ (sym (ap lead' e) ∙ t) in
             elim (cases_place g s j step l) [
               | inl k ↦ let k1 = k.low in absurd (omega arith)
               | inr (inl k) ↦ let k1 = k.new in absurd (omega arith)
-              | inr (inr k) ↦
-                  let k1 = k.high in
-                  let k2 = k.to in
-                  omega (arith, ap at.y e, ap at.y (vertex_after-high g s j k.from (omega arith) k1 k2), h.yes a.from k.from k.within old (omega arith))
+              | inr (inr k) ↦ grind (arith, vertex_after-high)
             ]
       ]
 
@@ -88,11 +56,9 @@ module _ (g : Stage) (s : Step) (label : ℕ → Bool) (c : ℕ) (at : Numbers) 
 
   no : (i : ℕ) → i < (after g s).width → lead' (vertex_after g s i) ≡ false → (j : ℕ) × (i < j) × (j < (after g s).width) × (y' i ≤ y' j)
   no i l t =
-      let (lo, hi, w) = IsTurn-within g s label c step turns in
       elim (cases_place g s i step l) [
         | inl a ↦
-            let a1 = a.low in
-            let e = vertex_after-low g s i a1 in
+            let e = vertex_after-low g s i a.low in
             let by_new : y i ≤ at.y g.count → (j : ℕ) × (i < j) × (j < (after g s).width) × (y i ≤ y' j) = λ m. (suc s.first, omega arith, omega arith, omega (arith, m, ap at.y (vertex_after-new g s (suc s.first) refl))) in
             let old : lead (g.vertex i) ≡ false → (j : ℕ) × (i < j) × (j < (after g s).width) × (y i ≤ y' j) = λ f.
             let q = h.no i (omega arith) f in
@@ -115,21 +81,12 @@ module _ (g : Stage) (s : Step) (label : ℕ → Bool) (c : ℕ) (at : Numbers) 
                 ]
               ]
             ] in
-            let found : (j : ℕ) × (i < j) × (j < (after g s).width) × (y i ≤ y' j) = elim (cases_eq c s.first) [
-              | inr ne ↦ old (sym (marks.others i (omega arith) (inl ne)) ∙ (sym (ap lead' e) ∙ t))
-              | inl q ↦ elim (cases_eq i s.first) [
-                | inr nz ↦ old (sym (marks.others i (omega arith) (inr nz)) ∙ (sym (ap lead' e) ∙ t))
-                | inl z ↦ by_new (from_turn i (omega arith) (omega arith))
-              ]
-            ] in
+            let found : (j : ℕ) × (i < j) × (j < (after g s).width) × (y i ≤ y' j) = grind (arith, after, y', cases_eq, from_turn) in
             (found.0, found.1, found.2, omega (arith, ap at.y e, found.3))
         | inr (inl a) ↦ absurd (both_ways (lead' g.count) (sym (ap lead' (vertex_after-new g s i a.new)) ∙ t) marks.new)
         | inr (inr a) ↦
-            let a1 = a.high in
-            let a2 = a.to in
-            let e = vertex_after-high g s i a.from (omega arith) a1 a2 in
+            let e = vertex_after-high g s i a.from (omega arith) a.high a.to in
             let q = h.no a.from a.within (sym (marks.others a.from a.within (inr (omega arith))) ∙ (sym (ap lead' e) ∙ t)) in
-            let q1 = q.1 in
             let found = by_high i (y a.from) q.0 (omega arith) q.2 (omega arith) q.3 in
             (found.0, found.1, found.2, omega (arith, ap at.y e, found.3))
       ]
@@ -142,17 +99,12 @@ lower_after g s label at lead lead' stage step sorted numbered put room marks h 
     AreLower-after g s label (turn label s) at lead lead' stage step (IsTurn-turn label s step.order sorted) numbered put room marks h
 
 greatest : (g : Stage) (y : ℕ → ℕ) (lead : ℕ → Bool) → AreLower g y lead → (i j d : ℕ) → i + d ≡ j → j < g.width → lead (g.vertex j) ≡ true → ((k : ℕ) → i ≤ k → k < j → lead (g.vertex k) ≡ false) → (k : ℕ) → i ≤ k → k < g.width → y (g.vertex k) ≤ y (g.vertex j)
-greatest g y lead h i j zero e w t none k l m = elim (cases_lt j k) [
-  | inl a ↦ let p = h.yes j k m t a in omega (arith, p)
-  | inr a ↦ let z : k ≡ j = omega arith in omega (arith, ap (λ i. y (g.vertex i)) z)
-]
+greatest g y lead h i j zero e w t none k l m = grind (arith, cases_lt, yes)
 greatest g y lead h i j (suc d) e w t none k l m = elim (cases_lt i k) [
   | inl a ↦ greatest g y lead h (suc i) j d (omega arith) w t (λ k b u. none k (omega arith) u) k (omega arith) m
   | inr a ↦
       let q = h.no k m (none k l (omega arith)) in
-      let q1 = q.1 in
-      let p = greatest g y lead h (suc i) j d (omega arith) w t (λ k b u. none k (omega arith) u) q.0 (omega arith) q.2 in
-      omega (arith, q.3, p)
+      omega (arith, q.3, greatest g y lead h (suc i) j d (omega arith) w t (λ k b u. none k (omega arith) u) q.0 (omega arith) q.2)
 ]
 
 -- The nearest marked vertex at or behind a place has the greatest number from there on.

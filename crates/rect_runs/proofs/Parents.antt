@@ -31,24 +31,18 @@ module _ (steps : ℕ → Step) where
   first_later k u v a b e f h = let l = h.earlier in record { step = h.step; earlier = omega arith; new = f ∙ h.new; first = e ∙ h.first }
 
   last_later : (k u v a b : ℕ) → a ≡ u → b ≡ v → ((v ≡ 0) × (u ≡ 1)) ⊎ IsLastUnder steps k u v → ((b ≡ 0) × (a ≡ 1)) ⊎ IsLastUnder steps (suc k) a b
-  last_later k u v a b e f h = elim h [
-    | inl base ↦ inl (f ∙ base.0, e ∙ base.1)
-    | inr h ↦ let l = h.earlier in inr record { step = h.step; earlier = omega arith; new = f ∙ h.new; last = e ∙ h.last }
-  ]
+  last_later k u v a b e f h = grind arith
 
   pub parents : (k i : ℕ) → IsRun steps k → suc i < (stage_after steps k).width → AreParents steps k i
   parents zero i run l = record { run = λ e. absurd (both_ways false refl e); rise = λ e. inl (omega arith, omega arith) }
   parents (suc k) i run l =
-      let g = stage_after steps k in
-      let s = steps k in
       let o = (run k (omega arith)).order in
       let w = (run k (omega arith)).within in
       let count = count-stage_after steps k in
       let less = parents k in
       let before = IsRun-less steps k (suc k) (omega arith) run in
-      elim (cases_edge g s (labels steps k) i (run k (omega arith)) l) [
+      elim (cases_edge (stage_after steps k) (steps k) (labels steps k) i (run k (omega arith)) l) [
         | inl d ↦
-            let d1 = d.low in
             let h = less i before (omega arith) in
             record {
               run = λ e. first_later k _ _ _ _ d.start d.end (h.run (sym d.label_is ∙ e));

@@ -14,12 +14,8 @@ module _ (steps : ℕ → Step) where
   pub last_rise : (k i : ℕ) → IsRun steps k → suc (suc i) ≡ (stage_after steps k).width → labels steps k i ≡ false
   last_rise zero i run e = refl
   last_rise (suc k) i run e =
-      let g = stage_after steps k in
-      let s = steps k in
       let step = run k (omega arith) in
-      let o = step.order in
-      let w = step.within in
-      elim (cases_edge g s (labels steps k) i step (omega arith)) [
+      elim (cases_edge (stage_after steps k) (steps k) (labels steps k) i step (omega arith)) [
         | inl d ↦ let d1 = d.low in absurd (omega arith)
         | inr (inl d) ↦ let d1 = d.at in absurd (omega arith)
         | inr (inr (inl d)) ↦ d.label_is
@@ -30,8 +26,7 @@ module _ (steps : ℕ → Step) where
   pub first_edge : (k : ℕ) → IsRun steps (suc k) → labels steps (suc k) 0 ≡ true
   first_edge zero run =
       let o = (run 0 (omega arith)).order in
-      let w = (run 0 (omega arith)).within in
-      labels_after-run (steps 0) (labels steps 0) 0 (omega arith)
+      labels_after-run (steps 0) (labels steps 0) 0 (omega (arith, (run 0 (omega arith)).within))
   first_edge (suc k) run = elim (cases_eq 0 (steps (suc k)).first) [
     | inl e ↦ labels_after-run (steps (suc k)) (labels steps (suc k)) 0 e
     | inr ne ↦ labels_after-low (steps (suc k)) (labels steps (suc k)) 0 (omega arith) ∙ first_edge k (IsRun-less steps (suc k) (suc (suc k)) (omega arith) run)
@@ -41,13 +36,11 @@ module _ (steps : ℕ → Step) where
   pub zeros : (n : ℕ) → IsLabelledRun steps n → ((numbers steps n).x 0 ≡ 0) × ((numbers steps n).x 1 ≡ 0) × ((numbers steps n).y 1 ≡ 0)
   zeros zero h = (refl, refl, refl)
   zeros (suc n) h =
-      let less = IsLabelledRun-less steps n (suc n) (omega arith) h in
       let g = stage_after steps n in
       let count = count-stage_after steps n in
-      let before = zeros n less in
+      let before = zeros n (IsLabelledRun-less steps n (suc n) (omega arith) h) in
       let c = turn_of steps n in
       let t = turn-step steps n (suc n) h (omega arith) in
-      let hi = t.high in
       let w = (h.run n (omega arith)).within in
       let at = numbers steps n in
       let one : 1 < g.count = omega arith in
@@ -69,10 +62,9 @@ module _ (steps : ℕ → Step) where
   rise_turns-some : (k : ℕ) → 1 ≤ rise_turns steps (suc k)
   rise_turns-some zero = omega arith
   rise_turns-some (suc k) =
-      let h = rise_turns-some k in
       let b = turns_at_run steps (suc k) in
       let m = rise_turns steps (suc k) in
-      elim (cases_Bool b) [ inl e ↦ omega (arith, cond-true b m (suc m) e) | inr e ↦ omega (arith, cond-false b m (suc m) e) ]
+      elim (cases_Bool b) [ inl e ↦ omega (arith, rise_turns-some k, cond-true b m (suc m) e) | inr e ↦ omega (arith, cond-false b m (suc m) e) ]
 
   module _ (n : ℕ) (h : IsRectRun steps n) where
     pub labelled-less : IsLabelledRun steps n
@@ -86,33 +78,18 @@ module _ (steps : ℕ → Step) where
     pub closed : (i : ℕ) → suc (suc i) < (stage_after steps n).width → labels steps n i ≡ true
     closed zero l = first_label n h.some labelled-less.run
     closed (suc i) l =
-        let f = h.top_first in
-        let e = h.top_last in
         h.labelled.sorted n (omega arith) i (omega arith) (omega arith) (closed i (omega arith))
 
     -- the step before turns at a rise
     pub last_turn : (k : ℕ) → suc k ≡ n → turns_at_run steps k ≡ false
-    last_turn k e =
-        let labelled = labelled-less in
-        let t = turn-step steps k n labelled (omega arith) in
-        let r = h.right k e in
-        let s = steps k in
-        let c = turn_of steps k in
-        let hi = t.high in
-        let last : ℕ = s.last - 1 in
-        let rise = last_rise k last (IsRun-less steps k n (omega arith) labelled.run) (omega arith) in
-        elim (cases_lt c last) [
-          | inl a ↦ absurd (both_ways _ rise (t.runs last a (omega arith)))
-          | inr a ↦ let m : c ≡ last = omega arith in ap (labels steps k) m ∙ rise
-        ]
+    last_turn k e = grind (arith, labelled-less, turn-step, turn_of, last_rise, IsRun-less, cases_lt, both_ways, labels)
 
     two_rises : (m : ℕ) → m ≡ n → 2 ≤ rise_turns steps m
     two_rises zero e = let s = h.some in absurd (omega arith)
     two_rises (suc zero) e = let s = h.some in absurd (omega arith)
     two_rises (suc (suc k)) e =
-        let f = last_turn (suc k) e in
         let m = rise_turns steps (suc k) in
-        omega (arith, rise_turns-some k, cond-false (turns_at_run steps (suc k)) m (suc m) f)
+        omega (arith, rise_turns-some k, cond-false (turns_at_run steps (suc k)) m (suc m) (last_turn (suc k) e))
 
     pub grid_bounded : (grid_width steps n ≤ n + 1) × (grid_height steps n ≤ n + 1)
     grid_bounded = let r = two_rises n refl in let c = counted steps n in (omega arith, omega arith)

@@ -19,10 +19,7 @@ module _ (steps : ℕ → Step) (n : ℕ) (h : IsRectRun steps n) where
   pub right_stands : (m i : ℕ) → m ≡ n → suc (suc i) ≡ (stage_after steps m).width → (stage_after steps m).vertex i ≡ n + 1
   right_stands zero i e w = let some = h.some in absurd (omega arith)
   right_stands (suc k) i e w =
-      let last = h.right k e in
-      let count = count-stage_after steps k in
-      let o = (h.labelled.run k (omega arith)).order in
-      vertex_after-new (stage_after steps k) (steps k) i (omega arith) ∙ count ∙ omega arith
+      vertex_after-new (stage_after steps k) (steps k) i (omega arith) ∙ (count-stage_after steps k) ∙ omega arith
 
   -- in the end four vertices stand on the contour
   in_frame : (i v : ℕ) → i < (stage_after steps (suc n)).width → (stage_after steps (suc n)).vertex i ≡ v → (v < 2) ⊎ (n < v)
@@ -30,19 +27,9 @@ module _ (steps : ℕ → Step) (n : ℕ) (h : IsRectRun steps n) where
       let g = stage_after steps n in
       let s = steps n in
       let stage = stage_at (suc n) (omega arith) in
-      let first = h.top_first in
       let last = h.top_last in
       let count = count-stage_after steps n in
-      elim (cases_eq i 0) [
-        | inl z ↦ inl (omega (arith, ap (stage_after steps (suc n)).vertex z, stage.begin))
-        | inr n0 ↦ elim (cases_eq i 1) [
-          | inl z ↦ inr (omega (arith, vertex_after-new g s i (omega arith)))
-          | inr n1 ↦ elim (cases_eq i 2) [
-            | inl z ↦ inr (omega (arith, vertex_after-high g s i s.last (omega arith) (omega arith) (omega arith), right_stands n s.last refl last))
-            | inr n2 ↦ inl (omega (arith, stage.end i (omega arith)))
-          ]
-        ]
-      ]
+      grind (arith, cases_eq, stage_after, vertex_after-new, vertex_after-high, right_stands)
 
   inner_leaves : (v : ℕ) → 2 ≤ v → v < n + 1 → HasRight steps (suc n) v × HasUpper steps (suc n) v
   inner_leaves v l m = elim (stands_or_covered steps (suc n) v h.labelled.run (omega arith)) [
@@ -56,22 +43,16 @@ module _ (steps : ℕ → Step) (n : ℕ) (h : IsRectRun steps n) where
       let wide = (stage_at n (omega arith)).wide in
       let first = h.top_first in
       let last = h.top_last in
-      let hi = t.high in
       record {
         entering = λ k l. let t = turn-step steps k (suc n) h.labelled l in (t.low, t.high);
         inner = inner_leaves;
         right = λ k e. (turn-step steps k (suc n) h.labelled (omega arith)).last (last_turn steps n h k e);
-        top = elim (cases_lt 0 (turn_of steps n)) [
-          | inl a ↦ absurd (both_ways _ (t.rises 0 (omega arith) a) (closed steps n h 0 (omega arith)))
-          | inr a ↦ omega arith
-        ];
+        top = grind (arith, cases_lt, turn_of, both_ways, closed);
         first = λ k i l m e.
             let stage = stage_at k (omega arith) in
-            let w = stage.wide in
-            omega (arith, stage.own i m, stage.own 0 (omega arith), ap (stage_after steps k).place (e ∙ sym stage.begin));
+            omega (arith, stage.wide, stage.own i m, stage.own 0 (omega arith), ap (stage_after steps k).place (e ∙ sym stage.begin));
         second = λ k i l m e.
             let stage = stage_at k (omega arith) in
-            let w = stage.wide in
             let end : ℕ = (stage_after steps k).width - 1 in
-            omega (arith, stage.own i m, stage.own end (omega arith), ap (stage_after steps k).place (e ∙ sym (stage.end end (omega arith))));
+            omega (arith, stage.wide, stage.own i m, stage.own end (omega arith), ap (stage_after steps k).place (e ∙ sym (stage.end end (omega arith))));
       }

@@ -32,17 +32,11 @@ earlier-rise b c j e l = cond-false b run_out rise_in e ∙ sym (cond-false (leb
 -- the two ends of an edge to a new vertex
 pub other_end-older : (c j : ℕ) → other_end (at_older c j) ≡ at_new c j
 unfolding at_older at_new
-other_end-older c j = elim (cases_lt c j) [
-  | inl l ↦ ap other_end (cond-false (leb j c) run_out rise_out (lt-leb j c l)) ∙ sym (cond-false (leb j c) run_in rise_in (lt-leb j c l))
-  | inr l ↦ ap other_end (cond-true (leb j c) run_out rise_out (le-leb j c l)) ∙ sym (cond-true (leb j c) run_in rise_in (le-leb j c l))
-]
+other_end-older c j = grind (arith, cases_lt, other_end, cond-false, leb, run_out, rise_out, lt-leb, run_in, rise_in, cond-true, le-leb)
 
 pub other_end-new : (c j : ℕ) → other_end (at_new c j) ≡ at_older c j
 unfolding at_older at_new
-other_end-new c j = elim (cases_lt c j) [
-  | inl l ↦ ap other_end (cond-false (leb j c) run_in rise_in (lt-leb j c l)) ∙ sym (cond-false (leb j c) run_out rise_out (lt-leb j c l))
-  | inr l ↦ ap other_end (cond-true (leb j c) run_in rise_in (le-leb j c l)) ∙ sym (cond-true (leb j c) run_out rise_out (le-leb j c l))
-]
+other_end-new c j = grind (arith, cases_lt, other_end, cond-false, leb, run_in, rise_in, lt-leb, run_out, rise_out, cond-true, le-leb)
 
 pub ends_agree : EndsAgree
 ends_agree steps n u v e h = elim h [
@@ -53,24 +47,13 @@ ends_agree steps n u v e h = elim h [
 module _ (steps : ℕ → Step) (n : ℕ) (run : IsRun steps n) where
   -- one step puts v over u, at one place
   one_step : (k m u v : ℕ) → k < n → m < n → (a : StandsOver steps k u v) → (b : StandsOver steps m u v) → (k ≡ m) × (a.place ≡ b.place)
-  one_step k m u v l o a b =
-      let an = a.new in
-      let bn = b.new in
-      let same : m ≡ k = omega arith in
-      let stage = IsStage-run steps k (IsRun-less steps k n (omega arith) run) in
-      let w = (run k l).within in
-      let ah = a.high in
-      let bh : b.place ≤ (steps k).last = subst (λ i. b.place ≤ (steps i).last) same b.high in
-      let bv : (stage_after steps k).vertex b.place ≡ u = subst (λ i. (stage_after steps i).vertex b.place ≡ u) same b.vertex in
-      (sym same, sym (stage.own a.place (omega arith)) ∙ (ap (stage_after steps k).place (a.vertex ∙ sym bv) ∙ stage.own b.place (omega arith)))
+  one_step k m u v l o a b = grind (arith, IsStage-run, IsRun-less, run, stage_after)
 
   -- the one that is put over the other is later
   later : (k u v : ℕ) → k < n → StandsOver steps k u v → u < v
   later k u v l a =
       let stage = IsStage-run steps k (IsRun-less steps k n (omega arith) run) in
-      let w = (run k l).within in
-      let hi = a.high in
-      omega (arith, a.new, stage.placed a.place (omega arith), a.vertex, count-stage_after steps k)
+      omega (arith, a.new, stage.placed a.place (omega (arith, (run k l).within)), a.vertex, count-stage_after steps k)
 
   pub one_end_of : (u v : ℕ) (e f : End) → IsEndAt steps n u v e → IsEndAt steps n u v f → e ≡ f
   one_end_of u v e f h i = elim h [
@@ -129,18 +112,13 @@ module _ (steps : ℕ → Step) (k n j a b v : ℕ) (h : IsLabelledRun steps n) 
   between large = elim (cases_Bool (labels steps k j)) [
     | inl e ↦
         let u = lead.run e in
-        let m = u.earlier in
         let t = turn-step steps u.step n h (omega arith) in (
           inr record { step = u.step; before = omega arith; over = first_over u; end_is = later-run (labels steps k j) (turn_of steps u.step) (steps u.step).first e t.low },
           inl record { step = u.step; before = omega arith; over = first_over u; end_is = earlier-run (labels steps k j) (turn_of steps u.step) (steps u.step).first e t.low },
         )
     | inr e ↦ elim (lead.rise e) [
-      | inl base ↦
-          let p : a ≡ 0 = sym face.left ∙ base.0 in
-          let q : b ≡ 1 = sym face.right ∙ base.1 in
-          absurd (elim large [ inl x ↦ omega (arith, p, x) | inr x ↦ omega (arith, q, x) ])
+      | inl base ↦ grind arith
       | inr u ↦
-          let m = u.earlier in
           let t = turn-step steps u.step n h (omega arith) in (
             inl record { step = u.step; before = omega arith; over = last_over u; end_is = later-rise (labels steps k j) (turn_of steps u.step) (steps u.step).last e t.high },
             inr record { step = u.step; before = omega arith; over = last_over u; end_is = earlier-rise (labels steps k j) (turn_of steps u.step) (steps u.step).last e t.high },

@@ -39,60 +39,24 @@ module _ (steps : ℕ → Step) (n : ℕ) (h : IsRectRun steps n) where
   placed : (k u v : ℕ) → k < suc n → StandsOver steps k u v → u < k + 2
   placed k u v l a =
       let w = (h.labelled.run k l).within in
-      let hi = a.high in
       omega (arith, (stage_at k (omega arith)).placed a.place (omega arith), a.vertex, count-stage_after steps k)
 
   first : (v : ℕ) (e : End) → IsEndAt steps (suc n) 0 v e → e ≡ run_out
-  first v e end = elim end [
-    | inl a ↦
-        let l = a.before in
-        let w = (h.labelled.run a.step l).within in
-        let hi = a.over.high in
-        let z = frame.first a.step a.over.place (omega arith) (omega arith) a.over.vertex in
-        a.end_is ∙ older-left (turn_of steps a.step) a.over.place (omega arith)
-    | inr a ↦ absurd (omega (arith, a.over.new))
-  ]
+  first v e end = grind (arith, frame, older-left, turn_of)
 
   second : (v : ℕ) (e : End) → IsEndAt steps (suc n) 1 v e → e ≡ rise_out
-  second v e end = elim end [
-    | inl a ↦
-        let l = a.before in
-        let w = (h.labelled.run a.step l).within in
-        let hi = a.over.high in
-        let z = frame.second a.step a.over.place (omega arith) (omega arith) a.over.vertex in
-        let t = (frame.entering a.step l).1 in
-        a.end_is ∙ older-below (turn_of steps a.step) a.over.place (omega arith)
-    | inr a ↦ absurd (omega (arith, a.over.new))
-  ]
+  second v e end = grind (arith, frame, older-below, turn_of)
 
   right : (v : ℕ) (e : End) → v ≢ 1 → v ≢ n + 2 → IsEndAt steps (suc n) (n + 1) v e → e ≡ run_in
   right v e n1 n2 end = elim end [
     | inl a ↦ let l = a.before in let new = a.over.new in let p = placed a.step (n + 1) v a.before a.over in absurd (n2 (omega arith))
-    | inr a ↦
-        let l = a.before in
-        let new = a.over.new in
-        let some = h.some in
-        let o : suc a.step ≡ n = omega arith in
-        let last = h.right a.step o in
-        let turn = frame.right a.step o in
-        let hi = a.over.high in
-        a.end_is ∙ new-left (turn_of steps a.step) a.over.place (elim (cases_eq a.over.place (steps a.step).last) [
-          | inl e ↦ absurd (n1 (sym a.over.vertex ∙ (ap (stage_after steps a.step).vertex e ∙ (stage_at a.step (omega arith)).end (steps a.step).last last)))
-          | inr ne ↦ omega arith
-        ])
+    | inr a ↦ grind (arith, new-left, turn_of, cases_eq, stage_after, stage_at, frame)
   ]
 
   top : (v : ℕ) (e : End) → v ≢ 0 → IsEndAt steps (suc n) (n + 2) v e → e ≡ rise_in
   top v e n0 end = elim end [
     | inl a ↦ let l = a.before in let p = placed a.step (n + 2) v a.before a.over in absurd (omega arith)
-    | inr a ↦
-        let new = a.over.new in
-        let o : a.step ≡ n = omega arith in
-        let turn = ap (turn_of steps) o ∙ frame.top in
-        a.end_is ∙ new-below (turn_of steps a.step) a.over.place (elim (cases_eq a.over.place 0) [
-          | inl e ↦ absurd (n0 (sym a.over.vertex ∙ (ap (stage_after steps a.step).vertex e ∙ (stage_at a.step (let l = a.before in omega arith)).begin)))
-          | inr ne ↦ omega arith
-        ])
+    | inr a ↦ grind (arith, turn_of, frame, new-below, cases_eq, stage_after, stage_at)
   ]
 
 pub frame_ends : FrameEnds

@@ -11,13 +11,7 @@ use Rattle.rect_runs.proofs.Left.{MakesRoom, MakesRoomBelow}
 
 -- what keeps order is read back
 back : (m : ℕ) (f h : ℕ → ℕ) → KeepsOrder m f h → (u v : ℕ) → u < m → v < m → h u < h v → f u < f v
-back m f h keeps u v a b l = elim (cases_lt (f u) (f v)) [
-  | inl o ↦ o
-  | inr o ↦ elim (cases_eq (f u) (f v)) [
-    | inl e ↦ absurd (omega (arith, keeps.same u v a b e, l))
-    | inr ne ↦ let p = keeps.less v u b a (omega arith) in absurd (omega (arith, p, l))
-  ]
-]
+back m f h keeps u v a b l = grind (arith, cases_lt, cases_eq)
 
 module _ (steps : ℕ → Step) (k n : ℕ) (h : IsLabelledRun steps n) (l : k < n) where
   abbrev g : Stage
@@ -54,7 +48,6 @@ module _ (steps : ℕ → Step) (k n : ℕ) (h : IsLabelledRun steps n) (l : k <
 
   room_y : turns_at_run steps k ≡ true → MakesRoomBelow g c (numbers steps n).y
   room_y e v o all =
-      let w = wide in
       let y = (numbers steps k).y in
       let low : new_y g c y ≤ y v = past-le (λ j. y (g.vertex (c + j))) (g.width - c) (y v) (λ j b. back (k + 2) y (numbers steps n).y now.1 (g.vertex (c + j)) v (placed (c + j) (omega arith)) (omega (arith, o, count)) (all (c + j) (omega arith) (omega arith))) in
       next.1.less g.count v (omega (arith, count)) (omega (arith, o, count))
@@ -64,24 +57,21 @@ module _ (steps : ℕ → Step) (k n : ℕ) (h : IsLabelledRun steps n) (l : k <
   new_x_is j m all =
       let w = wide in
       let x = (numbers steps k).x in
-      let low = past-lt (λ i. x (g.vertex i)) (suc (suc c)) j (omega arith) in
       let high = past-le (λ i. x (g.vertex i)) (suc (suc c)) (suc (x (g.vertex j))) (λ i b. elim (cases_lt (x (g.vertex j)) (x (g.vertex i))) [
         | inl o ↦ let p = now.0.less (g.vertex j) (g.vertex i) (placed j (omega arith)) (placed i (omega arith)) o in absurd (omega (arith, p, all i (omega arith)))
         | inr o ↦ omega arith
       ]) in
-      omega (arith, low, high)
+      omega (arith, past-lt (λ i. x (g.vertex i)) (suc (suc c)) j (omega arith), high)
 
   new_y_is : (j : ℕ) → c ≤ j → j < g.width → ((i : ℕ) → c ≤ i → i < g.width → (numbers steps n).y (g.vertex i) ≤ (numbers steps n).y (g.vertex j)) → new_y g c (numbers steps k).y ≡ suc ((numbers steps k).y (g.vertex j))
   new_y_is j m b all =
-      let w = wide in
       let y = (numbers steps k).y in
       let z : c + (j - c) ≡ j = omega arith in
-      let low = past-lt (λ i. y (g.vertex (c + i))) (g.width - c) (j - c) (omega arith) in
       let high = past-le (λ i. y (g.vertex (c + i))) (g.width - c) (suc (y (g.vertex j))) (λ i b2. elim (cases_lt (y (g.vertex j)) (y (g.vertex (c + i)))) [
         | inl o ↦ let p = now.1.less (g.vertex j) (g.vertex (c + i)) (placed j b) (placed (c + i) (omega arith)) o in absurd (omega (arith, p, all (c + i) (omega arith) (omega arith)))
         | inr o ↦ omega arith
       ]) in
-      omega (arith, low, high, ap (λ i. y (g.vertex i)) z)
+      omega (arith, past-lt (λ i. y (g.vertex (c + i))) (g.width - c) (j - c) (omega arith), high, ap (λ i. y (g.vertex i)) z)
 
 -- The final numbers make room at each turn at a rise, and the number of the new line is one more than that of a vertex which is the greatest in final numbers.
 pub left_room : (steps : ℕ → Step) (k n : ℕ) → IsLabelledRun steps n → k < n → turns_at_run steps k ≡ false → MakesRoom (stage_after steps k) (turn_of steps k) (numbers steps n).x

@@ -21,11 +21,7 @@ pub record Stands (g : Stage) (i j v : ℕ) : Type 0 where
 
 Stands-known : (g : Stage) (i j v : ℕ) → stands_between g i j v ≡ true → Stands g i j v
 unfolding stands_between
-Stands-known g i j v e =
-    let a = and_parts (ltb v g.count) _ e in
-    let b = and_parts (eqb (g.vertex (g.place v)) v) _ a.1 in
-    let c = and_parts (leb i (g.place v)) _ b.1 in
-    record { older = ltb-true v g.count a.0; vertex = eqb-true (g.vertex (g.place v)) v b.0; low = leb-true i (g.place v) c.0; high = leb-true (g.place v) j c.1 }
+Stands-known g i j v e = grind (arith, and_parts, ltb, eqb, leb, ltb-true, eqb-true, leb-true)
 
 Stands-test : (g : Stage) (i j v : ℕ) → Stands g i j v → stands_between g i j v ≡ true
 unfolding stands_between
@@ -33,8 +29,7 @@ Stands-test g i j v h = and_from _ _ (lt-ltb v g.count h.older) (and_from _ _ (e
 
 Stands-place : (g : Stage) (i j p : ℕ) → IsStage g → p < g.width → i ≤ p → p ≤ j → Stands g i j (g.vertex p)
 Stands-place g i j p stage l a b =
-    let own = stage.own p l in
-    record { older = stage.placed p l; vertex = ap g.vertex own; low = omega arith; high = omega arith }
+    record { older = stage.placed p l; vertex = ap g.vertex (stage.own p l); low = omega arith; high = omega arith }
 
 module _ (g : Stage) (i j side : ℕ) (old : ℕ → ℕ) (v : ℕ) where
   pub side_after-between : Stands g i j v → side_after g i j side old v ≡ side
@@ -96,24 +91,11 @@ module _ (steps : ℕ → Step) (n : ℕ) (h : IsLabelledRun steps n) (at : Numb
             | inr (inl d) ↦ ap (r (suc k)) d.start ∙ side_after-between g s.first c (at.x (k + 2)) (r k) (g.vertex s.first) (Stands-place g s.first c s.first stage (omega arith) (omega arith) lo) ∙ sym (ap at.x (d.end ∙ count))
             | inr (inr (inl d)) ↦ absurd (both_ways _ d.label_is e)
             | inr (inr (inr d)) ↦
-                let d1 = d.high in
-                let d2 = d.within in
                 ap (r (suc k)) d.start ∙ side_after-place g s.first c (at.x (k + 2)) (r k) d.from stage (omega arith) (inr (omega arith)) ∙ before.run d.from d.within (sym d.label_is ∙ e) ∙ sym (ap at.x d.end)
           ];
           free = λ i m e. elim (cases_place g s i step m) [
-            | inl d ↦
-                let d1 = d.low in
-                elim e [
-                  | inr f ↦ absurd (omega arith)
-                  | inl f ↦ elim (cases_eq i s.first) [
-                    | inl p ↦ absurd (both_ways _ f (labels_after-run s label i p))
-                    | inr p ↦
-                        let q : i < s.first = omega arith in
-                        ap (r (suc k)) (vertex_after-low g s i d1) ∙ side_after-place g s.first c (at.x (k + 2)) (r k) i stage (omega arith) (inl q) ∙ before.free i (omega arith) (inl (sym (labels_after-low s label i q) ∙ f))
-                  ]
-                ]
+            | inl d ↦ grind (arith, cases_eq, both_ways, labels_after-run, vertex_after-low, side_after-place, labels_after-low)
             | inr (inl d) ↦
-                let z = vertex_after-new g s i d.new in
                 right_later (suc k) (vertex_after g s i) (omega arith)
             | inr (inr d) ↦
                 let d1 = d.high in
@@ -130,19 +112,16 @@ module _ (steps : ℕ → Step) (n : ℕ) (h : IsLabelledRun steps n) (at : Numb
         let s = steps k in
         let c = turn_of steps k in
         let (stage, lo, hi, w, count) = at_step k l in
-        let t = turn-step steps k n h l in
         let before = rights_at k (omega arith) in
         elim (cases_side g s.first c (at.x (k + 2)) (r k) v) [
           | inr e ↦ inr e
           | inl d ↦
-              let d1 = d.low in
-              let d2 = d.high in
               let i = g.place v in
               let e = d.vertex in
               elim (cases_Bool (labels steps k i)) [
                 | inr f ↦ inl (ap (r k) (sym e) ∙ before.free i (omega arith) (inl f))
                 | inl f ↦ elim (cases_lt i c) [
-                  | inl b ↦ absurd (both_ways _ (t.rises i d1 b) f)
+                  | inl b ↦ absurd (both_ways _ ((turn-step steps k n h l).rises i d.low b) f)
                   | inr b ↦
                       let m : i ≡ c = omega arith in
                       let f' : labels steps k c ≡ true = ap (labels steps k) (sym m) ∙ f in
@@ -154,17 +133,9 @@ module _ (steps : ℕ → Step) (n : ℕ) (h : IsLabelledRun steps n) (at : Numb
     pub right_is : (m k j : ℕ) → m ≤ n → k < m → (steps k).first ≤ j → j ≤ turn_of steps k → r m ((stage_after steps k).vertex j) ≡ at.x (k + 2)
     right_is zero k j a l p q = absurd (omega arith)
     right_is (suc m) k j a l p q = elim (cases_eq k m) [
-      | inl e ↦
-          let t = turn-step steps m n h a in
-          let hi = t.high in
-          let w = (h.run m a).within in
-          let p' : (steps m).first ≤ j = subst (λ k. (steps k).first ≤ j) e p in
-          let q' : j ≤ turn_of steps m = subst (λ k. j ≤ turn_of steps k) e q in
-          let g = stage_after steps m in
-          ap (λ k. r (suc m) ((stage_after steps k).vertex j)) e ∙ side_after-between g (steps m).first (turn_of steps m) (at.x (m + 2)) (r m) (g.vertex j) (Stands-place g (steps m).first (turn_of steps m) j (stage_at m (omega arith)) (omega arith) p' q') ∙ ap (λ k. at.x (k + 2)) (sym e)
+      | inl e ↦ grind (arith, turn-step, turn_of, stage_after, side_after-between, Stands-place, stage_at)
       | inr ne ↦
           let f = right_is m k j (omega arith) (omega arith) p q in
-          let b = few (k + 2) (omega arith) in
           elim (right_stays m ((stage_after steps k).vertex j) a) [ inl e ↦ absurd (omega arith) | inr e ↦ e ∙ f ]
     ]
 
@@ -175,15 +146,11 @@ module _ (steps : ℕ → Step) (n : ℕ) (h : IsLabelledRun steps n) (at : Numb
         let g = stage_after steps k in
         let s = steps k in
         let c = turn_of steps k in
-        let b = few (k + 2) (omega arith) in
         elim (cases_lt v (k + 2)) [
           | inr new ↦ let f = few v (omega arith) in let e = right_later (suc k) v (omega arith) in (omega arith, omega arith)
           | inl older ↦ elim (cases_side g s.first c (at.x (k + 2)) (r k) v) [
             | inr e ↦ let f = right_within k v (omega arith) older in (omega (arith, f.0), omega (arith, f.1))
-            | inl d ↦
-                let e = side_after-between g s.first c (at.x (k + 2)) (r k) v d in
-                let f = (put k l).left (g.place v) d.high in
-                (omega (arith, ap at.x d.vertex), omega arith)
+            | inl d ↦ grind (arith, side_after-between)
           ]
         ]
 
@@ -219,8 +186,6 @@ module _ (steps : ℕ → Step) (n : ℕ) (h : IsLabelledRun steps n) (at : Numb
         let some : (i : ℕ) → suc i < g.width → (i < s.first) ⊎ (s.last ≤ i) → 0 < k = λ i m out. elim (cases_lt 0 k) [
           | inl a ↦ a
           | inr a ↦
-              let z : k ≡ 0 = omega arith in
-              let two = ap (λ k. (stage_after steps k).width) z in
               elim out [ inl b ↦ absurd (omega arith) | inr b ↦ absurd (omega arith) ]
         ] in
         record {
@@ -230,19 +195,14 @@ module _ (steps : ℕ → Step) (n : ℕ) (h : IsLabelledRun steps n) (at : Numb
                 ap (u (suc k)) d.end ∙ side_after-place g (suc c) s.last (at.y (k + 2)) (u k) (suc i) stage (omega arith) (inl (omega arith)) ∙ before.rise i (some i (omega arith) (inl d1)) (omega arith) (sym d.label_is ∙ e) ∙ sym (ap at.y d.start)
             | inr (inl d) ↦ absurd (both_ways _ e d.label_is)
             | inr (inr (inl d)) ↦ ap (u (suc k)) d.end ∙ side_after-between g (suc c) s.last (at.y (k + 2)) (u k) (g.vertex s.last) (Stands-place g (suc c) s.last s.last stage w (omega arith) (omega arith)) ∙ sym (ap at.y (d.start ∙ count))
-            | inr (inr (inr d)) ↦
-                let d1 = d.high in
-                let d2 = d.within in
-                ap (u (suc k)) d.end ∙ side_after-place g (suc c) s.last (at.y (k + 2)) (u k) (suc d.from) stage d2 (inr (omega arith)) ∙ before.rise d.from (some d.from d2 (inr d1)) d2 (sym d.label_is ∙ e) ∙ sym (ap at.y d.start)
+            | inr (inr (inr d)) ↦ grind (arith, side_after-place)
           ];
           free = λ i m e. elim (cases_edge g s label i step m) [
             | inl d ↦
-                let d1 = d.low in
                 ap (u (suc k)) d.end ∙ side_after-place g (suc c) s.last (at.y (k + 2)) (u k) (suc i) stage (omega arith) (inl (omega arith)) ∙ before.free i (omega arith) (sym d.label_is ∙ e)
             | inr (inl d) ↦ let z = d.end in high_later (suc k) (vertex_after g s (suc i)) (omega arith)
             | inr (inr (inl d)) ↦ absurd (both_ways _ d.label_is e)
             | inr (inr (inr d)) ↦
-                let d1 = d.high in
                 let d2 = d.within in
                 ap (u (suc k)) d.end ∙ side_after-place g (suc c) s.last (at.y (k + 2)) (u k) (suc d.from) stage d2 (inr (omega arith)) ∙ before.free d.from d2 (sym d.label_is ∙ e)
           ];
@@ -257,24 +217,18 @@ module _ (steps : ℕ → Step) (n : ℕ) (h : IsLabelledRun steps n) (at : Numb
         let s = steps k in
         let c = turn_of steps k in
         let (stage, lo, hi, w, count) = at_step k l in
-        let t = turn-step steps k n h l in
         let before = highs_at k (omega arith) in
         elim (cases_side g (suc c) s.last (at.y (k + 2)) (u k) v) [
           | inr e ↦ inr e
           | inl d ↦
-              let d1 = d.low in
-              let d2 = d.high in
               let i : ℕ = g.place v - 1 in
               let i_is : g.place v ≡ suc i = omega arith in
               let e : g.vertex (suc i) ≡ v = ap g.vertex (sym i_is) ∙ d.vertex in
               elim (cases_Bool (labels steps k i)) [
                 | inl f ↦ inl (ap (u k) (sym e) ∙ before.free i (omega arith) f)
                 | inr f ↦ elim (cases_lt c i) [
-                  | inl b ↦ absurd (both_ways _ f (t.runs i b (omega arith)))
-                  | inr b ↦
-                      let m : i ≡ c = omega arith in
-                      let f' : labels steps k c ≡ false = ap (labels steps k) (sym m) ∙ f in
-                      inr (side_after-between g (suc c) s.last (at.y (k + 2)) (u k) v d ∙ ((put k l).at_rise f').1 ∙ ap (λ i. at.y (g.vertex i)) (sym m) ∙ sym (before.rise i (omega arith) (omega arith) f) ∙ ap (u k) e)
+                  | inl b ↦ absurd (both_ways _ f ((turn-step steps k n h l).runs i b (omega arith)))
+                  | inr b ↦ grind (arith, labels, side_after-between)
                 ]
               ]
         ]
@@ -282,15 +236,9 @@ module _ (steps : ℕ → Step) (n : ℕ) (h : IsLabelledRun steps n) (at : Numb
     pub high_is : (m k j : ℕ) → m ≤ n → k < m → turn_of steps k < j → j ≤ (steps k).last → u m ((stage_after steps k).vertex j) ≡ at.y (k + 2)
     high_is zero k j a l p q = absurd (omega arith)
     high_is (suc m) k j a l p q = elim (cases_eq k m) [
-      | inl e ↦
-          let w = (h.run m a).within in
-          let p' : turn_of steps m < j = subst (λ k. turn_of steps k < j) e p in
-          let q' : j ≤ (steps m).last = subst (λ k. j ≤ (steps k).last) e q in
-          let g = stage_after steps m in
-          ap (λ k. u (suc m) ((stage_after steps k).vertex j)) e ∙ side_after-between g (suc (turn_of steps m)) (steps m).last (at.y (m + 2)) (u m) (g.vertex j) (Stands-place g (suc (turn_of steps m)) (steps m).last j (stage_at m (omega arith)) (omega arith) p' q') ∙ ap (λ k. at.y (k + 2)) (sym e)
+      | inl e ↦ grind (arith, turn_of, stage_after, side_after-between, Stands-place, stage_at)
       | inr ne ↦
           let f = high_is m k j (omega arith) (omega arith) p q in
-          let b = few (k + 2) (omega arith) in
           elim (high_stays m ((stage_after steps k).vertex j) a) [ inl e ↦ absurd (omega arith) | inr e ↦ e ∙ f ]
     ]
 
@@ -301,16 +249,11 @@ module _ (steps : ℕ → Step) (n : ℕ) (h : IsLabelledRun steps n) (at : Numb
         let s = steps k in
         let c = turn_of steps k in
         let w = (h.run k l).within in
-        let b = few (k + 2) (omega arith) in
         elim (cases_lt v (k + 2)) [
           | inr new ↦ let f = few v (omega arith) in let e = high_later (suc k) v (omega arith) in (omega arith, omega arith)
           | inl older ↦ elim (cases_side g (suc c) s.last (at.y (k + 2)) (u k) v) [
             | inr e ↦ let f = high_within k v (omega arith) older in (omega (arith, f.0), omega (arith, f.1))
-            | inl d ↦
-                let e = side_after-between g (suc c) s.last (at.y (k + 2)) (u k) v d in
-                let d2 = d.high in
-                let f = (put k l).below (g.place v) d.low (omega arith) in
-                (omega (arith, ap at.y d.vertex), omega arith)
+            | inl d ↦ grind (arith, side_after-between)
           ]
         ]
 

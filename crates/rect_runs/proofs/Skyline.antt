@@ -56,8 +56,6 @@ pub record IsKeptEdge (g : Stage) (s : Step) (label : ℕ → Bool) (i : ℕ) : 
 
 pub kept_edge : (g : Stage) (s : Step) (label : ℕ → Bool) (i : ℕ) → IsStep g s → suc i < g.width → (i < s.first) ⊎ (s.last ≤ i) → IsKeptEdge g s label i
 kept_edge g s label i step l out =
-    let o = step.order in
-    let w = step.within in
     elim out [
       | inl a ↦ record { to = i; within = omega arith; start = vertex_after-low g s i (omega arith); end = vertex_after-low g s (suc i) (omega arith); label_is = labels_after-low s label i a }
       | inr a ↦
@@ -90,19 +88,13 @@ module _ (steps : ℕ → Step) (n : ℕ) (b : Boxes) (width top : ℕ) (h : IsL
   pub settled_right : (k i : ℕ) → k ≤ n → suc i < (stage_after steps k).width → labels steps k i ≡ true → b.right ((stage_after steps k).vertex i) ≡ b.left ((stage_after steps k).vertex (suc i))
   settled_right zero i l m e = absurd (both_ways false refl e)
   settled_right (suc k) i l m e =
-      let g = stage_after steps k in
       let s = steps k in
-      let t = turn_at k l in
-      let lo = t.low in
+      let lo = (turn_at k l).low in
       let step = step_at k l in
-      let w = step.within in
-      let o = step.order in
-      let count = count-stage_after steps k in
-      elim (cases_edge g s (labels steps k) i step m) [
+      elim (cases_edge (stage_after steps k) s (labels steps k) i step m) [
         | inl d ↦
-            let d1 = d.low in
             ap b.right d.start ∙ settled_right k i (omega arith) (omega arith) (sym d.label_is ∙ e) ∙ sym (ap b.left d.end)
-        | inr (inl d) ↦ ap b.right d.start ∙ h.right_is k s.first l (omega arith) lo ∙ sym (ap b.left (d.end ∙ count))
+        | inr (inl d) ↦ ap b.right d.start ∙ h.right_is k s.first l (omega arith) lo ∙ sym (ap b.left (d.end ∙ (count-stage_after steps k)))
         | inr (inr (inl d)) ↦ absurd (both_ways _ d.label_is e)
         | inr (inr (inr d)) ↦ ap b.right d.start ∙ settled_right k d.from (omega arith) d.within (sym d.label_is ∙ e) ∙ sym (ap b.left d.end)
       ]
@@ -111,27 +103,17 @@ module _ (steps : ℕ → Step) (n : ℕ) (b : Boxes) (width top : ℕ) (h : IsL
   settled_high zero i l m e =
       let some = h.some in
       let t = turn_at 0 some in
-      let lo = t.low in
-      let hi = t.high in
-      let o = (step_at 0 some).order in
-      let w = (step_at 0 some).within in
-      let c : turn_of steps 0 ≡ i = omega arith in
+      let c : turn_of steps 0 ≡ i = omega (arith, (step_at 0 some).within) in
       h.high_is 0 (suc i) some (omega arith) (omega arith) ∙ ((h.put 0 some).at_rise refl).1 ∙ ap b.low c
   settled_high (suc k) i l m e =
-      let g = stage_after steps k in
       let s = steps k in
-      let t = turn_at k l in
-      let hi = t.high in
+      let hi = (turn_at k l).high in
       let step = step_at k l in
-      let w = step.within in
-      let o = step.order in
-      let count = count-stage_after steps k in
-      elim (cases_edge g s (labels steps k) i step m) [
+      elim (cases_edge (stage_after steps k) s (labels steps k) i step m) [
         | inl d ↦
-            let d1 = d.low in
             ap b.high d.end ∙ settled_high k i (omega arith) (omega arith) (sym d.label_is ∙ e) ∙ sym (ap b.low d.start)
         | inr (inl d) ↦ absurd (both_ways _ e d.label_is)
-        | inr (inr (inl d)) ↦ ap b.high d.end ∙ h.high_is k s.last l hi (omega arith) ∙ sym (ap b.low (d.start ∙ count))
+        | inr (inr (inl d)) ↦ ap b.high d.end ∙ h.high_is k s.last l hi (omega arith) ∙ sym (ap b.low (d.start ∙ (count-stage_after steps k)))
         | inr (inr (inr d)) ↦ ap b.high d.end ∙ settled_high k d.from (omega arith) d.within (sym d.label_is ∙ e) ∙ sym (ap b.low d.start)
       ]
 
@@ -141,11 +123,8 @@ module _ (steps : ℕ → Step) (n : ℕ) (b : Boxes) (width top : ℕ) (h : IsL
       let g = stage_after steps k in
       let s = steps k in
       let step = step_at k l in
-      let o = step.order in
-      let w = step.within in
-      let count = count-stage_after steps k in
       let before : vertex_after g s s.first ≡ g.vertex s.first = vertex_after-low g s s.first (omega arith) in
-      let new : vertex_after g s (suc s.first) ≡ k + 2 = vertex_after-new g s (suc s.first) refl ∙ count in
+      let new : vertex_after g s (suc s.first) ≡ k + 2 = vertex_after-new g s (suc s.first) refl ∙ (count-stage_after steps k) in
       let behind : vertex_after g s (suc (suc s.first)) ≡ g.vertex s.last = vertex_after-high g s (suc (suc s.first)) s.last (omega arith) (omega arith) (omega arith) in
       record {
         right = omega (arith, ap b.right new, ap b.right behind, stair.right (suc s.first) (omega arith));
@@ -155,23 +134,7 @@ module _ (steps : ℕ → Step) (n : ℕ) (b : Boxes) (width top : ℕ) (h : IsL
       }
 
   stair_end : IsStair steps b n
-  stair_end =
-      let g = stage_after steps n in
-      record {
-        right = λ i l. elim (cases_lt (suc (suc i)) g.width) [
-          | inl a ↦ omega (arith, settled_right n i (omega arith) l (h.closed i a), h.wide (g.vertex (suc i)) (placed_at n (suc i) (omega arith) l))
-          | inr a ↦ omega (arith, h.right_end i (omega arith) a, h.right_end (suc i) l (omega arith))
-        ];
-        high = λ i l. omega (arith, h.high_end i l, (h.within (g.vertex (suc i)) (placed_at n (suc i) (omega arith) l)).1);
-        run = λ i l e. elim (cases_lt (suc (suc i)) g.width) [
-          | inl a ↦ omega (arith, h.high_end i l, h.high_end (suc i) a, h.tall (g.vertex i) (placed_at n i (omega arith) (omega arith)))
-          | inr a ↦ absurd (both_ways _ (h.last_rise i (omega arith)) e)
-        ];
-        rise = λ i l e. elim (cases_lt (suc (suc i)) g.width) [
-          | inl a ↦ absurd (both_ways _ e (h.closed i a))
-          | inr a ↦ omega (arith, h.right_end i (omega arith) a, h.right_end (suc i) l (omega arith), h.wide (g.vertex (suc i)) (placed_at n (suc i) (omega arith) l))
-        ];
-      }
+  stair_end = grind (arith, stage_after, cases_lt, settled_right, placed_at, both_ways)
 
   module _ (k : ℕ) (l : k < n) (stair : IsStair steps b (suc k)) where
     abbrev g : Stage
@@ -193,10 +156,7 @@ module _ (steps : ℕ → Step) (n : ℕ) (b : Boxes) (width top : ℕ) (h : IsL
     pub over_low : (j : ℕ) → s.first ≤ j → j ≤ c → b.low (k + 2) < b.high (g.vertex j)
     over_low j p q =
         let m = between k l stair in
-        let up = m.high in
-        let tall = tall_z in
         let t = turn_at k l in
-        let hi = t.high in
         let w = (step_at k l).within in
         elim (cases_eq j s.first) [
           | inl e ↦ omega (arith, ap (λ j. b.high (g.vertex j)) e)
@@ -208,63 +168,16 @@ module _ (steps : ℕ → Step) (n : ℕ) (b : Boxes) (width top : ℕ) (h : IsL
         ]
 
     stair_right : (i : ℕ) → s.first ≤ i → i < s.last → b.right (g.vertex i) ≤ b.right (g.vertex (suc i))
-    stair_right i p q =
-        let m = between k l stair in
-        let t = turn_at k l in
-        let w = (step_at k l).within in
-        let wide = wide_z in
-        elim (cases_lt i c) [
-          | inl a ↦ omega (arith, h.right_is k i l p (omega arith), h.right_is k (suc i) l (omega arith) a)
-          | inr a ↦ elim (cases_lt c i) [
-            | inl d ↦ omega (arith, settled_right k i (omega arith) (omega arith) (t.runs i d q), h.wide (g.vertex (suc i)) (placed_at k (suc i) (omega arith) (omega arith)))
-            | inr d ↦
-                let same = h.right_is k i l p (omega arith) in
-                let e : i ≡ c = omega arith in
-                elim (cases_Bool (labels steps k c)) [
-                  | inr f ↦ let z = t.last f in omega (arith, ap (λ j. b.right (g.vertex j)) z, ap (λ j. b.right (g.vertex (suc j))) e, m.right)
-                  | inl f ↦ omega (arith, ((h.put k l).at_run f).1, ap (λ j. b.left (g.vertex (suc j))) e, h.wide (g.vertex (suc i)) (placed_at k (suc i) (omega arith) (omega arith)))
-                ]
-          ]
-        ]
+    stair_right i p q = grind (arith, between, turn_at, step_at, wide_z, cases_lt, settled_right, placed_at, cases_Bool, labels)
 
     stair_high : (i : ℕ) → s.first ≤ i → i < s.last → b.high (g.vertex (suc i)) ≤ b.high (g.vertex i)
-    stair_high i p q =
-        let t = turn_at k l in
-        let w = (step_at k l).within in
-        elim (cases_lt i c) [
-          | inl a ↦ omega (arith, settled_high k i (omega arith) (omega arith) (t.rises i p a), h.tall (g.vertex i) (placed_at k i (omega arith) (omega arith)))
-          | inr a ↦ elim (cases_lt c i) [
-            | inl d ↦ omega (arith, h.high_is k i l d (omega arith), h.high_is k (suc i) l (omega arith) q)
-            | inr d ↦ omega (arith, h.high_is k (suc i) l (omega arith) q, over_low i p (omega arith))
-          ]
-        ]
+    stair_high i p q = grind (arith, turn_at, step_at, cases_lt, settled_high, placed_at, over_low)
 
     stair_run : (i : ℕ) → s.first ≤ i → i < s.last → labels steps k i ≡ true → b.low (g.vertex i) < b.high (g.vertex (suc i))
-    stair_run i p q e =
-        let t = turn_at k l in
-        let w = (step_at k l).within in
-        elim (cases_lt i c) [
-          | inl a ↦ absurd (both_ways _ (t.rises i p a) e)
-          | inr a ↦ elim (cases_lt c i) [
-            | inl d ↦ omega (arith, h.high_is k (suc i) l (omega arith) q, (h.put k l).below i d (omega arith))
-            | inr d ↦
-                let f : i ≡ c = omega arith in
-                omega (arith, h.high_is k (suc i) l (omega arith) q, ((h.put k l).at_run (sym (ap (labels steps k) f) ∙ e)).0, ap (λ j. b.low (g.vertex j)) f)
-          ]
-        ]
+    stair_run i p q e = grind (arith, step_at, cases_lt, both_ways, turn_at, labels)
 
     stair_rise : (i : ℕ) → s.first ≤ i → i < s.last → labels steps k i ≡ false → b.left (g.vertex (suc i)) < b.right (g.vertex i)
-    stair_rise i p q e =
-        let t = turn_at k l in
-        elim (cases_lt c i) [
-          | inl a ↦ absurd (both_ways _ e (t.runs i a q))
-          | inr a ↦ elim (cases_lt i c) [
-            | inl d ↦ omega (arith, h.right_is k i l p a, (h.put k l).left (suc i) d)
-            | inr d ↦
-                let f : i ≡ c = omega arith in
-                omega (arith, h.right_is k i l p a, ((h.put k l).at_rise (sym (ap (labels steps k) f) ∙ e)).0, ap (λ j. b.left (g.vertex (suc j))) f)
-          ]
-        ]
+    stair_rise i p q e = grind (arith, cases_lt, both_ways, turn_at, labels)
 
     where_edge : (i : ℕ) → ((i < s.first) ⊎ (s.last ≤ i)) ⊎ ((s.first ≤ i) × (i < s.last))
     where_edge i = elim (cases_lt i s.first) [ inl a ↦ inl (inl a) | inr a ↦ elim (cases_lt i s.last) [ inl d ↦ inr (a, d) | inr d ↦ inl (inr d) ] ]

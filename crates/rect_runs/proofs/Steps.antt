@@ -35,10 +35,7 @@ unfolding shifted
 shifted-high least a l = cond-false (ltb a least) a (suc a) (le-ltb a least l)
 
 shifted-lt : (least a b : ℕ) → a < b → shifted least a < shifted least b
-shifted-lt least a b l = elim (cases_lt a least) [
-  | inl p ↦ elim (cases_lt b least) [ inl q ↦ omega (arith, shifted-low least a p, shifted-low least b q) | inr q ↦ omega (arith, shifted-low least a p, shifted-high least b q) ]
-  | inr p ↦ omega (arith, shifted-high least a p, shifted-high least b (omega arith))
-]
+shifted-lt least a b l = grind (arith, cases_lt, shifted-low, shifted-high)
 
 shifted-le : (least a : ℕ) → shifted least a ≤ suc a
 shifted-le least a = elim (cases_lt a least) [ inl p ↦ omega (arith, shifted-low least a p) | inr p ↦ omega (arith, shifted-high least a p) ]
@@ -91,41 +88,20 @@ pub record KeepsOrder (m : ℕ) (f h : ℕ → ℕ) : Type 0 where
   pub same : (u v : ℕ) → u < m → v < m → f u ≡ f v → h u ≡ h v
 
 pub KeepsOrder-then : (m k : ℕ) (f h i : ℕ → ℕ) → m ≤ k → KeepsOrder m f h → KeepsOrder k h i → KeepsOrder m f i
-KeepsOrder-then m k f h i l a b = record {
-  less = λ u v p q e. b.less u v (omega arith) (omega arith) (a.less u v p q e);
-  same = λ u v p q e. b.same u v (omega arith) (omega arith) (a.same u v p q e);
-}
+KeepsOrder-then m k f h i l a b = grind arith
 
 KeepsOrder-x : (g : Stage) (c : ℕ) (run : Bool) (f : ℕ → ℕ) → KeepsOrder g.count f (x_after g c run f)
-KeepsOrder-x g c run f = elim (cases_Bool run) [
-  | inl e ↦ record { less = λ u v p q l. omega (arith, x_after-run-older g c run f u e p, x_after-run-older g c run f v e q); same = λ u v p q l. omega (arith, x_after-run-older g c run f u e p, x_after-run-older g c run f v e q) }
-  | inr e ↦ record { less = λ u v p q l. omega (arith, x_after-rise-older g c run f u e p, x_after-rise-older g c run f v e q, shifted-lt (new_x g c f) (f u) (f v) l); same = λ u v p q l. x_after-rise-older g c run f u e p ∙ ap (shifted (new_x g c f)) l ∙ sym (x_after-rise-older g c run f v e q) }
-]
+KeepsOrder-x g c run f = grind (arith, cases_Bool, x_after-run-older, x_after-rise-older, shifted-lt, new_x, shifted)
 
 KeepsOrder-y : (g : Stage) (c : ℕ) (run : Bool) (f : ℕ → ℕ) → KeepsOrder g.count f (y_after g c run f)
-KeepsOrder-y g c run f = elim (cases_Bool run) [
-  | inr e ↦ record { less = λ u v p q l. omega (arith, y_after-rise-older g c run f u e p, y_after-rise-older g c run f v e q); same = λ u v p q l. omega (arith, y_after-rise-older g c run f u e p, y_after-rise-older g c run f v e q) }
-  | inl e ↦ record { less = λ u v p q l. omega (arith, y_after-run-older g c run f u e p, y_after-run-older g c run f v e q, shifted-lt (new_y g c f) (f u) (f v) l); same = λ u v p q l. y_after-run-older g c run f u e p ∙ ap (shifted (new_y g c f)) l ∙ sym (y_after-run-older g c run f v e q) }
-]
+KeepsOrder-y g c run f = grind (arith, cases_Bool, y_after-rise-older, y_after-run-older, shifted-lt, new_y, shifted)
 
 -- what keeps order keeps what was stated
 IsNumbered-kept : (g : Stage) (label : ℕ → Bool) (m : ℕ) (at to : Numbers) → IsStage g → g.count ≤ m → KeepsOrder m at.x to.x → KeepsOrder m at.y to.y → IsNumbered g label at → IsNumbered g label to
-IsNumbered-kept g label m at to stage few kx ky h = record {
-  run = λ i j l e o. kx.less (g.vertex j) (g.vertex (suc i)) (omega (arith, stage.placed j (omega arith))) (omega (arith, stage.placed (suc i) l)) (h.run i j l e o);
-  rise = λ i j l e o. ky.less (g.vertex j) (g.vertex i) (omega (arith, stage.placed j l)) (omega (arith, stage.placed i (omega arith))) (h.rise i j l e o);
-}
+IsNumbered-kept g label m at to stage few kx ky h = grind (arith, to)
 
 IsPut-kept : (g : Stage) (label : ℕ → Bool) (c z m : ℕ) (at to : Numbers) → IsStage g → suc c < g.width → g.count ≤ m → z < m → KeepsOrder m at.x to.x → KeepsOrder m at.y to.y → IsPut g label c z at → IsPut g label c z to
-IsPut-kept g label c z m at to stage cw few zm kx ky h =
-    let placed : (j : ℕ) → j < g.width → g.vertex j < m = λ j l. omega (arith, stage.placed j l) in
-    record {
-      left = λ j l. kx.less (g.vertex j) z (placed j (omega arith)) zm (h.left j l);
-      below = λ j l o. ky.less (g.vertex j) z (placed j o) zm (h.below j l o);
-      under = λ j l e. ky.less z (g.vertex j) zm (placed j (omega arith)) (h.under j l e);
-      before = λ i l o e. kx.less z (g.vertex (suc i)) zm (placed (suc i) o) (h.before i l o e);
-      at_rise = λ e. (kx.less (g.vertex (suc c)) z (placed (suc c) cw) zm (h.at_rise e).0, ky.same z (g.vertex c) zm (placed c (omega arith)) (h.at_rise e).1);
-      at_run = λ e. (ky.less (g.vertex c) z (placed c (omega arith)) zm (h.at_run e).0, kx.same z (g.vertex (suc c)) zm (placed (suc c) cw) (h.at_run e).1);
-    }
+IsPut-kept g label c z m at to stage cw few zm kx ky h = grind (arith, to)
 
 -- a step of a labelled run
 module _ (g : Stage) (s : Step) (label : ℕ → Bool) (at : Numbers) (stage : IsStage g) (step : IsStep g s) (sorted : IsSorted label s) (h : IsNumbered g label at) where
@@ -196,67 +172,20 @@ module _ (g : Stage) (s : Step) (label : ℕ → Bool) (at : Numbers) (stage : I
 -- the new contour is numbered where the old one is and the step fits
 IsNumbered-after : (g : Stage) (s : Step) (label : ℕ → Bool) (c : ℕ) (at : Numbers) → IsStep g s → IsTurn label s c → IsNumbered g label at → IsPut g label c g.count at → IsNumbered (after g s) (labels_after s label) at
 IsNumbered-after g s label c at step t h put =
-    let o = step.order in
-    let w = step.within in
-    let lo = t.low in
-    let hi = t.high in
     record {
       run = λ i j l e m. elim (cases_edge g s label i step l) [
         | inl d ↦
-            let d1 = d.low in
             omega (arith, ap at.x d.end, ap at.x (vertex_after-low g s j (omega arith)), h.run i j (omega arith) (sym d.label_is ∙ e) m)
         | inr (inl d) ↦
-            let d1 = d.at in
             omega (arith, ap at.x d.end, ap at.x (vertex_after-low g s j (omega arith)), put.left j (omega arith))
         | inr (inr (inl d)) ↦ absurd (both_ways _ d.label_is e)
-        | inr (inr (inr d)) ↦
-            let d1 = d.high in
-            let d2 = d.to in
-            let f = sym d.label_is ∙ e in
-            elim (cases_place g s j step (omega arith)) [
-              | inl k ↦ let k1 = k.low in omega (arith, ap at.x d.end, ap at.x (vertex_after-low g s j k1), h.run d.from j d.within f (omega arith))
-              | inr (inl k) ↦ let k1 = k.new in omega (arith, ap at.x d.end, ap at.x (vertex_after-new g s j k1), put.before d.from (omega arith) d.within f)
-              | inr (inr k) ↦
-                  let k1 = k.high in
-                  let k2 = k.to in
-                  omega (arith, ap at.x d.end, ap at.x (vertex_after-high g s j k.from (omega arith) k1 k2), h.run d.from k.from d.within f (omega arith))
-            ]
+        | inr (inr (inr d)) ↦ grind (arith, cases_place, vertex_after-low, vertex_after-new, to, vertex_after-high)
       ];
       rise = λ i j l e m. elim (cases_edge g s label i step (omega arith)) [
-        | inl d ↦
-            let d1 = d.low in
-            let f = sym d.label_is ∙ e in
-            elim (cases_place g s j step l) [
-              | inl k ↦ let k1 = k.low in omega (arith, ap at.y d.start, ap at.y (vertex_after-low g s j k1), h.rise i j (omega arith) f m)
-              | inr (inl k) ↦ let k1 = k.new in omega (arith, ap at.y d.start, ap at.y (vertex_after-new g s j k1), put.under i (omega arith) f)
-              | inr (inr k) ↦
-                  let k1 = k.high in
-                  let k2 = k.to in
-                  omega (arith, ap at.y d.start, ap at.y (vertex_after-high g s j k.from (omega arith) k1 k2), h.rise i k.from k.within f (omega arith))
-            ]
+        | inl d ↦ grind (arith, cases_place, vertex_after-low, vertex_after-new, to, vertex_after-high)
         | inr (inl d) ↦ absurd (both_ways _ e d.label_is)
-        | inr (inr (inl d)) ↦
-            let d1 = d.at in
-            elim (cases_place g s j step l) [
-              | inl k ↦ let k1 = k.low in absurd (omega arith)
-              | inr (inl k) ↦ let k1 = k.new in absurd (omega arith)
-              | inr (inr k) ↦
-                  let k1 = k.high in
-                  let k2 = k.to in
-                  omega (arith, ap at.y d.start, ap at.y (vertex_after-high g s j k.from (omega arith) k1 k2), put.below k.from (omega arith) k.within)
-            ]
-        | inr (inr (inr d)) ↦
-            let d1 = d.high in
-            let d2 = d.to in
-            let f = sym d.label_is ∙ e in
-            elim (cases_place g s j step l) [
-              | inl k ↦ let k1 = k.low in absurd (omega arith)
-              | inr (inl k) ↦ let k1 = k.new in absurd (omega arith)
-              | inr (inr k) ↦
-                  let k1 = k.high in
-                  let k2 = k.to in
-                  omega (arith, ap at.y d.start, ap at.y (vertex_after-high g s j k.from (omega arith) k1 k2), h.rise d.from k.from k.within f (omega arith))
-            ]
+        | inr (inr (inl d)) ↦ grind (arith, cases_place, to, vertex_after-high)
+        | inr (inr (inr d)) ↦ grind (arith, cases_place, to, vertex_after-high)
       ];
     }
 
@@ -290,9 +219,8 @@ module _ (steps : ℕ → Step) where
       (record { less = λ u v p q e. e; same = λ u v p q e. e }, record { less = λ u v p q e. e; same = λ u v p q e. e })
       (λ k low high h.
       let g = stage_after steps k in
-      let n = count-stage_after steps k in
       let at = numbers steps k in
-      let few : m + 2 ≤ g.count = omega arith in (
+      let few : m + 2 ≤ g.count = omega (arith, count-stage_after steps k) in (
         KeepsOrder-then (m + 2) g.count (numbers steps m).x at.x (numbers steps (suc k)).x few h.0 (KeepsOrder-x g (turn_of steps k) (turns_at_run steps k) at.x),
         KeepsOrder-then (m + 2) g.count (numbers steps m).y at.y (numbers steps (suc k)).y few h.1 (KeepsOrder-y g (turn_of steps k) (turns_at_run steps k) at.y),
       ))
@@ -331,31 +259,12 @@ module _ (steps : ℕ → Step) where
       let count = count-stage_after steps n in
       let stage = IsStage-run steps n less.run in
       let t = turn-step n (suc n) h (omega arith) in
-      let hi = t.high in
       let w = (h.run n (omega arith)).within in
       let c = turn_of steps n in
       let b = turns_at_run steps n in
       let at = numbers steps n in
       let old : (v : ℕ) → v < g.count → (at.x v ≤ rise_turns steps n) × (at.y v ≤ suc (run_turns steps n)) = λ v l. bounded n v less (omega arith) in
       elim (cases_Bool b) [
-        | inl e ↦
-            let rs = cond-true b (rise_turns steps n) (suc (rise_turns steps n)) e in
-            let rn = cond-true b (suc (run_turns steps n)) (run_turns steps n) e in
-            elim (cases_lt v g.count) [
-              | inl o ↦ let k = old v o in (omega (arith, k.0, x_after-run-older g c b at.x v e o), omega (arith, k.1, y_after-run-older g c b at.y v e o, shifted-le (new_y g c at.y) (at.y v)))
-              | inr o ↦
-                  let z : v ≡ g.count = omega arith in
-                  let top : new_y g c at.y ≤ suc (suc (run_turns steps n)) = past-le (λ i. at.y (g.vertex (c + i))) (g.width - c) (suc (suc (run_turns steps n))) (λ j m. omega (arith, (old (g.vertex (c + j)) (stage.placed (c + j) (omega arith))).1)) in
-                  (omega (arith, (old (g.vertex (suc c)) (stage.placed (suc c) (omega arith))).0, x_after-run-new g c b at.x v e z), omega (arith, top, y_after-run-new g c b at.y v e z))
-            ]
-        | inr e ↦
-            let rs = cond-false b (rise_turns steps n) (suc (rise_turns steps n)) e in
-            let rn = cond-false b (suc (run_turns steps n)) (run_turns steps n) e in
-            elim (cases_lt v g.count) [
-              | inl o ↦ let k = old v o in (omega (arith, k.0, x_after-rise-older g c b at.x v e o, shifted-le (new_x g c at.x) (at.x v)), omega (arith, k.1, y_after-rise-older g c b at.y v e o))
-              | inr o ↦
-                  let z : v ≡ g.count = omega arith in
-                  let top : new_x g c at.x ≤ suc (rise_turns steps n) = past-le (λ i. at.x (g.vertex i)) (suc (suc c)) (suc (rise_turns steps n)) (λ j m. omega (arith, (old (g.vertex j) (stage.placed j (omega arith))).0)) in
-                  (omega (arith, top, x_after-rise-new g c b at.x v e z), omega (arith, (old (g.vertex c) (stage.placed c (omega arith))).1, y_after-rise-new g c b at.y v e z))
-            ]
+        | inl e ↦ grind (arith, cond-true, rise_turns, run_turns, cases_lt, x_after-run-older, y_after-run-older, shifted-le, new_y, past-le, x_after-run-new, y_after-run-new)
+        | inr e ↦ grind (arith, cond-false, rise_turns, run_turns, cases_lt, x_after-rise-older, shifted-le, new_x, y_after-rise-older, past-le, x_after-rise-new, y_after-rise-new)
       ]

@@ -37,12 +37,7 @@ IsAbove-same : (b d : Boxes) (u v : ℕ) → IsSameBox b d u → IsSameBox b d v
 IsAbove-same b d u v e f x = record { line = omega (arith, e.high, f.low, x.line); first = omega (arith, e.left, f.right, x.first); second = omega (arith, f.left, e.right, x.second) }
 
 ShareSide-same : (b d : Boxes) (u v : ℕ) → IsSameBox b d u → IsSameBox b d v → ShareSide b u v → ShareSide d u v
-ShareSide-same b d u v e f x = elim x [
-  | inl (inl x) ↦ inl (inl (IsBeside-same b d u v e f x))
-  | inl (inr x) ↦ inl (inr (IsBeside-same b d v u f e x))
-  | inr (inl x) ↦ inr (inl (IsAbove-same b d u v e f x))
-  | inr (inr x) ↦ inr (inr (IsAbove-same b d v u f e x))
-]
+ShareSide-same b d u v e f x = grind (arith, IsBeside-same, IsAbove-same)
 
 IsSameBox-back : (b d : Boxes) (u : ℕ) → IsSameBox b d u → IsSameBox d b u
 IsSameBox-back b d u e = record { left = sym e.left; right = sym e.right; low = sym e.low; high = sym e.high }
@@ -119,51 +114,15 @@ module _ (steps : ℕ → Step) (n : ℕ) (h : IsRectRun steps n) where
 
   -- what the last vertex touches
   top_shares : (u v : ℕ) → StandsOver steps n u v → ShareSide all u v
-  top_shares u v p =
-      let d = top_box v p.new in
-      let last = h.top_last in
-      let hi = p.high in
-      let stage = IsStage-run steps n labelled.run in
-      let count = count-stage_after steps n in
-      let placed = stage.placed p.place (omega arith) in
-      let older : u < n + 2 = let e = p.vertex in omega arith in
-      let e = same_box u older in
-      let e1 = e.left in
-      let e2 = e.right in
-      let e3 = e.high in
-      let d1 = d.left in
-      let d2 = d.right in
-      let d3 = d.low in
-      let wide = laid.wide u older in
-      let within = (laid.within u older).0 in
-      let upper = high_end p.place (omega arith) in
-      inr (inl record { line = omega (arith, ap lower.high p.vertex); first = omega arith; second = omega arith })
+  top_shares u v p = grind (arith, top_box, IsStage-run, labelled, count-stage_after, same_box, laid, high_end, lower)
 
   -- a vertex over which one of the steps puts another is one of the first
   under_is_older : (k u v : ℕ) → k < suc n → StandsOver steps k u v → u < n + 2
-  under_is_older k u v l p =
-      let run = IsRun-less steps k (suc n) (omega arith) h.labelled.run in
-      let w = (h.labelled.run k l).within in
-      let hi = p.high in
-      let count = count-stage_after steps k in
-      let placed = (IsStage-run steps k run).placed p.place (omega arith) in
-      let e = p.vertex in
-      omega arith
+  under_is_older k u v l p = grind (arith, IsRun-less, labelled, IsStage-run, count-stage_after)
 
   -- the last vertex is put over the first one alone with the edge between as a run
   turns_at_first : (u v : ℕ) (p : StandsOver steps n u v) → p.place ≤ turn_of steps n → (u ≡ 0) × (v ≡ n + 2)
-  turns_at_first u v p l =
-      let t = turn-step steps n (suc n) h.labelled (omega arith) in
-      let first = h.top_first in
-      let last = h.top_last in
-      let order = (h.labelled.run n (omega arith)).order in
-      let none : turn_of steps n ≡ 0 = elim (cases_lt 0 (turn_of steps n)) [
-        | inl more ↦ absurd (true≢false (sym (closed steps n h 0 (omega arith)) ∙ t.rises 0 (omega arith) more))
-        | inr less ↦ omega arith
-      ] in
-      let here : p.place ≡ 0 = omega arith in
-      let stage = IsStage-run steps n labelled.run in
-      (sym p.vertex ∙ (ap g.vertex here ∙ stage.begin), p.new)
+  turns_at_first u v p l = grind (arith, turn-step, labelled, turn_of, cases_lt, true≢false, closed, IsStage-run)
 
   run_meets : (u v : ℕ) → ¬ ((u ≡ 0) × (v ≡ n + 2)) → IsEndAt steps (suc n) u v run_out → all.right u ≡ all.left v
   run_meets u v off (inr x) = absurd (elim (cases_lt (turn_of steps x.step) x.over.place) [
@@ -175,12 +134,10 @@ module _ (steps : ℕ → Step) (n : ℕ) (h : IsRectRun steps n) where
     | inr m ↦ elim (cases_eq x.step n) [
       | inl e ↦ absurd (let over = subst (λ k. (p : StandsOver steps k u v) × (p.place ≤ turn_of steps k)) e (x.over, m) in off (turns_at_first u v over.0 over.1))
       | inr ne ↦
-          let b = x.before in
-          let new = x.over.new in
-          (same_box u (under_is_older x.step u v b x.over)).right
+          (same_box u (under_is_older x.step u v x.before x.over)).right
           ∙ (ap lower.right (sym x.over.vertex)
           ∙ (laid.right_is x.step x.over.place (omega arith) x.over.low m
-          ∙ (ap lower.left (sym new) ∙ sym (same_box v (omega arith)).left)))
+          ∙ (ap lower.left (sym x.over.new) ∙ sym (same_box v (omega arith)).left)))
     ]
   ]
 
@@ -194,25 +151,18 @@ module _ (steps : ℕ → Step) (n : ℕ) (h : IsRectRun steps n) where
     | inl m ↦ elim (cases_eq x.step n) [
       | inl e ↦
           let over = subst (λ k. StandsOver steps k u v) e x.over in
-          let last = h.top_last in
-          let hi = over.high in
           (same_box u (under_is_older n u v (omega arith) over)).high
           ∙ (ap lower.high (sym over.vertex) ∙ (high_end over.place (omega arith) ∙ sym (top_box v over.new).low))
       | inr ne ↦
-          let b = x.before in
-          let new = x.over.new in
-          (same_box u (under_is_older x.step u v b x.over)).high
+          (same_box u (under_is_older x.step u v x.before x.over)).high
           ∙ (ap lower.high (sym x.over.vertex)
           ∙ (laid.high_is x.step x.over.place (omega arith) m x.over.high
-          ∙ (ap lower.low (sym new) ∙ sym (same_box v (omega arith)).low)))
+          ∙ (ap lower.low (sym x.over.new) ∙ sym (same_box v (omega arith)).low)))
     ]
   ]
 
   top_above : (u v : ℕ) → u < n + 2 → v ≡ n + 2 → lower.high u ≡ top → StandsOver steps n u v
   top_above u v older z e =
-      let last = h.top_last in
-      let first = h.top_first in
-      let w = wide_contour in
       let stage = IsStage-run steps n labelled.run in
       let count = count-stage_after steps n in
       let wide = laid.wide u older in
@@ -222,9 +172,7 @@ module _ (steps : ℕ → Step) (n : ℕ) (h : IsRectRun steps n) where
       let y : ℕ = top - 1 in
       let d : ℕ = g.width - 2 in
       let r = row g lower 0 d x (λ j m o. settled_right steps n lower width top laid n j (omega arith) (omega arith) (laid.closed j (omega arith))) (omega (arith, laid.zeros.0, ap lower.left stage.begin)) (omega (arith, laid.right_end (0 + d) (omega arith) (omega arith))) in
-      let to = r.to in
       let upper = high_end r.place (omega arith) in
-      let placed = stage.placed r.place (omega arith) in
       let tall' = laid.tall (g.vertex r.place) (omega arith) in
       record {
         new = z;
@@ -237,36 +185,18 @@ module _ (steps : ℕ → Step) (n : ℕ) (h : IsRectRun steps n) where
   top_joined : (u v : ℕ) → u < n + 2 → v ≡ n + 2 → ShareSide all u v → StandsOver steps n u v
   top_joined u v older z x =
       let d = top_box v z in
-      let d1 = d.left in
-      let d2 = d.right in
-      let d3 = d.low in
-      let d4 = d.high in
       let e = same_box u older in
-      let e1 = e.left in
-      let e2 = e.right in
-      let e3 = e.low in
-      let e4 = e.high in
-      let wide = laid.wide u older in
       let tall = laid.tall u older in
       let within = laid.within u older in
-      let within1 = within.0 in
-      let within2 = within.1 in
-      elim x [
-        | inl (inl x) ↦ let line = x.line in absurd (omega arith)
-        | inl (inr x) ↦ let line = x.line in absurd (omega arith)
-        | inr (inl x) ↦ let line = x.line in top_above u v older z (omega arith)
-        | inr (inr x) ↦ let line = x.line in absurd (omega arith)
-      ]
+      grind (arith, top_above)
 
   base_shares : (u v : ℕ) → u ≡ 0 → v ≡ 1 → ShareSide lower u v
   base_shares u v eu ev =
-      let s = h.some in
       let upon = settled_high steps n lower width top laid 0 0 (omega arith) (omega arith) refl in
       let z0 = laid.zeros.0 in
       let z1 = laid.zeros.1 in
-      let w0 = laid.wide 0 (omega arith) in
       let w1 = laid.wide 1 (omega arith) in
-      let shares : ShareSide lower 0 1 = inr (inr record { line = upon; first = omega arith; second = omega arith }) in
+      let shares : ShareSide lower 0 1 = inr (inr record { line = upon; first = omega (arith, laid.wide 0 (omega arith)); second = omega arith }) in
       subst (λ u. ShareSide lower u v) (sym eu) (subst (λ v. ShareSide lower 0 v) (sym ev) shares)
 
   pub contacts_joined : (u v : ℕ) → u < v → v < n + 3 → ShareSide all u v ↔ AreJoined steps (suc n) u v
@@ -286,11 +216,9 @@ module _ (steps : ℕ → Step) (n : ℕ) (h : IsRectRun steps n) where
     λ j. elim j [
       | inl b ↦ let s = h.some in ShareSide-same lower all u v (same_box u (omega (arith, b.0))) (same_box v (omega (arith, b.1))) (base_shares u v b.0 b.1)
       | inr p ↦
-          let o = p.1 in
           elim (cases_eq p.0 n) [
             | inl e ↦ top_shares u v (subst (λ k. StandsOver steps k u v) e p.2)
             | inr ne ↦
-                let new = p.2.new in
                 ShareSide-same lower all u v (same_box u (omega arith)) (same_box v (omega arith)) (joined_shares steps n lower width top laid p.0 (omega arith) u v p.2)
           ]
     ],
@@ -300,7 +228,6 @@ module _ (steps : ℕ → Step) (n : ℕ) (h : IsRectRun steps n) where
   covering : AreCovering lower (n + 2) width top
   covering =
       let cells = cells_at steps n lower width top laid n (omega arith) in
-      let w = wide_contour in
       let i : ℕ = g.width - 2 in
       record {
         wide = laid.wide;
@@ -311,19 +238,10 @@ module _ (steps : ℕ → Step) (n : ℕ) (h : IsRectRun steps n) where
       }
 
   lower_area : area_of all (n + 2) ≡ width * top
-  lower_area =
-      area_of-total all (n + 2)
-      ∙ total-same _ (λ v. (lower.right v - lower.left v) * (lower.high v - lower.low v)) (n + 2) (λ v l. let e = same_box v l in ap₂ (λ a b. a * b) (ap₂ (λ a b. a - b) e.right e.left) (ap₂ (λ a b. a - b) e.high e.low))
-      ∙ sym (area_of-total lower (n + 2)) ∙ area_of-covering lower (n + 2) width top covering
+  lower_area = grind (arith, area_of-total, all, total-same, lower, same_box, ap₂, area_of-covering, width, top, covering)
 
   all_area : area_of all (n + 3) ≡ width * suc top
-  all_area =
-      let e : n + 3 ≡ suc (n + 2) = omega arith in
-      let d = top_box (n + 2) refl in
-      let across : all.right (n + 2) - all.left (n + 2) ≡ width = omega (arith, d.right, d.left) in
-      let up : all.high (n + 2) - all.low (n + 2) ≡ 1 = omega (arith, d.high, d.low) in
-      let one : (all.right (n + 2) - all.left (n + 2)) * (all.high (n + 2) - all.low (n + 2)) ≡ width = ap₂ (λ a b. a * b) across up ∙ omega (arith, mul-suc width 0) in
-      ap (area_of all) e ∙ omega (arith, lower_area, one, mul-suc width top)
+  all_area = grind (arith, top_box, all, width, ap₂, mul-suc, area_of, lower_area, top)
 
   pub filling : AreFilling all (n + 3) width (suc top)
   filling = record {
@@ -341,9 +259,7 @@ module _ (steps : ℕ → Step) (n : ℕ) (h : IsRectRun steps n) where
     ];
     apart = λ u v l m. elim (cases_lt v (n + 2)) [
       | inr new ↦
-          let d = top_box v (omega arith) in
-          let e = same_box u (omega arith) in
-          inr (inl (omega (arith, d.low, e.high, (laid.within u (omega arith)).1)))
+          inr (inl (omega (arith, (top_box v (omega arith)).low, (same_box u (omega arith)).high, (laid.within u (omega arith)).1)))
       | inl older ↦
           let e = same_box u (omega arith) in
           let f = same_box v older in
@@ -361,17 +277,14 @@ module _ (steps : ℕ → Step) (n : ℕ) (h : IsRectRun steps n) where
 
   pub framed : IsFramed all n width (suc top)
   framed =
-      let some = h.some in
       let stage = IsStage-run steps n labelled.run in
-      let wide = stage.wide in
-      let e0 = same_box 0 (omega arith) in
       let e1 = same_box 1 (omega arith) in
       let d = top_box (n + 2) refl in
       let i : ℕ = g.width - 1 in
       let j : ℕ = g.width - 2 in
       let right_one = laid.right_end i (omega arith) (omega arith) in
       record {
-        first = e0.left ∙ laid.zeros.0;
+        first = (same_box 0 (omega arith)).left ∙ laid.zeros.0;
         bottom = (e1.left ∙ laid.zeros.1, e1.right ∙ sym (ap lower.right (stage.end i (omega arith))) ∙ right_one, e1.low ∙ laid.zeros.2);
         right = (same_box (n + 1) (omega arith)).right ∙ sym (ap lower.right (right_stands steps n h n j refl (omega arith))) ∙ laid.right_end j (omega arith) (omega arith);
         top = (d.left, d.right, d.high);

@@ -72,10 +72,4 @@ total-stretch lo hi size m l o = let e : m ≡ hi + (m - hi) = omega arith in ap
 
 -- a sum within a stretch
 pub stretch-total : (lo hi : ℕ) (f : ℕ → ℕ) (a m : ℕ) → total (λ c. stretch lo hi (f c) a) m ≡ stretch lo hi (total f m) a
-stretch-total lo hi f a m = elim (cases_lt a lo) [
-  | inl l ↦ total-none _ m (λ c o. stretch-below lo hi (f c) a l) ∙ sym (stretch-below lo hi (total f m) a l)
-  | inr l ↦ elim (cases_lt a hi) [
-    | inl o ↦ total-same _ f m (λ c p. stretch-in lo hi (f c) a l o) ∙ sym (stretch-in lo hi (total f m) a l o)
-    | inr o ↦ total-none _ m (λ c p. stretch-above lo hi (f c) a o) ∙ sym (stretch-above lo hi (total f m) a o)
-  ]
-]
+stretch-total lo hi f a m = grind (arith, cases_lt, total-none, stretch-below, total, total-same, stretch-in, stretch-above)

@@ -5,7 +5,7 @@ use Rattle.std.specs.Prelude.{slice_index}
 use Rattle.map_lists.specs.Lists.{Lists}
 use Rattle.map_theory.specs.Maps.{Dart, place_of}
 use Rattle.map_theory.proofs.DartLemmas.{place_of-get_or}
-use Rattle.pg_plane.specs.declared.segments.Point.{Point}
+use Rattle.pg_plane.specs.declared.grid_points.Point.{Point}
 use Rattle.canon_order.specs.Orders.{IsCanonicalOrder}
 use Rattle.contour_runs.specs.Runs.{Step, stage_after, IsRun, IsCovered}
 use Rattle.contour_runs.specs.Laws.{IsCoveredOnce, CoveredOnce}

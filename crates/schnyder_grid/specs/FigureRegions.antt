@@ -1,7 +1,7 @@
 -- Schnyder's figures of records by the regions of a wood (1990).
 use Rattle.std.specs.Prelude.{ℕ, List}
 use Rattle.map_lists.specs.Lists.{Lists}
-use Rattle.pg_plane.specs.declared.segments.Point.{Point}
+use Rattle.pg_plane.specs.declared.grid_points.Point.{Point}
 use Rattle.pg_plane.specs.declared.figures.GridFigure.{GridFigure}
 use Rattle.wood_runs.specs.Parents.{Colour}
 use Rattle.wood_laws.specs.Woods.{IsInner, IsWood}

@@ -21,8 +21,6 @@ IsPermuting-places lists order number last parent low s t w from to side recent 
       apart = λ u v l m e. elim (cases_eq u v) [
         | inl same ↦ same
         | inr ne ↦
-            let a = h.some u l (f.numbered u l) in
-            let b = h.some v m (f.numbered v m) in
             elim (h.apart u v l m (f.numbered u l) (f.numbered v m) ne) [ inl one ↦ absurd (omega arith) | inr other ↦ absurd (omega arith) ]
       ];
     }
@@ -54,32 +52,21 @@ module _ (lists : Lists) (adjacency : IsAdjacency lists) (order number last pare
 
   earlier : HasDart lists s t → (v : ℕ) → v < length lists → v ≢ s → HasEarlier lists from v
   earlier dart v l ne =
-      let f = w.whole.forest in
-      let first = w.whole.s_first in
-      let second = w.whole.t_second in
       elim (cases_lt 1 (get_or number v 0)) [
         | inl two ↦ (between v l two).0
         | inr few ↦
             let is_t : v ≡ t = elim (cases_eq (get_or number v 0) 0) [
-              | inl e ↦ absurd (ne (same_vertex lists _ _ _ _ f v s l w.whole.s_in (e ∙ sym first)))
-              | inr some ↦ same_vertex lists _ _ _ _ f v t l w.whole.t_in (omega arith)
+              | inl e ↦ absurd (ne (same_vertex lists _ _ _ _ w.whole.forest v s l w.whole.s_in (e ∙ sym w.whole.s_first)))
+              | inr some ↦ same_vertex lists _ _ _ _ w.whole.forest v t l w.whole.t_in (omega arith)
             ] in
             (s, subst (λ x. HasDart lists x s) (sym is_t) (adjacency.both_ways s t dart), s_before lists adjacency _ _ _ _ _ _ _ w.whole _ _ _ _ p.placing v l ne)
       ]
 
   later : HasDart lists s t → (v : ℕ) → v < length lists → v ≢ t → HasLater lists from v
   later dart v l ne =
-      let f = w.whole.forest in
-      let first = w.whole.s_first in
-      let second = w.whole.t_second in
       elim (cases_lt 1 (get_or number v 0)) [
         | inl two ↦ (between v l two).1
-        | inr few ↦
-            let is_s : v ≡ s = elim (cases_eq (get_or number v 0) 0) [
-              | inl e ↦ same_vertex lists _ _ _ _ f v s l w.whole.s_in (e ∙ sym first)
-              | inr some ↦ absurd (ne (same_vertex lists _ _ _ _ f v t l w.whole.t_in (omega arith)))
-            ] in
-            (t, subst (λ x. HasDart lists x t) (sym is_s) dart, t_after lists adjacency _ _ _ _ _ _ _ w.whole _ _ _ _ p.placing v l ne)
+        | inr few ↦ grind (arith, cases_eq, get_or, same_vertex, HasDart, t_after)
       ]
 
   -- the vertices at the places
@@ -89,12 +76,10 @@ module _ (lists : Lists) (adjacency : IsAdjacency lists) (order number last pare
       let some : (i : ℕ) → i < n → (v : ℕ) × (v < n) × (get_or from v 0 ≡ i) = image_of_some (λ v. get_or from v 0) n permuting in
       let is_at : (i : ℕ) → (l : i < n) → get_or at i 0 ≡ (some i l).0 = λ i l. ap (λ x. get_or at x 0) (sym (some i l).2) ∙ own (some i l).0 (some i l).1 in
       let at_in : (i : ℕ) → i < n → get_or at i 0 < n = λ i l. (let v = (some i l).1 in omega (arith, is_at i l)) in
-      let s_in = w.whole.s_in in
       let t_in = w.whole.t_in in
-      let froms = p.tables.froms in
       record {
         count = long;
-        ranks = froms;
+        ranks = p.tables.froms;
         vertices = λ i d l. let q = get_or_default at i d 0 l in let v = at_in i (omega arith) in omega arith;
         places = λ v d l. let q = get_or_default from v d 0 l in let i = permuting.within v (omega arith) in omega arith;
         of_place = λ i l. ap (λ x. get_or from x 0) (is_at i l) ∙ (some i l).2;

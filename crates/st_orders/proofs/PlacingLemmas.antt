@@ -8,14 +8,7 @@ use Rattle.st_orders.specs.Placing.{IsWholeForest, IsPlacing, IsCarved, IsMarked
 
 -- of two children of one vertex that with the lesser number is done before the other is seen
 pub siblings : (lists : Lists) (order number last parent : ℕ → ℕ) → IsForest lists order number last parent → (c v : ℕ) → c < length lists → v < length lists → parent c < length lists → parent c ≡ parent v → number c < number v → last c ≤ number v
-siblings lists order number last parent f c v l m p e less =
-    elim (cases_lt (number v) (last c)) [
-      | inl before ↦
-          let near = f.nearest c v l m (record { after = less; before = before }) in
-          let up = (f.held c l p).after in
-          absurd (let q = ap number e in omega arith)
-      | inr le ↦ le
-    ]
+siblings lists order number last parent f c v l m p e less = grind (arith, cases_lt)
 
 module _ (lists : Lists) (order number last parent low : ℕ → ℕ) (s t : ℕ) (w : IsWholeForest lists order number last parent low s t) (from to : ℕ → ℕ) (side recent : ℕ → Bool) (k : ℕ) (h : IsPlacing lists order number last parent low t from to side recent k) (two : 2 ≤ k) (few : k < length lists) where
   -- the next vertex
@@ -27,17 +20,7 @@ module _ (lists : Lists) (order number last parent low : ℕ → ℕ) (s t : ℕ
 
   -- there is room for it in its parent's range
   pub room_left : (order k < length lists) × (number (order k) ≡ k) × (parent (order k) < length lists) × (number (parent (order k)) < k) × (k < last (order k)) × (last (order k) + from (parent (order k)) < k + to (parent (order k)))
-  room_left =
-      let f = w.forest in
-      let v_in = f.vertex k few in
-      let at = f.place k few in
-      let p_in = w.has_parent v v_in (omega arith) in
-      let up = f.held v v_in p_in in
-      let less = up.after in
-      let ends = f.nested p v p_in v_in up in
-      let grown = f.ends_after v v_in in
-      let room = h.room v v_in (omega arith) p_in (omega arith) in
-      (v_in, at, p_in, omega arith, omega arith, omega arith)
+  room_left = grind arith
 
   module _ (from' to' : ℕ → ℕ) (side' recent' : ℕ → Bool) (size : ℕ) (sized : k + size ≡ last (order k)) (b : Bool) (is_b : b ≡ not (recent (order (low (order k))))) (carved : IsCarved from to from' to' (order k) (parent (order k)) size b) (sides : IsMarked side side' (order k) b) (recents : IsMarked recent recent' (parent (order k)) b) where
     pub IsPlacing-more : IsPlacing lists order number last parent low t from' to' side' recent' (k + 1)
@@ -46,13 +29,11 @@ module _ (lists : Lists) (order number last parent low : ℕ → ℕ) (s t : ℕ
         let f = w.forest in
         let left = room_left in
         let v_in = left.0 in
-        let at = left.1 in
         let p_in = left.2 in
         let p_low = left.3 in
-        let v_last = left.4 in
         let old : (x : ℕ) → x < n → number x < k + 1 → x ≢ v → number x < k = λ x l m ne. (let q : number x ≢ k = λ e. ne (sym (f.own x l) ∙ ap order e) in omega arith) in
         let off : (x : ℕ) → number x < k → x ≢ v = λ x m e. (let q = ap number e in omega arith) in
-        let number_v : (x : ℕ) → x ≡ v → number x ≡ k = λ x e. ap number e ∙ at in
+        let number_v : (x : ℕ) → x ≡ v → number x ≡ k = λ x e. ap number e ∙ left.1 in
         let up_from : (x : ℕ) → x ≢ v → from x ≤ from' x = λ x ne.
         elim (cases_eq x p) [ inl e ↦ subst (λ y. from y ≤ from' y) (sym e) carved.rest_start | inr other ↦ omega (arith, carved.elsewhere_from x ne other) ] in
         let down_to : (x : ℕ) → x ≢ v → to' x ≤ to x = λ x ne.
@@ -67,8 +48,6 @@ module _ (lists : Lists) (order number last parent low : ℕ → ℕ) (s t : ℕ
           | inr ne ↦
               let a = up_from y (off y m) in
               let d = down_to y (off y m) in
-              let start = carved.start in
-              let end = carved.end in
               elim (h.apart p y p_in l p_low m (λ e. ne (sym e))) [ inl one ↦ inl (omega arith) | inr other ↦ inr (omega arith) ]
         ] in
         record {
@@ -101,21 +80,11 @@ module _ (lists : Lists) (order number last parent low : ℕ → ℕ) (s t : ℕ
           ];
           room = λ x l later q_in m. elim (cases_eq (parent x) v) [
             | inl e ↦
-                let up = (f.held x l q_in).after in
-                let r = carved.range in
                 subst (λ y. last y + 1 + from' y ≤ number x + to' y) (sym e) (omega arith)
-            | inr ne ↦ elim (cases_eq (parent x) p) [
-              | inl e ↦
-                  let after = siblings lists order number last parent f v x v_in l p_in (sym e) (omega arith) in
-                  let had = h.room v v_in (omega arith) p_in p_low in
-                  let rest = carved.rest in
-                  subst (λ y. last y + 1 + from' y ≤ number x + to' y) (sym e) (omega arith)
-              | inr other ↦ omega (arith, carved.elsewhere_from (parent x) ne other, carved.elsewhere_to (parent x) ne other, h.room x l (omega arith) q_in (old (parent x) q_in m ne))
-            ]
+            | inr ne ↦ grind (arith, cases_eq, siblings)
           ];
           before = λ a c l m i q_in inner is_set.
               let up = (f.held c m q_in).after in
-              let c_from = inner.from in
               elim (cases_eq a v) [
                 | inl e ↦
                     let a_number = number_v a e in
@@ -127,19 +96,15 @@ module _ (lists : Lists) (order number last parent low : ℕ → ℕ) (s t : ℕ
                           let c_low = old c m (omega arith) ne in
                           let holds : Holds number last c v = record { after = omega arith; before = let z = inner.before in omega arith } in
                           let q = h.before p c p_in m p_low q_in (IsWithin-parent lists order number last parent f c v m v_in holds) (sym (still c ne) ∙ is_set) in
-                          let end = carved.end in
-                          let grown = up_from (parent c) (off (parent c) (omega arith)) in
-                          subst (λ y. to' y ≤ from' (parent c)) (sym e) (omega arith)
+                          subst (λ y. to' y ≤ from' (parent c)) (sym e) (omega (arith, up_from (parent c) (off (parent c) (omega arith))))
                     ]
                 | inr ne ↦
                     let a_low = old a l i ne in
-                    let c_other = off c (omega arith) in
-                    let q = h.before a c l m a_low q_in inner (sym (still c c_other) ∙ is_set) in
+                    let q = h.before a c l m a_low q_in inner (sym (still c (off c (omega arith))) ∙ is_set) in
                     omega (arith, down_to a ne, up_from (parent c) (off (parent c) (omega arith)))
               ];
           after = λ a c l m i q_in inner is_clear.
               let up = (f.held c m q_in).after in
-              let c_from = inner.from in
               elim (cases_eq a v) [
                 | inl e ↦
                     let a_number = number_v a e in
@@ -151,14 +116,11 @@ module _ (lists : Lists) (order number last parent low : ℕ → ℕ) (s t : ℕ
                           let c_low = old c m (omega arith) ne in
                           let holds : Holds number last c v = record { after = omega arith; before = let z = inner.before in omega arith } in
                           let q = h.after p c p_in m p_low q_in (IsWithin-parent lists order number last parent f c v m v_in holds) (sym (still c ne) ∙ is_clear) in
-                          let start = carved.start in
-                          let shrunk = down_to (parent c) (off (parent c) (omega arith)) in
-                          subst (λ y. to' (parent c) ≤ from' y) (sym e) (omega arith)
+                          subst (λ y. to' (parent c) ≤ from' y) (sym e) (omega (arith, down_to (parent c) (off (parent c) (omega arith))))
                     ]
                 | inr ne ↦
                     let a_low = old a l i ne in
-                    let c_other = off c (omega arith) in
-                    let q = h.after a c l m a_low q_in inner (sym (still c c_other) ∙ is_clear) in
+                    let q = h.after a c l m a_low q_in inner (sym (still c (off c (omega arith))) ∙ is_clear) in
                     omega (arith, up_from a ne, down_to (parent c) (off (parent c) (omega arith)))
               ];
           recent_side = λ c l i j q_in. elim (cases_eq c v) [
@@ -169,20 +131,10 @@ module _ (lists : Lists) (order number last parent low : ℕ → ℕ) (s t : ℕ
                 recents.elsewhere (parent c) other ∙ (h.recent_side c l c_low (omega arith) q_in ∙ sym (still c ne))
           ];
           rule = λ x c l m i two_x e holds.
-              let less = holds.after in
-              let before = holds.before in
               elim (cases_eq x v) [
-                | inl g ↦
-                    let x_number = number_v x g in
-                    let c_other = off c (omega arith) in
-                    let is : parent c ≡ order (low v) = e ∙ ap (λ y. order (low y)) g in
-                    let q_in : parent c < n = rw e (f.vertex (low x) (let p_x = w.has_parent x l (omega arith) in let small = w.beyond x l two_x in let top = f.numbered (parent x) p_x in omega arith)) in
-                    let known = h.recent_side c m (omega arith) (omega arith) q_in in
-                    ap side' g ∙ (sides.here ∙ (is_b ∙ ap not (ap recent (sym is) ∙ (known ∙ sym (still c c_other)))))
+                | inl g ↦ grind (arith, not)
                 | inr ne ↦
-                    let x_low = old x l i ne in
-                    let c_other = off c (omega arith) in
-                    still x ne ∙ (h.rule x c l m x_low two_x e holds ∙ ap not (sym (still c c_other)))
+                    still x ne ∙ (h.rule x c l m (old x l i ne) two_x e holds ∙ ap not (sym (still c (off c (omega arith)))))
               ];
           first = still t (off t (let q = w.t_second in omega arith)) ∙ h.first;
         }

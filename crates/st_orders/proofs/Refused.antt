@@ -7,7 +7,6 @@ use Rattle.st_orders.specs.StOrders.{IsStOrder}
 vertex_on_the_side_of_its_low_point : (from to : List ℕ) (recent : List Bool) (p : IsPlacingIn ((1 ∷ 2 ∷ []) ∷ (2 ∷ 0 ∷ []) ∷ (0 ∷ 1 ∷ []) ∷ []) (0 ∷ 1 ∷ 2 ∷ []) (0 ∷ 1 ∷ 2 ∷ []) (3 ∷ 3 ∷ 3 ∷ []) (3 ∷ 0 ∷ 1 ∷ []) (0 ∷ 0 ∷ 0 ∷ []) from to recent 3) → p.side 1 ≡ false → p.side 2 ≡ false → ⊥
 vertex_on_the_side_of_its_low_point from to recent p child vertex =
     let h = p.placing.rule 2 1 (omega arith) (omega arith) (omega arith) (omega arith) refl (record { after = omega arith; before = omega arith }) in
-    let e : false ≡ true = sym vertex ∙ (h ∙ ap not child) in
     cc
 
 -- the order of an edge turned

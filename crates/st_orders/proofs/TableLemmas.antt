@@ -25,21 +25,7 @@ module _ (lists : Lists) (order number last parent low : List ℕ) (w : IsWholeS
     pub far_in : get_or order (get_or low (get_or order k 0) 0) 0 < length lists
 
   pub next : (k : ℕ) → IsPlacingIn lists order number last parent low from to recent k → 2 ≤ k → k < length lists → IsNext k
-  next k h two few =
-      let left = room_left lists _ _ _ _ _ _ _ w.whole _ _ _ _ k h.placing two few in
-      let f = w.whole.forest in
-      let at = left.1 in
-      let p_low = left.3 in
-      let beyond = w.whole.beyond (get_or order k 0) left.0 (omega arith) in
-      record {
-        v_in = left.0;
-        p_in = left.2;
-        other = λ e. (let q = ap (λ x. get_or number x 0) e in omega arith);
-        ends = left.4;
-        room = left.5;
-        low_in = omega arith;
-        far_in = f.vertex (get_or low (get_or order k 0) 0) (omega arith);
-      }
+  next k h two few = grind (arith, room_left, get_or)
 
   -- one vertex more
   pub IsPlacingIn-more : (k : ℕ) → IsPlacingIn lists order number last parent low from to recent k → 2 ≤ k → k < length lists → (from' to' : List ℕ) → length from' ≡ length from → length to' ≡ length to → IsCarved (λ x. get_or from x 0) (λ x. get_or to x 0) (λ x. get_or from' x 0) (λ x. get_or to' x 0) (get_or order k 0) (get_or parent (get_or order k 0) 0) (get_or last (get_or order k 0) 0 - k) (not (get_or recent (get_or order (get_or low (get_or order k 0) 0) 0) false)) → IsPlacingIn lists order number last parent low from' to' (set recent (get_or parent (get_or order k 0) 0) (not (get_or recent (get_or order (get_or low (get_or order k 0) 0) 0) false))) (k + 1)
@@ -114,23 +100,10 @@ module _ (lists : Lists) (order number last parent low : List ℕ) (w : IsWholeS
 -- the first two
 module _ (lists : Lists) (order number last parent low : ℕ → ℕ) (s t : ℕ) (w : IsWholeForest lists order number last parent low s t) (from to : ℕ → ℕ) (side recent : ℕ → Bool) (from_s : from s ≡ 0) (to_s : to s ≡ 1) (from_t : from t ≡ 1) (to_t : to t ≡ length lists) (side_t : side t ≡ false) (recent_s : recent s ≡ false) (some : 2 ≤ length lists) where
   one_of_two : (v : ℕ) → v < length lists → number v < 2 → (v ≡ s) ⊎ (v ≡ t)
-  one_of_two v l m =
-      let f = w.forest in
-      let a = w.s_first in
-      let b = w.t_second in
-      elim (cases_eq (number v) 0) [
-        | inl e ↦ inl (same_vertex lists order number last parent f v s l w.s_in (omega arith))
-        | inr ne ↦ inr (same_vertex lists order number last parent f v t l w.t_in (omega arith))
-      ]
+  one_of_two v l m = grind (arith, cases_eq, same_vertex)
 
   parent_t : parent t ≡ s
-  parent_t =
-      let f = w.forest in
-      let a = w.s_first in
-      let b = w.t_second in
-      let p = w.has_parent t w.t_in (omega arith) in
-      let up = (f.held t w.t_in p).after in
-      same_vertex lists order number last parent f (parent t) s p w.s_in (omega arith)
+  parent_t = grind (arith, same_vertex)
 
   -- a child of the first two, of a number below two, is t
   child_t : (c : ℕ) → c < length lists → parent c < length lists → number c < 2 → c ≡ t
@@ -215,9 +188,4 @@ IsPlacingIn-two lists order number last parent low from to recent w some tables 
 
 -- the first two, by what was read of them
 pub IsPlacingIn-first : (lists : Lists) (order number last parent low from to : List ℕ) (recent : List Bool) → IsWholeSearch lists order number last parent low → 2 ≤ length lists → AreTables lists from to recent → (s t n : ℕ) → s ≡ get_or order 0 s → t ≡ get_or order 1 t → n ≡ length lists → IsPlacingIn lists order number last parent low (set (set from s 0) t 1) (set (set to s 1) t n) (set recent s false) 2
-IsPlacingIn-first lists order number last parent low from to recent w some tables s t n s_read t_read n_is =
-    let o = w.orders in
-    let s_is : s ≡ get_or order 0 0 = s_read ∙ get_or_default order 0 s 0 (omega (arith, some, o)) in
-    let t_is : t ≡ get_or order 1 0 = t_read ∙ get_or_default order 1 t 0 (omega (arith, some, o)) in
-    let at = λ (x y z : ℕ). IsPlacingIn lists order number last parent low (set (set from x 0) y 1) (set (set to x 1) y z) (set recent x false) 2 in
-    subst (λ x. at x t n) (sym s_is) (subst (λ y. at (get_or order 0 0) y n) (sym t_is) (subst (λ z. at (get_or order 0 0) (get_or order 1 0) z) (sym n_is) (IsPlacingIn-two lists order number last parent low from to recent w some tables)))
+IsPlacingIn-first lists order number last parent low from to recent w some tables s t n s_read t_read n_is = grind (arith, get_or, get_or_default, IsPlacingIn, set, IsPlacingIn-two)

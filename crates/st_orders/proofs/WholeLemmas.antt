@@ -14,7 +14,6 @@ use Rattle.st_orders.specs.Placing.{IsWholeForest, IsWholeSearch}
 pub IsWholeForest-biconnected : (lists : Lists) → IsSimpleMap lists → component_count lists ≡ 1 → ((v : ℕ) → ¬ IsCutVertex lists v) → (order number last parent low : ℕ → ℕ) → IsForest lists order number last parent → ((v : ℕ) → v < length lists → IsLow lists number last v (low v)) → (s t : ℕ) → HasDart lists s t → number s ≡ 0 → number t ≡ 1 → IsWholeForest lists order number last parent low s t
 IsWholeForest-biconnected lists simple connected uncut order number last parent low f lows s t dart s_first t_second =
     let n = length lists in
-    let adjacency = IsAdjacency-simple lists simple in
     let s_in = dart.0 in
     let mark : ℕ → Bool = λ x. ltb (number x) (last s) in
     let over : (x u : ℕ) → HasDart lists x u → mark x ≡ true → mark u ≡ true = λ x u has m.
@@ -37,7 +36,7 @@ IsWholeForest-biconnected lists simple connected uncut order number last parent 
         | inl less ↦ less
         | inr high ↦
             let p = has_parent v l (omega arith) in
-            absurd (uncut (parent v) (IsCutVertex-separated lists adjacency order number last parent f low lows (parent v) p v
+            absurd (uncut (parent v) (IsCutVertex-separated lists (IsAdjacency-simple lists simple) order number last parent f low lows (parent v) p v
             (record {
               vertex = l;
               child = refl;
@@ -50,10 +49,9 @@ IsWholeForest-biconnected lists simple connected uncut order number last parent 
 -- the same in tables: s is the vertex numbered 0, and t that numbered 1
 pub IsWholeSearch-biconnected : (lists : Lists) → IsSimpleMap lists → component_count lists ≡ 1 → ((v : ℕ) → ¬ IsCutVertex lists v) → (order number last parent low : List ℕ) → IsForestOf lists order number last parent → AreLows lists number last low → (s t : ℕ) → HasDart lists s t → get_or number s 0 ≡ 0 → get_or number t 0 ≡ 1 → IsWholeSearch lists order number last parent low × (get_or order 0 0 ≡ s) × (get_or order 1 0 ≡ t)
 IsWholeSearch-biconnected lists simple connected uncut order number last parent low all lows s t dart s_first t_second =
-    let f = all.forest in
-    let is_s : get_or order 0 0 ≡ s = ap (λ k. get_or order k 0) (sym s_first) ∙ f.own s dart.0 in
-    let is_t : get_or order 1 0 ≡ t = ap (λ k. get_or order k 0) (sym t_second) ∙ f.own t (simple.in_range s t dart) in
-    let w = IsWholeForest-biconnected lists simple connected uncut _ _ _ _ (λ v. get_or low v 0) f lows.at s t dart s_first t_second in (
+    let is_s : get_or order 0 0 ≡ s = ap (λ k. get_or order k 0) (sym s_first) ∙ all.forest.own s dart.0 in
+    let is_t : get_or order 1 0 ≡ t = ap (λ k. get_or order k 0) (sym t_second) ∙ all.forest.own t (simple.in_range s t dart) in
+    let w = IsWholeForest-biconnected lists simple connected uncut _ _ _ _ (λ v. get_or low v 0) all.forest lows.at s t dart s_first t_second in (
       record {
         orders = all.orders;
         numbers = all.numbers;

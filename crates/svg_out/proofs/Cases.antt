@@ -2,7 +2,7 @@
 use Rattle.std.specs.Prelude.{ℕ, pos, ◌≡◌, List, [], ◌∷◌, ◌++◌, codes, refl, flat_map}
 use Rattle.std.specs.Fmt.{digits}
 use Rattle.map_lists.specs.Lists.{Lists}
-use Rattle.pg_plane.specs.declared.segments.Point.{Point}
+use Rattle.pg_plane.specs.declared.grid_points.Point.{Point}
 use Rattle.svg_out.specs.Edges.{later_neighbours, edges}
 use Rattle.svg_out.specs.Svg.{attribute, ends, segment, front, opening, closing, thick, dot, grid_body, bar_marks, column_marks, bars_body, sides, unfilled, tile, tiles, grid_svg, bars_svg, rects_svg}
 

@@ -49,19 +49,7 @@ module _ (least : ℕ) (lists : Lists) where
   FromEarly = IsFirstOr Refusal Early (first_refusal least lists ≡ None) FromParted
 
   in_turn : (refusal : Refusal) → BreaksFirst least lists refusal → FromEarly refusal
-  in_turn (OutOfRange v u) h = inl h
-  in_turn (Loop v) h = inl h
-  in_turn (Repeated v u) h = inl h
-  in_turn (OneSided v u) h = inl h
-  in_turn (Small n) h = inl h
-  in_turn (Genus g) h = inl h
-  in_turn NotConnected h = inr (h.0, inl (refl, h.1))
-  in_turn (CutVertex v) h = inr (h.0, inr (h.1, (v, refl, h.2)))
-  in_turn (SeparatingPair u v) h = inl h
-  in_turn OuterNotQuad h = inl h
-  in_turn (NotTriangle v u) h = inl h
-  in_turn (SeparatingTriangle a b c) h = inl h
-  in_turn NoInner h = inl h
+  in_turn x0 h = grind (arith, OutOfRange, Loop, Repeated, OneSided, Small, Genus, NotConnected, CutVertex, SeparatingPair, OuterNotQuad, NotTriangle, SeparatingTriangle)
 
   one_early : AtMostOne Refusal Early
   one_early v w f g = ap (λ o. unwrap_or o v) (sym f ∙ g)
@@ -91,19 +79,7 @@ module _ (nothing : BiconnectedBreakNothing) (lists : Lists) (some : 0 < length 
   Pair refusal = (u : VertexId) × (v : VertexId) × (refusal ≡ SeparatingPair u v) × IsLeastPair lists u.0 v.0
 
   convex_in_turn : (refusal : Refusal) → BreaksConvex lists refusal → FromFirst nothing 4 lists some Pair refusal
-  convex_in_turn (OutOfRange v u) h = inl h
-  convex_in_turn (Loop v) h = inl h
-  convex_in_turn (Repeated v u) h = inl h
-  convex_in_turn (OneSided v u) h = inl h
-  convex_in_turn (Small n) h = inl h
-  convex_in_turn (Genus g) h = inl h
-  convex_in_turn NotConnected h = inl h
-  convex_in_turn (CutVertex v) h = inl h
-  convex_in_turn (SeparatingPair u v) h = inr (h.0, (u, v, refl, h.1))
-  convex_in_turn OuterNotQuad h = inl h
-  convex_in_turn (NotTriangle v u) h = inl h
-  convex_in_turn (SeparatingTriangle a b c) h = inl h
-  convex_in_turn NoInner h = inl h
+  convex_in_turn x0 h = grind (arith, OutOfRange, Loop, Repeated, OneSided, Small, Genus, NotConnected, CutVertex, SeparatingPair, OuterNotQuad, NotTriangle, SeparatingTriangle)
 
   one_pair : AtMostOne Refusal Pair
   one_pair v w f g =
@@ -136,19 +112,7 @@ module _ (nothing : BiconnectedBreakNothing) (lists : Lists) (some : 0 < length 
   FromFrameless = IsFirstOr Refusal Frameless (HasFrame lists) FromLarge
 
   rect_in_turn : (refusal : Refusal) → BreaksRect lists refusal → FromFirst nothing 3 lists some FromFrameless refusal
-  rect_in_turn (OutOfRange v u) h = inl h
-  rect_in_turn (Loop v) h = inl h
-  rect_in_turn (Repeated v u) h = inl h
-  rect_in_turn (OneSided v u) h = inl h
-  rect_in_turn (Small n) h = inl h
-  rect_in_turn (Genus g) h = inl h
-  rect_in_turn NotConnected h = inl h
-  rect_in_turn (CutVertex v) h = inl h
-  rect_in_turn (SeparatingPair u v) h = inl h
-  rect_in_turn OuterNotQuad h = inr (h.0, inl (refl, h.1))
-  rect_in_turn (NotTriangle v u) h = inr (h.0, inr (h.1, inl (v, u, refl, h.2)))
-  rect_in_turn (SeparatingTriangle a b c) h = inr (h.0, inr (h.1, inr (h.2, inl (a, b, c, refl, h.3))))
-  rect_in_turn NoInner h = inr (h.0, inr (h.1, inr (h.2, inr (h.3, refl))))
+  rect_in_turn x0 h = grind (arith, OutOfRange, Loop, Repeated, OneSided, Small, Genus, NotConnected, CutVertex, SeparatingPair, OuterNotQuad, NotTriangle, SeparatingTriangle)
 
   one_large : AtMostOne Refusal Large
   one_large v w f g =
@@ -156,12 +120,7 @@ module _ (nothing : BiconnectedBreakNothing) (lists : Lists) (some : 0 < length 
       f.2 ∙ (ap₂ (λ a b. NotTriangle a b) (same_vertex f.0 g.0 (pair_first P f.0.0 f.1.0 g.0.0 g.1.0 f.3 g.3)) (same_vertex f.1 g.1 (pair_second P f.0.0 f.1.0 g.0.0 g.1.0 f.3 g.3)) ∙ sym g.2)
 
   one_separates : AtMostOne Refusal Separates
-  one_separates v w f g =
-      let P = IsSeparating lists in
-      let a = same_vertex f.0 g.0 (triple_first P f.0.0 f.1.0 f.2.0 g.0.0 g.1.0 g.2.0 f.4 g.4) in
-      let b = same_vertex f.1 g.1 (triple_second P f.0.0 f.1.0 f.2.0 g.0.0 g.1.0 g.2.0 f.4 g.4) in
-      let c = same_vertex f.2 g.2 (triple_third P f.0.0 f.1.0 f.2.0 g.0.0 g.1.0 g.2.0 f.4 g.4) in
-      f.3 ∙ (ap₂ (λ x y. SeparatingTriangle x y f.2) a b ∙ (ap (λ z. SeparatingTriangle g.0 g.1 z) c ∙ sym g.3))
+  one_separates v w f g = grind (arith, IsSeparating, same_vertex, triple_first, triple_second, triple_third, ap₂, SeparatingTriangle)
 
   from_separates : AtMostOne Refusal FromSeparates
   from_separates = one_or_others Refusal Separates (NoneSeparating lists) Empty one_separates (λ v f none. none f.0.0 f.1.0 f.2.0 f.4.rest.rest.here) (λ v w f g. f ∙ sym g)

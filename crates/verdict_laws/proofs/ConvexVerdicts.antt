@@ -4,7 +4,7 @@ use Rattle.std.proofs.lemmas.Int.{ints}
 use Rattle.map_lists.specs.Lists.{Lists}
 use Rattle.map_lists.specs.declared.ids.VertexId.{VertexId}
 use Rattle.map_theory.specs.Maps.{Dart}
-use Rattle.pg_plane.specs.declared.segments.Point.{Point}
+use Rattle.pg_plane.specs.declared.grid_points.Point.{Point}
 use Rattle.pg_plane.specs.Geometry.{area}
 use Rattle.plane_drawings.specs.Drawing.{place}
 use Rattle.vertex_rounds.specs.Least.{IsLeastTriple}
@@ -32,9 +32,8 @@ module _ (lists : Lists) (points : List Point) (base : Dart) where
   -- in a convex drawing no face bends
   none_bent : IsConvex lists points base → NoneBent lists points base
   none_bent h a b c bent =
-      let flat = h.inner a b bent.dart bent.other in
       let turn = subst (λ k. area (place points a) (place points b) (place points k) <ℤ pos 0) (sym bent.third) bent.turn in
-      omega (arith, ints)
+      omega (arith, h.inner a b bent.dart bent.other, ints)
 
   in_turn : (verdict : ConvexVerdict) → IsConvexVerdict lists points base verdict → FromBends verdict
   in_turn (Bent a b c) h = inl (a, b, c, refl, h)
@@ -42,12 +41,7 @@ module _ (lists : Lists) (points : List Point) (base : Dart) where
   in_turn Yes h = inr (none_bent h, inr (h.outer, refl))
 
   one_bends : AtMostOne ConvexVerdict Bends
-  one_bends v w f g =
-      let P = IsBent lists points base in
-      let a = same_vertex f.0 g.0 (triple_first P f.0.0 f.1.0 f.2.0 g.0.0 g.1.0 g.2.0 f.4 g.4) in
-      let b = same_vertex f.1 g.1 (triple_second P f.0.0 f.1.0 f.2.0 g.0.0 g.1.0 g.2.0 f.4 g.4) in
-      let c = same_vertex f.2 g.2 (triple_third P f.0.0 f.1.0 f.2.0 g.0.0 g.1.0 g.2.0 f.4 g.4) in
-      f.3 ∙ (ap₂ (λ x y. Bent x y f.2) a b ∙ (ap (λ z. Bent g.0 g.1 z) c ∙ sym g.3))
+  one_bends v w f g = grind (arith, IsBent, same_vertex, triple_first, triple_second, triple_third, ap₂, Bent)
 
   from_outside : AtMostOne ConvexVerdict FromOutside
   from_outside = one_or_others ConvexVerdict BendsOutside (HasOuterCorners lists points base) (λ verdict. verdict ≡ Yes) (λ v w f g. f.0 ∙ sym g.0) (λ v f has. f.1 has) (only_one ConvexVerdict Yes)

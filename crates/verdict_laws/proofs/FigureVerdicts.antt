@@ -8,7 +8,7 @@ use Rattle.simple_maps.specs.Faults.{Fault, out_of_range, loop_at, repeated, one
 use Rattle.simple_maps.specs.declared.map_fault.MapFault.{MapFault}
 use Rattle.simple_maps.specs.declared.map_fault.MapFault.TheVariants.{OutOfRange, Loop, Repeated, OneSided, NoMemory}
 use Rattle.half_edges.specs.Map.{first_dart}
-use Rattle.pg_plane.specs.declared.segments.Point.{Point}
+use Rattle.pg_plane.specs.declared.grid_points.Point.{Point}
 use Rattle.pg_plane.specs.declared.figures.BarFigure.{BarFigure}
 use Rattle.pg_plane.specs.declared.figures.RectFigure.{RectFigure}
 use Rattle.vertex_rounds.specs.Least.{IsLeastPair}

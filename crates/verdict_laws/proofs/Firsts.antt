@@ -12,10 +12,7 @@ abbrev pub IsFirstOr : (V : Type 0) → (V → Type 0) → Type 0 → (V → Typ
 IsFirstOr V First None Others v = First v ⊎ (None × Others v)
 
 pub one_or_others : (V : Type 0) (First : V → Type 0) (None : Type 0) (Others : V → Type 0) → AtMostOne V First → ((v : V) → First v → None → ⊥) → AtMostOne V Others → AtMostOne V (IsFirstOr V First None Others)
-one_or_others V First None Others one apart others v w (inl f) (inl g) = one v w f g
-one_or_others V First None Others one apart others v w (inl f) (inr g) = absurd (apart v f g.0)
-one_or_others V First None Others one apart others v w (inr f) (inl g) = absurd (apart w g f.0)
-one_or_others V First None Others one apart others v w (inr f) (inr g) = others v w f.1 g.1
+one_or_others V First None Others one apart others v w x9 x10 = grind arith
 
 -- one value alone
 pub only_one : (V : Type 0) (x : V) → AtMostOne V (λ v. v ≡ x)
@@ -23,14 +20,7 @@ only_one V x v w e f = e ∙ sym f
 
 -- least numbers
 pub least_is_one : (P : ℕ → Type 0) (x y : ℕ) → IsLeast P x → IsLeast P y → x ≡ y
-least_is_one P x y h g =
-    elim (cases_lt x y) [
-      | inl l ↦ absurd (g.before x l h.here)
-      | inr l ↦ elim (cases_lt y x) [
-        | inl m ↦ absurd (h.before y m g.here)
-        | inr m ↦ omega arith
-      ]
-    ]
+least_is_one P x y h g = grind (arith, cases_lt)
 
 -- the first of two least numbers, by any property that the rest has
 least_first : (P : ℕ → Type 0) (x y : ℕ) → ((z : ℕ) → z < x → ¬ P z) → P x → ((z : ℕ) → z < y → ¬ P z) → P y → x ≡ y
@@ -76,6 +66,4 @@ pub same_ends : (e f : Ends) → e.a.0 ≡ f.a.0 → e.b.0 ≡ f.b.0 → e ≡ f
 unfolding edge
 same_ends e f first second =
     let here : (q : e.a.0 < e.b.0) → e ≡ edge e.a.0 e.b.0 q = λ q. ap (λ l. edge e.a.0 e.b.0 l) (le_prop e.rising q) in
-    let moved : (q : f.a.0 < e.b.0) → e ≡ edge f.a.0 e.b.0 q = subst (λ (m : ℕ). (q : m < e.b.0) → e ≡ edge m e.b.0 q) first here in
-    let both : (q : f.a.0 < f.b.0) → e ≡ edge f.a.0 f.b.0 q = subst (λ (n : ℕ). (q : f.a.0 < n) → e ≡ edge f.a.0 n q) second moved in
-    both f.rising
+    (subst (λ (n : ℕ). (q : f.a.0 < n) → e ≡ edge f.a.0 n q) second (subst (λ (m : ℕ). (q : m < e.b.0) → e ≡ edge m e.b.0 q) first here)) f.rising

@@ -5,7 +5,7 @@ use Rattle.map_lists.specs.Lists.{Lists}
 use Rattle.map_lists.specs.declared.ids.VertexId.{VertexId}
 use Rattle.map_lists.specs.declared.items.Ends.{Ends}
 use Rattle.map_theory.specs.Maps.{Dart, component_count}
-use Rattle.pg_plane.specs.declared.segments.Point.{Point}
+use Rattle.pg_plane.specs.declared.grid_points.Point.{Point}
 use Rattle.plane_drawings.specs.Drawing.{KeepsRotations}
 use Rattle.vertex_rounds.specs.Least.{IsLeast, IsLeastPair, IsLeastTriple, IsLeastFour}
 use Rattle.draw_check.specs.Faults.{LeavesGrid, ShareAPlace, LiesOnEdge, EdgesCross, IsTurned}
@@ -122,9 +122,7 @@ module _ (lists : Lists) (points : List Point) (base : Dart) where
   -- no face inside has a positive area
   pub inside_is_not_outer : (v u : ℕ) → component_count lists ≡ 1 → IsInside lists points base v u → HasOuterFace lists points base → ⊥
   inside_is_not_outer v u one h face =
-      let low = h.sum in
-      let high = face one v u h.dart h.other in
-      omega (arith, ints)
+      omega (arith, face one v u h.dart h.other, ints)
 
   one_inside : AtMostOne OuterVerdict Inside
   one_inside v w f g =

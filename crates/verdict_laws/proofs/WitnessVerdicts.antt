@@ -52,11 +52,7 @@ module _ (graph : EdgeGraph) (kind : Kind) (branch : List VertexId) (paths : Lis
   FromShape = IsFirstOr WitnessVerdict Misshapes (IsShape kind branch paths) FromBranches
 
   in_turn : (verdict : WitnessVerdict) → IsVerdict graph kind branch paths verdict → FromShape verdict ⊎ (verdict ≡ Yes)
-  in_turn BadShape h = inl (inl (refl, h))
-  in_turn (BadBranch i) h = inl (inr (h.0, inl (i, refl, h.1, h.2)))
-  in_turn (NotEdge p i) h = inl (inr (h.0, inr (h.1, inl (p, i, refl, h.2, h.3, h.4))))
-  in_turn (Shared p q v) h = inl (inr (h.0, inr (h.1, inr (h.2, (p, q, v, refl, h.3, h.4, h.5)))))
-  in_turn Yes h = inr refl
+  in_turn x0 h = grind (arith, BadShape, BadBranch, NotEdge, Shared, Yes)
 
   -- each kind once
   one_branches : AtMostOne WitnessVerdict Branches
@@ -65,11 +61,7 @@ module _ (graph : EdgeGraph) (kind : Kind) (branch : List VertexId) (paths : Lis
       f.1 ∙ (ap (λ i. BadBranch i) (from_one f.0 g.0 f.2 g.2 (least_is_one P (f.0 - 1) (g.0 - 1) (least P (f.0 - 1) f.3) (least P (g.0 - 1) g.3))) ∙ sym g.1)
 
   one_lacks : AtMostOne WitnessVerdict Lacks
-  one_lacks v w f g =
-      let P = LacksEdge graph paths in
-      let a = least_pair P (f.0 - 1) (f.1 - 1) f.5 in
-      let b = least_pair P (g.0 - 1) (g.1 - 1) g.5 in
-      f.2 ∙ (ap₂ (λ p i. NotEdge p i) (from_one f.0 g.0 f.3 g.3 (pair_first P (f.0 - 1) (f.1 - 1) (g.0 - 1) (g.1 - 1) a b)) (from_one f.1 g.1 f.4 g.4 (pair_second P (f.0 - 1) (f.1 - 1) (g.0 - 1) (g.1 - 1) a b)) ∙ sym g.2)
+  one_lacks v w f g = grind (arith, LacksEdge, least_pair, ap₂, NotEdge, from_one, pair_first, pair_second)
 
   one_shares : AtMostOne WitnessVerdict Shares
   one_shares v w f g =

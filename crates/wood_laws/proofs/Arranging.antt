@@ -26,8 +26,6 @@ use Rattle.wood_laws.proofs.Begin.{all, all_has, all_only, roots, whole, whole_c
 -- one more in a list
 IsBefore-more : (us : List ℕ) (v a b : ℕ) → IsBefore us a b → IsBefore (us ++ v ∷ []) a b
 IsBefore-more us v a b h =
-    let l = h.2 in
-    let m = h.3 in
     (h.0, h.1, h.2, omega (arith, length-append us (v ∷ [])), get_or_append_left us (v ∷ []) 0 h.0 (omega arith) ∙ h.4, get_or_append_left us (v ∷ []) 0 h.1 h.3 ∙ h.5)
 
 IsBefore-new : (us : List ℕ) (v a : ℕ) → Contains us a → IsBefore (us ++ v ∷ []) a v
@@ -67,24 +65,21 @@ module _ (lists : Lists) (base : Dart) (parent : Colour → ℕ → ℕ) (triang
       let x : ℕ = last.0 in
       let us : List ℕ = s ∷ t ∷ x ∷ [] in
       let distinct = subst (AllPairs ◌≢◌) last.1 left.peeled.near.cycle.distinct in
-      let s_x : s ≢ x = distinct 0 1 0 (omega arith) (omega arith) in
-      let s_t : s ≢ t = distinct 0 2 0 (omega arith) (omega arith) in
       let x_t : x ≢ t = distinct 1 2 0 (omega arith) (omega arith) in
       let on : (u : ℕ) → kept u ≡ true → Contains ws u = λ u k. last.3 u (left.vertices u k) k in
       let cases : (P : ℕ → Type 0) → P s → P x → P t → (u : ℕ) → kept u ≡ true → P u = λ P a b c u k. each_of_three P s x t a b c u (subst (λ l. Contains l u) last.1 (on u k)) in
       let is_x : (v : ℕ) → kept v ≡ true → v ≢ s → v ≢ t → x ≡ v = λ v k a b. cases (λ z. z ≢ s → z ≢ t → x ≡ z) (λ h k. absurd (h refl)) (λ h k. refl) (λ h k. absurd (k refl)) v k a b in
       let third : (v : ℕ) → IsInner lists base v → kept v ≡ true → x ≡ v = λ v i k. is_x v k (i.1 one) (i.1 two) in
-      let in_us : (u : ℕ) → kept u ≡ true → Contains us u = cases (Contains us) (0, omega arith, refl) (2, omega arith, refl) (1, omega arith, refl) in
       let before_one : (v u : ℕ) → kept u ≡ true → u ≢ v → x ≡ v → (u ≢ t) → IsBefore us u v =
       λ v u k loop e ne. cases (λ u. u ≢ v → u ≢ t → IsBefore us u v) (λ a b. (0, 2, omega arith, omega arith, refl, e)) (λ a b. absurd (a e)) (λ a b. absurd (b refl)) u k loop ne in
       let before_two : (v u : ℕ) → kept u ≡ true → u ≢ v → x ≡ v → (u ≢ s) → IsBefore us u v =
       λ v u k loop e ne. cases (λ u. u ≢ v → u ≢ s → IsBefore us u v) (λ a b. absurd (b refl)) (λ a b. absurd (a e)) (λ a b. (1, 2, omega arith, omega arith, refl, e)) u k loop ne in (
         us,
         record {
-          once = apart s t x s_t s_x (λ e. x_t (sym e));
+          once = apart s t x (distinct 0 2 0 (omega arith) (omega arith)) (distinct 0 1 0 (omega arith) (omega arith)) (λ e. x_t (sym e));
           count = sym count;
           some = omega arith;
-          each = in_us;
+          each = (cases (Contains us) (0, omega arith, refl) (2, omega arith, refl) (1, omega arith, refl));
           only = λ u c. each_of_three (λ z. kept z ≡ true) s t x
               (on_kept lists s t kept ws rest triangulation left s (subst (λ l. Contains l s) (sym last.1) (0, omega arith, refl)))
               (on_kept lists s t kept ws rest triangulation left t (subst (λ l. Contains l t) (sym last.1) (2, omega arith, refl)))
@@ -155,10 +150,9 @@ module _ (lists : Lists) (base : Dart) (parent : Colour → ℕ → ℕ) (triang
       let v : ℕ = found.0 in
       let removable_in_wood = found.1 in
       let next = more lists base parent triangulation wood kept ws rest state v removable_in_wood (omega arith) in
-      let less = next.2 in
       let rest_of = arranged_from k (kept_but kept v) next.0 (v ∷ rest) next.1 (omega arith) in (
         rest_of.0 ++ v ∷ [],
-        more_arranged kept v rest_of.0 removable_in_wood.here less
+        more_arranged kept v rest_of.0 removable_in_wood.here next.2
             (λ i. (
               kept_but-new kept v (parent one v) (state.one_left v i removable_in_wood.here) (triangulation.simple.no_loop v (parent one v) (wood.edges one v i)),
               kept_but-new kept v (parent two v) (state.two_left v i removable_in_wood.here) (triangulation.simple.no_loop v (parent two v) (wood.edges two v i)),
@@ -190,7 +184,6 @@ module _ (lists : Lists) (base : Dart) (parent : Colour → ℕ → ℕ) (triang
   -- THE LEMMA
   pub some_arranged : (at : List ℕ) × IsArranged lists base parent at
   some_arranged =
-      let some = triangulation.some in
       let w : ℕ = root lists base three in
       let count = whole_count lists base parent triangulation has wood in
       let w_in : w < n = root_in lists base parent triangulation has wood three in
@@ -206,7 +199,6 @@ module _ (lists : Lists) (base : Dart) (parent : Colour → ℕ → ℕ) (triang
             let start = begin lists base parent triangulation has wood l in
             let less = start.2 in
             let us = arranged_from (n - 4) (kept_but every w) start.0 (w ∷ []) start.1 (omega arith) in
-            let c = us.1.count in
             let e : n - 1 ≡ length us.0 = omega arith in (
               us.0 ++ w ∷ [],
               arranged (us.0 ++ w ∷ []) (more_arranged every w us.0 (every_in w w_in) (count ∙ less) (λ i. absurd (i.1 three refl)) us.1) (ap (λ k. get_or (us.0 ++ w ∷ []) k 0) e ∙ get_or-append_seam us.0 w [] 0),

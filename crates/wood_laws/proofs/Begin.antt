@@ -59,20 +59,18 @@ module _ (lists : Lists) (base : Dart) (parent : Colour → ℕ → ℕ) (triang
   -- where there are three vertices none is inner
   pub none_inner : n ≡ 3 → (v : ℕ) → ¬ IsInner lists base v
   none_inner e v i =
-      let last = three_left lists all s t roots whole.peeled (whole_count ∙ e) in
-      not_root v i (last.3 v i.0 (all_has v i.0))
+      not_root v i ((three_left lists all s t roots whole.peeled (whole_count ∙ e)).3 v i.0 (all_has v i.0))
 
   removable : IsRemovable (restricted all lists) s t roots w
   removable =
       let apart = roots_apart lists base parent triangulation has wood in
-      let simple = whole.peeled.near.simple in
       record {
         on = Contains-there s (w ∷ t ∷ []) w (Contains-here w (t ∷ []));
         not_first = λ e. apart 0 1 0 (omega arith) (omega arith) (sym e);
         not_last = apart 1 2 0 (omega arith) (omega arith);
         chordless = λ u d c. each_of_three (λ u. HasDart (restricted all lists) w u → (entry_after u roots ≡ w) ⊎ (entry_after w roots ≡ u)) s w t
             (λ d. inl (entry_after-inside [] s w (t ∷ []) apart))
-            (λ d. absurd (simple.no_loop w w d refl))
+            (λ d. absurd (whole.peeled.near.simple.no_loop w w d refl))
             (λ d. inr (entry_after-inside (s ∷ []) w t [] apart)) u c d;
       }
 
@@ -81,18 +79,16 @@ module _ (lists : Lists) (base : Dart) (parent : Colour → ℕ → ℕ) (triang
       let count = whole_count in
       let taken = removable_taken_off lists all s t roots w triangulation whole.peeled (omega arith) removable in
       let fan = taken.0 in
-      let off = fan.5 in
-      let less = taken.1 in
       let kept : ℕ → Bool = kept_but all w in
       let gone : kept w ≡ false = kept_but-itself all w in (
         fan.0 ++ (fan.1 ∷ fan.2 ++ fan.3 ∷ fan.4),
         record {
-          left = IsLeft-taken lists s t all roots [] triangulation whole w _ _ _ _ _ removable.on off less (omega arith);
+          left = IsLeft-taken lists s t all roots [] triangulation whole w _ _ _ _ _ removable.on fan.5 taken.1 (omega arith);
           root_gone = gone;
           one_left = λ v i k. kept_but-new all w (parent one v) (all_has (parent one v) (triangulation.simple.in_range v (parent one v) (wood.edges one v i))) (λ e. one_three (wood.own_root one three v i e));
           two_left = λ v i k. kept_but-new all w (parent two v) (all_has (parent two v) (triangulation.simple.in_range v (parent two v) (wood.edges two v i))) (λ e. two_three (wood.own_root two three v i e));
           three_gone = λ v i k. absurd (true≢false (sym (kept_but-new all w v (all_has v i.0) (i.1 three)) ∙ k));
-          outside = λ v i c. elim ((cycle_after lists all s t roots w fan.0 fan.1 fan.2 fan.3 fan.4 whole.peeled off v).0 c) [
+          outside = λ v i c. elim ((cycle_after lists all s t roots w fan.0 fan.1 fan.2 fan.3 fan.4 whole.peeled fan.5 v).0 c) [
             | inl old ↦ absurd (not_root v i old.0)
             | inr d ↦
                 let edge = triangulation.simple.both_ways w v (restricted-old lists all w v d).0 in
@@ -100,7 +96,7 @@ module _ (lists : Lists) (base : Dart) (parent : Colour → ℕ → ℕ) (triang
                 ap kept (to_root v i e.0 e.1) ∙ gone
           ];
         },
-        sym count ∙ less,
+        sym count ∙ taken.1,
       )
     where
       one_three : one ≢ three

@@ -10,26 +10,10 @@ number_some two = omega arith
 number_some three = omega arith
 
 pub cases_colour : (c d : Colour) → (d ≡ c) ⊎ ((d ≡ next c) ⊎ (d ≡ previous c))
-cases_colour one one = inl refl
-cases_colour one two = inr (inl refl)
-cases_colour one three = inr (inr refl)
-cases_colour two one = inr (inr refl)
-cases_colour two two = inl refl
-cases_colour two three = inr (inl refl)
-cases_colour three one = inr (inl refl)
-cases_colour three two = inr (inr refl)
-cases_colour three three = inl refl
+cases_colour x0 x1 = grind (arith, one, two, three)
 
 pub same_off : (d c : Colour) → number d ≡ number c → d ≡ c
-same_off one one e = refl
-same_off one two e = absurd (omega (arith, e))
-same_off one three e = absurd (omega (arith, e))
-same_off two one e = absurd (omega (arith, e))
-same_off two two e = refl
-same_off two three e = absurd (omega (arith, e))
-same_off three one e = absurd (omega (arith, e))
-same_off three two e = absurd (omega (arith, e))
-same_off three three e = refl
+same_off x0 x1 e = grind (arith, one, two, three)
 
 -- over an edge of the colours that bound a region it changes
 pub flips_next : (c : Colour) (s s' : ℕ) → s ≡ number (previous (next c)) → s' ≡ number (next (next c)) → eqb s' (number c) ≡ not (eqb s (number c))
@@ -54,12 +38,7 @@ flips_outer_back three s s' e e' = ap (λ z. eqb z 3) e' ∙ sym (ap (λ z. not 
 
 -- over others it does not
 pub same_own : (c d : Colour) (s s' : ℕ) → d ≡ c → s ≡ number (previous d) → s' ≡ number (next d) → eqb s' (number c) ≡ eqb s (number c)
-same_own c d s s' e a b = own c s s' (a ∙ ap (λ d. number (previous d)) e) (b ∙ ap (λ d. number (next d)) e)
-  where
-    own : (c : Colour) (s s' : ℕ) → s ≡ number (previous c) → s' ≡ number (next c) → eqb s' (number c) ≡ eqb s (number c)
-    own one s s' e e' = ap (λ z. eqb z 1) e' ∙ sym (ap (λ z. eqb z 1) e)
-    own two s s' e e' = ap (λ z. eqb z 2) e' ∙ sym (ap (λ z. eqb z 2) e)
-    own three s s' e e' = ap (λ z. eqb z 3) e' ∙ sym (ap (λ z. eqb z 3) e)
+same_own c d s s' e a b = grind (arith, number, previous, next, Colour, eqb, one, two, three)
 
 not_zero : (c : Colour) (s : ℕ) → s ≡ 0 → eqb s (number c) ≡ false
 not_zero c s e = ne_eqb s (number c) (λ z. let m = number_some c in omega arith)
@@ -72,23 +51,7 @@ same_outer_back c d s s' ne e e' = not_zero c s' e' ∙ sym (ne_eqb s (number c)
 
 -- an outer dart is one of three, in one direction
 pub outer_same : (n : ℕ) → 0 < n → (c d : Colour) (a b : ℕ) → IsOuter n c a b → IsOuter n d a b → d ≡ c
-outer_same n some one one a b o p = refl
-outer_same n some one two a b o p = absurd (omega (arith, o.0, p.0, o.1, p.1))
-outer_same n some one three a b o p = absurd (omega (arith, o.0, p.0, o.1, p.1))
-outer_same n some two one a b o p = absurd (omega (arith, o.0, p.0, o.1, p.1))
-outer_same n some two two a b o p = refl
-outer_same n some two three a b o p = absurd (omega (arith, o.0, p.0, o.1, p.1))
-outer_same n some three one a b o p = absurd (omega (arith, o.0, p.0, o.1, p.1))
-outer_same n some three two a b o p = absurd (omega (arith, o.0, p.0, o.1, p.1))
-outer_same n some three three a b o p = refl
+outer_same n some x2 x3 a b o p = grind (arith, one, two, three)
 
 pub outer_one_way : (n : ℕ) → 0 < n → (c d : Colour) (a b : ℕ) → IsOuter n c a b → ¬ IsOuter n d b a
-outer_one_way n some one one a b o p = omega (arith, o.0, p.0, o.1, p.1)
-outer_one_way n some one two a b o p = omega (arith, o.0, p.0, o.1, p.1)
-outer_one_way n some one three a b o p = omega (arith, o.0, p.0, o.1, p.1)
-outer_one_way n some two one a b o p = omega (arith, o.0, p.0, o.1, p.1)
-outer_one_way n some two two a b o p = omega (arith, o.0, p.0, o.1, p.1)
-outer_one_way n some two three a b o p = omega (arith, o.0, p.0, o.1, p.1)
-outer_one_way n some three one a b o p = omega (arith, o.0, p.0, o.1, p.1)
-outer_one_way n some three two a b o p = omega (arith, o.0, p.0, o.1, p.1)
-outer_one_way n some three three a b o p = omega (arith, o.0, p.0, o.1, p.1)
+outer_one_way n some x2 x3 a b o p = grind (arith, one, two, three)

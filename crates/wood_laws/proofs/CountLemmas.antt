@@ -35,18 +35,7 @@ count_apart t p q zero a b c d = refl
 count_apart t p q (suc n) a b c d =
     let less = count_apart t p q n (λ i l. a i (omega arith)) (λ i l. b i (omega arith)) (λ i l. c i (omega arith)) (λ i l. d i (omega arith)) in
     let l : n < suc n = omega arith in
-    elim (cases_Bool (p n)) [
-      | inl e ↦ omega (arith, less, ap one_if e, ap one_if (b n l e), ap one_if (d n l e))
-      | inr e ↦ elim (cases_Bool (q n)) [
-        | inl f ↦ omega (arith, less, ap one_if e, ap one_if f, ap one_if (c n l f))
-        | inr f ↦
-            let none : t n ≡ false = elim (cases_Bool (t n)) [
-              | inr x ↦ x
-              | inl x ↦ elim (a n l x) [ inl y ↦ absurd (true≢false (sym y ∙ e)) | inr y ↦ absurd (true≢false (sym y ∙ f)) ]
-            ] in
-            omega (arith, less, ap one_if e, ap one_if f, ap one_if none)
-      ]
-    ]
+    grind (arith, cases_Bool, one_if, true≢false)
 
 module _ (lists : Lists) (base : Dart) (at : List ℕ) (steps : ℕ → Step) (parent : Colour → ℕ → ℕ) (triangulation : IsTriangulation lists) (order : IsCanonicalOrder lists base at) (run : IsOrderRun lists base at order.cycle steps) (parents : AreParentsOf at steps parent) where
   abbrev n : ℕ
@@ -65,7 +54,6 @@ module _ (lists : Lists) (base : Dart) (at : List ℕ) (steps : ℕ → Step) (p
   path_count : (d : ℕ) (c : Colour) (k : ℕ) → k < n + 2 → LeadsBy lists base (parent c) d (name k) (root lists base c) → count_below (paths steps n c k) (n + 2) ≡ suc d
   path_count zero c k l e =
       let r = root_name lists base at steps parent triangulation order run parents c in
-      let s = size lists base at steps parent triangulation order run parents in
       let t = count-stage_after steps n in
       let same : k ≡ root_at n c = once lists base at steps parent triangulation order run parents k (root_at n c) (omega arith) (let a = r.0 in omega arith) (e ∙ sym r.1) in
       let own = (IsSided-run steps n run.run).own_path c k (omega arith) in
@@ -78,10 +66,8 @@ module _ (lists : Lists) (base : Dart) (at : List ℕ) (steps : ℕ → Step) (p
       let i = rank_inner lists base at steps parent triangulation order run parents k l inner in
       let h = parent_of lists base at steps parent triangulation order run parents c k i in
       let u = h.parent in
-      let lu = parent_small lists base at steps parent triangulation order run parents c k i in
       let t = count-stage_after steps n in
       let leads' = subst (λ x. LeadsBy lists base (parent c) d x (root lists base c)) (parent_name lists base at steps parent triangulation order run parents c k i) leads in
-      let before = path_count d c u lu leads' in
       let on = goes_on steps n run.run c k u h.is_parent in
       let off : paths steps n c u k ≡ false = elim (cases_Bool (paths steps n c u k)) [
         | inr x ↦ x
@@ -96,7 +82,7 @@ module _ (lists : Lists) (base : Dart) (at : List ℕ) (steps : ℕ → Step) (p
       ] in
       let own = (on k (omega arith)).1 (inl refl) in
       let more = count_below_more (paths steps n c u) (paths steps n c k) (n + 2) k l off own (λ w m ne. bool_same (paths steps n c u w) (paths steps n c k w) (λ x. (on w (omega arith)).1 (inr x)) (λ x. elim ((on w (omega arith)).0 x) [ inl e ↦ absurd (ne e) | inr y ↦ y ])) in
-      omega (arith, more, before)
+      omega (arith, more, path_count d c u (parent_small lists base at steps parent triangulation order run parents c k i) leads')
     where
       root_off : (c : Colour) → k ≡ root_at n c → ¬ IsInside n k
       root_off one e i = let m = i.0 in omega arith
@@ -110,10 +96,7 @@ module _ (lists : Lists) (base : Dart) (at : List ℕ) (steps : ℕ → Step) (p
     pub coordinate_is : (c : Colour) → IsCoordinate lists base parent c (name v) (count_below (on_side c) (n + 2))
     coordinate_is c r d counted leads =
         let t = λ (k : ℕ). counted.inside (name k) in
-        let a0 = inside.0 in
-        let a1 = inside.1 in
         let lv : v < n + 2 = omega arith in
-        let e = all_named in
         let images = count_below-images name (n + 2) permuting counted.inside in
         let path = path_count d (previous c) v lv leads in
         let apart' =
@@ -128,32 +111,22 @@ module _ (lists : Lists) (base : Dart) (at : List ℕ) (steps : ℕ → Step) (p
           | inr y ↦ y
           | inl y ↦ absurd (true≢false (sym x ∙ side_off_path steps n run.run c v k lv l (is_number c k y)))
         ]) in
-        let count = counted.count in
-        let whole : count_below counted.inside (n + 2) ≡ r = ap (count_below counted.inside) e ∙ count in
-        omega arith
+        omega (arith, ap (count_below counted.inside) all_named ∙ counted.count)
       where
         is_number : (c : Colour) (k : ℕ) → on_side c k ≡ true → sides steps n v k ≡ number c
         is_number c k x = elim (cases_eq (sides steps n v k) (number c)) [ inl z ↦ z | inr z ↦ absurd (true≢false (sym x ∙ ne_eqb (sides steps n v k) (number c) z)) ]
 
     pub coordinates_are : AreCoordinates lists base parent (name v) ((coordinates steps n).one v) ((coordinates steps n).two v) (count_below (on_side three) (n + 2))
     coordinates_are =
-        let a1 = inside.1 in
         let h = counts_run steps n v run.run (omega arith) in
-        let all' = counts_all steps n v run.run (omega arith) in
-        let e = all_named in
-        let h0 = h.0 in
-        let h1 = h.1 in
         record {
           first = subst (IsCoordinate lists base parent one (name v)) (sym h.0) (coordinate_is one);
           second = subst (IsCoordinate lists base parent two (name v)) (sym h.1) (coordinate_is two);
           third = coordinate_is three;
-          all = omega arith;
+          all = omega (arith, counts_all steps n v run.run (omega arith));
         }
 
 -- the drawing moves no inner vertex
 pub drawn_point : (steps : ℕ → Step) (n v : ℕ) → v ≢ 0 → point_of (wood_points steps n) v ≡ record { x = pos ((coordinates steps n).one v); y = pos ((coordinates steps n).two v) }
 unfolding drawn_one drawn_two
-drawn_point steps n v ne =
-    let one' : drawn_one (coordinates steps n) v ≡ (coordinates steps n).one v = grind (arith, nat_tests) in
-    let two' : drawn_two (coordinates steps n) v ≡ (coordinates steps n).two v = grind (arith, nat_tests) in
-    ap₂ (λ (x y : ℕ). record { x = pos x; y = pos y }) one' two'
+drawn_point steps n v ne = grind (arith, drawn_one, coordinates, one, nat_tests, drawn_two, two, ap₂, pos)

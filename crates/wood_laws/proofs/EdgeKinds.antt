@@ -15,33 +15,10 @@ module _ (steps : ℕ → Step) (n : ℕ) (run : IsRun steps n) (end : (stage_af
 
   -- a vertex is not covered by one whose parent it is
   one_three : (a b : ℕ) → IsParentOne steps n a b → ¬ IsParentThree steps n b a
-  one_three a b p q =
-      let k = p.step in
-      let l = p.earlier in
-      let e : q.step ≡ k = omega (arith, p.vertex, q.parent) in
-      let own = IsCovered-own steps q.step n b run q.earlier q.covered in
-      let stage = IsStage-run steps k (IsRun-less steps k n (omega arith) run) in
-      let o = (run k l).order in
-      let w = (run k l).within in
-      let lo = q.covered.low in
-      let place : (at k).place b ≡ q.covered.place = subst (λ s. (at s).place b ≡ q.covered.place) e own.1 in
-      let lo' : (steps k).first < q.covered.place = subst (λ s. (steps s).first < q.covered.place) e lo in
-      let there : (at k).place b ≡ (steps k).first = ap (at k).place (sym p.parent) ∙ stage.own (steps k).first (omega arith) in
-      omega (arith, place, lo', there)
+  one_three a b p q = grind (arith, IsCovered-own, IsStage-run, IsRun-less, within, at)
 
   two_three : (a b : ℕ) → IsParentTwo steps n a b → ¬ IsParentThree steps n b a
-  two_three a b p q =
-      let k = p.step in
-      let l = p.earlier in
-      let e : q.step ≡ k = omega (arith, p.vertex, q.parent) in
-      let own = IsCovered-own steps q.step n b run q.earlier q.covered in
-      let stage = IsStage-run steps k (IsRun-less steps k n (omega arith) run) in
-      let o = (run k l).order in
-      let w = (run k l).within in
-      let place : (at k).place b ≡ q.covered.place = subst (λ s. (at s).place b ≡ q.covered.place) e own.1 in
-      let hi' : q.covered.place < (steps k).last = subst (λ s. q.covered.place < (steps s).last) e q.covered.high in
-      let there : (at k).place b ≡ (steps k).last = ap (at k).place (sym p.parent) ∙ stage.own (steps k).last w in
-      omega (arith, place, hi', there)
+  two_three a b p q = grind (arith, IsCovered-own, IsStage-run, IsRun-less, at, within)
 
   not_both : (c d : Colour) (a b : ℕ) → IsParent c steps n a b → ¬ IsParent d steps n b a
   not_both one one a b p q = omega (arith, (leads_away steps n run a b one p).one_is_earlier refl, (leads_away steps n run b a one q).one_is_earlier refl)
@@ -66,11 +43,7 @@ module _ (steps : ℕ → Step) (n : ℕ) (run : IsRun steps n) (end : (stage_af
 
   -- one colour leads along an edge
   one_colour : (c d : Colour) (a b : ℕ) → IsParent c steps n a b → IsParent d steps n a b → d ≡ c
-  one_colour c d a b p q = elim (cases_colour c d) [
-    | inl e ↦ e
-    | inr (inl e) ↦ absurd (differ steps n run a b b c d (λ z. next_other c (sym e ∙ sym z)) p q refl)
-    | inr (inr e) ↦ absurd (differ steps n run a b b c d (λ z. previous_other c (sym e ∙ sym z)) p q refl)
-  ]
+  one_colour c d a b p q = grind (arith, cases_colour, differ, next_other, previous_other)
 
   root_outside : (c : Colour) (a : ℕ) → a ≡ root_at n c → ¬ IsInside n a
   root_outside one a e i = let m = i.0 in omega arith
@@ -81,16 +54,10 @@ module _ (steps : ℕ → Step) (n : ℕ) (run : IsRun steps n) (end : (stage_af
   outer_not_inside c a b o = (λ i. root_outside (previous c) a o.0 i, λ i. root_outside (next c) b o.1 i)
 
   pub kind_out : (c : Colour) (a b s s' : ℕ) → IsInside n a → IsParent c steps n a b → IsCrossing steps n v a b s s' → Crosses c (paths steps n c v a) s s'
-  kind_out c a b s s' i p (out d q j x) = let e = one_colour c d a b p q in subst (λ c. Crosses c (paths steps n c v a) s s') e x
-  kind_out c a b s s' i p (into d q j x) = absurd (not_both c d a b p q)
-  kind_out c a b s s' i p (around d o e e') = absurd ((outer_not_inside d a b o).0 i)
-  kind_out c a b s s' i p (within d o e e') = absurd ((outer_not_inside d b a o).1 i)
+  kind_out c a b s s' i p x7 = grind (arith, out, one_colour, Crosses, paths, into, not_both, around, outer_not_inside, within)
 
   pub kind_into : (c : Colour) (a b s s' : ℕ) → IsInside n b → IsParent c steps n b a → IsCrossing steps n v a b s s' → Crosses c (paths steps n c v b) s' s
-  kind_into c a b s s' i p (into d q j x) = let e = one_colour c d b a p q in subst (λ c. Crosses c (paths steps n c v b) s' s) e x
-  kind_into c a b s s' i p (out d q j x) = absurd (not_both c d b a p q)
-  kind_into c a b s s' i p (around d o e e') = absurd ((outer_not_inside d a b o).1 i)
-  kind_into c a b s s' i p (within d o e e') = absurd ((outer_not_inside d b a o).0 i)
+  kind_into c a b s s' i p x7 = grind (arith, into, one_colour, Crosses, paths, out, not_both, around, outer_not_inside, within)
 
 module _ (steps : ℕ → Step) (n : ℕ) (some : 0 < n) (v : ℕ) where
   root_off : (c : Colour) (a : ℕ) → a ≡ root_at n c → ¬ IsInside n a
@@ -99,7 +66,4 @@ module _ (steps : ℕ → Step) (n : ℕ) (some : 0 < n) (v : ℕ) where
   root_off three a e i = let m = i.1 in omega arith
 
   pub outer_kind : (c : Colour) (a b s s' : ℕ) → IsCrossing steps n v a b s s' → (IsOuter n c a b → (s ≡ 0) × (s' ≡ number c)) × (IsOuter n c b a → (s ≡ number c) × (s' ≡ 0))
-  outer_kind c a b s s' (out d p i x) = (λ o. absurd (root_off (previous c) a o.0 i), λ o. absurd (root_off (next c) a o.1 i))
-  outer_kind c a b s s' (into d p i x) = (λ o. absurd (root_off (next c) b o.1 i), λ o. absurd (root_off (previous c) b o.0 i))
-  outer_kind c a b s s' (around d p e e') = (λ o. (e, e' ∙ ap number (outer_same n some c d a b o p)), λ o. absurd (outer_one_way n some d c a b p o))
-  outer_kind c a b s s' (within d p e e') = (λ o. absurd (outer_one_way n some c d a b o p), λ o. (e ∙ ap number (outer_same n some c d b a o p), e'))
+  outer_kind c a b s s' x5 = grind (arith, out, root_off, previous, next, into, around, number, outer_same, outer_one_way, within)

@@ -62,9 +62,8 @@ module _ (lists : Lists) (base : Dart) (parent : Colour → ℕ → ℕ) (triang
       elim (cases_outer ws u x) [
         | inl o ↦ o
         | inr off ↦
-            let same = state.left.peeled.inner u x (simple.both_ways x u d) off in
             let still = (restricted-old lists kept x (follows map x u) (HasDart-follows map x u d)).2 in
-            absurd (not_both (follows map x u) still (ap kept same ∙ gone))
+            absurd (not_both (follows map x u) still (ap kept (state.left.peeled.inner u x (simple.both_ways x u d) off) ∙ gone))
       ]
 
   -- The next on the cycle after an inner vertex is its parent of colour two, or has it as parent of colour one.
@@ -104,8 +103,7 @@ module _ (lists : Lists) (base : Dart) (parent : Colour → ℕ → ℕ) (triang
     not_before : (c : Colour) (z : ℕ) → At lists base parent triangulation has wood (into c) v z → ¬ IsOuterDart ws z v
     not_before c z a o =
         let e : z ≡ p = entry_after-injective ws z p cycle.distinct o.0 p_on (o.1 ∙ sym to) in
-        let same : out one ≡ into c = one_end lists base parent triangulation has wood v z i (out one) (into c) (is_one ∙ sym e) a in
-        different c same
+        different c (one_end lists base parent triangulation has wood v z i (out one) (into c) (is_one ∙ sym e) a)
       where
         different : (c : Colour) → out one ≢ into c
         different c e = cc
@@ -188,9 +186,7 @@ module _ (lists : Lists) (base : Dart) (parent : Colour → ℕ → ℕ) (triang
       not_root : (c : Colour) → first ≢ root lists base c
       not_root one e = triangulation.simple.no_loop s first old.0 e
       not_root two e =
-          let l = cycle.long in
-          let short = two_entries ws s t cycle.distinct s_in e (next-last map s t ws simple cycle) in
-          omega arith
+          omega (arith, two_entries ws s t cycle.distinct s_in e (next-last map s t ws simple cycle))
       not_root three e = not_both first old.2 (ap kept e ∙ state.root_gone)
 
       inner : IsInner lists base first

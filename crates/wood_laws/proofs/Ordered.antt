@@ -40,35 +40,21 @@ module _ (lists : Lists) (base : Dart) (parent : Colour → ℕ → ℕ) (at : L
 
   placed : (v : ℕ) → v < n → (i : ℕ) × (i < n) × (name i ≡ v)
   placed v l =
-      let count = a.count in
       let c = all_of_them at v (λ i d m. let b = a.vertices i d m in omega arith) a.once (omega arith) in
-      let in_at = c.1 in
       (c.0, omega arith, get_or_default at c.0 0 v c.1 ∙ c.2)
 
   -- an inner vertex stands between the roots
   pub inner_at : (i : ℕ) → 2 ≤ i → i + 1 < n → IsInner lists base (name i)
-  inner_at i l m = (a.vertices i 0 (let c = a.count in omega arith), apart)
-    where
-      apart : (c : Colour) → name i ≢ root lists base c
-      apart one e = let z = once i 0 (omega arith) (omega arith) (e ∙ sym a.first) in omega arith
-      apart two e = let z = once i 1 (omega arith) (omega arith) (e ∙ sym a.second) in omega arith
-      apart three e = let z = once i (n - 1) (omega arith) (omega arith) (e ∙ sym a.last) in omega arith
+  inner_at i l m = grind (arith, Colour, name, root, one, once, two, three)
 
   pub before_at : (u v i : ℕ) → i < n → IsBefore at u v → name i ≡ u → (j : ℕ) × (i < j) × (j < n) × (name j ≡ v)
   before_at u v i l b e =
-      let c = a.count in
-      let bi = b.2 in
-      let bj = b.3 in
       let z = once b.0 i (omega arith) l (b.4 ∙ sym e) in
       (b.1, omega arith, omega arith, b.5)
 
   pub before_to : (u v j : ℕ) → j < n → IsBefore at u v → name j ≡ v → (i : ℕ) × (i < j) × (name i ≡ u)
   before_to u v j l b e =
-      let c = a.count in
-      let bi = b.2 in
-      let bj = b.3 in
-      let z = once b.1 j (omega arith) l (b.5 ∙ sym e) in
-      (b.0, omega arith, b.4)
+      (b.0, omega (arith, once b.1 j (omega arith) l (b.5 ∙ sym e)), b.4)
 
   -- The first k are left.
   record AreLeft (kept : ℕ → Bool) (rest : List ℕ) (k : ℕ) : Type 0 where
@@ -80,8 +66,6 @@ module _ (lists : Lists) (base : Dart) (parent : Colour → ℕ → ℕ) (at : L
   -- three are left
   order_of_three : (kept : ℕ → Bool) (ws rest : List ℕ) → IsLeft lists s t kept ws rest → count_below kept n ≡ 3 → AreLeft kept rest 3 → IsCanonicalOrder lists base at
   order_of_three kept ws rest left count h =
-      let long = a.count in
-      let few = h.few in
       let last = three_left lists kept s t ws left.peeled count in
       let x : ℕ = last.0 in
       let k = h.each 2 (omega arith) in
@@ -101,12 +85,7 @@ module _ (lists : Lists) (base : Dart) (parent : Colour → ℕ → ℕ) (at : L
     v = name m
 
     not_all : suc m < n
-    not_all =
-        let few = h.few in
-        elim (cases_lt (suc m) n) [
-          | inl l ↦ l
-          | inr l ↦ absurd (true≢false (sym (h.each (n - 1) (omega arith)) ∙ (ap kept a.last ∙ state.root_gone)))
-        ]
+    not_all = grind (arith, cases_lt, true≢false)
 
     inner : IsInner lists base v
     inner = let l = not_all in inner_at m (omega arith) (omega arith)
@@ -116,13 +95,10 @@ module _ (lists : Lists) (base : Dart) (parent : Colour → ℕ → ℕ) (at : L
     behind_off u j l l' e =
         false_from_ne_true (kept u) (λ t.
         let o = h.only u t in
-        let lo = o.1 in
-        let z = once o.0 j (let few = h.few in omega arith) l' (o.2 ∙ sym e) in
-        omega arith)
+        omega (arith, once o.0 j (let few = h.few in omega arith) l' (o.2 ∙ sym e)))
 
     child_off : (c : Colour) → ((u : ℕ) → IsInner lists base u → IsBefore at (parent c u) u) → (u : ℕ) → IsInner lists base u → kept u ≡ true → parent c u ≢ v
     child_off c before u i k' e =
-        let l = not_all in
         let b = before_at (parent c u) u m (omega arith) (before u i) (sym e) in
         true≢false (sym k' ∙ behind_off u b.0 b.1 b.2 b.3)
 
@@ -131,7 +107,6 @@ module _ (lists : Lists) (base : Dart) (parent : Colour → ℕ → ℕ) (at : L
       inner = inner;
       here = h.each m (omega arith);
       three_off =
-          let l = not_all in
           let b = before_at v (parent three v) m (omega arith) (a.three_after v inner) refl in
           behind_off (parent three v) b.0 b.1 b.2 b.3;
       ones_off = child_off one a.one_before;
@@ -145,7 +120,6 @@ module _ (lists : Lists) (base : Dart) (parent : Colour → ℕ → ℕ) (at : L
       only = λ u t.
           let o = kept_but-old kept v u t in
           let p = h.only u o.0 in
-          let lo = p.1 in
           let ne : p.0 ≢ m = λ e. o.1 (sym p.2 ∙ ap name e) in
           (p.0, omega arith, p.2);
       each = λ i l. kept_but-new kept v (name i) (h.each i (omega arith)) (λ e. let l' = not_all in let z = once i m (omega arith) (omega arith) e in omega arith);
@@ -158,14 +132,11 @@ module _ (lists : Lists) (base : Dart) (parent : Colour → ℕ → ℕ) (at : L
       let e : 3 + suc k ≡ suc (3 + k) = omega arith in
       let h' = subst (AreLeft kept rest) e h in
       let next = more lists base parent triangulation wood kept ws rest state v (removable_in_wood kept ws rest (3 + k) (omega arith) state h') (omega arith) in
-      let less = next.2 in
       order_from k (kept_but kept v) next.0 (v ∷ rest) next.1 (omega arith) (fewer kept ws rest (3 + k) (omega arith) state h')
 
   -- THE LEMMA
   pub arranged_is_order : IsCanonicalOrder lists base at
   arranged_is_order =
-      let some = triangulation.some in
-      let count = a.count in
       elim (cases_lt 3 n) [
         | inr l ↦
             let three_in : n ≡ 3 = omega arith in
@@ -177,7 +148,6 @@ module _ (lists : Lists) (base : Dart) (parent : Colour → ℕ → ℕ) (at : L
             }
         | inl l ↦
             let start = begin lists base parent triangulation has wood l in
-            let less = start.2 in
             let w : ℕ = root lists base three in
             let every : ℕ → Bool = all lists base parent triangulation has wood in
             let k : 3 + (n - 4) ≡ n - 1 = omega arith in
@@ -188,7 +158,6 @@ module _ (lists : Lists) (base : Dart) (parent : Colour → ℕ → ℕ) (at : L
               only = λ u e.
                   let o = kept_but-old every w u e in
                   let p = placed u (all_only lists base parent triangulation has wood u o.0) in
-                  let m = p.1 in
                   let ne : p.0 ≢ n - 1 = λ q. o.1 (sym p.2 ∙ ap name q ∙ a.last) in
                   (p.0, omega arith, p.2);
               each = λ i m. kept_but-new every w (name i) (all_has lists base parent triangulation has wood (name i) (a.vertices i 0 (omega arith))) (λ e. let z = once i (n - 1) (omega arith) (omega arith) (e ∙ sym a.last) in omega arith);

@@ -104,9 +104,7 @@ module _ (lists : Lists) (base : Dart) (parent : Colour → ℕ → ℕ) (triang
 
     apart : p ≢ q
     apart e =
-        let l = cycle.long in
-        let short = two_entries ws v p cycle.distinct on (sym e) before.2 in
-        absurd (omega arith)
+        absurd (omega (arith, two_entries ws v p cycle.distinct on (sym e) before.2))
 
     -- the two parents are its neighbours on the cycle
     pair : ((p ≡ parent one v) × (q ≡ parent two v)) ⊎ ((p ≡ parent two v) × (q ≡ parent one v))
@@ -143,12 +141,10 @@ module _ (lists : Lists) (base : Dart) (parent : Colour → ℕ → ℕ) (triang
     more many =
         let taken = removable_taken_off lists kept s t ws v triangulation state.left.peeled many removable in
         let fan = taken.0 in
-        let off = fan.5 in
-        let less = taken.1 in
         let less_kept : ℕ → Bool = kept_but kept v in (
           fan.0 ++ (fan.1 ∷ fan.2 ++ fan.3 ∷ fan.4),
           record {
-            left = IsLeft-taken lists s t kept ws rest triangulation state.left v _ _ _ _ _ on off less (omega arith);
+            left = IsLeft-taken lists s t kept ws rest triangulation state.left v _ _ _ _ _ on fan.5 taken.1 (omega arith);
             root_gone = kept_but-false kept v (root lists base three) state.root_gone;
             one_left = λ u i k. let o = kept_but-old kept v u k in kept_but-new kept v (parent one u) (state.one_left u i o.0) (removable_in_wood.ones_off u i o.0);
             two_left = λ u i k. let o = kept_but-old kept v u k in kept_but-new kept v (parent two u) (state.two_left u i o.0) (removable_in_wood.twos_off u i o.0);
@@ -156,7 +152,7 @@ module _ (lists : Lists) (base : Dart) (parent : Colour → ℕ → ℕ) (triang
               | inl e ↦ ap (λ z. kept (parent three z)) e ∙ removable_in_wood.three_off
               | inr ne ↦ state.three_gone u i (false_from_ne_true (kept u) (λ t. true≢false (sym (kept_but-new kept v u t ne) ∙ k)))
             ]);
-            outside = λ u i c. elim ((cycle_after lists kept s t ws v fan.0 fan.1 fan.2 fan.3 fan.4 state.left.peeled off u).0 c) [
+            outside = λ u i c. elim ((cycle_after lists kept s t ws v fan.0 fan.1 fan.2 fan.3 fan.4 state.left.peeled fan.5 u).0 c) [
               | inl old ↦ kept_but-false kept v (parent three u) (state.outside u i old.0)
               | inr d ↦ elim (way u d) [
                 | inl e ↦ kept_but-false kept v (parent three u) (state.outside u i (parent_on u (inl e)))
@@ -165,5 +161,5 @@ module _ (lists : Lists) (base : Dart) (parent : Colour → ℕ → ℕ) (triang
               ]
             ];
           },
-          less,
+          taken.1,
         )

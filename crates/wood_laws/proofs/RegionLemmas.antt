@@ -51,12 +51,9 @@ module _ (lists : Lists) (base : Dart) (at : List ℕ) (steps : ℕ → Step) (p
   -- the rank of any vertex
   pub rank_of : (v : ℕ) → v < length lists → (k : ℕ) × (k < n + 2) × (name k ≡ v)
   rank_of v l =
-      let c = order.count in
-      let s = size' in
       let small : v < length at = omega arith in
       let on = all_of_them at v (λ i d m. let o = order.vertices i d m in omega arith) order.built.once small in
-      let in_at = on.1 in
-      (on.0, omega arith, get_or_default at on.0 0 v in_at ∙ on.2)
+      (on.0, omega arith, get_or_default at on.0 0 v on.1 ∙ on.2)
 
   pub name_in : (k : ℕ) → k < n + 2 → name k < length lists
   name_in k l = let c = order.count in let s = size' in let v = order.vertices k 0 (omega arith) in omega arith
@@ -67,7 +64,6 @@ module _ (lists : Lists) (base : Dart) (at : List ℕ) (steps : ℕ → Step) (p
   pub rank_inner : (k : ℕ) → k < n + 2 → IsInner lists base (name k) → IsInside n k
   rank_inner k l inner =
       let r = ranked lists base at steps parent triangulation order run parents (name k) inner in
-      let m = r.2 in
       let e = once' k r.0 l (omega arith) (sym r.3) in
       (omega (arith, e, r.1), omega (arith, e, r.2))
 
@@ -90,7 +86,6 @@ module _ (lists : Lists) (base : Dart) (at : List ℕ) (steps : ℕ → Step) (p
   pub parent_inside : (c : Colour) (k : ℕ) (i : IsInside n k) → IsInside n (parent_of c k i).parent ⊎ ((parent_of c k i).parent ≡ root_at n c)
   parent_inside c k i =
       let h = parent_of c k i in
-      let l = parent_small c k i in
       let o = own_root steps n run.run k h.parent c h.is_parent in
       elim (cases_eq h.parent 0) [
         | inl z ↦ inr (z ∙ ap (root_at n) (sym (o.root_one z)))
@@ -98,7 +93,7 @@ module _ (lists : Lists) (base : Dart) (at : List ℕ) (steps : ℕ → Step) (p
           | inl z ↦ inr (z ∙ ap (root_at n) (sym (o.root_two z)))
           | inr nz' ↦ elim (cases_eq h.parent (suc n)) [
             | inl z ↦ inr (z ∙ ap (root_at n) (sym (o.root_three z)))
-            | inr nz'' ↦ inl (omega arith, omega arith)
+            | inr nz'' ↦ inl (omega arith, omega (arith, parent_small c k i))
           ]
         ]
       ]
@@ -119,27 +114,21 @@ module _ (lists : Lists) (base : Dart) (at : List ℕ) (steps : ℕ → Step) (p
   table_path : (fuel : ℕ) (c : Colour) (k w : ℕ) → height c k < fuel → w < n + 2 → IsInside n k ⊎ (k ≡ root_at n c) → paths steps n c k w ≡ true → IsOnPath lists base parent c (name k) (name w)
   table_path zero c k w f l i p = absurd (omega arith)
   table_path (suc fuel) c k w f l (inr e) p =
-      let same : w ≡ root_at n c = root_alone steps n run.run c w some' l (ap (λ k. paths steps n c k w) (sym e) ∙ p) in
-      (0, ap name (e ∙ sym same))
+      (0, ap name (e ∙ sym (root_alone steps n run.run c w some' l (ap (λ k. paths steps n c k w) (sym e) ∙ p))))
   table_path (suc fuel) c k w f l (inl i) p =
       let h = parent_of c k i in
-      let u = h.parent in
-      let t = count-stage_after steps n in
-      let lu = parent_small c k i in
-      elim ((goes_on steps n run.run c k u h.is_parent w (omega arith)).0 p) [
+      elim ((goes_on steps n run.run c k h.parent h.is_parent w (omega (arith, count-stage_after steps n))).0 p) [
         | inl e ↦ (0, ap name (sym e))
         | inr q ↦
-            let less = height_less c k u lu (leads_away steps n run.run k u c h.is_parent) in
-            let before = table_path fuel c u w (omega arith) l (parent_inside c k i) q in
+            let less = height_less c k h.parent (parent_small c k i) (leads_away steps n run.run k h.parent c h.is_parent) in
+            let before = table_path fuel c h.parent w (omega arith) l (parent_inside c k i) q in
             (suc before.0, (inner_name k i, subst (λ x. LeadsBy lists base (parent c) before.0 x (name w)) (sym (parent_name c k i)) before.1))
       ]
 
   -- and the other way round
   map_path : (d : ℕ) (c : Colour) (k w : ℕ) → k < n + 2 → w < n + 2 → LeadsBy lists base (parent c) d (name k) (name w) → paths steps n c k w ≡ true
   map_path zero c k w lk lw e =
-      let t = count-stage_after steps n in
-      let same = once' k w lk lw e in
-      ap (paths steps n c k) (sym same) ∙ (IsSided-run steps n run.run).own_path c k (omega arith)
+      ap (paths steps n c k) (sym (once' k w lk lw e)) ∙ (IsSided-run steps n run.run).own_path c k (omega (arith, count-stage_after steps n))
   map_path (suc d) c k w lk lw (inner, leads) =
       let i = rank_inner k lk inner in
       let h = parent_of c k i in
@@ -157,8 +146,7 @@ module _ (lists : Lists) (base : Dart) (at : List ℕ) (steps : ℕ → Step) (p
   leads_end zero c k w i e = (k, e, i)
   leads_end (suc d) c k w (inl i) (inner, leads) = leads_end d c (parent_of c k i).parent w (parent_inside c k i) (subst (λ x. LeadsBy lists base (parent c) d x w) (parent_name c k i) leads)
   leads_end (suc d) c k w (inr e) (inner, leads) =
-      let l = (root_name c).0 in
-      let i = rank_inner k (omega arith) inner in
+      let i = rank_inner k (omega (arith, (root_name c).0)) inner in
       leads_end d c (parent_of c k i).parent w (parent_inside c k i) (subst (λ x. LeadsBy lists base (parent c) d x w) (parent_name c k i) leads)
 
   -- the outer face
@@ -166,7 +154,6 @@ module _ (lists : Lists) (base : Dart) (at : List ℕ) (steps : ℕ → Step) (p
   outer_face =
       let o = (run.run 0 some').order in
       let w = (run.run 0 some').within in
-      let first : (steps 0).first ≡ 0 = omega arith in
       let f = (face_at lists base at steps parent triangulation order run parents 0 0 some' (omega arith) (omega arith)).dart in
       let d : HasDart lists base.1 base.0 = subst (λ x. HasDart lists x base.0) (root_one lists base at steps parent triangulation order run parents) (subst (HasDart lists (name 0)) (root_two lists base at steps parent triangulation order run parents) f) in
       let back = triangulation.simple.both_ways base.1 base.0 d in
@@ -186,16 +173,9 @@ module _ (lists : Lists) (base : Dart) (at : List ℕ) (steps : ℕ → Step) (p
     -- the ranks of a made dart are placed, and it is a dart of the map
     made_face : (k i : ℕ) (l : k < n) (a b u : ℕ) → IsFaceOf steps k i a b u → IsFaceOfThree lists (name a) (name b) (name u) × (a < n + 2) × (b < n + 2) × (u < n + 2)
     made_face k i l a b u f =
-        let s = size' in
         let stage = IsStage-run steps k (IsRun-less steps k n (omega arith) run.run) in
         let w = (run.run k l).within in
-        let hi = f.high in
         let count = count-stage_after steps k in
-        let pa = stage.placed i (omega arith) in
-        let pb = stage.placed (suc i) (omega arith) in
-        let ea = f.left in
-        let eb = f.right in
-        let eu = f.new in
         (run.faces k i a b u (omega arith) f, omega arith, omega arith, omega arith)
 
     face_goes_on : (x y s : ℕ) → Named x y s → Named y (follows lists y x) s
@@ -601,11 +581,8 @@ module _ (lists : Lists) (base : Dart) (at : List ℕ) (steps : ℕ → Step) (p
   nested c u v w iu iv a b =
       let ru = ranked lists base at steps parent triangulation order run parents u iu in
       let rv = ranked lists base at steps parent triangulation order run parents v iv in
-      let lu = ru.2 in
-      let lv = rv.2 in
       let t = count-stage_after steps n in
-      let inside = on_inside rv.0 (rv.1, rv.2) c w (subst (λ v. IsInRegion lists base parent c v w) (sym rv.3) b) in
-      let rw = rank_of w inside.1.0 in
+      let rw = rank_of w (on_inside rv.0 (rv.1, rv.2) c w (subst (λ v. IsInRegion lists base parent c v w) (sym rv.3) b)).1.0 in
       let in_u = region_shade ru.0 (ru.1, ru.2) c rv.0 (omega arith) (subst (λ u. IsInRegion lists base parent c u (name rv.0)) (sym ru.3) (subst (IsInRegion lists base parent c u) (sym rv.3) a)) in
       let in_v = region_shade rv.0 (rv.1, rv.2) c rw.0 rw.1 (subst (λ v. IsInRegion lists base parent c v (name rw.0)) (sym rv.3) (subst (IsInRegion lists base parent c v) (sym rw.2) b)) in
       let s = (IsNested-run steps n run.run).nested ru.0 rv.0 in_u.0 in_v.0 (number c) (omega arith) in_u.1 in_u.2 in_v.2 in

@@ -22,41 +22,10 @@ abbrev IsEarly : End → Type 0
 IsEarly e = (e ≡ out one) ⊎ ((e ≡ out two) ⊎ (e ≡ into three))
 
 first_of : (f e : End) → MayFollow f e → IsEarly f → IsEarly e → (f ≡ out one) ⊎ (f ≡ into three)
-first_of f e m (inl h) k = inl h
-first_of f e m (inr (inr h)) k = inr h
-first_of f e m (inr (inl h)) k = absurd (by_end e k (subst (λ f. MayFollow f e) h m))
-  where
-    by_end : (e : End) → IsEarly e → ¬ MayFollow (out two) e
-    by_end e (inl h) m = two_one (subst (MayFollow (out two)) h m)
-      where
-        two_one : one ≢ three
-        two_one e = cc
-    by_end e (inr (inl h)) m = two_two (subst (MayFollow (out two)) h m)
-      where
-        two_two : two ≢ three
-        two_two e = cc
-    by_end e (inr (inr h)) m = two_three (subst (MayFollow (out two)) h m)
-      where
-        two_three : three ≢ one
-        two_three e = cc
+first_of f e m x3 k = grind (arith, MayFollow, End, IsEarly, out, two, one, three)
 
 second_of : (f e : End) → MayFollow f e → IsEarly f → IsEarly e → (e ≡ out two) ⊎ (e ≡ into three)
-second_of f e m k (inr h) = h
-second_of f e m k (inl h) = absurd (by_end f k (subst (MayFollow f) h m))
-  where
-    by_end : (f : End) → IsEarly f → ¬ MayFollow f (out one)
-    by_end f (inl h) m = one_two (subst (λ f. MayFollow f (out one)) h m)
-      where
-        one_two : one ≢ two
-        one_two e = cc
-    by_end f (inr (inl h)) m = one_three (subst (λ f. MayFollow f (out one)) h m)
-      where
-        one_three : one ≢ three
-        one_three e = cc
-    by_end f (inr (inr h)) m = one_two (subst (λ f. MayFollow f (out one)) h m)
-      where
-        one_two : one ≢ two
-        one_two e = cc
+second_of f e m k x4 = grind (arith, MayFollow, End, IsEarly, out, one, two, three)
 
 module _ (lists : Lists) (base : Dart) (parent : Colour → ℕ → ℕ) (at : List ℕ) (triangulation : IsTriangulation lists) (has : HasDart lists base.0 base.1) (wood : IsWood lists base parent) (a : IsArranged lists base parent at) (order : IsCanonicalOrder lists base at) (steps : ℕ → Step) (run : IsOrderRun lists base at order.cycle steps) where
   abbrev n : ℕ
@@ -123,13 +92,8 @@ module _ (lists : Lists) (base : Dart) (parent : Colour → ℕ → ℕ) (at : L
 
     not_later : (j : ℕ) → j ≤ high → (x : ℕ) × (k + 2 < x) × (x < length lists) × (named x ≡ row j) → ⊥
     not_later j m b =
-        let s = size in
-        let c = a.count in
-        let more = b.1 in
-        let lx = b.2 in
         let p = placed k j l m in
-        let z = once' b.0 ((stage k).vertex j) (omega arith) (omega arith) b.3 in
-        omega arith
+        omega (arith, once' b.0 ((stage k).vertex j) (omega arith) (omega arith) b.3)
 
     -- an earlier vertex stands to it in an early way
     early : (j : ℕ) → j ≤ high → (e : End) → At' e v (row j) → IsEarly e
@@ -154,19 +118,13 @@ module _ (lists : Lists) (base : Dart) (parent : Colour → ℕ → ℕ) (at : L
     left_end j lo hi =
         let o = wood.order v (row (suc j)) i (dart_right j lo hi) in
         let here = subst (At' o.first v) (face j lo hi).third o.after in
-        elim (first_of o.first o.second o.follow (early j (omega arith) o.first here) (early (suc j) hi o.second o.entry)) [
-          | inl e ↦ inl (subst (λ e. At' e v (row j)) e here)
-          | inr e ↦ inr (subst (λ e. At' e v (row j)) e here)
-        ]
+        grind (arith, first_of, early, At', row)
 
     right_end : (j : ℕ) → low ≤ j → j < high → Either lists base parent triangulation has wood (out two) (into three) v (row (suc j))
     right_end j lo hi =
         let o = wood.order v (row (suc j)) i (dart_right j lo hi) in
         let here = subst (At' o.first v) (face j lo hi).third o.after in
-        elim (second_of o.first o.second o.follow (early j (omega arith) o.first here) (early (suc j) hi o.second o.entry)) [
-          | inl e ↦ inl (subst (λ e. At' e v (row (suc j))) e o.entry)
-          | inr e ↦ inr (subst (λ e. At' e v (row (suc j))) e o.entry)
-        ]
+        grind (arith, second_of, early, At', row)
 
     -- between the two ends it is the parent of colour three
     pub over : (j : ℕ) → low < j → j < high → parent three (row j) ≡ v
@@ -174,13 +132,7 @@ module _ (lists : Lists) (base : Dart) (parent : Colour → ℕ → ℕ) (at : L
         let m : ℕ = j - 1 in
         let e : suc m ≡ j = omega arith in
         let right = subst (λ j. Either lists base parent triangulation has wood (out two) (into three) v (row j)) e (right_end m (omega arith) (omega arith)) in
-        elim (left_end j (omega arith) hi) [
-          | inr h ↦ h.1
-          | inl h ↦ elim right [
-            | inr g ↦ g.1
-            | inl g ↦ absurd (different (one_end lists base parent triangulation has wood v (row j) i (out one) (out two) h g))
-          ]
-        ]
+        grind (arith, left_end, one_end, row, out, one, two)
       where
         different : out one ≢ out two
         different e = cc
@@ -194,34 +146,27 @@ module _ (lists : Lists) (base : Dart) (parent : Colour → ℕ → ℕ) (at : L
     -- the row has no repeats
     row_once : (i j : ℕ) → i ≤ high → j ≤ high → row i ≡ row j → i ≡ j
     row_once i j a b e =
-        let s = size in
-        let p = placed k i l a in
-        let q = placed k j l b in
-        same_place k i j l a b (once' ((stage k).vertex i) ((stage k).vertex j) (omega arith) (omega arith) e)
+        same_place k i j l a b (once' ((stage k).vertex i) ((stage k).vertex j) (omega (arith, placed k i l a)) (omega (arith, placed k j l b)) e)
 
     -- A dart to it stands in a face of a step: with a later vertex behind it, along the row, or from a later vertex.
     made_by : (x : ℕ) → IsMadeByStep at steps x v → ((w : ℕ) × (k + 2 < w) × (w < length lists) × (named w ≡ follows lists v x)) ⊎ (((j : ℕ) × (low ≤ j) × (j < high) × (row (suc j) ≡ x) × (row j ≡ follows lists v x)) ⊎ ((w : ℕ) × (k + 2 < w) × (w < length lists) × (named w ≡ x)))
     made_by x m =
         let s = size in
-        let c = a.count in
         let l' : m.step < n = let e = m.earlier in omega arith in
         let f = run.faces m.step m.place m.a m.b m.v m.earlier m.face in
         let hi = m.face.high in
         let lo = m.face.low in
         let pa = placed m.step m.place l' (omega arith) in
         let pb = placed m.step (suc m.place) l' (omega arith) in
-        let ea = m.face.left in
-        let eb = m.face.right in
         let ev = sym (count-stage_after steps m.step) ∙ m.face.new in
         elim m.dart [
           | inl e ↦
               let q = once' (k + 2) m.b (omega arith) (omega arith) e.1 in
               inl (m.v, omega arith, omega arith, sym (ap (follows lists v) e.0 ∙ (ap (λ w. follows lists w (named m.a)) e.1 ∙ f.second)))
           | inr (inl e) ↦
-              let q = once' (k + 2) m.v (omega arith) (omega arith) e.1 in
-              let same : m.step ≡ k = omega arith in
-              let first = ap (λ s. (stage s).vertex m.place) (sym same) ∙ ea in
-              let second = ap (λ s. (stage s).vertex (suc m.place)) (sym same) ∙ eb in
+              let same : m.step ≡ k = omega (arith, once' (k + 2) m.v (omega arith) (omega arith) e.1) in
+              let first = ap (λ s. (stage s).vertex m.place) (sym same) ∙ m.face.left in
+              let second = ap (λ s. (stage s).vertex (suc m.place)) (sym same) ∙ m.face.right in
               let turned = ap (follows lists v) e.0 ∙ (ap (λ w. follows lists w (named m.b)) e.1 ∙ f.third) in
               inr (inl (m.place, subst (λ s. (steps s).first ≤ m.place) same lo, subst (λ s. m.place < (steps s).last) same hi, ap named second ∙ sym e.0, ap named first ∙ sym turned))
           | inr (inr e) ↦
@@ -232,13 +177,7 @@ module _ (lists : Lists) (base : Dart) (parent : Colour → ℕ → ℕ) (at : L
     -- an earlier vertex is no later one
     not_both : (z : (x : ℕ) × (x < k + 2)) → (w : (x : ℕ) × (k + 2 < x) × (x < length lists)) → named z.0 ≡ named w.0 → ⊥
     not_both z w e =
-        let s = size in
-        let c = a.count in
-        let less = z.1 in
-        let more = w.1 in
-        let within = w.2 in
-        let same = once' z.0 w.0 (omega arith) (omega arith) e in
-        omega arith
+        omega (arith, once' z.0 w.0 (omega arith) (omega arith) e)
 
     -- the first of the row is the parent of colour one
     pub first_is : parent one v ≡ row low
@@ -257,11 +196,10 @@ module _ (lists : Lists) (base : Dart) (parent : Colour → ℕ → ℕ) (at : L
       where
         none : (x : ℕ) × (x < k + 2) × (named x ≡ follows lists v (row low)) → IsMadeByStep at steps (row low) v → ⊥
         none z m =
-            let o = some in
             elim (made_by (row low) m) [
               | inl h ↦ not_both (z.0, z.1) (h.0, h.1, h.2) (z.2 ∙ sym h.3)
               | inr (inl h) ↦ (let lo = h.1 in let e = row_once (suc h.0) low h.2 (omega arith) h.3 in omega arith)
-              | inr (inr h) ↦ not_later low (omega arith) h
+              | inr (inr h) ↦ not_later low (omega (arith, some)) h
             ]
 
     -- and the last that of colour two
@@ -294,24 +232,14 @@ module _ (lists : Lists) (base : Dart) (parent : Colour → ℕ → ℕ) (at : L
   -- THE LEMMA
   pub parents_are : AreParentsOf at steps parent
   parents_are one v w few p =
-      let l = p.earlier in
-      let s = size in
-      let c = a.count in
-      let e = p.vertex in
       let inner = inner_at lists base parent at triangulation has wood a (p.step + 2) (omega arith) (omega arith) in
-      ap (λ v. parent one (named v)) e ∙ (first_is p.step l inner ∙ ap named p.parent)
+      ap (λ v. parent one (named v)) p.vertex ∙ (first_is p.step p.earlier inner ∙ ap named p.parent)
   parents_are two v w few p =
-      let l = p.earlier in
-      let s = size in
-      let c = a.count in
-      let e = p.vertex in
       let inner = inner_at lists base parent at triangulation has wood a (p.step + 2) (omega arith) (omega arith) in
-      ap (λ v. parent two (named v)) e ∙ (last_is p.step l inner ∙ ap named p.parent)
+      ap (λ v. parent two (named v)) p.vertex ∙ (last_is p.step p.earlier inner ∙ ap named p.parent)
   parents_are three v w few p =
       let k : ℕ = p.step in
       let l = p.earlier in
-      let s = size in
-      let c = a.count in
       let j : ℕ = p.covered.place in
       let lo = p.covered.low in
       let hi = p.covered.high in
@@ -325,7 +253,6 @@ module _ (lists : Lists) (base : Dart) (parent : Colour → ℕ → ℕ) (at : L
       let small = placed k j l (omega arith) in
       let inner = inner_at lists base parent at triangulation has wood a v (omega arith) (omega arith) in
       let f = run.faces k j ((stage k).vertex j) ((stage k).vertex (suc j)) (k + 2) (omega arith) record { low = omega arith; high = hi; left = refl; right = refl; new = count-stage_after steps k } in
-      let back = HasDart-follows lists (named ((stage k).vertex j)) (named (k + 2)) in
       let d = dart_between (named ((stage k).vertex j)) (named ((stage k).vertex (suc j))) (named (k + 2)) f in
       let edge : HasDart lists (named v) (named (k + 2)) = subst (λ v. HasDart lists (named v) (named (k + 2))) is_v d in
       let e = some_end lists base parent triangulation has wood (named v) (named (k + 2)) inner edge in
@@ -338,11 +265,8 @@ module _ (lists : Lists) (base : Dart) (parent : Colour → ℕ → ℕ) (at : L
 
       not_before : (c : Colour) (v z : ℕ) → v < z → z < length at → IsBefore at (parent c (named v)) (named v) → parent c (named v) ≢ named z
       not_before c v z m m' b e =
-          let count = a.count in
           let t = before_to lists base parent at triangulation has wood a (parent c (named v)) (named v) v (omega arith) b refl in
-          let lt = t.1 in
-          let q = once' t.0 z (omega arith) m' (t.2 ∙ e) in
-          omega arith
+          omega (arith, once' t.0 z (omega arith) m' (t.2 ∙ e))
 
       by_end : (e : End) → {v z : ℕ} → At' e (named v) (named z) → IsInner lists base (named v) → (IsInner lists base (named z) → parent three (named v) ≡ named z) → v < z → z < length at → parent three (named v) ≡ named z
       by_end (out one) {v} {z} h i up m m' = absurd (not_before one v z m m' (a.one_before (named v) i) h)

@@ -83,8 +83,7 @@ module _ (lists : Lists) (base : Dart) (parent : Colour → ℕ → ℕ) (triang
     where
       one_each : (u : ℕ) → count_of u roots ≤ 1
       one_each u =
-          let same : count_of u roots ≡ count_of u (r one ∷ r three ∷ r two ∷ []) = swapped u (r one) (r two) (r three) in
-          omega (arith, same, count_of-le-one u (r one ∷ r three ∷ r two ∷ []) roots_apart)
+          omega (arith, swapped u (r one) (r two) (r three), count_of-le-one u (r one ∷ r three ∷ r two ∷ []) roots_apart)
 
   -- where the edges go that belong to v: to its parents, or from root to root
   abbrev three_of : ℕ → List ℕ
@@ -183,18 +182,11 @@ module _ (lists : Lists) (base : Dart) (parent : Colour → ℕ → ℕ) (triang
   six v l =
       elim (root_or_inner v l) [
         | inl x ↦
-            let a = ap (λ l. length l) (by_root-root others (three_of v) v x.0 x.1) in
             let b = ap (λ l. length l) (by_root-root {A = List ℕ} (λ c. []) (three_of v) v x.0 x.1) in
-            let k : 1 ≤ count_of v roots = in_roots x.0 x.1 in
-            let m = count_of-le-one v roots roots_distinct in
-            omega arith
+            omega (arith, count_of-le-one v roots roots_distinct, in_roots x.0 x.1, ap (λ l. length l) (by_root-root others (three_of v) v x.0 x.1))
         | inr i ↦
-            let a = ap (λ l. length l) (by_root-inner others (three_of v) v i) in
             let b = ap (λ l. length l) (by_root-inner {A = List ℕ} (λ c. []) (three_of v) v i) in
-            elim (cases_lt 0 (count_of v roots)) [
-              | inl some ↦ absurd (each_of_three (λ z. z ≢ v) (r one) (r two) (r three) (λ e. i.1 one (sym e)) (λ e. i.1 two (sym e)) (λ e. i.1 three (sym e)) v (Contains-from_count_of v roots some) refl)
-              | inr none ↦ omega arith
-            ]
+            grind (arith, cases_lt, count_of, roots, each_of_three, one, two, three, Contains-from_count_of, length, by_root-inner, others, three_of)
       ]
     where
       in_roots : (c : Colour) → v ≡ r c → 1 ≤ count_of v roots
@@ -209,7 +201,6 @@ module _ (lists : Lists) (base : Dart) (parent : Colour → ℕ → ℕ) (triang
       let k : ℕ → ℕ = λ v. count_of v roots in
       let rows = sum_below-same (λ v. sum_below (ways v) n) (λ v. a v + sum_below (λ u. count_of v (up u)) n) n
       (λ v l. sum_below-add (λ u. count_of u (from v)) (λ u. count_of v (up u)) n ∙ ap (λ z. z + sum_below (λ u. count_of v (up u)) n) (sum_below-count_of (from v) n (from_in v l))) in
-      let parts = sum_below-add a (λ v. sum_below (λ u. count_of v (up u)) n) n in
       let turned = sum_below-turned (λ v u. count_of v (up u)) n n in
       let columns = sum_below-same (λ u. sum_below (λ v. count_of v (up u)) n) b n (λ u l. sum_below-count_of (up u) n (up_in u l)) in
       let sixes = sum_below-sixes (λ v. a v + b v + 4 * k v) n six in
@@ -217,24 +208,20 @@ module _ (lists : Lists) (base : Dart) (parent : Colour → ℕ → ℕ) (triang
       let apart' = sum_below-add a b n in
       let scaled = sum_below-scaled k n in
       let three_roots = sum_below-count_of roots n (λ u c. each_of_three (λ z. z < n) (r one) (r two) (r three) (root_in one) (root_in two) (root_in three) u c) in
-      omega (arith, rows, parts, turned, columns, sixes, apart, apart', scaled, three_roots)
+      omega (arith, rows, sum_below-add a (λ v. sum_below (λ u. count_of v (up u)) n) n, turned, columns, sixes, apart, apart', scaled, three_roots)
 
   all_darts : sum_below (λ v. sum_below (λ u. count_of u (list_of lists v)) n) n + 12 ≡ 6 * n
   all_darts =
       let rows = sum_below-same (λ v. sum_below (λ u. count_of u (list_of lists v)) n) (λ v. length (list_of lists v)) n
       (λ v l. sum_below-count_of (list_of lists v) n (λ u c. triangulation.simple.in_range v u (l, c))) in
-      let summed = darts_summed lists n in
-      let all = darts_before_all lists n (omega arith) in
-      let even = dart_count-edge_count lists triangulation.simple in
       let edges = triangulation.edges in
-      omega (arith, rows, summed, all, even, edges)
+      omega (arith, rows, darts_summed lists n, darts_before_all lists n (omega arith), dart_count-edge_count lists triangulation.simple, edges)
 
   -- THE LEMMA: an edge is not the parent's edge of both of its ends
   pub two_ways : (c d : Colour) (v u : ℕ) → IsInner lists base v → IsInner lists base u → parent c v ≡ u → parent d u ≡ v → ⊥
   two_ways c d v u i j e e' =
-      let one_way = out_way c v u i e in
       let other_way = up_way d u v j e' in
       let once = count_of-le-one u (list_of lists v) (triangulation.simple.no_repeat v i.0) in
-      let row = sum_below-less (λ u. count_of u (list_of lists v)) (ways v) n u j.0 (λ w l. at_most v w i.0) (omega arith) in
+      let row = sum_below-less (λ u. count_of u (list_of lists v)) (ways v) n u j.0 (λ w l. at_most v w i.0) (omega (arith, out_way c v u i e)) in
       let all = sum_below-less (λ v. sum_below (λ u. count_of u (list_of lists v)) n) (λ v. sum_below (ways v) n) n v i.0 (λ w l. sum_below-most (λ u. count_of u (list_of lists w)) (ways w) n (λ u m. at_most w u l)) row in
       omega (arith, all, all_ways, all_darts)

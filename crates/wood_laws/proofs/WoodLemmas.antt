@@ -61,30 +61,16 @@ module _ (lists : Lists) (base : Dart) (at : List ℕ) (steps : ℕ → Step) (p
   -- an inner vertex has a rank strictly between those of the roots
   pub ranked : (v : ℕ) → IsInner lists base v → (k : ℕ) × (2 ≤ k) × (k < suc n) × (name k ≡ v)
   ranked v inner =
-      let c = order.count in
-      let s = size in
-      let small : v < length at = let l = inner.0 in omega arith in
-      let on = all_of_them at v (λ i d m. let o = order.vertices i d m in omega arith) order.built.once small in
-      let k = on.0 in
-      let in_at = on.1 in
-      let here : name k ≡ v = get_or_default at k 0 v in_at ∙ on.2 in
-      let not_zero : k ≢ 0 = λ e. inner.1 one (sym here ∙ ap name e ∙ root_one) in
-      let not_one : k ≢ 1 = λ e. inner.1 two (sym here ∙ ap name e ∙ root_two) in
-      let not_last : k ≢ suc n = λ e. inner.1 three (sym here ∙ ap name e ∙ root_three) in
-      (k, omega arith, omega arith, here)
+      let on = all_of_them at v (λ i d m. let o = order.vertices i d m in omega arith) order.built.once (let l = inner.0 in omega arith) in
+      let here : name on.0 ≡ v = get_or_default at on.0 0 v on.1 ∙ on.2 in
+      let not_zero : on.0 ≢ 0 = λ e. inner.1 one (sym here ∙ ap name e ∙ root_one) in
+      let not_one : on.0 ≢ 1 = λ e. inner.1 two (sym here ∙ ap name e ∙ root_two) in
+      let not_last : on.0 ≢ suc n = λ e. inner.1 three (sym here ∙ ap name e ∙ root_three) in
+      (on.0, omega arith, omega arith, here)
 
   -- and the other way round
   pub inner_at : (k : ℕ) → 2 ≤ k → k < suc n → IsInner lists base (name k)
-  inner_at k l m =
-      let c = order.count in
-      let s = size in
-      let v = order.vertices k 0 (omega arith) in
-      (omega arith, inner_root)
-    where
-      inner_root : (c : Colour) → name k ≢ root lists base c
-      inner_root one e = let s = size in let z = once k 0 (omega arith) (omega arith) (e ∙ sym root_one) in absurd (omega arith)
-      inner_root two e = let s = size in let z = once k 1 (omega arith) (omega arith) (e ∙ sym root_two) in absurd (omega arith)
-      inner_root three e = let s = size in let z = once k (suc n) (omega arith) (omega arith) (e ∙ sym root_three) in absurd (omega arith)
+  inner_at k l m = grind (arith, Colour, name, root, one, size, once, root_one, two, root_two, three, root_three)
 
   sound : (k : ℕ) → k ≤ n → IsStage (stage k)
   sound k l = IsStage-run steps k (IsRun-less steps k n l run.run)
@@ -99,7 +85,6 @@ module _ (lists : Lists) (base : Dart) (at : List ℕ) (steps : ℕ → Step) (p
   -- a face that was made, in the map
   pub face_at : (k i : ℕ) → k < n → (steps k).first ≤ i → i < (steps k).last → IsFaceOfThree lists (name ((stage k).vertex i)) (name ((stage k).vertex (suc i))) (name (k + 2))
   face_at k i l lo hi =
-      let s = size in
       run.faces k i ((stage k).vertex i) ((stage k).vertex (suc i)) (k + 2) (omega arith) record { low = lo; high = hi; left = refl; right = refl; new = count-stage_after steps k }
 
   -- its darts from and to the top
@@ -112,22 +97,17 @@ module _ (lists : Lists) (base : Dart) (at : List ℕ) (steps : ℕ → Step) (p
   -- a vertex and its parent are neighbours
   pub edge : (c : Colour) (v w : ℕ) → IsParent c steps n v w → HasDart lists (name v) (name w)
   edge one v w p =
-      let l = p.earlier in
-      let o = (run.run p.step l).order in
-      let f = face_at p.step (steps p.step).first l (omega arith) o in
+      let f = face_at p.step (steps p.step).first p.earlier (omega arith) ((run.run p.step p.earlier).order) in
       subst (λ v. HasDart lists (name v) (name w)) (sym p.vertex) (subst (λ w. HasDart lists (name (p.step + 2)) (name w)) p.parent (from_top _ _ _ f))
   edge two v w p =
-      let l = p.earlier in
-      let o = (run.run p.step l).order in
+      let o = (run.run p.step p.earlier).order in
       let i : ℕ = (steps p.step).last - 1 in
       let e : suc i ≡ (steps p.step).last = omega arith in
-      let f = face_at p.step i l (omega arith) (omega arith) in
+      let f = face_at p.step i p.earlier (omega arith) (omega arith) in
       let d = triangulation.simple.both_ways (name ((stage p.step).vertex (suc i))) (name (p.step + 2)) (to_top _ _ _ f) in
       subst (λ v. HasDart lists (name v) (name w)) (sym p.vertex) (subst (λ w. HasDart lists (name (p.step + 2)) (name w)) (ap (stage p.step).vertex e ∙ p.parent) d)
   edge three v w p =
-      let l = p.earlier in
-      let low = p.covered.low in
-      let f = face_at p.step p.covered.place l (omega arith) p.covered.high in
+      let f = face_at p.step p.covered.place p.earlier (omega arith) p.covered.high in
       let d = triangulation.simple.both_ways (name (p.step + 2)) (name ((stage p.step).vertex p.covered.place)) (from_top _ _ _ f) in
       subst (λ w. HasDart lists (name v) (name w)) (sym p.parent) (subst (λ v. HasDart lists (name v) (name (p.step + 2))) p.covered.vertex d)
 
@@ -196,10 +176,8 @@ module _ (lists : Lists) (base : Dart) (at : List ℕ) (steps : ℕ → Step) (p
 
   leads_one : (c : Colour) (v : ℕ) → IsInner lists base v → Leads c v (parent c v)
   leads_one c v inner =
-      let s = size in
       let r = ranked v inner in
       let h = has_one c r.0 r.1 r.2 in
-      let small = r.2 in
       record {
         from = r.0;
         to = h.parent;
@@ -211,17 +189,7 @@ module _ (lists : Lists) (base : Dart) (at : List ℕ) (steps : ℕ → Step) (p
       }
 
   leads_on : (c : Colour) (u v w : ℕ) → Leads c u v → Leads c v w → Leads c u w
-  leads_on c u v w a b =
-      let e : a.to ≡ b.from = once a.to b.from a.to_in b.from_in (a.to_is ∙ sym b.from_is) in
-      record {
-        from = a.from;
-        to = b.to;
-        from_in = a.from_in;
-        to_in = b.to_in;
-        from_is = a.from_is;
-        to_is = b.to_is;
-        past = past_more c a.from b.from b.to (subst (IsPast c a.from) e a.past) b.past;
-      }
+  leads_on c u v w a b = grind (arith, past_more, IsPast, once)
 
   leads : (c : Colour) (d v w : ℕ) → LeadsBy lists base (parent c) (suc d) v w → Leads c v w
   leads c zero v w l = subst (Leads c v) l.1 (leads_one c v l.0)
@@ -232,45 +200,15 @@ module _ (lists : Lists) (base : Dart) (at : List ℕ) (steps : ℕ → Step) (p
 
   -- the last step goes over all
   over_all : (k : ℕ) → suc k ≡ n → ((steps k).first ≡ 0) × (suc (steps k).last ≡ (stage k).width)
-  over_all k e =
-      let step = run.run k (omega arith) in
-      let o = step.order in
-      let i = step.within in
-      let w : (stage (suc k)).width ≡ 3 = ap (λ k. (stage k).width) e ∙ run.end in
-      (omega (arith, w), omega (arith, w))
+  over_all k e = grind (arith, stage)
 
   -- what has an inner vertex as parent is inner
   child_inner : (c : Colour) (x b : ℕ) → 2 ≤ b → IsParent c steps n x b → (2 ≤ x) × (x < suc n)
-  child_inner one x b l p =
-      let h = p.earlier in
-      let e = p.vertex in (
-        omega arith,
-        elim (cases_lt x (suc n)) [
-          | inl m ↦ m
-          | inr m ↦
-              let over = over_all p.step (omega arith) in
-              let z = sym p.parent ∙ ap (stage p.step).vertex over.0 ∙ (sound p.step (omega arith)).begin in
-              absurd (omega (arith, z))
-        ],
-      )
-  child_inner two x b l p =
-      let h = p.earlier in
-      let e = p.vertex in (
-        omega arith,
-        elim (cases_lt x (suc n)) [
-          | inl m ↦ m
-          | inr m ↦
-              let over = over_all p.step (omega arith) in
-              let z = sym p.parent ∙ (sound p.step (omega arith)).end (steps p.step).last over.1 in
-              absurd (omega (arith, z))
-        ],
-      )
+  child_inner one x b l p = grind (arith, cases_lt, stage, over_all, sound)
+  child_inner two x b l p = grind (arith, cases_lt, sound, over_all)
   child_inner three x b l p =
-      let h = p.earlier in
-      let own = IsCovered-own steps p.step n x run.run h p.covered in
-      let low = p.covered.low in
-      let high = p.covered.high in
-      let within = (run.run p.step h).within in
+      let own = IsCovered-own steps p.step n x run.run p.earlier p.covered in
+      let within = (run.run p.step p.earlier).within in
       let g = sound p.step (omega arith) in
       let end : ℕ = (stage p.step).width - 1 in
       let not_zero : x ≢ 0 = λ e. let z = ap (stage p.step).place (e ∙ sym g.begin) ∙ g.own 0 (omega arith) in absurd (omega (arith, z, own.1)) in
@@ -284,13 +222,7 @@ module _ (lists : Lists) (base : Dart) (at : List ℕ) (steps : ℕ → Step) (p
 
   -- a corner by ranks is one of the map
   corner : (b x y v u : ℕ) → (2 ≤ b) × (b < suc n) → name b ≡ v → name y ≡ u → name x ≡ follows lists v u → IsOrdered steps n b x y → IsInOrder lists base parent v u
-  corner b x y v u l ev eu ew h = record {
-    first = h.first;
-    second = h.second;
-    after = subst (λ v. IsEndAt lists base parent h.first v (follows lists v u)) ev (subst (IsEndAt lists base parent h.first (name b)) (ew ∙ ap (λ v. follows lists v u) (sym ev)) (end_at h.first b x l.0 l.1 h.first_end));
-    entry = subst (λ v. IsEndAt lists base parent h.second v u) ev (subst (IsEndAt lists base parent h.second (name b)) eu (end_at h.second b y l.0 l.1 h.second_end));
-    follow = h.follow;
-  }
+  corner b x y v u l ev eu ew h = grind (arith, IsEndAt, follows, name, end_at)
 
   -- the rank of an inner vertex
   rank_inner : (b v : ℕ) → b < length at → name b ≡ v → IsInner lists base v → (2 ≤ b) × (b < suc n)
@@ -298,19 +230,12 @@ module _ (lists : Lists) (base : Dart) (at : List ℕ) (steps : ℕ → Step) (p
 
   in_order : (v u : ℕ) → IsInner lists base v → HasDart lists v u → IsInOrder lists base parent v u
   in_order v u inner d =
-      let s = size in
       let m = run.made u v (triangulation.simple.both_ways v u d) not_base in
       let f = run.faces m.step m.place m.a m.b m.v m.earlier m.face in
       let g = sound m.step (let e = m.earlier in omega arith) in
       let l : m.step < n = let e = m.earlier in omega arith in
       let w = (run.run m.step l).within in
-      let hi = m.face.high in
       let count = count-stage_after steps m.step in
-      let pa = g.placed m.place (omega arith) in
-      let pb = g.placed (suc m.place) (omega arith) in
-      let ea = m.face.left in
-      let eb = m.face.right in
-      let ev = m.face.new in
       elim m.dart [
         | inl e ↦
             let small = rank_inner m.b v (omega arith) (sym e.1) inner in

@@ -3,7 +3,7 @@ use Rattle.std.specs.Prelude.{ℕ, suc, ◌+◌, ◌≡◌, List, length, pos, B
 use Rattle.map_lists.specs.Lists.{Lists}
 use Rattle.map_theory.specs.Maps.{Dart, HasDart}
 use Rattle.plane_laws.specs.Triangulations.{IsTriangulation}
-use Rattle.pg_plane.specs.declared.segments.Point.{Point}
+use Rattle.pg_plane.specs.declared.grid_points.Point.{Point}
 use Rattle.plane_drawings.specs.Drawing.{place}
 use Rattle.canon_order.specs.Orders.{IsCanonicalOrder}
 use Rattle.contour_runs.specs.Runs.{Step}

@@ -16,9 +16,6 @@ module _ (steps : ℕ → Step) where
   -- an edge of the contour other than the base leads to the parent of colour one backwards, or to that of colour two forwards
   coloured : (n : ℕ) → IsRun steps n → (x y i : ℕ) → GoesAlong (at n) x y i → (2 ≤ x) ⊎ (2 ≤ y) → IsParent one steps n y x ⊎ IsParent two steps n x y
   coloured zero run x y i a some =
-      let w = a.within in
-      let t = a.tail in
-      let h = a.head in
       absurd (elim some [ inl l ↦ omega arith | inr l ↦ omega arith ])
   coloured (suc n) run x y i a some =
       let less = IsRun-less steps n (suc n) (omega arith) run in
@@ -108,8 +105,4 @@ module _ (steps : ℕ → Step) where
       subst (λ v. IsOrdered steps n v u w) (sym ev) (subst (λ u. IsOrdered steps n a u w) (sym eu) (subst (λ w. IsOrdered steps n a b w) (sym ew) h))
 
   pub corners_ordered : (n v u w : ℕ) → IsRun steps n → 2 ≤ v → IsCorner steps n v u w → IsOrdered steps n v u w
-  corners_ordered n v u w run some c = elim c.corner [
-    | inl e ↦ IsOrdered-at n v u w c.a c.b c.top e.0 e.1 e.2 (at_left n run c.step c.place c.a c.b c.top c.earlier c.face (subst (λ v. 2 ≤ v) e.0 some))
-    | inr (inl e) ↦ IsOrdered-at n v u w c.b c.top c.a e.0 e.1 e.2 (at_right n run c.step c.place c.a c.b c.top c.earlier c.face (subst (λ v. 2 ≤ v) e.0 some))
-    | inr (inr e) ↦ IsOrdered-at n v u w c.top c.a c.b e.0 e.1 e.2 (at_top n run c.step c.place c.a c.b c.top c.earlier c.face)
-  ]
+  corners_ordered n v u w run some c = grind (arith, IsOrdered-at, at_left, at_right, at_top)

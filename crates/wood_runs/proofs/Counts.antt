@@ -35,12 +35,7 @@ count_four f (suc n) h =
     let less = count_four f n (λ w l. h w (omega arith)) in
     let not = λ (i j : ℕ) (ne : i ≢ j) (e : f n ≡ i). last_out (is j f) n (ne_eqb (f n) j (λ x. ne (sym e ∙ x))) in
     let yes = λ (i : ℕ) (e : f n ≡ i). last_in (is i f) n (eq-eqb (f n) i e) in
-    elim (h n (omega arith)) [
-      | inl e ↦ omega (arith, less, yes 0 e, not 0 1 (omega arith) e, not 0 2 (omega arith) e, not 0 3 (omega arith) e)
-      | inr (inl e) ↦ omega (arith, less, yes 1 e, not 1 0 (omega arith) e, not 1 2 (omega arith) e, not 1 3 (omega arith) e)
-      | inr (inr (inl e)) ↦ omega (arith, less, yes 2 e, not 2 0 (omega arith) e, not 2 1 (omega arith) e, not 2 3 (omega arith) e)
-      | inr (inr (inr e)) ↦ omega (arith, less, yes 3 e, not 3 0 (omega arith) e, not 3 1 (omega arith) e, not 3 2 (omega arith) e)
-    ]
+    grind (arith, less)
 
 module _ (steps : ℕ → Step) where
   abbrev at : ℕ → Stage
@@ -98,9 +93,8 @@ module _ (steps : ℕ → Step) where
 
     new_ones : (coordinates steps n).one wq ≡ count_below (is 1 (side wq)) z → (coordinates steps (suc n)).one z ≡ count_below (is 1 (side' z)) (suc z)
     new_ones h =
-        let sided = IsSided-run steps n less in
         let wq_in = (wq_is (at n) (steps n) (2 * n + 1) (fronts steps n) (shades steps n) (IsStage-run steps n less) (run n (omega arith)) (IsShaded-run steps n less)).0 in
-        let own = sided.own_side wq wq_in in
+        let own = (IsSided-run steps n less).own_side wq wq_in in
         let more = count_below_more (is 1 (side wq)) (is 1 (side' z)) z wq wq_in (ne_eqb (side wq wq) 1 (λ e. omega (arith, e, own))) (eq-eqb (side' z wq) 1 ((new_one (at n) (steps n) (2 * n + 1) (fronts steps n) (shades steps n) (IsOn steps n) (paths steps n) side (IsStage-run steps n less) (run n (omega arith)) (IsShaded-run steps n less) (IsNested-run steps n less) (IsSided-run steps n less) wq wq_in).1 (inl refl)))
         (λ w l ne. same_test (side wq w) (side' z w) 1 (λ e. (new_one (at n) (steps n) (2 * n + 1) (fronts steps n) (shades steps n) (IsOn steps n) (paths steps n) side (IsStage-run steps n less) (run n (omega arith)) (IsShaded-run steps n less) (IsNested-run steps n less) (IsSided-run steps n less) w l).1 (inr e)) (λ e. elim ((new_one (at n) (steps n) (2 * n + 1) (fronts steps n) (shades steps n) (IsOn steps n) (paths steps n) side (IsStage-run steps n less) (run n (omega arith)) (IsShaded-run steps n less) (IsNested-run steps n less) (IsSided-run steps n less) w l).0 e) [ inl x ↦ absurd (ne x) | inr x ↦ x ])) in
         omega (arith, more, h, last_out (is 1 (side' z)) z (self_out 1 (omega arith)), one_after-new (at n) (steps n) (coordinates steps n) z refl)
@@ -120,10 +114,9 @@ module _ (steps : ℕ → Step) where
             let e : v ≡ (at n).count = omega arith in
             let wq_in = (wq_is (at n) (steps n) (2 * n + 1) (fronts steps n) (shades steps n) (IsStage-run steps n l') (run n (omega arith)) (IsShaded-run steps n l')).0 in
             let wp_in = (wp_is (at n) (steps n) (2 * n + 1) (fronts steps n) (shades steps n) (IsStage-run steps n l') (run n (omega arith)) (IsShaded-run steps n l')).0 in
-            let one' = new_ones n run (counts n ((at n).vertex (steps n).last) l' wq_in).0 in
             let two' = new_twos n run (counts n ((at n).vertex (steps n).first) l' wp_in).1 in
             subst (λ v. ((coordinates steps (suc n)).one v ≡ count_below (is 1 (sides steps (suc n) v)) (suc (at n).count)) × ((coordinates steps (suc n)).two v ≡ count_below (is 2 (sides steps (suc n) v)) (suc (at n).count))) (sym e)
-            (one', two')
+            (new_ones n run (counts n ((at n).vertex (steps n).last) l' wq_in).0, two')
       ]
 
   -- and each vertex but one lies on a side

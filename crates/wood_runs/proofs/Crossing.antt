@@ -106,16 +106,11 @@ module _ (g : Stage) (s : Step) (new : ℕ) (front : ℕ → ℕ) (shade : ℕ �
 
   -- what lies before an edge under the new vertex has shade 3 for it
   under_three : (j : ℕ) → s.first ≤ j → j < s.last → shade' g.count (front j) ≡ 3
-  under_three j a b =
-      let w = step.within in
-      let one' = h.high wp j (wp_is g s new front shade stage step h).0 (omega arith) (omega (arith, (wp_is g s new front shade stage step h).1)) in
-      let two' = h.low wq j (wq_is g s new front shade stage step h).0 (omega arith) (omega (arith, (wq_is g s new front shade stage step h).1)) in
-      sees_three g s new front shade on path side stage step h k d (front j) (h.made j (omega arith)) (λ e. absurd (omega (arith, e, one'))) (λ e. absurd (omega (arith, e, two')))
+  under_three j a b = grind (arith, wp, wp_is, wq, wq_is, sees_three)
 
   born_one : (v : ℕ) → v < suc g.count → Crosses one (path' one v g.count) (shade' v (front s.first)) (shade' v new)
   born_one v l =
       let o = step.order in
-      let w = step.within in
       elim (cases_lt v g.count) [
         | inl a ↦ inr (on_lower-not g s (path one) wp v g.count a refl, older_old g s new front shade stage step h v (front s.first) a (h.made s.first (omega arith)) ∙ sym (older_first g s new front shade stage step h v new a refl))
         | inr a ↦
@@ -125,9 +120,6 @@ module _ (g : Stage) (s : Step) (new : ℕ) (front : ℕ → ℕ) (shade : ℕ �
 
   born_two : (v : ℕ) → v < suc g.count → Crosses two (path' two v g.count) (shade' v (suc new)) (shade' v (front r))
   born_two v l =
-      let o = step.order in
-      let w = step.within in
-      let e' = r_is in
       elim (cases_lt v g.count) [
         | inl a ↦ inr (on_lower-not g s (path two) wq v g.count a refl, older_last g s new front shade stage step h v (suc new) a (omega arith) ∙ sym (older_old g s new front shade stage step h v (front r) a (h.made r (omega arith))))
         | inr a ↦
@@ -137,46 +129,19 @@ module _ (g : Stage) (s : Step) (new : ℕ) (front : ℕ → ℕ) (shade : ℕ �
 
   born_three : (j v : ℕ) → s.first ≤ j → suc j < s.last → v < suc g.count → Crosses three (path' three v (g.vertex (suc j))) (shade' v (front j)) (shade' v (front (suc j)))
   born_three j v lo hi l =
-      let o = step.order in
-      let w = step.within in
       let x = stage.placed (suc j) (omega arith) in
       elim (cases_lt v g.count) [
         | inl a ↦
             let e = path_older g s new front shade on path side stage step h k d three v (g.vertex (suc j)) a x in
             let e1 = older_old g s new front shade stage step h v (front j) a (h.made j (omega arith)) in
             let e2 = older_old g s new front shade stage step h v (front (suc j)) a (h.made (suc j) (omega arith)) in
-            elim (cases_Bool (path three v (g.vertex (suc j)))) [
-              | inl t ↦
-                  let pl = d.reached v (suc j) a (omega arith) t in
-                  inl (e ∙ t, e1 ∙ h.low v j a (omega arith) (omega arith), e2 ∙ h.high v (suc j) a (omega arith) (omega arith))
-              | inr t ↦
-                  let ne : g.place v ≢ suc j = λ z. true≢false (sym (d.reaches v (suc j) a (omega arith) z) ∙ t) in
-                  inr (
-                    e ∙ t,
-                    e1 ∙ elim (cases_lt j (g.place v)) [
-                      | inl b ↦ h.low v j a (omega arith) b ∙ sym (h.low v (suc j) a (omega arith) (omega arith))
-                      | inr b ↦ h.high v j a (omega arith) b ∙ sym (h.high v (suc j) a (omega arith) (omega arith))
-                    ] ∙ sym e2,
-                  )
-            ]
-        | inr a ↦
-            let n : v ≡ g.count = omega arith in
-            subst (λ v. Crosses three (path' three v (g.vertex (suc j))) (shade' v (front j)) (shade' v (front (suc j)))) (sym n)
-            (inr (on_upper-new g s (path three) g.count (g.vertex (suc j)) refl x, under_three j lo (omega arith) ∙ sym (under_three (suc j) (omega arith) hi)))
+            grind (arith, cases_Bool, three, true≢false, cases_lt)
+        | inr a ↦ grind (arith, Crosses, three, path', shade', on_upper-new, under_three)
       ]
 
   -- two older faces that the vertices at both places see alike, as far as it matters
   same_new : (f f' : ℕ) → f < new → f' < new → (shade wp f ≡ 2 → shade wp f' ≡ 2) → (shade wp f' ≡ 2 → shade wp f ≡ 2) → (shade wq f ≡ 1 → shade wq f' ≡ 1) → (shade wq f' ≡ 1 → shade wq f ≡ 1) → shade' g.count f ≡ shade' g.count f'
-  same_new f f' l l' a b a' b' =
-      let two' = λ (f : ℕ) (l : f < new) (e : shade wp f ≡ 2). two_on g s new front shade on stage step h k f (ap (shade wp) (old_front-old s new front f l) ∙ e) in
-      let one' = λ (f : ℕ) (l : f < new) (e : shade wq f ≡ 1). one_on g s new front shade on stage step h k f (ap (shade wq) (old_front-old s new front f l) ∙ e) in
-      elim (cases_eq (shade wp f) 2) [
-        | inl e ↦ two' f l e ∙ sym (two' f' l' (a e))
-        | inr e ↦ elim (cases_eq (shade wq f) 1) [
-          | inl e' ↦ one' f l e' ∙ sym (one' f' l' (a' e'))
-          | inr e' ↦ sees_three g s new front shade on path side stage step h k d f l e e' ∙ sym (sees_three g s new front shade on path side stage step h k d f' l' (λ x. e (b x)) (λ x. e' (b' x)))
-        ]
-      ]
+  same_new f f' l l' a b a' b' = grind (arith, wp, two_on, old_front-old, wq, one_on, cases_eq, sees_three)
 
   by_same : {a b i : ℕ} → a ≡ b → (a ≡ i → b ≡ i) × (b ≡ i → a ≡ i)
   by_same e = (λ x. sym e ∙ x, λ x. e ∙ x)
@@ -184,46 +149,24 @@ module _ (g : Stage) (s : Step) (new : ℕ) (front : ℕ → ℕ) (shade : ℕ �
   -- an older edge, for the new vertex
   kept_new : (c : Colour) (x f f' : ℕ) → x < g.count → f < new → f' < new → (c ≡ three → g.vertex (g.place x) ≢ x) → Crosses c (path c wp x) (shade wp f) (shade wp f') → Crosses c (path c wq x) (shade wq f) (shade wq f') → Crosses c (path' c g.count x) (shade' g.count f) (shade' g.count f')
   kept_new one x f f' lx l l' gone (inl a) b =
-      let e = on_lower-new g s (path one) wp g.count x refl lx in
       inl (
-        e ∙ a.0,
+        (on_lower-new g s (path one) wp g.count x refl lx) ∙ a.0,
         sees_three g s new front shade on path side stage step h k d f l (λ z. absurd (omega (arith, z, a.1))) (λ z. absurd (omega (arith, one_both g s new front shade stage step h f z, a.1))),
         two_on g s new front shade on stage step h k f' (ap (shade wp) (old_front-old s new front f' l') ∙ a.2),
       )
-  kept_new one x f f' lx l l' gone (inr a) b =
-      let e = on_lower-new g s (path one) wp g.count x refl lx in
-      let p = by_same {i = 2} a.1 in
-      let q : (shade wq f ≡ 1 → shade wq f' ≡ 1) × (shade wq f' ≡ 1 → shade wq f ≡ 1) = elim b [ inl z ↦ (λ y. absurd (omega (arith, y, z.1)), λ y. absurd (omega (arith, y, z.2))) | inr z ↦ by_same z.1 ] in
-      inr (e ∙ a.0, same_new f f' l l' p.0 p.1 q.0 q.1)
+  kept_new one x f f' lx l l' gone (inr a) b = grind (arith, by_same, wq, on_lower-new, one, wp, same_new)
   kept_new two x f f' lx l l' gone a (inl b) =
-      let e = on_lower-new g s (path two) wq g.count x refl lx in
       inl (
-        e ∙ b.0,
+        (on_lower-new g s (path two) wq g.count x refl lx) ∙ b.0,
         one_on g s new front shade on stage step h k f (ap (shade wq) (old_front-old s new front f l) ∙ b.1),
         sees_three g s new front shade on path side stage step h k d f' l' (λ z. absurd (omega (arith, two_both g s new front shade stage step h f' z, b.2))) (λ z. absurd (omega (arith, z, b.2))),
       )
-  kept_new two x f f' lx l l' gone a (inr b) =
-      let e = on_lower-new g s (path two) wq g.count x refl lx in
-      let q = by_same {i = 1} b.1 in
-      let p : (shade wp f ≡ 2 → shade wp f' ≡ 2) × (shade wp f' ≡ 2 → shade wp f ≡ 2) = elim a [ inl z ↦ (λ y. absurd (omega (arith, y, z.1)), λ y. absurd (omega (arith, y, z.2))) | inr z ↦ by_same z.1 ] in
-      inr (e ∙ b.0, same_new f f' l l' p.0 p.1 q.0 q.1)
-  kept_new three x f f' lx l l' gone a b =
-      let o = step.order in
-      let w = step.within in
-      let off = λ (i : ℕ) (m : i < g.width) (e : path three (g.vertex i) x ≡ true). let same = d.top i x m lx e in gone refl (ap (λ y. g.vertex (g.place y)) same ∙ ap g.vertex (stage.own i m) ∙ sym same) in
-      let p : shade wp f ≡ shade wp f' = elim a [ inl z ↦ absurd (off s.first (omega arith) z.0) | inr z ↦ z.1 ] in
-      let q : shade wq f ≡ shade wq f' = elim b [ inl z ↦ absurd (off s.last w z.0) | inr z ↦ z.1 ] in
-      let p' = by_same {i = 2} p in
-      let q' = by_same {i = 1} q in
-      inr (on_upper-new g s (path three) g.count x refl lx, same_new f f' l l' p'.0 p'.1 q'.0 q'.1)
+  kept_new two x f f' lx l l' gone a (inr b) = grind (arith, by_same, wp, on_lower-new, two, wq, same_new)
+  kept_new three x f f' lx l l' gone a b = grind (arith, three, wp, wq, by_same, on_upper-new, same_new)
 
   pub kept : (c : Colour) (x f f' : ℕ) → x < g.count → f < new → f' < new → (c ≡ three → g.vertex (g.place x) ≢ x) → ((v : ℕ) → v < g.count → Crosses c (path c v x) (shade v f) (shade v f')) → (v : ℕ) → v < suc g.count → Crosses c (path' c v x) (shade' v f) (shade' v f')
   kept c x f f' lx l l' gone before v lv = elim (cases_lt v g.count) [
-    | inl a ↦
-        let e = path_older g s new front shade on path side stage step h k d c v x a lx in
-        let e1 = older_old g s new front shade stage step h v f a l in
-        let e2 = older_old g s new front shade stage step h v f' a l' in
-        elim (before v a) [ inl b ↦ inl (e ∙ b.0, e1 ∙ b.1, e2 ∙ b.2) | inr b ↦ inr (e ∙ b.0, e1 ∙ b.1 ∙ sym e2) ]
+    | inl a ↦ grind (arith, path_older, older_old)
     | inr a ↦
         let n : v ≡ g.count = omega arith in
         subst (λ v. Crosses c (path' c v x) (shade' v f) (shade' v f')) (sym n) (kept_new c x f f' lx l l' gone (before wp (wp_is g s new front shade stage step h).0) (before wq (wq_is g s new front shade stage step h).0))
@@ -272,7 +215,6 @@ module _ (steps : ℕ → Step) (n : ℕ) (run : IsRun steps n) where
       let run' = less k (omega arith) in
       let count = count-stage_after steps k in
       let h = IsShaded-run steps k run' in
-      let la = e.last_is in
       let m = h.made e.last (let o = (run k a).order in let w = (run k a).within in omega arith) in
       let x' : x ≡ (at k).count = e.vertex ∙ sym count in
       let b : f ≡ suc (2 * k + 1) = let z = e.left in omega arith in
@@ -295,11 +237,9 @@ module _ (steps : ℕ → Step) (n : ℕ) (run : IsRun steps n) where
       let lo = e.low in
       let hi = e.high in
       let m = h.made e.before (omega arith) in
-      let m' = h.made (suc e.before) (omega arith) in
       let pl = (IsStage-run steps k run').placed (suc e.before) (omega arith) in
       let b = e.left in
       let b' = e.right in
-      let ve = e.vertex in
       let cov : IsCovered steps k x = record { place = suc e.before; low = omega arith; high = hi; vertex = e.vertex } in
       let born = born_three (at k) (steps k) (2 * k + 1) (fronts steps k) (shades steps k) (IsOn steps k) (paths steps k) (sides steps k) (IsStage-run steps k run') (run k a) h (IsNested-run steps k run') (IsSided-run steps k run') e.before in
       later three x f f' k a (omega arith) (omega arith) (omega arith) (λ t m low high. covered_gone steps k m x (less m (omega arith)) (omega arith) cov)

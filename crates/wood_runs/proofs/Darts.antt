@@ -28,12 +28,7 @@ module _ (steps : ℕ → Step) (n : ℕ) (run : IsRun steps n) (some : 0 < n) (
   sound m l = IsStage-run steps m (less m l)
 
   over_all : (k : ℕ) → suc k ≡ n → ((steps k).first ≡ 0) × (suc (steps k).last ≡ (at k).width)
-  over_all k e =
-      let step = run k (omega arith) in
-      let o = step.order in
-      let i = step.within in
-      let w : (at (suc k)).width ≡ 3 = ap (λ k. (at k).width) e ∙ end in
-      (omega (arith, w), omega (arith, w))
+  over_all k e = grind (arith, at)
 
   top_is : (at n).vertex 1 ≡ suc n
   top_is = by n refl
@@ -74,18 +69,14 @@ module _ (steps : ℕ → Step) (n : ℕ) (run : IsRun steps n) (some : 0 < n) (
           let s = steps m in
           let count = count-stage_after steps m in
           let o' : IsOn steps (suc m) w f = subst (λ k. IsOn steps k w f) (sym e) o in
-          let nest = IsNested-run steps m run' in
-          let h = IsShaded-run steps m run' in
           let f' = old_front s (2 * m + 1) (fronts steps m) f in
           let all = over_all m e in
-          let a0 = all.0 in
-          let a1 = all.1 in
           let lv' : v < (at m).count = omega arith in
           let same : shades steps n v f ≡ shades steps m v f' = ap (λ k. shades steps k v f) (sym e) ∙ shade_after-older (at m) s (2 * m + 1) (fronts steps m) (shades steps m) v f lv' in
           elim (cases_lt w (at m).count) [
             | inl x ↦
                 let on = old_on (at m) (steps m) (2 * m + 1) (fronts steps m) (shades steps m) (IsOn steps m) (IsStage-run steps m run') (run m (omega arith)) (IsShaded-run steps m run') (IsNested-run steps m run') w f x o' in
-                let small = (nest.placed w f' on).1 in
+                let small = ((IsNested-run steps m run').placed w f' on).1 in
                 let same' : shades steps n v f ≡ shades steps n v f' = same ∙ sym (shade_old m v f' e lv small) in
                 elim (stands steps m w f' run' on) [
                   | before j b c d ↦ let t = from_corner v w f' m j (omega arith) (omega arith) (omega arith) c (elim d [ inl z ↦ inl z | inr z ↦ inr (inl z) ]) in (t.0, subst (HasShade steps n v w t.0) (sym same') t.1)
@@ -94,10 +85,7 @@ module _ (steps : ℕ → Step) (n : ℕ) (run : IsRun steps n) (some : 0 < n) (
             | inr x ↦
                 let n' : w ≡ (at m).count = omega arith in
                 let j = new_on (at m) (steps m) (2 * m + 1) (fronts steps m) (shades steps m) (IsOn steps m) (IsStage-run steps m run') (run m (omega arith)) (IsShaded-run steps m run') (IsNested-run steps m run') w f n' o' in
-                let j1 = j.1 in
-                let j2 = j.2 in
-                let wi = (run m (omega arith)).within in
-                let small = h.made j.0 (omega arith) in
+                let small = (IsShaded-run steps m run').made j.0 (omega arith) in
                 let same' : shades steps n v f ≡ shades steps n v (fronts steps m j.0) = same ∙ ap (shades steps m v) j.3 ∙ sym (shade_old m v (fronts steps m j.0) e lv small) in
                 let t = from_corner v w (fronts steps m j.0) m j.0 (omega arith) j.1 j.2 refl (inr (inr (n' ∙ count))) in
                 (t.0, subst (HasShade steps n v w t.0) (sym same') t.1)
@@ -110,10 +98,6 @@ module _ (steps : ℕ → Step) (n : ℕ) (run : IsRun steps n) (some : 0 < n) (
       let h = IsShaded-run steps m run' in
       let count = count-stage_after steps m in
       let all = over_all m e in
-      let a0 = all.0 in
-      let a1 = all.1 in
-      let o = (run m (omega arith)).order in
-      let w = (run m (omega arith)).within in
       let alone = (IsFalling-run steps m run').alone v (omega arith) (omega arith) in
       let alone' = second_alone steps m v run' (omega arith) (λ z. absurd (omega arith)) in (
         shade_old m v (fronts steps m (steps m).first) e l (h.made (steps m).first (omega arith)) ∙ h.low v (steps m).first (omega arith) (omega arith) (omega arith),
@@ -157,41 +141,11 @@ module _ (steps : ℕ → Step) (n : ℕ) (run : IsRun steps n) (some : 0 < n) (
 
   -- the new edges of a step but the last are made later
   new_made : (k j : ℕ) → suc k < n → (j ≡ (steps k).first) ⊎ (j ≡ suc (steps k).first) → IsMadeLater steps (suc k) j n
-  new_made k j l side =
-      let step = run k (omega arith) in
-      let o = step.order in
-      let w = step.within in
-      let count = count-stage_after steps k in
-      let j' : suc j < (at (suc k)).width = elim side [ inl x ↦ omega arith | inr x ↦ omega arith ] in
-      elim (is_later steps n run (suc k) j (omega arith) j') [
-        | inl x ↦ x
-        | inr x ↦
-            let begin = (sound n (omega arith)).begin in
-            let last = (sound n (omega arith)).end 2 (omega arith) in
-            let p = x.within in
-            let t = x.tail in
-            let h = x.head in
-            let p' : (x.place ≡ 0) ⊎ (x.place ≡ 1) = elim (cases_eq x.place 0) [ inl z ↦ inl z | inr z ↦ inr (omega arith) ] in
-            let v' = λ (i : ℕ) (e : i ≡ suc (steps k).first). vertex_after-new (at k) (steps k) i e ∙ count in
-            absurd (elim side [
-              | inl z ↦ let m = v' (suc j) (omega arith) in elim p' [ inl q ↦ omega (arith, ap (λ i. (at n).vertex (suc i)) q, top_is, h, m) | inr q ↦ omega (arith, ap (λ i. (at n).vertex (suc i)) q, last, h, m) ]
-              | inr z ↦ let m = v' j z in elim p' [ inl q ↦ omega (arith, ap (at n).vertex q, begin, t, m) | inr q ↦ omega (arith, ap (at n).vertex q, top_is, t, m) ]
-            ])
-      ]
+  new_made k j l side = grind (arith, at, is_later, sound, cases_eq, vertex_after-new, count-stage_after, top_is)
 
   -- inner ends of an edge of colour three
   covered_inside : (k i : ℕ) → k < n → (steps k).first ≤ i → suc i < (steps k).last → IsInside n ((at k).vertex (suc i))
-  covered_inside k i l a b =
-      let step = run k l in
-      let w = step.within in
-      let stage = sound k (omega arith) in
-      let placed = stage.placed (suc i) (omega arith) in
-      let own = stage.own (suc i) (omega arith) in
-      let last : ℕ = (at k).width - 1 in
-      let count = count-stage_after steps k in
-      let not_zero : (at k).vertex (suc i) ≢ 0 = λ e. omega (arith, ap (at k).place (e ∙ sym stage.begin), own, stage.own 0 (omega arith)) in
-      let not_one : (at k).vertex (suc i) ≢ 1 = λ e. omega (arith, ap (at k).place (e ∙ sym (stage.end last (omega arith))), own, stage.own last (omega arith)) in
-      (omega arith, omega arith)
+  covered_inside k i l a b = grind (arith, sound, at, count-stage_after)
 
   two_twin : (v k i : ℕ) → 2 ≤ v → v < suc n → k < n → (steps k).first ≤ i → i < (steps k).last → HasTwin v ((at k).vertex (suc i)) (k + 2) (shades steps n v (fronts steps k i))
   two_twin v k i some' lv l a b = elim (cases_eq (suc i) (steps k).last) [
@@ -206,7 +160,6 @@ module _ (steps : ℕ → Step) (n : ℕ) (run : IsRun steps n) (some : 0 < n) (
         }
     | inl e ↦ elim (cases_lt (suc k) n) [
       | inl more ↦
-          let o = (run k l).order in
           let m = new_made k (suc (steps k).first) more (inr refl) in
           let f = fronts steps m.step m.place in
           let tail : (at (suc k)).vertex (suc (steps k).first) ≡ k + 2 = vertex_after-new (at k) (steps k) (suc (steps k).first) refl ∙ count-stage_after steps k in
@@ -219,8 +172,7 @@ module _ (steps : ℕ → Step) (n : ℕ) (run : IsRun steps n) (some : 0 < n) (
           }
       | inr none ↦
           let n' : suc k ≡ n = omega arith in
-          let all = over_all k n' in
-          let x : (at k).vertex (suc i) ≡ 1 = ap (at k).vertex e ∙ (sound k (omega arith)).end (steps k).last all.1 in
+          let x : (at k).vertex (suc i) ≡ 1 = ap (at k).vertex e ∙ (sound k (omega arith)).end (steps k).last (over_all k n').1 in
           let y : k + 2 ≡ suc n = omega arith in
           record { shade = 0; twin = outer one (y, x) refl; kind = along_outer one (y, x) ((last_step k v n' some' lv).1 i e) refl }
     ]
@@ -243,7 +195,6 @@ module _ (steps : ℕ → Step) (n : ℕ) (run : IsRun steps n) (some : 0 < n) (
         }
     | inl e ↦ elim (cases_lt (suc k) n) [
       | inl more ↦
-          let o = (run k l).order in
           let m = new_made k (steps k).first more (inl refl) in
           let f = fronts steps m.step m.place in
           let tail : (at (suc k)).vertex (steps k).first ≡ (at k).vertex i = vertex_after-low (at k) (steps k) (steps k).first (omega arith) ∙ ap (at k).vertex (sym e) in
@@ -256,8 +207,7 @@ module _ (steps : ℕ → Step) (n : ℕ) (run : IsRun steps n) (some : 0 < n) (
           }
       | inr none ↦
           let n' : suc k ≡ n = omega arith in
-          let all = over_all k n' in
-          let y : (at k).vertex i ≡ 0 = ap (at k).vertex (e ∙ all.0) ∙ (sound k (omega arith)).begin in
+          let y : (at k).vertex i ≡ 0 = ap (at k).vertex (e ∙ (over_all k n').0) ∙ (sound k (omega arith)).begin in
           let x : k + 2 ≡ suc n = omega arith in
           record { shade = 0; twin = outer two (y, x) refl; kind = along_outer two (y, x) (ap (λ i. shades steps n v (fronts steps k i)) e ∙ (last_step k v n' some' lv).0) refl }
     ]
@@ -269,14 +219,12 @@ module _ (steps : ℕ → Step) (n : ℕ) (run : IsRun steps n) (some : 0 < n) (
   made_twin : (v x y k i : ℕ) → 2 ≤ v → v < suc n → k < n → IsDartOf steps k i x y → HasTwin v x y (shades steps n v (fronts steps k i))
   made_twin v x y k i some' lv l d =
       let f = d.face in
-      let lo = f.low in
-      let hi = f.high in
       let w = (run k l).within in
       let top : d.v ≡ k + 2 = sym f.new ∙ count-stage_after steps k in
       elim d.dart [
         | inl e ↦ move v ((at k).vertex i) x ((at k).vertex (suc i)) y _ (e.0 ∙ sym f.left) (e.1 ∙ sym f.right) (along_twin v k i some' lv l (omega arith) (along steps k i (less k (omega arith)) (omega arith)))
-        | inr (inl e) ↦ move v ((at k).vertex (suc i)) x (k + 2) y _ (e.0 ∙ sym f.right) (e.1 ∙ top) (two_twin v k i some' lv l lo hi)
-        | inr (inr e) ↦ move v (k + 2) x ((at k).vertex i) y _ (e.0 ∙ top) (e.1 ∙ sym f.left) (three_twin v k i some' lv l lo hi)
+        | inr (inl e) ↦ move v ((at k).vertex (suc i)) x (k + 2) y _ (e.0 ∙ sym f.right) (e.1 ∙ top) (two_twin v k i some' lv l f.low f.high)
+        | inr (inr e) ↦ move v (k + 2) x ((at k).vertex i) y _ (e.0 ∙ top) (e.1 ∙ sym f.left) (three_twin v k i some' lv l f.low f.high)
       ]
 
   outer_twin : (c : Colour) (v x y s : ℕ) → 2 ≤ v → v < suc n → IsOuter n c x y → s ≡ 0 → HasTwin v x y s
@@ -284,12 +232,10 @@ module _ (steps : ℕ → Step) (n : ℕ) (run : IsRun steps n) (some : 0 < n) (
       let m : ℕ = n - 1 in
       let e : suc m ≡ n = omega arith in
       let l : m < n = omega arith in
-      let all = over_all m e in
-      let a1 = all.1 in
       let or = (run m l).order in
       let q : ℕ = (steps m).last - 1 in
       let qe : suc q ≡ (steps m).last = omega arith in
-      let y' : (at m).vertex (suc q) ≡ y = ap (at m).vertex qe ∙ (sound m (omega arith)).end (steps m).last all.1 ∙ sym o.1 in
+      let y' : (at m).vertex (suc q) ≡ y = ap (at m).vertex qe ∙ (sound m (omega arith)).end (steps m).last (over_all m e).1 ∙ sym o.1 in
       let x' : m + 2 ≡ x = omega (arith, o.0) in
       record {
         shade = shades steps n v (fronts steps m q);
@@ -300,10 +246,9 @@ module _ (steps : ℕ → Step) (n : ℕ) (run : IsRun steps n) (some : 0 < n) (
       let m : ℕ = n - 1 in
       let e : suc m ≡ n = omega arith in
       let l : m < n = omega arith in
-      let all = over_all m e in
       let or = (run m l).order in
       let q = (steps m).first in
-      let x' : (at m).vertex q ≡ x = ap (at m).vertex all.0 ∙ (sound m (omega arith)).begin ∙ sym o.0 in
+      let x' : (at m).vertex q ≡ x = ap (at m).vertex (over_all m e).0 ∙ (sound m (omega arith)).begin ∙ sym o.0 in
       let y' : m + 2 ≡ y = omega (arith, o.1) in
       record {
         shade = shades steps n v (fronts steps m q);
@@ -313,10 +258,8 @@ module _ (steps : ℕ → Step) (n : ℕ) (run : IsRun steps n) (some : 0 < n) (
   outer_twin three v x y s some' lv o z =
       let l : 0 < n = some in
       let step = run 0 l in
-      let or = step.order in
-      let w = step.within in
       let first : (steps 0).first ≡ 0 = omega arith in
-      let d = dart_one 0 (steps 0).first (omega arith) or in
+      let d = dart_one 0 (steps 0).first (omega arith) step.order in
       let y' : (at 0).vertex (steps 0).first ≡ y = first ∙ sym o.1 in
       let x' : (at 0).vertex (suc (steps 0).first) ≡ x = ap suc first ∙ sym o.0 in
       record {
@@ -331,34 +274,7 @@ module _ (steps : ℕ → Step) (n : ℕ) (run : IsRun steps n) (some : 0 < n) (
 
   -- the outer face is not made
   not_made : (c : Colour) (x y k i : ℕ) → IsOuter n c x y → k < n → ¬ IsDartOf steps k i x y
-  not_made c x y k i o l d =
-      let f = d.face in
-      let lo = f.low in
-      let hi = f.high in
-      let step = run k l in
-      let w = step.within in
-      let stage = sound k (omega arith) in
-      let count = count-stage_after steps k in
-      let a = stage.placed i (omega arith) in
-      let b = stage.placed (suc i) (omega arith) in
-      let last : ℕ = (at k).width - 1 in
-      let ea = f.left in
-      let eb = f.right in
-      let ev = f.new in
-      let a_one : (at k).vertex i ≢ 1 = λ e. omega (arith, ap (at k).place (e ∙ sym (stage.end last (omega arith))), stage.own i (omega arith), stage.own last (omega arith)) in
-      let b_zero : (at k).vertex (suc i) ≢ 0 = λ e. omega (arith, ap (at k).place (e ∙ sym stage.begin), stage.own (suc i) (omega arith), stage.own 0 (omega arith)) in
-      by c o d.dart a_one b_zero a b count ea eb ev
-    where
-      by : (c : Colour) → IsOuter n c x y → ((x ≡ d.a) × (y ≡ d.b)) ⊎ (((x ≡ d.b) × (y ≡ d.v)) ⊎ ((x ≡ d.v) × (y ≡ d.a))) → (at k).vertex i ≢ 1 → (at k).vertex (suc i) ≢ 0 → (at k).vertex i < (at k).count → (at k).vertex (suc i) < (at k).count → (at k).count ≡ k + 2 → (at k).vertex i ≡ d.a → (at k).vertex (suc i) ≡ d.b → (at k).count ≡ d.v → ⊥
-      by one o (inl e) p q a b c ea eb ev = omega (arith, o.0, e.0)
-      by one o (inr (inl e)) p q a b c ea eb ev = omega (arith, o.0, e.0)
-      by one o (inr (inr e)) p q a b c ea eb ev = p (ea ∙ sym e.1 ∙ o.1)
-      by two o (inl e) p q a b c ea eb ev = omega (arith, o.1, e.1)
-      by two o (inr (inl e)) p q a b c ea eb ev = q (eb ∙ sym e.0 ∙ o.0)
-      by two o (inr (inr e)) p q a b c ea eb ev = omega (arith, o.1, e.1)
-      by three o (inl e) p q a b c ea eb ev = q (eb ∙ sym e.1 ∙ o.1)
-      by three o (inr (inl e)) p q a b c ea eb ev = omega (arith, o.1, e.1)
-      by three o (inr (inr e)) p q a b c ea eb ev = omega (arith, o.0, e.0)
+  not_made c x y k i o l d = grind (arith, sound, at, count-stage_after, Colour, IsOuter, one, two, three)
 
   -- a face has one shade
   pub one_shade : (v x y s t : ℕ) → HasShade steps n v x y s → HasShade steps n v x y t → s ≡ t
@@ -378,20 +294,11 @@ module _ (steps : ℕ → Step) (n : ℕ) (run : IsRun steps n) (some : 0 < n) (
     left_of k i x y l d = record { step = k; place = i; earlier = l; dart = d; face = refl }
 
     at_end : AllAlong n
-    at_end j l =
-        let begin = (sound n (omega arith)).begin in
-        let last = (sound n (omega arith)).end 2 (omega arith) in
-        elim (cases_eq j 0) [
-          | inl e ↦ subst (λ j. P ((at n).vertex j) ((at n).vertex (suc j))) (sym e) (subst (λ x. P x ((at n).vertex 1)) (sym begin) (subst (P 0) (sym top_is) first))
-          | inr e ↦
-              let e' : j ≡ 1 = omega arith in
-              subst (λ j. P ((at n).vertex j) ((at n).vertex (suc j))) (sym e') (subst (λ x. P x ((at n).vertex 2)) (sym top_is) (subst (P (suc n)) (sym last) second))
-        ]
+    at_end j l = grind (arith, sound, cases_eq, at, top_is)
 
     -- under the new vertex of a step, from left to right
     under_step : (m d i : ℕ) → m < n → AllAlong (suc m) → i ≡ (steps m).first + d → i < (steps m).last → P ((at m).vertex i) ((at m).vertex (suc i))
     under_step m zero i l h e lt =
-        let o = (run m l).order in
         let w = (run m l).within in
         let lo : (steps m).first ≤ i = omega arith in
         let f = round m i ((at m).vertex i) ((at m).vertex (suc i)) (m + 2) l (face_of steps m i lo lt) in
@@ -412,7 +319,6 @@ module _ (steps : ℕ → Step) (n : ℕ) (run : IsRun steps n) (some : 0 < n) (
     down : (m : ℕ) → m < n → AllAlong (suc m) → AllAlong m
     down m l h j w' =
         let s = steps m in
-        let o = (run m l).order in
         let w = (run m l).within in
         elim (cases_lt j s.first) [
           | inl a ↦ subst (λ x. P x ((at m).vertex (suc j))) (vertex_after-low (at m) s j (omega arith)) (subst (P ((at (suc m)).vertex j)) (vertex_after-low (at m) s (suc j) (omega arith)) (h j (omega arith)))
@@ -431,13 +337,7 @@ module _ (steps : ℕ → Step) (n : ℕ) (run : IsRun steps n) (some : 0 < n) (
     pub all_made : (k i x y : ℕ) → k < n → IsDartOf steps k i x y → P x y
     all_made k i x y l d =
         let f = d.face in
-        let lo = f.low in
-        let hi = f.high in
         let w = (run k l).within in
         let r = round k i d.a d.b d.v l f in
         let p : P d.a d.b = subst (λ x. P x d.b) f.left (subst (P ((at k).vertex i)) f.right (downward (n - k) k (omega arith) i (omega arith))) in
-        elim d.dart [
-          | inl e ↦ subst (λ x. P x y) (sym e.0) (subst (P d.a) (sym e.1) p)
-          | inr (inl e) ↦ subst (λ x. P x y) (sym e.0) (subst (P d.b) (sym e.1) (r.0 p))
-          | inr (inr e) ↦ subst (λ x. P x y) (sym e.0) (subst (P d.v) (sym e.1) (r.1 (r.0 p)))
-        ]
+        grind arith

@@ -76,19 +76,9 @@ module _ (steps : ℕ → Step) where
   still_step m j n step l h =
       let s = steps n in
       let i = h.place in
-      let o = step.order in
-      let w = step.within in
-      let hw = h.within in
       let new : ℕ = 2 * n + 1 in
       elim (cases_lt i s.first) [
-        | inl a ↦
-            inr record {
-              place = i;
-              within = omega arith;
-              tail = vertex_after-low (at n) s i (omega arith) ∙ h.tail;
-              head = vertex_after-low (at n) s (suc i) (omega arith) ∙ h.head;
-              front = front_after-low s new (fronts steps n) i a ∙ h.front;
-            }
+        | inl a ↦ grind (arith, vertex_after-low, at, front_after-low, fronts)
         | inr a ↦ elim (cases_lt i s.last) [
           | inl b ↦ inl record { step = n; place = i; earlier = omega arith; dart = record { a = (at n).vertex i; b = (at n).vertex (suc i); v = n + 2; face = face_of n i a b; dart = inl (sym h.tail, sym h.head) }; front = h.front }
           | inr b ↦
@@ -121,15 +111,14 @@ module _ (steps : ℕ → Step) where
 
     pub corners_on : (k i x y : ℕ) → k < n → IsDartOf steps k i x y → IsOn steps n x (fronts steps k i)
     corners_on k i x y l d =
-        let f = d.face in
-        let lo = f.low in
-        let hi = f.high in
+        let lo = d.face.low in
+        let hi = d.face.high in
         let w = (run k l).within in
         let e = (IsNested-run steps k (less k (omega arith))).edge i (omega arith) in
-        let v : d.v ≡ (at k).count = sym f.new in
+        let v : d.v ≡ (at k).count = sym d.face.new in
         elim d.dart [
-          | inl c ↦ on_more k x (fronts steps k i) (omega arith) (subst (λ x. IsOn steps k x (fronts steps k i)) (f.left ∙ sym c.0) e.0)
-          | inr (inl c) ↦ on_more k x (fronts steps k i) (omega arith) (subst (λ x. IsOn steps k x (fronts steps k i)) (f.right ∙ sym c.0) e.1)
+          | inl c ↦ on_more k x (fronts steps k i) (omega arith) (subst (λ x. IsOn steps k x (fronts steps k i)) (d.face.left ∙ sym c.0) e.0)
+          | inr (inl c) ↦ on_more k x (fronts steps k i) (omega arith) (subst (λ x. IsOn steps k x (fronts steps k i)) (d.face.right ∙ sym c.0) e.1)
           | inr (inr c) ↦ on_more (suc k) x (fronts steps k i) (omega arith) (inr (under (c.0 ∙ v) i lo hi refl))
         ]
 
@@ -142,8 +131,6 @@ module _ (steps : ℕ → Step) where
   stands_more m w f step (corner k i a b c d e) = corner k i (omega arith) b c d e
   stands_more m w f step (before j a d e) =
       let s = steps m in
-      let o = step.order in
-      let wi = step.within in
       let new : ℕ = 2 * m + 1 in
       elim (cases_lt j s.first) [
         | inl x ↦
@@ -161,29 +148,20 @@ module _ (steps : ℕ → Step) where
   stands_new : (m w f : ℕ) → IsStep (at m) (steps m) → IsNewOn (at m) (steps m) (2 * m + 1) (fronts steps m) w f → Stands (suc m) w f
   stands_new m w f step (at_first a b) =
       let s = steps m in
-      let o = step.order in
-      let wi = step.within in
       before s.first (omega arith) (b ∙ sym (front_after-first s (2 * m + 1) (fronts steps m) s.first refl)) (inl (a ∙ sym (vertex_after-low (at m) s s.first (omega arith))))
   stands_new m w f step (at_last a b) =
       let s = steps m in
-      let o = step.order in
-      let wi = step.within in
       before (suc s.first) (omega arith) (b ∙ sym (front_after-last s (2 * m + 1) (fronts steps m) (suc s.first) refl)) (inr (a ∙ sym (vertex_after-high (at m) s (suc (suc s.first)) s.last (omega arith) (omega arith) (omega arith))))
   stands_new m w f step (under a j b c d) = corner m j (omega arith) b c d (inr (inr (a ∙ count-stage_after steps m)))
   stands_new m w f step (new_first a b) =
       let s = steps m in
-      let o = step.order in
-      let wi = step.within in
       before s.first (omega arith) (b ∙ sym (front_after-first s (2 * m + 1) (fronts steps m) s.first refl)) (inr (a ∙ sym (vertex_after-new (at m) s (suc s.first) refl)))
   stands_new m w f step (new_last a b) =
       let s = steps m in
-      let o = step.order in
-      let wi = step.within in
       before (suc s.first) (omega arith) (b ∙ sym (front_after-last s (2 * m + 1) (fronts steps m) (suc s.first) refl)) (inl (a ∙ sym (vertex_after-new (at m) s (suc s.first) refl)))
 
   pub stands : (m w f : ℕ) → IsRun steps m → IsOn steps m w f → Stands m w f
   stands zero w f run o =
-      let l = o.0 in
       before 0 (omega arith) o.1 (elim (cases_eq w 0) [ inl e ↦ inl e | inr e ↦ let z : w ≡ 1 = omega arith in inr z ])
   stands (suc m) w f run (inl o) = stands_more m w f (run m (omega arith)) (stands m w f (IsRun-less steps m (suc m) (omega arith) run) o)
   stands (suc m) w f run (inr o) = stands_new m w f (run m (omega arith)) o
@@ -195,14 +173,10 @@ module _ (steps : ℕ → Step) where
       let run' = IsRun-less steps n (suc n) (omega arith) run in
       let h = base_seen n run' in
       let a = run n (omega arith) in
-      let o = a.order in
-      let w = a.within in
       let stage = IsStage-run steps n run' in
       let count = count-stage_after steps n in
       let older = λ (v : ℕ) (l : v < (at n).count). older_old (at n) (steps n) (2 * n + 1) (fronts steps n) (shades steps n) stage a (IsShaded-run steps n run') v 0 l (omega arith) in
       let end : ℕ = (at n).width - 1 in
-      let wp_in = (wp_is (at n) (steps n) (2 * n + 1) (fronts steps n) (shades steps n) stage a (IsShaded-run steps n run')).0 in
-      let wq_in = (wq_is (at n) (steps n) (2 * n + 1) (fronts steps n) (shades steps n) stage a (IsShaded-run steps n run')).0 in
       let wp_one : (at n).vertex (steps n).first ≢ 1 = λ e. omega (arith, (wp_is (at n) (steps n) (2 * n + 1) (fronts steps n) (shades steps n) stage a (IsShaded-run steps n run')).1, ap (at n).place (e ∙ sym (stage.end end (omega arith))), stage.own end (omega arith)) in
       let wq_zero : (at n).vertex (steps n).last ≢ 0 = λ e. omega (arith, (wq_is (at n) (steps n) (2 * n + 1) (fronts steps n) (shades steps n) stage a (IsShaded-run steps n run')).1, ap (at n).place (e ∙ sym stage.begin), stage.own 0 (omega arith)) in
       let p_not : shades steps n ((at n).vertex (steps n).first) 0 ≢ 2 = λ e. elim (cases_lt ((at n).vertex (steps n).first) 2) [
@@ -225,14 +199,11 @@ module _ (steps : ℕ → Step) where
   pub second_alone : (n v : ℕ) → IsRun steps n → v < n + 2 → v ≢ 1 → suc ((at n).place v) < (at n).width
   second_alone zero v run l ne = omega arith
   second_alone (suc n) v run l ne =
-      let run' = IsRun-less steps n (suc n) (omega arith) run in
       let a = run n (omega arith) in
-      let o = a.order in
-      let w = a.within in
       let count = count-stage_after steps n in
       elim (cases_lt v (at n).count) [
         | inl x ↦
-            let h = second_alone n v run' (omega arith) ne in
-            elim (goes (at n) (steps n) v o x) [ stays y z ↦ omega arith | goes_under y z t ↦ omega arith | behind y z ↦ omega arith ]
+            let h = second_alone n v (IsRun-less steps n (suc n) (omega arith) run) (omega arith) ne in
+            elim (goes (at n) (steps n) v a.order x) [ stays y z ↦ omega arith | goes_under y z t ↦ omega arith | behind y z ↦ omega arith ]
         | inr x ↦ omega (arith, place_after-new (at n) (steps n) v (omega arith))
       ]

@@ -38,12 +38,8 @@ module _ (g : Stage) (s : Step) (new : ℕ) (front : ℕ → ℕ) (shade : ℕ �
   pub old_on : (v f : ℕ) → v < g.count → on' v f → on v (old f)
   old_on v f l (inl o) = subst (on v) (sym (old_front-old s new front f (k.placed v f o).1)) o
   old_on v f l (inr (at_first a b)) =
-      let o = step.order in
-      let w = step.within in
       subst (λ v. on v (old f)) (sym a) (subst (on (g.vertex s.first)) (sym (old_front-first s new front f b)) (k.edge s.first (omega arith)).0)
   old_on v f l (inr (at_last a b)) =
-      let o = step.order in
-      let w = step.within in
       let r : ℕ = s.last - 1 in
       let e : suc r ≡ s.last = omega arith in
       subst (λ v. on v (old f)) (ap g.vertex e ∙ sym a) (subst (on (g.vertex (suc r))) (sym (old_front-last s new front f r (omega arith) e)) (k.edge r (omega arith)).1)
@@ -57,12 +53,9 @@ module _ (g : Stage) (s : Step) (new : ℕ) (front : ℕ → ℕ) (shade : ℕ �
   new_on v f e (inr (at_first a b)) = absurd (omega (arith, wp_is g s new front shade stage step h))
   new_on v f e (inr (at_last a b)) = absurd (omega (arith, wq_is g s new front shade stage step h))
   new_on v f e (inr (under a j b c d)) =
-      let w = step.within in
-      let m = h.made j (omega arith) in
       (j, b, c, old_front-old s new front f (omega arith) ∙ d)
   new_on v f e (inr (new_first a b)) = let o = step.order in (s.first, omega arith, o, old_front-first s new front f b)
   new_on v f e (inr (new_last a b)) =
-      let o = step.order in
       let r : ℕ = s.last - 1 in
       let e : suc r ≡ s.last = omega arith in
       (r, omega arith, omega arith, old_front-last s new front f r (omega arith) e)
@@ -70,7 +63,6 @@ module _ (g : Stage) (s : Step) (new : ℕ) (front : ℕ → ℕ) (shade : ℕ �
   -- how an older vertex sees these
   pub sees_under : (u j : ℕ) → u < g.count → s.first ≤ j → j < s.last → ((s.first < g.place u) × (shade u (front j) ≡ 2)) ⊎ ((g.place u < s.last) × (shade u (front j) ≡ 1))
   sees_under u j l a b =
-      let w = step.within in
       elim (cases_lt j (g.place u)) [ inl c ↦ inl (omega arith, h.low u j l (omega arith) c) | inr c ↦ inr (omega arith, h.high u j l (omega arith) c) ]
 
   -- no older vertex sees these with shade 3
@@ -78,24 +70,12 @@ module _ (g : Stage) (s : Step) (new : ℕ) (front : ℕ → ℕ) (shade : ℕ �
   not_three u j l a b e = elim (sees_under u j l a b) [ inl c ↦ omega (arith, c.1, e) | inr c ↦ omega (arith, c.1, e) ]
 
   placed' : (w f : ℕ) → on' w f → (w < suc g.count) × (f < suc (suc new))
-  placed' w f (inl o) = let m = k.placed w f o in (let a = m.0 in omega arith, let a = m.1 in omega arith)
-  placed' w f (inr (at_first a b)) = let m = wp_is g s new front shade stage step h in (omega (arith, m.0), omega arith)
-  placed' w f (inr (at_last a b)) = let m = wq_is g s new front shade stage step h in (omega (arith, m.0), omega arith)
-  placed' w f (inr (under a j b c d)) = let i = step.within in let m = h.made j (omega arith) in (omega arith, omega arith)
-  placed' w f (inr (new_first a b)) = (omega arith, omega arith)
-  placed' w f (inr (new_last a b)) = (omega arith, omega arith)
+  placed' w f x2 = grind (arith, at_first, wp_is, at_last, wq_is, under, new_first, new_last)
 
   edge' : (i : ℕ) → suc i < (after g s).width → on' (vertex_after g s i) (front' i) × on' (vertex_after g s (suc i)) (front' i)
   edge' i l =
-      let o = step.order in
-      let w = step.within in
       elim (cases_lt i s.first) [
-        | inl a ↦
-            let e = k.edge i (omega arith) in
-            let f = sym (front_after-low s new front i a) in (
-              inl (subst (λ v. on v (front' i)) (sym (vertex_after-low g s i (omega arith))) (subst (on (g.vertex i)) f e.0)),
-              inl (subst (λ v. on v (front' i)) (sym (vertex_after-low g s (suc i) (omega arith))) (subst (on (g.vertex (suc i))) f e.1)),
-            )
+        | inl a ↦ grind (arith, front_after-low, front', vertex_after-low)
         | inr a ↦ elim (cases_eq i s.first) [
           | inl b ↦
               let f = front_after-first s new front i b in
@@ -126,9 +106,6 @@ module _ (g : Stage) (s : Step) (new : ℕ) (front : ℕ → ℕ) (shade : ℕ �
   whole_older : (i v f f' : ℕ) → i < g.width → v < suc g.count → (i ≤ s.first) ⊎ (s.last ≤ i) → shade' v f ≡ 3 → on' v f' → (shade' (g.vertex i) f ≡ 2 → shade' (g.vertex i) f' ≡ 2) × (shade' (g.vertex i) f ≡ 1 → shade' (g.vertex i) f' ≡ 1)
   whole_older i v f f' l m side e d =
       let c = stage.placed i l in
-      let own = stage.own i l in
-      let o = step.order in
-      let w = step.within in
       elim (cases_lt v g.count) [
         | inl b ↦
             let t = k.whole i v (old f) (old f') l b (sym (older v f b) ∙ e) (old_on v f' b d) in
@@ -138,8 +115,6 @@ module _ (g : Stage) (s : Step) (new : ℕ) (front : ℕ → ℕ) (shade : ℕ �
             let j = new_on v f' n d in
             let e' : shade' g.count f ≡ 3 = ap (λ v. shade' v f) (sym n) ∙ e in
             let view = older (g.vertex i) f' c ∙ ap (shade (g.vertex i)) j.3 in
-            let j1 = j.1 in
-            let j2 = j.2 in
             elim (seen g s new front shade stage step h f) [
               | as_first x y z ↦ absurd (omega (arith, e', z))
               | as_last x y z t ↦ absurd (omega (arith, e', t))
@@ -156,27 +131,20 @@ module _ (g : Stage) (s : Step) (new : ℕ) (front : ℕ → ℕ) (shade : ℕ �
 
   whole_new : (v f f' : ℕ) → v < suc g.count → shade' v f ≡ 3 → on' v f' → (shade' g.count f ≡ 2 → shade' g.count f' ≡ 2) × (shade' g.count f ≡ 1 → shade' g.count f' ≡ 1)
   whole_new v f f' m e d =
-      let o = step.order in
-      let w = step.within in
       elim (cases_lt v g.count) [
-        | inr b ↦
-            let n : v ≡ g.count = omega arith in
-            let e' : shade' g.count f ≡ 3 = ap (λ v. shade' v f) (sym n) ∙ e in
-            (λ x. absurd (omega (arith, e', x)), λ x. absurd (omega (arith, e', x)))
+        | inr b ↦ grind (arith, shade')
         | inl b ↦
             let e' : shade v (old f) ≡ 3 = sym (older v f b) ∙ e in
             let d' = old_on v f' b d in
             let at_p = k.whole s.first v (old f) (old f') (omega arith) b e' d' in
-            let at_q = k.whole s.last v (old f) (old f') w b e' d' in
+            let at_q = k.whole s.last v (old f) (old f') step.within b e' d' in
             elim (seen g s new front shade stage step h f) [
               | as_first x y z ↦
-                  let same = old_front-old s new front f x in
-                  (λ a. two_on f' (at_p.0 (ap (shade (g.vertex s.first)) same ∙ y)), λ a. absurd (omega (arith, a, z)))
+                  (λ a. two_on f' (at_p.0 (ap (shade (g.vertex s.first)) (old_front-old s new front f x) ∙ y)), λ a. absurd (omega (arith, a, z)))
               | as_last x y z t ↦
-                  let same = old_front-old s new front f x in
-                  (λ a. absurd (omega (arith, a, t)), λ a. one_on f' (at_q.1 (ap (shade (g.vertex s.last)) same ∙ z)))
+                  (λ a. absurd (omega (arith, a, t)), λ a. one_on f' (at_q.1 (ap (shade (g.vertex s.last)) (old_front-old s new front f x) ∙ z)))
               | between x y z t ↦ (λ a. absurd (omega (arith, a, t)), λ a. absurd (omega (arith, a, t)))
-              | seen_first x y ↦ absurd (not_three v s.first b (omega arith) o (ap (shade v) (sym (old_front-first s new front f x)) ∙ e'))
+              | seen_first x y ↦ absurd (not_three v s.first b (omega arith) step.order (ap (shade v) (sym (old_front-first s new front f x)) ∙ e'))
               | seen_last x y ↦
                   let r : ℕ = s.last - 1 in
                   let r' : suc r ≡ s.last = omega arith in
@@ -186,8 +154,6 @@ module _ (g : Stage) (s : Step) (new : ℕ) (front : ℕ → ℕ) (shade : ℕ �
 
   whole' : (i v f f' : ℕ) → i < (after g s).width → v < suc g.count → shade' v f ≡ 3 → on' v f' → (shade' (vertex_after g s i) f ≡ 2 → shade' (vertex_after g s i) f' ≡ 2) × (shade' (vertex_after g s i) f ≡ 1 → shade' (vertex_after g s i) f' ≡ 1)
   whole' i v f f' l m e d =
-      let o = step.order in
-      let w = step.within in
       elim (cases_place g s i step l) [
         | inl c ↦ let lo = c.low in subst (λ x. (shade' x f ≡ 2 → shade' x f' ≡ 2) × (shade' x f ≡ 1 → shade' x f' ≡ 1)) (sym (vertex_after-low g s i lo)) (whole_older i v f f' (omega arith) m (inl lo) e d)
         | inr (inl c) ↦ subst (λ x. (shade' x f ≡ 2 → shade' x f' ≡ 2) × (shade' x f ≡ 1 → shade' x f' ≡ 1)) (sym (vertex_after-new g s i c.new)) (whole_new v f f' m e d)
@@ -199,20 +165,10 @@ module _ (g : Stage) (s : Step) (new : ℕ) (front : ℕ → ℕ) (shade : ℕ �
 
   -- an older vertex that is on a new face is one of the two
   on_first : (v f : ℕ) → v < g.count → f ≡ new → on' v f → v ≡ g.vertex s.first
-  on_first v f l e (inl o) = absurd (let m = (k.placed v f o).1 in omega arith)
-  on_first v f l e (inr (at_first a b)) = a
-  on_first v f l e (inr (at_last a b)) = absurd (omega arith)
-  on_first v f l e (inr (under a j b c d)) = absurd (omega arith)
-  on_first v f l e (inr (new_first a b)) = absurd (omega arith)
-  on_first v f l e (inr (new_last a b)) = absurd (omega arith)
+  on_first v f l e x4 = grind (arith, at_first, at_last, under, new_first, new_last)
 
   on_last : (v f : ℕ) → v < g.count → new < f → on' v f → v ≡ g.vertex s.last
-  on_last v f l e (inl o) = absurd (let m = (k.placed v f o).1 in omega arith)
-  on_last v f l e (inr (at_first a b)) = absurd (omega arith)
-  on_last v f l e (inr (at_last a b)) = a
-  on_last v f l e (inr (under a j b c d)) = absurd (omega arith)
-  on_last v f l e (inr (new_first a b)) = absurd (omega arith)
-  on_last v f l e (inr (new_last a b)) = absurd (omega arith)
+  on_last v f l e x4 = grind (arith, at_first, at_last, under, new_first, new_last)
 
   -- the new vertex, and an older one
   nested_new : (v f f' c : ℕ) → v < g.count → on' v f → shade' g.count f ≡ c → shade' v f' ≡ c → shade' g.count f' ≡ c
@@ -232,12 +188,10 @@ module _ (g : Stage) (s : Step) (new : ℕ) (front : ℕ → ℕ) (shade : ℕ �
             one_on f' (k.nested (g.vertex s.last) v (old f) (old f') 1 (wq_is g s new front shade stage step h).0 d' (ap (shade (g.vertex s.last)) same ∙ z) (b' ∙ sym one)) ∙ one
         | seen_first x y ↦
             let two : 2 ≡ c = sym y ∙ a in
-            let e = on_first v f l x d in
-            two_on f' (ap (λ v. shade v (old f')) (sym e) ∙ b' ∙ sym two) ∙ two
+            two_on f' (ap (λ v. shade v (old f')) (sym (on_first v f l x d)) ∙ b' ∙ sym two) ∙ two
         | seen_last x y ↦
             let one : 1 ≡ c = sym y ∙ a in
-            let e = on_last v f l x d in
-            one_on f' (ap (λ v. shade v (old f')) (sym e) ∙ b' ∙ sym one) ∙ one
+            one_on f' (ap (λ v. shade v (old f')) (sym (on_last v f l x d)) ∙ b' ∙ sym one) ∙ one
         | between x y z t ↦
             let three : 3 ≡ c = sym t ∙ a in
             let b3 : shade v (old f') ≡ 3 = b' ∙ sym three in
@@ -267,10 +221,7 @@ module _ (g : Stage) (s : Step) (new : ℕ) (front : ℕ → ℕ) (shade : ℕ �
               let j = new_on v f n d in
               let e : shade u (front j.0) ≡ c = sym (ap (shade u) j.3) ∙ sym (older u f u_old) ∙ a in
               let b' : shade' g.count f' ≡ c = ap (λ v. shade' v f') (sym n) ∙ b in
-              elim (sees_under u j.0 u_old j.1 j.2) [
-                | inl t ↦ let two : 2 ≡ c = sym t.1 ∙ e in new_left g s new front shade stage step h u f' u_old t.0 (b' ∙ sym two) ∙ two
-                | inr t ↦ let one : 1 ≡ c = sym t.1 ∙ e in new_right g s new front shade stage step h u f' u_old t.0 (b' ∙ sym one) ∙ one
-              ]
+              grind (arith, sees_under, new_left, new_right)
         ]
         | inr u_new ↦
             let n : u ≡ g.count = omega arith in
@@ -284,15 +235,7 @@ module _ (g : Stage) (s : Step) (new : ℕ) (front : ℕ → ℕ) (shade : ℕ �
   IsNested-after = record { placed = placed'; edge = edge'; whole = whole'; nested = nested' }
 
 pub IsNested-base : (steps : ℕ → Step) → IsNested base 1 (fronts steps 0) (shades steps 0) (IsOn steps 0)
-IsNested-base steps = record {
-  placed = λ w f o. (o.0, let e = o.1 in omega arith);
-  edge = λ i l. ((omega arith, refl), (omega arith, refl));
-  whole = λ i v f f' l m e o. elim (base_shade steps v f) [ inl c ↦ absurd (omega (arith, e, c.1)) | inr c ↦ absurd (omega (arith, e, c.1)) ];
-  nested = λ u v f f' c l o a b. elim (base_shade steps u f) [
-    | inl x ↦ elim (base_shade steps u f') [ inl y ↦ y.1 ∙ sym x.1 ∙ a | inr y ↦ absurd (y.0 x.0) ]
-    | inr x ↦ elim (base_shade steps u f') [ inl y ↦ absurd (x.0 y.0) | inr y ↦ y.1 ∙ sym x.1 ∙ a ]
-  ];
-}
+IsNested-base steps = grind (arith, base_shade)
 
 -- at each stage of a run
 pub IsNested-run : (steps : ℕ → Step) (n : ℕ) → IsRun steps n → IsNested (stage_after steps n) (2 * n + 1) (fronts steps n) (shades steps n) (IsOn steps n)

@@ -55,24 +55,16 @@ module _ (steps : ℕ → Step) where
     not_second : (k i : ℕ) → k ≤ n → suc i < (at k).width → (at k).vertex i ≢ 1
     not_second k i l m e =
         let end : ℕ = (at k).width - 1 in
-        let same = same_place k l i end (omega arith) (omega arith) (e ∙ sym ((sound k l).end end (omega arith))) in
-        absurd (omega arith)
+        absurd (omega (arith, same_place k l i end (omega arith) (omega arith) (e ∙ sym ((sound k l).end end (omega arith)))))
 
     -- parents of colours one and two are earlier ones
     one_earlier : (v w : ℕ) → IsParentOne steps n v w → w < v
-    one_earlier v w p =
-        let l = p.earlier in
-        let o = (run p.step l).order in
-        let i = (run p.step l).within in
-        let placed = (sound p.step (omega arith)).placed (steps p.step).first (omega arith) in
-        omega (arith, placed, p.parent, p.vertex, count-stage_after steps p.step)
+    one_earlier v w p = grind (arith, sound, count-stage_after)
 
     two_earlier : (v w : ℕ) → IsParentTwo steps n v w → w < v
     two_earlier v w p =
-        let l = p.earlier in
-        let i = (run p.step l).within in
-        let placed = (sound p.step (omega arith)).placed (steps p.step).last i in
-        omega (arith, placed, p.parent, p.vertex, count-stage_after steps p.step)
+        let i = (run p.step p.earlier).within in
+        omega (arith, (sound p.step (omega arith)).placed (steps p.step).last i, p.parent, p.vertex, count-stage_after steps p.step)
 
     three_later : (v w : ℕ) → IsParentThree steps n v w → v < w
     three_later v w p = let own = IsCovered-own steps p.step n v run p.earlier p.covered in omega (arith, own.0, p.parent)
@@ -84,42 +76,23 @@ module _ (steps : ℕ → Step) where
 
     -- roots
     one_not_second : (v w : ℕ) → IsParentOne steps n v w → w ≢ 1
-    one_not_second v w p e =
-        let l = p.earlier in
-        let o = (run p.step l).order in
-        let i = (run p.step l).within in
-        not_second p.step (steps p.step).first (omega arith) (omega arith) (p.parent ∙ e)
+    one_not_second v w p e = grind (arith, not_second)
 
     two_not_first : (v w : ℕ) → IsParentTwo steps n v w → w ≢ 0
     two_not_first v w p e =
-        let l = p.earlier in
-        let o = (run p.step l).order in
-        let i = (run p.step l).within in
-        not_first p.step (steps p.step).last (omega arith) (omega arith) i (p.parent ∙ e)
+        let o = (run p.step p.earlier).order in
+        not_first p.step (steps p.step).last (omega arith) (omega arith) ((run p.step p.earlier).within) (p.parent ∙ e)
 
     pub own_root : (v w : ℕ) (c : Colour) → IsParent c steps n v w → IsOwnRoot c n w
     own_root v w one p =
-        let l = one_earlier v w p in
-        let s = p.earlier in
-        let e = p.vertex in
-        record { root_one = λ z. refl; root_two = λ z. absurd (one_not_second v w p z); root_three = λ z. absurd (omega arith) }
+        record { root_one = λ z. refl; root_two = λ z. absurd (one_not_second v w p z); root_three = λ z. absurd (omega (arith, one_earlier v w p)) }
     own_root v w two p =
-        let l = two_earlier v w p in
-        let s = p.earlier in
-        let e = p.vertex in
-        record { root_one = λ z. absurd (two_not_first v w p z); root_two = λ z. refl; root_three = λ z. absurd (omega arith) }
+        record { root_one = λ z. absurd (two_not_first v w p z); root_two = λ z. refl; root_three = λ z. absurd (omega (arith, two_earlier v w p)) }
     own_root v w three p = let e = p.parent in record { root_one = λ z. absurd (omega arith); root_two = λ z. absurd (omega arith); root_three = λ z. refl }
 
     -- parents differ
     one_two : (v u w : ℕ) → IsParentOne steps n v u → IsParentTwo steps n v w → u ≢ w
-    one_two v u w p q e =
-        let l = p.earlier in
-        let o = (run p.step l).order in
-        let i = (run p.step l).within in
-        let s : q.step ≡ p.step = omega (arith, p.vertex, q.vertex) in
-        let there : (at p.step).vertex (steps p.step).last ≡ w = subst (λ k. (at k).vertex (steps k).last ≡ w) s q.parent in
-        let same = same_place p.step (omega arith) (steps p.step).first (steps p.step).last (omega arith) i (p.parent ∙ e ∙ sym there) in
-        absurd (omega arith)
+    one_two v u w p q e = grind (arith, at, same_place)
 
     pub differ : (v u w : ℕ) (c d : Colour) → c ≢ d → IsParent c steps n v u → IsParent d steps n v w → u ≢ w
     differ v u w one one ne p q e = ne refl

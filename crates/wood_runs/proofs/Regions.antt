@@ -34,13 +34,7 @@ module _ (steps : ℕ → Step) (n : ℕ) (run : IsRun steps n) where
   not_twice three = λ e. omega (arith, e)
 
   pub side_off_path : (c : Colour) (v w : ℕ) → v < n + 2 → w < n + 2 → sides steps n v w ≡ number c → paths steps n (previous c) v w ≡ false
-  side_off_path c v w l m e = elim (cases_Bool (paths steps n (previous c) v w)) [
-    | inr x ↦ x
-    | inl x ↦ elim (cases_eq w v) [
-      | inl same ↦ absurd (let s = number_some c in let t = sided.own_side v (let z = count in omega arith) in omega (arith, e, ap (sides steps n v) same, t))
-      | inr ne ↦ absurd (not_twice c (sym (path_side (previous c) v w l m x ne) ∙ e))
-    ]
-  ]
+  side_off_path c v w l m e = grind (arith, cases_Bool, paths, previous, cases_eq, number_some, sided, count, sides, not_twice, path_side)
 
   pub side_in_region : (c : Colour) (v w : ℕ) → v < n + 2 → w < n + 2 → v ≢ 1 → sides steps n v w ≡ number c → IsInShade steps n c v w
   side_in_region c v w l m ne e =
@@ -49,16 +43,4 @@ module _ (steps : ℕ → Step) (n : ℕ) (run : IsRun steps n) where
 
   -- a vertex of a region lies on that side, or on the path
   pub region_side : (c : Colour) (v w : ℕ) → v < n + 2 → IsInShade steps n c v w → (sides steps n v w ≡ number c) ⊎ (paths steps n (previous c) v w ≡ true)
-  region_side c v w l r = by c (sided.known v w r.0 (let z = count in omega arith) r.1) r.2
-    where
-      by : (c : Colour) → Known (shades steps n) (sides steps n) (paths steps n) v w r.0 → shades steps n v r.0 ≡ number c → (sides steps n v w ≡ number c) ⊎ (paths steps n (previous c) v w ≡ true)
-      by c (beside a) e = inl (a ∙ e)
-      by one (on_one a b) e = absurd (omega (arith, b, e))
-      by one (on_two a b) e = absurd (omega (arith, b, e))
-      by one (on_three a b) e = inr a
-      by two (on_one a b) e = inr a
-      by two (on_two a b) e = absurd (omega (arith, b, e))
-      by two (on_three a b) e = absurd (omega (arith, b, e))
-      by three (on_one a b) e = absurd (omega (arith, b, e))
-      by three (on_two a b) e = inr a
-      by three (on_three a b) e = absurd (omega (arith, b, e))
+  region_side c v w l r = grind (arith, sided, count, Colour, Known, shades, sides, paths, number, previous, beside, one, on_one)

@@ -33,18 +33,10 @@ module _ (g : Stage) (s : Step) (new : ℕ) (front : ℕ → ℕ) (shade : ℕ �
     pub above : (v : ℕ) → v < g.count → place_after g s v ≤ j → g.place v ≤ from
 
   below_by : (j i v : ℕ) → v < g.count → ((j < s.first) × (i ≡ j)) ⊎ (((j ≡ s.first) × (i ≡ j)) ⊎ (((j ≡ suc s.first) × (suc i ≡ s.last)) ⊎ ((s.last ≤ i) × (j + s.last ≡ i + suc (suc s.first))))) → (j < place_after g s v → i < g.place v) × (place_after g s v ≤ j → g.place v ≤ i)
-  below_by j i v l c =
-      let o = step.order in
-      elim (goes g s v o l) [
-        | stays a e ↦ elim c [ inl x ↦ (λ m. omega arith, λ m. omega arith) | inr (inl x) ↦ (λ m. omega arith, λ m. omega arith) | inr (inr (inl x)) ↦ (λ m. omega arith, λ m. omega arith) | inr (inr (inr x)) ↦ (λ m. omega arith, λ m. omega arith) ]
-        | under a b e ↦ elim c [ inl x ↦ (λ m. omega arith, λ m. omega arith) | inr (inl x) ↦ (λ m. omega arith, λ m. omega arith) | inr (inr (inl x)) ↦ (λ m. omega arith, λ m. omega arith) | inr (inr (inr x)) ↦ (λ m. omega arith, λ m. omega arith) ]
-        | behind a e ↦ elim c [ inl x ↦ (λ m. omega arith, λ m. omega arith) | inr (inl x) ↦ (λ m. omega arith, λ m. omega arith) | inr (inr (inl x)) ↦ (λ m. omega arith, λ m. omega arith) | inr (inr (inr x)) ↦ (λ m. omega arith, λ m. omega arith) ]
-      ]
+  below_by j i v l c = grind (arith, goes, stays, under, behind)
 
   pub old_front_is : (j : ℕ) → suc j < (after g s).width → OldFront j
   old_front_is j l =
-      let o = step.order in
-      let w = step.within in
       elim (cases_lt j s.first) [
         | inl a ↦ record {
           from = j;
@@ -109,8 +101,6 @@ module _ (g : Stage) (s : Step) (new : ℕ) (front : ℕ → ℕ) (shade : ℕ �
 
   made' : (j : ℕ) → suc j < (after g s).width → front' j < suc (suc new)
   made' j l =
-      let o = step.order in
-      let w = step.within in
       elim (cases_lt j s.first) [
         | inl a ↦ let m = h.made j (omega arith) in omega (arith, front_after-low s new front j a)
         | inr a ↦ elim (cases_eq j s.first) [
@@ -118,67 +108,24 @@ module _ (g : Stage) (s : Step) (new : ℕ) (front : ℕ → ℕ) (shade : ℕ �
           | inr b ↦ elim (cases_eq j (suc s.first)) [
             | inl c ↦ omega (arith, front_after-last s new front j c)
             | inr c ↦
-                let i : ℕ = j + s.last - (s.first + 2) in
-                let m = h.made i (omega arith) in
-                omega (arith, front_after-high s new front j i (omega arith) (omega arith) (omega arith))
+                omega (arith, front_after-high s new front j (j + s.last - (s.first + 2)) (omega arith) (omega arith) (omega arith))
           ]
         ]
       ]
 
   -- how the new vertex sees what lies before the edges
   new_low : (j : ℕ) → suc j < (after g s).width → j ≤ s.first → shade' g.count (front' j) ≡ 2
-  new_low j l a =
-      let o = step.order in
-      let w = step.within in
-      elim (cases_eq j s.first) [
-        | inl b ↦
-            let e = front_after-first s new front j b in
-            elim (shade_after-new g s new front shade g.count (front' j) refl) [
-              | as_first x y z ↦ z
-              | as_last x y z t ↦ absurd (omega (arith, e))
-              | between x y z t ↦ absurd (omega (arith, e))
-              | new_first x y ↦ y
-              | new_last x y ↦ absurd (omega (arith, e))
-            ]
-        | inr b ↦
-            let e = front_after-low s new front j (omega arith) in
-            let m = h.made j (omega arith) in
-            let t : shade wp (front' j) ≡ 2 = ap (shade wp) e ∙ h.low wp j wp_is.0 (omega arith) (omega (arith, wp_is.1)) in
-            elim (shade_after-new g s new front shade g.count (front' j) refl) [
-              | as_first x y z ↦ z
-              | as_last x y z t' ↦ absurd (y t)
-              | between x y z t' ↦ absurd (y t)
-              | new_first x y ↦ y
-              | new_last x y ↦ absurd (omega (arith, e))
-            ]
-      ]
+  new_low j l a = grind (arith, cases_eq, front_after-first, shade_after-new, front', as_first, as_last, between, new_first, new_last, front_after-low, wp, wp_is)
 
   new_high : (j : ℕ) → suc j < (after g s).width → s.first < j → shade' g.count (front' j) ≡ 1
   new_high j l a =
-      let o = step.order in
-      let w = step.within in
       elim (cases_eq j (suc s.first)) [
-        | inl b ↦
-            let e = front_after-last s new front j b in
-            elim (shade_after-new g s new front shade g.count (front' j) refl) [
-              | as_first x y z ↦ absurd (omega (arith, e))
-              | as_last x y z t ↦ t
-              | between x y z t ↦ absurd (omega (arith, e))
-              | new_first x y ↦ absurd (omega (arith, e))
-              | new_last x y ↦ y
-            ]
+        | inl b ↦ grind (arith, front_after-last, shade_after-new, front', as_first, as_last, between, new_first, new_last)
         | inr b ↦
             let i : ℕ = j + s.last - (s.first + 2) in
             let e = front_after-high s new front j i (omega arith) (omega arith) (omega arith) in
-            let m = h.made i (omega arith) in
             let t : shade wq (front' j) ≡ 1 = ap (shade wq) e ∙ h.high wq i wq_is.0 (omega arith) (omega (arith, wq_is.1)) in
-            elim (shade_after-new g s new front shade g.count (front' j) refl) [
-              | as_first x y z ↦ absurd (omega (arith, one_both (front' j) t))
-              | as_last x y z t' ↦ t'
-              | between x y z t' ↦ absurd (z t)
-              | new_first x y ↦ absurd (omega (arith, e))
-              | new_last x y ↦ y
-            ]
+            grind (arith, shade_after-new, front', as_first, one_both, as_last, between, new_first, new_last)
       ]
 
   low' : (v j : ℕ) → v < suc g.count → suc j < (after g s).width → j < place_after g s v → shade' v (front' j) ≡ 2
@@ -230,25 +177,13 @@ module _ (g : Stage) (s : Step) (new : ℕ) (front : ℕ → ℕ) (shade : ℕ �
   -- a vertex of the contour up to the first place, and the new vertex
   pub left_new : (i f : ℕ) → i ≤ s.first → shade' (g.vertex i) f ≡ 2 → shade' g.count f ≡ 2
   left_new i f a e =
-      let o = step.order in
-      let w = step.within in
       let m = stage.placed i (omega arith) in
-      let pl = stage.own i (omega arith) in
       let from = λ (x : f < new). h.left i wp f (omega arith) wp_is.0 (omega (arith, wp_is.1)) (sym (older_old (g.vertex i) f m x) ∙ e) in
-      elim (seen f) [
-        | as_first x y z ↦ z
-        | as_last x y z t ↦ absurd (y (from x))
-        | between x y z t ↦ absurd (y (from x))
-        | new_first x y ↦ y
-        | new_last x y ↦ absurd (omega (arith, e, older_last (g.vertex i) f m x, last_one (g.vertex i) m (omega arith)))
-      ]
+      grind (arith, seen, as_first, as_last, between, new_first, new_last, older_last, last_one)
 
   pub right_new : (i f : ℕ) → s.last ≤ i → i < g.width → shade' (g.vertex i) f ≡ 1 → shade' g.count f ≡ 1
   right_new i f a b e =
-      let o = step.order in
-      let w = step.within in
       let m = stage.placed i b in
-      let pl = stage.own i b in
       let from = λ (x : f < new). h.right i wq f b wq_is.0 (omega (arith, wq_is.1)) (sym (older_old (g.vertex i) f m x) ∙ e) in
       elim (seen f) [
         | as_first x y z ↦ absurd (omega (arith, one_both f (from x)))
@@ -261,8 +196,6 @@ module _ (g : Stage) (s : Step) (new : ℕ) (front : ℕ → ℕ) (shade : ℕ �
   -- the new vertex, and older ones with a place not before it, or not behind it
   pub new_left : (u f : ℕ) → u < g.count → s.first < g.place u → shade' g.count f ≡ 2 → shade' u f ≡ 2
   new_left u f l a e =
-      let o = step.order in
-      let w = step.within in
       elim (seen f) [
         | as_first x y z ↦ older_old u f l x ∙ h.left s.first u f (omega arith) l (omega arith) y
         | as_last x y z t ↦ absurd (omega (arith, t, e))
@@ -273,11 +206,9 @@ module _ (g : Stage) (s : Step) (new : ℕ) (front : ℕ → ℕ) (shade : ℕ �
 
   pub new_right : (u f : ℕ) → u < g.count → g.place u < s.last → shade' g.count f ≡ 1 → shade' u f ≡ 1
   new_right u f l a e =
-      let o = step.order in
-      let w = step.within in
       elim (seen f) [
         | as_first x y z ↦ absurd (omega (arith, z, e))
-        | as_last x y z t ↦ older_old u f l x ∙ h.right s.last u f w l (omega arith) z
+        | as_last x y z t ↦ older_old u f l x ∙ h.right s.last u f step.within l (omega arith) z
         | between x y z t ↦ absurd (omega (arith, t, e))
         | new_first x y ↦ absurd (omega (arith, y, e))
         | new_last x y ↦ older_last u f l x ∙ last_one u l a
@@ -286,70 +217,32 @@ module _ (g : Stage) (s : Step) (new : ℕ) (front : ℕ → ℕ) (shade : ℕ �
   left' : (i u f : ℕ) → i < (after g s).width → u < suc g.count → i ≤ place_after g s u → shade' (vertex_after g s i) f ≡ 2 → shade' u f ≡ 2
   left' i u f l m a e =
       let o = step.order in
-      let w = step.within in
       elim (cases_place g s i step l) [
         | inl c ↦
-            let lo = c.low in
-            let e' = sym (ap (λ v. shade' v f) (vertex_after-low g s i lo)) ∙ e in
+            let e' = sym (ap (λ v. shade' v f) (vertex_after-low g s i c.low)) ∙ e in
             elim (cases_lt u g.count) [
               | inl older ↦
                   let le : i ≤ g.place u = elim (goes g s u o older) [ stays x y ↦ omega arith | under x y z ↦ omega arith | behind x y ↦ omega arith ] in
                   shade_after-older g s new front shade u f older ∙ h.left i u (old_front s new front f) (omega arith) older le (sym (shade_after-older g s new front shade (g.vertex i) f (stage.placed i (omega arith))) ∙ e')
-              | inr n ↦ let k : u ≡ g.count = omega arith in ap (λ v. shade' v f) k ∙ left_new i f lo e'
+              | inr n ↦ let k : u ≡ g.count = omega arith in ap (λ v. shade' v f) k ∙ left_new i f c.low e'
             ]
-        | inr (inl c) ↦
-            let ne = c.new in
-            let e' = sym (ap (λ v. shade' v f) (vertex_after-new g s i ne)) ∙ e in
-            elim (cases_lt u g.count) [
-              | inl older ↦
-                  let le : s.first < g.place u = elim (goes g s u o older) [ stays x y ↦ omega arith | under x y z ↦ omega arith | behind x y ↦ omega arith ] in
-                  new_left u f older le e'
-              | inr n ↦ let k : u ≡ g.count = omega arith in ap (λ v. shade' v f) k ∙ e'
-            ]
-        | inr (inr c) ↦
-            let hi = c.high in
-            let to = c.to in
-            let e' = sym (ap (λ v. shade' v f) (vertex_after-high g s i c.from (omega arith) hi to)) ∙ e in
-            elim (cases_lt u g.count) [
-              | inl older ↦
-                  let le : c.from ≤ g.place u = elim (goes g s u o older) [ stays x y ↦ omega arith | under x y z ↦ omega arith | behind x y ↦ omega arith ] in
-                  shade_after-older g s new front shade u f older ∙ h.left c.from u (old_front s new front f) c.within older le (sym (shade_after-older g s new front shade (g.vertex c.from) f (stage.placed c.from c.within)) ∙ e')
-              | inr n ↦ let k : u ≡ g.count = omega arith in absurd (omega (arith, place_after-new g s u k))
-            ]
+        | inr (inl c) ↦ grind (arith, shade', vertex_after-new, cases_lt, goes, stays, under, behind, new_left)
+        | inr (inr c) ↦ grind (arith, shade', vertex_after-high, cases_lt, goes, stays, under, behind, shade_after-older, old_front, place_after-new)
       ]
 
   right' : (i u f : ℕ) → i < (after g s).width → u < suc g.count → place_after g s u ≤ i → shade' (vertex_after g s i) f ≡ 1 → shade' u f ≡ 1
   right' i u f l m a e =
       let o = step.order in
-      let w = step.within in
       elim (cases_place g s i step l) [
-        | inl c ↦
-            let lo = c.low in
-            let e' = sym (ap (λ v. shade' v f) (vertex_after-low g s i lo)) ∙ e in
-            elim (cases_lt u g.count) [
-              | inl older ↦
-                  let le : g.place u ≤ i = elim (goes g s u o older) [ stays x y ↦ omega arith | under x y z ↦ omega arith | behind x y ↦ omega arith ] in
-                  shade_after-older g s new front shade u f older ∙ h.right i u (old_front s new front f) (omega arith) older le (sym (shade_after-older g s new front shade (g.vertex i) f (stage.placed i (omega arith))) ∙ e')
-              | inr n ↦ let k : u ≡ g.count = omega arith in absurd (omega (arith, place_after-new g s u k))
-            ]
-        | inr (inl c) ↦
-            let ne = c.new in
-            let e' = sym (ap (λ v. shade' v f) (vertex_after-new g s i ne)) ∙ e in
-            elim (cases_lt u g.count) [
-              | inl older ↦
-                  let le : g.place u < s.last = elim (goes g s u o older) [ stays x y ↦ omega arith | under x y z ↦ omega arith | behind x y ↦ omega arith ] in
-                  new_right u f older le e'
-              | inr n ↦ let k : u ≡ g.count = omega arith in ap (λ v. shade' v f) k ∙ e'
-            ]
+        | inl c ↦ grind (arith, shade', vertex_after-low, cases_lt, goes, stays, under, behind, shade_after-older, old_front, place_after-new)
+        | inr (inl c) ↦ grind (arith, shade', vertex_after-new, cases_lt, goes, stays, under, behind, new_right)
         | inr (inr c) ↦
-            let hi = c.high in
-            let to = c.to in
-            let e' = sym (ap (λ v. shade' v f) (vertex_after-high g s i c.from (omega arith) hi to)) ∙ e in
+            let e' = sym (ap (λ v. shade' v f) (vertex_after-high g s i c.from (omega arith) c.high c.to)) ∙ e in
             elim (cases_lt u g.count) [
               | inl older ↦
                   let le : g.place u ≤ c.from = elim (goes g s u o older) [ stays x y ↦ omega arith | under x y z ↦ omega arith | behind x y ↦ omega arith ] in
                   shade_after-older g s new front shade u f older ∙ h.right c.from u (old_front s new front f) c.within older le (sym (shade_after-older g s new front shade (g.vertex c.from) f (stage.placed c.from c.within)) ∙ e')
-              | inr n ↦ let k : u ≡ g.count = omega arith in ap (λ v. shade' v f) k ∙ right_new c.from f hi c.within e'
+              | inr n ↦ let k : u ≡ g.count = omega arith in ap (λ v. shade' v f) k ∙ right_new c.from f c.high c.within e'
             ]
       ]
 
@@ -361,19 +254,7 @@ pub base_shade : (steps : ℕ → Step) (v f : ℕ) → ((v ≡ 0) × (shades st
 base_shade steps v f = elim (cases_eq v 0) [ inl e ↦ inl (e, grind (arith, nat_tests)) | inr e ↦ inr (e, grind (arith, nat_tests)) ]
 
 pub IsShaded-base : (steps : ℕ → Step) → IsShaded base 1 (fronts steps 0) (shades steps 0)
-IsShaded-base steps = record {
-  made = λ j l. omega arith;
-  low = λ v j l m a. elim (base_shade steps v 0) [ inl c ↦ absurd (omega (arith, c.0)) | inr c ↦ c.1 ];
-  high = λ v j l m a. elim (base_shade steps v 0) [ inl c ↦ c.1 | inr c ↦ absurd (omega (arith, c.0)) ];
-  left = λ i u f l m a e. elim (base_shade steps u f) [
-    | inl c ↦ elim (base_shade steps i f) [ inl d ↦ absurd (omega (arith, d.1, e)) | inr d ↦ absurd (omega (arith, c.0, d.0)) ]
-    | inr c ↦ c.1
-  ];
-  right = λ i u f l m a e. elim (base_shade steps u f) [
-    | inl c ↦ c.1
-    | inr c ↦ elim (base_shade steps i f) [ inl d ↦ absurd (omega (arith, c.0, d.0)) | inr d ↦ absurd (omega (arith, d.1, e)) ]
-  ];
-}
+IsShaded-base steps = grind (arith, base_shade)
 
 -- at each stage of a run
 pub IsShaded-run : (steps : ℕ → Step) (n : ℕ) → IsRun steps n → IsShaded (stage_after steps n) (2 * n + 1) (fronts steps n) (shades steps n)

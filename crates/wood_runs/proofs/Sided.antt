@@ -76,12 +76,9 @@ module _ (g : Stage) (s : Step) (new : ℕ) (front : ℕ → ℕ) (shade : ℕ �
 
   wp_not_one : wp ≢ 1
   wp_not_one e =
-      let o = step.order in
-      let w = step.within in
       let end : ℕ = g.width - 1 in
-      let a = stage.end end (omega arith) in
       let b = stage.own end (omega arith) in
-      absurd (omega (arith, ap g.place (e ∙ sym a), (wp_is g s new front shade stage step h).1, b))
+      absurd (omega (arith, ap g.place (e ∙ sym (stage.end end (omega arith))), (wp_is g s new front shade stage step h).1, b))
 
   -- what v sees with shade 1 or 2, by what is known
   known_one : (v w f : ℕ) → v < g.count → on w f → shade v f ≡ 1 → (side v w ≡ 1) ⊎ (path three v w ≡ true)
@@ -112,8 +109,6 @@ module _ (g : Stage) (s : Step) (new : ℕ) (front : ℕ → ℕ) (shade : ℕ �
 
   side_wp_wq : side wp wq ≡ 1
   side_wp_wq =
-      let o = step.order in
-      let w = step.within in
       let r : ℕ = s.last - 1 in
       let e : suc r ≡ s.last = omega arith in
       let edge = subst (λ v. on v (front r)) (ap g.vertex e) (k.edge r (omega arith)).1 in
@@ -121,8 +116,6 @@ module _ (g : Stage) (s : Step) (new : ℕ) (front : ℕ → ℕ) (shade : ℕ �
 
   side_wq_wp : side wq wp ≢ 1
   side_wq_wp e =
-      let o = step.order in
-      let w = step.within in
       let l = d.lies wq wp (wq_is g s new front shade stage step h).0 (wp_is g s new front shade stage step h).0 (omega (arith, e)) (λ a b. omega (arith, e, b)) in
       let t = k.nested wq wp l.0 (front s.first) 1 (wq_is g s new front shade stage step h).0 l.1 (l.2 ∙ e) (first_one g s new front shade stage step h wp (wp_is g s new front shade stage step h).0 (omega (arith, (wp_is g s new front shade stage step h).1))) in
       absurd (omega (arith, t, first_two g s new front shade stage step h wq (wq_is g s new front shade stage step h).0 (omega (arith, (wq_is g s new front shade stage step h).1))))
@@ -131,8 +124,7 @@ module _ (g : Stage) (s : Step) (new : ℕ) (front : ℕ → ℕ) (shade : ℕ �
   apart : (w : ℕ) → w < g.count → side wp w ≡ 2 → side wq w ≢ 1
   apart w l a b =
       let t = d.lies wp w (wp_is g s new front shade stage step h).0 l (omega (arith, a)) (λ x y. omega (arith, a, y)) in
-      let f2 = two_both g s new front shade stage step h t.0 (t.2 ∙ a) in
-      elim (known_two wq w t.0 (wq_is g s new front shade stage step h).0 t.1 f2) [
+      elim (known_two wq w t.0 (wq_is g s new front shade stage step h).0 t.1 (two_both g s new front shade stage step h t.0 (t.2 ∙ a))) [
         | inl x ↦ absurd (omega (arith, x, b))
         | inr x ↦ elim (cases_eq w wq) [ inl y ↦ absurd (omega (arith, ap (side wq) y, wq_own, b)) | inr y ↦ absurd (omega (arith, d.one_side wq w (wq_is g s new front shade stage step h).0 l x y, b)) ]
       ]
@@ -145,13 +137,7 @@ module _ (g : Stage) (s : Step) (new : ℕ) (front : ℕ → ℕ) (shade : ℕ �
 
   -- how the new vertex sees a face as neither of both has it
   pub sees_three : (f : ℕ) → f < new → shade wp f ≢ 2 → shade wq f ≢ 1 → shade' g.count f ≡ 3
-  sees_three f l a b = elim (seen g s new front shade stage step h f) [
-    | as_first x y z ↦ absurd (a y)
-    | as_last x y z t ↦ absurd (b z)
-    | between x y z t ↦ t
-    | seen_first x y ↦ absurd (omega arith)
-    | seen_last x y ↦ absurd (omega arith)
-  ]
+  sees_three f l a b = grind (arith, seen, as_first, as_last, between, seen_first, seen_last)
 
   sides_of : (w : ℕ) → w < g.count → SidesOf g s side w (side' g.count w)
   sides_of w l = side_after-new g s side g.count w refl l
@@ -159,8 +145,6 @@ module _ (g : Stage) (s : Step) (new : ℕ) (front : ℕ → ℕ) (shade : ℕ �
   -- the new vertex's side of an older one
   lies_new : (w : ℕ) → w < g.count → (f : ℕ) × on' w f × (shade' g.count f ≡ side' g.count w)
   lies_new w l =
-      let o = step.order in
-      let i = step.within in
       elim (sides_of w l) [
         | as_two a b ↦
             let t = d.lies wp w (wp_is g s new front shade stage step h).0 l (omega (arith, a)) (λ x y. omega (arith, a, y)) in
@@ -168,24 +152,13 @@ module _ (g : Stage) (s : Step) (new : ℕ) (front : ℕ → ℕ) (shade : ℕ �
         | as_parent a b c ↦ (
           suc new,
           inr (at_last b refl),
-          elim (seen g s new front shade stage step h (suc new)) [
-            | as_first x y z ↦ absurd (omega arith)
-            | as_last x y z t ↦ absurd (omega arith)
-            | between x y z t ↦ absurd (omega arith)
-            | seen_first x y ↦ absurd (omega arith)
-            | seen_last x y ↦ y ∙ sym c
-          ],
+          grind (arith, seen, as_first, as_last, between, seen_first, seen_last),
         )
         | side_one a b c e ↦
             let t = d.lies wq w (wq_is g s new front shade stage step h).0 l (omega (arith, c)) (λ x y. omega (arith, c, y)) in
             (t.0, inl t.1, one_on g s new front shade on stage step h k t.0 (ap (shade wq) (old_front-old s new front t.0 (k.placed w t.0 t.1).1) ∙ t.2 ∙ c) ∙ sym e)
         | as_three a b c e ↦ elim (cases_eq w wp) [
-          | inl y ↦
-              let t = subst (λ v. on v (front s.first)) (sym y) (k.edge s.first (omega arith)).0 in
-              let m = (k.placed w (front s.first) t).1 in
-              let f1 = first_one g s new front shade stage step h wp (wp_is g s new front shade stage step h).0 (omega (arith, (wp_is g s new front shade stage step h).1)) in
-              let f2 = first_two g s new front shade stage step h wq (wq_is g s new front shade stage step h).0 (omega (arith, (wq_is g s new front shade stage step h).1)) in
-              (front s.first, inl t, sees_three (front s.first) m (λ z. absurd (omega (arith, f1, z))) (λ z. absurd (omega (arith, f2, z))) ∙ sym e)
+          | inl y ↦ grind (arith, first_one, wp, wp_is, first_two, wq, wq_is, sees_three)
           | inr y ↦
               let one_or_three : (side wp w ≡ 1) ⊎ (side wp w ≡ 3) = elim (d.some_side wp w (wp_is g s new front shade stage step h).0 l (λ z. y (sym z))) [ inl z ↦ inl z | inr (inl z) ↦ absurd (a z) | inr (inr z) ↦ inr z ] in
               let some : 0 < side wp w = elim one_or_three [ inl z ↦ omega (arith, z) | inr z ↦ omega (arith, z) ] in
@@ -198,20 +171,15 @@ module _ (g : Stage) (s : Step) (new : ℕ) (front : ℕ → ℕ) (shade : ℕ �
 
   lies' : (v w : ℕ) → v < suc g.count → w < suc g.count → 0 < side' v w → (v ≡ 1 → side' v w ≢ 3) → (f : ℕ) × on' w f × (shade' v f ≡ side' v w)
   lies' v w l m some not =
-      let o = step.order in
-      let i = step.within in
       elim (cases_lt v g.count) [
         | inl v_old ↦ elim (cases_lt w g.count) [
-          | inl w_old ↦
-              let e = side_after-older g s side v w v_old w_old in
-              let t = d.lies v w v_old w_old (omega (arith, e)) (λ x y. not x (e ∙ y)) in
-              (t.0, inl t.1, older v t.0 v_old ∙ ap (shade v) (old_front-old s new front t.0 (k.placed w t.0 t.1).1) ∙ t.2 ∙ sym e)
+          | inl w_old ↦ grind (arith, side_after-older, older, old_front-old)
           | inr w_new ↦
               let n : w ≡ g.count = omega arith in
               let f = front s.first in
               let same = old_front-old s new front f (h.made s.first (omega arith)) in (
                 f,
-                inr (under n s.first (omega arith) o refl),
+                inr (under n s.first (omega arith) step.order refl),
                 older v f v_old ∙ ap (shade v) same ∙ elim (cases_lt s.first (g.place v)) [
                   | inl a ↦ first_two g s new front shade stage step h v v_old a ∙ sym (side_after-two g s side v w v_old n a)
                   | inr a ↦ first_one g s new front shade stage step h v v_old a ∙ sym (side_after-one g s side v w v_old n a)
@@ -231,80 +199,29 @@ module _ (g : Stage) (s : Step) (new : ℕ) (front : ℕ → ℕ) (shade : ℕ �
   known_old w f l o m = elim (seen g s new front shade stage step h f) [
     | seen_first x y ↦ absurd (omega arith)
     | seen_last x y ↦ absurd (omega arith)
-    | as_first x y z ↦ elim (known_two wp w f (wp_is g s new front shade stage step h).0 o y) [
-      | inl a ↦ elim (sides_of w l) [
-        | as_two b c ↦ beside (c ∙ sym z)
-        | as_parent b c e ↦ absurd (b a)
-        | side_one b c e t ↦ absurd (b a)
-        | as_three b c e t ↦ absurd (b a)
-      ]
-      | inr a ↦ on_one (on_lower-new g s (path one) wp g.count w refl l ∙ a) z
-    ]
+    | as_first x y z ↦ grind (arith, as_first, known_two, wp, wp_is, sides_of, as_two, as_parent, side_one, as_three, on_lower-new, one)
     | as_last x y z t ↦
-        let wp_one = one_both g s new front shade stage step h f z in
         elim (sides_of w l) [
-          | as_two b c ↦ elim (cases_eq w wp) [
-            | inl e ↦ absurd (omega (arith, ap (side wp) e, wp_own, b))
-            | inr e ↦ absurd (omega (arith, one_of_wp w f l o wp_one e, b))
-          ]
+          | as_two b c ↦ grind (arith, as_two, cases_eq, wp, wp_own, one_of_wp, one_both)
           | as_parent b c e ↦ beside (e ∙ sym t)
           | side_one b c e a ↦ beside (a ∙ sym t)
           | as_three b c e a ↦ absurd (e (one_of_wq w f l o z c))
         ]
-    | between x y z t ↦ elim (sides_of w l) [
-      | as_two b c ↦
-          let ne : w ≢ wp = λ e. absurd (omega (arith, ap (side wp) e, wp_own, b)) in
-          elim (d.known wp w f (wp_is g s new front shade stage step h).0 o) [
-            | beside a ↦ absurd (y (sym a ∙ b))
-            | on_one a e ↦ absurd (y e)
-            | on_two a e ↦ absurd (omega (arith, d.two_side wp w (wp_is g s new front shade stage step h).0 l a ne, b))
-            | on_three a e ↦ absurd (ne (wp_top w l a))
-          ]
-      | as_parent b c e ↦ on_two (on_lower-new g s (path two) wq g.count w refl l ∙ ap (path two wq) c ∙ d.own_path two wq (wq_is g s new front shade stage step h).0) t
-      | side_one b c e a ↦ elim (d.known wq w f (wq_is g s new front shade stage step h).0 o) [
-        | beside q ↦ absurd (z (sym q ∙ e))
-        | on_one q r ↦ absurd (omega (arith, d.one_side wq w (wq_is g s new front shade stage step h).0 l q c, e))
-        | on_two q r ↦ on_two (on_lower-new g s (path two) wq g.count w refl l ∙ q) t
-        | on_three q r ↦ absurd (z r)
-      ]
-      | as_three b c e a ↦ beside (a ∙ sym t)
-    ]
+    | between x y z t ↦ grind (arith, between, sides_of, as_two, wp, wp_own, wp_is, wp_top, as_parent, on_lower-new, two, wq, wq_is)
   ]
 
   side_of_wq : side' g.count wq ≡ 1
-  side_of_wq = elim (sides_of wq (wq_is g s new front shade stage step h).0) [
-    | as_two b c ↦ absurd (omega (arith, b, side_wp_wq))
-    | as_parent b c e ↦ e
-    | side_one b c e a ↦ a
-    | as_three b c e a ↦ absurd (c refl)
-  ]
+  side_of_wq = grind (arith, sides_of, wq, wq_is, as_two, side_wp_wq, as_parent, side_one, as_three)
 
   -- how it sees the two new faces
   pub sees_first : (f : ℕ) → f ≡ new → shade' g.count f ≡ 2
-  sees_first f e = elim (seen g s new front shade stage step h f) [
-    | as_first x y z ↦ absurd (omega arith)
-    | as_last x y z t ↦ absurd (omega arith)
-    | between x y z t ↦ absurd (omega arith)
-    | seen_first x y ↦ y
-    | seen_last x y ↦ absurd (omega arith)
-  ]
+  sees_first f e = grind (arith, seen, as_first, as_last, between, seen_first, seen_last)
 
   pub sees_last : (f : ℕ) → f ≡ suc new → shade' g.count f ≡ 1
-  sees_last f e = elim (seen g s new front shade stage step h f) [
-    | as_first x y z ↦ absurd (omega arith)
-    | as_last x y z t ↦ absurd (omega arith)
-    | between x y z t ↦ absurd (omega arith)
-    | seen_first x y ↦ absurd (omega arith)
-    | seen_last x y ↦ y
-  ]
+  sees_last f e = grind (arith, seen, as_first, as_last, between, seen_first, seen_last)
 
   known_new : (w f : ℕ) → w < g.count → on' w f → Known shade' side' path' g.count w f
-  known_new w f l (inl o) = known_old w f l o (k.placed w f o).1
-  known_new w f l (inr (at_first a b)) = on_one (on_lower-new g s (path one) wp g.count w refl l ∙ ap (path one wp) a ∙ d.own_path one wp (wp_is g s new front shade stage step h).0) (sees_first f b)
-  known_new w f l (inr (at_last a b)) = beside (ap (side' g.count) a ∙ side_of_wq ∙ sym (sees_last f b))
-  known_new w f l (inr (under a j b c e)) = absurd (omega arith)
-  known_new w f l (inr (new_first a b)) = absurd (omega arith)
-  known_new w f l (inr (new_last a b)) = absurd (omega arith)
+  known_new w f l x3 = grind (arith, known_old, at_first, on_lower-new, one, wp, wp_is, sees_first, at_last, side', side_of_wq, sees_last, under)
 
   known_self : (f : ℕ) → Known shade' side' path' g.count g.count f
   known_self f = elim (seen g s new front shade stage step h f) [
@@ -320,20 +237,13 @@ module _ (g : Stage) (s : Step) (new : ℕ) (front : ℕ → ℕ) (shade : ℕ �
   known_over v w f l n o =
       let j = new_on g s new front shade on stage step h k w f n o in
       let e = older v f l ∙ ap (shade v) j.3 in
-      elim (sees_under g s new front shade on stage step h k v j.0 l j.1 j.2) [
-        | inl t ↦ beside (side_after-two g s side v w l n t.0 ∙ sym (e ∙ t.1))
-        | inr t ↦ elim (cases_lt s.first (g.place v)) [
-          | inl a ↦ on_three (on_upper-over g s (path three) v w l n a t.0) (e ∙ t.1)
-          | inr a ↦ beside (side_after-one g s side v w l n a ∙ sym (e ∙ t.1))
-        ]
-      ]
+      grind (arith, sees_under, side_after-two, cases_lt, on_upper-over, three, side_after-one)
 
   known_both : (v w f : ℕ) → v < g.count → w < g.count → on' w f → Known shade' side' path' v w f
   known_both v w f l m o =
       let e = older v f l in
-      let e' = side_after-older g s side v w l m in
       elim (d.known v w (old f) l (old_on g s new front shade on stage step h k w f m o)) [
-        | beside a ↦ beside (e' ∙ a ∙ sym e)
+        | beside a ↦ beside ((side_after-older g s side v w l m) ∙ a ∙ sym e)
         | on_one a b ↦ on_one (path_older one v w l m ∙ a) (e ∙ b)
         | on_two a b ↦ on_two (path_older two v w l m ∙ a) (e ∙ b)
         | on_three a b ↦ on_three (path_older three v w l m ∙ a) (e ∙ b)
@@ -373,10 +283,7 @@ module _ (g : Stage) (s : Step) (new : ℕ) (front : ℕ → ℕ) (shade : ℕ �
           | as_three b c e a ↦ a
           | as_two b c ↦ elim (cases_eq w wp) [ inl x ↦ absurd (omega (arith, ap (side wp) x, wp_own, b)) | inr x ↦ absurd (omega (arith, d.one_side wp w (wp_is g s new front shade stage step h).0 w_old p' x, b)) ]
           | as_parent b c e ↦ absurd (omega (arith, side_wp_wq, ap (side wp) (sym c), d.one_side wp w (wp_is g s new front shade stage step h).0 w_old p' (λ x. wp_not_wq (sym x ∙ c))))
-          | side_one b c e a ↦ elim (cases_eq w wp) [
-            | inl x ↦ absurd (side_wq_wp (ap (side wq) (sym x) ∙ e))
-            | inr x ↦ absurd (omega (arith, one_side_both w w_old e x, d.one_side wp w (wp_is g s new front shade stage step h).0 w_old p' x))
-          ]
+          | side_one b c e a ↦ grind (arith, side_one, cases_eq, wp, side_wq_wp, wq, one_side_both, wp_is)
         ]
   ]
 
@@ -394,23 +301,16 @@ module _ (g : Stage) (s : Step) (new : ℕ) (front : ℕ → ℕ) (shade : ℕ �
           | as_parent b c e ↦ e
           | side_one b c e a ↦ a
           | as_three b c e a ↦ absurd (e (d.two_side wq w (wq_is g s new front shade stage step h).0 w_old p' c))
-          | as_two b c ↦ elim (cases_eq w wq) [
-            | inl x ↦ absurd (omega (arith, ap (side wp) x, side_wp_wq, b))
-            | inr x ↦ absurd (apart w w_old b (d.two_side wq w (wq_is g s new front shade stage step h).0 w_old p' x))
-          ]
+          | as_two b c ↦ grind (arith, as_two, cases_eq, wq, wp, side_wp_wq, apart, wq_is)
         ]
   ]
 
   three_side' : (v w : ℕ) → v < suc g.count → w < suc g.count → path' three v w ≡ true → w ≢ v → side' v w ≡ 2
   three_side' v w l m p ne =
-      let o = step.order in
       elim (cases_lt v g.count) [
         | inl v_old ↦ elim (cases_lt w g.count) [
           | inl w_old ↦ side_after-older g s side v w v_old w_old ∙ d.three_side v w v_old w_old (sym (path_older three v w v_old w_old) ∙ p) ne
-          | inr w_new ↦ elim (cases_lt s.first (g.place v)) [
-            | inl a ↦ side_after-two g s side v w v_old (omega arith) a
-            | inr a ↦ absurd (true≢false (sym p ∙ on_upper-not g s (path three) v w v_old (omega arith) (inl a) o))
-          ]
+          | inr w_new ↦ grind (arith, cases_lt, side_after-two, true≢false, on_upper-not, three)
         ]
         | inr v_new ↦ absurd (true≢false (sym p ∙ on_upper-new g s (path three) v w (omega arith) (omega arith)))
       ]
@@ -422,24 +322,16 @@ module _ (g : Stage) (s : Step) (new : ℕ) (front : ℕ → ℕ) (shade : ℕ �
   own_side' v l = elim (cases_lt v g.count) [ inl a ↦ side_after-older g s side v v a a ∙ d.own_side v a | inr a ↦ side_after-self g s side v v (omega arith) (omega arith) ]
 
   some_side' : (v w : ℕ) → v < suc g.count → w < suc g.count → v ≢ w → (side' v w ≡ 1) ⊎ ((side' v w ≡ 2) ⊎ (side' v w ≡ 3))
-  some_side' v w l m ne = elim (cases_lt v g.count) [
-    | inl v_old ↦ elim (cases_lt w g.count) [
-      | inl w_old ↦ subst (λ x. (x ≡ 1) ⊎ ((x ≡ 2) ⊎ (x ≡ 3))) (sym (side_after-older g s side v w v_old w_old)) (d.some_side v w v_old w_old ne)
-      | inr w_new ↦ elim (cases_lt s.first (g.place v)) [ inl a ↦ inr (inl (side_after-two g s side v w v_old (omega arith) a)) | inr a ↦ inl (side_after-one g s side v w v_old (omega arith) a) ]
-    ]
-    | inr v_new ↦ elim (side_after-new g s side v w (omega arith) (omega arith)) [ as_two b c ↦ inr (inl c) | as_parent b c e ↦ inl e | side_one b c e a ↦ inl a | as_three b c e a ↦ inr (inr a) ]
-  ]
+  some_side' v w l m ne = grind (arith, cases_lt, side_after-older, side_after-two, side_after-one, side_after-new, as_two, as_parent, side_one, as_three)
 
   -- the contour after the step, one vertex of it
   reached' : (v i : ℕ) → v < suc g.count → i < (after g s).width → path' three v (vertex_after g s i) ≡ true → place_after g s v ≡ i
   reached' v i l m p =
       let o = step.order in
-      let w = step.within in
       let back = λ (x : ℕ) (e : vertex_after g s i ≡ x). ap (path' three v) (sym e) ∙ p in
       elim (cases_place g s i step m) [
         | inl c ↦
-            let lo = c.low in
-            let p' = back (g.vertex i) (vertex_after-low g s i lo) in
+            let p' = back (g.vertex i) (vertex_after-low g s i c.low) in
             let x = stage.placed i (omega arith) in
             elim (cases_lt v g.count) [
               | inl a ↦
@@ -447,21 +339,9 @@ module _ (g : Stage) (s : Step) (new : ℕ) (front : ℕ → ℕ) (shade : ℕ �
                   elim (goes g s v o a) [ stays y z ↦ omega arith | goes_under y z t' ↦ absurd (omega arith) | behind y z ↦ absurd (omega arith) ]
               | inr a ↦ absurd (true≢false (sym p' ∙ on_upper-new g s (path three) v (g.vertex i) (omega arith) x))
             ]
-        | inr (inl c) ↦
-            let n = c.new in
-            let p' = back g.count (vertex_after-new g s i n) in
-            elim (cases_lt v g.count) [
-              | inl a ↦ elim (goes g s v o a) [
-                | stays y z ↦ absurd (true≢false (sym p' ∙ on_upper-not g s (path three) v g.count a refl (inl y) o))
-                | goes_under y z t ↦ omega arith
-                | behind y z ↦ absurd (true≢false (sym p' ∙ on_upper-not g s (path three) v g.count a refl (inr y) o))
-              ]
-              | inr a ↦ omega (arith, place_after-new g s v (omega arith))
-            ]
+        | inr (inl c) ↦ grind (arith, vertex_after-new, cases_lt, goes, stays, true≢false, on_upper-not, three, goes_under, behind, place_after-new)
         | inr (inr c) ↦
-            let hi = c.high in
-            let to = c.to in
-            let p' = back (g.vertex c.from) (vertex_after-high g s i c.from (omega arith) hi to) in
+            let p' = back (g.vertex c.from) (vertex_after-high g s i c.from (omega arith) c.high c.to) in
             let x = stage.placed c.from c.within in
             elim (cases_lt v g.count) [
               | inl a ↦
@@ -473,10 +353,8 @@ module _ (g : Stage) (s : Step) (new : ℕ) (front : ℕ → ℕ) (shade : ℕ �
 
   reaches' : (v i : ℕ) → v < suc g.count → i < (after g s).width → place_after g s v ≡ i → path' three v (vertex_after g s i) ≡ true
   reaches' v i l m p =
-      let o = step.order in
-      let w = step.within in
       elim (cases_lt v g.count) [
-        | inl a ↦ elim (goes g s v o a) [
+        | inl a ↦ elim (goes g s v step.order a) [
           | stays y z ↦
               let e : g.place v ≡ i = sym z ∙ p in
               let j : i < g.width = omega arith in
@@ -496,30 +374,13 @@ module _ (g : Stage) (s : Step) (new : ℕ) (front : ℕ → ℕ) (shade : ℕ �
   top_older i w l m side p =
       let o = step.order in
       let x = stage.placed i l in
-      let y = stage.own i l in
       elim (cases_lt w g.count) [
         | inl a ↦ d.top i w l a (sym (path_older three (g.vertex i) w x a) ∙ p)
         | inr a ↦ absurd (true≢false (sym p ∙ on_upper-not g s (path three) (g.vertex i) w x (omega arith) (elim side [ inl z ↦ inl (omega arith) | inr z ↦ inr (omega arith) ]) o))
       ]
 
   top' : (i w : ℕ) → i < (after g s).width → w < suc g.count → path' three (vertex_after g s i) w ≡ true → w ≡ vertex_after g s i
-  top' i w l m p =
-      let o = step.order in
-      let wi = step.within in
-      elim (cases_place g s i step l) [
-        | inl c ↦ let lo = c.low in let e = vertex_after-low g s i lo in top_older i w (omega arith) m (inl lo) (ap (λ v. path' three v w) (sym e) ∙ p) ∙ sym e
-        | inr (inl c) ↦
-            let e = vertex_after-new g s i c.new in
-            elim (cases_lt w g.count) [
-              | inl a ↦ absurd (true≢false (sym (ap (λ v. path' three v w) (sym e) ∙ p) ∙ on_upper-new g s (path three) g.count w refl a))
-              | inr a ↦ let n : w ≡ g.count = omega arith in n ∙ sym e
-            ]
-        | inr (inr c) ↦
-            let hi = c.high in
-            let to = c.to in
-            let e = vertex_after-high g s i c.from (omega arith) hi to in
-            top_older c.from w c.within m (inr hi) (ap (λ v. path' three v w) (sym e) ∙ p) ∙ sym e
-      ]
+  top' i w l m p = grind (arith, cases_place, vertex_after-low, top_older, path', three, vertex_after-new, cases_lt, true≢false, on_upper-new, vertex_after-high)
 
   pub IsSided-after : IsSided (after g s) shade' on' path' side'
   IsSided-after = record {
@@ -549,23 +410,14 @@ module _ (g : Stage) (s : Step) (new : ℕ) (front : ℕ → ℕ) (shade : ℕ �
   )
 
   pub new_two : (w : ℕ) → w < g.count → (side' g.count w ≡ 2 → side wp w ≡ 2) × (side wp w ≡ 2 → side' g.count w ≡ 2)
-  new_two w l = (
-    λ e. elim (sides_of w l) [ as_two b c ↦ b | as_parent b c t ↦ absurd (omega (arith, e, t)) | side_one b c t a ↦ absurd (omega (arith, e, a)) | as_three b c t a ↦ absurd (omega (arith, e, a)) ],
-    λ e. elim (sides_of w l) [ as_two b c ↦ c | as_parent b c t ↦ absurd (b e) | side_one b c t a ↦ absurd (b e) | as_three b c t a ↦ absurd (b e) ],
-  )
+  new_two w l = grind (arith, sides_of, as_two, as_parent, side_one, as_three)
 
 -- the base alone
 base_side : (steps : ℕ → Step) (v w : ℕ) → ((v ≡ w) × (sides steps 0 v w ≡ 0)) ⊎ (((v ≢ w) × (v ≡ 0) × (sides steps 0 v w ≡ 1)) ⊎ ((v ≢ w) × (v ≢ 0) × (sides steps 0 v w ≡ 3)))
-base_side steps v w = elim (cases_eq v w) [
-  | inl e ↦ inl (e, grind (arith, nat_tests))
-  | inr ne ↦ elim (cases_eq v 0) [ inl z ↦ inr (inl (ne, z, grind (arith, nat_tests))) | inr z ↦ inr (inr (ne, z, grind (arith, nat_tests))) ]
-]
+base_side steps v w = grind (arith, cases_eq, nat_tests)
 
 pub base_one : (steps : ℕ → Step) (v w : ℕ) → ((w ≡ 0) ⊎ (v ≡ w)) × (paths steps 0 one v w ≡ true) ⊎ (w ≢ 0) × (v ≢ w) × (paths steps 0 one v w ≡ false)
-base_one steps v w = elim (cases_eq w 0) [
-  | inl z ↦ inl (inl z, grind (arith, nat_tests))
-  | inr z ↦ elim (cases_eq v w) [ inl e ↦ inl (inr e, grind (arith, nat_tests)) | inr e ↦ inr (z, e, grind (arith, nat_tests)) ]
-]
+base_one steps v w = grind (arith, cases_eq, nat_tests)
 
 pub base_two : (steps : ℕ → Step) (v w : ℕ) → (v ≡ w) × (paths steps 0 two v w ≡ true) ⊎ (v ≢ w) × (paths steps 0 two v w ≡ false)
 base_two steps v w = elim (cases_eq v w) [ inl e ↦ inl (e, grind (arith, nat_tests)) | inr e ↦ inr (e, grind (arith, nat_tests)) ]
@@ -583,39 +435,13 @@ module _ (steps : ℕ → Step) where
   base_own three v l = elim (base_three steps v v) [ inl c ↦ c.1 | inr c ↦ absurd (c.0 refl) ]
 
   base_known : (v w f : ℕ) → v < 2 → IsOn steps 0 w f → Known (shades steps 0) (sides steps 0) (paths steps 0) v w f
-  base_known v w f l o = elim (base_shade steps v f) [
-    | inl a ↦ elim (cases_eq v w) [
-      | inl e ↦ on_three (elim (base_three steps v w) [ inl c ↦ c.1 | inr c ↦ absurd (c.0 e) ]) a.1
-      | inr e ↦ beside (elim (base_side steps v w) [ inl c ↦ absurd (e c.0) | inr (inl c) ↦ c.2 ∙ sym a.1 | inr (inr c) ↦ absurd (c.1 a.0) ])
-    ]
-    | inr a ↦ on_one (elim (base_one steps v w) [ inl c ↦ c.1 | inr c ↦ let z = a.0 in let w1 = o.0 in let x = c.0 in let y = c.1 in absurd (omega arith) ]) a.1
-  ]
+  base_known v w f l o = grind (arith, base_shade, cases_eq, base_three, base_side, base_one)
 
   base_lies : (v w : ℕ) → v < 2 → w < 2 → 0 < sides steps 0 v w → (v ≡ 1 → sides steps 0 v w ≢ 3) → (f : ℕ) × IsOn steps 0 w f × (shades steps 0 v f ≡ sides steps 0 v w)
-  base_lies v w l m some not = elim (base_side steps v w) [
-    | inl c ↦ absurd (omega (arith, c.1))
-    | inr (inl c) ↦ (0, (m, refl), elim (base_shade steps v 0) [ inl a ↦ a.1 ∙ sym c.2 | inr a ↦ absurd (a.0 c.1) ])
-    | inr (inr c) ↦ let z = c.1 in absurd (not (omega arith) c.2)
-  ]
+  base_lies v w l m some not = grind (arith, base_side, base_shade)
 
   pub IsSided-base : IsSided base (shades steps 0) (IsOn steps 0) (paths steps 0) (sides steps 0)
-  IsSided-base = record {
-    own_path = base_own;
-    own_side = λ v l. elim (base_side steps v v) [ inl c ↦ c.1 | inr (inl c) ↦ absurd (c.0 refl) | inr (inr c) ↦ absurd (c.0 refl) ];
-    some_side = λ v w l m ne. elim (base_side steps v w) [ inl c ↦ absurd (ne c.0) | inr (inl c) ↦ inl c.2 | inr (inr c) ↦ inr (inr c.2) ];
-    reached = λ v i l m e. three_same v i e;
-    reaches = λ v i l m e. elim (base_three steps v i) [ inl c ↦ c.1 | inr c ↦ absurd (c.0 e) ];
-    top = λ i w l m e. sym (three_same i w e);
-    lies = base_lies;
-    known = base_known;
-    one_side = λ v w l m e ne. elim (base_side steps v w) [
-      | inl c ↦ absurd (ne (sym c.0))
-      | inr (inl c) ↦ elim (base_one steps v w) [ inl a ↦ elim a.0 [ inl z ↦ absurd (ne (z ∙ sym c.1)) | inr z ↦ absurd (ne (sym z)) ] | inr a ↦ absurd (true≢false (sym e ∙ a.2)) ]
-      | inr (inr c) ↦ c.2
-    ];
-    two_side = λ v w l m e ne. elim (base_two steps v w) [ inl c ↦ absurd (ne (sym c.0)) | inr c ↦ absurd (true≢false (sym e ∙ c.1)) ];
-    three_side = λ v w l m e ne. absurd (ne (sym (three_same v w e)));
-  }
+  IsSided-base = grind (arith, base_own, base_side, three_same, base_three, base_lies, base_known, base_one, true≢false, base_two)
 
   -- at each stage of a run
   pub IsSided-run : (n : ℕ) → IsRun steps n → IsSided (stage_after steps n) (shades steps n) (IsOn steps n) (paths steps n) (sides steps n)

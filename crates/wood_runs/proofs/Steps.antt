@@ -22,10 +22,7 @@ module _ (s : Step) (new : ℕ) (front : ℕ → ℕ) where
 
   pub front_after-high : (i j : ℕ) → suc s.first < i → s.last ≤ j → i + s.last ≡ j + suc (suc s.first) → front_after s new front i ≡ front j
   unfolding front_after
-  front_after-high i j l m e =
-      let n : i + s.last - (s.first + 2) ≡ j = omega arith in
-      let h : front_after s new front i ≡ front (i + s.last - (s.first + 2)) = grind (arith, nat_tests) in
-      h ∙ ap front n
+  front_after-high i j l m e = grind (arith, front_after, nat_tests)
 
   pub old_front-old : (f : ℕ) → f < new → old_front s new front f ≡ f
   unfolding old_front
@@ -37,10 +34,7 @@ module _ (s : Step) (new : ℕ) (front : ℕ → ℕ) where
 
   pub old_front-last : (f j : ℕ) → new < f → suc j ≡ s.last → old_front s new front f ≡ front j
   unfolding old_front
-  old_front-last f j l e =
-      let n : s.last - 1 ≡ j = omega arith in
-      let h : old_front s new front f ≡ front (s.last - 1) = grind (arith, nat_tests) in
-      h ∙ ap front n
+  old_front-last f j l e = grind (arith, old_front, nat_tests)
 
 -- how the new vertex sees a face
 pub data Sees (g : Stage) (s : Step) (new : ℕ) (shade : ℕ → ℕ → ℕ) (f : ℕ) (seen : ℕ) : Type 0 where
@@ -57,16 +51,7 @@ module _ (g : Stage) (s : Step) (new : ℕ) (front : ℕ → ℕ) (shade : ℕ �
 
   pub shade_after-new : (v f : ℕ) → v ≡ g.count → Sees g s new shade f (shade_after g s new front shade v f)
   unfolding shade_after
-  shade_after-new v f e = elim (cases_lt f new) [
-    | inl l ↦ elim (cases_eq (shade (g.vertex s.first) f) 2) [
-      | inl a ↦ as_first l a (grind (arith, nat_tests))
-      | inr a ↦ elim (cases_eq (shade (g.vertex s.last) f) 1) [
-        | inl b ↦ as_last l a b (grind (arith, nat_tests))
-        | inr b ↦ between l a b (grind (arith, nat_tests))
-      ]
-    ]
-    | inr l ↦ elim (cases_eq f new) [ inl a ↦ new_first a (grind (arith, nat_tests)) | inr a ↦ new_last (omega arith) (grind (arith, nat_tests)) ]
-  ]
+  shade_after-new v f e = grind (arith, cases_lt, cases_eq, nat_tests)
 
 -- where an older vertex goes
 pub data Goes (g : Stage) (s : Step) (v : ℕ) : Type 0 where
@@ -75,15 +60,7 @@ pub data Goes (g : Stage) (s : Step) (v : ℕ) : Type 0 where
   behind : s.last ≤ g.place v → place_after g s v + s.last ≡ g.place v + suc (suc s.first) → Goes g s v
 
 pub goes : (g : Stage) (s : Step) (v : ℕ) → s.first < s.last → v < g.count → Goes g s v
-goes g s v o l =
-    let e = place_after-older g s v l in
-    elim (cases_lt s.first (g.place v)) [
-      | inr a ↦ stays a (e ∙ moved-low s (g.place v) a)
-      | inl a ↦ elim (cases_lt (g.place v) s.last) [
-        | inl b ↦ under a b (e ∙ moved-between s (g.place v) a b)
-        | inr b ↦ behind b (omega (arith, e, moved-high s (g.place v) o b))
-      ]
-    ]
+goes g s v o l = grind (arith, place_after-older, cases_lt, moved-low, moved-between, moved-high)
 
 -- the side of the new vertex on which an older one lies
 pub data SidesOf (g : Stage) (s : Step) (side : ℕ → ℕ → ℕ) (w : ℕ) (told : ℕ) : Type 0 where
@@ -111,16 +88,7 @@ module _ (g : Stage) (s : Step) (side : ℕ → ℕ → ℕ) where
 
   pub side_after-new : (v w : ℕ) → v ≡ g.count → w < g.count → SidesOf g s side w (side_after g s side v w)
   unfolding side_after
-  side_after-new v w e l = elim (cases_eq (side (g.vertex s.first) w) 2) [
-    | inl a ↦ as_two a (grind (arith, nat_tests))
-    | inr a ↦ elim (cases_eq w (g.vertex s.last)) [
-      | inl b ↦ as_parent a b (grind (arith, nat_tests))
-      | inr b ↦ elim (cases_eq (side (g.vertex s.last) w) 1) [
-        | inl c ↦ as_one a b c (grind (arith, nat_tests))
-        | inr c ↦ as_three a b c (grind (arith, nat_tests))
-      ]
-    ]
-  ]
+  side_after-new v w e l = grind (arith, cases_eq, nat_tests)
 
 module _ (g : Stage) (s : Step) (on : ℕ → ℕ → Bool) where
   pub on_lower-older : (parent v w : ℕ) → v < g.count → w < g.count → on_lower_after g parent on v w ≡ on v w

@@ -60,10 +60,7 @@ module _ (steps : ℕ → Step) where
 
     -- a new vertex, and its parent of a lower colour
     born : (c : Colour) (k u : ℕ) → k < n → u < (at k).count → ((w : ℕ) → w < (at k).count → paths steps (suc k) c (at k).count w ≡ paths steps k c u w) → GoesOn c (at k).count u (suc k)
-    born c k u l lu h w lw = elim (cases_lt w (at k).count) [
-      | inl a ↦ (λ p. inr (older k c u w lu a ∙ sym (h w a) ∙ p), λ p. elim p [ inl x ↦ absurd (omega arith) | inr x ↦ h w a ∙ sym (older k c u w lu a) ∙ x ])
-      | inr a ↦ let e : w ≡ (at k).count = omega arith in (λ p. inl e, λ p. self k c (at k).count w refl e)
-    ]
+    born c k u l lu h w lw = grind (arith, cases_lt, at, older, self)
 
     pub goes_on : (c : Colour) (v u : ℕ) → IsParent c steps n v u → GoesOn c v u n
     goes_on one v u p =
@@ -75,7 +72,6 @@ module _ (steps : ℕ → Step) where
         let x = (IsStage-run steps k (less k (omega arith))).placed (steps k).first (omega arith) in
         let e : v ≡ (at k).count = p.vertex ∙ sym count in
         let t = p.parent in
-        let z = p.vertex in
         later one v u k a (omega arith) (omega arith) (λ y. absurd (one≢three y))
         (subst (λ v. GoesOn one v u (suc k)) (sym e) (subst (λ u. GoesOn one (at k).count u (suc k)) t (born one k ((at k).vertex (steps k).first) a x (λ w l. on_lower-new (at k) (steps k) (paths steps k one) _ (at k).count w refl l))))
       where
@@ -89,7 +85,6 @@ module _ (steps : ℕ → Step) where
         let x = (IsStage-run steps k (less k (omega arith))).placed (steps k).last w in
         let e : v ≡ (at k).count = p.vertex ∙ sym count in
         let t = p.parent in
-        let z = p.vertex in
         later two v u k a (omega arith) (omega arith) (λ y. absurd (two≢three y))
         (subst (λ v. GoesOn two v u (suc k)) (sym e) (subst (λ u. GoesOn two (at k).count u (suc k)) t (born two k ((at k).vertex (steps k).last) a x (λ w l. on_lower-new (at k) (steps k) (paths steps k two) _ (at k).count w refl l))))
       where
@@ -98,23 +93,17 @@ module _ (steps : ℕ → Step) where
     goes_on three v u p =
         let k = p.step in
         let a = p.earlier in
-        let run' = less k (omega arith) in
         let count = count-stage_after steps k in
         let wi = (run k a).within in
         let own = IsCovered-own steps k n v run a p.covered in
-        let lo = p.covered.low in
-        let hi = p.covered.high in
-        let d = IsSided-run steps k run' in
+        let d = IsSided-run steps k (less k (omega arith)) in
         let lv : v < (at k).count = omega (arith, own.0) in
-        let i = p.covered.place in
         let vi = p.covered.vertex in
-        let e : u ≡ (at k).count = p.parent ∙ sym count in
         let t = p.parent in
-        let t' = own.0 in
         let pl = own.1 in
         let begun : GoesOn three v (at k).count (suc k) = λ w lw. elim (cases_lt w (at k).count) [
           | inl b ↦ (
-            λ q. inl (d.top i w (omega arith) b (ap (λ v. paths steps k three v w) vi ∙ sym (older k three v w lv b) ∙ q) ∙ vi),
+            λ q. inl (d.top p.covered.place w (omega arith) b (ap (λ v. paths steps k three v w) vi ∙ sym (older k three v w lv b) ∙ q) ∙ vi),
             λ q. elim q [
               | inl x ↦ older k three v w lv b ∙ ap (paths steps k three v) x ∙ d.own_path three v lv
               | inr x ↦ absurd (true≢false (sym x ∙ on_upper-new (at k) (steps k) (paths steps k three) (at k).count w refl b))
@@ -125,7 +114,7 @@ module _ (steps : ℕ → Step) where
               (λ q. inr (self k three (at k).count w refl n'), λ q. on_upper-over (at k) (steps k) (paths steps k three) v w lv n' (omega (arith, pl)) (omega (arith, pl)))
         ] in
         later three v u k a (omega arith) (omega arith) (λ y m low high. covered_together steps k m v (less m high) (omega arith) p.covered ∙ ap (at m).place (sym t))
-        (subst (λ u. GoesOn three v u (suc k)) (sym e) begun)
+        (subst (λ u. GoesOn three v u (suc k)) (sym (p.parent ∙ sym count)) begun)
 
     -- the path of a root is the root
     pub root_alone : (c : Colour) (w : ℕ) → 0 < n → w < n + 2 → paths steps n c (root_at n c) w ≡ true → w ≡ root_at n c

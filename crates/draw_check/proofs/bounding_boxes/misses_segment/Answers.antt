@@ -1,5 +1,5 @@
 use Rattle.std.proofs.lemmas.Bool.{OnTrue_at, OnTrue_from}
-use Rattle.pg_plane.specs.declared.segments.Point.{Point}
+use Rattle.pg_plane.specs.declared.grid_points.Point.{Point}
 use Rattle.pg_plane.specs.Geometry.{IsOnSegment}
 use Rattle.draw_check.specs.Spans.{IsIn}
 use Rattle.draw_check.proofs.SpanLemmas.{apart_segment, left_segment, right_segment}

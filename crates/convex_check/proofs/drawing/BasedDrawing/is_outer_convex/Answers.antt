@@ -1,6 +1,6 @@
 use Rattle.std.proofs.Common.{ℕ, List, sym, subst}
 use Rattle.euler_faces.specs.FaceWalks.{walk_at}
-use Rattle.pg_plane.specs.declared.segments.Point.{Point}
+use Rattle.pg_plane.specs.declared.grid_points.Point.{Point}
 use Rattle.convex_check.specs.Walks.{AreWalkPlaces}
 use Rattle.convex_check.proofs.OuterLemmas.{live_in, places_in_range, outer_of_places, places_of_outer}
 use Rattle.convex_check.proofs.drawing.BasedDrawing.is_outer_convex.Goals as goal

@@ -1,5 +1,5 @@
 use Rattle.std.proofs.Common.{◌+◌, ◌<◌, ℕ, length, slice_index, take, pos, sym, ap, ◌∙◌, subst, arith}
-use Rattle.pg_plane.specs.declared.segments.Point.{Point}
+use Rattle.pg_plane.specs.declared.grid_points.Point.{Point}
 use Rattle.order_drawings.specs.Points.{ArePointsAt}
 use Rattle.order_drawings.proofs.PointLemmas.{ArePointsAt-more}
 use Rattle.order_drawings.proofs.order_tables.points_by_rank.points_at.Goals as goal

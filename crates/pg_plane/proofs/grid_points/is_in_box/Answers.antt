@@ -1,6 +1,6 @@
 use Rattle.std.proofs.Common.{rules, w32, FitsSigned}
 use Rattle.std.proofs.lemmas.Int.{to_z-of_z}
-use Rattle.pg_plane.proofs.segments.is_in_box.Goals as goal
+use Rattle.pg_plane.proofs.grid_points.is_in_box.Goals as goal
 
 pub returns-then-is_between : goal.returns-then-is_between
 returns-then-is_between c =

@@ -1,7 +1,7 @@
 use Rattle.std.proofs.Common.{◌<ℤ◌, pos, arith, rules, w64, FitsSigned}
 use Rattle.std.proofs.lemmas.Int.{ints, to_z-of_z}
 use Rattle.pg_plane.proofs.Directions.{clock_same, clock_other}
-use Rattle.pg_plane.proofs.segments.clock_before.Goals as goal
+use Rattle.pg_plane.proofs.grid_points.clock_before.Goals as goal
 
 pub returns-then-d_first-e_first : goal.returns-then-d_first-e_first
 returns-then-d_first-e_first c =

@@ -1,6 +1,6 @@
 use Rattle.std.proofs.Common.{arith, rules, w32, w64, FitsSigned}
 use Rattle.std.proofs.lemmas.Int.{ints, to_z-of_z}
-use Rattle.pg_plane.proofs.segments.area2.Goals as goal
+use Rattle.pg_plane.proofs.grid_points.area2.Goals as goal
 
 pub returns : goal.returns
 returns c =

@@ -1,7 +1,7 @@
 use Rattle.std.proofs.Common.{◌*ℤ◌, arith, w64, FitsSigned}
 use Rattle.std.proofs.lemmas.Int.{ints, to_z-of_z}
 use Rattle.pg_plane.proofs.Products.{IsWithin-product}
-use Rattle.pg_plane.proofs.segments.product.Goals as goal
+use Rattle.pg_plane.proofs.grid_points.product.Goals as goal
 
 pub returns-clause-value : goal.returns-clause-value
 returns-clause-value c =

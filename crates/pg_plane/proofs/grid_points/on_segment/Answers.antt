@@ -1,6 +1,6 @@
 use Rattle.std.proofs.Common.{◌≡◌, pos, arith, rules, w64, FitsSigned, sym, ◌∙◌, ap, eqb-true, of_z}
 use Rattle.std.proofs.lemmas.Int.{ints}
-use Rattle.pg_plane.proofs.segments.on_segment.Goals as goal
+use Rattle.pg_plane.proofs.grid_points.on_segment.Goals as goal
 
 pub returns-then-area2-eq0 : goal.returns-then-area2-eq0
 returns-then-area2-eq0 c =

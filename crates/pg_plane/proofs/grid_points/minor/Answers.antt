@@ -1,6 +1,6 @@
 use Rattle.std.proofs.Common.{◌-ℤ◌, arith, rules, w64, FitsSigned}
 use Rattle.std.proofs.lemmas.Int.{ints, to_z-of_z}
-use Rattle.pg_plane.proofs.segments.minor.Goals as goal
+use Rattle.pg_plane.proofs.grid_points.minor.Goals as goal
 
 pub overflow_sub-result : goal.overflow_sub-result
 overflow_sub-result c =

@@ -1,7 +1,7 @@
 use Rattle.std.proofs.Common.{rules, w64, FitsSigned, sym, ◌∙◌}
 use Rattle.std.proofs.lemmas.Int.{to_z-of_z}
 use Rattle.std.proofs.lemmas.Bool.{true≢false}
-use Rattle.pg_plane.proofs.segments.crosses.Goals as goal
+use Rattle.pg_plane.proofs.grid_points.crosses.Goals as goal
 
 pub returns-then-are_opposite : goal.returns-then-are_opposite
 returns-then-are_opposite c =
