@@ -1,5 +1,4 @@
-//! The calls of the fast searches: rotation lists by the left-right test, and Kuratowski witnesses traced from its
-//! conflicts.
+//! Calls of the fast searches: rotation lists by the left-right test, Kuratowski witnesses traced from its conflicts.
 ghost use Rattle.std.specs.Prelude.{◌≡◌, ◌<◌, length, IfOk, IfSome, MatchOption};
 ghost use Rattle.map_lists.specs.Lists.{Lists};
 ghost use Rattle.embed_theorem.specs.Expanded.{IsMapOf};
@@ -29,6 +28,7 @@ pub struct Tables {
 
 impl Tables {
     /// Returns tables before the first graph. They take no memory of an allocator.
+    #[inline(always)]
     pub fn new() -> Tables {
         Tables {
             edges: Edges::new(),

@@ -1,6 +1,10 @@
 //! The job `embed` over graph6 lines, as a job of the main loop.
-ghost use Rattle.std.specs.Prelude.{◌≡◌, IfOk};
-ghost use Rattle.pigale_shell.specs.EmbedText.{embed_last_line as last_line_of};
+ghost use Rattle.std.specs.Prelude.{◌≡◌, ◌+◌, IfOk};
+ghost use Rattle.pg_io.specs.Io.{TakesAtMost};
+ghost use Rattle.record_runs.specs.Texts.{input_limit};
+ghost use Rattle.record_runs.specs.Outcome.{ports, Outcome as RunOutcome};
+ghost use Rattle.line_inputs.specs.GraphLinesFormat.{graph_lines};
+ghost use Rattle.pigale_shell.specs.EmbedText.{embed_answers, embed_last_line as last_line_of};
 
 use super::form_printer::{FormPrinter, line_in};
 use super::method::GraphRecord;
@@ -9,13 +13,13 @@ use super::record_answers::refused_line;
 use embed_graph::embed_figures::Embedder;
 use graph6_text::Graph;
 use line_inputs::graph_lines::{Ending, GraphReader};
+use pg_io::{Sink, Source};
 use pigale_words::Form;
-use record_runs::Job as RecordJob;
+use record_runs::{Job as RecordJob, RunEnd, run_records};
 use refusals::Refusal;
 use std::alloc::{AllocError, Global};
 
-// Returns the last line of a run over graphs: `end` with the counts, or `stop` with the line at which the input
-// ended.
+// Returns the last line of a run over graphs: `end` with the counts, or `stop` with the number of the bad line, if any.
 fn embed_last_line(
     alloc: Global,
     records: u32,
@@ -56,16 +60,13 @@ impl EmbedJob {
 }
 
 impl RecordJob<GraphReader> for EmbedJob {
-    ghost use Rattle.pigale_shell.specs.EmbedText.{embed_answers};
-
     type Kind = Form;
 
     ghost kind = { λ job. job.form };
 
     ghost answers = { embed_answers };
 
-    // Appends the block of a graph: its map and drawing, a witness, or the line that refuses it. Returns whether it
-    // was served.
+    // Appends a graph's block: map and drawing, a witness, or the line that refuses it. Returns whether it was served.
     fn answer(
         &mut self,
         number: u32,
@@ -100,4 +101,22 @@ impl RecordJob<GraphReader> for EmbedJob {
         let line = embed_last_line(alloc, records, refused, *end)?;
         line_in(alloc, self.form, line)
     }
+}
+
+/// Runs the job `embed` over the graph6 lines of `src`, and writes to `out`. The tables for small graphs stand on its
+/// stack: inlined where jobs are told apart they would be cleared for each job.
+#[inline(never)]
+pub(crate) fn run_graphs<S: Source, K: Sink>(
+    alloc: Global,
+    form: Form,
+    src: &mut S,
+    out: &mut K,
+) -> RunEnd
+    ensures outcome { RunOutcome graph_lines (embed_answers form)
+        (ports (S.left src.old) (S.faults src.old) (K.written out.old) (K.faults out.old))
+        (ports (S.left src.new) (S.faults src.new) (K.written out.new) (K.faults out.new)) result }
+    ensures limit { TakesAtMost (input_limit + 1) (S.left src.old) (S.left src.new) }
+{
+    let mut job = EmbedJob::new(alloc, form);
+    run_records(alloc, GraphReader::new(alloc), &mut job, src, out)
 }

@@ -54,7 +54,8 @@ impl FormPrinter {
         }
     }
 
-    /// Appends a straight-line drawing of a simple map in the form of its record. When memory runs out the bytes are as they were.
+    /// Appends a straight-line drawing of a simple map in the form of its record. When memory runs out the bytes are as
+    /// they were.
     pub(crate) fn print_grid(
         &mut self,
         given: &MapRecord<'_>,
@@ -75,7 +76,8 @@ impl FormPrinter {
         }
     }
 
-    /// Appends a visibility drawing of a simple map in the form of its record. When memory runs out the bytes are as they were.
+    /// Appends a visibility drawing of a simple map in the form of its record. When memory runs out the bytes are as
+    /// they were.
     pub(crate) fn print_bars(
         &mut self,
         given: &MapRecord<'_>,
@@ -114,8 +116,8 @@ impl FormPrinter {
         }
     }
 
-    /// Appends what was found of a graph in the form of its record: a map of it, as it is drawn, or a witness that it has
-    /// none in the plane. When memory runs out the bytes are as they were.
+    /// Appends what was found of a graph in the form of its record: a map of it, as it is drawn, or a witness that it
+    /// has none in the plane. When memory runs out the bytes are as they were.
     pub(crate) fn print_embedded(
         &mut self,
         given: &GraphRecord<'_>,

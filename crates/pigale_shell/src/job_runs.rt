@@ -7,14 +7,13 @@ ghost use Rattle.pigale_shell.specs.JobInput.{reads_input, left_of};
 ghost use Rattle.pigale_shell.specs.Kinds.{IsSized};
 ghost use Rattle.pigale_shell.specs.Outcome.{Outcome, status_of};
 
-use super::embed::EmbedJob;
+use super::embed::run_graphs;
 use super::gen_job::run_made;
 use super::job_kinds::JobKind;
 use super::map_jobs::{Bars, Convex, Count, MapJob, Rect, Schnyder, Shift};
 use super::planar_jobs::run_planar;
 use super::verify::VerifyJob;
 use line_inputs::figure_lines::FigureReader;
-use line_inputs::graph_lines::GraphReader;
 use pg_io::{Sink, Source};
 use pigale_words::Status;
 use record_runs::{RunEnd, run_records};
@@ -64,10 +63,7 @@ pub fn run_job<S: Source, K: Sink>(alloc: Global, job: JobKind, src: &mut S, out
         JobKind::Maps(MapJob::Rect, form) => {
             status(run_planar::<Rect, S, K>(alloc, form, src, out))
         }
-        JobKind::Graphs(form) => {
-            let mut job = EmbedJob::new(alloc, form);
-            status(run_records(alloc, GraphReader::new(alloc), &mut job, src, out))
-        }
+        JobKind::Graphs(form) => status(run_graphs(alloc, form, src, out)),
         JobKind::Figures => {
             let mut job = VerifyJob::new(alloc);
             status(run_records(alloc, FigureReader::new(alloc), &mut job, src, out))

@@ -75,8 +75,7 @@ fn answer_by<M: Method>(
     answer_with(alloc, &mut method, given, out)
 }
 
-/// Appends to `out` the block of `job` for one map, and returns whether the map was served. It fails only when out of
-/// memory.
+/// Appends to `out` the block of `job` for one map. Returns whether it was served. Fails only when out of memory.
 pub(crate) fn answer_map(
     alloc: Global,
     job: MapJob,

@@ -1,5 +1,4 @@
-//! The trait `Method` of all jobs over maps: what it finds of a map and how it prints that, and the records that jobs
-//! are given.
+//! The trait `Method` of jobs over maps: what it finds of a map and how it prints that, and the records given to jobs.
 ghost use Rattle.std.specs.Prelude.{◌≡◌, ◌<◌, ◌≤◌, length, IfOk, IfErr, OnOk, OnErr};
 ghost use Rattle.map_lists.specs.Lists.{Lists};
 ghost use Rattle.refusals.specs.Conditions.{IfRefused};

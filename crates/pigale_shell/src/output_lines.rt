@@ -117,8 +117,7 @@ pub fn refusal_line(alloc: Global, number: u32, refusal: Refusal) -> Result<Vec<
     Ok(line)
 }
 
-// Returns the line of an input that ended badly: the two words `words`, as `stop Limit`, and the offset or line
-// number `place`.
+// Returns the line of a bad ending: the two words `words`, as `stop Limit`, and the offset or line number `place`.
 pub(crate) fn stop_line(alloc: Global, words: &[u8], place: usize) -> Result<Vec<u8>, AllocError>
     ensures { IfOk result (λ line. line.items ≡ (words.now ++ 32 ∷ decimal place) ++ 10 ∷ []) }
 {

@@ -57,8 +57,7 @@ impl Format for PlanarReader {
 
     ghost IsGiven = { IsGiven };
 
-    // Passes `piece` to the reader of planar_code. A bad count becomes the ending `BadCount` with the offset of its
-    // record.
+    // Passes `piece` to the planar_code reader. A bad count becomes the ending `BadCount` with its record's offset.
     fn take(&mut self, piece: &[u8]) -> Result<Taken<Ending>, AllocError> {
         match self.reader.take(piece)? {
             Found::More => Ok(Taken::Goes(piece.len())),

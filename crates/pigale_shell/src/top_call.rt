@@ -14,8 +14,7 @@ use pg_io::{Sink, Source, put_all};
 use pigale_words::{Status, WordFault, words_to_job};
 use std::alloc::Global;
 
-// Returns the kind of the job that `words`, those after the program's name, name. Else it returns `BadWords`, or
-// `NoMemory`.
+// Returns the kind of job that `words`, those after the program's name, name; or else `BadWords` or `NoMemory`.
 fn named_kind(alloc: Global, words: &[String]) -> Result<JobKind, WordFault>
     ensures job { MatchResult result
         (λ job. kind_named (map string_bytes words.now) ≡ Some job)
@@ -30,8 +29,7 @@ fn named_kind(alloc: Global, words: &[String]) -> Result<JobKind, WordFault>
 /// or the line `stop BadWords` where they name none.
 ///
 /// A job that makes its record has the empty input, whatever the source holds, and does not touch it. The clauses on
-/// the bytes of the source and of the sink hold where contracts see these. Only `NoMemory` may be returned without a
-/// proved cause.
+/// the bytes of source and sink hold where contracts see these. Only `NoMemory` may come without a proved cause.
 pub fn pigale<S: Source, K: Sink>(
     alloc: Global,
     words: &[String],
@@ -75,14 +73,14 @@ pub fn pigale<S: Source, K: Sink>(
     ensures no_memory { result ≡ Status.NoMemory →
         GrowsByText (kind_named (map string_bytes words.now)) (S.left src.old) (K.written out.old) (K.written out.new) }
 
-    // Where the words are good, nothing failed and this is the reading of the input, its ending decides the status, unless
-    // memory was wanting.
+    // With good words and no failure, the ending of the input's reading decides the status, unless memory was wanting.
     ensures complete { (job : JobKind) (input : List ℕ) (records : List (RecordOf job)) (ending : EndingOf job) →
         kind_named (map string_bytes words.now) ≡ Some job → left_of job (S.left src.old) ≡ Some input → (reads_of job).IsReading input records ending
         → ¬ HasRisen (S.faults src.old) (S.faults src.new) → ¬ HasRisen (K.faults out.old) (K.faults out.new)
         → MayEnd job ending result }
 
-    // A job that reads no input leaves the source as it was, and its map is drawn unless a write failed or memory was wanting.
+    // A job that reads no input leaves the source as it was, and its map is drawn unless a write failed or memory was
+    // wanting.
     ensures no_input { (job : JobKind) → kind_named (map string_bytes words.now) ≡ Some job → IsFalse (reads_input job) →
         (src.new ≡ src.old) × ((result ≡ Status.Done) ⊎ (result ≡ Status.WriteFault) ⊎ (result ≡ Status.NoMemory)) }
 

@@ -195,8 +195,7 @@ impl RecordJob<FigureReader> for VerifyJob {
     ghost answers = { λ kind. verify_answers };
 
     // Appends the line of the verdict on a figure, and returns whether it is valid. The checks of bars and rectangles
-    // keep large arrays on the stack: inlined into the step that takes a line they would make each line touch that
-    // stack.
+    // keep large arrays on the stack. Inlined into the step that takes a line, they would make each line touch it.
     #[inline(never)]
     fn answer(
         &mut self,

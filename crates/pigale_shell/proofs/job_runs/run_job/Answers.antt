@@ -34,12 +34,11 @@ returns-in-Maps-Rect-default-clause-outcome g c =
 
 pub returns-in-Graphs-clause-outcome : goal.returns-in-Graphs-clause-outcome
 returns-in-Graphs-clause-outcome g c =
-    let outcome = rw c.new-job.ensures at c.run_records.ensures.outcome in
-    rw c.status-in-Graphs.ensures (Outcome-run c.args.job _ _ _ _ _ _ _ _ _ c.run_records.result c.in-Graphs.is outcome)
+    rw c.status-in-Graphs.ensures (Outcome-run c.args.job _ _ _ _ _ _ _ _ _ c.run_graphs.result c.in-Graphs.is c.run_graphs.ensures.outcome)
 
 pub returns-in-Figures-clause-outcome : goal.returns-in-Figures-clause-outcome
 returns-in-Figures-clause-outcome g c =
-    rw c.status-in-Figures.ensures (Outcome-run c.args.job _ _ _ _ _ _ _ _ _ c.run_records-in-Figures.result c.in-Figures.is c.run_records-in-Figures.ensures.outcome)
+    rw c.status-in-Figures.ensures (Outcome-run c.args.job _ _ _ _ _ _ _ _ _ c.run_records.result c.in-Figures.is c.run_records.ensures.outcome)
 
 pub returns-in-Made-clause-outcome : goal.returns-in-Made-clause-outcome
 returns-in-Made-clause-outcome g c =
