@@ -22,8 +22,7 @@ use pg_plane::{Point, Points};
 use simple_maps::no_fault_is_simple;
 use std::alloc::{AllocError, Global};
 
-// Says whether a simple map with these counts has genus zero, at least three vertices and as many edges as such a map
-// can have.
+// Says whether a simple map with this `count` has genus zero, three or more vertices and the most edges of such a map.
 fn is_triangulation(count: EulerCount) -> bool
     ensures { (lists : Lists) → IsSimpleMap lists → IsCountOf lists count → OnTrue result (IsTriangulation lists) }
 {
@@ -42,8 +41,7 @@ fn are_triangulation(alloc: Global, lists: &Rotations) -> bool
     }
 }
 
-/// Says whether `lists` are seen to be a triangulation with a valid drawing at `points`, in the grid up to `corner`. No
-/// map is made of them.
+/// Says without a map whether `lists` are seen to be a triangulation validly drawn at `points` in the grid to `corner`.
 pub fn is_drawn_triangulation(
     alloc: Global,
     lists: &Rotations,

@@ -11,11 +11,10 @@ mod verdict_by_kind;
 pub use verdict::FigureVerdict;
 pub use verdict_by_kind::figure_verdict;
 
-/// States the law that the verdict is `Yes` exactly where the figure is valid. Its lists are a simple map. Of a
-/// straight-line drawing all points lie in the grid, the drawing is plane and keeps the rotations. For a connected map
-/// the face of the first vertex's first dart is the outer one. Of one that is to be convex the faces are as they should
-/// besides. Bars are valid within the width f - 1, and rectangles are a rectangular dual. A witness is one of its
-/// graph.
+/// States the law that the verdict is `Yes` exactly where the figure is valid. Its lists are a simple map. All points
+/// of a straight-line drawing lie in the grid, and it is plane and keeps the rotations. For a connected map the face of
+/// the first vertex's first dart is the outer one. In one to be convex the faces are as they should besides. Bars are
+/// valid within the width f - 1, and rectangles are a rectangular dual. A witness is one of its graph.
 pub fn yes_is_valid_figure()
     ensures { YesIsValidFigure }
 {

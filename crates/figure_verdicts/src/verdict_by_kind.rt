@@ -5,9 +5,6 @@ ghost use Rattle.bar_check.specs.Verdicts.{IsBarVerdict};
 ghost use Rattle.pg_plane.specs.declared.figures.BarFigure.{BarFigure as Bars};
 ghost use Rattle.pg_plane.specs.declared.figures.RectFigure.{RectFigure as Rects};
 ghost use Rattle.rect_check.specs.Verdicts.{IsRectVerdict};
-ghost use Rattle.graph6_text.specs.Graphs.{EdgeGraph};
-ghost use Rattle.kuratowski.specs.declared.witness.Witness.{Witness as AWitness};
-ghost use Rattle.kuratowski.specs.Verdicts.{IsVerdict};
 ghost use Rattle.line_inputs.specs.Given.{IsGiven, IsGivenGrid, IsGivenBars, IsGivenRects};
 ghost use Rattle.std.specs.Bool.{OnTrue};
 ghost use Rattle.figure_text.specs.declared.figure.GridJob.TheVariants.{Convex as ConvexJob};
@@ -37,8 +34,7 @@ fn signed(n: usize) -> i32
     n as i32
 }
 
-// Returns the width of the grid of a drawing by `job` of a map with `n` vertices and `f` faces. Only convex drawings
-// depend on the faces.
+// Returns the grid width of a drawing by `job` with `n` vertices and `f` faces. Only convex drawings depend on `f`.
 fn width(job: GridJob, n: usize, f: u32) -> i32
     requires few_vertices { n < 4096 }
     requires few_faces { f ≤ 16777216 }
@@ -209,22 +205,14 @@ fn rects_verdict(
     }
 }
 
-// Converts the verdict of the check of a witness.
-fn of_witness(verdict: WitnessVerdict) -> FigureVerdict
-    ensures { (graph : EdgeGraph) (witness : AWitness) → IsVerdict graph witness.kind witness.branch witness.paths verdict
-        → IsWitnessVerdict graph witness result }
-{
-    match verdict {
-        WitnessVerdict::Yes => FigureVerdict::Yes,
-        _ => FigureVerdict::Witness(verdict),
-    }
-}
-
 // Returns the verdict on `witness` for `graph`.
 fn witness_verdict(graph: &Graph, witness: &Witness) -> FigureVerdict
     ensures { IsWitnessVerdict graph.now witness.now result }
 {
-    of_witness(check_witness(graph, witness))
+    match check_witness(graph, witness) {
+        WitnessVerdict::Yes => FigureVerdict::Yes,
+        verdict => FigureVerdict::Witness(verdict),
+    }
 }
 
 /// Returns the verdict on `figure`, whose numbers are within the ranges of its text: the first fault of its lists where

@@ -91,8 +91,7 @@ fn bends(alloc: Global, map: &HalfMap, points: &Points) -> Result<ConvexVerdict,
     }
 }
 
-// Returns the first fault of a straight-line drawing in the grid from (0, 0) to `corner`, or else the verdict on its
-// bends.
+// Returns the first fault of a straight-line drawing in the grid from (0, 0) to `corner`, else the verdict on bends.
 fn judged_convex(
     given: &MapArrays<'_>,
     x: &[i32],

@@ -19,18 +19,12 @@ pub struct EdgeEnds {
     pub b: u16,
 }
 
-// Says whether the edge `e` comes before `f`: by the lesser end, and then by the greater.
-fn is_before(e: EdgeEnds, f: EdgeEnds) -> bool
-    ensures { IsTrue result ↔ ComesBefore (edge_at e) (edge_at f) }
-{
-    e.a < f.a || e.a == f.a && e.b < f.b
-}
-
-// Says whether the edge `e` joins two of `n` vertices, the lesser first, and comes after the edge `last`.
+// Says whether the edge `e` joins two of `n` vertices, the lesser first, and comes after the edge `last`: by the lesser
+// end, and then by the greater.
 fn is_next(n: u16, last: EdgeEnds, e: EdgeEnds) -> bool
     ensures { IsTrue result ↔ (IsEdge n e × ComesBefore (edge_at last) (edge_at e)) }
 {
-    e.a < e.b && e.b < n && is_before(last, e)
+    e.a < e.b && e.b < n && (last.a < e.a || last.a == e.a && last.b < e.b)
 }
 
 // Says whether `edges` join vertices below `n`, in order and each once.
@@ -47,17 +41,6 @@ fn are_edges(n: u16, edges: &[EdgeEnds]) -> bool
     true
 }
 
-// Converts an edge of an array to one of a graph.
-fn stored(e: EdgeEnds) -> Ends
-    requires { e.a < e.b }
-    ensures { edge_of result ≡ edge_at e }
-{
-    Ends {
-        a: VertexId(e.a),
-        b: VertexId(e.b),
-    }
-}
-
 // Converts edges of an array to those of a graph. It fails only when out of memory.
 fn stored_edges(alloc: Global, edges: &[EdgeEnds]) -> Result<Vec<Ends>, AllocError>
     requires { All (λ e. e.a < e.b) edges.now }
@@ -65,7 +48,10 @@ fn stored_edges(alloc: Global, edges: &[EdgeEnds]) -> Result<Vec<Ends>, AllocErr
 {
     let mut list = Vec::with_capacity(alloc, edges.len())?;
     for edge in edges {
-        list.push(stored(*edge))?;
+        list.push(Ends {
+            a: VertexId(edge.a),
+            b: VertexId(edge.b),
+        })?;
     }
     Ok(list)
 }
@@ -85,8 +71,7 @@ pub(crate) struct GraphArrays<'a> {
     pub(crate) edges: &'a [EdgeEnds],
 }
 
-/// Makes the graph of `given`, or returns `BadArgument` where the arrays describe none. It also fails when out of
-/// memory.
+/// Returns the graph of `given`, or `BadArgument` where the arrays describe none. It also fails when out of memory.
 pub(crate) fn graph_of(given: &GraphArrays<'_>) -> Result<Graph, Failure>
     ensures graph { IfOk result (λ graph. graph ≡ graph_in given.now.n given.now.edges.now) }
     ensures given { IfOk result (λ graph. IsGraph (graph_in given.now.n given.now.edges.now)) }

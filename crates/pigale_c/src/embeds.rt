@@ -13,8 +13,7 @@ use map_lists::VertexId;
 use refusals::Refusal;
 use std::alloc::{AllocError, Global};
 
-// Returns the map and drawing of the graph `given`, or its witness, where `x` and `y` have room for all vertices.
-// Else returns why not.
+// Returns the map and drawing of the graph `given`, or its witness, if `x` and `y` have the length `n`; else why not.
 fn figure_of(given: &GraphArrays<'_>, x: &[i32], y: &[i32]) -> Result<EmbedFigure, Failure>
     ensures given { IfOk result (λ figure. IsGivenGraph given.now.n given.now.edges.now x.now y.now) }
     ensures enough { IfOk result (λ figure. 3 ≤ given.now.n) }

@@ -39,8 +39,7 @@ fn is_given_map(ends: &[usize], neighbours: &[u16]) -> bool
     !ends.is_empty() && ends.len() < 4096 && are_cuts(ends, neighbours.len())
 }
 
-/// Copies the rotation lists that two arrays describe. It fails with `BadArgument` where they describe none, and when
-/// out of memory.
+/// Copies the rotation lists of two arrays. Fails with `BadArgument` where they describe none, and when out of memory.
 pub(crate) fn lists_of(
     alloc: Global,
     ends: &[usize],

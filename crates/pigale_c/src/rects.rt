@@ -59,8 +59,7 @@ fn judged(given: &MapArrays<'_>, rects: &RectArrays<'_>) -> Result<Outcome, Fail
     Ok(Outcome::Rects(verdict))
 }
 
-/// Judges a rectangular dual of a map. Returns the status of the verdict, and writes the vertices that it names to
-/// `found`.
+/// Judges a rectangular dual of a map. Returns the verdict's status, and writes the vertices that it names to `found`.
 #[unsafe(no_mangle)]
 pub extern "C" fn pigale_check_rects(
     alloc: Global,

@@ -26,8 +26,7 @@ fn close_word(
     }
 }
 
-/// Returns the words of a text that spaces separate, or no words where one is not UTF-8. It fails only when out of
-/// memory.
+/// Returns the words of a text that spaces separate, or no words where one is not UTF-8. Fails only when out of memory.
 pub(crate) fn words_of(alloc: Global, text: &[u8]) -> Result<Vec<String>, AllocError>
     ensures { IfOk result (λ words. GivesWords text.now (map string_bytes words.items)) }
 {

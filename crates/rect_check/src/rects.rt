@@ -1,7 +1,7 @@
 //! The rectangles of a figure, one for each vertex, and the first one that is empty or out of range.
 ghost use Rattle.std.specs.Prelude.{◌≡◌, ◌<◌, ◌↔◌, IsTrue, MatchOption};
 ghost use Rattle.vertex_rounds.specs.Least.{IsLeast};
-ghost use Rattle.rect_check.specs.Duals.{number_at, left_of, right_of, low_of, high_of, IsSpan, IsRect};
+ghost use Rattle.rect_check.specs.Duals.{number_at, IsSpan, IsRect};
 ghost use Rattle.rect_check.specs.Faults.{HasBadRect};
 ghost use Rattle.rect_check.specs.Verdicts.{AreRects};
 
@@ -30,32 +30,20 @@ pub(crate) fn number(list: &Ints, v: VertexId) -> i32
     number_in(list, v.0 as usize)
 }
 
-// Says whether the interval from `p` to `q` is not empty, and lies within 0 to n - 2.
-fn is_span(n: u16, p: i32, q: i32) -> bool
-    ensures { IsTrue result ↔ IsSpan n p q }
+// Says whether the interval of `v`, from its number in `first` to that in `last`, is nonempty and lies in 0 to n - 2.
+fn is_span(n: u16, first: &Ints, last: &Ints, v: VertexId) -> bool
+    ensures { IsTrue result ↔ IsSpan n (number_at first.now v.0) (number_at last.now v.0) }
 {
+    let p = number(first, v);
+    let q = number(last, v);
     0 <= p && p < q && q <= i32::from(n) - 2
-}
-
-// Says whether the rectangle of `v` has a positive width, within 0 to n - 2.
-fn is_wide(n: u16, fig: &RectFigure, v: VertexId) -> bool
-    ensures { IsTrue result ↔ IsSpan n (left_of fig.now v.0) (right_of fig.now v.0) }
-{
-    is_span(n, number(&fig.x1, v), number(&fig.x2, v))
-}
-
-// Says whether the rectangle of `v` has a positive height, within 0 to n - 2.
-fn is_tall(n: u16, fig: &RectFigure, v: VertexId) -> bool
-    ensures { IsTrue result ↔ IsSpan n (low_of fig.now v.0) (high_of fig.now v.0) }
-{
-    is_span(n, number(&fig.y1, v), number(&fig.y2, v))
 }
 
 // Says whether the rectangle of `v` is not empty, and lies within n - 2 by n - 2.
 fn is_rect(n: u16, fig: &RectFigure, v: VertexId) -> bool
     ensures { IsTrue result ↔ IsRect n fig.now v.0 }
 {
-    is_wide(n, fig, v) && is_tall(n, fig, v)
+    is_span(n, &fig.x1, &fig.x2, v) && is_span(n, &fig.y1, &fig.y2, v)
 }
 
 // Returns the least vertex whose rectangle is empty or not within n - 2 by n - 2.

@@ -31,32 +31,19 @@ pub(crate) fn greatest_from(least: i32, list: &Ints) -> i32
     most
 }
 
-// Returns the left end of the bar of vertex `v` in the picture of a drawing of this `height`, a little left of the
-// bar.
-fn bar_start(bars: &BarFigure, height: i32, v: usize) -> Spot
+// Returns both ends of vertex `v`'s bar in the picture of a drawing of this `height`, left first, a bit beyond the bar.
+fn bar_ends(bars: &BarFigure, height: i32, v: usize) -> (Spot, Spot)
     requires y { v < length bars.now.y }
-    requires x { v < length bars.now.x1 }
-    ensures x { result.x ≡ far_right (integer_at bars.now.x1 v) -ℤ pos 3 }
-    ensures y { result.y ≡ far_down height (integer_at bars.now.y v) }
+    requires x1 { v < length bars.now.x1 }
+    requires x2 { v < length bars.now.x2 }
+    ensures x1 { result.0.x ≡ far_right (integer_at bars.now.x1 v) -ℤ pos 3 }
+    ensures x2 { result.1.x ≡ far_right (integer_at bars.now.x2 v) +ℤ pos 3 }
+    ensures y { (result.0.y ≡ far_down height (integer_at bars.now.y v)) × (result.1.y ≡ far_down height (integer_at bars.now.y v)) }
 {
-    Spot {
-        x: across(integer(&bars.x1, v)) - 3,
-        y: down(height, integer(&bars.y, v)),
-    }
-}
-
-// Returns the right end of the bar of vertex `v` in the picture of a drawing of this `height`, a little right of the
-// bar.
-fn bar_end(bars: &BarFigure, height: i32, v: usize) -> Spot
-    requires y { v < length bars.now.y }
-    requires x { v < length bars.now.x2 }
-    ensures x { result.x ≡ far_right (integer_at bars.now.x2 v) +ℤ pos 3 }
-    ensures y { result.y ≡ far_down height (integer_at bars.now.y v) }
-{
-    Spot {
-        x: across(integer(&bars.x2, v)) + 3,
-        y: down(height, integer(&bars.y, v)),
-    }
+    let y = down(height, integer(&bars.y, v));
+    let x1 = across(integer(&bars.x1, v)) - 3;
+    let x2 = across(integer(&bars.x2, v)) + 3;
+    (Spot { x: x1, y }, Spot { x: x2, y })
 }
 
 // Returns the end of edge `i` at the bar of vertex `v`, in the picture of a drawing of this `height`.
@@ -90,8 +77,7 @@ fn push_bars(
     ensures { OnOk result (out.new.items ≡ out.old.items ++ bar_marks bars.now height (length lists.now)) }
 {
     for v in 0..lists.len() {
-        let from = bar_start(bars, height, v);
-        let to = bar_end(bars, height, v);
+        let (from, to) = bar_ends(bars, height, v);
         push_segment(out, from, to, thick())?;
     }
     Ok(())
