@@ -1,5 +1,4 @@
-//! The public calls that complete a map to a triangulation: its components are joined, then faces are cut into
-//! triangles.
+//! The public calls that complete a map to a triangulation: components are joined, then faces cut into triangles.
 ghost use Rattle.std.specs.Prelude.{◌≡◌, ◌≤◌, ℕ, Some, IfOk, IfErr, OnOk, OnErr};
 ghost use Rattle.map_theory.specs.Maps.{IsPlane, vertex_count};
 ghost use Rattle.plane_laws.specs.Triangulations.{IsTriangulation};

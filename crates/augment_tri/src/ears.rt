@@ -89,8 +89,7 @@ fn ear_near(map: &HalfMap, d: DartId) -> DartId
     }
 }
 
-// Cuts off the ear that begins at dart `d`, from a to b and on to c, by an edge added to `map`. Returns the new dart
-// from a to c.
+// Adds to `map` an edge that cuts off the ear a, b, c that begins at dart `d`. Returns the new dart from a to c.
 fn cut_ear(map: &mut HalfMap, d: DartId) -> DartId
     requires spare { 1 ≤ map.old.spare }
     requires live { IsLive map.old d.0 }

@@ -8,8 +8,7 @@ ghost use Rattle.augment_tri.specs.Growing.{IsCornerOf, IsPutIn, IsRoomy, IsGrow
 use conn_parts::Parts;
 use half_edges::{Corner, HalfMap, VertexId};
 
-// Returns a corner of `v` at which an edge may be added: the one after its first dart, or the only one where it has no
-// dart.
+// Returns a corner of `v` at which an edge may be added: that after its first dart, or the only one where it has none.
 fn corner_of(map: &HalfMap, v: VertexId) -> Corner
     requires { v.0 < vertex_count map.now.lists }
     ensures { IsCornerOf map.now result v.0 }

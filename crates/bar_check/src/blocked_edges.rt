@@ -96,8 +96,7 @@ impl BarDrawing<'_> {
         None
     }
 
-    // Returns the first edge with a bar in its way, and the least vertex of such a bar. Edges marked in `clear` have
-    // none.
+    // Returns the first edge with a bar in its way, and the least vertex of such a bar. `clear` marks edges with none.
     pub(crate) fn first_through(&self, clear: &[bool]) -> Option<(Ends, VertexId)>
         requires clear { AreClear self.now.map.now self.now.fig.now clear.now }
         ensures { MatchOption result (NoneThrough self.now.map.now.lists self.now.fig.now)

@@ -1,5 +1,4 @@
-//! The public call `check_bars`, which finds the first fault of a visibility drawing, and its stages with tables of
-//! fixed size.
+//! The public call `check_bars`, which finds a visibility drawing's first fault, and its stages with fixed-size tables.
 ghost use Rattle.std.specs.Prelude.{◌≡◌, ◌<◌, ◌≤◌, length, MatchOption};
 ghost use Rattle.map_theory.specs.Maps.{edge_count};
 ghost use Rattle.bar_check.specs.Bars.{HasBars, IsValidBars};
@@ -93,9 +92,8 @@ impl OrderedBars<'_> {
 }
 
 impl Bars<'_> {
-    // Returns the first fault of a column, of an edge with a bar in its way or of a list, for `n` vertices. The tables
-    // have room for `MOST` vertices, `COLUMNS` columns, `BLOCKS` blocks of 16, `SUPERBLOCKS` superblocks of 256 and
-    // `DARTS` darts.
+    // Returns the first fault of a column, of an edge through a bar or of a list, for `n` vertices. Its tables hold
+    // `MOST` vertices, `COLUMNS` columns, `BLOCKS` blocks of 16, `SUPERBLOCKS` superblocks of 256 and `DARTS` darts.
     fn first_fault_of<
         const MOST: usize,
         const COLUMNS: usize,
@@ -123,8 +121,7 @@ impl Bars<'_> {
         }
     }
 
-    // Returns the first fault of a column, of an edge with a bar in its way or of a list. The tables are sized for 63,
-    // 255 or 4095 vertices.
+    // Returns the first fault of a column, of an edge through a bar or of a list. Tables hold 63, 255 or 4095 vertices.
     fn first_fault(&self) -> BarVerdict
         ensures { IsBarVerdict self.now.map.now.lists self.now.fig.now self.now.width result }
     {

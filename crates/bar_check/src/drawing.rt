@@ -1,5 +1,4 @@
-//! The types that the check passes on: the bars of a figure that passed the first tests, and with them the columns of
-//! its edges.
+//! The types the check passes on: the bars of a figure that passed the first tests, and with them its edges' columns.
 ghost use Rattle.std.specs.Prelude.{◌≡◌, ◌*◌, ◌<◌, ◌≤◌, length};
 ghost use Rattle.bar_check.specs.Bars.{edges_before};
 ghost use Rattle.bar_check.specs.Verdicts.{HasShape, HasHeights, AreBars, NoBadColumn};
@@ -8,8 +7,7 @@ ghost use Rattle.bar_check.specs.Tables.{AreClear, AreColumns, StandsAt};
 use half_edges::{HalfMap, VertexId};
 use pg_plane::BarFigure;
 
-/// The bars of the vertices of a map: their heights are 0 to n - 1, each once, and all go from left to right within the
-/// width.
+/// The bars of a map's vertices: their heights are 0 to n - 1, each once, and all go left to right within the width.
 #[derive(Clone, Copy)]
 pub(crate) struct Bars<'a> {
     pub(crate) map: &'a HalfMap,
@@ -20,8 +18,7 @@ pub(crate) struct Bars<'a> {
     ghost bars: { AreBars map.now.lists fig.now width },
 }
 
-/// Such bars with the columns of the edges, at the ids of their darts as far as the table reaches: each is within the
-/// bars of both ends.
+/// Such bars with the edges' columns, by dart id as far as the table reaches: each is within the bars of both ends.
 #[derive(Clone, Copy)]
 pub(crate) struct BarDrawing<'a> {
     pub(crate) map: &'a HalfMap,

@@ -59,8 +59,7 @@ fn edges_before(map: &HalfMap, v: VertexId) -> u32
 }
 
 impl BarDrawing<'_> {
-    // Returns the column of the edge from `a` to `b`, its greater end, where `before` edges have their lesser end below
-    // `a`.
+    // Returns the column of the edge from `a` to `b`, its greater end; `before` edges have their lesser end below `a`.
     pub(crate) fn column_from(&self, before: u32, a: VertexId, b: VertexId) -> i32
         requires vertex { a.0 < length self.now.map.now.lists }
         requires before { before ≡ the_edges_before self.now.map.now.lists a.0 }

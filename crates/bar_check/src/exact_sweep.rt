@@ -115,8 +115,7 @@ impl Bar<'_> {
         }
     }
 
-    // Marks in `clear` the darts of this vertex whose edges lead down with no bar in their way, by the highest bars
-    // `tops`.
+    // Marks in `clear` this vertex's darts whose edges lead down with no bar in their way, by the highest bars `tops`.
     fn mark_list(&self, tops: &[u16], clear: &mut [bool])
         requires tops { HasTops (length self.now.drawing.map.now.lists) self.now.drawing.fig.now self.now.h tops.now }
         requires clear { AreClear self.now.drawing.map.now self.now.drawing.fig.now clear.old }

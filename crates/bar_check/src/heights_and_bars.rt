@@ -34,8 +34,7 @@ fn mark(seen: &mut [bool], z: i32)
     seen[z as usize] = true;
 }
 
-// Returns the least vertex whose height in `fig` is out of range or that of a lesser vertex. `seen` has one unset mark
-// for each height.
+// Returns the least vertex whose height in `fig` is out of range or a lesser one's. `seen` has an unset mark for each.
 fn first_bad_height_in(map: &HalfMap, fig: &BarFigure, seen: &mut [bool]) -> Option<VertexId>
     requires size { length seen.old ≡ length map.now.lists }
     requires none { (k : ℕ) → slice_index_or seen.old k false ≡ false }

@@ -29,8 +29,7 @@ pub fn overlap_is_never()
     ensures { OverlapIsNever }
 {}
 
-/// States the law that the number of an edge, by which its column is found, is its index among the edges of a simple
-/// map.
+/// States the law that an edge's number, by which its column is found, is its index among the edges of a simple map.
 pub fn edge_numbers()
     ensures { EdgeNumbers }
 {}

@@ -1,5 +1,4 @@
-//! Rotations: whether the edges of each vertex stand in the order of its list, upwards by rising column and then
-//! downwards.
+//! Rotations: whether each vertex's edges stand in the order of its list, upwards by rising column and then downwards.
 ghost use Rattle.std.specs.Prelude.{◌≡◌, ◌<◌, ◌↔◌, ◌||◌, ℕ, IsTrue, Some, MatchOption};
 ghost use Rattle.map_lists.specs.Lists.{Lists};
 ghost use Rattle.half_edges.specs.Map.{IsLive};
@@ -63,8 +62,7 @@ impl BarDrawing<'_> {
         !is_earlier(self.fig, corner, x, z)
     }
 
-    // Returns the least vertex whose list is not in the order of its edges: it has at least two entries, and does not go
-    // once round.
+    // Returns the least vertex whose list is not in edge order: it has at least two entries and does not go once round.
     pub(crate) fn first_turned(&self) -> Option<VertexId>
         ensures { MatchOption result (KeepsTurns self.now.map.now.lists self.now.fig.now)
             (λ v. IsLeast (IsTurned self.now.map.now.lists self.now.fig.now) v.0) }

@@ -1,8 +1,7 @@
-//! The quick sweep over the bars from below, which shows for valid drawings that no bar is in the way of an edge.
-//! It keeps the peak of each column: how high its edges reach that have begun. It keeps the peak of each column: how
-//! high its edges reach that have begun. A bar is in the way of no edge where no peak of a column that it holds is
-//! above it. The peaks of blocks of 16 columns and of superblocks of 256 are kept too, so that a long bar takes few
-//! steps.
+//! The quick sweep over the bars from below, which shows for valid drawings that no bar is in the way of an edge. It
+//! keeps the peak of each column: how high its edges reach that have begun. A bar is in the way of no edge where no
+//! peak of a column that it holds is above it. The peaks of blocks of 16 columns and of superblocks of 256 are kept
+//! too, so that a long bar takes few steps.
 ghost use Rattle.std.specs.Prelude.{◌≡◌, ◌+◌, ◌/◌, ◌<◌, ◌≤◌, ◌≤ℤ◌, ◌<ℤ◌, ◌↔◌, ℕ, length, pos, Some, IsTrue};
 ghost use Rattle.std.specs.Bool.{OnTrue};
 ghost use Rattle.map_theory.specs.Maps.{list_of, place_of};
@@ -58,8 +57,7 @@ fn low_until(table: &[i32], h: u16, k: usize, end: usize) -> usize
     at
 }
 
-// The peaks of columns, of blocks of 16 columns and of superblocks of 256: the greatest heights that edges begun there
-// reach.
+// The peaks of columns, blocks of 16 columns and superblocks of 256: the greatest heights that edges begun there reach.
 #[derive(Clone, Copy)]
 struct Peaks<'a> {
     columns: &'a [i32],
@@ -120,8 +118,7 @@ impl Bar<'_> {
         raise(peaks, k, y) && raise(blocks, k / 16, y) && raise(superblocks, k / 256, y)
     }
 
-    // Raises the peaks at the columns of the edges that lead up from this vertex. Returns false where a table has no
-    // entry for one.
+    // Raises the peaks at the columns of this vertex's upward edges. Returns false where a table has no entry for one.
     fn begin_edges(&self, peaks: &mut [i32], blocks: &mut [i32], superblocks: &mut [i32]) -> bool
         requires reach { HasReach self.now.drawing.map.now.lists self.now.drawing.fig.now (IsBegun self.now.drawing.map.now.lists self.now.drawing.fig.now self.now.h self.now.v.0 0) peaks.old blocks.old superblocks.old }
         ensures { OnTrue result (HasReach self.now.drawing.map.now.lists self.now.drawing.fig.now (IsBegun self.now.drawing.map.now.lists self.now.drawing.fig.now self.now.h self.now.v.0 (length (list_of self.now.drawing.map.now.lists self.now.v.0))) peaks.new blocks.new superblocks.new) }

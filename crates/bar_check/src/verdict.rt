@@ -19,8 +19,7 @@ pub enum BarVerdict {
     /// The two edges, the earlier first, have one column and a height strictly inside both. A check never
     /// answers so, since one of them would go through an end of the other.
     Overlap(Ends, Ends),
-    /// The vertex's list is not its upward edges by rising column and then its downward ones by falling
-    /// column, cyclically.
+    /// The vertex's list is not cyclically its upward edges by rising column, then its downward ones by falling column.
     Turned(VertexId),
     /// There is no fault.
     Yes,

@@ -1,5 +1,4 @@
-//! Marks of the outer cycle while vertices are peeled off a map, and for each vertex the number of its marked
-//! neighbours.
+//! Marks of the outer cycle while vertices are peeled off a map, and each vertex's number of marked neighbours.
 //!
 //! `marked` says of each vertex whether it is on that cycle, `gone` whether it was taken off, and `near` counts its
 //! neighbours that are marked. What is marked and comes to have two marked neighbours is put on `stack`.
@@ -47,8 +46,8 @@ pub struct Three<'a> {
 }
 
 impl Three<'_> {
-    /// Marks the three vertices in `marks`, where none is marked, and counts in `counts` for each vertex how many of its
-    /// neighbours are marked then.
+    /// Marks the three vertices in `marks`, where none is marked, and counts in `counts` for each vertex how many of
+    /// its neighbours are marked then.
     #[inline(always)]
     pub fn mark_all(&self, marks: &mut [bool], counts: &mut [u16])
         requires simple { IsSimpleMap self.now.lists.now }
@@ -124,8 +123,9 @@ impl AtVertex<'_> {
         }
     }
 
-    /// Takes the vertex off the outer cycle, of which `marked` has the marks and `near` counts each vertex's neighbours:
-    /// its own neighbours that are left are on the cycle now. What may be taken off next for that goes on `stack`.
+    /// Takes the vertex off the outer cycle, of which `marked` has the marks and `near` counts each vertex's
+    /// neighbours: its own neighbours that are left are on the cycle now. What may be taken off next for that goes on
+    /// `stack`.
     #[inline(always)]
     pub fn leave_cycle(
         &self,

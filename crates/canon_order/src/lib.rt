@@ -1,5 +1,4 @@
-//! Canonical orders of triangulations: the vertices in an order in which each is put on the outer cycle of
-//! those before it.
+//! Canonical orders of triangulations: each vertex in turn is put on the outer cycle of those before it.
 #![tactic(auto)]
 
 ghost use Rattle.canon_order.specs.Laws.{LastCycle, RowEnds, SomeOrder};

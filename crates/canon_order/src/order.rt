@@ -1,5 +1,4 @@
-//! The public calls that find a canonical order: vertices are peeled off the outer cycle, from the last of the order to
-//! the first.
+//! The public calls that find a canonical order: they peel vertices off the outer cycle, the order's last one first.
 ghost use Rattle.std.specs.Prelude.{◌≡◌, ◌≢◌, ◌<◌, ℕ, false, [], reverse, length, All, AllPairs, Some, replicate, OnOk, IfOk, ◌≤◌, ◌∷◌, map, drop, ◌*◌};
 ghost use Rattle.map_theory.specs.Maps.{HasDart};
 ghost use Rattle.plane_laws.specs.Triangulations.{IsTriangulation};
@@ -61,8 +60,7 @@ fn peel(
     Ok(())
 }
 
-/// Returns the order of the vertices `taken`, which are given from the last one to the first. It fails only when out of
-/// memory.
+/// Returns the order of the vertices `taken`, given from the last one to the first. Fails only when out of memory.
 pub fn turned_order(alloc: Global, taken: &[u16]) -> Result<Order, AllocError>
     requires few { length taken.now < 4096 }
     requires within { All (λ v. v < length taken.now) taken.now }
@@ -97,8 +95,7 @@ impl Peeler {
         }
     }
 
-    // Resets the tables for `n` vertices with `entries` list entries: none is marked, none is taken off, and nothing is
-    // on the stack.
+    // Resets the tables for `n` vertices with `entries` list entries: none is marked or taken off, the stack is empty.
     fn clear(&mut self, n: usize, entries: usize) -> Result<(), AllocError>
         requires { n < 4096 }
         ensures marks { OnOk result (self.new.marks.items ≡ replicate (2 * n) false) }
@@ -168,8 +165,7 @@ impl Peeler {
         Ok(())
     }
 
-    /// Orders the triangulation with these lists as [`canon_order`] does, for the base from `t` to `s`, and leaves
-    /// the order in `order`.
+    /// Orders the triangulation with these lists as [`canon_order`] does, for the base from `t` to `s`, into `order`.
     #[inline(always)]
     pub fn order_lists(
         &mut self,

@@ -16,8 +16,7 @@ fn is_removable(marked: &[bool], near: &[u16], base: &Base<'_>, v: u16) -> bool
     marked[v as usize] && v != base.t && v != base.s && near[v as usize] == 2
 }
 
-// Returns a vertex that may be peeled off, after dropping from `stack` those that may not, or `base.t` where there is
-// none.
+// Drops from `stack` what may not be peeled off, and returns a vertex that may, or `base.t` where there is none.
 pub(crate) fn removable_vertex(
     marked: &[bool],
     near: &[u16],

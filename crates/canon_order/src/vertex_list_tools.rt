@@ -70,8 +70,7 @@ pub(crate) fn raise_noting(
     Ok(())
 }
 
-// Subtracts one in `counts` for each vertex of `entries`, and pushes on `stack` those that are marked and count two
-// then.
+// Subtracts one in `counts` for each vertex of `entries`, and pushes on `stack` the marked ones that count two then.
 pub(crate) fn lower_noting(
     counts: &mut [u16],
     stack: &mut Vec<u16>,

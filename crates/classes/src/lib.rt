@@ -11,8 +11,7 @@ pub fn classes_are_least()
     ensures { ClassesAreLeast }
 {}
 
-/// States the law that two numbers are in one orbit of a permutation exactly where steps to images lead from one to the
-/// other.
+/// States the law that two numbers share a permutation's orbit exactly where image steps lead from one to the other.
 pub fn orbits_are_steps()
     ensures { OrbitsAreSteps }
 {}

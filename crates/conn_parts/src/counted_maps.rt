@@ -109,9 +109,9 @@ impl CountedMaker {
     /// Returns the map of a record with these lists, which are from 1 to 4095, and leaves its components in `parts`.
     /// The map has genus zero and at least `least` vertices.
     ///
-    /// `Err` names the first condition that the lists break, of these in this order: the four faults of a map, each with
-    /// the least vertices; too few vertices; a genus above zero. Or there was not enough memory: after that the maker
-    /// serves as before. The time is linear in the entries.
+    /// `Err` names the first condition that the lists break, of these in this order: the four faults of a map, each
+    /// with the least vertices; too few vertices; a genus above zero. Or there was not enough memory: after that the
+    /// maker serves as before. The time is linear in the entries.
     #[inline(always)]
     pub fn plane_half_map(&mut self, lists: &Rotations, least: u16) -> Result<HalfMap, Unserved>
         requires some_list { 0 < length lists.now }
@@ -136,8 +136,7 @@ impl CountedMaker {
     }
 }
 
-// Refuses a simple map of these `lists` by its counts `count`: for fewer than `least` vertices, or for a genus above
-// zero.
+// Refuses a simple map of these `lists` by its counts `count`: for fewer than `least` vertices or a genus above zero.
 fn refuse_counted(lists: &Rotations, count: EulerCount, least: u16) -> Result<(), Unserved>
     requires simple { first_fault lists.now ≡ None }
     requires count { IsCountOf lists.now count }
@@ -157,8 +156,7 @@ fn refuse_counted(lists: &Rotations, count: EulerCount, least: u16) -> Result<()
 }
 
 /// Returns the counts of a record that is a map of genus zero with at least `least` vertices; `lists` are from 1 to
-/// 4095. The `counter` may have counted other records before, and no map is made of the lists. The `counter` may have
-/// counted other records before, and no map is made of the lists. No map is made of the lists.
+/// 4095. The `counter` may have counted other records before, and no map is made of the lists.
 ///
 /// `Err` is as for `CountedMaker::plane_half_map`. The time is linear in the entries.
 pub fn plane_count(

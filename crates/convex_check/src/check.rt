@@ -12,10 +12,9 @@ use half_edges::{DartId, HalfMap};
 use pg_plane::{GridFigure, Points};
 use std::alloc::{AllocError, Global};
 
-/// Checks whether the drawing of `map` at `points` is convex over `base`. It returns the least three consecutive
-/// vertices of the walk of a face other than that of `base` that turn to the right. Otherwise it returns `OuterBent`,
-/// where no three vertices of the base's face are the corners of a triangle on whose sides all its vertices lie; or
-/// `Yes`.
+/// Checks whether the drawing of `map` at `points` is convex over `base`. Returns the least three consecutive vertices
+/// of the walk of a face other than that of `base` that turn to the right. Otherwise returns `OuterBent` where no three
+/// vertices of the base's face are the corners of a triangle on whose sides all its vertices lie. Else returns `Yes`.
 ///
 /// `base` is live, there is one point for each vertex, and no coordinate is beyond 2^20 in size; whether the drawing is
 /// plane is not looked at. It fails only when out of memory. The time and the memory

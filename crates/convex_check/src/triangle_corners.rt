@@ -1,7 +1,6 @@
 //! Whether points lie on the sides of a triangle whose corners are among them.
 //!
-//! The first and the last from left to right are two of the corners, and of the others that farthest from
-//! the line between them.
+//! Two corners are the first and the last from left to right; the third is that farthest from the line between them.
 
 ghost use Rattle.std.specs.Prelude.{◌≡◌, ◌⊎◌, ◌<◌, ◌↔◌, ◌<ℤ◌, ◌≤ℤ◌, pos, true, length, All, Contains, IsTrue};
 ghost use Rattle.pg_plane.specs.Geometry.{area};
@@ -138,8 +137,7 @@ fn has_third(points: &[Point], a: Point, b: Point) -> bool
     true
 }
 
-/// Says whether three of the points have an area other than 0, and each of the points is on one of the segments
-/// between these three.
+/// Says whether three of the points have an area other than 0, and each point is on a segment between two of these.
 ///
 /// No coordinate is beyond 2^20 in size. The time is linear in the points, and it takes no memory.
 pub fn has_corners(points: &[Point]) -> bool

@@ -1,6 +1,5 @@
 //! Laws of the realizer of a construction sequence with faces of any size: the directions in which one coordinate alone
-//! rises, over points by counts of faces (Felsner 2001). Each law is the contract of a function that does nothing, and
-//! speaks of all runs.
+//! rises, over points by counts of faces (Felsner 2001). Each speaks of all runs, as the contract of an empty function.
 
 ghost use Rattle.convex_counts.specs.FaceWoodsLaws.{CornersMeet, OuterSides, SomeRising, OneRising};
 

@@ -1,5 +1,4 @@
-//! The points of vertices by counts of faces over a construction sequence with faces of any size (Felsner, 2001), in
-//! linear time.
+//! Vertex points by face counts over a construction sequence with faces of any size (Felsner, 2001), in linear time.
 
 mod face_run;
 mod point_calls;

@@ -40,8 +40,7 @@ pub(crate) fn in_square(points: Points, side: u32) -> GridFigure
     }
 }
 
-/// Returns the figure that [`run_figure`] gives for `map` over `base`, by the map's `lists` and `faces`. It fails only
-/// when out of memory.
+/// Returns [`run_figure`]'s figure for `map` over `base`, by its `lists` and `faces`. Fails only when out of memory.
 pub fn figure_by_faces(
     alloc: Global,
     map: &HalfMap,
@@ -70,8 +69,7 @@ pub fn figure_by_faces(
     Ok(in_square(points, side))
 }
 
-/// Returns the figure that `convex_draw` gives for `map` over `base`, whose points are the counts of faces over a
-/// construction sequence.
+/// Returns `convex_draw`'s figure for `map` over `base`: the points are counts of faces over a construction sequence.
 ///
 /// It fails only when out of memory. The map stays as it is.
 pub fn run_figure(alloc: Global, map: &HalfMap, base: DartId) -> Result<GridFigure, AllocError>

@@ -1,5 +1,4 @@
-//! Law on closed walks in plane maps: on which side of one a face lies is known by how often chains of faces step over
-//! it.
+//! Law on closed walks in plane maps: how often chains of faces step over one tells on which side of it a face lies.
 
 ghost use Rattle.convex_laws.specs.ClosedWalksLaws.{SidesAreKnown};
 

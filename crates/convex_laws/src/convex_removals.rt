@@ -1,5 +1,4 @@
-//! Theory of removals of faces: their rows, read from the last removal to the first, are those of a construction
-//! sequence.
+//! Theory of removals of faces: their rows, read from the last to the first, are those of a construction sequence.
 //!
 //! Faces are taken off a map from its contour, by removals; each has a row: the vertices of the new contour along
 //! it, the cuts there, and the vertices that go. `specs/` says what the row of a removal is, and `proofs/` has the

@@ -1,5 +1,4 @@
-//! The steps of a construction sequence as lists of numbers: the vertices that each adds, and the interval of the
-//! contour under them.
+//! Steps of a construction sequence as lists of numbers: the vertices each adds, and the contour interval under them.
 
 mod rows;
 

@@ -3,9 +3,8 @@
 ghost use Rattle.convex_laws.specs.ConvexMaps.{SomeConvexDrawing};
 ghost use Rattle.convex_laws.specs.RunsOfMaps.{RunOfMap};
 
-/// States the law that certain connected maps of genus zero have a run from any of their darts. Two faces have at most
-/// a vertex or an edge in common, and each vertex has three neighbours or more. So the counts of faces over that run
-/// draw the map.
+/// States the law that certain connected maps of genus zero have a run from any dart. In them two faces share at most a
+/// vertex or an edge, and each vertex has three neighbours or more. So the counts of faces over that run draw the map.
 pub fn run_of_map()
     ensures { RunOfMap }
 {}

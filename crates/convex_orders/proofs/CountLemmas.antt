@@ -1,4 +1,4 @@
--- ContourCounts along lists, one vertex or edge more at a time, and after a part went and another came.
+-- Counts along lists, one vertex or edge more at a time, and after a part went and another came.
 use Rattle.std.proofs.Common.{◌≡◌, ℕ, suc, ◌+◌, ◌-◌, ◌<◌, ◌≤◌, cond, eqb, List, length, get_or, slice_index, take, set, get_or-set_same, get_or-set_other, count_by, All, refl, sym, ap, ◌∙◌, subst, inl, inr, arith, eq-eqb, ne_eqb}
 use Rattle.std.specs.Prelude.{slice_range, ◌++◌}
 use Rattle.std.proofs.Math.Seq.{take-append_seam}

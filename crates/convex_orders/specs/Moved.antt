@@ -1,4 +1,4 @@
--- ContourCounts as parts of a contour come and go.
+-- Counts as parts of a contour come and go.
 use Rattle.std.specs.Prelude.{ℕ, ◌<◌, ◌≡◌, List, length, slice_index}
 use Rattle.map_lists.specs.Lists.{Lists}
 use Rattle.convex_orders.specs.declared.contour_counts.ContourCounts.{ContourCounts}

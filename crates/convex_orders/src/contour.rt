@@ -1,7 +1,7 @@
 //! The contour as a list of vertices with a current position, kept as two stacks.
 //!
-//! A contour is a list of vertices. What stands before a place of it and what stands behind that are two stacks, so that
-//! a part at the place goes, and another comes, in as many steps as the parts have vertices.
+//! A contour is a list of vertices. What stands before a place of it and what stands behind that are two stacks, so
+//! that a part at the place goes, and another comes, in as many steps as the parts have vertices.
 ghost use Rattle.std.specs.Prelude.{◌≡◌, ◌+◌, ◌<◌, ◌≤◌, suc, [], length, slice_index, IfOk};
 ghost use Rattle.convex_orders.specs.Contours.{vertices_of};
 
@@ -53,7 +53,8 @@ impl Contour {
         }
     }
 
-    /// Moves the current position back by one vertex, before which there has to be one. It fails only when out of memory.
+    /// Moves the current position back by one vertex, before which there has to be one. It fails only when out of
+    /// memory.
     pub(crate) fn step_back(&mut self) -> Result<(), AllocError>
         requires { 0 < length self.old.left.items }
         ensures same { IfOk result (λ _. vertices_of self.new ≡ vertices_of self.old) }

@@ -13,8 +13,7 @@ use crate::slice_tools::{part, refill};
 use map_lists::ItemLists;
 use std::alloc::{AllocError, Global};
 
-/// For each face number how often it occurs round the vertices of the contour, and how many edges of the contour it
-/// has.
+/// For each face number how often it occurs round the contour's vertices, and how many edges of the contour it has.
 #[derive(Drop)]
 pub(crate) struct ContourCounts {
     pub(crate) places: Vec<u16>,
@@ -102,8 +101,7 @@ impl ContourCounts {
         move_edges(&mut self.edges, way, inner, part(ws, first, last + 1));
     }
 
-    /// ContourCounts the whole contour `ws`, where there are no counts yet. `inner` has for each vertex the face inside of its
-    /// edge to the next.
+    /// Counts the whole contour `ws`, with no counts yet. `inner` has by vertex the face inside its edge to the next.
     pub(crate) fn count_all(&mut self, tables: &Tables, inner: &[u32], ws: &[u16])
         requires size { HaveSize self.old tables.now.faces.count }
         requires inner { AreInner tables.now.lists tables.now.faces.own ws.now inner.now }

@@ -19,8 +19,7 @@ pub(crate) struct Rims {
     pub(crate) outer: Vec<u32>,
 }
 
-// Returns the first index from `from` on at which the face of `own` has no mark and that of `other` has one, if there
-// is one.
+// Returns the first index from `from` on at which the face of `own` is unmarked and that of `other` marked, if any.
 fn rim_from(own: &[u32], other: &[u32], marks: &[bool], from: usize) -> Option<usize>
     requires rows { AreRowsBelow own.now other.now (length marks.now) }
     ensures { MatchOption result ((k : ℕ) → from ≤ k → ¬ IsRimAt own.now other.now marks.now k) (λ k. IsRimAt own.now other.now marks.now k) }
@@ -33,8 +32,7 @@ fn rim_from(own: &[u32], other: &[u32], marks: &[bool], from: usize) -> Option<u
     None
 }
 
-// Returns an index at which the face of `own` has no mark and that of `other` has one, looked for from `from` on first;
-// or 0.
+// Returns an index, sought first from `from` on, where the face of `own` is unmarked and that of `other` marked; or 0.
 fn rim_near(own: &[u32], other: &[u32], marks: &[bool], from: usize) -> usize
     requires { HasRim own.now other.now marks.now }
     ensures { IsRimAt own.now other.now marks.now result }
@@ -69,8 +67,7 @@ impl Rims {
     }
 
     // Finds the contour edge that leaves vertex `x`, notes the faces on its two sides, and returns its other end. The
-    // search begins where that edge was last seen in the list: at a hub it goes on in one direction. Returns the vertex
-    // to which it leads.
+    // search begins where that edge was last seen in the list: at a hub it goes on in one direction.
     fn see(&mut self, map: &Marked<'_>, x: u16) -> u16
         requires size { AreRims self.old (length map.now.tables.now.lists) }
         requires some { (y : ℕ) × IsRimIn map.now.tables.now.lists map.now.tables.now.faces.own map.now.tables.now.faces.other map.now.marks.now x y }
@@ -87,8 +84,7 @@ impl Rims {
         map.tables.lists.list(v)[k]
     }
 
-    /// Appends to `left` the vertices along the contour of `map`, from the last one of `left` on, up to the vertex
-    /// `stop`.
+    /// Appends to `left` the vertices along the contour of `map`, from the last one of `left` on up to vertex `stop`.
     pub(crate) fn trace(
         &mut self,
         left: &mut Vec<u16>,

@@ -71,8 +71,8 @@ impl WalkedMap<'_> {
     }
 }
 
-/// Returns the numbers of the faces of a map, by its `faces`. It fails only when out of memory. The time is linear in the
-/// darts, and so is the memory.
+/// Returns the numbers of the faces of a map, by its `faces`. It fails only when out of memory. The time is linear in
+/// the darts, and so is the memory.
 pub fn numbers_of_faces(
     alloc: Global,
     map: &HalfMap,

@@ -7,8 +7,7 @@ ghost use Rattle.convex_orders.specs.Shown.{IsBased};
 use crate::face_numbers::FaceNumbers;
 use map_lists::{ItemLists, Rotations};
 
-/// The tables that removals read: a three-connected map of genus zero by its lists and the numbers of its faces, with a
-/// dart as its base.
+/// The tables that removals read: a three-connected map of genus zero by its lists and face numbers, with a base dart.
 #[derive(Drop)]
 pub struct Tables {
     /// The lists of the map.
@@ -41,8 +40,8 @@ fn number_in(lists: &Rotations, table: &ItemLists<u32>, x: u16, y: u16) -> u32
 }
 
 impl Tables {
-    /// Returns the number of the face of the dart from `x` to `y`. It goes over the shorter one of their two lists: at a
-    /// hub the time is that of its neighbours.
+    /// Returns the number of the face of the dart from `x` to `y`. It goes over the shorter one of their two lists: at
+    /// a hub the time is that of its neighbours.
     pub(crate) fn number_of(&self, x: u16, y: u16) -> u32
         requires dart { HasDart self.now.lists x y }
         ensures { result ≡ entry self.now.lists self.now.faces.own x y }

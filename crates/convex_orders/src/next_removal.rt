@@ -10,8 +10,7 @@ use crate::contour_counts::ContourCounts;
 use crate::remaining_faces::Marked;
 use std::alloc::AllocError;
 
-// Says whether some edge of a vertex has no marked face: `own` and `other` have the face numbers on both sides of each
-// edge.
+// Says whether some edge of a vertex has no marked face; `own` and `other` number the faces on both sides of each edge.
 fn is_open(own: &[u32], other: &[u32], marks: &[bool]) -> bool
     requires rows { AreRowsBelow own.now other.now (length marks.now) }
     ensures { IsTrue result ↔ ((k : ℕ) × IsOpenAt own.now other.now marks.now k) }
@@ -83,8 +82,7 @@ impl Choice<'_> {
         Ok(false)
     }
 
-    /// Moves along `contour` to a vertex that may be removed, where there is one: back from the current position, or
-    /// else from the end.
+    /// Moves back along `contour` to a removable vertex, if there is one: from the current position, or else the end.
     pub(crate) fn find(&self, contour: &mut Contour) -> Result<(), AllocError>
         requires vertices { AreWithin (vertices_of contour.old) (length self.now.map.tables.now.lists) }
         requires removable { (j : ℕ) × IsRemovablePlace self.now.map.tables.now.faces.own self.now.map.tables.now.faces.other self.now.map.marks.now self.now.counts.now.places.items self.now.counts.now.edges.items (vertices_of contour.old) j }

@@ -113,8 +113,7 @@ impl RowTables {
         Ok(x)
     }
 
-    // ContourCounts the vertices that were traced after index `first` of the contour, and appends that interval with its cuts
-    // as a row.
+    // Counts the vertices traced after index `first` of the contour, and appends that interval as a row with its cuts.
     fn put_in(&mut self, tables: &Tables, first: usize) -> Result<(), AllocError>
         requires rims { AreRims self.old.rims (length tables.now.lists) }
         requires inner { AreInner tables.now.lists tables.now.faces.own self.old.contour.left.items self.old.rims.inner.items }
@@ -189,8 +188,7 @@ impl RowTables {
         Ok(())
     }
 
-    // Says whether `base`, the face inside of the base edge, is inside of all edges of the contour: just the last
-    // removal remains.
+    // Says whether `base`, the face inside the base edge, is inside all contour edges: just the last removal remains.
     fn is_last(&self, tables: &Tables, base: u32) -> bool
         requires kept { IsKept tables.now self.now }
         requires base { base ≡ entry tables.now.lists tables.now.faces.own tables.now.head tables.now.tail }
@@ -244,8 +242,7 @@ impl RowTables {
         Ok(())
     }
 
-    /// Makes all removals: of the base's face, then of the vertex before the base with all its faces, and then one
-    /// after another.
+    /// Makes all removals: the base's face, the vertex before the base with all its faces, then one after another.
     pub(crate) fn put_all(&mut self, tables: &Tables) -> Result<(), AllocError>
         requires blank { IsBlank tables.now self.old }
         ensures { IfOk result (λ _. AreRowsOfRun tables.now.lists tables.now.tail tables.now.head self.new.rows) }

@@ -109,8 +109,7 @@ impl ContourEdges<'_> {
         last
     }
 
-    // Returns the index at which the edges without marked faces begin, from the vertex before the current position
-    // back.
+    // Returns the index where the edges without marked faces begin, from the vertex before the current position back.
     fn first_of(&self, marks: &[bool]) -> usize
         requires long { length marks.now ≡ self.now.tables.now.faces.count }
         ensures { (first end j : ℕ) → suc j ≡ length self.now.contour.now.left.items → first ≤ j → j ≤ end → IsGoneRun (number_at self.now.inner.now (vertices_of self.now.contour.now)) marks.now (length (vertices_of self.now.contour.now)) first end → result ≡ first }

@@ -9,9 +9,8 @@ pub fn some_removable()
     ensures { SomeRemovable }
 {}
 
-/// States the law that a polyhedral map whose vertices have three neighbours or more has a removal. So it is while not
-/// the whole contour is of the face inside of the base. Off go the vertices along one face, or one vertex with all its
-/// faces.
+/// States the law that a polyhedral map whose vertices have three neighbours or more has a removal. So it is until the
+/// whole contour is of the face inside of the base. Off go the vertices along a face, or a vertex with all its faces.
 pub fn some_taken_off()
     ensures { SomeTakenOff }
 {}

@@ -136,8 +136,8 @@ fn is_past(extent: Extent, r: PlacedPoint, p: PlacedPoint, q: PlacedPoint) -> bo
 }
 
 // Says whether a quick test shows that the segment from `p` to `q` crosses no segment from `r` to a point of the box
-// `extent`. It passes where `p` and `q` are on one side of the box, seen from `r`, or the box and `r` on one side of the
-// segment's line. False shows nothing.
+// `extent`. It passes where `p` and `q` are on one side of the box, seen from `r`, or the box and `r` on one side of
+// the segment's line. False shows nothing.
 pub(crate) fn misses_star(extent: Extent, r: PlacedPoint, p: PlacedPoint, q: PlacedPoint) -> bool
     ensures { OnTrue result (MissesStar extent.span r.point p.point q.point) }
 {

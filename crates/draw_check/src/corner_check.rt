@@ -1,5 +1,4 @@
-//! The check of a drawing of a triangulation by the angles between consecutive list entries, with no map made of the
-//! lists.
+//! The check of a triangulation's drawing by the angles between consecutive list entries, without a map of the lists.
 ghost use Rattle.std.specs.Prelude.{◌<◌, length};
 ghost use Rattle.std.specs.Bool.{OnTrue};
 ghost use Rattle.half_edges.specs.Map.{first_dart};

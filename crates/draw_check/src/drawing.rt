@@ -25,8 +25,7 @@ pub(crate) struct Placed<'a> {
 }
 
 impl Placed<'_> {
-    // Says whether the path from `a` over `b` to `c` turns to the left, or to the right where the face is the outer
-    // one.
+    // Says whether the path from `a` over `b` to `c` turns left, or right where the face is the outer one.
     #[inline(always)]
     pub(crate) fn turns_well(&self, is_outer: bool, a: VertexId, b: VertexId, c: VertexId) -> bool
         requires a { a.0 < length self.now.points.now }

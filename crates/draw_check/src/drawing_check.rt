@@ -68,8 +68,7 @@ impl PointDrawing<'_> {
     }
 
     // Returns the first two vertices at one point, the first vertex on an edge or the first two edges that cross, in
-    // this order. A sweep that finds the drawing plane, or plane without the edges of a few vertices, spares the search
-    // over all pairs.
+    // this order. A sweep that finds the drawing plane, or so without a few vertices' edges, spares trying all pairs.
     fn first_pair(&self) -> Option<Verdict>
         ensures { MatchOption result (NoneShareAPlace self.now.map.now.lists self.now.points.now × NoneOnEdge self.now.map.now.lists self.now.points.now × NoneCross self.now.map.now.lists self.now.points.now)
             (λ verdict. (width height : ℤ) → AllInGrid self.now.map.now.lists self.now.points.now width height → IsVerdict self.now.map.now.lists self.now.points.now width height verdict) }

@@ -71,8 +71,7 @@ impl PointDrawing<'_> {
         }
     }
 
-    // Returns the least vertex that lies on an edge of which it is no end, with the first such edge. No vertex below
-    // `from` does.
+    // Returns the least vertex on an edge of which it is no end, with the first such edge. None is below `from`.
     pub(crate) fn first_on_edge(&self, from: u16) -> Option<(VertexId, Ends)>
         requires none { BoundsAll self.now.map.now.lists self.now.points.now from }
         ensures { MatchOption result (NoneOnEdge self.now.map.now.lists self.now.points.now)

@@ -26,8 +26,7 @@ impl PointDrawing<'_> {
         self.meets(probe, a, b)
     }
 
-    // Says whether a later edge may cross that from `a` to `b`: it has an end in `loose`, or an edge of such a vertex
-    // meets it.
+    // Says whether a later edge may cross that from `a` to `b`: it ends in `loose`, or meets an edge of a vertex there.
     pub(crate) fn may_be_crossed(&self, loose: &[u16], a: VertexId, b: VertexId) -> bool
         requires plane { IsPlaneDrawing (firm_lists loose.now self.now.map.now.lists) self.now.points.now }
         requires edge { HasEdge self.now.map.now.lists a.0 b.0 }

@@ -13,8 +13,7 @@ use pg_plane::{Point, area2};
 use std::alloc::{AllocError, Global};
 
 impl PointDrawing<'_> {
-    // Adds to the entry of the face of `d` in `sums` twice the signed area of the triangle that the dart makes with (0,
-    // 0).
+    // Adds to the entry of the face of `d` in `sums` twice the signed area of the triangle that `d` makes with (0, 0).
     fn add_dart(&self, faces: &Faces, sums: &mut [i128], d: DartId)
         requires faces { AreFaces self.now.map.now faces.now }
         requires live { IsLive self.now.map.now d.0 }

@@ -89,9 +89,9 @@ impl Framed<'_> {
         is_one_of(d, self.base, second, third)
     }
 
-    // Says whether `d` reports its face as wrong: the face is drawn with the wrong orientation, and `d` leaves the least
-    // vertex of the face, so that each face is reported once. The face left of the base is to be clockwise, and each
-    // other one counterclockwise.
+    // Says whether `d` reports its face as wrong: the face is drawn with the wrong orientation, and `d` leaves the
+    // least vertex of the face, so that each face is reported once. The face left of the base is to be clockwise, and
+    // each other one counterclockwise.
     fn is_wrong(&self, d: DartId) -> bool
         requires { IsLive self.now.drawing.map.now d.0 }
         ensures { IsTrue result ↔ HoldsAt self.now.drawing.map.now (IsWrongFrom self.now.drawing.map.now self.now.drawing.points.now self.now.base.0) d.0 }

@@ -31,8 +31,7 @@ pub use outer_face::{check_outer, check_outer_connected};
 use plane_drawings::drawings::counterclockwise_is_plane;
 pub use verdict::{FaceVerdict, OuterVerdict, Verdict};
 
-/// States the law that the verdict is `Yes` exactly where all points lie in the grid, the drawing is plane and the
-/// rotations are kept.
+/// States the law that the verdict is `Yes` exactly for plane drawings that lie in the grid and keep the rotations.
 pub fn yes_is_valid()
     ensures { YesIsValid }
 {}

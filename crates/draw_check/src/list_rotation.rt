@@ -27,8 +27,7 @@ fn direction(a: PlacedPoint, b: PlacedPoint) -> Point
 }
 
 impl PointDrawing<'_> {
-    // Says whether the direction to the next list entry after dart `d` does not come strictly after that of `d`,
-    // clockwise from west.
+    // Says whether the direction to the entry after dart `d` is not strictly after that of `d`, clockwise from west.
     fn is_break(&self, d: DartId) -> bool
         requires live { IsLive self.now.map.now d.0 }
         ensures { IsTrue result ↔ HoldsAt self.now.map.now (Breaks self.now.map.now.lists self.now.points.now) d.0 }

@@ -46,8 +46,8 @@ pub fn answer(call: &str, old: &Rotations, tri: &HalfMap, out: &mut Reply) {
     }
 }
 
-/// Writes how many vertices and edges the map of lists has once it is completed by itself, if it has genus zero and three
-/// vertices.
+/// Writes how many vertices and edges the map of lists has once it is completed by itself, if it has genus zero and
+/// three vertices.
 pub fn alone(given: &SomeLists, out: &mut Reply) {
     let mut maker = CountedMaker::new(out.alloc);
     if let Ok(map) = maker.plane_half_map(&given.lists, 3) {

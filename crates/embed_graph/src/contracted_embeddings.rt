@@ -1,5 +1,4 @@
-//! The slow answer to a graph: a map by sides of edges, or a Kuratowski witness by contracted edges; always one of the
-//! two.
+//! The slow answer to a graph, which always comes: a map by edge sides, or a Kuratowski witness by contracted edges.
 
 mod by_sides;
 mod contracted_witnesses;

@@ -11,8 +11,7 @@ use map_lists::Rotations;
 use std::alloc::{AllocError, Global};
 use std::mem;
 
-// Sets the bit of the edge from `u` to `v` in `body`, where `u` is the lesser. It is not set yet; `body` has the bits
-// of `n` vertices.
+// Sets the unset bit of the edge from `u` to `v` in `body`, the bits of `n` vertices, where `u` is the lesser.
 fn set_pair(body: &mut [u8], n: u16, u: u16, v: u16)
     requires vertex { v < n }
     requires bytes { AreBytes n body.old }

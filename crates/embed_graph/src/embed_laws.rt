@@ -2,8 +2,7 @@
 
 ghost use Rattle.embed_graph.specs.Laws.{SomeEmbedFigure, DrawnExactly};
 
-/// States the law that each graph with at least three vertices has a map that is drawn, or a witness that there is
-/// none.
+/// States the law that each graph with at least three vertices has a drawn map, or a witness that there is none.
 pub fn some_embed_figure()
     ensures { SomeEmbedFigure }
 {

@@ -1,5 +1,4 @@
-//! The public call `embed`: a map of a graph or a Kuratowski witness, by the fast left-right test whose answers are
-//! checked.
+//! The public call `embed`: a map of a graph or a Kuratowski witness, by the fast left-right test with checked answers.
 ghost use Rattle.std.specs.Prelude.{◌≡◌, ◌<◌, ◌≤◌, length, IfOk, IfSome, IsTrue};
 ghost use Rattle.map_lists.specs.Lists.{Lists};
 ghost use Rattle.kuratowski.specs.Witnesses.{IsWitness};
@@ -114,13 +113,13 @@ pub(crate) fn refuted(
     }
 }
 
-/// Returns a simple map of genus zero with exactly the edges of `graph`, which has at least three vertices, or a witness
-/// that there is none. It fails only when out of memory.
+/// Returns a simple map of genus zero with exactly the edges of `graph`, which has at least three vertices, or a
+/// witness that there is none. It fails only when out of memory.
 ///
-/// The map is that of the left-right test, whose lists are checked, and whose no is right. A witness is one of the first
-/// 3n - 5 edges of the graph's line, where it has more; where the search for it finds none that is accepted, edges are
-/// contracted as long as the test refuses the graph. The test is not proved to find each map: where its lists are not
-/// accepted, the answer is that of `map_of_graph`. No graph is known for which either comes.
+/// The map is that of the left-right test, whose lists are checked, and whose no is right. A witness is one of the
+/// first 3n - 5 edges of the graph's line, where it has more; where the search for it finds none that is accepted,
+/// edges are contracted as long as the test refuses the graph. The test is not proved to find each map: where its lists
+/// are not accepted, the answer is that of `map_of_graph`. No graph is known for which either comes.
 pub fn embed(alloc: Global, graph: &Graph) -> Result<Embedding, AllocError>
     requires { 3 ≤ graph.now.n }
     ensures { IfOk result (IsEmbedding graph.now) }

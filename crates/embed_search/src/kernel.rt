@@ -69,8 +69,7 @@ impl Kernel {
         if self.degree.get(vertex) == 3 { 1 } else { 0 }
     }
 
-    /// Returns how many edges the kernel has once `edge` is removed and paths are merged, if no two of these join the
-    /// same vertices.
+    /// Returns the number of edges without `edge` once paths are merged, if no two of these join the same vertices.
     pub fn paths_without(&self, edge: u32) -> u32 {
         let one = self.smoothed_at(self.edges.one.get(edge));
         let other = self.smoothed_at(self.edges.other.get(edge));
@@ -86,8 +85,7 @@ impl Kernel {
         self.keep_marked(links);
     }
 
-    /// Makes the edges of a graph with a mark the kernel's edges, and takes their ends from the graph's darts in
-    /// `links`.
+    /// Makes the marked edges of a graph the kernel's edges, and takes their ends from the graph's darts in `links`.
     pub fn load(&mut self, edges: &mut Edges, links: &Links, marks: &ByEdge) {
         self.edges.vertices = edges.vertices;
         self.edges.count = 0;
@@ -142,8 +140,7 @@ impl Kernel {
         }
     }
 
-    // Joins the paths of all edges that were merged into `edge`: two rings become one where their successors are
-    // exchanged.
+    // Joins the paths of all edges merged into `edge`: two rings become one where their successors are exchanged.
     fn join_merged(&mut self, edge: u32) {
         let mut other = self.merged.get(edge);
         for _ in 0..self.edges.count {
@@ -251,8 +248,7 @@ impl Kernel {
         self.merged.set(other >> 1, after);
     }
 
-    // Removes edges at vertices of degree one, merges those at vertices of degree two, and removes parallel edges,
-    // until there are none.
+    // Removes edges at vertices of degree one, merges those at degree two, and removes parallel ones, until none stay.
     fn reduce(&mut self, links: &mut Links) {
         self.waiting = 0;
         for vertex in 0..links.vertices {

@@ -1,5 +1,4 @@
-//! Fast answers for bare graphs: rotation lists by the left-right planarity test, and Kuratowski subdivisions by what its
-//! conflicts show.
+//! Fast answers for bare graphs: rotation lists by the left-right test, and Kuratowski subdivisions by its conflicts.
 //!
 //! That a graph is nonplanar is told only where what shows it passed a check. Of lists and of subdivisions nothing is
 //! promised but that they come: whoever calls checks them.

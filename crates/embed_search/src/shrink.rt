@@ -13,8 +13,7 @@ const FEW_EDGES: u32 = 12;
 // How many roots are tried beside the first.
 const MOST_ROOTS: u32 = 2;
 
-// Tests the kernel without edge `out`, or whole. If it is nonplanar, only the edges that show that stay, and true is
-// returned.
+// Tests the kernel without edge `out`, or whole. If nonplanar, keeps only the edges that show it, and returns true.
 fn fails_without(
     kernel: &mut Kernel,
     test: &mut LeftRightTest,

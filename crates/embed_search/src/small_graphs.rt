@@ -20,8 +20,7 @@ fn bit(vertex: u32) -> u32 {
     BITS[vertex as usize % 8]
 }
 
-// Says whether there is a K3,3, by the neighbours `near` as bits. Each vertex of one side has all those of the other as
-// neighbours.
+// Says whether there is a K3,3, by the neighbours `near` as bits: all of one side are neighbours of all of the other.
 fn has_k33(near: &[u32; 8]) -> bool {
     for place in 0..SIDES.len() {
         let side = SIDES[place];

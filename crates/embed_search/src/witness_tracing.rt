@@ -61,8 +61,7 @@ impl Branches {
         }
     }
 
-    // Returns for each branch index from `from` on the first dart of a path to it from the branch vertex at index
-    // `place`, or `NONE`.
+    // Returns for each branch index from `from` on the first dart of a path to it from index `place`, or `NONE`.
     fn darts_from(&self, links: &Links, place: u32, from: u32) -> [u32; 8] {
         let mut found = [NONE; 8];
         let vertex = self.vertices.get(place);
@@ -86,8 +85,7 @@ impl Branches {
         found
     }
 
-    // Takes the six branch vertices of `others` sorted by the sides of K3,3: first those that no path joins to the
-    // first one.
+    // Takes the six branch vertices of `others` sorted by sides of K3,3: first those that no path joins to the first.
     fn take_in_parts(&mut self, links: &Links, others: &Branches) {
         self.count = 6;
         let darts = others.darts_from(links, 0, 0);

@@ -7,8 +7,7 @@ pub fn map_or_witness()
     ensures { MapOrWitness }
 {}
 
-/// States the law that a simple graph has a map of genus zero with its edges exactly where it has no Kuratowski
-/// witness.
+/// States the law that a simple graph has a map of genus zero with its edges exactly if it has no Kuratowski witness.
 pub fn planar_exactly()
     ensures { PlanarExactly }
 {}

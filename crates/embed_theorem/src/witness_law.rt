@@ -2,8 +2,7 @@
 
 ghost use Rattle.embed_theorem.specs.Refuted.{WitnessesRefute};
 
-/// States the law that where a graph has a witness, no simple map of genus zero has all its edges; so none has just
-/// these.
+/// States the law that if a graph has a witness, no simple map of genus zero has all its edges; so none has just these.
 pub fn witnesses_refute()
     ensures { WitnessesRefute }
 {}

@@ -1,5 +1,4 @@
-//! Edges of three-connected graphs that can be contracted to a three-connected graph, and the test for
-//! three-connectivity.
+//! Edges of three-connected graphs that can be contracted to a three-connected graph, and the three-connectivity test.
 
 mod contractible_edges;
 mod laws;

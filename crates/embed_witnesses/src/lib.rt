@@ -1,5 +1,4 @@
-//! Kuratowski witnesses and edge contraction: contracted graphs, witnesses of them, and how these are lifted to the
-//! graph.
+//! Kuratowski witnesses and edge contraction: contracted graphs, their witnesses, and lifting these to the graph.
 #![tactic(auto)]
 
 pub mod contracted_graphs;

@@ -48,9 +48,8 @@ impl StoredMap<'_> {
         filled
     }
 
-    // Gives `number` to the component of `start`, which has none, in `numbers`. The components numbered so far are
-    // numbered whole, and their vertices are the `filled` first entries of the queue. It returns how many entries there
-    // are then.
+    // Gives `number` to the component of `start`, which has none, in `numbers`. Those numbered so far are numbered
+    // whole, and their vertices are the `filled` first entries of the queue. Returns the new number of entries.
     fn number_component(
         &self,
         start: u16,

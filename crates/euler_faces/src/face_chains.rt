@@ -1,5 +1,4 @@
-//! Searches the faces of a map over chains of faces, each sharing an edge with the next, by the parity of counted
-//! edges.
+//! Searches a map's faces over chains of faces, each sharing an edge with the next, by the parity of counted edges.
 ghost use Rattle.std.specs.Prelude.{◌≡◌, ◌<◌, ◌*◌, ℕ, false, not, if◌then◌else◌, length, OnOk};
 ghost use Rattle.map_lists.specs.declared.ids.DartId.{DartId as TheDart};
 ghost use Rattle.half_edges.specs.Map.{IsLive, id_bound};
@@ -9,8 +8,7 @@ ghost use Rattle.euler_faces.specs.ChainSearch.{place, Meets, GoesFrom, MarksRea
 use half_edges::{DartId, HalfMap};
 use std::alloc::{AllocError, Global};
 
-// The face left of a dart, as a chain comes to it: whether the chain has stepped over an odd number of edges that
-// count.
+// The face left of a dart, as a chain comes to it: whether the chain has stepped over an odd number of counted edges.
 #[derive(Clone, Copy)]
 pub(crate) struct FaceSide {
     pub(crate) dart: DartId,

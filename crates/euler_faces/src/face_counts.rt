@@ -33,8 +33,7 @@ impl StoredMap<'_> {
     }
 
     // Says whether the lists have as many entries as a triangulation and all faces are found to be triangles, by the
-    // `twins` of the darts. At each entry, the entry before it is the one that follows the list's vertex in the entry's
-    // own list.
+    // `twins` of the darts. At each entry, the entry before it follows the list's vertex in the entry's own list.
     fn are_triangles(&self, twins: &[u32]) -> bool
         requires { AreTwins (darts (lists_of self.now)) twins.now (length (darts (lists_of self.now))) }
         ensures { OnTrue result (AreCornersBelow (lists_of self.now) (length self.now.entries.now)) }
@@ -63,8 +62,7 @@ impl StoredMap<'_> {
         true
     }
 
-    // Returns the greatest number of orbits of the face step that the Euler bound allows, by the numbers of `components` and of
-    // `isolated` vertices.
+    // Returns the most orbits of the face step that the Euler bound allows for `components` and `isolated` vertices.
     #[inline(always)]
     pub(crate) fn most_orbits(&self, components: u16, isolated: u32) -> u32
         requires components { components ≡ component_count (lists_of self.now) }
@@ -76,8 +74,9 @@ impl StoredMap<'_> {
         2 * components as u32 + edges - (self.ends.len() as u32 + isolated)
     }
 
-    // Returns the number of orbits of the face step, which is at most `most`, by the `twins` of the darts. It is a third of
-    // the darts where all faces are triangles. Else a walk along each face but the last of `most` overwrites the twins.
+    // Returns the number of orbits of the face step, which is at most `most`, by the `twins` of the darts. It is a
+    // third of the darts where all faces are triangles. Else a walk along each face but the last of `most` overwrites
+    // the twins.
     #[inline(always)]
     pub(crate) fn count_orbits(&self, twins: &mut [u32], most: u32) -> u32
         requires twins { AreTwins (darts (lists_of self.now)) twins.old (length (darts (lists_of self.now))) }
@@ -102,8 +101,7 @@ impl StoredMap<'_> {
         count
     }
 
-    // Returns the number of isolated vertices of a map with so many `components`. Where there is one, and an edge, no
-    // list is gone over.
+    // Returns the number of isolated vertices for so many `components`. If there is one, and an edge, no list is read.
     pub(crate) fn count_isolated(&self, components: u16) -> u32
         requires { components ≡ component_count (lists_of self.now) }
         ensures count { result ≡ isolated_count (lists_of self.now) }

@@ -7,8 +7,7 @@ use smallvec::SmallVec;
 use std::alloc::{AllocError, Global};
 use std::marker::Model;
 
-// Darts in the order of a walk, at most four with no memory of their own. Contracts see the numbers of
-// their ids.
+// Darts in the order of a walk, at most four with no memory of their own. Contracts see the numbers of their ids.
 #[derive(Drop)]
 pub(crate) struct Walk {
     darts: SmallVec<DartId, 4>,
@@ -51,9 +50,8 @@ impl Walk {
 
 /// The faces of a map: the orbits of the face step, each as a walk along it.
 ///
-/// Contracts see the walks as lists of the numbers of ids. An isolated vertex has no dart, so its face
-/// has no walk. A face keeps its id as long as the `Faces` lives, and an edit of the map leaves the walks
-/// as they were.
+/// Contracts see the walks as lists of the numbers of ids. An isolated vertex has no dart, so its face has no walk. A
+/// face keeps its id as long as the `Faces` lives, and an edit of the map leaves the walks as they were.
 #[derive(Drop)]
 pub struct Faces {
     pub(crate) walks: Vec<Walk>,

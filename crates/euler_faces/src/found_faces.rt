@@ -96,8 +96,7 @@ impl Walking<'_> {
 
 /// Returns the faces of a map. It fails only when out of memory. The time is linear in the darts, and so is the memory.
 ///
-/// Each walk begins at its first dart in the order of the lists, and the walks stand in the order of those
-/// darts.
+/// Each walk begins at its first dart in the order of the lists, and the walks stand in the order of those darts.
 pub fn faces(alloc: Global, map: &HalfMap) -> Result<Faces, AllocError>
     ensures walks { IfOk result (AreFaces map.now) }
     ensures count { IfOk result (λ faces. length faces ≡ class_count (face_classes map.now.lists)) }

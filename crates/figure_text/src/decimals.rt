@@ -9,8 +9,7 @@ pub fn is_digit_byte(byte: u8) -> bool
     b'0' <= byte && byte <= b'9'
 }
 
-/// Returns `value` with the digit `byte` after its own, or `most` where that is less. `None` is returned where the byte
-/// is no digit.
+/// Returns the lesser of `most` and `value` with the digit `byte` after its own, or `None` where `byte` is no digit.
 pub fn with_digit(most: u64, value: u64, byte: u8) -> Option<u64>
     requires few { most ≤ 4294967296 }
     requires near { value ≤ most }

@@ -3,8 +3,7 @@
 /// A bad place of a text, by the number of a line.
 #[derive(Clone, Copy, PartialEq, Eq)]
 pub enum TextFault {
-    /// This closed line does not have the shape that is due there, or this line stands outside a figure and
-    /// is not closed.
+    /// This closed line does not have the shape due there, or this line stands outside a figure and is not closed.
     BadLine(u32),
     /// The text ends before the figure that began at this line has all its lines closed.
     EndInFigure(u32),

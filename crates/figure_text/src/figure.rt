@@ -16,8 +16,7 @@ pub enum GridJob {
     Convex,
 }
 
-/// A drawing of a map, with the map's rotation lists, which are numbered from 0; or a witness that a graph has no
-/// drawing in the plane.
+/// A drawing of a map, with the map's rotation lists, numbered from 0; or a witness that a graph has no plane drawing.
 #[derive(Drop)]
 pub enum Figure {
     /// A straight-line drawing.

@@ -1,5 +1,4 @@
-//! The ends of figures: judges the line of the columns, and makes rectangles and witnesses of a draft. Also the type
-//! `Item`.
+//! The ends of figures and the type `Item`: judges the line of the columns, makes rectangles and witnesses of a draft.
 ghost use Rattle.std.specs.Prelude.{◌≡◌, ◌++◌, ◌∷◌, ◌<◌, [], length, drop, map, slice_index_or, IfOk, IfSome, OnOk};
 ghost use Rattle.figure_text.specs.Words.{words_of};
 ghost use Rattle.figure_text.specs.Lines.{integer_of, IsColumnsLine, ColumnsInRange};
@@ -65,8 +64,8 @@ fn plain_columns(alloc: Global, line: &[u8]) -> Result<Option<Ints>, AllocError>
     Ok(Some(list))
 }
 
-/// Judges the line of the columns, which is given without the byte 10 that closes it: by all its words, where its numbers
-/// are not plainly written.
+/// Judges the line of the columns, which is given without the byte 10 that closes it: by all its words, where its
+/// numbers are not plainly written.
 pub fn columns_line(alloc: Global, line: &[u8]) -> Columns
     ensures { JudgesColumns (words_of line.now) result }
 {

@@ -10,8 +10,7 @@ pub fn printed_is_read()
 {}
 
 /// States the law that there is one answer at an offset of a text, but when out of memory. Two items, two faults, or an
-/// item and a fault that both hold there are the same. So what `print_figure` appended is read as that figure, and as
-/// nothing else.
+/// item and a fault that both hold there are the same. So what `print_figure` appended is read only as that figure.
 pub fn one_answer()
     ensures { OneAnswer }
 {}

@@ -1,11 +1,10 @@
 //! The text of figures, one line for each vertex: printed, and judged and read line by line.
 //!
-//! `print_figure` appends the text of a figure: a first line, and a line for each vertex with its place and its
-//! neighbours in clockwise order, all numbered from 1; for bars a line of the columns comes last. The first line of
-//! a witness holds its graph, and a line of the branches and one for each path follow. `Item` is what stands at an
-//! offset of such a text: a figure, a note that another job wrote, or the end; `TextFault` is the bad line; both are
-//! read in `line_inputs`. `laws` says that what is printed is read as the same figure, whatever follows, and that there is one
-//! answer at an offset.
+//! `print_figure` appends the text of a figure: a first line, and a line for each vertex. This tells its place and its
+//! neighbours in clockwise order, all numbered from 1. For bars a line of the columns comes last. A witness has its
+//! graph in the first line, then a line of the branches and one for each path. `Item` is what stands at an offset of a
+//! text: a figure, another job's note, or the end. `TextFault` is the bad line. Both are read in `line_inputs`. `laws`
+//! says that what is printed is read as the same figure, whatever follows, and that an offset has one answer.
 #![tactic(auto)]
 
 mod backward_writing;

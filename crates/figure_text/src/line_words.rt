@@ -112,8 +112,7 @@ fn is_text(word: &[u8], text: &[u8]) -> bool
     word == text
 }
 
-// Returns the word that `bytes` are: one of the words of figures, or else a number, a number before a colon, or
-// `Other`.
+// Returns the word that `bytes` are: a word of figures, or else a number, a number before a colon, or `Other`.
 fn word_of_name(bytes: &[u8]) -> Word
     ensures { result ≡ word_meant bytes.now }
 {
@@ -336,8 +335,8 @@ pub fn plain_at(line: &[u8], at: usize) -> Option<Digits>
     None
 }
 
-/// Returns the number that begins at index `at` of `line`. It has no minus, a space follows at most four digits, and
-/// five bytes are left.
+/// Returns the number that begins at index `at` of `line`, if it has no minus and at most four digits, a space follows,
+/// and the line has five bytes from `at` on. Else it returns None.
 #[inline(always)]
 pub fn short_at(line: &[u8], at: usize) -> Option<Digits>
     ensures { IfSome result (IsPlainAt line.now at) }
@@ -354,8 +353,9 @@ pub fn short_at(line: &[u8], at: usize) -> Option<Digits>
     None
 }
 
-/// Returns the number before a colon that begins at index `at` of `line`, whose `end` is the index after the colon. It
-/// has no minus and at most four digits, a space follows the colon, and six bytes are left.
+/// Returns the number before a colon that begins at index `at` of `line`, if it has no minus and at most four digits, a
+/// space follows the colon, and the line has six bytes from `at` on. Else it returns None. `end` is the index after the
+/// colon.
 #[inline(always)]
 pub fn closing_at(line: &[u8], at: usize) -> Option<Digits>
     ensures { IfSome result (IsClosingAt line.now at) }

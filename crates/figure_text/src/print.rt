@@ -156,8 +156,7 @@ fn write_bars(texts: &Texts<'_>, heading: &Heading<'_>, bars: &BarFigure, bytes:
     write_figure(texts, heading, bars, &mut bytes[..end])
 }
 
-/// Prints figures, one after another, and keeps its memory for the next: that of the longest text so far, and the texts of
-/// numbers.
+/// Prints figures, one after another, and keeps the memory of the longest text so far and the texts of numbers.
 #[derive(Drop)]
 pub struct Printer {
     numerals: Numerals,

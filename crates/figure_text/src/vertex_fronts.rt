@@ -142,8 +142,7 @@ impl VertexLine<'_> {
         true
     }
 
-    // Reads the front of a line of a straight-line drawing like `any_front`, with no loop, which takes fewer
-    // instructions.
+    // Reads the front of a straight-line drawing's line like `any_front`, with no loop, which takes fewer instructions.
     #[inline(always)]
     fn grid_front(&self, front: &mut LineFront) -> bool
         ensures { IsFrontOf [] self.now.place self.now.line.now front.old → IsTrue result → IsFrontOf grid_pieces self.now.place self.now.line.now front.new }

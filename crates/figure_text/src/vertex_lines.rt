@@ -15,8 +15,7 @@ use map_lists::ItemLists;
 use pg_plane::{Ints, Point, Points};
 use std::alloc::{AllocError, Global};
 
-/// Holds what the lines of a figure's vertices have given. Of a witness it holds a list of the branches, and then one for
-/// each path.
+/// Holds what the lines of a figure's vertices gave. Of a witness it holds a list of branches, then one for each path.
 #[derive(Drop)]
 pub struct Draft {
     pub lists: ItemLists<u16>,
@@ -192,8 +191,7 @@ impl VertexLine<'_> {
     }
 
     /// Appends to `draft` what this line gives, where it is found good at sight, and says whether it is. Where it is
-    /// not, the draft is as it was, and the line may still be good. No words are kept of numbers that are written
-    /// plainly.
+    /// not, the draft is as it was, and the line may still be good. No words are kept of plainly written numbers.
     #[inline(always)]
     pub fn quick(&self, found: &mut Vec<Word>, draft: &mut Draft) -> Result<bool, AllocError>
         ensures good { IfOk result (λ good. OnTrue good (IsRow self.now.kind self.now.place (words_of self.now.line.now)
@@ -214,8 +212,7 @@ impl VertexLine<'_> {
     }
 
     /// Judges this line, by its words where it is not found good at sight, and appends to `draft` what a good one
-    /// gives. `None` means out of memory. `found` is room for its words, and keeps its memory for those of the next
-    /// line.
+    /// gives. `None` means out of memory. `found` is room for its words, and keeps its memory for the next line's.
     #[inline(never)]
     pub fn judge(&self, found: &mut Vec<Word>, draft: &mut Draft) -> Option<Judged>
         ensures { IfSome result (λ judged. Judges (IsRow self.now.kind self.now.place (words_of self.now.line.now)) (RowInRange self.now.kind (words_of self.now.line.now)) judged

@@ -10,7 +10,8 @@ use crate::number_texts::Texts;
 use map_lists::Rotations;
 use pg_plane::{BarFigure, Ints, Point, Points, RectFigure};
 
-/// The line of a vertex that is to be written: the number of the vertex, from 0, its neighbours, and the texts of numbers.
+/// The line of a vertex that is to be written: the number of the vertex, from 0, its neighbours, and the texts of
+/// numbers.
 #[derive(Clone, Copy)]
 pub struct PrintedLine<'a> {
     pub texts: Texts<'a>,
@@ -181,8 +182,8 @@ fn write_line<R: Numbered>(
     figure.write_front(line, bytes, front)
 }
 
-/// Writes the lines of the vertices, with the numbers of `figure` and their neighbours by `lists`, at the end, and returns
-/// where they start: there is still room for a first line.
+/// Writes the lines of the vertices, with the numbers of `figure` and their neighbours by `lists`, at the end, and
+/// returns where they start: there is still room for a first line.
 pub fn write_lines<R: Numbered>(
     texts: &Texts<'_>,
     figure: &R,

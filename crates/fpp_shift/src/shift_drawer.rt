@@ -1,5 +1,4 @@
-//! The public calls that draw a triangulation by the shift method, and `Shifter`, which keeps its memory from one to
-//! the next.
+//! The public calls that draw triangulations by the shift method, and `Shifter`, which keeps its memory between them.
 ghost use Rattle.std.specs.Prelude.{◌≡◌, ◌<◌, length, IfOk};
 ghost use Rattle.map_theory.specs.Maps.{Dart};
 ghost use Rattle.plane_laws.specs.Triangulations.{IsTriangulation};
@@ -21,9 +20,8 @@ use std::sync::ledger::{Blank, Ledger};
 /// Returns the drawing of `tri` by the shift method, for its canonical `order`. `tri` is a triangulation: a simple map
 /// of genus zero with n >= 3 vertices and 3n - 6 edges.
 ///
-/// It is plane and keeps the rotations, in the grid 2n - 4 by n - 2. The order's first vertex stands at
-/// (0, 0), its second at (2n - 4, 0) and its last at (n - 2, n - 2); of all faces that of the base alone is
-/// drawn clockwise.
+/// It is plane and keeps the rotations, in the grid 2n - 4 by n - 2. The order's first vertex stands at (0, 0), its
+/// second at (2n - 4, 0) and its last at (n - 2, n - 2). Of all faces that of the base alone is drawn clockwise.
 ///
 /// It fails only when out of memory. The map and the order stay as they are. The time is linear in the
 /// vertices: a tree of offsets is made of the order, and added up.
@@ -108,7 +106,8 @@ impl Shifter {
         self.sums.keep(figure.points);
     }
 
-    /// Draws the triangulation with these lists as [`shift_draw`] does. When memory runs out the shifter serves as before.
+    /// Draws the triangulation with these lists as [`shift_draw`] does. When memory runs out the shifter serves as
+    /// before.
     pub fn list_draw(&mut self, lists: &Rotations, order: &Order) -> Result<GridFigure, AllocError>
         requires triangulation { IsTriangulation lists.now }
         requires order { (base : Dart) × IsCanonicalOrder lists.now base (vertices_of order.now) }

@@ -3,9 +3,8 @@
 
 ghost use Rattle.fpp_shift.specs.ShiftDrawings.{ShiftPointsDraw, SomeShiftPoints, SomeShiftDrawing};
 
-/// States the law that the shift points of a canonical order of a triangulation draw it. The drawing is plane, in the
-/// grid 2n - 4 by n - 2, and keeps the rotations. The face of the base is outside, and its three vertices stand at the
-/// corners.
+/// States the law that the shift points of a triangulation's canonical order draw it. The drawing is plane, in the grid
+/// 2n - 4 by n - 2, and keeps the rotations. The base's face is outside, with its three vertices at the corners.
 pub fn shift_points_draw()
     ensures { ShiftPointsDraw }
 {

@@ -9,8 +9,7 @@ mod trees_by_map;
 pub(crate) use trees_by_lists::list_tree;
 pub use trees_by_map::offset_tree;
 
-/// States the law that the tree of offsets of an order adds up to the shift points of the order. Its links are those of
-/// a tree.
+/// States the law that an order's tree of offsets adds up to the order's shift points. Its links are those of a tree.
 pub fn offset_tree_adds_up()
     ensures { OffsetTreeAddsUp }
 {}

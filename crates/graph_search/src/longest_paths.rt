@@ -1,5 +1,4 @@
-//! Longest paths from one vertex of a directed graph whose cycles all pass through it, and a topological order of its
-//! vertices.
+//! Longest paths from one vertex of a directed graph whose cycles all pass through it, and a topological order.
 
 mod arc_queue;
 

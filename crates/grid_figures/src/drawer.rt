@@ -14,8 +14,8 @@ use pg_plane::GridFigure;
 use refusals::Unserved;
 use std::alloc::Global;
 
-/// Draws records, one after another, and keeps its memory for the next: that of counts, maps, orders and tables, as much
-/// as the largest record so far took.
+/// Draws records, one after another, and keeps its memory for the next: that of counts, maps, orders and tables, as
+/// much as the largest record so far took.
 #[derive(Drop)]
 pub struct Drawer {
     tools: Tools,

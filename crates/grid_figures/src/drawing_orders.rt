@@ -1,5 +1,4 @@
-//! Completes the map of a record to a triangulation with a canonical order, or returns the first condition that it
-//! breaks.
+//! Completes a record's map to a triangulation with a canonical order, or returns the first condition that it breaks.
 
 ghost use Rattle.grid_figures.specs.DrawingOrdersLaws.{CompletionDraws, SomeCompletion};
 
@@ -10,8 +9,7 @@ pub(crate) use completed_records::{Tools, made_or};
 pub use completed_records::{DrawingOrder, drawing_order};
 pub(crate) use triangulated_records::{is_triangulated, order_full};
 
-/// States the law that a plane drawing of a completion of a map in a grid is a valid drawing of the map. Its outer face
-/// is kept.
+/// States the law that a plane grid drawing of a map's completion is a valid drawing of the map. Its outer face stays.
 pub fn completion_draws()
     ensures { CompletionDraws }
 {}

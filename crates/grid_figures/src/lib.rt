@@ -1,5 +1,4 @@
-//! The figures of the jobs shift and schnyder: the completed triangulation, its canonical order, and the drawing of the
-//! record.
+//! The figures of the jobs shift and schnyder: a completed triangulation, its canonical order and the record's drawing.
 #![tactic(auto)]
 
 mod drawer;

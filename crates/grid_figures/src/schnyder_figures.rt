@@ -8,8 +8,7 @@ mod draw;
 pub(crate) use draw::drawn_record;
 pub use draw::schnyder_figure;
 
-/// States the law that each simple map of genus zero with at least three vertices has a figure by Schnyder's
-/// coordinates.
+/// States the law that a simple map of genus zero with at least three vertices has a figure by Schnyder's coordinates.
 pub fn some_schnyder_figure()
     ensures { SomeSchnyderFigure }
 {

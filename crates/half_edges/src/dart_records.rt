@@ -31,8 +31,7 @@ impl DartSlot for DartRecord {
 
     ghost IsInLine = { IsInLine };
 
-    // Returns the record of the live dart at index `place`, linked in line: after the dart before it and before the
-    // dart after it.
+    // Returns the record of the live dart at index `place`, linked in line between the darts before and after it.
     fn new(tail: u16, twin: u32, place: u32) -> DartRecord {
         DartRecord {
             twin,
@@ -83,8 +82,7 @@ pub(crate) fn dart_to(darts: &[DartRecord], first: u32, degree: u16, head: u16) 
     None
 }
 
-// Links the first and the last of the darts `start..end`, which stand in line, so that they form a cycle round their
-// vertex.
+// Links the first and the last of the darts `start..end`, which stand in line, to form a cycle round their vertex.
 fn close_round(darts: &mut [DartRecord], start: u32, end: u32)
     requires order { start ≤ end }
     requires within { end ≤ length darts.old }
@@ -179,8 +177,7 @@ pub(crate) fn unsplice(darts: &mut [DartRecord], d: u32)
     darts[d as usize].live = false;
 }
 
-// Puts the edge of `d` and `twin` at the front of the list of free edges, which begins at `free` and has `spare`
-// edges.
+// Puts the edge of `d` and `twin` at the front of the free edges' list, which begins at `free` and has `spare` edges.
 pub(crate) fn thread(darts: &mut [DartRecord], d: u32, twin: u32, free: u32, spare: u32)
     requires d_in { d < length darts.old }
     requires twin_in { twin < length darts.old }

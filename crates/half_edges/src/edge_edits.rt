@@ -1,5 +1,4 @@
-//! Edges added to a half-edge map and removed from it, in constant time and without taking memory, and room made for
-//! more.
+//! Edges added to and removed from a half-edge map, in constant time and without taking memory, and room made for more.
 ghost use Rattle.std.specs.Prelude.{◌*◌, vec_len, vec_capacity, ◌≡◌, ◌≢◌, ◌+◌, ◌-◌, ◌<◌, ◌≤◌, ℕ, true, min, max, length, Option, Some, OnOk, OnErr};
 ghost use Rattle.map_theory.specs.Maps.{HasDart};
 ghost use Rattle.map_theory.specs.Edges.{without_edge};

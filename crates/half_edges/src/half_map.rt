@@ -1,5 +1,4 @@
-//! The half-edge map `HalfMap`: how it is made of rotation lists, what it answers of its darts, and memory kept from
-//! map to map.
+//! The half-edge map `HalfMap`: how rotation lists make it, what it answers of its darts, and memory kept between maps.
 ghost use Rattle.std.specs.Prelude.{◌≡◌, ◌+◌, ◌-◌, ◌<◌, ◌≤◌, ◌==◌, nat_lt, if◌then◌else◌, ◌↔◌, ℕ, List, [], length, slice_index, Some, None, IsTrue, IfOk, IfErr, IfSome, MatchOption, option_map};
 ghost use Rattle.map_theory.specs.Maps.{HasDart, list_of, vertex_count, edge_count, face_step, twin_dart};
 ghost use Rattle.simple_maps.specs.Faults.{first_fault};
@@ -148,8 +147,7 @@ impl MapMaker {
 impl HalfMap {
     /// Returns the map with these lists, which are from 1 to 4095, or the first fault of the lists.
     ///
-    /// Its `spare` is 0. The time is linear in the entries, and so is the memory: 16 bytes for a dart, and six
-    /// more while it is made.
+    /// Its `spare` is 0. Time and memory are linear in the entries: 16 bytes for a dart, and six more while it is made.
     pub fn from_rotations(alloc: Global, lists: &Rotations) -> Result<HalfMap, MapFault>
         requires some_list { 0 < length lists.now }
         ensures lists { IfOk result (λ map. map.lists ≡ lists.now) }

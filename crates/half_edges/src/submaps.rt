@@ -9,8 +9,7 @@ use map_lists::ItemLists;
 use std::alloc::{AllocError, Global};
 
 impl HalfMap {
-    /// Returns the map with these lists, which are at most 4095 and a simple map. Its `spare` is 0. It fails only
-    /// when out of memory.
+    /// Returns the map with these lists of a simple map, at most 4095. Its `spare` is 0. Fails only when out of memory.
     pub fn from_simple(alloc: Global, lists: &Rotations) -> Result<HalfMap, AllocError>
         requires simple { IsSimpleMap lists.now }
         ensures lists { IfOk result (λ map. map.lists ≡ lists.now) }
@@ -26,8 +25,7 @@ impl HalfMap {
         }
     }
 
-    /// Returns a map with the same lists. Its `spare` is 0, and its ids may be others. It fails only when out of
-    /// memory.
+    /// Returns a map with the same lists. Its `spare` is 0, and its ids may be others. Fails only when out of memory.
     pub fn copy(&self, alloc: Global) -> Result<HalfMap, AllocError>
         ensures lists { IfOk result (λ map. map.lists ≡ self.now.lists) }
         ensures spare { IfOk result (λ map. map.spare ≡ 0) }

@@ -11,8 +11,7 @@ use crate::shape::has_shape;
 use graph6_text::Graph;
 use map_lists::VertexId;
 
-/// The verdict on a witness: yes, or the first fault of the first kind that it has. Positions and paths are counted
-/// from 1.
+/// The verdict on a witness: yes, or the first fault of the first kind it has. Positions and paths are counted from 1.
 #[derive(Clone, Copy, PartialEq, Eq)]
 pub enum WitnessVerdict {
     /// There are not as many branches and paths as the kind has, or a path does not join its pair.

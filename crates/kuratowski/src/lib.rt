@@ -1,5 +1,4 @@
-//! Witnesses that a graph is not planar: subdivisions of K5 or K3,3, by their branches and paths, and
-//! their check.
+//! Witnesses that a graph is not planar: subdivisions of K5 or K3,3, by their branches and paths, and their check.
 #![tactic(auto)]
 
 mod branches;

@@ -5,8 +5,7 @@ ghost use Rattle.kuratowski.specs.Witnesses.{branch_count as branches_of, pairs_
 use crate::Kind;
 use map_lists::{PathList, VertexId, VertexList};
 
-/// Says whether `branch` and `paths` have the numbers of branches and paths of `kind`, and each path joins its two
-/// branches.
+/// Says whether `branch` and `paths` have as many branches and paths as `kind`, and each path joins its two branches.
 pub fn has_shape(kind: Kind, branch: &VertexList, paths: &PathList) -> bool
     ensures { IsTrue result ↔ IsShape kind branch.now paths.now }
 {

@@ -1,5 +1,4 @@
-//! Rooted forests of a graph, as tables of parents and depths by vertex, and the return edges (back edges) at a
-//! vertex.
+//! Rooted forests of a graph, as tables of parents and depths by vertex, and a vertex's return edges (back edges).
 ghost use Rattle.std.specs.Prelude.{◌≡◌, slice_index, IsTrue};
 ghost use Rattle.left_right_laws.specs.Forests.{up, IsAbove, IsBranch};
 ghost use Rattle.left_right_check.specs.Ties.{IsForestOf, ReturnsBy};
@@ -35,8 +34,8 @@ pub fn after_steps(parents: &[u16], vertex: u16, steps: u16) -> u16
     v
 }
 
-/// Says whether tables of parents and depths, by vertex, are those of a rooted forest of a graph: each vertex is a root, or
-/// is below its parent, to which an edge joins it.
+/// Says whether tables of parents and depths, by vertex, are those of a rooted forest of a graph: each vertex is a
+/// root, or is below its parent, to which an edge joins it.
 #[tactic(auto, using(crate::proofs::TieLemmas::forest_by_places, crate::proofs::TieLemmas::placed_past))]
 pub fn is_forest(graph: &Graph, parents: &[u16], depths: &[u16]) -> bool
     ensures { IsTrue result → IsForestOf graph.now parents.now depths.now }
@@ -70,8 +69,7 @@ pub struct RootedForest<'a> {
 }
 
 impl<'a> RootedForest<'a> {
-    // Says whether the path from `vertex` down the tree to the lower end of `edge`, and then along it, begins with
-    // the edge to `end`.
+    // Says whether the path from `vertex` down to `edge`'s lower end, then along it, begins with the edge to `end`.
     #[tactic(auto, using(crate::proofs::TieLemmas::branch_at))]
     fn begins_with(&self, vertex: u16, end: u16, edge: ReturnEdge) -> bool
         ensures { IsTrue result → IsAbove (slice_index self.now.parents.now) (slice_index self.now.depths.now) vertex edge.from × IsBranch (slice_index self.now.parents.now) (slice_index self.now.depths.now) vertex end edge.from edge.to }
@@ -87,8 +85,8 @@ impl<'a> RootedForest<'a> {
         after_steps(self.parents, edge.from, low - high - 1) == end
     }
 
-    /// Says whether an edge returns from `vertex` by the vertex's edge to `end`: the way up from `vertex` leads to its upper
-    /// end, and the way down to its lower end begins with that edge.
+    /// Says whether an edge returns from `vertex` by the vertex's edge to `end`: the way up from `vertex` leads to its
+    /// upper end, and the way down to its lower end begins with that edge.
     pub(crate) fn returns_by(&self, vertex: u16, end: u16, edge: ReturnEdge) -> bool
         ensures { IsTrue result → ReturnsBy self.now.graph.now self.now.parents.now self.now.depths.now vertex end edge.from edge.to }
     {

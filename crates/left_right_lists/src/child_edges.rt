@@ -1,5 +1,4 @@
-//! The edges from a tree vertex to its children and its return edges: what returns by each, its entries, and their
-//! order.
+//! The edges from a tree vertex to its children and its return edges: what returns by each, its entries, their order.
 ghost use Rattle.std.specs.Prelude.{◌≡◌, [], IfOk};
 ghost use Rattle.left_right_lists.specs.Blocks.{AreValues};
 ghost use Rattle.left_right_lists.specs.Placing.{HasChildren, IsReady, IsOrderAt, is_item_at, returned_at, block_at};
@@ -24,8 +23,7 @@ pub(crate) struct TreeVertex<'a> {
 }
 
 impl<'a> TreeVertex<'a> {
-    // Says whether an edge leads from the vertex to `u` as a child, or returns to `u` as an ancestor other than the
-    // parent.
+    // Says whether an edge leads from the vertex to a child `u`, or returns to an ancestor `u` other than the parent.
     fn is_item(&self, u: u16) -> bool
         ensures { result ≡ is_item_at self.now.rooted.graph.now self.now.rooted.tree.now self.now.v u }
     {
@@ -53,8 +51,7 @@ impl<'a> TreeVertex<'a> {
         Ok(rows)
     }
 
-    /// Lists for each vertex `u` the entries that stand at this vertex for the edge to `u`. It fails only when out of
-    /// memory.
+    /// Lists for each vertex `u` the entries at this vertex for the edge to `u`. Fails only when out of memory.
     pub(crate) fn blocks(&self, alloc: Global) -> Result<ItemLists<u16>, AllocError>
         ensures { IfOk result (λ rows. AreValues (block_at self.now.rooted.graph.now.n self.now.rooted.tree.now self.now.opens.now self.now.v) [] rows self.now.rooted.graph.now.n) }
     {
@@ -76,8 +73,8 @@ impl<'a> TreeVertex<'a> {
         Ok(rows)
     }
 
-    /// Returns the vertices to which the edges lead, in an order in which they may stand, by the sides of edges that return
-    /// and by what returns by each edge, which are `returned`. It fails only when out of memory.
+    /// Returns the vertices to which the edges lead, in an order in which they may stand, by the sides of edges that
+    /// return and by what returns by each edge, which are `returned`. It fails only when out of memory.
     pub(crate) fn order(
         &self,
         alloc: Global,

@@ -10,8 +10,7 @@ use graph6_text::Graph;
 use map_lists::Rotations;
 use std::alloc::{AllocError, Global};
 
-/// Returns lists that are a map of genus zero of a graph, or none where there is no such map. It fails only when out of
-/// memory.
+/// Returns lists that are a map of genus zero of `graph`, or none without such a map. Fails only when out of memory.
 ///
 /// It takes polynomial time, and is not fast.
 pub fn map_of_graph(alloc: Global, graph: &Graph) -> Result<Option<Rotations>, AllocError>

@@ -1,5 +1,4 @@
-//! An order of the edges of a fork by the sides of their return edges: one that may stand before all others goes
-//! first.
+//! An order of the edges of a fork by the sides of their return edges: one that may precede all others goes first.
 ghost use Rattle.std.specs.Prelude.{◌≡◌, ◌<◌, ◌↔◌, ℕ, List, length, slice_index, IsTrue, IfOk, MatchOption};
 ghost use Rattle.left_right_maps.specs.Orders.{MayAllPrecede};
 ghost use Rattle.left_right_lists.specs.Groups.{side_in};
@@ -18,7 +17,8 @@ fn is_free(free: &[bool], u: u16) -> bool
     u < free.len() && free[u]
 }
 
-/// The return edges of each of the edges of a vertex, with the sides on which they return: the edges are put in order by them.
+/// The return edges of each of the edges of a vertex, with the sides on which they return: the edges are put in order
+/// by them.
 #[derive(Clone, Copy)]
 pub(crate) struct Choice<'a> {
     pub depths: &'a [u16],

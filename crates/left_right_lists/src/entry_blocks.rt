@@ -5,8 +5,7 @@ ghost use Rattle.left_right_lists.specs.Blocks.{IsRun, uppers as uppers_of, left
 use map_lists::ItemLists;
 use std::alloc::{AllocError, Global};
 
-// Returns the first index from `from` on whose return edge does not end at `v` where `ends` is set, or does end there
-// where it is not.
+// Returns the first index from `from` on whose return edge does not end at `v` if `ends` is set, or does if it is not.
 fn run_end(ds: &[(u16, u16)], from: usize, v: u16, ends: bool) -> usize
     requires { from ≤ length ds.now }
     ensures after { from ≤ result }
@@ -32,8 +31,7 @@ fn push_lower_ends(list: &mut Vec<u16>, ds: &[(u16, u16)]) -> Result<(), AllocEr
     Ok(())
 }
 
-/// Appends to `list` the entries at the vertex `v` for its child `u`: the ends of the edges `ds` that return to `v`,
-/// on both sides of `u`.
+/// Appends to `list` the entries at `v` for child `u`: the ends of those `ds` that return to `v`, on both sides of `u`.
 pub(crate) fn push_block(
     list: &mut Vec<u16>,
     ds: &[(u16, u16)],

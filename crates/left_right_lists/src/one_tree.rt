@@ -53,8 +53,7 @@ impl<'a> OneTree<'a> {
         Ok(table)
     }
 
-    /// Returns the parents of `n` vertices in the tree to which the forest is grown. It fails only when out of
-    /// memory.
+    /// Returns the parents of `n` vertices in the tree to which the forest is grown. Fails only when out of memory.
     pub(crate) fn all_parents(&self, alloc: Global, n: u16) -> Result<Vec<u16>, AllocError>
         ensures { IfOk result (λ table. IsTabled (grown_parent self.now.parents.now self.now.depths.now self.now.root) table.items n) }
     {

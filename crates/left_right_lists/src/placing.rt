@@ -30,8 +30,8 @@ fn joined_rows<T: Copy>(
 }
 
 impl<'a> RootedGraph<'a> {
-    /// Lists the entries of all vertices but their parents, those of the last vertices first, by the sides of edges that
-    /// return. It fails only when out of memory.
+    /// Lists the entries of all vertices but their parents, those of the last vertices first, by the sides of edges
+    /// that return. It fails only when out of memory.
     pub(crate) fn all_entries(
         &self,
         alloc: Global,

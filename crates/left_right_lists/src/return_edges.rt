@@ -1,5 +1,4 @@
-//! Which edges of a graph and its depth-first tree are return edges at a vertex, and all edges from lower to upper
-//! end.
+//! The return edges of a graph and its depth-first tree at a vertex, and all edges from lower to upper end.
 ghost use Rattle.std.specs.Prelude.{◌≡◌, ◌<◌, ◌-◌, ◌↔◌, ◌++◌, ◌∷◌, [], cond, slice_index, true, IsTrue, IfOk};
 ghost use Rattle.left_right_laws.specs.Forests.{IsAbove};
 ghost use Rattle.left_right_maps.specs.RootedMaps.{is_child as is_child_in};
@@ -69,8 +68,8 @@ impl<'a> RootedGraph<'a> {
         after_steps(&self.tree.parents, v, low - high) == u
     }
 
-    /// Says whether an edge of the graph or of its tree returns from vertex `v` by the vertex's edge to `next`: it ends above
-    /// `v`, and the way from `v` down to its lower end, and then along it, begins with that edge.
+    /// Says whether an edge of the graph or of its tree returns from vertex `v` by the vertex's edge to `next`: it ends
+    /// above `v`, and the way from `v` down to its lower end, and then along it, begins with that edge.
     pub(crate) fn is_return(&self, v: u16, next: u16, d: (u16, u16)) -> bool
         requires { joined_in self.now.graph.now self.now.tree.now.parents.items self.now.tree.now.depths.items d.0 d.1 ≡ true }
         ensures { IsTrue result ↔ Returns self.now.graph.now self.now.tree.now.parents.items self.now.tree.now.depths.items v next d }

@@ -8,8 +8,7 @@ use left_right_check::entry;
 use map_lists::Rotations;
 use std::alloc::{AllocError, Global};
 
-/// Returns the depths of a search's vertices: one more than that of the parent, or 0 where there is none. It fails only
-/// when out of memory.
+/// Returns the depths of a search's vertices: one more than the parent's, or 0 for none. Fails only when out of memory.
 pub(crate) fn depths_of(
     alloc: Global,
     lists: &Rotations,

@@ -1,5 +1,4 @@
-//! Groups of return edges with relative sides, merged as forks demand: each edge is on its group's side or on the
-//! other.
+//! Groups of return edges with relative sides, merged as forks demand: each edge is on its group's side or the other.
 ghost use Rattle.std.specs.Prelude.{◌≡◌, ◌<◌, ℕ, Bool, length, slice_index_or, IsTrue, IfOk, Contains};
 ghost use Rattle.left_right_check.specs.Ties.{turned as turn_of};
 ghost use Rattle.left_right_lists.specs.Groups.{Demand, IsPlaced, Fits, AreMerged, AreMet, Meets, none_demanded, group_of};

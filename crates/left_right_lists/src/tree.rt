@@ -10,8 +10,7 @@ use graph6_text::Graph;
 use left_right_check::entry;
 use std::alloc::{AllocError, Global};
 
-/// A depth-first tree of a graph, as tables. Where the graph has several parts, the root is made the parent of a vertex of
-/// each other part.
+/// A depth-first tree of a graph, as tables. The root is made the parent of a vertex of each part other than its own.
 #[derive(Drop)]
 pub struct Tree {
     /// The root.

@@ -13,20 +13,17 @@ pub fn fork_is_ordered()
     ensures { ForkIsOrdered }
 {}
 
-/// The darts of a map with a rooted spanning tree, written down from the root, are a tour along the tree that
-/// meets each dart once.
+/// The darts of a map with a rooted spanning tree, listed from the root, are a tour along the tree, each met once.
 pub fn tree_has_tour()
     ensures { TreeHasTour }
 {}
 
-/// A map with a rooted spanning tree has genus zero where its other edges, in the tour along the tree, are
-/// pairs that do not cross.
+/// A map with a rooted spanning tree has genus zero where no two other edges cross as pairs in the tour along the tree.
 pub fn balanced_is_plane()
     ensures { BalancedIsPlane }
 {}
 
-/// A graph with a depth-first forest has a map of genus zero exactly where the edges that return can be parted
-/// into left and right.
+/// A graph with a depth-first forest has a map of genus zero exactly if its return edges have a left-right partition.
 pub fn planar_by_left_right()
     ensures { PlanarByLeftRight }
 {}

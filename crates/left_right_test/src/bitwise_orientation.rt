@@ -1,6 +1,5 @@
-//! The orientation phase (first search) in a graph of at most 27 vertices, whose neighbours are kept as bits of a
-//! number. An edge's number is the place of its pair in the graph's line, by which the edges come in the order of
-//! `Edges::read`.
+//! The orientation phase (first search) in a graph of at most 27 vertices, with neighbours as bits of a number. An
+//! edge's number is the place of its pair in the graph's line, by which the edges come in the order of `Edges::read`.
 use crate::dart_lists::Links;
 use crate::fixed_tables::{NONE, minus, plus, twice};
 use crate::search_tables::Search;
@@ -97,8 +96,7 @@ fn dart_between(vertex: u32, head: u32) -> u32 {
     }
 }
 
-// Returns the sort key of a dart to `head` with nesting depth `depth`: of two as deep, the one to the greater vertex
-// is first.
+// Returns the sort key of a dart to `head` of nesting depth `depth`: of two as deep, that to the greater head is first.
 #[inline(always)]
 fn order_of(depth: u32, head: u32) -> u32 {
     (depth << 5) | (head ^ 31)
@@ -134,8 +132,7 @@ impl Few {
         self.near.set(at.vertex, near);
     }
 
-    /// Reads the edges of `graph`, of few vertices, into neighbour sets and the darts of `links`. Returns the number
-    /// of edges.
+    /// Reads the edges of `graph`, of few vertices, into neighbour sets and darts of `links`. Returns the edge count.
     pub fn read(&mut self, graph: &Graph, links: &mut Links) -> u32 {
         self.near = Bits::new();
         let mut held = 0u32;
@@ -183,8 +180,7 @@ impl Few {
         heights
     }
 
-    // Chains the return edges from `vertex` to the ancestors at these `heights`, by rising height, as the darts that
-    // leave it.
+    // Chains the return edges from `vertex` to ancestors at `heights`, by rising height, as the darts that leave it.
     #[inline(always)]
     fn chain_returns(&self, search: &mut Search, vertex: u32, heights: u32) {
         let mut rest = heights;
@@ -205,8 +201,7 @@ impl Few {
         search.leaving.set(vertex, first);
     }
 
-    // Goes from `at` to its neighbour `head`, which was not reached. `above` is the set of neighbours of `head` that
-    // are its ancestors.
+    // Goes from `at` to its unreached neighbour `head`. `above` is the set of `head`'s neighbours that are ancestors.
     #[inline(always)]
     fn go_down(&mut self, search: &mut Search, at: Stand, head: u32, above: u32) -> Stand {
         let height = plus(at.height, 1);
@@ -225,8 +220,7 @@ impl Few {
         }
     }
 
-    // Goes back from `at` to its parent: the lowpoint of the dart between is known, and the dart is put in order
-    // there.
+    // Goes back from `at` to its parent: the dart between, its lowpoint known, is put in order there.
     #[inline(always)]
     fn go_up(&self, search: &mut Search, at: Stand) -> Stand {
         let height = minus(at.height, 1);
@@ -285,8 +279,8 @@ impl Few {
         fresh
     }
 
-    /// Orients all edges as `orient_all` does from the first vertex on: where it goes along a list from its last edge to its
-    /// first one, this takes the neighbours from the greatest to the least.
+    /// Orients all edges as `orient_all` does from the first vertex on: where it goes along a list from its last edge
+    /// to its first one, this takes the neighbours from the greatest to the least.
     pub fn orient_all(&mut self, links: &Links, search: &mut Search) {
         search.root_count = 0;
         let mut fresh = minus(bit_of(links.vertices), 1);

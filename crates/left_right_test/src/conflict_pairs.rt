@@ -1,5 +1,4 @@
-//! The testing phase (second search): a stack of conflict pairs, each of two intervals of return edges on different
-//! sides.
+//! The testing phase (second search): a stack of conflict pairs, each two intervals of return edges on different sides.
 use crate::dart_lists::Links;
 use crate::fixed_tables::{MANY_DARTS, MANY_STEPS, NONE, lesser, minus, plus};
 use crate::search_tables::Search;
@@ -87,8 +86,7 @@ impl Search {
         self.pair(self.top)
     }
 
-    // Says whether the highest edge of `interval` returns to a height greater than `low`, the lowpoint of a dart that
-    // is being integrated.
+    // Says whether the highest edge of `interval` returns higher than `low`, the lowpoint of a dart being integrated.
     #[inline(always)]
     fn conflicts(&self, interval: Interval, low: u32) -> bool {
         !interval.is_empty() && self.lowpt.get(interval.high) > low
@@ -119,8 +117,7 @@ impl Search {
         }
     }
 
-    // Records a tie: the return edges `one` and `other` along `dart` are on one side. It does nothing where `one` is
-    // NONE.
+    // Records a tie: the return edges `one` and `other` along `dart` are on one side. Does nothing if `one` is NONE.
     #[inline(always)]
     fn note_alike(&mut self, one: u32, other: u32, dart: u32) {
         if one != NONE {
@@ -140,8 +137,7 @@ impl Search {
         self.meeting = meeting;
     }
 
-    // Joins two intervals on one side into one: the lowest edge of `above` becomes relative to the highest of
-    // `below`.
+    // Joins two intervals on one side: the lowest edge of `above` becomes relative to the highest of `below`.
     #[inline(always)]
     fn joined_intervals(&mut self, above: Interval, below: Interval) -> Interval {
         if above.is_empty() {
@@ -157,9 +153,8 @@ impl Search {
         }
     }
 
-    // Pops the conflict pairs of `dart`. Returns the interval of its return edges that reach a greater height than
-    // the lowpoint of the dart `parent`, if all are on one side. Returns None, and records it, where they need both
-    // sides.
+    // Pops the conflict pairs of `dart`. Returns the interval of its return edges that reach higher than the lowpoint
+    // of the dart `parent`, if all are on one side. Returns None, and records it, where they need both sides.
     fn return_edges_of(&mut self, dart: u32, parent: u32) -> Option<Interval> {
         let mut right = EMPTY;
         let bottom = self.stack_bottom.get(dart);
@@ -237,8 +232,7 @@ impl Search {
         fits
     }
 
-    // Puts the return edge `dart` of `vertex` on the stack, together with what conflicts with it. Returns false where
-    // they fit on no sides.
+    // Puts return edge `dart` of `vertex` and what conflicts with it on the stack. Returns false if no sides fit them.
     #[inline(always)]
     fn take_edge(&mut self, dart: u32, vertex: u32) -> bool {
         let parent = self.parent.get(vertex);
@@ -261,8 +255,8 @@ impl Search {
         self.settled(fits, dart, vertex)
     }
 
-    // Integrates the return edges of a dart of a vertex along which the search came back: the side of the dart is that of
-    // the highest of them. Says whether they can be put on sides with earlier ones.
+    // Integrates the return edges of a dart of a vertex along which the search came back: the side of the dart is that
+    // of the highest of them. Says whether they can be put on sides with earlier ones.
     #[inline(always)]
     fn integrate(&mut self, dart: u32, vertex: u32) -> bool {
         if self.lowpt.get(dart) >= self.height.get(vertex) {
@@ -312,8 +306,7 @@ impl Search {
         }
     }
 
-    // Removes all return edges to `vertex` from the stack: whole pairs, and then the highest edges of the top pair
-    // that is left.
+    // Removes all return edges to `vertex` from the stack: whole pairs, then the highest edges of the new top pair.
     #[inline(always)]
     fn drop_return_edges(&mut self, links: &Links, vertex: u32) {
         let height = self.height.get(vertex);
@@ -344,8 +337,8 @@ fn leads_to(links: &Links, interval: Interval, vertex: u32) -> bool {
     !interval.is_empty() && links.head.get(interval.high) == vertex
 }
 
-// Runs the testing phase over the depth-first tree with root `root`, behind the orientation phase. It changes the tables of
-// `search`, and returns false where a conflict shows, which they hold then.
+// Runs the testing phase over the depth-first tree with root `root`, behind the orientation phase. It changes the
+// tables of `search`, and returns false where a conflict shows, which they hold then.
 fn agrees_from(links: &Links, search: &mut Search, root: u32) -> bool {
     search.top = 0;
     let mut vertex = root;

@@ -1,5 +1,4 @@
-//! The proof that a conflict is one of the graph: a rooted forest and a ring of ties, all of which is checked. All of
-//! it is checked.
+//! The proof that a conflict is one of the graph: a rooted forest and a ring of ties. All of it is checked.
 ghost use Rattle.std.specs.Prelude.{true, false, IfSome, IsTrue};
 ghost use Rattle.left_right_check.specs.Ties.{AreTied, HasNoMap};
 
@@ -83,8 +82,8 @@ impl<'a> Conflict<'a> {
         self.return_edge(self.search.lowpt_edge.get(dart))
     }
 
-    // Says whether two edges that return by the first of two darts of a vertex are on one side, since they end below the
-    // lowpoint of the second.
+    // Says whether two edges that return by the first of two darts of a vertex are on one side, since they end below
+    // the lowpoint of the second.
     fn are_alike(&self, pair: Pair, darts: (u32, u32)) -> bool
         ensures { IsTrue result → AreTied self.now.forest.graph.now self.now.forest.parents.now self.now.forest.depths.now false pair.one.from pair.one.to pair.other.from pair.other.to }
     {
@@ -122,8 +121,7 @@ impl<'a> Conflict<'a> {
         }
     }
 
-    // Says whether the forest ties two successive return edges of the ring, `edges`, by the tie that `end` is an end
-    // of.
+    // Says whether the forest ties two successive return edges of the ring, `edges`, by the tie with the end `end`.
     fn is_step(&self, edges: (ReturnEdge, ReturnEdge), end: u32, turn: bool) -> bool
         ensures { IsTrue result → AreTied self.now.forest.graph.now self.now.forest.parents.now self.now.forest.depths.now turn edges.0.from edges.0.to edges.1.from edges.1.to }
     {
@@ -142,8 +140,7 @@ impl<'a> Conflict<'a> {
         }
     }
 
-    // Returns the return edge at which the ring begins, if each is tied to the next up to `found`, its end, which then is on
-    // the other side.
+    // Returns the first return edge of the ring, if each is tied to the next up to `found`, its end on the other side.
     fn start_of_ring(&self, found: ReturnEdge) -> Option<ReturnEdge>
         ensures { IfSome result (λ start. AreTied self.now.forest.graph.now self.now.forest.parents.now self.now.forest.depths.now true found.from found.to start.from start.to) }
     {
@@ -204,8 +201,8 @@ impl<'a> Conflict<'a> {
 }
 
 impl LeftRightTest {
-    // Says whether the conflict shows that a graph has no map of genus zero, in the forest that was read: the return edges
-    // of the ring would have to be on one side and on different ones.
+    // Says whether the conflict shows that a graph has no map of genus zero, in the forest that was read: the return
+    // edges of the ring would have to be on one side and on different ones.
     fn is_refuted(&self, graph: &Graph) -> bool
         ensures { IsTrue result → HasNoMap graph.now }
     {

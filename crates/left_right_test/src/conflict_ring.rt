@@ -1,5 +1,4 @@
-//! The ring of ties that shows a conflict: return edges each tied to the next, which come back to the first on the
-//! other side.
+//! The ring of ties that shows a conflict: return edges, each tied to the next, back to the first on the other side.
 use crate::dart_lists::Links;
 use crate::fixed_tables::{ByArc, ByDart, ByEdge, NONE, plus, twice};
 use crate::search_tables::Search;
@@ -11,8 +10,7 @@ const UNSEEN: u32 = 2;
 /// The tables of a breadth-first search along ties, and the ring that it found.
 #[derive(Drop)]
 pub struct OddRing {
-    // for each return edge the first of its ends of ties; end 2k goes along tie k from its one edge, 2k + 1 from the
-    // other
+    // for each return edge its first tie end; end 2k goes along tie k from its one edge, 2k + 1 from the other
     first: ByArc,
     // for each end of a tie the next of its edge
     next: ByDart,
@@ -59,8 +57,7 @@ impl OddRing {
         self.first.set(edge, end);
     }
 
-    // Marks the return edge `edge` as reached along the tie end `end`, on `side`, and appends it to the queue, if it
-    // was not reached.
+    // Marks the return edge `edge`, if it was not reached, as reached along tie end `end` on `side`, and queues it.
     #[inline(always)]
     fn reach(&mut self, edge: u32, end: u32, side: u32) {
         if self.side.get(edge) == UNSEEN {

@@ -1,5 +1,4 @@
-//! Lists of the darts at each vertex, doubly linked. The darts of edge e are 2e and 2e + 1, and each is the other's
-//! twin. The darts of edge e are 2e and 2e + 1, and each is the other's twin.
+//! Doubly linked lists of the darts at each vertex. The darts of edge e are 2e and 2e + 1, each the other's twin.
 use crate::fixed_tables::{ByDart, ByVertex, NONE, minus, plus, twice};
 use crate::graph_edges::Edges;
 
@@ -71,8 +70,7 @@ impl Links {
         self.first.set(vertex, dart);
     }
 
-    /// Empties the lists of `vertices` vertices, which `chain_edge` or `chain_next` is to fill. These lists are
-    /// linked forwards only.
+    /// Empties the lists of `vertices` vertices, for `chain_edge` or `chain_next` to fill, linked forwards only.
     pub fn begin_chains(&mut self, vertices: u32) {
         self.vertices = vertices;
         self.first.fill(vertices, NONE);
@@ -97,8 +95,7 @@ impl Links {
         self.degree.set(vertex, plus(self.degree.get(vertex), 1));
     }
 
-    /// Puts both darts of the edge between `a` and `b` at the fronts of their lists, linked forwards only, and counts
-    /// them.
+    /// Puts both darts of the edge between `a` and `b` first in their lists, linked forwards only, and counts them.
     #[inline(always)]
     pub fn chain_next(&mut self, edge: u32, a: u32, b: u32) {
         self.chain(edge, a, b);

@@ -13,8 +13,7 @@ use std::alloc::AllocError;
 /// right. Also the rotation lists that are being made.
 #[derive(Drop)]
 pub struct Places {
-    // for each vertex on the way to the search the first return edge whose twin is left of the dart by which the way
-    // leaves it
+    // for each vertex on the way to the search the first return edge whose twin is left of the way's dart out of it
     left: ByVertex,
     // for each such vertex the first one whose twin is right of that dart
     right: ByVertex,
@@ -61,8 +60,7 @@ impl Places {
         plus(place, 1)
     }
 
-    // Writes, from index `place` on, the vertices from which the return edges chained from `dart` on come. Returns
-    // the next index.
+    // Writes, from index `place` on, the tails of the return edges chained from `dart` on. Returns the next index.
     #[inline(always)]
     fn put_tails(&mut self, links: &Links, place: u32, dart: u32) -> u32 {
         let mut place = place;
@@ -77,8 +75,7 @@ impl Places {
         place
     }
 
-    // Goes from `vertex` to its child `head`, whose first entry is `vertex`. Returns the index of the next entry
-    // there.
+    // Goes from `vertex` to its child `head`, whose first entry is `vertex`. Returns the next entry's index there.
     #[inline(always)]
     fn go_down(&mut self, vertex: u32, head: u32) -> u32 {
         self.left.set(vertex, NONE);

@@ -66,8 +66,8 @@ impl Edges {
         links.darts = twice(place.count);
     }
 
-    /// Reads the edges of a graph as bits. Says whether it has few vertices, and no more edges than a plane map; else they are
-    /// to be read as lists.
+    /// Reads the edges of a graph as bits. Says whether it has few vertices, and no more edges than a plane map; else
+    /// they are to be read as lists.
     pub fn read_few(&mut self, graph: &Graph, links: &mut Links, few: &mut Few) -> bool {
         if u32::from(graph.n()) > FEW {
             return false;
@@ -103,8 +103,7 @@ struct Place {
     count: u32,
 }
 
-// Chains the edges of the six `bits` of one byte in `links`, until there are `enough` edges. Returns the position of
-// the last one.
+// Chains the edges of a byte's six `bits` in `links`, until there are `enough` edges. Returns the last one's position.
 #[inline(always)]
 fn chain_byte(links: &mut Links, bits: u32, place: Place, enough: u32) -> Place {
     let mut bits = bits;
@@ -129,8 +128,7 @@ fn chain_byte(links: &mut Links, bits: u32, place: Place, enough: u32) -> Place 
     place
 }
 
-// Returns the greatest number of edges of a simple plane map with this many vertices, or with three where they are
-// fewer.
+// Returns the most edges of a simple plane map with this many vertices, or with three where they are fewer.
 fn most_edges(vertices: u32) -> u32 {
     minus(vertices.max(3).wrapping_mul(3), 6)
 }

@@ -1,5 +1,4 @@
-//! The orientation phase (first search): it orients edges, finds their lowpoints, and sorts the darts of each vertex
-//! by nesting depth.
+//! The orientation phase (first search) orients edges, finds lowpoints, and sorts each vertex's darts by nesting depth.
 use crate::dart_lists::Links;
 use crate::fixed_tables::{NONE, lesser, minus, plus, twice};
 use crate::search_tables::{Search, steps};
@@ -123,8 +122,7 @@ fn orient_from(links: &Links, search: &mut Search, root: u32) {
     }
 }
 
-/// Orients all edges, records the roots in rising order, and sorts the darts that leave each vertex by rising nesting
-/// depth.
+/// Orients all edges, records roots in rising order, and sorts the darts leaving each vertex by rising nesting depth.
 pub fn orient_all(links: &Links, search: &mut Search) {
     search.height.fill(links.vertices, NONE);
     search.root_count = 0;

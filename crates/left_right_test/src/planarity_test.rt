@@ -1,5 +1,4 @@
-//! The left-right planarity test as a whole, for one graph after another: it reads, searches, refuses or gives
-//! rotation lists.
+//! The whole left-right planarity test, for one graph after another: reads, searches, refuses or gives rotation lists.
 ghost use Rattle.std.specs.Prelude.{◌≡◌, ◌<◌, length, IfOk, IsTrue};
 ghost use Rattle.left_right_check.specs.Ties.{HasNoMap};
 
@@ -63,8 +62,7 @@ impl LeftRightTest {
         self.search.failed != NONE
     }
 
-    /// Says whether the edges are planar, by a search from the first vertex on. If not, `search` and `ring` hold the
-    /// conflict.
+    /// Says whether the edges are planar, by a search from vertex 0 on. If not, `search` and `ring` hold the conflict.
     pub fn passes_all(&mut self) -> bool {
         self.search.root = 0;
         if self.is_few {
@@ -75,8 +73,7 @@ impl LeftRightTest {
         self.agrees()
     }
 
-    /// Says whether the edges are planar, by a search from `search.root`. If not, `search` and `ring` hold the
-    /// conflict.
+    /// Says whether the edges are planar, searching from `search.root`. If not, `search` and `ring` hold the conflict.
     pub fn passes(&mut self) -> bool {
         orient_all(&self.links, &mut self.search);
         self.agrees()
@@ -102,8 +99,7 @@ impl LeftRightTest {
         !self.passes_all() && self.is_shown(graph)
     }
 
-    /// Returns the rotation lists of edges that passed, on `n` vertices, in the memory of `spent`. It fails only when
-    /// out of memory.
+    /// Returns rotation lists of the passed edges, on `n` vertices, in `spent`'s memory. Fails only when out of memory.
     pub fn lists(&mut self, spent: Rotations, n: u16) -> Result<Rotations, AllocError>
         requires { n < 4096 }
         ensures { IfOk result (λ lists. length lists ≡ n) }

@@ -2,8 +2,7 @@
 use crate::fixed_tables::{MANY_DARTS, NONE};
 use crate::search_tables::Search;
 
-// Settles the side of `dart`, and of all darts on the chain to which it is relative. Returns the side of `dart`, 0
-// right or 1 left.
+// Settles the sides of `dart` and all darts on the chain to which it is relative. Returns its side, 0 right or 1 left.
 fn settle_all_of(search: &mut Search, dart: u32) -> u32 {
     let mut whole = search.side.get(dart);
     let mut next = search.reference.get(dart);

@@ -1,5 +1,4 @@
-//! The figures of an input, read piece by piece: closed lines are judged one by one, as lines of figures and as
-//! notes between them.
+//! The figures of an input, read piece by piece: each closed line is judged as a figure line or a note between them.
 //!
 //! `FigureReader` takes pieces of bytes, and answers each figure as its last line is closed. It keeps the open
 //! line and what the lines of a figure have given, and looks at no byte twice. `read_figure` answers what stands at an

@@ -18,8 +18,7 @@ struct NewEdge {
 }
 
 impl NewEdge {
-    // Appends to `new` the list `us` of vertex `w`, with the edge if `w` is an end of it. It fails only when out of
-    // memory.
+    // Appends to `new` the list `us` of vertex `w`, with the edge if it ends at `w`. Fails only when out of memory.
     fn push_row(
         &self,
         alloc: Global,
@@ -39,9 +38,8 @@ impl NewEdge {
     }
 }
 
-/// Returns the lists with an edge between `u` and `v` added. `v` stands directly after `a` in the list of `u`, and
-/// `u` directly after `c` in that of `v`, or at the end where there is no such entry. It fails only when out of
-/// memory.
+/// Returns the lists with a new edge between `u` and `v`. `v` stands directly after `a` in the list of `u`, and `u`
+/// directly after `c` in that of `v`. With no such entry the vertex stands last. Fails only when out of memory.
 pub fn with_edge_after(
     alloc: Global,
     lists: &Rotations,

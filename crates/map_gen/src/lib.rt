@@ -1,5 +1,4 @@
-//! Generated maps: stacked triangulations, in which each further vertex is put into a face that pseudorandom numbers
-//! choose.
+//! Generated maps: stacked triangulations, in which pseudorandom numbers choose the face for each further vertex.
 #![tactic(auto)]
 
 ghost use Rattle.map_gen.specs.Laws.{StackedIsTriangulation};

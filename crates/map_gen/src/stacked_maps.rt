@@ -34,8 +34,7 @@ fn chosen(number: u32, faces: usize) -> usize
     (number / 65536) as usize % faces
 }
 
-// Returns the lists of `n` vertices, of which the first three are a triangle and the others isolated. It fails only
-// when out of memory.
+// Returns the lists of `n` vertices, the first three a triangle, the others isolated. Fails only when out of memory.
 fn triangle(alloc: Global, n: u16) -> Result<Rotations, AllocError>
     requires some { 3 ≤ n }
     requires few { n < 4096 }

@@ -11,10 +11,9 @@ pub type PathList = ItemLists<VertexId>;
 
 /// A list of lists of items, of any lengths. Contracts see it as just that.
 ///
-/// All items stand in one vector, list after list. So lists come one by one without a vector of their own: `open`
-/// begins an empty list at the end, and `append` gives the last list one item more. `clear` and `truncate` keep the
-/// memory for the lists to come. A loop that needs the vectors themselves takes them by `into_parts` and gives them
-/// back by `from_parts`.
+/// All items stand in one vector, list after list. So lists come one by one without a vector of their own. `open`
+/// begins an empty list at the end, and `append` gives the last list an item. `clear` and `truncate` keep the memory
+/// for the lists to come. A loop that needs the vectors takes them by `into_parts` and gives them back by `from_parts`.
 #[derive(Drop)]
 pub struct ItemLists<T: Copy> {
     // all lists, one after another
@@ -45,8 +44,7 @@ impl<T: Copy> ItemLists<T> {
         }
     }
 
-    /// Returns an empty list of lists, with room for `items` items in `lists` lists. It fails only when out of
-    /// memory.
+    /// Returns an empty list of lists, with room for `items` items in `lists` lists. Fails only when out of memory.
     pub fn with_capacity(alloc: Global, items: usize, lists: usize) -> Result<Self, AllocError>
         ensures { IfOk result (λ list. list ≡ []) }
     {

@@ -73,8 +73,7 @@ impl<T: Copy> ItemList<T> {
         self.items
     }
 
-    /// Returns an empty list with room for `capacity` items, in the memory of this one. It fails only when out of
-    /// memory.
+    /// Returns an empty list with room for `capacity` items, in this one's memory. Fails only when out of memory.
     pub fn emptied(self, capacity: usize) -> Result<Self, AllocError>
         ensures { IfOk result (λ list. list ≡ []) }
     {

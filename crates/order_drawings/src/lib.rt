@@ -1,5 +1,4 @@
-//! Drawings over a canonical order: its construction sequence, the contour interval under each vertex, and laws of
-//! drawings.
+//! Drawings over a canonical order: its construction sequence, each vertex's contour interval, and laws of drawings.
 #![tactic(auto)]
 
 pub mod order_runs;

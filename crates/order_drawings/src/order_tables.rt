@@ -1,5 +1,4 @@
-//! Tables for drawing by a canonical order: for each vertex the interval of the contour under it, by ranks, and
-//! points by ranks.
+//! Tables for drawing by a canonical order, by ranks: the interval of the contour under each vertex, and the points.
 
 ghost use Rattle.order_drawings.specs.Ranks.{RanksArePlaces};
 

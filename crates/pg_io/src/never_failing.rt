@@ -34,8 +34,7 @@ impl Source for SureSource {
 
     ghost faults = { λ _. 0 };
 
-    /// Gives as many bytes as the least of `most`, the length of `buf` and the number of bytes left.
-    /// It never fails.
+    /// Gives as many bytes as the least of `most`, the length of `buf` and the number of bytes left. It never fails.
     fn read(&mut self, buf: &mut [u8]) -> Result<usize, ReadFailed>
         requires { 0 < length buf.old }
 

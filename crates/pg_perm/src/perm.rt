@@ -77,8 +77,7 @@ impl Perm {
         self.images[i as usize]
     }
 
-    /// Exchanges the images of `a` and `b`, which are below the length. Where a is b nothing changes.
-    /// It takes no memory.
+    /// Exchanges the images of `a` and `b`, which are below the length. Where a is b nothing changes. Takes no memory.
     pub fn swap_images(&mut self, a: u32, b: u32)
         requires a_in { a < length self.old }
         requires b_in { b < length self.old }
@@ -103,8 +102,7 @@ impl Perm {
         Ok(count_orbits(&self.images, &mut marked))
     }
 
-    /// Says whether `a` and `b`, which are below the length, lie in one orbit. It takes no memory, and its time is
-    /// linear in the orbit.
+    /// Says whether `a` and `b`, below the length, lie in one orbit. Takes no memory, and time linear in the orbit.
     pub fn same_orbit(&self, a: u32, b: u32) -> bool
         requires a_in { a < length self.now }
         requires b_in { b < length self.now }

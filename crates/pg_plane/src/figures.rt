@@ -29,8 +29,7 @@ pub struct BarFigure {
     pub x1: Ints,
     /// Where each bar ends.
     pub x2: Ints,
-    /// Where each edge stands: entry i belongs to edge number i, in the order of the lesser ends and then
-    /// of the greater.
+    /// Where each edge stands: entry i belongs to edge number i, in the order of the lesser ends, then of the greater.
     pub column: Ints,
 }
 

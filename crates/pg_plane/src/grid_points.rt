@@ -92,8 +92,7 @@ fn are_opposite(s: i64, t: i64) -> bool
     (s < 0 && 0 < t) || (0 < s && t < 0)
 }
 
-/// Says whether the segments from `a` to `b` and from `c` to `d` cross: each has its ends strictly on the two sides
-/// of the other.
+/// Says whether the segments `a` to `b` and `c` to `d` cross: each has its ends strictly on the two sides of the other.
 pub fn crosses(a: Point, b: Point, c: Point, d: Point) -> bool
     requires a { IsInRange a }
     requires b { IsInRange b }

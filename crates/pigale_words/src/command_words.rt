@@ -17,8 +17,7 @@ use clap::error::ErrorKind;
 use clap::{Arg, ArgMatches, Command, Error};
 use std::alloc::{AllocError, Global};
 
-// Returns the clap command: the job's word, and the options of all jobs, each with one text. It fails only when out
-// of memory.
+// Returns the clap command: the job's word, and all jobs' options, each with one text. Fails only when out of memory.
 fn command<'a>(alloc: Global) -> Result<Command<'a>, AllocError>
     ensures { IfOk result (λ r. app_of r ≡ the_command) }
 {
@@ -169,8 +168,7 @@ fn bare_job(matches: &ArgMatches, job: Job) -> Option<Job>
     if has_option(matches) { None } else { Some(job) }
 }
 
-// Returns the job with this word, or None where there is none or the options are not those that it takes. It has a
-// case for each job.
+// Returns the job of `word`, or None if there is none or it takes other options. It has a case for each job.
 fn job_named(matches: &ArgMatches, word: &str) -> Option<Job>
     ensures { result ≡ job_by_word (given_in (rows_of (found_of matches.now))) word.now }
 {
@@ -222,9 +220,9 @@ pub fn words_to_job(alloc: Global, words: &[String]) -> Result<Job, WordFault>
 
 /// A law: the words of each job are its word and its options, and no others.
 ///
-/// The options stand before or behind the word, each as the two words `--name text` or as the one word `--name=text`. `--` may
-/// stand once; behind it is no option, and so nothing but the job's word where that has not come before. A job that draws
-/// has the form at most, and `gen` the size and the number, in either order.
+/// The options stand before or behind the word, each as the two words `--name text` or as the one word `--name=text`.
+/// `--` may stand once; behind it is no option, and so nothing but the job's word where that has not come before. A job
+/// that draws has the form at most, and `gen` the size and the number, in either order.
 pub fn job_words()
     ensures { JobWords }
 {}

@@ -7,8 +7,7 @@ use figure_text::decimals::{decimal_number, is_canonical};
 // The number that stands for all that are beyond every range.
 const BEYOND: u64 = 4294967296;
 
-/// Parses a number from `least` to `most` in decimal: digits alone, with no leading zero. Returns None for any other
-/// text.
+/// Parses a number from `least` to `most` in decimal: digits alone, no leading zero. Returns None for any other text.
 pub fn number_in(text: &[u8], least: u32, most: u32) -> Option<u32>
     ensures { result ≡ number_by least most text.now }
 {

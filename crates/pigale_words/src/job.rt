@@ -17,15 +17,14 @@ pub enum Job {
     Bars(Form),
     /// Draws each three-connected map of genus zero with convex faces.
     Convex(Form),
-    /// Tiles a rectangle by a rectangle for each vertex, for maps with a quadrangle outside and triangles inside, where no
-    /// triangle of edges separates.
+    /// Tiles a rectangle by a rectangle for each vertex, for maps with a quadrangle outside and triangles inside, where
+    /// no triangle of edges separates.
     Rect(Form),
     /// Makes the map of so many vertices from a number, and draws it. It reads nothing.
     Gen(u16, u32),
     /// Checks each figure of a text.
     Verify,
-    /// Draws a map of each graph with at least three vertices that has one of genus zero, and gives a Kuratowski witness of
-    /// each other one.
+    /// Draws a genus-zero map of each graph with at least three vertices that has one, else gives a Kuratowski witness.
     Embed(Form),
 }
 

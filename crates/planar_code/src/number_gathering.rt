@@ -48,8 +48,7 @@ fn behind_last_zero(piece: &[u8]) -> usize
     0
 }
 
-// Does the loops of `gather_narrow`. While a 0 is still to come no end of the piece is tested, and after the last 0
-// no list is closed.
+// Does the loops of `gather_narrow`. Before the last 0 no end of the piece is tested, and after it no list is closed.
 #[inline(always)]
 fn narrow_numbers(gathered: &mut OpenLists, count: usize, piece: &[u8]) -> usize
     requires { CanGather 0 (Narrow count) count gathered.old piece.now }

@@ -54,8 +54,7 @@ impl OpenLists {
         mem::replace(self, OpenLists::new(self.alloc))
     }
 
-    /// Reserves memory for `entries` more entries and `lists` lists. The lists stay. It fails only when out of
-    /// memory.
+    /// Reserves memory for `entries` more entries and `lists` lists. The lists stay. It fails only when out of memory.
     pub fn reserve(&mut self, entries: usize, lists: usize) -> Result<(), AllocError>
         ensures lists { self.new.lists ≡ self.old.lists }
         ensures last { self.new.last ≡ self.old.last }

@@ -1,5 +1,4 @@
-//! `RecordReader`: a reader of planar_code that is fed piece by piece or byte by byte, and passes over the file's
-//! header.
+//! `RecordReader`: a reader of planar_code fed piece by piece or byte by byte, which passes over the file's header.
 ghost use Rattle.std.specs.Prelude.{◌≡◌, ◌+◌, ◌<◌, ◌≤◌, ◌↔◌, ◌&&◌, ◌==◌, [], ◌∷◌, length, slice_index, IsTrue, IsFalse, IfOk, OnErr};
 ghost use Rattle.planar_code.specs.Reading.{header, input_limit};
 ghost use Rattle.planar_code.specs.Fed.{Feeds};
@@ -31,8 +30,7 @@ pub enum Fed {
 pub enum Taken {
     /// All bytes of the piece joined them, and no record ended.
     More,
-    /// A record ended with so many bytes of the piece, at least 1. The bytes behind them were not
-    /// taken.
+    /// A record ended with so many bytes of the piece, at least 1. The bytes behind them were not taken.
     Ended(usize),
     /// With so many bytes of the piece, at least 1, they are three bytes, the first 0 and the others
     /// no number from 1 to 4095. The second number is the offset of the first of them. The last of
@@ -72,8 +70,7 @@ const BEHIND_HEADER: Place = Place {
     in_header: false,
 };
 
-/// Says whether pending bytes of this `length` are a front of the header, as `in_header` says, and still are one with
-/// `byte`.
+/// Says whether `length` pending bytes are a front of the header, as `in_header` says, and still are one with `byte`.
 fn goes_on(in_header: bool, length: usize, byte: u8) -> bool
     ensures { IsTrue result
         ↔ (IsTrue in_header × (length < 15) × (byte ≡ slice_index header length)) }
@@ -182,8 +179,7 @@ impl Model for RecordReader {
 impl RecordReader {
     ghost use Rattle.planar_code.specs.State.{at_front};
 
-    /// Makes a reader before the first byte of a file: nothing is pending, and a header may come. It takes
-    /// no memory.
+    /// Makes a reader before the first byte of a file: nothing is pending, and a header may come. It takes no memory.
     pub fn new(alloc: Global) -> Self
         ensures { result ≡ at_front }
     {

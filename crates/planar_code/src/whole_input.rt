@@ -1,5 +1,4 @@
-//! Records of planar_code read from bytes that are all in memory: the record at an offset, and the offset of the
-//! first.
+//! Records of planar_code read from bytes that are all in memory: the record at an offset, and the offset of the first.
 ghost use Rattle.std.specs.Prelude.{◌≡◌, ◌≤◌, length, MatchResult};
 ghost use Rattle.planar_code.specs.Reading.{header_of};
 ghost use Rattle.planar_code.specs.Step.{StandsAt, FailsAt};

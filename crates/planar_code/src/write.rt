@@ -7,8 +7,7 @@ ghost use Rattle.planar_code.specs.Write.{spelled, entry_limit, first_bytes, rec
 use map_lists::Rotations;
 use std::alloc::AllocError;
 
-// Appends `number` in two bytes if `wide` is set, else in one. When memory runs out the bytes before are as they
-// were.
+// Appends `number` in two bytes if `wide` is set, else in one. When memory runs out the bytes before are as they were.
 fn write_number(wide: bool, number: u16, out: &mut Vec<u8>) -> Result<(), AllocError>
     requires { number ≤ entry_limit wide }
     ensures ok { OnOk result (out.new.items ≡ out.old.items ++ spelled wide number) }

@@ -3,9 +3,8 @@
 
 ghost use Rattle.plane_drawings.specs.DrawingsLaw.{CounterclockwiseIsPlane};
 
-/// In a map of genus zero with at least three vertices and 3n - 6 edges, a drawing in which each face is
-/// walked counterclockwise but that of a base dart, which is walked clockwise, is plane and keeps the
-/// rotations.
+/// Take a map of genus zero with at least three vertices and 3n - 6 edges. A drawing of it is plane and keeps the
+/// rotations if each face is walked counterclockwise, but that of a base dart clockwise.
 pub fn counterclockwise_is_plane()
     ensures { CounterclockwiseIsPlane }
 {}

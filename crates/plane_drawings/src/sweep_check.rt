@@ -1,5 +1,4 @@
-//! A left-to-right sweep over the vertices of a drawing that shows it plane, or plane without the edges of a few
-//! excluded vertices.
+//! A left-to-right sweep over vertices that shows a drawing plane, or so without the edges of a few excluded vertices.
 
 mod line_sides;
 mod new_lines;

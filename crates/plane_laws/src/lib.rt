@@ -6,8 +6,7 @@ pub mod map_edits;
 
 ghost use Rattle.plane_laws.specs.Laws.{ComponentsArePaths, EdgeRemoved, BridgeTest, FacesMerged, EdgeBound, FacesHaveThree, EdgeBoundMet, CornerSplit, DigonSplit};
 
-/// Two vertices of a simple map are in one of the classes that count its components exactly where a
-/// path joins them.
+/// Two vertices of a simple map are in one of the classes that count its components exactly where a path joins them.
 pub fn components_are_paths()
     ensures { ComponentsArePaths }
 {}
@@ -51,8 +50,7 @@ pub fn corner_split()
     ensures { CornerSplit }
 {}
 
-/// Where two adjacent vertices of a map of genus zero also have corners in one face, they separate
-/// the two sides.
+/// Where two adjacent vertices of a map of genus zero also have corners in one face, they separate the two sides.
 pub fn digon_split()
     ensures { DigonSplit }
 {}

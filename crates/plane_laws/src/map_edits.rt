@@ -27,8 +27,7 @@ pub fn edge_in_face()
     ensures { EdgeInFace }
 {}
 
-/// An edge between two components of a map of genus zero gives a map of genus zero, with one face and
-/// one component less.
+/// An edge between two components of a map of genus zero gives one of genus zero with one face and one component less.
 pub fn edge_between()
     ensures { EdgeBetween }
 {}
@@ -63,8 +62,7 @@ pub fn some_ear()
     ensures { SomeEar }
 {}
 
-/// An ear of a face, cut off by the edge between the vertices before and after it, is a triangle, and all triangles
-/// stay.
+/// An ear of a face, cut off by the edge between the vertices before and after, is a triangle, and all triangles stay.
 pub fn ear_cut()
     ensures { EarCut }
 {}

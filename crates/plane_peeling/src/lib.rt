@@ -15,8 +15,7 @@ pub fn some_removable()
     ensures { SomeRemovable }
 {}
 
-/// A triangulation of which nothing is taken off is a near triangulation, whose outer cycle is the face of
-/// the base.
+/// A triangulation of which nothing is taken off is a near triangulation, whose outer cycle is the face of the base.
 pub fn nothing_taken_off()
     ensures { NothingTakenOff }
 {}

@@ -1,5 +1,4 @@
-//! Promised contracts of the checks of drawings: yes exactly where a drawing is valid, else the first fault with its
-//! least vertices.
+//! Promised contracts of drawing checks: yes exactly for a valid drawing, else the first fault with its least vertices.
 ghost use Rattle.std.specs.Prelude.{◌≡◌, ◌<◌, ◌↔◌, IfOk, IsTrue};
 ghost use Rattle.bar_check.specs.Bars.{HasBars};
 ghost use Rattle.bar_check.specs.Verdicts.{IsBarVerdict};

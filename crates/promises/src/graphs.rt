@@ -49,8 +49,8 @@ pub fn embed_by_sides(alloc: Global, graph: &Graph) -> Result<Embedding, AllocEr
     embed_graph::contracted_embeddings::embed_by_sides(alloc, graph)
 }
 
-/// Returns a drawn map of genus zero with the edges of `graph`, or a subdivision of K5 or K3,3, by an `embedder` that may have
-/// embedded others before.
+/// Returns a drawn map of genus zero with the edges of `graph`, or a subdivision of K5 or K3,3, by an `embedder` that
+/// may have embedded others before.
 pub fn embed_figure(embedder: &mut Embedder, graph: &Graph) -> Result<EmbedFigure, AllocError>
     requires { 3 ≤ graph.now.n }
     ensures { IfOk result (IsEmbedFigure graph.now) }

@@ -74,8 +74,7 @@ pub fn three_ways()
     left_right_laws::three_ways();
 }
 
-/// A connected map with a tour along a spanning tree has genus zero exactly where all other edges are nested in
-/// it.
+/// A connected map with a tour along a spanning tree has genus zero exactly where all other edges are nested in it.
 pub fn plane_by_nesting()
     ensures { PlaneByNesting }
 {
@@ -89,8 +88,7 @@ pub fn fork_order()
     left_right_laws::fork_order();
 }
 
-/// A graph that has a map of genus zero has, with each rooted forest, a partition of its returning edges into
-/// left and right.
+/// A graph with a map of genus zero has, with each rooted forest, a left-right partition of its returning edges.
 pub fn plane_is_left_right()
     ensures { PlaneIsLeftRight }
 {
@@ -105,24 +103,21 @@ pub fn fork_is_ordered()
     left_right_maps::fork_is_ordered();
 }
 
-/// The darts of a map with a rooted spanning tree, written down from the root, are a tour along the tree that meets
-/// each dart once.
+/// The darts of a map with a rooted spanning tree, listed from the root, are a tour along the tree, each met once.
 pub fn tree_has_tour()
     ensures { TreeHasTour }
 {
     left_right_maps::tree_has_tour();
 }
 
-/// A map with a rooted spanning tree has genus zero where its other edges, in the tour along the tree, are pairs
-/// that do not cross.
+/// A map with a rooted spanning tree has genus zero where no two other edges cross as pairs in the tour along the tree.
 pub fn balanced_is_plane()
     ensures { BalancedIsPlane }
 {
     left_right_maps::balanced_is_plane();
 }
 
-/// A graph with a depth-first forest has a map of genus zero exactly where the edges that return can be parted into
-/// left and right.
+/// A graph with a depth-first forest has a map of genus zero exactly if its return edges have a left-right partition.
 pub fn planar_by_left_right()
     ensures { PlanarByLeftRight }
 {

@@ -1,5 +1,4 @@
-//! The promises of the libraries: for each public call the clauses of its contract, said again and proved by the call
-//! alone.
+//! The promises of the libraries: the clauses of each public call's contract, said again and proved by the call alone.
 //!
 //! A clause that is taken away from a call, or weakened, fails here. So this is also the list to read first: what
 //! each call returns, and what its words mean is in `docs/DEFINITIONS.md`.

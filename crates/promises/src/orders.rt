@@ -102,7 +102,8 @@ pub fn peeled_map(
     peeler.order_map(alloc, tri, lists, base)
 }
 
-/// Orders the triangulation with these `lists` for the base from `t` to `s`, in the memory of `peeler`, which keeps the order.
+/// Orders the triangulation with these `lists` for the base from `t` to `s`, in the memory of `peeler`, which keeps the
+/// order.
 pub fn peeled_lists(
     peeler: &mut Peeler,
     alloc: Global,

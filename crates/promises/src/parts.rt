@@ -52,7 +52,8 @@ pub fn separating_pair(
     conn_parts::separating_pair(alloc, map)
 }
 
-/// Returns the least separating pair of `map`, without cut vertex and of genus zero, by its `faces`, or None where it has none.
+/// Returns the least separating pair of `map`, without cut vertex and of genus zero, by its `faces`, or None where it
+/// has none.
 pub fn separating_pair_by(
     alloc: Global,
     map: &HalfMap,

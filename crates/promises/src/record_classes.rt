@@ -87,7 +87,8 @@ pub fn made_counted_map(maker: &mut CountedMaker, lists: &Rotations) -> Result<C
     maker.counted_map(lists)
 }
 
-/// Makes the map of genus zero of `lists` in the memory of `maker`, which keeps its components, or names the first condition that they break.
+/// Makes the map of genus zero of `lists` in the memory of `maker`, which keeps its components, or names the first
+/// condition that they break.
 pub fn made_plane_map(
     maker: &mut CountedMaker,
     lists: &Rotations,

@@ -15,8 +15,7 @@ pub trait Job<F: Format> {
     /// The texts that a job of this kind writes.
     ghost answers: { Self.Kind → Answers F.Record F.End };
 
-    /// Appends to `out` the block of record `number`, and returns whether the record was served. When memory runs out
-    /// `out` is as before.
+    /// Appends record `number`'s block to `out`, and says whether it was served. If memory runs out `out` is as before.
     fn answer(
         &mut self,
         number: u32,

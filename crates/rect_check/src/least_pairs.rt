@@ -57,8 +57,7 @@ impl Rects<'_> {
         None
     }
 
-    // Returns the least two vertices of which one of contact and edge is missing. All pairs are tried only of
-    // vertices with a mark.
+    // Returns the least two vertices with just one of contact and edge. All pairs are tried only of marked vertices.
     pub(crate) fn first_wrong(&self, marks: &[bool]) -> Option<(VertexId, VertexId)>
         requires marks { length marks.now ≡ length self.now.map.now.lists }
         requires joined { AllJoined self.now.map.now.lists marks.now self.now.fig.now }

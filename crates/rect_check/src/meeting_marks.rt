@@ -117,8 +117,7 @@ impl Pass<'_> {
 }
 
 impl Rects<'_> {
-    // Returns the least two rectangles whose interiors meet. The slices are room for the order, the rows and the
-    // marks.
+    // Returns the least two rectangles whose interiors meet. The slices are room for the order, rows and marks.
     fn first_meet_in(
         &self,
         order: &mut [u16],

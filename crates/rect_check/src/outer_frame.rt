@@ -30,8 +30,7 @@ fn is_round_of_four(frame: OuterFour, s: VertexId, e: VertexId) -> bool
     s.0 == 0 && e.0 == d && 0 != d && 0 != p && 0 != q && d != p && d != q && p != q
 }
 
-/// Returns the vertices after vertex 0 on the face of its first dart, if that face is walked by four darts over four
-/// vertices.
+/// Returns the vertices after vertex 0 on the face of its first dart, if four darts walk that face over four vertices.
 pub fn outer_four(map: &HalfMap) -> Option<OuterFour>
     ensures { MatchOption result (¬ HasFrame map.now.lists) (λ f. IsFrame map.now.lists f.top.0 f.right.0 f.bottom.0) }
 {

@@ -15,8 +15,7 @@ pub enum RectVerdict {
     /// The rectangles of the two vertices, the lesser first, share a side of positive length, and the
     /// vertices are not adjacent; or the other way round.
     Contact(VertexId, VertexId),
-    /// Vertex 0 has no neighbour, or the face of the dart to the first one is not walked by four darts over
-    /// four vertices.
+    /// Vertex 0 has no neighbour, or the face of its first dart is not walked by four darts over four vertices.
     NoFrame,
     /// The vertex is the first of that face whose rectangle is not at its end: the first at the left, the
     /// second along the top, the third at the right, the fourth along the bottom.

@@ -1,5 +1,4 @@
-//! `FrameFinder`: the outer face of a map of the class of `rect`, shown by counts and corners of the lists, without a
-//! half-edge map.
+//! `FrameFinder`: the outer face of a map of `rect`'s class, by counts and corners of the lists, with no half-edge map.
 ghost use Rattle.std.specs.Prelude.{◌≡◌, ◌≤◌, ◌<◌, ◌+◌, ◌*◌, ⊤, ℕ, length, slice_index, sum_by, IsTrue, MatchOption, IfOk};
 ghost use Rattle.map_theory.specs.Maps.{IsSimpleMap, HasDart, follows, list_of};
 ghost use Rattle.rect_check.specs.Loops.{IsFrame};
@@ -34,8 +33,7 @@ pub fn next_on_face(lists: &Rotations, u: VertexId, v: VertexId) -> VertexId
     VertexId(ring.next(u.0))
 }
 
-// Returns the outer face, that of the dart from vertex 0 to its first neighbour, if it is walked by four darts over
-// four vertices.
+// Returns the outer face, that of vertex 0's first dart, if it is walked by four darts over four vertices.
 fn outer_face(lists: &Rotations) -> Option<OuterFour>
     requires simple { IsSimpleMap lists.now }
     requires some { 0 < length lists.now }
@@ -77,10 +75,9 @@ impl FrameFinder {
     /// Returns the outer face of the map with these lists, which are from 1 to 4095, if counts and corners show that it
     /// is of the class. `None` leaves it open.
     ///
-    /// A connected map of genus zero with 3n - 7 edges, of which the outer face is a quadrangle, has no other face but
-    /// triangles; where no edge joins two vertices of the outer face across it, the corners may then show that no
-    /// triangle of edges separates. After a call that ran out of memory the finder serves as before. The time is linear in
-    /// the entries.
+    /// A connected map of genus zero with 3n - 7 edges whose outer face is a quadrangle has only triangles besides.
+    /// Where no edge joins two vertices of the outer face across it, the corners may show that no triangle of edges
+    /// separates. After running out of memory the finder serves as before. The time is linear in the entries.
     pub fn frame(&mut self, lists: &Rotations) -> Result<Option<OuterFour>, AllocError>
         requires some_list { 0 < length lists.now }
         ensures { IfOk result (λ found. MatchOption found ⊤ (λ f. IsRectMap lists.now × IsFrame lists.now f.top.0 f.right.0 f.bottom.0)) }

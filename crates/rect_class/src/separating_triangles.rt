@@ -103,8 +103,7 @@ impl Edge<'_> {
         map.head(map.next(self.d))
     }
 
-    // Says whether the head of dart `e` forms a separating triangle with `a` and `b`, and is the greatest of the
-    // three.
+    // Says whether the head of dart `e` forms a separating triangle with `a` and `b`, and is the greatest of the three.
     fn leads_to_third(&self, e: DartId) -> bool
         requires { IsLive self.now.near.map.now e.0 }
         ensures { IsTrue result ↔ IsSeparating self.now.near.map.now.lists self.now.a.0 self.now.b.0 (dart_of self.now.near.map.now e.0).1 }
@@ -155,8 +154,7 @@ impl Upper<'_> {
         a.0 < b.0 && Edge { near, d, a, b }.least_third().is_some()
     }
 
-    // Returns the greatest vertex of the least separating triangle whose other vertices are `a` and `b`. It requires
-    // that there is one.
+    // Returns the greatest vertex of the least separating triangle whose other vertices are `a` and `b`. There is one.
     fn third_between(&self, a: VertexId, b: VertexId) -> VertexId
         requires { HasThird self.now.map.now.lists a.0 b.0 }
         ensures { IsLeast (IsSeparating self.now.map.now.lists a.0 b.0) result.0 }

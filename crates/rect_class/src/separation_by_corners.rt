@@ -1,5 +1,4 @@
-//! A quick test that no triangle of edges separates, by the lists alone: common neighbours stand next to an edge's
-//! end.
+//! A quick test that no triangle of edges separates, by the lists alone: common neighbours stand next to an edge's end.
 ghost use Rattle.std.specs.Prelude.{◌≡◌, ◌≢◌, ◌<◌, ◌↔◌, ◌+◌, ◌⊎◌, ℕ, length, All, AllPairs, slice_index, IsTrue, IfOk};
 ghost use Rattle.std.specs.Bool.{OnTrue};
 ghost use Rattle.map_theory.specs.Maps.{HasDart, IsSimpleMap, list_of, entry_after};
@@ -24,8 +23,7 @@ fn stamp_all(marks: &mut Vec<u16>, us: &[u16], stamp: u16)
     }
 }
 
-// A vertex `v` whose neighbours are marked by its stamp, v + 1, with the lists, the degrees and the marks of all
-// vertices.
+// A vertex `v` whose neighbours are marked by its stamp, v + 1, with the lists, degrees and marks of all vertices.
 #[derive(Clone, Copy)]
 struct Star<'a> {
     lists: &'a Rotations,
@@ -67,8 +65,7 @@ impl Star<'_> {
         true
     }
 
-    // Says whether entry `k` of the vertex's list comes after the vertex, or stands next to each common neighbour of
-    // both in that list.
+    // Says whether entry `k` of `v`'s list comes after `v`, or is next to each common neighbour of both in that list.
     fn is_closed_over(&self, k: usize) -> bool
         requires { k < length (list_of self.now.lists.now self.now.v) }
         ensures { OnTrue result (ComesBefore self.now.degrees.now (slice_index (list_of self.now.lists.now self.now.v) k) self.now.v
@@ -142,8 +139,7 @@ pub(crate) fn has_diagonal(lists: &Rotations, four: OuterFour) -> bool
     has_upper(lists, VertexId(0), four.right) || has_upper(lists, four.top, four.bottom)
 }
 
-/// Says whether the lists show at once that no triangle of edges separates. `false` leaves it open. `four` is the
-/// outer face.
+/// Says whether `lists` of outer face `four` show at once that no triangle of edges separates. `false` leaves it open.
 ///
 /// For each edge it goes over the shorter of two lists, so that its time is linear. It fails only when out of memory.
 pub(crate) fn none_separates(

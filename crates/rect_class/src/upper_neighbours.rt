@@ -16,8 +16,7 @@ fn has_degree(lists: &Rotations, degree: usize, u: u16) -> bool
     degree <= lists.list(usize::from(u)).len()
 }
 
-// Appends to `entries` those of a vertex's neighbours `us` that have no lower degree. It fails only when out of
-// memory.
+// Appends to `entries` those of a vertex's neighbours `us` that have no lower degree. It fails only when out of memory.
 fn put_row(entries: &mut Vec<u16>, lists: &Rotations, us: &[u16]) -> Result<(), AllocError>
     requires { All (λ u. u < length lists.now) us.now }
     ensures { IfOk result (λ _. entries.new.items ≡ entries.old.items ++ filter (the_test lists.now (length us.now)) us.now) }

@@ -1,5 +1,4 @@
-//! Rectangular duals of maps drawn for any base dart (Kant, He 1997), by a rectangular order and the sides of its
-//! boxes.
+//! Rectangular duals of maps drawn for any base dart (Kant, He 1997), by a rectangular order and the sides of boxes.
 
 mod box_sides;
 mod drawing;

@@ -1,5 +1,4 @@
-//! The answer of the job `rect` to a record, as a value: a rectangular dual, or the first condition that the record
-//! breaks.
+//! The answer of the job `rect` to a record, as a value: a rectangular dual, or the first condition the record breaks.
 
 mod drawer;
 mod record_figure;

@@ -1,5 +1,4 @@
-//! Regular edge labellings (transversal structures) of maps that have rectangular duals, for any base dart (Kant, He
-//! 1997).
+//! Regular edge labellings (transversal structures) of maps with rectangular duals, for any base dart (Kant, He 1997).
 
 mod horizontal_edges;
 mod label_types;

@@ -1,5 +1,4 @@
-//! Rectangular duals (Kant, He 1997): the rows and turns of an order, the sides of boxes, the drawing, and the edge
-//! labelling.
+//! Rectangular duals (Kant, He 1997): rows and turns of an order, sides of boxes, the drawing and the edge labelling.
 #![tactic(auto)]
 
 pub mod draw;

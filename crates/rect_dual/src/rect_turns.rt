@@ -1,5 +1,4 @@
-//! The turn of each row of a rectangular order: the index at which the horizontal edges of the contour begin under a
-//! new vertex.
+//! The turn of a row of a rectangular order: the index where the contour's horizontal edges begin under a new vertex.
 
 ghost use Rattle.std.specs.Prelude.{◌≡◌, ◌<◌, ◌≤◌, ◌+◌, ℕ, length, slice_index, All, IfOk};
 ghost use Rattle.map_theory.specs.Maps.{list_of};

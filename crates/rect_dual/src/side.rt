@@ -24,8 +24,7 @@ impl Side {
         }
     }
 
-    // Returns the index in a row of the vertex whose line the new vertex takes or follows, where the turn is at index
-    // `c`.
+    // Returns the index in a row of the vertex whose line the new vertex takes or follows, with the turn at index `c`.
     pub(crate) fn place_in(self, c: usize) -> usize
         requires { c + 1 < 2 ^ 64 }
         ensures place { result ≡ place_in self c }

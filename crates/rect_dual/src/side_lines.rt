@@ -104,8 +104,7 @@ impl SideLines {
         })
     }
 
-    // Puts the vertex `z` on the line of `at`, or if `own` is set on a new line after that of the first leading
-    // vertex from `at` on.
+    // Puts vertex `z` on `at`'s line, or, if `own`, on a new line after that of the first leading vertex from `at` on.
     fn put_line(&mut self, at: u16, own: bool, z: u16)
         requires at { at < vec_len self.old.lines }
         requires z { z < vec_len self.old.lines }

@@ -10,8 +10,7 @@ pub mod rect_order;
 ghost use Rattle.rect_orders.specs.Laws.{ClosedIsTriangulation, SomeRectOrder};
 ghost use Rattle.rect_orders.specs.Runs.{RectOrderIsRun};
 
-/// A map of the class of `rect`, with an edge added in its outer face between top and bottom, is a triangulation. It
-/// had no such edge.
+/// A map of the class of `rect` has no edge from top to bottom; with one added in its outer face it is a triangulation.
 pub fn closed_is_triangulation()
     ensures { ClosedIsTriangulation }
 {}

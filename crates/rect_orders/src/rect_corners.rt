@@ -1,5 +1,5 @@
-//! How the edges of a map with a rectangular order follow one another round an inner vertex. The law is the contract of a
-//! function that does nothing.
+//! How the edges of a map with a rectangular order follow one another round an inner vertex. The law is the contract of
+//! a function that does nothing.
 
 ghost use Rattle.rect_orders.specs.Corners.{CornersOfMap};
 

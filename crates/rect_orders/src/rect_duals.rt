@@ -8,8 +8,7 @@ pub fn boxes_are_dual_of_map()
     ensures { BoxesAreDualOfMap }
 {}
 
-/// A rectangular dual for the base dart from vertex 0 to its first neighbour is a rectangular dual by the definition
-/// of the check.
+/// A rectangular dual for the base dart from vertex 0 to its first neighbour is one by the definition of the check.
 pub fn dual_for_first()
     ensures { DualForFirst }
 {}

@@ -1,10 +1,9 @@
-//! Edge labellings of maps whose outer face goes along four vertices (Kant, He 1997), from rectangular orders. Each law is
-//! the contract of a function that does nothing.
+//! Edge labellings of maps whose outer face goes along four vertices (Kant, He 1997), from rectangular orders. Each law
+//! is the contract of a function that does nothing.
 
 ghost use Rattle.rect_orders.specs.Labellings.{LabelsOfOrder, BoxesByLabelling};
 
-/// The labels of edges at their ends, as in the construction sequence of a rectangular order, are a regular edge
-/// labelling of the map.
+/// The labels of edge ends in the construction sequence of a rectangular order are a regular edge labelling of the map.
 pub fn labels_of_order()
     ensures { LabelsOfOrder }
 {}

@@ -9,9 +9,8 @@ pub mod rect_ends;
 ghost use Rattle.rect_runs.specs.Corners.{CornersFollow};
 ghost use Rattle.rect_runs.specs.Later.{TwoLaterSort};
 
-/// Where each covered vertex was under an earlier step too, and so has two later neighbours, no horizontal edge of
-/// the contour comes before a vertical one under any step. In this form the premise of the other laws comes from an
-/// order of a map.
+/// Let each covered vertex be under an earlier step too, and so have two later neighbours. Then no horizontal contour
+/// edge comes before a vertical one under any step. In this form an order of a map gives the other laws' premise.
 pub fn two_later_sort()
     ensures { TwoLaterSort }
 {}

@@ -26,8 +26,7 @@ pub enum Refusal {
     CutVertex(VertexId),
     /// These two, the lesser first, are the least separating pair.
     SeparatingPair(VertexId, VertexId),
-    /// The outer face, that of the dart from vertex 0 to the first entry of its list, is not walked by four darts
-    /// over four vertices.
+    /// Four darts over four vertices do not walk the outer face, that of the dart from vertex 0 to its first neighbour.
     OuterNotQuad,
     /// The face of the dart is another than the outer one, and is not walked by three darts.
     NotTriangle(VertexId, VertexId),

@@ -8,8 +8,8 @@
 //! Vertices are numbered from 0. A map is written as its lists with `;` between them, as `1 2;2 0;0 1`, or as the
 //! name of a family and a number of vertices, as `wheel 300`.
 //!
-//! An answer leaves out all that there is no memory for, and a row that asks for nothing has none: the line then differs
-//! from the text that is wanted.
+//! An answer leaves out all that there is no memory for, and a row that asks for nothing has none: the line then
+//! differs from the text that is wanted.
 //!
 //! A check of functions on rows costs most where owned values stand beside one another and where a `?` ends one early.
 //! So most owned values are made in one function, which lends them to the next, and writing is a call that cannot fail.

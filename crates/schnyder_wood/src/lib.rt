@@ -1,5 +1,4 @@
-//! The Schnyder wood (realizer, 1990) of a canonical order of a triangulation, its paths and its regions, in linear
-//! time.
+//! The Schnyder wood (realizer, 1990) of a canonical order of a triangulation, its paths and regions, in linear time.
 #![tactic(auto)]
 
 mod colour;

@@ -53,8 +53,7 @@ fn parent_tables(alloc: Global, rows: &Rotations, order: &Order) -> Result<Table
 /// colours one and two of a vertex are the first and the last of its neighbours that come before it, along the
 /// outer cycle of these; that of colour three is the vertex that takes it off the outer cycle.
 ///
-/// It fails only when out of memory. The map and the order stay as they are. The time is linear in the entries
-/// of the map.
+/// It fails only when out of memory. The map and the order stay as they are. The time is linear in the map's entries.
 ///
 /// Source: Schnyder, Embedding planar graphs on the grid, 1990.
 pub fn wood(alloc: Global, tri: &HalfMap, order: &Order) -> Result<Wood, AllocError>

@@ -8,8 +8,7 @@ use std::marker::Model;
 
 /// A wood: a root of each colour, and for each vertex but these a parent of each colour.
 ///
-/// From every such vertex the parents of one colour lead to the root of that colour. An edit of the map leaves
-/// the wood as it was.
+/// From every such vertex the parents of one colour lead to its root. An edit of the map leaves the wood as it was.
 #[derive(Drop)]
 pub struct Wood {
     pub(crate) root_one: u16,
@@ -33,7 +32,8 @@ impl Model for Wood {
 }
 
 impl Wood {
-    /// Does nothing. By its contract a proof learns that the wood is rooted: paths of parents of each colour lead to its root.
+    /// Does nothing. By its contract a proof learns that the wood is rooted: paths of parents of each colour lead to
+    /// its root.
     pub fn facts(&self)
         ensures { IsRooted self.now }
     {

@@ -1,8 +1,8 @@
-//! The twins of the darts of at most 64 vertices, found in one pass over the lists by a table of cells, one for each two
-//! vertices.
+//! The twins of the darts of at most 64 vertices, found in one pass over the lists by a cell for each two vertices.
 //!
-//! A dart to a greater vertex leaves its place in the cell of its ends, where the dart back finds it. What a cell says is
-//! tried before it is taken, so cells may hold anything before. Where it fails the pass gives up, as that by threads does.
+//! A dart to a greater vertex leaves its place in the cell of its ends, where the dart back finds it. What a cell says
+//! is tried before it is taken, so cells may hold anything before. Where it fails the pass gives up, as that by threads
+//! does.
 ghost use Rattle.std.specs.Prelude.{◌≡◌, ◌+◌, ◌*◌, ◌<◌, ◌≤◌, ℕ, length, slice_index};
 ghost use Rattle.std.specs.Bool.{OnTrue};
 ghost use Rattle.map_lists.specs.Cuts.{joined};
@@ -24,8 +24,7 @@ fn cell_of(v: u16, u: u16) -> usize
     FEW * v as usize + u as usize
 }
 
-// The list of `v`, which is one of `count` vertices, as a part of the entries of all lists: from index `start` on and
-// before `end`.
+// The list of `v`, one of `count` vertices, as a part of all lists' entries: from index `start` on and before `end`.
 #[derive(Clone, Copy)]
 struct PairedList<'a> {
     entries: &'a [u16],
@@ -41,8 +40,9 @@ struct PairedList<'a> {
 }
 
 impl PairedList<'_> {
-    // Writes the twins of the darts from `v` to lesser vertices, which their `cells` name, and leaves those to greater ones in
-    // their cells. It puts `v` into `tails` for each. Returns false where a dart back is missing: then the lists have a fault.
+    // Writes the twins of the darts from `v` to lesser vertices, which their `cells` name, and leaves those to greater
+    // ones in their cells. It puts `v` into `tails` for each. Returns false where a dart back is missing: then the
+    // lists have a fault.
     #[inline(always)]
     fn pair(&self, tails: &mut [u16], twins: &mut [u32], cells: &mut [u32]) -> bool
         requires tails { length tails.old ≡ length self.now.entries.now }
@@ -79,8 +79,8 @@ impl PairedList<'_> {
     }
 }
 
-// Says whether the pass finds `lists` of at most 64 vertices to be a simple map, and then writes the `tails` and `twins` of
-// their darts. What `cells` has before does not matter.
+// Says whether the pass finds `lists` of at most 64 vertices to be a simple map, and then writes the `tails` and
+// `twins` of their darts. What `cells` has before does not matter.
 #[inline(never)]
 pub(crate) fn pairs_twins(
     lists: &Rotations,

@@ -1,5 +1,4 @@
-//! The public calls `fill_twins` and `put_slots`: tails and twins of the darts of a simple map, as tables or in
-//! slots.
+//! The public calls `fill_twins` and `put_slots`: tails and twins of a simple map's darts, as tables or in slots.
 ghost use Rattle.std.specs.Prelude.{◌≡◌, ◌<◌, ◌≤◌, ℕ, length, map, slice_index, OnOk, IfOk, IfErr};
 ghost use Rattle.std.specs.Bool.{OnTrue};
 ghost use Rattle.map_lists.specs.Cuts.{joined};
@@ -42,8 +41,8 @@ fn grow(threads: &mut Vec<u32>, count: usize) -> Result<(), AllocError>
     Ok(())
 }
 
-// Says whether one pass finds `lists` to be a simple map, and then writes the `tails` and `twins` of their darts. It is the
-// pass by cells for few vertices, and that by threads for more. It fails only when out of memory.
+// Says whether one pass finds `lists` to be a simple map, and then writes the `tails` and `twins` of their darts. It is
+// the pass by cells for few vertices, and that by threads for more. It fails only when out of memory.
 #[inline(always)]
 fn passes(
     lists: &Rotations,
@@ -66,8 +65,7 @@ fn passes(
     Ok(finds_twins(lists, tails, twins, &mut threads[..n]))
 }
 
-/// Makes `tails` and `twins` those of the darts of lists, which are from 1 to 4095, or returns the first
-/// fault of the lists.
+/// Makes `tails` and `twins` those of the darts of `lists`, which are from 1 to 4095, or returns their first fault.
 ///
 /// The vectors may hold anything before; they are kept by a caller who has many maps, so that their
 /// memory serves for all. The time is linear in the entries. A simple map takes no other memory than that

@@ -49,8 +49,7 @@ fn push_slots(
     Ok(())
 }
 
-/// Makes `tails` and `twins` those of the darts of lists, which are from 1 to 4095, or returns the first fault of the
-/// lists.
+/// Makes `tails` and `twins` those of the darts of `lists`, which are from 1 to 4095, or returns their first fault.
 pub(crate) fn searched_twins(
     alloc: Global,
     lists: &Rotations,

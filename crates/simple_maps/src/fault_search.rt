@@ -62,8 +62,7 @@ pub(crate) fn first_loop(lists: &Rotations) -> Option<u16>
     None
 }
 
-// Returns the least number that `list` holds twice. It sets `marks` of each number in `list` to `mark`, which none
-// has before.
+// Returns the least number twice in `list`. Sets `marks` of each number in `list` to `mark`, which none has before.
 fn least_twice(marks: &mut [u16], mark: u16, list: &[u16]) -> Option<u16>
     requires within { All (λ u. u < length marks.old) list.now }
     requires fresh { All (λ m. m < mark) marks.old }

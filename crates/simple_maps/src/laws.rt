@@ -1,5 +1,4 @@
-//! Laws of simple maps and of their faults, for all rotation lists. Each is the contract of a function that does
-//! nothing.
+//! Laws of simple maps and their faults, for all rotation lists. Each is the contract of a function that does nothing.
 
 ghost use Rattle.simple_maps.specs.Laws.{NoFaultIsSimple, FirstFaultIsFirst};
 

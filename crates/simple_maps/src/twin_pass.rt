@@ -34,8 +34,7 @@ pub(crate) const NO_PLACE: u32 = 1 << 24;
 // The thread of the entry at index 0: that at index d is d more.
 const FIRST_PLACE: u32 = NO_PLACE + 1;
 
-// Returns the index of the entry that the thread `link` stands for, or a number out of range where it stands for
-// none.
+// Returns the index of the entry that the thread `link` stands for, or a number out of range where there is none.
 fn place_named(link: u32) -> usize {
     link.wrapping_sub(FIRST_PLACE) as usize
 }
@@ -62,8 +61,7 @@ pub(crate) fn are_paired(twins: &[u32]) -> bool
     joined < NO_PLACE
 }
 
-// The list of `v` as the part `start..end` of the entries of all lists. `before` is the thread of the darts to `v` in
-// the lists before.
+// The list of `v`: the part `start..end` of the entries of all lists. `before` is the thread of earlier darts to `v`.
 #[derive(Clone, Copy)]
 struct ListPart<'a> {
     entries: &'a [u16],

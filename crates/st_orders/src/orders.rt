@@ -132,8 +132,7 @@ pub fn st_ranks(
 }
 
 /// Returns an st-order for the dart `st` of a connected map without cut vertices, in linear time. The dart's tail
-/// stands first, its head last, and each other vertex has an earlier and a later neighbour. It fails only when out of
-/// memory.
+/// stands first, its head last; each other vertex has an earlier and a later neighbour. Fails only when out of memory.
 pub fn st_order(alloc: Global, map: &HalfMap, st: DartId) -> Result<StOrder, AllocError>
     requires connected { component_count map.now.lists ≡ 1 }
     requires uncut { (v : ℕ) → ¬ IsCutVertex map.now.lists v }

@@ -83,8 +83,7 @@ impl Ranges {
         Ok(())
     }
 
-    // Gives the vertex with search number `next` its range, on the other side of its parent than the vertex at its
-    // low point.
+    // Gives the vertex with search number `next` its range, across its parent from the vertex at its low point.
     fn place_next(&mut self, search: &LowSearch<'_>, next: u16)
         requires whole { IsWholeBy search.now.lists.now search.now.forest.now search.now.low.now }
         requires placed { ArePlacedBelow search.now.lists.now search.now.forest.now search.now.low.now self.old next }
@@ -107,8 +106,7 @@ impl Ranges {
         self.recent[above as usize] = below;
     }
 
-    // Gives all vertices their places: s has the first, and t all others, from which each further vertex takes its
-    // own.
+    // Gives all vertices their places: s has the first, t all others, from which each further vertex takes its own.
     pub(crate) fn place_all(&mut self, search: &LowSearch<'_>)
         requires whole { IsWholeBy search.now.lists.now search.now.forest.now search.now.low.now }
         requires tables { AreTables search.now.lists.now self.old.from.items self.old.to.items self.old.recent.items }

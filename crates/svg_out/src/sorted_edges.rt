@@ -24,8 +24,7 @@ fn fill_sorted(lists: &Rotations, v: usize, row: &mut Vec<u16>) -> Result<(), Al
     Ok(())
 }
 
-/// Returns the edges of a simple map in order, each by its lesser end and then its greater one. It fails only when
-/// out of memory.
+/// Returns a simple map's edges in order, each by its lesser end, then its greater one. Fails only when out of memory.
 pub(crate) fn edges(alloc: Global, lists: &Rotations) -> Result<Vec<(usize, usize)>, AllocError>
     requires { IsSimpleMap lists.now }
     ensures order { IfOk result (λ edges. edges.items ≡ the_edges lists.now) }

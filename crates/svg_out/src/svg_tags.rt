@@ -1,5 +1,4 @@
-//! SVG tags and lines: the opening and closing of a picture, segments, dots, rectangles, and the scale from figure to
-//! picture.
+//! SVG tags and lines: a picture's opening and closing, segments, dots, rectangles, and scale from figure to picture.
 ghost use Rattle.std.specs.Prelude.{◌≡◌, ◌++◌, ◌∷◌, ℤ, pos, ◌+ℤ◌, ◌-ℤ◌, ◌*ℤ◌, OnOk};
 ghost use Rattle.std.specs.Fmt.{signed_decimal};
 ghost use Rattle.svg_out.specs.Svg.{across as far_right, down as far_down, attribute, extent as the_extent, sides, segment, front as the_front, opening, closing, dot};

@@ -1,5 +1,4 @@
-//! The answer of the job `bars` to a record, as a value: a visibility drawing, or the first condition that the record
-//! breaks.
+//! The answer of the job `bars` to a record, as a value: a visibility drawing, or the first condition that it breaks.
 
 mod drawer;
 mod record_figure;

@@ -39,9 +39,8 @@ pub fn bars_of_ranks(
     Ok(BarFigure { y, x1, x2, column })
 }
 
-/// Returns the visibility drawing by the st-order `order` of a connected map of genus zero. Heights are ranks,
-/// columns are dual numbers, and each bar reaches from its least to its greatest column. It fails only when out of
-/// memory.
+/// Returns the visibility drawing by the st-order `order` of a connected map of genus zero. Heights are ranks, columns
+/// are dual numbers, and each bar reaches from its least to its greatest column. Fails only when out of memory.
 pub fn bars_of_order(
     alloc: Global,
     map: &HalfMap,

@@ -15,9 +15,8 @@ pub fn regions_nested()
     ensures { RegionsNested }
 {}
 
-/// An inner vertex stands in the drawing by Schnyder's coordinates where its regions and paths have it: by
-/// coordinate c region c has more vertices than the path of the colour before. The three are together one less
-/// than the vertices.
+/// An inner vertex stands in the drawing by Schnyder's coordinates where its regions and paths have it. Region c has by
+/// coordinate c more vertices than the path of the colour before. The three are together one less than the vertices.
 pub fn drawn_at_coordinates()
     ensures { DrawnAtCoordinates }
 {}

@@ -1,5 +1,4 @@
-//! Theory of Schnyder woods (realizers) over construction sequences: the colours of the edges that a step adds, and
-//! the regions.
+//! Theory of Schnyder woods (realizers) over construction sequences: the colours of a step's new edges and the regions.
 #![tactic(auto)]
 
 pub mod run_regions;

@@ -45,8 +45,7 @@ pub fn rank_rows(
     Ok(rows)
 }
 
-/// Returns the rows that [`rank_rows`] gives, by the st-order `order` instead of its ranks. It fails only when out of
-/// memory.
+/// Returns the rows of [`rank_rows`], by the st-order `order` instead of its ranks. Fails only when out of memory.
 pub fn dual_rows(
     alloc: Global,
     map: &HalfMap,

@@ -47,8 +47,7 @@ fn after(ends: &[usize], v: usize, d: usize) -> usize
     }
 }
 
-// Appends `twin` to `arcs`, where its dart, from the first to the second vertex of `dart`, leads to a vertex of greater
-// rank.
+// Appends `twin` to `arcs` where its dart, from the first vertex of `dart` to the second, leads to one of greater rank.
 fn put_upward(
     rank: &[u16],
     dart: (u16, u16),
@@ -71,8 +70,7 @@ impl RankedDarts<'_> {
         ensures { AreDarts self.now.entries.now self.now.ends.now self.now.twins.now }
     {}
 
-    // Writes the number `f` into `of` at the darts of the face of `start`, and appends the twins of its upward darts to
-    // `arcs`.
+    // Writes the number `f` into `of` at the darts of the face of `start`; appends its upward darts' twins to `arcs`.
     fn walk_face(
         &self,
         of: &mut [u32],
@@ -139,8 +137,7 @@ fn lead_to_faces(arcs: &mut [u32], of: &[u32])
     }
 }
 
-/// The numbered faces of a map with ranks, and the dual arcs between them. The tables keep their memory from one map to
-/// the next.
+/// The numbered faces of a map with ranks, and the dual arcs between them. The tables keep memory for the next map.
 #[derive(Drop)]
 pub struct FaceTables {
     /// For each dart, by its number, the number of its face.

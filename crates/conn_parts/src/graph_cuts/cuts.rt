@@ -11,8 +11,7 @@ use graph6_text::Graph;
 use map_lists::VertexId;
 use std::alloc::{AllocError, Global};
 
-/// Returns the components of `graph`, which has a vertex, numbered by their least vertices. It fails only when out of
-/// memory.
+/// Returns the components of `graph`, which has a vertex, numbered by least vertex. Fails only when out of memory.
 pub fn graph_components(alloc: Global, graph: &Graph) -> Result<Parts, AllocError>
     requires { 0 < graph.now.n }
     ensures { IfOk result (ArePartsOf (lists_of_graph graph.now)) }
@@ -22,8 +21,7 @@ pub fn graph_components(alloc: Global, graph: &Graph) -> Result<Parts, AllocErro
     list_components(alloc, &lists)
 }
 
-/// Returns the least cut vertex of `graph`, which has a vertex, or None exactly where there is none. It fails only when
-/// out of memory.
+/// Returns the least cut vertex of `graph`, which has a vertex, or None if it has none. Fails only when out of memory.
 pub fn graph_cut_vertex(alloc: Global, graph: &Graph) -> Result<Option<VertexId>, AllocError>
     requires { 0 < graph.now.n }
     ensures { IfOk result (λ found. MatchOption found ((v : ℕ) → ¬ IsCutVertex (lists_of_graph graph.now) v) (λ v. IsLeastCutVertex (lists_of_graph graph.now) v.0)) }

@@ -1,5 +1,4 @@
-//! The calls that make the three-connected map of a record, from its biconnected map and the search for separating
-//! pairs.
+//! Calls that make a record's three-connected map, from its biconnected map and the search for separating pairs.
 ghost use Rattle.std.specs.Prelude.{◌≡◌, ◌<◌, length, IfOk, IfErr};
 ghost use Rattle.map_theory.specs.Maps.{IsPlane};
 ghost use Rattle.convex_peeling.specs.Polyhedral.{IsThreeConnected};
@@ -23,8 +22,7 @@ pub struct ConvexMap {
     pub faces: Faces,
 }
 
-/// Returns the map of a record with these `lists`, which are from 1 to 4095, with its faces. The map is three-connected
-/// and has genus zero.
+/// Returns the map of a record with these 1 to 4095 `lists`, three-connected and of genus zero, with its faces.
 ///
 /// `Err` names the first condition that the lists break, in the order of [`Refusal`], with the least
 /// vertices. Or there was not enough memory. The time and the memory are linear in the entries.

@@ -41,8 +41,7 @@ impl UncutMap<'_> {
         }
     }
 
-    // Returns the least separating pair, where no pair has a vertex before `from`. `marks` has no vertex as a mark at
-    // first.
+    // Returns the least separating pair, where none has a vertex before `from`. No mark in `marks` is a vertex yet.
     fn first_pair(&self, from: u16, marks: &mut [u16]) -> Option<(VertexId, VertexId)>
         requires from { (u v : ℕ) → IsSeparatingPair self.now.map.now.lists u v → from ≤ u }
         requires marks { length marks.old ≡ length self.now.map.now.lists }
@@ -60,8 +59,7 @@ impl UncutMap<'_> {
     }
 }
 
-// Says whether no face of `faces` has more than three darts: a plane map without cut vertex has then no separating
-// pair.
+// Says whether no face of `faces` has over three darts: then a plane map without cut vertex has no separating pair.
 fn has_short_faces(faces: &Faces) -> bool
     ensures { IsTrue result → (f : ℕ) → f < length faces.now → length (walk_at faces.now f) ≤ 3 }
 {

@@ -1,5 +1,4 @@
-//! Marks, for one vertex at a time, on the greater vertices that its faces pass; one marked twice makes a separating
-//! pair.
+//! Marks, one vertex at a time, on the greater vertices that its faces pass; one marked twice makes a separating pair.
 ghost use Rattle.std.specs.Prelude.{◌≡◌, ◌⊎◌, ◌≢◌, ◌+◌, ◌<◌, ◌≤◌, ℕ, length, Some, Contains};
 ghost use Rattle.half_edges.specs.Map.{IsLive, dart_at};
 ghost use Rattle.euler_faces.specs.FaceWalks.{IsFaceWalk, ids_of};
@@ -9,8 +8,7 @@ ghost use Rattle.convex_class.specs.Passing.{AreMarksOf, IsUnused, IsMarked};
 use crate::face_pairs::uncut_map::UncutMap;
 use half_edges::{DartId, VertexId};
 
-// Sets the mark of `w` in `marks` to `u`, and returns the lesser of `best` and `w` where it had that mark already, else
-// `best`.
+// Sets `w`'s mark in `marks` to `u`. Returns the lesser of `best` and `w` if the mark was `u` already, else `best`.
 fn mark(marks: &mut [u16], u: u16, w: u16, best: u16) -> u16
     requires { w < length marks.old }
     ensures { IsMarked u w marks.old best marks.new result }

@@ -20,8 +20,7 @@ pub(crate) struct WalkedFace<'a> {
     ghost walked: { ids_of walk.now ≡ walk_at uncut.faces.now f },
 }
 
-// A vertex of a face, as the meeting `place`. The faces `x` and `y` across the two darts of the walk there are noted
-// already.
+// A vertex of a face, as the meeting `place`. Faces `x` and `y` across the walk's two darts there are noted already.
 #[derive(Clone, Copy)]
 struct FaceVertex<'a> {
     uncut: UncutMap<'a>,
@@ -82,8 +81,7 @@ impl FaceVertex<'_> {
 
 impl WalkedFace<'_> {
     // Notes in `met` the faces that meet this one at single vertices with no more darts than it. Returns the least of
-    // `best` and the vertices of second meetings. Faces across edges are noted already; `ring` is memory for the darts
-    // of a vertex.
+    // `best` and the vertices of second meetings. Faces across edges are noted already; `ring` takes a vertex's darts.
     fn meet_corners(
         &self,
         ring: &mut Vec<DartId>,

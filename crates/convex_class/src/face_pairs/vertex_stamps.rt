@@ -2,8 +2,7 @@
 ghost use Rattle.std.specs.Prelude.{◌≡◌, ◌<◌, length};
 ghost use Rattle.convex_class.specs.Stamps.{IsStamped};
 
-// Sets the mark of `z` in `marks` to `u`, and returns the least of `best`, `u` and `z` where it had that mark already,
-// else `best`.
+// Sets `z`'s mark in `marks` to `u`. Returns the least of `best`, `u` and `z` if the mark was `u` already, else `best`.
 pub(crate) fn stamp(marks: &mut [u16], u: u16, z: u16, best: u16) -> u16
     requires { z < length marks.old }
     ensures { IsStamped u (λ y. y ≡ z) marks.old best marks.new result }

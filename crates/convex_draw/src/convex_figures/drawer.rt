@@ -22,8 +22,7 @@ use simple_maps::fill_twins;
 use std::alloc::{AllocError, Global};
 use std::mem;
 
-// The tables that are filled from the numbers of faces to the points: lists, rows of the construction sequence, and
-// spots.
+// The tables filled from the numbers of faces to the points: lists, rows of the construction sequence, and spots.
 #[derive(Drop)]
 struct PointTables {
     lists: Rotations,
@@ -133,8 +132,7 @@ fn is_full(lists: &Rotations) -> bool
     lists.len() >= 4 && lists.total() == 6 * lists.len() - 12
 }
 
-// Says whether `lists`, with components `parts` and so many `faces`, are connected with as many faces as a
-// triangulation.
+// Says whether `lists`, with components `parts` and so many `faces`, are connected with a triangulation's face count.
 fn has_all(parts: &Parts, faces: u32, lists: &Rotations) -> bool
     ensures connected { IsTrue result → parts.now.count ≡ 1 }
     ensures faces { IsTrue result → faces + 4 ≡ 2 * length lists.now }
@@ -209,8 +207,7 @@ impl ConvexDrawer {
         }
     }
 
-    /// Returns the figure of a record with these `lists`, as `convex_figure` has it. After `NoMemory` the drawer serves
-    /// as before.
+    /// Returns the figure that `convex_figure` has for these `lists`. After `NoMemory` the drawer serves as before.
     pub fn figure(&mut self, lists: &Rotations) -> Result<GridFigure, Unserved>
         requires some_list { 0 < length lists.now }
         ensures figure { IfOk result (IsConvexFigure lists.now) }

@@ -82,8 +82,7 @@ pub fn count_points_again(
     Ok((points, SpotTable { spots }))
 }
 
-/// Returns the points of the vertices of `run`, by counts of faces over it. The turns of its faces are read off the
-/// counts.
+/// Returns the points of the vertices of `run` by counts of faces over it. Its faces' turns are read off the counts.
 ///
 /// It fails only when out of memory. The time is linear in the entries of the rows: a step gives how far what it
 /// covers stands from what takes its place, and these differences are added up in the end.

@@ -156,8 +156,7 @@ fn link(spots: &mut [Spot], news: &[u16])
     }
 }
 
-// Adds the vertices `news` over `row`, an interval of the contour with cuts `cuts`, by writing their spots and those of
-// the covered vertices.
+// Adds the vertices `news` over `row`, a contour interval with `cuts`, by writing the spots of new and covered ones.
 fn put_over(spots: &mut [Spot], row: &[u16], cuts: &[u16], news: &[u16])
     requires put { (w : Setting) × IsPut w spots.old row.now cuts.now news.now }
     ensures { (w : Setting) → IsPut w spots.old row.now cuts.now news.now → IsWritten w spots.old spots.new }
@@ -180,8 +179,7 @@ fn put_over(spots: &mut [Spot], row: &[u16], cuts: &[u16], news: &[u16])
     };
 }
 
-// Adds all vertices to `spots`, step after step, over the base from `s` to `d`. Returns how many vertices the last
-// contour has.
+// Adds all vertices to `spots`, step by step, over the base from `s` to `d`. Returns the last contour's vertex count.
 pub(crate) fn put_all(spots: &mut [Spot], rows: &ConvexRows, d: u16, s: u16) -> usize
     requires run { (steps : ℕ → Step) × (name : ℕ → ℕ) × IsCountRun steps name rows.now (length spots.old) × (name 0 ≡ d) × (name 1 ≡ s) }
     ensures { (steps : ℕ → Step) (name : ℕ → ℕ) → IsCountRun steps name rows.now (length spots.old) → name 0 ≡ d → name 1 ≡ s → AreKept steps name (length rows.now.rows) result spots.new }

@@ -12,8 +12,7 @@ use crate::convex_points::face_run::FaceRun;
 use crate::convex_points::spots::{Spot, put_all};
 use convex_laws::convex_rows::ConvexRows;
 
-// Replaces the differences in `spots` by coordinates along the last contour, which has `width` vertices, from its end
-// `s` on.
+// Replaces the differences in `spots` by coordinates along the last contour, of `width` vertices, from its end `s` on.
 fn walk(spots: &mut [Spot], s: u16, faces: u32, width: usize)
     requires last { (g : Stage) × (at : Coordinates) × (name : ℕ → ℕ) × IsLast g at name spots.old s faces width }
     ensures { (g : Stage) (at : Coordinates) (name : ℕ → ℕ) → IsLast g at name spots.old s faces width → AreWalked g at name 0 spots.old spots.new }
@@ -57,8 +56,7 @@ fn add_row(spots: &mut [Spot], row: &[u16])
     }
 }
 
-// Replaces the differences in `spots` by coordinates, where those of the last contour are known, from the last step
-// down to the first.
+// Replaces differences in `spots` by coordinates, from the last step to the first; those of the last contour are known.
 fn add_all(spots: &mut [Spot], rows: &ConvexRows)
     requires run { (steps : ℕ → Step) × (name : ℕ → ℕ) × IsCountRun steps name rows.now (length spots.old) × AreDone steps name (length rows.now.rows) (length rows.now.rows) spots.old }
     ensures { (steps : ℕ → Step) (name : ℕ → ℕ) → IsCountRun steps name rows.now (length spots.old) → AreDone steps name (length rows.now.rows) (length rows.now.rows) spots.old → AreDone steps name (length rows.now.rows) 0 spots.new }

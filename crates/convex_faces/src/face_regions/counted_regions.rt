@@ -70,8 +70,7 @@ impl WoodVertex<'_> {
 /// faces other than the outer one to which chains of faces from there, each sharing an edge with the next, step over
 /// the path an odd number of times. An edge that the path passes twice counts twice.
 ///
-/// It fails only when out of memory. The map and the wood stay as they are. The time is linear in the map: a search
-/// goes over its faces.
+/// Fails only when out of memory. Map and wood stay as they are. The time is linear in the map: a search of its faces.
 ///
 /// Source: Felsner, Convex drawings of planar graphs and the order dimension of 3-polytopes, 2001.
 pub fn face_region(

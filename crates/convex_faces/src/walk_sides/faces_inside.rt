@@ -40,8 +40,7 @@ fn counted(map: &HalfMap, faces: &Faces, met: &[bool], outer: FaceId) -> u32
     count
 }
 
-// Returns how many faces lie inside the walk with marks `marked`. `met` is room for the marks of the search, which
-// begins at `base`.
+// Returns how many faces lie inside the walk with marks `marked`. `met` is room for marks of the search from `base`.
 fn count_with(
     alloc: Global,
     map: &HalfMap,
@@ -63,8 +62,7 @@ fn count_with(
     Ok(counted(map, &all, met, all.of_dart(base)))
 }
 
-/// Returns the number of faces inside a closed walk of `map`, which is connected and has genus zero. The face of `base`
-/// is outside.
+/// Returns how many faces lie inside a closed walk of the connected `map` of genus zero. The face of `base` is outside.
 ///
 /// A face lies inside where a chain of faces that leads there from the base's face, each sharing an edge with the
 /// next, steps over the walk an odd number of times. An edge that the walk passes twice counts twice. Whatever chain
@@ -72,8 +70,7 @@ fn count_with(
 ///
 /// `marked` has a mark for each id of a dart whose edge the walk passes an odd number of times.
 ///
-/// It fails only when out of memory. The map stays as it is. The time is linear in the map: a search goes over its
-/// faces.
+/// Fails only when out of memory. The map stays as it is. The time is linear in the map: a search goes over its faces.
 pub fn inside_count(
     alloc: Global,
     map: &HalfMap,

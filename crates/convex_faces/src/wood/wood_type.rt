@@ -8,8 +8,7 @@ use std::marker::Model;
 
 /// A convex wood: the root of each axis, and for each other vertex the dart that leads out of it along the axis.
 ///
-/// From every vertex the darts of one axis lead to the root of that axis. An edit of the map leaves the wood as it
-/// was.
+/// From each vertex the darts of an axis lead to the root of that axis. An edit of the map leaves the wood as it was.
 #[derive(Drop)]
 pub struct ConvexWood {
     pub(crate) root_one: u16,

@@ -13,8 +13,8 @@ use std::alloc::{AllocError, Global};
 
 /// Returns a Kuratowski witness of `graph`, which has one. It fails only when out of memory.
 ///
-/// An edge is contracted while a witness stays, and the witness of the smaller graph is lifted. Where no edge can be, the
-/// graph has K5 or K3,3 as a part.
+/// An edge is contracted while a witness stays, and the witness of the smaller graph is lifted. Where no edge can be,
+/// the graph has K5 or K3,3 as a part.
 pub fn contracted_witness(alloc: Global, graph: &Graph) -> Result<Witness, AllocError>
     requires { HasWitness graph.now }
     ensures { IfOk result (λ w. IsWitness graph.now w.kind w.branch w.paths) }

@@ -51,8 +51,7 @@ fn kept_above(alloc: Global, graph: &Graph, u: u16) -> Result<Option<Ends>, Allo
     Ok(None)
 }
 
-/// Returns the first edge of `graph` whose contraction leaves a witness, or None where there is none. It fails only
-/// when out of memory.
+/// Returns the first edge of `graph` whose contraction leaves a witness, or None. Fails only when out of memory.
 pub(crate) fn kept_edge(alloc: Global, graph: &Graph) -> Result<Option<Ends>, AllocError>
     ensures { IfOk result (λ found. MatchOption found ((a b : ℕ) → ¬ IsKept graph.now a b) (λ e. IsKept graph.now e.a.0 e.b.0)) }
 {

@@ -23,8 +23,7 @@ pub enum EmbedFigure {
     NotPlanar(Witness),
 }
 
-/// Embeds and draws graphs, one after another, and keeps its memory for the next. What that memory holds says nothing of
-/// the next answer.
+/// Embeds and draws graphs, one after another, and keeps its memory for the next. No answer depends on what it holds.
 #[derive(Drop)]
 pub struct Embedder {
     alloc: Global,

@@ -26,8 +26,7 @@ pub fn contractible_edge(alloc: Global, graph: &Graph) -> Result<Ends, AllocErro
     unreachable!()
 }
 
-// Returns the least edge with lesser end `u` whose contraction leaves a three-connected graph, or None where there is
-// none.
+// Returns the least edge with lesser end `u` whose contraction leaves a three-connected graph, or None if none does.
 fn contractible_above(alloc: Global, graph: &Graph, u: u16) -> Result<Option<Ends>, AllocError>
     requires { u < graph.now.n }
     ensures { IfOk result (λ found. MatchOption found ((v : ℕ) → ¬ IsContractibleEdge graph.now u v) (λ e. IsLeastAbove graph.now u e.a.0 e.b.0)) }

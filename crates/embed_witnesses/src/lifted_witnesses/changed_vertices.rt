@@ -1,5 +1,4 @@
-//! Lookups in a changed witness: its branch vertices, and the length and the vertices of each path, with K3,3 indexed
-//! by K5.
+//! Lookups in a changed witness: its branch vertices, and each path's length and vertices, with K3,3 indexed by K5.
 ghost use Rattle.std.specs.Prelude.{◌≡◌, ◌<◌, ◌+◌, ◌-◌, ◌==◌, nat_lt, if◌then◌else◌};
 ghost use Rattle.kuratowski.specs.Witnesses.{branch_count as branches_of, vertex_at as vertex_of};
 ghost use Rattle.embed_contraction.specs.Traces.{path_count as paths_of};
@@ -179,8 +178,7 @@ fn link_of(order: u32, p: usize) -> usize
     link_between(first, second) as usize
 }
 
-// Returns the vertex at index `i` of the path of K5 that becomes path `p` of K3,3. It is read backwards where its first
-// branch is the greater.
+// Returns the vertex at index `i` of the K5 path that gives path `p` of K3,3, reversed if its first branch is greater.
 fn linked_place(order: u32, paths: &PathList, p: usize, i: usize) -> u16
     ensures { result ≡ linked_vertex order paths.now p i }
 {

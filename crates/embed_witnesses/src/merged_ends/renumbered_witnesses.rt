@@ -12,8 +12,8 @@ use kuratowski::Witness;
 use map_lists::Ends;
 use std::alloc::{AllocError, Global};
 
-/// Returns `small`, a witness of the graph with the edge `e` contracted, on the numbers that its vertices had: one of the
-/// graph in which the lesser end has the neighbours of both and the greater none. It fails only when out of memory.
+/// Returns `small`, a witness of the graph with the edge `e` contracted, on the numbers that its vertices had: one of
+/// the graph in which the lesser end has the neighbours of both and the greater none. It fails only when out of memory.
 pub fn on_old_numbers(
     alloc: Global,
     graph: &Graph,
@@ -28,8 +28,7 @@ pub fn on_old_numbers(
     renamed(alloc, small, &table)
 }
 
-// Returns a table of old numbers for `n` vertices: for each number but the last the one before `b` left, and for the
-// last `b`.
+// Returns a table of `n` vertices' old numbers: for each number but the last the one before `b` left, for the last `b`.
 fn old_numbers(alloc: Global, n: u16, b: u16) -> Result<Vec<u16>, AllocError>
     requires { n ≤ 255 }
     ensures { IfOk result (λ table. table.items ≡ map (number_before n b) (range_with_len 0 n)) }

@@ -7,8 +7,7 @@ use kuratowski::Witness;
 use map_lists::{PathList, VertexId, VertexList};
 use std::alloc::{AllocError, Global};
 
-/// Returns `witness` with the entries of `table` in place of its vertices; a number past the table stays. It fails only
-/// when out of memory.
+/// Returns `witness` with each vertex replaced by its entry in `table`, if it has one. Fails only when out of memory.
 pub fn renamed(alloc: Global, witness: &Witness, table: &[u16]) -> Result<Witness, AllocError>
     ensures { IfOk result (λ new. IsRenamed (named table.now) witness.now new) }
 {

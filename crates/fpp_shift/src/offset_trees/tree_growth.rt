@@ -88,9 +88,8 @@ fn top(apart: i32, y_p: i32, y_q: i32) -> (i32, i32, i32)
     (x, y, width - x)
 }
 
-// Makes the nodes strictly within an interval hang on the new vertex over them, which stands `x` to the right of the
-// interval's first vertex. `row` has this one and the last vertex but one; returns the first of the nodes, if there is
-// any.
+// Hangs the nodes strictly within an interval on the new vertex over them, which stands `x` to the right of the
+// interval's first vertex. `row` has this one and the last vertex but one. Returns the first of the nodes, if any.
 fn cover<L: Ledger>(
     tree: &mut Offsets<L>,
     row: (u16, u16),

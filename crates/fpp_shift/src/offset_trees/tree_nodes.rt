@@ -23,8 +23,7 @@ pub struct Node {
 
 /// A node for each vertex. Contracts see the list of nodes.
 ///
-/// Each use of a node counts a step of the ledger `L`, which is the tree's from the first on: no other count
-/// serves it.
+/// Each use of a node counts a step of the ledger `L`, which is the tree's from the first on: no other count serves it.
 #[derive(Drop)]
 pub struct Offsets<L: Ledger> {
     nodes: Vec<Node>,

@@ -1,5 +1,4 @@
-//! Longest path lengths and a topological order by Kahn's method: a queue of the vertices all of whose incoming arcs
-//! are used.
+//! Longest path lengths and a topological order by Kahn's method: a queue of vertices whose incoming arcs are all used.
 ghost use Rattle.std.specs.Prelude.{◌≡◌, ◌+◌, ◌<◌, ◌^◌, ◌==◌, ℕ, [], ◌∷◌, length, slice_index, replicate, All, IfOk};
 ghost use Rattle.graph_search.specs.Arcs.{HasArc, IsAcyclic, AreLongest, IsTopological};
 ghost use Rattle.graph_search.specs.Progress.{IsRaised, all_into};

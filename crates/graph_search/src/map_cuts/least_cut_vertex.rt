@@ -56,8 +56,7 @@ pub fn list_cut_vertex(alloc: Global, lists: &Rotations) -> Result<Option<u16>, 
     Ok(searched_cut_vertex(lists, &forest, &low))
 }
 
-/// Returns the least cut vertex of a map, or None exactly where there is none, in linear time. It fails only when out
-/// of memory.
+/// Returns a map's least cut vertex, or None exactly if there is none, in linear time. Fails only when out of memory.
 pub fn cut_vertex(alloc: Global, map: &HalfMap) -> Result<Option<VertexId>, AllocError>
     ensures { IfOk result (λ found. MatchOption found ((v : ℕ) → ¬ IsCutVertex map.now.lists v) (λ v. IsLeastCutVertex map.now.lists v.0)) }
 {

@@ -28,8 +28,7 @@ fn push_without(rest: &mut ItemLists<u16>, list: &[u16], v: u16, u: u16) -> Resu
     Ok(())
 }
 
-/// Returns `lists` with vertex `u` isolated: it is in no list, and its own list is empty. It fails only when out of
-/// memory.
+/// Returns `lists` with vertex `u` isolated: it is in no list, and its own is empty. Fails only when out of memory.
 pub(crate) fn lists_without(
     alloc: Global,
     lists: &Rotations,

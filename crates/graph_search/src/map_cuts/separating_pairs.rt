@@ -46,9 +46,8 @@ fn partner(
     }
 }
 
-/// Returns the least separating pair of lists in which adjacency goes both ways, by its first vertex and then by its
-/// second, or None exactly where there is none. It searches the lists without each vertex in turn, and fails only
-/// when out of memory.
+/// Returns the least separating pair of lists in which adjacency goes both ways, by first, then second vertex, or None
+/// exactly if there is none. Searches the lists without each vertex in turn, and fails only when out of memory.
 pub fn list_separating_pair(
     alloc: Global,
     lists: &Rotations,

@@ -60,8 +60,7 @@ pub fn size<T: Copy>(table: &mut Vec<T>, item: T, n: usize) -> Result<(), AllocE
     Ok(())
 }
 
-// Resets the tables of a search: all vertices are unseen and open, with no low point found and no entry of their
-// lists read.
+// Resets the tables of a search: all vertices are unseen and open, with no low point found and no list entry read.
 fn unsee(number: &mut [u16], last: &mut [u16], low: &mut [u16], cursor: &mut [usize])
     requires few { length number.old < 4096 }
     requires lasts { length last.old ≡ length number.old }

@@ -115,8 +115,7 @@ impl<'a> Search<'a> {
         self.current = v;
     }
 
-    // Ends the current vertex, whose neighbours were all seen: its parent becomes current and takes over its low
-    // point.
+    // Ends the current vertex, whose neighbours were all seen: its parent becomes current and takes over its low point.
     #[inline(always)]
     fn end(&mut self)
         requires vertex { self.old.current < length self.old.lists.now }

@@ -30,8 +30,7 @@ pub struct DrawingOrder {
     pub order: Order,
 }
 
-// The tables by which records are completed and ordered, kept from one to the next: their counts, maps, lists and
-// orders.
+// The tables for completing and ordering records, kept from one to the next: their counts, maps, lists and orders.
 #[derive(Drop)]
 pub(crate) struct Tools {
     pub(crate) alloc: Global,

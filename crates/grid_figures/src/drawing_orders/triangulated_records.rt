@@ -27,8 +27,7 @@ pub(crate) fn is_triangulated(counter: &mut Counter, input: &Record<'_>) -> Resu
     Ok(count.m.wrapping_add(6) == 3 * count.n)
 }
 
-/// Finds the canonical order of the triangulation of `input`, for the base from vertex 0 to the first of its list, and
-/// leaves it in `peeler`.
+/// Leaves in `peeler` the canonical order of the triangulation of `input`, for vertex 0's first dart as the base.
 pub(crate) fn order_full(
     alloc: Global,
     peeler: &mut Peeler,

@@ -1,5 +1,4 @@
-//! Schnyder's coordinates of all vertices, each kept as differences (drops and rises) from another vertex and added up
-//! at the end.
+//! Schnyder's coordinates of all vertices, kept as differences (drops and rises) from others and added up at the end.
 //!
 //! A vertex of the contour has as its drop and its rise how far coordinate one falls and coordinate two rises
 //! to it from the one before it. One that has gone under another has as its rise how far it stands above that
@@ -45,8 +44,7 @@ fn pass(drops: &mut [u32], rises: &mut [u32], covers: &mut [u16], row: &[u16], v
     far
 }
 
-// Adds vertex `v` over `row`, an interval of the contour. All but its first vertex are passed, and the last is no
-// longer covered.
+// Adds vertex `v` over `row`, an interval of the contour: all of it but its first and last vertex go under `v`.
 fn put_over(
     drops: &mut [u32],
     rises: &mut [u32],

@@ -74,7 +74,8 @@ impl WoodDrawer {
         self.spent = figure.points;
     }
 
-    /// Draws the triangulation with these lists as [`wood_draw`] does. When memory runs out the drawer serves as before.
+    /// Draws the triangulation with these lists as [`wood_draw`] does. When memory runs out the drawer serves as
+    /// before.
     pub fn list_draw(&mut self, lists: &Rotations, order: &Order) -> Result<GridFigure, AllocError>
         requires triangulation { IsTriangulation lists.now }
         requires order { (base : Dart) × IsCanonicalOrder lists.now base (vertices_of order.now) }
@@ -99,9 +100,8 @@ impl WoodDrawer {
 /// Returns the drawing of `tri` by Schnyder's coordinates over its canonical `order`. `tri` is a triangulation: a
 /// simple map of genus zero with n >= 3 vertices and 3n - 6 edges.
 ///
-/// It is plane and keeps the rotations, in the grid n - 2 by n - 2. The order's first vertex stands at
-/// (n - 2, 1), its second at (0, n - 2) and its last at (1, 0); of all faces that of the base alone is drawn
-/// clockwise.
+/// It is plane and keeps the rotations, in the grid n - 2 by n - 2. The order's first vertex stands at (n - 2, 1), its
+/// second at (0, n - 2) and its last at (1, 0); of all faces that of the base alone is drawn clockwise.
 ///
 /// It fails only when out of memory. The map and the order stay as they are. The time is linear in the
 /// vertices: a vertex is put over a row of the contour, which gives how far what it covers stands from it, and

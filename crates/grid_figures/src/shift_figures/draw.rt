@@ -71,9 +71,8 @@ pub(crate) fn drawn_record(
 /// Returns the figure of a record with these `lists`, which are from 1 to 4095: a plane drawing of its map that keeps
 /// the rotations, in the grid 2n - 4 by n - 2.
 ///
-/// Vertex 0 stands at (2n - 4, 0), a vertex at (0, 0), which is the first of vertex 0's list where it has
-/// any, and one at (n - 2, n - 2). Where the map is connected, the face on the left of vertex 0's first dart
-/// is the outer one.
+/// Vertex 0 stands at (2n - 4, 0), a vertex at (0, 0) and one at (n - 2, n - 2). The second is the first of vertex 0's
+/// list, if any. Where the map is connected, the face on the left of vertex 0's first dart is the outer one.
 ///
 /// `Err` names the first condition that the lists break, of these in this order: the four faults of a map,
 /// each with the least vertices; fewer than three vertices; a genus above zero. Or there was not enough

@@ -1,5 +1,4 @@
-//! A closed line judged as the next one of an input of figures: it begins, continues or completes a figure, is a
-//! note, or is bad.
+//! A closed line judged as the next of a figure input: it begins, continues or completes a figure, is a note or is bad.
 ghost use Rattle.std.specs.Prelude.{◌≡◌, ◌+◌, ◌<◌, ◌≤◌, ◌++◌, ◌∷◌, [], List, ℕ, length, IfOk};
 ghost use Rattle.figure_text.specs.Reading.{IsPlain};
 ghost use Rattle.line_inputs.specs.Given.{IsGiven, AreDrawn};
@@ -77,8 +76,7 @@ fn all_drawn(alloc: Global, first: u32, rows: Rows) -> Result<After, AllocError>
     }
 }
 
-// Continues a figure after one more of its lines: more are due, or it is completed by `all_drawn`. It fails only when
-// out of memory.
+// Continues a figure after one more line: more are due, or `all_drawn` completes it. Fails only when out of memory.
 #[inline(always)]
 fn grown(alloc: Global, first: u32, held: Held<Rows>) -> Result<After, AllocError>
     requires some { 0 < held.n }
@@ -119,8 +117,7 @@ impl ClosedLine<'_> {
         }
     }
 
-    // Judges the line as the next vertex line, or line of branches and paths, of the figure `rows`. It fails only
-    // when out of memory.
+    // Judges the line as the next vertex, or branches and paths, of the figure `rows`. Fails only when out of memory.
     #[inline(always)]
     fn after_row(
         &self,

@@ -5,8 +5,7 @@
 pub enum Ending {
     /// Outside a figure.
     Well,
-    /// At a closed line that does not have the shape that is due there, or at a line outside a figure that is
-    /// not closed.
+    /// At a closed line that does not have the shape due there, or at a line outside a figure that is not closed.
     BadLine(u32),
     /// At a line of the due shape with a number outside its range.
     Limit(u32),

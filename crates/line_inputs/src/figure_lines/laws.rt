@@ -1,8 +1,7 @@
 //! Laws on how inputs of figures are read, each the contract of a function that does nothing.
 ghost use Rattle.line_inputs.specs.FigureLinesLaws.{OneReading, EachInputIsRead, ConsumedIsRead};
 
-/// Each input is read in one way at most: two readings of it have the same figures, in the same order, and
-/// the same ending.
+/// Each input is read in at most one way: two readings have the same figures, in the same order, and the same ending.
 pub fn one_reading()
     ensures { OneReading }
 {}

@@ -1,5 +1,4 @@
-//! Whole vertex lines at the front of a part, read in one loop by the quick test, with no step of the reader between
-//! them.
+//! Whole vertex lines at the front of a part, read in one loop by the quick test, with no reader step between them.
 ghost use Rattle.std.specs.Prelude.{◌≡◌, ◌+◌, ◌≤◌, [], Some, List, ℕ, length, IfOk};
 ghost use Rattle.record_runs.specs.Texts.{input_limit};
 ghost use Rattle.line_inputs.specs.FigureLinesProgress.{Progress};
@@ -79,8 +78,7 @@ fn with_line(found: &mut Vec<Word>, rows: SomeRows, part: &[u8]) -> Result<LineS
     }
 }
 
-// Returns the batch of `lines` lines of `bytes` bytes, after which the figure that began at line `first` has these
-// `rows`.
+// Returns the batch of `lines` lines of `bytes` bytes, after which the figure begun at line `first` has these `rows`.
 fn run_to(first: u32, rows: SomeRows, bytes: usize, lines: usize) -> Run
     ensures { result ≡ record { begun = record { first = first; due = Row rows }; bytes = bytes; lines = lines } }
 {
@@ -94,8 +92,7 @@ fn run_to(first: u32, rows: SomeRows, bytes: usize, lines: usize) -> Run
     }
 }
 
-// Reads lines from the front of `part` into `rows` by `with_line`, as long as it takes one. It fails only when out of
-// memory.
+// Reads lines from the front of `part` into `rows` by `with_line`, while it takes one. Fails only when out of memory.
 fn rows_run(
     found: &mut Vec<Word>,
     first: u32,

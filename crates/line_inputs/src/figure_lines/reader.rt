@@ -65,8 +65,7 @@ impl FigureReader {
     }
 }
 
-// Replaces `figure` by the boxed figure `held`. As a function of its own, it costs nothing for a line that ends no
-// figure.
+// Replaces `figure` by the boxed figure `held`. As its own function, it costs nothing for a line that ends no figure.
 fn keep(figure: &mut Figure, held: Held<Figure>)
     ensures { figure.new ≡ held }
 {

@@ -33,8 +33,7 @@ fn end_fault(begun: Option<Begun>, line: u32) -> TextFault
     }
 }
 
-/// Reads the item at the offset `at` of a text, which is at most its length and begins line number `line`, counted
-/// from 1.
+/// Reads the item at offset `at` of a text, which is at most its length and begins line number `line`, counted from 1.
 ///
 /// Each line is judged as it is closed. A closed line of another shape than the one that is due is a
 /// `BadLine`, and so is a line outside a figure that is not closed; a line of the due shape with a number

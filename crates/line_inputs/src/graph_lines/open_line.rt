@@ -60,8 +60,7 @@ pub fn behind_header(first: bool, line: &[u8]) -> &[u8]
     }
 }
 
-// Converts the fault of line `number` into the ending of the input. Returns None for out of memory, which is no
-// ending.
+// Converts the fault of line `number` into the ending of the input. Returns None for out of memory, which is no ending.
 fn fault_ending(fault: G6Fault, number: u32) -> Option<Ending>
     ensures { (line : List ℕ) → NamesFault line fault → Judges number line fault result }
 {
@@ -72,8 +71,7 @@ fn fault_ending(fault: G6Fault, number: u32) -> Option<Ending>
     }
 }
 
-// Judges a closed `line`, without its byte 10. A graph is made in the memory of `spent`. It fails only when out of
-// memory.
+// Judges a closed `line`, without its byte 10. A graph is made in the memory of `spent`. Fails only when out of memory.
 fn judged_line(spent: Graph, line: &[u8], at: OpenLine) -> Result<Judged, AllocError>
     ensures { (consumed : List ℕ) (graphs : List EdgeGraph) → Progress consumed graphs at.number at.first line.now
         → length consumed < input_limit → IfOk result (Closes (consumed ++ 10 ∷ []) graphs at.number) }

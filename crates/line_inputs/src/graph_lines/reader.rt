@@ -74,8 +74,7 @@ impl Format for GraphReader {
 
     ghost IsGiven = { IsAny };
 
-    // Consumes of `piece` the rest of the open line, or all where no line ends. Where that line is a graph, `record`
-    // lends it.
+    // Consumes of `piece` the rest of the open line, or all if no line ends. If the line is a graph, `record` lends it.
     fn take(&mut self, piece: &[u8]) -> Result<Taken<Ending>, AllocError> {
         let line = OpenLine {
             number: self.line,

@@ -1,5 +1,4 @@
-//! For each vertex of a canonical order its row: the interval of the contour that it covers, as ranks, read off the
-//! neighbour lists.
+//! Each vertex's row in a canonical order: the contour interval that it covers, as ranks, read off the neighbour lists.
 ghost use Rattle.std.specs.Prelude.{vec_len, vec_capacity, ◌≡◌, ◌<◌, ◌≤◌, ◌+◌, ◌^◌, ◌↔◌, ◌⊎◌, ℕ, List, length, map, slice_index, All, IsTrue, IfOk};
 ghost use Rattle.map_theory.specs.Maps.{Dart, list_of};
 ghost use Rattle.plane_laws.specs.Triangulations.{IsTriangulation};
@@ -76,8 +75,7 @@ impl RankedList<'_> {
         0
     }
 
-    // Appends to `entries`, which has room, the ranks of the vertex's row. The row goes backwards in the list from
-    // index `start` on.
+    // Appends to `entries`, which has room, the ranks of the vertex's row, backwards in the list from index `start` on.
     #[inline(always)]
     fn put_row(&self, entries: &mut Vec<u16>, start: usize)
         requires start { start < length self.now.list.now }
@@ -142,8 +140,7 @@ fn listed_rows(
 /// Returns for each vertex of a canonical order, from the third on, its row: the interval of the contour that it
 /// covers. A row names vertices by their ranks, from the first one under the new vertex to the last.
 ///
-/// It fails only when out of memory. The map and the order stay as they are. The time is linear in the entries of the
-/// map.
+/// Fails only when out of memory. The map and the order stay as they are. The time is linear in the map's entries.
 pub fn order_rows(alloc: Global, tri: &HalfMap, order: &Order) -> Result<Rotations, AllocError>
     requires triangulation { IsTriangulation tri.now.lists }
     requires order { (base : Dart) × IsCanonicalOrder tri.now.lists base (vertices_of order.now) }

@@ -1,5 +1,4 @@
-//! `RankedList`: the neighbour list of a vertex with the ranks of its entries in an order, searched for earlier and
-//! later ones.
+//! `RankedList`: a vertex's neighbour list with its entries' ranks in an order, searched for earlier and later ones.
 ghost use Rattle.std.specs.Prelude.{◌≡◌, ◌<◌, ◌≤◌, ℕ, length, All};
 ghost use Rattle.order_drawings.specs.Rows.{rank_at};
 
@@ -27,8 +26,7 @@ impl RankedList<'_> {
         self.ranks.get(self.list[i] as usize)
     }
 
-    /// Finds the first index from `from` on whose entry has rank `k` or a later one, or the length where there is
-    /// none.
+    /// Finds the first index from `from` on with an entry of rank `k` or later, or the length where there is none.
     #[inline(always)]
     pub fn first_later(&self, from: usize) -> usize
         requires { from ≤ length self.now.list.now }

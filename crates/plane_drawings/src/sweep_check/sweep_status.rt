@@ -1,5 +1,4 @@
-//! The status of a sweep, the lines that it meets from bottom to top, with a gap in the array, and its step over a
-//! vertex.
+//! A sweep's status, the lines that it meets from bottom to top, with a gap in the array, and its step over a vertex.
 ghost use Rattle.std.specs.Prelude.{◌≡◌, ℕ, ◌+◌, ◌-◌, ◌<◌, ◌≤◌, ◌++◌, length, take, drop, slice_index_or, All, pos, ◌<ℤ◌, IfSome};
 ghost use Rattle.std.specs.Bool.{OnTrue};
 ghost use Rattle.pg_plane.specs.Range.{IsInRange};
@@ -145,9 +144,8 @@ impl AtVertex<'_> {
         false
     }
 
-    // Replaces the lines that end at the vertex by those that begin there, where the gap follows the lines below the
-    // vertex. Returns the new gap, or None where a test fails or there is no room. `suspects` then has the ends of
-    // the lines at fault.
+    // Replaces the lines that end at the vertex by those that begin there, where the gap follows the lines below it.
+    // Returns the new gap, or None on a failed test or no room. `suspects` then may have the ends of lines at fault.
     fn pass(&self, status: &mut [Line], gap: Gap, suspects: &mut [u16; 4]) -> Option<Gap>
         requires order { gap.begin ≤ gap.end }
         requires within { gap.end ≤ length status.old }

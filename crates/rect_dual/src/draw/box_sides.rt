@@ -72,8 +72,7 @@ fn lower_sides(
     Ok(Sides { right, high })
 }
 
-// Returns the boxes over a construction sequence with these rows, and the last box over all of them. It fails only
-// when out of memory.
+// Returns the boxes over a construction sequence of these `rows`, and the last over all. Fails only when out of memory.
 pub(crate) fn box_tables(alloc: Global, rows: &Rotations) -> Result<BoxTables, AllocError>
     requires run { (steps : ℕ → Step) × AreRows steps rows.now }
     ensures left { IfOk result (λ tables. length tables.left.items ≡ length rows.now + 3) }

@@ -28,8 +28,7 @@ fn first_dart(map: &HalfMap) -> DartId
 
 /// Returns the rectangular dual of a record with these `lists`, from 1 to 4095: a rectangle for each vertex. Together
 /// they fill one of at most n - 2 by n - 2, and two share a side exactly where their vertices are adjacent. The outer
-/// face, that of the dart from vertex 0 to the first of its list, is walked by the left, the upper, the right and the
-/// lower rectangle.
+/// face, that of vertex 0's first dart, is walked by the left, the upper, the right and the lower rectangle.
 ///
 /// `Err` names the first condition that the lists break, of these in this order: the four faults of a map, each
 /// with the least vertices; fewer than three vertices; a genus above zero; more than one component; a cut vertex,

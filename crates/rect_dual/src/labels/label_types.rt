@@ -1,5 +1,4 @@
-//! `Label`: whether an edge at a vertex is vertical or horizontal, in or out, and `Labelling`: the labels of all
-//! darts.
+//! `Label`: whether an edge at a vertex is vertical or horizontal, in or out, and `Labelling`: the labels of all darts.
 ghost use Rattle.std.specs.Prelude.{◌≡◌, ◌<◌, length};
 ghost use Rattle.rect_dual.specs.Labellings.{label_in};
 

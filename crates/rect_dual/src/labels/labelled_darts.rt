@@ -66,8 +66,7 @@ impl RunTables {
     }
 }
 
-// A map with its outer vertices, the rank of each vertex, and the tables that tell horizontal edges from vertical
-// ones.
+// A map with its outer vertices, the rank of each vertex, and the tables that tell horizontal edges from vertical ones.
 #[derive(Clone, Copy)]
 pub(crate) struct Ranked<'a> {
     pub(crate) map: &'a HalfMap,

@@ -1,8 +1,7 @@
 //! The outer cycle of the vertices that are left, and which of its vertices may be taken off next.
 //!
-//! `marked` says of each vertex whether it is on that cycle, `gone` whether it was taken off; `near` counts its
-//! neighbours that are marked, `away` those that are gone. Each vertex that may be taken off next is on `stack`,
-//! with others.
+//! `marked` says of each vertex whether it is on that cycle, `gone` whether it was taken off. `near` counts its marked
+//! neighbours, `away` the gone ones. Each vertex that may be taken off next is on `stack`, with others.
 ghost use Rattle.std.specs.Prelude.{◌≡◌, ◌<◌, ◌↔◌, ℕ, length, IsTrue};
 ghost use Rattle.rect_orders.specs.Contours.{LooksRemovable, IsStacked};
 

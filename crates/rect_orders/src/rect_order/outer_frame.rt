@@ -1,5 +1,4 @@
-//! `Frame`: the four outer vertices of a map with a rectangular dual, and its lists with an edge added between top
-//! and bottom.
+//! `Frame`: the four outer vertices of a map with a rectangular dual, and its lists with an added top-bottom edge.
 ghost use Rattle.std.specs.Prelude.{◌≡◌, ℕ, Some, IfOk};
 ghost use Rattle.half_edges.specs.Map.{IsLive, dart_at};
 ghost use Rattle.rect_orders.specs.Maps.{IsRectMap, closed};
@@ -42,9 +41,8 @@ pub fn frame_of(map: &HalfMap, base: DartId) -> Frame
     }
 }
 
-/// Returns the lists of the closed map of one of this class, of which `lists` are the lists and `frame` has the outer
-/// vertices: an edge more, outside, between the top and the bottom. It is a triangulation. It fails only when out of
-/// memory.
+/// Returns the lists of the closed map of one of this class, with lists `lists` and outer vertices in `frame`. It has
+/// an edge more, outside, between top and bottom, and is a triangulation. Fails only when out of memory.
 pub fn with_closing_edge(
     alloc: Global,
     lists: &Rotations,

@@ -127,10 +127,9 @@ impl Closed<'_> {
     }
 }
 
-/// Returns a rectangular order of the map with the outer face `frame`, where `more` are its lists with the edge
-/// between top and bottom added. The left vertex is the first, the bottom the second, the right one the last but one,
-/// and the top the last. Each other vertex has two later neighbours or more. `rank` has the index of each vertex in
-/// `at`.
+/// Returns a rectangular order of the map with the outer face `frame`, where `more` are its lists with the edge between
+/// top and bottom added. The left vertex is the first, the bottom the second, the right one the last but one, and the
+/// top the last. Each other vertex has at least two later neighbours. `rank` has each vertex's index in `at`.
 ///
 /// It fails only when out of memory. The lists stay as they are. The time is linear in the vertices: they are taken
 /// off from the last one on, each goes onto the outer cycle and off it once, and its neighbours count how many of

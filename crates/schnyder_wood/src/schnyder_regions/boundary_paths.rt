@@ -118,8 +118,7 @@ impl ClosedPath {
         ensures { length self.now.previouses.items ≡ length self.now.nexts.items }
     {}
 
-    // Says whether the edge between `x` and `y` is on the closed path: along one of its two paths, or between the
-    // roots.
+    // Says whether the edge between `x` and `y` is on the closed path: on one of its two paths, or between the roots.
     pub(crate) fn has_edge(&self, x: u16, y: u16) -> bool
         requires x_in { x < length self.now.nexts.items }
         requires y_in { y < length self.now.nexts.items }

@@ -83,9 +83,8 @@ impl Region<'_> {
         }
     }
 
-    // Returns the number of vertices of the region. `met` and `inside` are unset marks: first for each face whether
-    // it is reached from the start with an even or odd number of crossings, then the vertices. It fails only when out
-    // of memory.
+    // Returns the number of vertices of the region. `met` and `inside` are unset marks: first whether each face is
+    // reached from the start with an even or odd number of crossings, then the vertices. Fails only when out of memory.
     fn count(&self, alloc: Global, met: &mut [bool], inside: &mut [bool]) -> Result<u32, AllocError>
         requires marks { length met.old ≡ 2 * id_bound self.now.map.now }
         requires unset { (i : ℕ) → mark_at met.old i ≡ false }
@@ -119,8 +118,7 @@ fn base_dart(map: &HalfMap, wood: &Wood) -> DartId
     }
 }
 
-/// Returns the number of vertices in the region of the inner vertex `v` opposite the root of `colour`, those on its
-/// boundary included.
+/// Returns the number of vertices in the region of the inner vertex `v` opposite `colour`'s root, boundary included.
 ///
 /// The region is bounded by the paths of the two other colours and by the outer edge between their roots. It
 /// has the vertices on these, and those on a face to which a chain of faces from the outer one, each sharing an

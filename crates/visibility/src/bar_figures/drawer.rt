@@ -248,8 +248,7 @@ impl Tables {
     }
 
     // Finds the answer to a map by the twins of its darts, by a search from vertex 0 that sees its first neighbour
-    // next. It returns `Nothing` where the map is not connected or not of genus zero. It fails only when out of
-    // memory.
+    // next. Returns `Nothing` where the map is not connected or not of genus zero. Fails only when out of memory.
     fn find(&mut self, alloc: Global, lists: &Rotations, twins: &[u32]) -> Result<Found, AllocError>
         requires simple { IsSimpleMap lists.now }
         requires twins { AreTwins (darts lists.now) twins.now (length (darts lists.now)) }
@@ -301,8 +300,7 @@ impl BarDrawer {
         self.tables.dual.spans.x2 = x2.into_vec();
     }
 
-    // Returns the figure of a record after the exact search for the first condition that it breaks, or that
-    // condition.
+    // Returns a record's figure after the exact search for the first condition that it breaks, or that condition.
     fn exact_figure(&mut self, lists: &Rotations) -> Result<BarFigure, Unserved>
         requires some_list { 0 < length lists.now }
         ensures figure { IfOk result (IsBarFigure lists.now) }
