@@ -6,9 +6,10 @@
   slopes.py NAME ..     those families alone
   slopes.py --limits    the inputs that have been slow, each beside the most that it should take
 
-Counted by valgrind, with the start of the program taken off; glibc's copying by `rep` is turned off, since valgrind
-counts it by bytes. Not part of the gate.
+Counted by valgrind, with what the job takes on an empty input taken off; glibc's copying by `rep` is turned off, since
+valgrind counts it by bytes. Not part of the gate.
 """
+import functools
 import os
 import random
 import re
@@ -30,12 +31,14 @@ def put(data):
     return path
 
 
-def start():
-    return count.instructions([count.PROGRAM, "count"], put(b""))
+@functools.lru_cache(maxsize=None)
+def start(job):
+    """The instructions of the start of the program: what a job takes on an empty input."""
+    return count.instructions([count.PROGRAM, job], put(b""))
 
 
 def cost(job, data):
-    return count.instructions([count.PROGRAM, job], put(data)) - START
+    return count.instructions([count.PROGRAM, job], put(data)) - start(job)
 
 
 def answer(job, data):
@@ -239,6 +242,5 @@ def main():
         slopes(sys.argv[1:])
 
 
-START = start()
 if __name__ == "__main__":
     main()

@@ -4,10 +4,10 @@
   streams.py             all rows
   streams.py JOB ..      the rows of these jobs; `memory` for those of memory
 
-Million instructions, counted by valgrind with the start of the program taken off, for inputs of a million bytes or of the
-number of records that is told; for `count`, and for `shift` and `bars` where it says so, the ratio to a C program
-(plain_count.c, lean_shift.c, lean_bars.c); megabytes at most for memory, of 16 MiB. The maps and graphs of eight vertices are made by nauty, and left
-out where it is not installed. Not part of the gate.
+Million instructions, counted by valgrind with what the job takes on an empty input taken off, for inputs of a million
+bytes or of the number of records that is told; for `count`, and for `shift` and `bars` where it says so, the ratio to a
+C program (plain_count.c, lean_shift.c, lean_bars.c); megabytes at most for memory, of 16 MiB. The maps and graphs of
+eight vertices are made by nauty, and left out where it is not installed. Not part of the gate.
 """
 import os
 import random
@@ -185,7 +185,7 @@ def main():
             for what, found, most in memory():
                 say(what, found, most, 0)
         for what, found, most in rows(job):
-            say(f"`{job}`: {what}", found, most, 2 if what.endswith(" C") else 1)
+            say(f"`{job}`: {what}", found, most, 2 if found < 100 else 1)
 
 
 if __name__ == "__main__":
