@@ -1,7 +1,12 @@
 -- Statuses and blocks that wrong bodies would give.
-use Rattle.std.proofs.Common.{◌≡◌, List, [], true, false, refl, ap, arith}
+use Rattle.std.proofs.Common.{◌≡◌, ◌≤◌, List, [], true, false, length, refl, ap, arith}
+use Rattle.std.proofs.lemmas.Int.{ints}
 use Rattle.std.specs.Prelude.{slice_index, codes}
 use Rattle.std.specs.Fmt.{digits}
+use Rattle.map_lists.specs.Lists.{Lists}
+use Rattle.pg_plane.specs.declared.figures.GridFigure.{GridFigure}
+use Rattle.grid_figures.specs.ShiftFiguresFigures.{IsShiftFigure}
+use Rattle.grid_figures.specs.SchnyderFiguresFigures.{IsSchnyderFigure}
 use Rattle.graph6_text.specs.Graphs.{EdgeGraph, Edge}
 use Rattle.kuratowski.specs.declared.witness.Witness.{Witness}
 use Rattle.figure_text.specs.declared.figure.Figure.TheVariants.{Witness as WitnessFigure}
@@ -13,7 +18,7 @@ use Rattle.pigale_words.specs.declared.output_form.Form.{Form}
 use Rattle.pigale_words.specs.declared.output_form.Form.TheVariants.{Text}
 use Rattle.pigale_shell.specs.declared.map_jobs.MapJob.TheVariants.{Count}
 use Rattle.pigale_shell.specs.declared.job_kinds.JobKind.TheVariants.{Maps, Graphs}
-use Rattle.pigale_words.specs.declared.job.Status.TheVariants.{Done, BadInput, ReadFault, WriteFault}
+use Rattle.pigale_words.specs.declared.job.Status.TheVariants.{Done, BadWords, BadInput, ReadFault, WriteFault}
 use Rattle.pigale_shell.specs.declared.output_lines.Ending.{Ending}
 use Rattle.pigale_shell.specs.declared.output_lines.Ending.TheVariants.{Well}
 use Rattle.pigale_shell.specs.EmbedText.{embed_answers}
@@ -36,11 +41,18 @@ two_vertices_are_drawn form edges s = omega (arith, s.0 refl)
 always_bad_input : MayEnd (Maps Count Text) Well BadInput → ⊥
 always_bad_input e = e
 
+always_bad_words : MayEnd (Maps Count Text) Well BadWords → ⊥
+always_bad_words e = e
+
 always_read_fault : (ending : Ending) → MayEnd (Maps Count Text) ending ReadFault → ⊥
 always_read_fault ending e = e
 
 always_write_fault : (ending : Ending) → MayEnd (Maps Count Text) ending WriteFault → ⊥
 always_write_fault ending e = e
+
+-- the drawing by the other method
+shift_draws_by_the_other_method : (lists : Lists) (figure : GridFigure) → 3 ≤ length lists → IsShiftFigure lists figure → IsSchnyderFigure lists figure → ⊥
+shift_draws_by_the_other_method lists figure least shift schnyder = omega (arith, ints, shift.width, schnyder.width)
 
 -- the verdict of a first figure, which is a witness, under the number of the second
 verdict_of_another_figure : (graph : EdgeGraph) (witness : Witness) → IsVerifyBlock 1 (WitnessFigure graph witness) (verdict_line 2 (codes "yes", [])) → ⊥
