@@ -9,7 +9,7 @@ use Rattle.contour_runs.specs.Fans.{fan, fans}
 use Rattle.contour_runs.proofs.Upward.{upward}
 use Rattle.contour_runs.proofs.FaceRunsStages as face_stages
 use Rattle.contour_runs.proofs.Fans.{fan-step, one_stage-after, one_stage-same, one_stage-run, run-fan, IsStage-one}
-use Rattle.contour_runs.proofs.Places.{moved-low, moved-between, moved-high, moved-le, vertex_after-low, vertex_after-new, vertex_after-high, place_after-older, place_after-new, cases_place}
+use Rattle.contour_runs.proofs.Places.{moved-low, moved-between, moved-high, vertex_after-low, vertex_after-new, vertex_after-high, place_after-older, place_after-new, cases_place}
 
 -- a step from a stage
 pub IsStage-after : (g : Stage) (s : Step) → IsStage g → IsStep g s → IsStage (after g s)
@@ -49,16 +49,6 @@ module _ (g : Stage) (s : Step) (h : IsStage g) (step : IsStep g s) where
   stays_gone v older ne = grind (arith, stood_before, place_after, IsStage-after)
 
 module _ (steps : ℕ → Step) where
-  -- order is kept
-  pub order_kept : (m n u v : ℕ) → IsRun steps n → m ≤ n → u < m + 2 → v < m + 2 → (stage_after steps m).place u ≤ (stage_after steps m).place v → (stage_after steps n).place u ≤ (stage_after steps n).place v
-  order_kept m n u v h l a b e =
-      upward (λ k. (stage_after steps k).place u ≤ (stage_after steps k).place v) m n l e
-      (λ k low high less.
-      let g = stage_after steps k in
-      let c = count-stage_after steps k in
-      let le = moved-le (steps k) (g.place u) (g.place v) (h k high).order less in
-      omega (arith, place_after-older g (steps k) u (omega arith), place_after-older g (steps k) v (omega arith)))
-
   -- two with one place keep one place
   pub together : (m n u v : ℕ) → m ≤ n → u < m + 2 → v < m + 2 → (stage_after steps m).place u ≡ (stage_after steps m).place v → (stage_after steps n).place u ≡ (stage_after steps n).place v
   together m n u v l a b e =

@@ -128,11 +128,6 @@ right_missed span r p q first second u inside h =
 pub missed_back : (span : BoundingBox) (r p q : Point) → MissesStar span r q p → MissesStar span r p q
 missed_back span r p q missed u inside h = missed u inside (DoCross-first_back p q r u h)
 
--- what lies between two numbers is within what holds both
-between_bounds : (l h a b p : ℤ) → l ≤ℤ a → a ≤ℤ h → l ≤ℤ b → b ≤ℤ h → IsBetween a b p → (l ≤ℤ p) × (p ≤ℤ h)
-between_bounds l h a b p la ah lb bh (inl (x, y)) = (omega (arith, ints), omega (arith, ints))
-between_bounds l h a b p la ah lb bh (inr (x, y)) = (omega (arith, ints), omega (arith, ints))
-
 -- Seen from r the point is to the right of the box.
 right_off : (span : BoundingBox) (r p : Point) → ((u : Point) → IsIn span u → pos 0 <ℤ area r p u) → MissesFan span r p
 right_off span r p box u inside on = let up = box u inside in let line = on.on_line in let back = area_back p r u in let turn = area_turned p r u in omega (arith, ints, back, turn)

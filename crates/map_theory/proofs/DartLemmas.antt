@@ -1,6 +1,6 @@
 -- Darts and their numbers, and the face step as a permutation of them.
-use Rattle.std.proofs.Common.{ℕ, zero, suc, ◌+◌, ◌-◌, ◌<◌, ◌≤◌, ◌≡◌, ◌≢◌, cond, eqb, List, [], ◌∷◌, ◌++◌, length, get_or, take, AllPairs, Contains, sym, refl, ap, ◌∙◌, subst, inl, inr, ap₂, ltb, lt-ltb, le-ltb, arith, eq-eqb, ne_eqb, add-one}
-use Rattle.std.proofs.lemmas.List.{append-nil, append_assoc, take_more, length-take-le, length-append, length-map, get_or_append_left, get_or-append-add, get_or-map, get_or_default, get_or_past}
+use Rattle.std.proofs.Common.{ℕ, zero, suc, ◌+◌, ◌-◌, ◌<◌, ◌≤◌, ◌≡◌, ◌≢◌, cond, eqb, List, [], ◌∷◌, ◌++◌, length, get_or, AllPairs, Contains, sym, refl, ap, ◌∙◌, subst, inl, inr, ap₂, ltb, lt-ltb, le-ltb, arith, eq-eqb, ne_eqb, add-one}
+use Rattle.std.proofs.lemmas.List.{append-nil, append_assoc, length-append, length-map, get_or_append_left, get_or-append-add, get_or-map, get_or_default, get_or_past}
 use Rattle.std.proofs.lemmas.List.Sums.{sum_by-cons}
 use Rattle.std.proofs.lemmas.Bool.Decides.{nat_tests}
 use Rattle.std.proofs.lemmas.Bool.{cases_lt, cases_eq, cond-true, cond-false}
@@ -315,12 +315,6 @@ darts_since-push from (ws ∷ lists) us =
     ap (λ ds. darts_from from ws ++ ds) (darts_since-push (from + 1) lists us)
     ∙ sym (append_assoc (darts_from from ws) (darts_since (from + 1) lists) (darts_from (from + 1 + length lists) us))
     ∙ ap (λ n. darts_from from ws ++ darts_since (from + 1) lists ++ darts_from n us) e
-
-pub darts_more : (lists : Lists) (v : ℕ) → v < length lists → darts (take (v + 1) lists) ≡ darts (take v lists) ++ darts_from v (list_of lists v)
-darts_more lists v h =
-    let e : 0 + length (take v lists) ≡ v = omega (arith, length-take-le v lists (omega arith)) in
-    ap (λ x. darts x) (take_more lists v [] h) ∙ darts_since-push 0 (take v lists) (list_of lists v)
-    ∙ ap (λ n. darts (take v lists) ++ darts_from n (list_of lists v)) e
 
 -- each number below the count of darts has a dart of the lists
 pub HasDart-darts : (lists : Lists) (i : ℕ) (d : Dart) → i < dart_count lists → HasDart lists (get_or (darts lists) i d).0 (get_or (darts lists) i d).1

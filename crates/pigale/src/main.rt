@@ -3,19 +3,21 @@
 #![tactic(auto)]
 
 mod command_line;
+mod whole_run;
 
 use command_line::{exit_code, words_of};
 use pg_io::{ReadAdapter, WriteAdapter};
-use pigale_shell::{Status, pigale};
+use pigale_shell::Status;
 use std::env;
 use std::process::ExitCode;
+use whole_run::run;
 
-// Runs the top call on the words of the command line, standard input and standard output, and returns the exit code.
+// Runs the words of the command line on standard input and standard output, and returns the exit code.
 fn main(rt: HostRuntime) -> ExitCode {
     let Ok(words) = words_of(rt.alloc(), env::args(&rt)) else {
         return exit_code(Status::NoMemory);
     };
     let mut source = ReadAdapter::new(rt.stdin());
     let mut sink = WriteAdapter::new(rt.stdout());
-    exit_code(pigale(rt.alloc(), &words, &mut source, &mut sink))
+    exit_code(run(rt.alloc(), &words, &mut source, &mut sink))
 }

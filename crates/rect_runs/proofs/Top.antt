@@ -109,9 +109,6 @@ module _ (steps : ℕ → Step) (n : ℕ) (h : IsRectRun steps n) where
   top_box : (v : ℕ) → v ≡ n + 2 → IsTopBox v
   top_box v e = record { left = with_new-new (n + 2) _ _ v e; right = with_new-new (n + 2) _ _ v e; low = with_new-new (n + 2) _ _ v e; high = with_new-new (n + 2) _ _ v e }
 
-  wide_contour : 2 ≤ g.width
-  wide_contour = (IsStage-run steps n labelled.run).wide
-
   -- what the last vertex touches
   top_shares : (u v : ℕ) → StandsOver steps n u v → ShareSide all u v
   top_shares u v p = grind (arith, top_box, IsStage-run, labelled, count-stage_after, same_box, laid, high_end, lower)

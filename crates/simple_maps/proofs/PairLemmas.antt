@@ -1,5 +1,5 @@
 -- The pass by cells: what one dart more keeps, and that lists that it goes over are a simple map.
-use Rattle.std.proofs.Common.{ℕ, suc, ◌+◌, ◌*◌, ◌<◌, ◌≤◌, ◌≡◌, ◌≢◌, List, [], ◌∷◌, length, get_or, set, All, sym, ap, ap₂, ◌∙◌, subst, inl, inr, arith, get_or-set_same, get_or-set_other, length-set}
+use Rattle.std.proofs.Common.{ℕ, ◌+◌, ◌*◌, ◌<◌, ◌≤◌, ◌≡◌, ◌≢◌, List, [], ◌∷◌, length, get_or, set, All, sym, ap, ap₂, ◌∙◌, subst, inl, inr, arith, get_or-set_same, get_or-set_other, length-set}
 use Rattle.std.proofs.lemmas.Bool.{cases_eq, cases_lt}
 use Rattle.std.proofs.lemmas.List.{get_or_default}
 use Rattle.map_lists.specs.Cuts.{cut, AreCuts}
@@ -90,32 +90,6 @@ pub record HasPaired (entries ends tails twins cells : List ℕ) (n start v : �
   pub tails_are : (w d : ℕ) → w < v → get_or (0 ∷ ends) w 0 ≤ d → d < get_or ends w 0 → get_or tails d 0 ≡ w
   pub below : (d : ℕ) → d < start → get_or tails d 0 < v
   pub paired : ArePairedTo entries tails twins cells n start
-
--- one list more
-pub HasPaired-more : (entries ends tails twins cells : List ℕ) (n start v : ℕ) → HasPaired entries ends tails twins cells n start v → (tails' twins' cells' : List ℕ) (end next : ℕ) → start ≤ end → end ≡ get_or ends v 0 → AreTailsPut tails tails' start end v → ArePairedTo entries tails' twins' cells' n end → next ≡ v + 1 → HasPaired entries ends tails' twins' cells' n end next
-HasPaired-more entries ends tails twins cells n start v h tails' twins' cells' end next order end_is put paired step =
-    let s : next ≡ suc v = omega arith in
-    rw s (record {
-      start_is = end_is;
-      before = λ w l. elim (cases_lt w v) [
-        | inl m ↦ omega (arith, h.before w m)
-        | inr m ↦ (let e : w ≡ v = omega arith in omega (arith, ap (λ x. get_or ends x 0) e))
-      ];
-      tails_are = λ w d l a b. elim (cases_lt w v) [
-        | inl m ↦ (let in_before : d < start = omega (arith, h.before w m) in put.kept d in_before ∙ h.tails_are w d m a b)
-        | inr m ↦
-            (let e : w ≡ v = omega arith in
-            let from = ap (λ x. get_or (0 ∷ ends) x 0) e in
-            let to = ap (λ x. get_or ends x 0) e in
-            let begins = h.start_is in
-            put.here d (omega arith) (omega arith) ∙ sym e)
-      ];
-      below = λ d l. elim (cases_lt d start) [
-        | inl m ↦ omega (arith, put.kept d m, h.below d m)
-        | inr m ↦ omega (arith, put.here d m l)
-      ];
-      paired = paired;
-    })
 
 -- where all lists were gone over, and all darts have a twin, the lists are a simple map
 module _ (entries ends tails twins cells : List ℕ) (start v : ℕ) (cuts : AreCuts 0 ends (length entries)) (h : HasPaired entries ends tails twins cells (length ends) start v) (all : v ≡ length ends) (long : length twins ≡ length entries) (known : All (λ t. t < 16777216) twins) where
