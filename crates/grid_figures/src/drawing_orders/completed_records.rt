@@ -134,6 +134,20 @@ impl Tools {
         self.maps.keep_map(map);
         Ok(made)
     }
+
+    // Completes the map of `lists` and orders it, or returns the first condition that they break. Returns the map, and
+    // whether edges were added, and then `self.lists` are those of the completion.
+    fn ordered_map(&mut self, lists: &Rotations) -> Result<(HalfMap, bool), Unserved>
+        requires some_list { 0 < length lists.now }
+        ensures order { IfOk result (λ p. IsOrdered lists.now p.0.lists self.new.peeler.order) }
+        ensures lists { IfOk result (λ p. lists_by p.1 self.new.lists lists.now ≡ p.0.lists) }
+        ensures served { OnOk result (first_refusal 3 lists.now ≡ None) }
+        ensures refused { IfErr result (IfRefused (λ refusal. first_refusal 3 lists.now ≡ Some refusal)) }
+    {
+        let mut map = self.maps.plane_half_map(lists, 3)?;
+        let made = self.order_map(&mut map, lists)?;
+        Ok((map, made))
+    }
 }
 
 // Returns the `lists` that were made for a completion, where edges were put in, or else those of the record, `own`.
@@ -164,13 +178,19 @@ pub fn drawing_order(alloc: Global, lists: &Rotations) -> Result<DrawingOrder, U
     ensures refused { IfErr result (IfRefused (λ refusal. first_refusal 3 lists.now ≡ Some refusal)) }
 {
     let mut tools = Tools::new(alloc);
-    let mut map = tools.maps.plane_half_map(lists, 3)?;
-    let made = tools.order_map(&mut map, lists)?;
-    let read = tools.lists;
-    let peeler = tools.peeler;
-    Ok(DrawingOrder {
-        tri: map,
-        made: some_if(made, read),
-        order: peeler.order,
-    })
+    match tools.ordered_map(lists) {
+        Ok((map, made)) => {
+            let read = tools.lists;
+            let peeler = tools.peeler;
+            Ok(DrawingOrder {
+                tri: map,
+                made: some_if(made, read),
+                order: peeler.order,
+            })
+        }
+        Err(refusal) => {
+            drop(tools);
+            Err(refusal)
+        }
+    }
 }

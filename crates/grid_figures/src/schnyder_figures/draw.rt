@@ -86,5 +86,7 @@ pub fn schnyder_figure(alloc: Global, lists: &Rotations) -> Result<GridFigure, U
     ensures refused { IfErr result (IfRefused (λ refusal. first_refusal 3 lists.now ≡ Some refusal)) }
 {
     let mut drawer = Drawer::new(alloc);
-    drawer.schnyder_figure(lists)
+    let figure = drawer.schnyder_figure(lists);
+    drop(drawer);
+    figure
 }

@@ -86,5 +86,7 @@ pub fn shift_figure(alloc: Global, lists: &Rotations) -> Result<GridFigure, Unse
     ensures refused { IfErr result (IfRefused (λ refusal. first_refusal 3 lists.now ≡ Some refusal)) }
 {
     let mut drawer = Drawer::new(alloc);
-    drawer.shift_figure(lists)
+    let figure = drawer.shift_figure(lists);
+    drop(drawer);
+    figure
 }

@@ -1,17 +1,16 @@
 use Rattle.grid_figures.proofs.CompletionLemmas.{listed_by}
 use Rattle.grid_figures.proofs.drawing_orders.completed_records.drawing_order.Goals as goal
 
-pub returns-clause-order : goal.returns-clause-order
-returns-clause-order c =
-    let made = c.in_ok-made in
-    let h = made.ensures.order in
+pub returns-in-Ok-clause-order : goal.returns-in-Ok-clause-order
+returns-in-Ok-clause-order c =
+    let h = c.in-Ok.ensures.order in
     record {
       simple = h.simple;
       triangulation = h.triangulation;
-      listed = rw c.some_if.ensures (listed_by made.made c.order_map.new.self.lists c.args.lists.now c.order_map.new.map.lists made.ensures.lists);
+      listed = rw c.some_if.ensures (listed_by c.in-Ok.made c.ordered_map.new.self.lists c.args.lists.now c.in-Ok.map.lists c.in-Ok.ensures.lists);
       extended = h.extended;
       to = h.to;
       base = h.base;
       canonical = h.canonical;
-      rank = c.order_map.new.self.peeler.order.ranked;
+      rank = c.ordered_map.new.self.peeler.order.ranked;
     }
