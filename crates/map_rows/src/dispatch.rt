@@ -18,12 +18,15 @@ impl Answers for Rows {
         }
         if let Some(given) = lists_of(out.alloc, row.arg(0)) {
             match HalfMap::from_rotations(out.alloc, &given.lists) {
-                Ok(mut map) => match row.family {
-                    "map" => maps::answer(row, &given.lists, &map, out),
-                    "edits" => edits::answer(&mut map, row.arg(1), out),
-                    "count" => counts::answer(row, &given, &map, out),
-                    _ => cuts::answer(row.call, &map, out),
-                },
+                Ok(mut map) => {
+                    match row.family {
+                        "map" => maps::answer(row, &given.lists, &map, out),
+                        "edits" => edits::answer(&mut map, row.arg(1), out),
+                        "count" => counts::answer(row, &given, &map, out),
+                        _ => cuts::answer(row.call, &map, out),
+                    }
+                    drop(map);
+                }
                 Err(fault) => tell_fault(fault, out),
             }
         }

@@ -52,12 +52,14 @@ fn put_all(images: &[u32], row: &Row<'_>, out: &mut Reply)
                 put_orbits(&perm, row.arg(3), out);
             }
         }
-        Err(PermFault::OutOfRange(i)) => out.put_one("OutOfRange", u64::from(i)),
-        Err(PermFault::Repeated(i, j)) => {
-            out.put_one("Repeated", u64::from(i));
-            out.put_one("", u64::from(j));
-        }
-        Err(PermFault::NoMemory) => tell_no_memory(out),
+        Err(fault) => match fault {
+            PermFault::OutOfRange(i) => out.put_one("OutOfRange", u64::from(i)),
+            PermFault::Repeated(i, j) => {
+                out.put_one("Repeated", u64::from(i));
+                out.put_one("", u64::from(j));
+            }
+            PermFault::NoMemory => tell_no_memory(out),
+        },
     }
 }
 
