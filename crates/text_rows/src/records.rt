@@ -67,11 +67,7 @@ fn piece_at(bytes: &[u8], at: usize, at_once: usize) -> &[u8]
     ensures within { at + length result.now ≤ length bytes.now }
 {
     let rest = &bytes[at..];
-    if rest.len() < at_once {
-        rest
-    } else {
-        &rest[..at_once]
-    }
+    &rest[..at_once.min(rest.len())]
 }
 
 // Reads `bytes` in pieces of `at_once`, and appends to `out` the records up to a bad count.

@@ -2,7 +2,7 @@
 ghost use Rattle.figure_text.specs.Text.{IsWhole};
 
 use figure_text::{Figure, GridJob, Item, TextFault, print_figure, print_witness};
-use graph6_text::read_line;
+use graph6_text::{Graph, read_line};
 use half_edges::Rotations;
 use line_inputs::read_figure;
 use pg_plane::Points;
@@ -16,11 +16,12 @@ use row_texts::rows::Row;
 use row_texts::witnesses::witness_of;
 
 // Appends the text of `figure` with this number to `out`.
-fn put_figure(number: u16, figure: &Figure, out: &mut Reply)
-    requires { IsWhole figure.now }
+fn put_figure(number: u16, figure: Figure, out: &mut Reply)
+    requires { IsWhole figure }
 {
     let mut bytes = Vec::new(out.alloc);
-    let _ = print_figure(out.alloc, u32::from(number), figure, &mut bytes);
+    let _ = print_figure(out.alloc, u32::from(number), &figure, &mut bytes);
+    drop(figure);
     put_bytes(&bytes, out);
 }
 
@@ -33,7 +34,7 @@ fn put_grid(row: &Row<'_>, lists: Rotations, points: Points, out: &mut Reply) {
             "schnyder" => GridJob::Schnyder,
             _ => GridJob::Convex,
         };
-        put_figure(row.number(0), &Figure::Grid { job, lists, points }, out);
+        put_figure(row.number(0), Figure::Grid { job, lists, points }, out);
     }
 }
 
@@ -42,26 +43,24 @@ fn put_bars(row: &Row<'_>, out: &mut Reply) {
     if let Some(given) = lists_of(out.alloc, row.arg(1)) {
         let lists = given.lists;
         if let Some(bars) = bars_of(out.alloc, behind(row.args, 2), lists.len()) {
-            put_figure(row.number(0), &Figure::Bars { lists, bars }, out);
+            put_figure(row.number(0), Figure::Bars { lists, bars }, out);
         }
     }
+}
+
+// Appends to `out` the text of a witness in `graph`.
+fn put_paths(row: &Row<'_>, graph: &Graph, out: &mut Reply) {
+    let witness = witness_of(out.alloc, row.arg(2), row.arg(3));
+    let mut bytes = Vec::new(out.alloc);
+    let number = u32::from(row.number(0));
+    let _ = print_witness(out.alloc, number, graph, &witness, &mut bytes);
+    put_bytes(&bytes, out);
 }
 
 // Appends to `out` the text of a witness in the graph of a graph6 line.
 fn put_witness(row: &Row<'_>, out: &mut Reply) {
     match read_line(out.alloc, row.arg(1).as_bytes()) {
-        Ok(graph) => {
-            let witness = witness_of(out.alloc, row.arg(2), row.arg(3));
-            let mut bytes = Vec::new(out.alloc);
-            let _ = print_witness(
-                out.alloc,
-                u32::from(row.number(0)),
-                &graph,
-                &witness,
-                &mut bytes,
-            );
-            put_bytes(&bytes, out);
-        }
+        Ok(graph) => put_paths(row, &graph, out),
         Err(fault) => tell_line_fault(fault, out),
     }
 }
@@ -86,6 +85,13 @@ fn put_item(found: &Result<Item, TextFault>, out: &mut Reply) {
     }
 }
 
+// Appends to `out` the item found at the front of `text`, or the fault there.
+fn put_read(text: &[u8], out: &mut Reply) {
+    let found = read_figure(out.alloc, text, 0, 1);
+    put_item(&found, out);
+    drop(found);
+}
+
 /// Appends to `out` the answer to a row on texts.
 pub fn answer(row: &Row<'_>, out: &mut Reply) {
     match row.call {
@@ -98,9 +104,6 @@ pub fn answer(row: &Row<'_>, out: &mut Reply) {
         "nothing" => put_grid(row, Rotations::new(out.alloc), Points::new(out.alloc), out),
         "bars" => put_bars(row, out),
         "witness" => put_witness(row, out),
-        _ => put_item(
-            &read_figure(out.alloc, &lines_of(out.alloc, row.arg(0)), 0, 1),
-            out,
-        ),
+        _ => put_read(&lines_of(out.alloc, row.arg(0)), out),
     }
 }
