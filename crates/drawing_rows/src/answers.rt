@@ -3,9 +3,21 @@
 use crate::{bars, convex, orders, pictures, rects, verdicts};
 use half_edges::HalfMap;
 use row_texts::fault_texts::tell_fault;
-use row_texts::lists::lists_of;
+use row_texts::lists::{SomeLists, lists_of};
 use row_texts::reply::Reply;
 use row_texts::rows::{Answers, Row};
+
+// Answers a row on the map of the lists `given`, or tells why they have none.
+fn over_map(row: &Row<'_>, given: &SomeLists, out: &mut Reply) {
+    match HalfMap::from_rotations(out.alloc, &given.lists) {
+        Ok(map) => match row.family {
+            "picture" => pictures::answer(row, &map, out),
+            "bars" => bars::answer(row, given, &map, out),
+            _ => verdicts::answer(row, &map, out),
+        },
+        Err(fault) => tell_fault(fault, out),
+    }
+}
 
 /// The rows of this program, on lists, and some also on their map, where the lists have one.
 pub struct Rows;
@@ -20,12 +32,7 @@ impl Answers for Rows {
             "check" if row.call == "faces" => orders::answer(row, &given, out),
             "convex" => convex::answer(row, &given, out),
             "labels" => rects::answer(row, &given, out),
-            family => match HalfMap::from_rotations(out.alloc, &given.lists) {
-                Ok(map) if family == "picture" => pictures::answer(row, &map, out),
-                Ok(map) if family == "bars" => bars::answer(row, &given, &map, out),
-                Ok(map) => verdicts::answer(row, &map, out),
-                Err(fault) => tell_fault(fault, out),
-            },
+            _ => over_map(row, &given, out),
         }
     }
 }

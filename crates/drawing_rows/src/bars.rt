@@ -35,24 +35,20 @@ fn of_base(row: &Row<'_>, map: &HalfMap, st: DartId, out: &mut Reply)
         return;
     }
     match st_order(out.alloc, map, st) {
-        Ok(found) if row.call == "order" => {
-            put_vertices(&found.at, usize::from(row.number(1)), out);
-        }
-        Ok(found) => match dual_numbers(out.alloc, map, &found, st) {
-            Ok(numbers) => put_counts(&numbers, out),
-            Err(_) => tell_no_memory(out),
+        Ok(found) => match row.call {
+            "order" => put_vertices(&found.at, usize::from(row.number(1)), out),
+            _ => match dual_numbers(out.alloc, map, &found, st) {
+                Ok(numbers) => put_counts(&numbers, out),
+                Err(_) => tell_no_memory(out),
+            },
         },
         Err(_) => tell_no_memory(out),
     }
 }
 
-// Writes the verdict on the bars that `row` gives to `map`, if there is one for each vertex.
-fn check(row: &Row<'_>, map: &HalfMap, out: &mut Reply) {
-    let n = usize::from(map.n());
-    let Some(figure) = bars_of(out.alloc, behind(row.args, 1), n) else {
-        return;
-    };
-    match check_bars(map, &figure, integer(row.arg(5))) {
+// Writes a verdict on bars.
+fn put_verdict(verdict: BarVerdict, out: &mut Reply) {
+    match verdict {
         BarVerdict::BadShape => out.put("BadShape"),
         BarVerdict::BadHeight(v) => out.put_with("BadHeight", &[v.0]),
         BarVerdict::BadBar(v) => out.put_with("BadBar", &[v.0]),
@@ -61,6 +57,13 @@ fn check(row: &Row<'_>, map: &HalfMap, out: &mut Reply) {
         BarVerdict::Overlap(e, f) => out.put_with("Overlap", &[e.a.0, e.b.0, f.a.0, f.b.0]),
         BarVerdict::Turned(v) => out.put_with("Turned", &[v.0]),
         BarVerdict::Yes => out.put("Yes"),
+    }
+}
+
+// Writes the verdict on the bars that `row` gives to `map`, if there is one for each vertex.
+fn check(row: &Row<'_>, map: &HalfMap, out: &mut Reply) {
+    if let Some(figure) = bars_of(out.alloc, behind(row.args, 1), usize::from(map.n())) {
+        put_verdict(check_bars(map, &figure, integer(row.arg(5))), out);
     }
 }
 

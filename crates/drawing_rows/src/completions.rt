@@ -35,11 +35,8 @@ pub fn answer(call: &str, old: &Rotations, tri: &HalfMap, out: &mut Reply) {
                 put_lists(&new, out);
             } else {
                 put_size(tri, out);
-                out.put(if are_kept(old, &new) {
-                    " kept"
-                } else {
-                    " lost"
-                });
+                let kept = are_kept(old, &new);
+                out.put(if kept { " kept" } else { " lost" });
             }
         }
         Err(_) => tell_no_memory(out),

@@ -55,11 +55,8 @@ fn coordinates(figure: &GridFigure, v: u16) -> [i64; 3] {
     }
     let place = figure.points.get(usize::from(v));
     let (x, y) = (i64::from(place.x), i64::from(place.y));
-    [
-        x,
-        y,
-        i64::from(figure.width).wrapping_sub(x).wrapping_sub(y),
-    ]
+    let z = i64::from(figure.width).wrapping_sub(x).wrapping_sub(y);
+    [x, y, z]
 }
 
 // Writes how many vertices there are, and the first whose regions are not its coordinates, or that there is none.
@@ -124,16 +121,18 @@ fn of_base(row: &Row<'_>, map: &HalfMap, base: DartId, out: &mut Reply)
         return;
     }
     match wood_over(out.alloc, map, base) {
-        Ok(wood) if row.call == "regions" => match convex_draw(out.alloc, map, base) {
-            Ok(figure) => put_compared(map, &wood, &figure, out),
-            Err(_) => tell_no_memory(out),
+        Ok(wood) => match row.call {
+            "regions" => match convex_draw(out.alloc, map, base) {
+                Ok(figure) => put_compared(map, &wood, &figure, out),
+                Err(_) => tell_no_memory(out),
+            },
+            "region" => put_region(map, &wood, row.number(1), out),
+            _ => {
+                put_heads(map, &wood, Axis::One, out);
+                put_heads(map, &wood, Axis::Two, out);
+                put_heads(map, &wood, Axis::Three, out);
+            }
         },
-        Ok(wood) if row.call == "region" => put_region(map, &wood, row.number(1), out),
-        Ok(wood) => {
-            put_heads(map, &wood, Axis::One, out);
-            put_heads(map, &wood, Axis::Two, out);
-            put_heads(map, &wood, Axis::Three, out);
-        }
         Err(_) => tell_no_memory(out),
     }
 }

@@ -108,18 +108,24 @@ fn of_order(row: &Row<'_>, tri: &HalfMap, order: &Order, out: &mut Reply)
     }
 }
 
+// Answers a row on the triangulation of the given lists and its order.
+fn of_found(row: &Row<'_>, given: &SomeLists, found: &DrawingOrder, out: &mut Reply)
+    requires triangulation { IsTriangulation found.now.tri.lists }
+    requires order { (base : Dart) × IsCanonicalOrder found.now.tri.lists base (vertices_of found.now.order) }
+    requires based { (base : Dart) × HasDart found.now.tri.lists base.0 base.1 × IsCanonicalOrder found.now.tri.lists base (vertices_of found.now.order) }
+{
+    match row.family {
+        "draw" => of_order(row, &found.tri, &found.order, out),
+        "wood" => woods::answer(row, &found.tri, &found.order, out),
+        "complete" => completions::answer(row.call, &given.lists, &found.tri, out),
+        _ => verdicts::faces(row, &found.tri, out),
+    }
+}
+
 // Answers a row on the triangulation of the given lists and its order, where these have one.
 fn over_order(row: &Row<'_>, given: &SomeLists, out: &mut Reply) {
     match order_of(out.alloc, given) {
-        Ok(found) => {
-            let (tri, order) = (&found.tri, &found.order);
-            match row.family {
-                "draw" => of_order(row, tri, order, out),
-                "wood" => woods::answer(row, tri, order, out),
-                "complete" => completions::answer(row.call, &given.lists, tri, out),
-                _ => verdicts::faces(row, tri, out),
-            }
-        }
+        Ok(found) => of_found(row, given, &found, out),
         Err(unserved) => tell_unserved(unserved, out),
     }
 }
