@@ -34,12 +34,10 @@ fn put_graph(graph: Result<Graph, AllocError>, out: &mut Reply) {
 pub fn edge_of(graph: &Graph, text: &str) -> Option<Ends>
     ensures { IfSome result (λ e. has_edge graph.now e.a.0 e.b.0 ≡ true) }
 {
-    let (a, b) = pair(text);
-    if a < b && graph.has(VertexId(a), VertexId(b)) {
-        Some(Ends {
-            a: VertexId(a),
-            b: VertexId(b),
-        })
+    let (u, v) = pair(text);
+    let (a, b) = (VertexId(u), VertexId(v));
+    if u < v && graph.has(a, b) {
+        Some(Ends { a, b })
     } else {
         None
     }

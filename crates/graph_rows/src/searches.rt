@@ -58,18 +58,22 @@ fn is_drawn(alloc: Global, graph: &Graph, lists: &Rotations) -> bool {
     }
 }
 
-// Returns the name of what the fast searches find: a map, a kind of subdivision that the check accepts, or something
-// wrong.
+// Returns the name of the kind of subdivision that the fast search finds and the check accepts, or of something wrong.
+fn witness_found(alloc: Global, graph: &Graph) -> &'static str {
+    match find_witness(alloc, graph) {
+        Ok(Some(witness)) => match check_witness(graph, &witness) {
+            WitnessVerdict::Yes => name_of(witness.kind),
+            _ => WRONG,
+        },
+        _ => WRONG,
+    }
+}
+
+// Returns the name of what the fast searches find: a map, a kind of subdivision, or something wrong.
 fn searched(alloc: Global, graph: &Graph) -> &'static str {
     match planar_lists(alloc, graph) {
         Ok(Some(lists)) if is_drawn(alloc, graph, &lists) => "map",
-        Ok(None) => match find_witness(alloc, graph) {
-            Ok(Some(witness)) => match check_witness(graph, &witness) {
-                WitnessVerdict::Yes => name_of(witness.kind),
-                _ => WRONG,
-            },
-            _ => WRONG,
-        },
+        Ok(None) => witness_found(alloc, graph),
         _ => WRONG,
     }
 }

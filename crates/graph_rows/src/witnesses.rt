@@ -56,19 +56,21 @@ fn lifted(
     }
 }
 
-// Writes the kind, the numbers of paths and of their vertices, of the witness lifted from `witness` along edge `e`.
-// Then it writes the verdict on it.
+// Writes the kind of `witness`, the numbers of its paths and of their vertices, and the verdict on it.
+fn put_told(graph: &Graph, witness: &Witness, out: &mut Reply) {
+    out.put(name_of(witness.kind));
+    out.put_one(",", witness.paths.len() as u64);
+    out.put_one(" paths of", witness.paths.total() as u64);
+    out.put(" vertices, ");
+    put_verdict(graph, witness, out);
+}
+
+// Writes the witness lifted from `witness` along edge `e`, as `put_told` does.
 fn put_lifted(graph: &Graph, e: Ends, witness: &Witness, out: &mut Reply)
     requires { has_edge graph.now e.a.0 e.b.0 ≡ true }
 {
     match lifted(out.alloc, graph, e, witness) {
-        Ok(Some(new)) => {
-            out.put(name_of(new.kind));
-            out.put_one(",", new.paths.len() as u64);
-            out.put_one(" paths of", new.paths.total() as u64);
-            out.put(" vertices, ");
-            put_verdict(graph, &new, out);
-        }
+        Ok(Some(new)) => put_told(graph, &new, out),
         Ok(None) => {}
         Err(_) => tell_no_memory(out),
     }
@@ -79,11 +81,7 @@ pub fn answer(row: &Row<'_>, graph: &Graph, out: &mut Reply) {
     if row.call == "check" {
         put_verdict(graph, &witness_of(out.alloc, row.arg(1), row.arg(2)), out);
     } else if let Some(e) = edge_of(graph, row.arg(1)) {
-        put_lifted(
-            graph,
-            e,
-            &witness_of(out.alloc, row.arg(2), row.arg(3)),
-            out,
-        );
+        let witness = witness_of(out.alloc, row.arg(2), row.arg(3));
+        put_lifted(graph, e, &witness, out);
     }
 }
