@@ -16,8 +16,7 @@ use row_texts::rows::Row;
 use st_orders::st_order;
 use visibility::bars;
 
-// Writes for the dart `st` the visibility drawing, the first vertices of the st-order, or the columns of the edges, as
-// `row` asks.
+// Writes for the dart `st` the visibility drawing, vertices of the st-order or columns of edges, as `row` asks.
 fn of_base(row: &Row<'_>, map: &HalfMap, st: DartId, out: &mut Reply)
     requires block { IsBiconnectedMap 3 map.now.lists }
     requires live { IsLive map.now st.0 }

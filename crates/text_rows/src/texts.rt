@@ -25,8 +25,7 @@ fn put_figure(number: u16, figure: Figure, out: &mut Reply)
     put_bytes(&bytes, out);
 }
 
-// Appends to `out` the text of a straight-line drawing by the job that `row` names, if there is a point for each
-// list.
+// Appends to `out` the text of a straight-line drawing by the job that `row` names, if each list has a point.
 fn put_grid(row: &Row<'_>, lists: Rotations, points: Points, out: &mut Reply) {
     if points.len() == lists.len() {
         let job = match row.arg(1) {
