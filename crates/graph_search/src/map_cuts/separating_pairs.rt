@@ -1,8 +1,10 @@
 //! The least separating pair of vertices, of rotation lists or of a map.
 ghost use Rattle.std.specs.Prelude.{◌≡◌, ◌<◌, ◌≤◌, ℕ, true, false, length, slice_index_or, MatchOption, IfOk};
+ghost use Rattle.map_lists.specs.Lists.{Lists};
 ghost use Rattle.graph_search.specs.Forests.{IsAdjacency};
 ghost use Rattle.graph_search.specs.Cuts.{IsSeparatingPair, IsLeastPair};
 ghost use Rattle.graph_search.specs.Flags.{AreCutFlags};
+ghost use Rattle.graph_search.specs.Without.{IsWithoutVertex};
 
 use crate::map_cuts::cut_vertex_flags::cut_flags;
 use crate::map_cuts::least_cut_vertex::first_set;
@@ -10,6 +12,17 @@ use crate::map_cuts::lists_without_vertex::lists_without;
 use half_edges::HalfMap;
 use map_lists::{Rotations, VertexId};
 use std::alloc::{AllocError, Global};
+
+// Returns for each vertex whether it is a cut vertex of `lists` without `v`. It fails only when out of memory.
+fn cuts_without(alloc: Global, lists: &Rotations, v: u16) -> Result<Vec<bool>, AllocError>
+    requires adjacency { IsAdjacency lists.now }
+    ensures count { IfOk result (λ cuts. length cuts.items ≡ length lists.now) }
+    ensures cuts { IfOk result (λ cuts. (rest : Lists) × IsWithoutVertex lists.now rest v × AreCutFlags rest cuts.items) }
+{
+    let rest = lists_without(alloc, lists, v)?;
+    let cuts = cut_flags(alloc, &rest)?;
+    Ok(cuts)
+}
 
 // Returns the least vertex greater than `u` with which `u` is a separating pair of `lists`, or None. `flags` says
 // which vertices are cut vertices. It fails only when out of memory.
@@ -30,16 +43,15 @@ fn partner(
             if flags[v] {
                 return Ok(Some(v as u16));
             }
-            let rest = lists_without(alloc, lists, v as u16)?;
-            let cuts = cut_flags(alloc, &rest)?;
+            let cuts = cuts_without(alloc, lists, v as u16)?;
             if cuts[u as usize] {
                 return Ok(Some(v as u16));
             }
         }
         return Ok(None);
     }
-    let rest = lists_without(alloc, lists, u)?;
-    let cuts = cut_flags(alloc, &rest)?;
+    lists.facts();
+    let cuts = cuts_without(alloc, lists, u)?;
     match first_set(&cuts, u as usize + 1) {
         Some(v) => Ok(Some(v as u16)),
         None => Ok(None),
