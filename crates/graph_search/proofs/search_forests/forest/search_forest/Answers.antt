@@ -1,6 +1,4 @@
 use Rattle.graph_search.proofs.search_forests.forest.search_forest.Goals as goal
 
 pub returns : goal.returns
-returns c =
-    let t = c.into_tables.ensures in
-    rw t.order (rw t.number (rw t.last (rw t.parent (rw c.begun-search.ensures.lists at c.finish.ensures.forest))))
+returns c = rw c.into_tables.ensures.order (rw c.into_tables.ensures.number (rw c.into_tables.ensures.last (rw c.into_tables.ensures.parent (rw c.begun-search.ensures.lists at c.finish.ensures.forest))))
