@@ -115,21 +115,26 @@ fn ids_of(alloc: Global, list: &[u16]) -> Result<Vec<VertexId>, AllocError>
     list.iter().map(|u| VertexId(*u)).collect(alloc)
 }
 
-/// Returns the witness of `draft`, whose lists are the branches and then the paths. It fails only when out of memory.
-pub fn draft_witness(alloc: Global, kind: Subdivided, draft: &Draft) -> Result<Witness, AllocError>
+// Returns the paths of `draft`: its lists behind the first. It fails only when out of memory.
+fn paths_of(alloc: Global, draft: &Draft) -> Result<PathList, AllocError>
     requires { 0 < length draft.now.lists }
-    ensures { IfOk result (λ witness. witness ≡ witness_of kind draft.now.lists) }
+    ensures { IfOk result (λ paths. paths ≡ map ids (drop 1 draft.now.lists)) }
 {
-    let mut branch = VertexList::new(alloc);
-    let first = draft.lists.list(0);
-    for k in 0..first.len() {
-        branch.push(VertexId(first[k]))?;
-    }
     let mut paths = PathList::new(alloc);
     for p in 1..draft.lists.len() {
         let path = ids_of(alloc, draft.lists.list(p))?;
         paths.push(&path)?;
     }
+    Ok(paths)
+}
+
+/// Returns the witness of `draft`, whose lists are the branches and then the paths. It fails only when out of memory.
+pub fn draft_witness(alloc: Global, kind: Subdivided, draft: &Draft) -> Result<Witness, AllocError>
+    requires { 0 < length draft.now.lists }
+    ensures { IfOk result (λ witness. witness ≡ witness_of kind draft.now.lists) }
+{
+    let branch = VertexList::from_vec(ids_of(alloc, draft.lists.list(0))?);
+    let paths = paths_of(alloc, draft)?;
     Ok(Witness {
         kind,
         branch,
