@@ -57,10 +57,9 @@ module _ (t : Tables) (s mid : RowTables) (first end x : ℕ) (marks : List Bool
 
         pub kept_after : (new : RowTables) → AreRims rims (length t.lists) → new.marks ≡ mid.marks → new.rims ≡ rims → vertices_of new.contour ≡ contour_of us mid.contour.right.items → new.contour.left.items ≡ us → AreMoved t.lists t.faces.own t.faces.count Comes us first (length us - 1) mid.counts new.counts → IsKept t new
         kept_after new size marks_are rims_are contour_is left_is more =
-            let long = long_enough in
             record {
               marks_long = ap (λ m. length m.items) (marks_are ∙ same_marks) ∙ kept.marks_long;
-              some = omega (arith, long, ap length left_is);
+              some = omega (arith, long_enough, ap length left_is);
               rims = subst (λ r. AreRims r (length t.lists)) (sym rims_are) size;
               inner = subst (λ z. AreInner t.lists t.faces.own z new.rims.inner.items) (sym contour_is)
                   (subst (λ (r : Rims). AreInner t.lists t.faces.own (contour_of us mid.contour.right.items) r.inner.items) (sym rims_are)

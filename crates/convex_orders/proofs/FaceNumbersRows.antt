@@ -36,8 +36,7 @@ next_entry us i distinct l =
     ap (λ k. get_or us (k + 1) (get_or us 0 (get_or us i 0))) place ∙ get_or_default us (i + 1) (get_or us 0 (get_or us i 0)) 0 l
 
 pub next_at : (map : Map) → IsHalfMap map → (v i : ℕ) (o o' : Option Dart) → v < length map.lists → o ≡ Some (v, get_or (list_of map.lists v) i 0) → o' ≡ option_map (next_dart map.lists) o → i + 1 < length (list_of map.lists v) → o' ≡ Some (v, get_or (list_of map.lists v) (i + 1) 0)
-next_at map h v i o o' lv e step l =
-    step ∙ (ap (option_map (next_dart map.lists)) e ∙ ap (λ z. Some (v, z)) (next_entry (list_of map.lists v) i (h.simple.no_repeat v lv) l))
+next_at map h v i o o' lv e step l = step ∙ (ap (option_map (next_dart map.lists)) e ∙ ap (λ z. Some (v, z)) (next_entry (list_of map.lists v) i (h.simple.no_repeat v lv) l))
 
 -- one number more in a row
 pub AreOwn-more : (map : Map) (walks : List (List ℕ)) (v x : ℕ) (row : List ℕ) → AreOwn map walks v row → InWalk map walks x v (get_or (list_of map.lists v) (length row) 0) → AreOwn map walks v (row ++ x ∷ [])

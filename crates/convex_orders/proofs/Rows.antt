@@ -12,13 +12,11 @@ module _ (lists own other : Lists) (count : ℕ) (simple : IsSimpleMap lists) (n
   module _ (marks : List Bool) (alive : ℕ → Bool) (are : AreMarks lists own marks alive) where
     pub rim_from : (x y : ℕ) → IsRimIn lists own other marks x y → IsRim lists alive x y
     rim_from x y h =
-        let back = simple.both_ways x y h.dart in
-        record { dart = h.dart; outside = sym (are x y h.dart) ∙ h.outside; inside = sym (are y x back) ∙ (ap (is_set marks) (sym (n.back x y h.dart)) ∙ h.inside) }
+        record { dart = h.dart; outside = sym (are x y h.dart) ∙ h.outside; inside = sym (are y x (simple.both_ways x y h.dart)) ∙ (ap (is_set marks) (sym (n.back x y h.dart)) ∙ h.inside) }
 
     pub rim_to : (x y : ℕ) → IsRim lists alive x y → IsRimIn lists own other marks x y
     rim_to x y h =
-        let back = simple.both_ways x y h.dart in
-        record { dart = h.dart; outside = are x y h.dart ∙ h.outside; inside = ap (is_set marks) (n.back x y h.dart) ∙ (are y x back ∙ h.inside) }
+        record { dart = h.dart; outside = are x y h.dart ∙ h.outside; inside = ap (is_set marks) (n.back x y h.dart) ∙ (are y x (simple.both_ways x y h.dart) ∙ h.inside) }
 
   pub place_rim : (marks : List Bool) (x k : ℕ) → x < length lists → IsRimAt (list_of own x) (list_of other x) marks k → IsRimIn lists own other marks x (slice_index (list_of lists x) k)
   place_rim marks x k l h =

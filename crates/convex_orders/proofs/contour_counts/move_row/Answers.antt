@@ -10,9 +10,8 @@ moved-requires c =
     let row = c.args.row.now in
     let i = c.loop-u.u-index in
     let x = slice_index row i in
-    let same = c.loop-u.auto.counts in
     let l = c.requires.within i 0 c.loop-u-test.true in
-    can_one c.args.way (λ f. count_by (λ u. u == f) (take i row)) (λ f. count_by (λ u. u == f) (take (i + 1) row)) c.args.counts.now c.loop-u.counts x (omega (arith, l, same)) (entries_more row i c.loop-u-test.true) c.loop-u.invariant
+    can_one c.args.way (λ f. count_by (λ u. u == f) (take i row)) (λ f. count_by (λ u. u == f) (take (i + 1) row)) c.args.counts.now c.loop-u.counts x (omega (arith, l, c.loop-u.auto.counts)) (entries_more row i c.loop-u-test.true) c.loop-u.invariant
     (count_by (λ u. u == x) row) (entries_to row (i + 1) x) (c.requires.can x l)
 
 pub loop-u-preserved : goal.loop-u-preserved
@@ -20,7 +19,5 @@ loop-u-preserved c =
     let row = c.args.row.now in
     let i = c.loop-u.u-index in
     let x = slice_index row i in
-    let same = c.loop-u.auto.counts in
-    let l = c.requires.within i 0 c.loop-u-test.true in
-    λ f m. moved_one c.args.way (λ f. count_by (λ u. u == f) (take i row)) (λ f. count_by (λ u. u == f) (take (i + 1) row)) c.args.counts.now c.loop-u.counts x (omega (arith, l, same)) (entries_more row i c.loop-u-test.true) c.loop-u.invariant
+    λ f m. moved_one c.args.way (λ f. count_by (λ u. u == f) (take i row)) (λ f. count_by (λ u. u == f) (take (i + 1) row)) c.args.counts.now c.loop-u.counts x (omega (arith, c.requires.within i 0 c.loop-u-test.true, c.loop-u.auto.counts)) (entries_more row i c.loop-u-test.true) c.loop-u.invariant
     c.moved.result c.moved.ensures f (omega (arith, m, length-set c.loop-u.counts x c.moved.result))

@@ -15,21 +15,19 @@ move_row-requires-clause-within c =
 
 pub move_row-requires-clause-can : goal.move_row-requires-clause-can
 move_row-requires-clause-can c = λ f l.
-    let same = c.loop-i.auto.counts in
     let own = c.args.own.now in
     let vs = c.args.vs.now in
     let i = c.loop-i.i in
     subst (λ (z : List ℕ). CanMove c.args.way (slice_index c.loop-i.counts f) (count_by (λ u. eqb u f) z)) (sym c.list.ensures)
     (CanMove-more c.args.way (slice_index c.args.counts.now f) (met_below own vs i f) (met_at own f (slice_index vs i)) (met_below own vs (length vs) f) (slice_index c.loop-i.counts f)
-    (c.requires.can f (omega (arith, l, same))) (met_within own vs i (length vs) f c.loop-i-test.true) (c.loop-i.invariant f l))
+    (c.requires.can f (omega (arith, l, c.loop-i.auto.counts))) (met_within own vs i (length vs) f c.loop-i-test.true) (c.loop-i.invariant f l))
 
 pub loop-i-preserved : goal.loop-i-preserved
 loop-i-preserved c = λ f l.
-    let same = c.move_row.auto.counts in
     let own = c.args.own.now in
     let vs = c.args.vs.now in
     let i = c.loop-i.i in
-    let m : f < length c.loop-i.counts = omega (arith, l, same) in
+    let m : f < length c.loop-i.counts = omega (arith, l, c.move_row.auto.counts) in
     let now = subst (λ (z : List ℕ). IsMoved c.args.way (slice_index c.loop-i.counts f) (count_by (λ u. eqb u f) z) (slice_index c.move_row.new.counts f)) c.list.ensures (c.move_row.ensures f m) in
     subst (λ n. IsMoved c.args.way (slice_index c.args.counts.now f) n (slice_index c.move_row.new.counts f)) (sym (met_more own vs i f))
     (IsMoved-more c.args.way (slice_index c.args.counts.now f) (met_below own vs i f) (met_at own f (slice_index vs i)) (slice_index c.loop-i.counts f) (slice_index c.move_row.new.counts f) (c.loop-i.invariant f m) now)

@@ -1,10 +1,11 @@
-use Rattle.std.proofs.Common.{◌≡◌, ◌<◌, ℕ, List, length, get_or, set, length-set, sym, ap, ◌∙◌, subst}
-use Rattle.map_theory.specs.Maps.{list_of}
+use Rattle.std.proofs.Common.{◌≡◌, ◌<◌, ℕ, List, length, get_or, set, length-set, sym, ap, ◌∙◌, subst, arith}
+use Rattle.map_theory.proofs.DartLemmas.{place_of-lt-length}
+use Rattle.map_theory.specs.Maps.{list_of, place_of}
 use Rattle.convex_orders.specs.FaceNumbers.{entry}
 use Rattle.convex_orders.specs.Shown.{IsRimIn}
 use Rattle.convex_orders.specs.Splits.{IsRimAt}
 use Rattle.convex_orders.proofs.Known.{based}
-use Rattle.convex_orders.proofs.Rows.{place_rim, place_numbers}
+use Rattle.convex_orders.proofs.Rows.{rows_of, place_rim, place_numbers}
 use Rattle.convex_orders.proofs.contour_tracing.Rims.see.Goals as goal
 
 pub returns-clause-rim : goal.returns-clause-rim
@@ -32,3 +33,12 @@ returns-clause-seen c =
       inner = ap (set s.inner.items x) (ap (λ (z : List ℕ). get_or z k 0) c.list-other.ensures ∙ (numbers.1 ∙ ap (λ v. entry t.lists t.faces.own v x) to));
       outer = ap (set s.outer.items x) (ap (λ (z : List ℕ). get_or z k 0) c.list-own.ensures ∙ (numbers.0 ∙ ap (entry t.lists t.faces.own x) to));
     }
+
+pub rim_near-k-requires : goal.rim_near-k-requires
+rim_near-k-requires c =
+    let t = c.args.map.now.tables.now in
+    let (y, rim) = c.requires.some in
+    rw (c.list-own.ensures, c.list-other.ensures) (record {
+      rows = rows_of t.lists t.faces.own t.faces.other t.faces.count (based t).three.simple t.numbers c.args.x _ rim.dart.0 (omega arith);
+      some = (place_of y (list_of t.lists c.args.x), record { within = omega (arith, place_of-lt-length y (list_of t.lists c.args.x) rim.dart.1, t.numbers.own_table.sizes c.args.x rim.dart.0); outside = rim.outside; inside = rim.inside });
+    })

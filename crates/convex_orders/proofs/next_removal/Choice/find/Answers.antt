@@ -1,6 +1,7 @@
-use Rattle.std.proofs.Common.{ℕ, List, inl, inr, sym, ◌∙◌, subst, arith}
+use Rattle.std.proofs.Common.{ℕ, List, inl, inr, length, sym, ap, ◌∙◌, subst, arith}
 use Rattle.std.proofs.lemmas.Bool.{cases_Bool}
 use Rattle.convex_orders.specs.Splits.{IsRemovablePlace}
+use Rattle.convex_orders.proofs.Moves.{length-contour}
 use Rattle.convex_orders.proofs.next_removal.Choice.find.Goals as goal
 
 pub overflow_sub-last : goal.overflow_sub-last
@@ -24,3 +25,6 @@ returns-clause-found c = λ j e.
           let l = c.in_ok-_found.ensures.none no' removable.0 (subst (λ (z : List ℕ). IsRemovablePlace t.own t.other c.args.self.now.map.marks.now counts.places.items counts.edges.items z removable.0) (sym same) removable.1) in
           absurd (omega (arith, l, c.len-last.ensures, removable.1.before, c.in_ok-move_to-2.ensures.long))
     ]
+
+pub move_to-requires-2 : goal.move_to-requires-2
+move_to-requires-2 c = omega (arith, c.len-last.ensures, length-contour c.seek.new.contour.left.items c.seek.new.contour.right.items, ap length c.in_ok-seek.ensures.same, ap length c.in_ok-move_to.ensures.same)

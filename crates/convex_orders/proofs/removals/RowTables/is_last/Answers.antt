@@ -11,9 +11,8 @@ returns-clause-yes c = λ h.
     let s = c.args.self.now in
     let counts = c.requires.kept.counts in
     let ws = vertices_of s.contour in
-    let n = length-contour s.contour.left.items s.contour.right.items in
     let read = c.index.ensures ∙ get_or_default s.counts.edges.items c.args.base _ 0 (omega (arith, counts.edges_long, c.requires.base_in)) in
-    all_inner t.lists t.faces.own t.faces.count ws s.counts.places.items s.counts.edges.items t.tail t.head c.args.base counts c.requires.base c.requires.base_in (length ws - 1) (omega (arith, n, c.requires.kept.some)) (omega (arith, read, c.len.ensures, eqb-true _ _ h))
+    all_inner t.lists t.faces.own t.faces.count ws s.counts.places.items s.counts.edges.items t.tail t.head c.args.base counts c.requires.base c.requires.base_in (length ws - 1) (omega (arith, length-contour s.contour.left.items s.contour.right.items, c.requires.kept.some)) (omega (arith, read, c.len.ensures, eqb-true _ _ h))
 
 pub returns-clause-no : goal.returns-clause-no
 returns-clause-no c = λ h.
@@ -21,7 +20,5 @@ returns-clause-no c = λ h.
     let s = c.args.self.now in
     let counts = c.requires.kept.counts in
     let ws = vertices_of s.contour in
-    let n = length-contour s.contour.left.items s.contour.right.items in
     let read = c.index.ensures ∙ get_or_default s.counts.edges.items c.args.base _ 0 (omega (arith, counts.edges_long, c.requires.base_in)) in
-    let ne = ne_from _ _ h in
-    some_other t.lists t.faces.own t.faces.count ws s.counts.places.items s.counts.edges.items t.tail t.head c.args.base counts c.requires.base c.requires.base_in (length ws - 1) (omega (arith, n, c.requires.kept.some)) (λ e. ne (omega (arith, e, read, c.len.ensures)))
+    some_other t.lists t.faces.own t.faces.count ws s.counts.places.items s.counts.edges.items t.tail t.head c.args.base counts c.requires.base c.requires.base_in (length ws - 1) (omega (arith, length-contour s.contour.left.items s.contour.right.items, c.requires.kept.some)) (λ e. (ne_from _ _ h) (omega (arith, e, read, c.len.ensures)))

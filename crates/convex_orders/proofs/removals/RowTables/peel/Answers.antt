@@ -36,7 +36,6 @@ returns-then-is_last c =
     let t = c.args.tables.now in
     let ws = vertices_of c.loop.self.contour in
     let contour = c.move_to.new.self in
-    let old = c.loop.self.rows in
     let st = c.loop.invariant.stands (suc (dart_count t.lists) - c.loop.counter) (omega (arith, c.loop-test.true, c.total-end.ensures)) in
     let none : length contour.right.items ≡ 0 = omega (arith, length-contour contour.left.items contour.right.items, ap length c.in_ok-move_to.ensures.same, c.in_ok-move_to.ensures.long, c.len-all.ensures) in
     let left : contour.left.items ≡ ws = sym (contour_all contour.left.items contour.right.items none) ∙ c.in_ok-move_to.ensures.same in
@@ -45,7 +44,7 @@ returns-then-is_last c =
       cuts_are = c.in_ok-push_row.ensures.1;
       news_are = λ end e.
           let z : c.len-all.result - 1 ≡ end = omega (arith, e, c.len-all.ensures) in
-          c.in_ok-push.ensures.ok ∙ (ap (λ (ns : List (List ℕ)). ns ++ c.part.result.now ∷ []) c.in_ok-push_row.ensures.2 ∙ ap (λ (us : List ℕ). old.news ++ us ∷ []) (c.part.ensures ∙ (ap (λ (us : List ℕ). slice_range us 1 (c.len-all.result - 1)) (c.deref.ensures.value ∙ left) ∙ ap (slice_range ws 1) z)));
+          c.in_ok-push.ensures.ok ∙ (ap (λ (ns : List (List ℕ)). ns ++ c.part.result.now ∷ []) c.in_ok-push_row.ensures.2 ∙ ap (λ (us : List ℕ). c.loop.self.rows.news ++ us ∷ []) (c.part.ensures ∙ (ap (λ (us : List ℕ). slice_range us 1 (c.len-all.result - 1)) (c.deref.ensures.value ∙ left) ∙ ap (slice_range ws 1) z)));
     })
 
 pub round-requires-clause-stands : goal.round-requires-clause-stands
@@ -64,3 +63,6 @@ returns c =
     let st = c.loop.invariant.stands 1 (omega (arith, c.loop-test.false, c.loop.auto.counter-end, c.total-end.ensures)) in
     let left = stands_left _ _ _ (based c.args.tables.now) _ _ _ _ 1 st in
     absurd (omega arith)
+
+pub move_to-requires : goal.move_to-requires
+move_to-requires c = omega (arith, c.len-all.ensures, length-contour c.loop.self.contour.left.items c.loop.self.contour.right.items)

@@ -35,18 +35,16 @@ list-requires c = omega (arith, (before_base (goal.at.list-requires c).After-ind
 
 pub clear_faces-requires : goal.clear_faces-requires
 clear_faces-requires c =
-    let t = c.args.tables.now in
     let inside = (before_base (goal.at.clear_faces-requires c).After-index-v).1 in
-    record { within = subst (λ (z : List ℕ). (k : ℕ) → k < length z → get_or z k 0 < length c.deref_mut.result.now) (sym c.list.ensures) (λ i m. omega (arith, t.numbers.own_table.below c.index-v.result.now i inside m, ap length c.deref_mut.ensures.value, c.in_ok-first_contour.ensures.kept.marks_long)) }
+    record { within = subst (λ (z : List ℕ). (k : ℕ) → k < length z → get_or z k 0 < length c.deref_mut.result.now) (sym c.list.ensures) (λ i m. omega (arith, c.args.tables.now.numbers.own_table.below c.index-v.result.now i inside m, ap length c.deref_mut.ensures.value, c.in_ok-first_contour.ensures.kept.marks_long)) }
 
 -- its faces have no mark any more
 cleared : (c : After-clear_faces) → c.index-v.result.now ≡ get_or c.first_contour.new.self.contour.left.items (length c.first_contour.new.self.contour.left.items - 2) 0 → (f : ℕ) → (is_set (take c.first_contour.new.self.marks.len (c.clear_faces.new.marks ++ drop (length c.clear_faces.new.marks) c.first_contour.new.self.marks.items)) f ≡ true) ↔ ((is_set c.first_contour.new.self.marks.items f ≡ true) × (¬ Contains (list_of c.args.tables.now.faces.own (get_or c.first_contour.new.self.contour.left.items (length c.first_contour.new.self.contour.left.items - 2) 0)) f))
 cleared c at =
     let s = c.first_contour.new.self in
-    let own = c.args.tables.now.faces.own in
     let marks = c.clear_faces.new.marks in
     let old : c.deref_mut.result.now ≡ s.marks.items = c.deref_mut.ensures.value in
-    let row = c.list.ensures ∙ ap (list_of own) at in
+    let row = c.list.ensures ∙ ap (list_of c.args.tables.now.faces.own) at in
     let same = lent s.marks.len marks (drop (length marks) s.marks.items) (omega (arith, c.clear_faces.ensures.long, ap length old)) in
     subst (λ (us : List ℕ). (f : ℕ) → (is_set (take s.marks.len (marks ++ drop (length marks) s.marks.items)) f ≡ true) ↔ ((is_set s.marks.items f ≡ true) × (¬ Contains us f))) row
     (subst (λ (m : List Bool). (f : ℕ) → (is_set m f ≡ true) ↔ ((is_set s.marks.items f ≡ true) × (¬ Contains c.list.result.now f))) (sym same) (subst (λ (m : List Bool). (f : ℕ) → (is_set marks f ≡ true) ↔ ((is_set m f ≡ true) × (¬ Contains c.list.result.now f))) old c.clear_faces.ensures.set))

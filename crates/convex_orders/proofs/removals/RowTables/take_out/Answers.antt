@@ -25,10 +25,9 @@ move_part-requires-clause-can c =
 
 pub returns-clause-out : goal.returns-clause-out
 returns-clause-out c =
-    let s = c.args.self.now in
     let now = c.move_to.new.self in
     let news = c.part.ensures ∙ ap (λ (z : List ℕ). slice_range z (c.args.first + 1) c.args.end) c.deref-3.ensures.value in
-    taken_out (vertices_of s.contour) now.left.items now.right.items c.in_ok-move_to.ensures.same c.args.first c.args.end _ c.requires.order c.in_ok-move_to.ensures.long (c.index-x.ensures ∙ get_or_default now.left.items c.args.end _ 0 (omega (arith, c.in_ok-move_to.ensures.long))) _ c.part.result.now c.truncate.ensures.items news c.args.self.now.rows (record { rows = c.args.self.now.rows.rows; cuts = c.args.self.now.rows.cuts; news = c.push.new.self }) (refl, refl, c.in_ok-push.ensures.ok)
+    taken_out (vertices_of c.args.self.now.contour) now.left.items now.right.items c.in_ok-move_to.ensures.same c.args.first c.args.end _ c.requires.order c.in_ok-move_to.ensures.long (c.index-x.ensures ∙ get_or_default now.left.items c.args.end _ 0 (omega (arith, c.in_ok-move_to.ensures.long))) _ c.part.result.now c.truncate.ensures.items news c.args.self.now.rows (record { rows = c.args.self.now.rows.rows; cuts = c.args.self.now.rows.cuts; news = c.push.new.self }) (refl, refl, c.in_ok-push.ensures.ok)
 
 pub returns-clause-counts : goal.returns-clause-counts
 returns-clause-counts c =
