@@ -32,8 +32,7 @@ upper_uncrossed at e f begin end = stays_up (at e.low) (at e.high) (at f.low) (a
 
 -- nor a line below it
 lower_uncrossed : (at : ℕ → Point) (e f : Line) → Starts at f e → pos 0 ≤ℤ rise at f e.high → ¬ Cross at e f
-lower_uncrossed at e f begin end h =
-    stays_up (at f.low) (at f.high) (at e.low) (at e.high) (elim begin [ inl s ↦ inl s.1 | inr s ↦ inr s.1 ]) (inl end) (DoCross-exchanged (at e.low) (at e.high) (at f.low) (at f.high) h)
+lower_uncrossed at e f begin end h = stays_up (at f.low) (at f.high) (at e.low) (at e.high) (elim begin [ inl s ↦ inl s.1 | inr s ↦ inr s.1 ]) (inl end) (DoCross-exchanged (at e.low) (at e.high) (at f.low) (at f.high) h)
 
 -- nor itself
 itself_uncrossed : (at : ℕ → Point) (e : Line) → ¬ Cross at e e

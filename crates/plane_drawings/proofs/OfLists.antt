@@ -66,9 +66,7 @@ module _ (lists : Lists) (points : List Point) (c : IsTriangulation lists) (thri
     apart = λ u v lu lv ne same.
         let a = some_dart u lu in
         let b = some_dart v lv in
-        let i = number u a.0 in
-        let j = number v b.0 in
-        ne (sym (number_tail u a.0 a.1) ∙ p.apart i j (number_in u a.0 a.1) (number_in v b.0 b.1) (place_of_number u a.0 a.1 ∙ same ∙ sym (place_of_number v b.0 b.1)) ∙ number_tail v b.0 b.1);
+        ne (sym (number_tail u a.0 a.1) ∙ p.apart (number u a.0) (number v b.0) (number_in u a.0 a.1) (number_in v b.0 b.1) (place_of_number u a.0 a.1 ∙ same ∙ sym (place_of_number v b.0 b.1)) ∙ number_tail v b.0 b.1);
     off_edges = λ u v w has lw nu nv on.
         let b = some_dart w lw in
         p.off_edges (number u v) (number w b.0) (number_in u v has) (number_in w b.0 b.1)

@@ -20,8 +20,7 @@ line low high = record { low = low; high = high }
 
 -- the end of a line is not looked at, above which a new one begins that crosses it
 ends_untested_below_new_lines : IsPassed (points (point 0 0 ∷ point 1 2 ∷ point 2 2 ∷ point 3 0 ∷ [])) 1 (line 1 3 ∷ []) (line 0 2 ∷ []) (line 0 2 ∷ line 1 3 ∷ []) → ⊥
-ends_untested_below_new_lines p =
-    ⊎_elim (λ l. omega (arith, l.0)) (λ r. omega (arith, ints, r.1)) (p.ends 0 (line 0 2) (omega arith) (omega arith) (omega arith))
+ends_untested_below_new_lines p = ⊎_elim (λ l. omega (arith, l.0)) (λ r. omega (arith, ints, r.1)) (p.ends 0 (line 0 2) (omega arith) (omega arith) (omega arith))
 
 abbrev places : ℕ → Point
 places = points (point 0 0 ∷ point 1 0 ∷ point 2 0 ∷ [])
