@@ -12,12 +12,10 @@ use Rattle.canon_order.specs.Orders.{stands_in, IsPutOn, IsBuiltUp, IsMade}
 
 -- equations carried through the definitions
 pub IsPutOn-same : (lists : Lists) (us us' : List ℕ) (v v' : ℕ) (old old' new new' : List ℕ) → us ≡ us' → v ≡ v' → old ≡ old' → new ≡ new' → IsPutOn lists us v old new → IsPutOn lists us' v' old' new'
-IsPutOn-same lists us us' v v' old old' new new' e e' o n h =
-    subst (λ z. IsPutOn lists us' v' old' z) n (subst (λ z. IsPutOn lists us' v' z new) o (subst (λ z. IsPutOn lists us' z old new) e' (subst (λ z. IsPutOn lists z v old new) e h)))
+IsPutOn-same lists us us' v v' old old' new new' e e' o n h = subst (λ z. IsPutOn lists us' v' old' z) n (subst (λ z. IsPutOn lists us' v' z new) o (subst (λ z. IsPutOn lists us' z old new) e' (subst (λ z. IsPutOn lists z v old new) e h)))
 
 pub IsOuterCycle-same : (lists : Lists) (s t : ℕ) (us us' ws ws' : List ℕ) → us ≡ us' → ws ≡ ws' → IsOuterCycle (restricted (stands_in us) lists) s t ws → IsOuterCycle (restricted (stands_in us') lists) s t ws'
-IsOuterCycle-same lists s t us us' ws ws' e o h =
-    subst (λ z. IsOuterCycle (restricted (stands_in us') lists) s t z) o (subst (λ z. IsOuterCycle (restricted (stands_in z) lists) s t ws) e h)
+IsOuterCycle-same lists s t us us' ws ws' e o h = subst (λ z. IsOuterCycle (restricted (stands_in us') lists) s t z) o (subst (λ z. IsOuterCycle (restricted (stands_in z) lists) s t ws) e h)
 
 -- one vertex alone
 pub AllPairs-one : (v : ℕ) → AllPairs ◌≢◌ (v ∷ [])

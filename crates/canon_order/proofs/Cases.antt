@@ -130,16 +130,13 @@ put_at (suc (suc (suc (suc k)))) l m = absurd (omega (arith, m))
 
 -- ---- each dart off the base's face is on one of the three faces
 made_two : (x y : ℕ) → IsDartOfThree 2 1 0 x y → IsMade tetrahedron at cycle x y
-made_two x y d =
-    record { k = 2; i = 0; v = 2; a = 1; b = 0; later = omega arith; within = omega arith; vertex = refl; inside = omega arith; one = refl; next = refl; face = face_210; dart = d }
+made_two x y d = record { k = 2; i = 0; v = 2; a = 1; b = 0; later = omega arith; within = omega arith; vertex = refl; inside = omega arith; one = refl; next = refl; face = face_210; dart = d }
 
 made_one : (x y : ℕ) → IsDartOfThree 3 1 2 x y → IsMade tetrahedron at cycle x y
-made_one x y d =
-    record { k = 3; i = 0; v = 3; a = 1; b = 2; later = omega arith; within = omega arith; vertex = refl; inside = omega arith; one = refl; next = refl; face = face_312; dart = d }
+made_one x y d = record { k = 3; i = 0; v = 3; a = 1; b = 2; later = omega arith; within = omega arith; vertex = refl; inside = omega arith; one = refl; next = refl; face = face_312; dart = d }
 
 made_other : (x y : ℕ) → IsDartOfThree 3 2 0 x y → IsMade tetrahedron at cycle x y
-made_other x y d =
-    record { k = 3; i = 1; v = 3; a = 2; b = 0; later = omega arith; within = omega arith; vertex = refl; inside = omega arith; one = refl; next = refl; face = face_320; dart = d }
+made_other x y d = record { k = 3; i = 1; v = 3; a = 2; b = 0; later = omega arith; within = omega arith; vertex = refl; inside = omega arith; one = refl; next = refl; face = face_320; dart = d }
 
 made : (x y : ℕ) → HasDart tetrahedron x y → ¬ IsDartOfThree 0 1 3 x y → IsMade tetrahedron at cycle x y
 made x0 y d = grind (arith, each_of_three, IsDartOfThree, IsMade, tetrahedron, at, cycle, made_two, made_other, made_one)

@@ -30,8 +30,7 @@ three_cases a b c u h = each_of_three (λ z. (a ≡ z) ⊎ ((b ≡ z) ⊎ (c ≡
 
 -- each goes on to the next
 three_steps : (a b c : ℕ) → AllPairs ◌≢◌ (three a b c) → (entry_after a (three a b c) ≡ b) × (entry_after b (three a b c) ≡ c) × (entry_after c (three a b c) ≡ a)
-three_steps a b c distinct =
-    (entry_after-inside [] a b (c ∷ []) distinct, entry_after-inside (a ∷ []) b c [] distinct, entry_after-last (a ∷ b ∷ []) c distinct)
+three_steps a b c distinct = (entry_after-inside [] a b (c ∷ []) distinct, entry_after-inside (a ∷ []) b c [] distinct, entry_after-last (a ∷ b ∷ []) c distinct)
 
 -- the darts of the outer cycle of three
 outer_of_three : (a b c x y : ℕ) → AllPairs ◌≢◌ (three a b c) → IsOuterDart (three a b c) x y → IsDartOfThree c a b x y

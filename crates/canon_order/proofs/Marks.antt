@@ -44,8 +44,7 @@ is_set-other marks v u b ne = get_or-set_other marks v u b false ne
 
 -- what is marked is among what has marks
 pub is_set-lt : (marks : List Bool) (v : ℕ) → is_set marks v ≡ true → v < length marks
-is_set-lt marks v t =
-    elim (cases_lt v (length marks)) [ inl l ↦ l | inr l ↦ absurd (false≢true (sym (get_or_past marks v false l) ∙ t)) ]
+is_set-lt marks v t = elim (cases_lt v (length marks)) [ inl l ↦ l | inr l ↦ absurd (false≢true (sym (get_or_past marks v false l) ∙ t)) ]
 
 -- no marks
 count_by-none : (p : ℕ → Bool) → ((u : ℕ) → p u ≡ false) → (us : List ℕ) → count_by p us ≡ 0

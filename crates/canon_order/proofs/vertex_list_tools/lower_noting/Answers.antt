@@ -1,4 +1,4 @@
-use Rattle.std.proofs.Common.{◌<◌, length, slice_index, arith, get_or-set_other}
+use Rattle.std.proofs.Common.{◌<◌, ◌-◌, length, length-set, slice_index, arith, get_or-set_other}
 use Rattle.canon_order.proofs.Marks.{noted-more, noted-all}
 use Rattle.canon_order.proofs.Counters.{counted_before, counted_down}
 use Rattle.canon_order.proofs.vertex_list_tools.lower_noting.Goals as goal
@@ -6,12 +6,8 @@ use Rattle.canon_order.proofs.vertex_list_tools.lower_noting.Goals as goal
 pub overflow_sub-counts : goal.overflow_sub-counts
 overflow_sub-counts c =
     let u = slice_index c.args.entries.now c.loop-u.u-index in
-    let more = counted_before c.args.entries.now c.loop-u.u-index c.loop-u-test.true in
     let l = c.requires.within c.loop-u.u-index 0 c.loop-u-test.true in
-    let some = c.requires.some u l in
-    let same = c.loop-u.auto.counts in
-    let now = c.loop-u.invariant.counts u (omega arith) in
-    omega (arith, more, some, now)
+    omega (arith, counted_before c.args.entries.now c.loop-u.u-index c.loop-u-test.true, c.requires.some u l, c.loop-u.invariant.counts u (omega (arith, l, c.loop-u.auto.counts)))
 
 pub loop-u-preserved : goal.loop-u-preserved
 loop-u-preserved c =
@@ -28,5 +24,7 @@ loop-u-preserved c =
     }
 
 pub returns-clause-noted : goal.returns-clause-noted
-returns-clause-noted c =
-    noted-all c.args.marked.now c.args.entries.now c.loop-u.counts c.loop-u.stack.items c.loop-u.u-index (omega arith) c.loop-u.invariant.noted
+returns-clause-noted c = noted-all c.args.marked.now c.args.entries.now c.loop-u.counts c.loop-u.stack.items c.loop-u.u-index (omega arith) c.loop-u.invariant.noted
+
+pub note-requires-clause-counts : goal.note-requires-clause-counts
+note-requires-clause-counts c = omega (arith, c.requires.within c.loop-u.u-index 0 c.loop-u-test.true, c.loop-u.auto.counts, let u = slice_index c.args.entries.now c.loop-u.u-index in length-set c.loop-u.counts u (slice_index c.loop-u.counts u - 1))

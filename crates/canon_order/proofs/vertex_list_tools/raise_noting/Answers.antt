@@ -1,4 +1,4 @@
-use Rattle.std.proofs.Common.{◌<◌, length, slice_index, arith, get_or-set_other}
+use Rattle.std.proofs.Common.{◌<◌, ◌+◌, length, length-set, slice_index, arith, get_or-set_other}
 use Rattle.canon_order.proofs.Marks.{noted-more, noted-all}
 use Rattle.canon_order.proofs.Counters.{counted_before, counted_up}
 use Rattle.canon_order.proofs.vertex_list_tools.raise_noting.Goals as goal
@@ -6,12 +6,7 @@ use Rattle.canon_order.proofs.vertex_list_tools.raise_noting.Goals as goal
 pub overflow_add-counts : goal.overflow_add-counts
 overflow_add-counts c =
     let u = slice_index c.args.entries.now c.loop-u.u-index in
-    let same = c.loop-u.auto.counts in
-    let more = counted_before c.args.entries.now c.loop-u.u-index c.loop-u-test.true in
-    let room = c.requires.room u in
-    let l = c.requires.within c.loop-u.u-index 0 c.loop-u-test.true in
-    let now = c.loop-u.invariant.counts u (omega arith) in
-    omega (arith, more, room, now)
+    omega (arith, counted_before c.args.entries.now c.loop-u.u-index c.loop-u-test.true, c.requires.room u, c.loop-u.invariant.counts u (omega (arith, c.requires.within c.loop-u.u-index 0 c.loop-u-test.true, c.loop-u.auto.counts)))
 
 pub loop-u-preserved : goal.loop-u-preserved
 loop-u-preserved c =
@@ -27,5 +22,7 @@ loop-u-preserved c =
     }
 
 pub returns-clause-noted : goal.returns-clause-noted
-returns-clause-noted c =
-    noted-all c.args.marked.now c.args.entries.now c.loop-u.counts c.loop-u.stack.items c.loop-u.u-index (omega arith) c.loop-u.invariant.noted
+returns-clause-noted c = noted-all c.args.marked.now c.args.entries.now c.loop-u.counts c.loop-u.stack.items c.loop-u.u-index (omega arith) c.loop-u.invariant.noted
+
+pub note-requires-clause-counts : goal.note-requires-clause-counts
+note-requires-clause-counts c = omega (arith, c.requires.within c.loop-u.u-index 0 c.loop-u-test.true, c.loop-u.auto.counts, let u = slice_index c.args.entries.now c.loop-u.u-index in length-set c.loop-u.counts u (slice_index c.loop-u.counts u + 1))

@@ -10,8 +10,7 @@ pub mark-requires-clause-unmarked : goal.mark-requires-clause-unmarked
 mark-requires-clause-unmarked c = c.requires.unmarked.none c.args.self.now.first
 
 pub mark-requires-2-clause-unmarked : goal.mark-requires-2-clause-unmarked
-mark-requires-2-clause-unmarked c =
-    ap (λ (m : List Bool). is_set m c.args.self.now.second) c.mark.ensures.marks ∙ (is_set-other c.args.marks.now c.args.self.now.first c.args.self.now.second true (λ e. c.args.self.now.first_second (sym e)) ∙ c.requires.unmarked.none c.args.self.now.second)
+mark-requires-2-clause-unmarked c = ap (λ (m : List Bool). is_set m c.args.self.now.second) c.mark.ensures.marks ∙ (is_set-other c.args.marks.now c.args.self.now.first c.args.self.now.second true (λ e. c.args.self.now.first_second (sym e)) ∙ c.requires.unmarked.none c.args.self.now.second)
 
 pub mark-requires-3-clause-unmarked : goal.mark-requires-3-clause-unmarked
 mark-requires-3-clause-unmarked c =
