@@ -38,12 +38,10 @@ pub record AreBad (map : Map) (walks : List (List ℕ)) (u v f g : ℕ) : Type 0
   pub no_edge_back : StandsIn map walks f v u → StandsIn map walks g u v → ⊥
 
 pub AreBad-vertices : (map : Map) (walks : List (List ℕ)) (u v f g : ℕ) → AreBad map walks u v f g → AreBad map walks v u f g
-AreBad-vertices map walks u v f g h =
-    record { two = λ q. h.two (sym q); faces = h.faces; a = h.b; b = h.a; c = h.e; e = h.c; u_f = h.v_f; v_f = h.u_f; u_g = h.v_g; v_g = h.u_g; no_edge = h.no_edge_back; no_edge_back = h.no_edge }
+AreBad-vertices map walks u v f g h = record { two = λ q. h.two (sym q); faces = h.faces; a = h.b; b = h.a; c = h.e; e = h.c; u_f = h.v_f; v_f = h.u_f; u_g = h.v_g; v_g = h.u_g; no_edge = h.no_edge_back; no_edge_back = h.no_edge }
 
 pub AreBad-faces : (map : Map) (walks : List (List ℕ)) (u v f g : ℕ) → AreBad map walks u v f g → AreBad map walks u v g f
-AreBad-faces map walks u v f g h =
-    record { two = h.two; faces = λ q. h.faces (sym q); a = h.c; b = h.e; c = h.a; e = h.b; u_f = h.u_g; v_f = h.v_g; u_g = h.u_f; v_g = h.v_f; no_edge = λ p q. h.no_edge_back q p; no_edge_back = λ p q. h.no_edge q p }
+AreBad-faces map walks u v f g h = record { two = h.two; faces = λ q. h.faces (sym q); a = h.c; b = h.e; c = h.a; e = h.b; u_f = h.u_g; v_f = h.v_g; u_g = h.u_f; v_g = h.v_f; no_edge = λ p q. h.no_edge_back q p; no_edge_back = λ p q. h.no_edge q p }
 
 turned : (x y u : ℕ) → (x ≡ u) ⊎ (y ≡ u) → (u ≡ x) ⊎ (u ≡ y)
 turned x y u (inl e) = inl (sym e)
@@ -248,8 +246,7 @@ module _ (map : Map) (known : IsHalfMap map) (walks : List (List ℕ)) (faces : 
   touched : (u v f g j : ℕ) → f < length walks → AreBad map walks u v f g → j < length (walk_at walks f) → IsAcross map walks (get_or (walk_at walks f) j 0) g → Touches f u j → Touches f v j → ⊥
   touched u v f g j f_in h l across s t =
       let walk = walk_at walks f in
-      let d = get_or walk j 0 in
-      let on : StandsIn map walks f s.x s.y = (d, (f_in, Contains-get_or walk j 0 l), s.at) in
+      let on : StandsIn map walks f s.x s.y = (get_or walk j 0, (f_in, Contains-get_or walk j 0 l), s.at) in
       let same = head_of across.0 across.1 s.x s.y (sym across.3 ∙ s.at) in
       let back : StandsIn map walks g s.y s.x = (across.2, across.5, across.4 ∙ (ap (λ z. Some (z, across.0)) same.1 ∙ ap (λ z. Some (s.y, z)) same.0)) in
       let again = head_of t.x t.y s.x s.y (sym t.at ∙ s.at) in

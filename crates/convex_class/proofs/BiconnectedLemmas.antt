@@ -18,5 +18,4 @@ IsBiconnectedMap-three_connected lists three plane = record { simple = three.sim
 
 pub nothing_broken : BiconnectedBreakNothing → (lists : Lists) (refusal : Refusal) → IsThreeConnected lists → IsPlane lists → ¬ BreaksConvex lists refusal
 nothing_broken biconnected_all lists (SeparatingPair u v) three plane broken = three.unpaired u.0 v.0 broken.1.is_pair
-nothing_broken biconnected_all lists refusal three plane broken =
-    biconnected_all 4 lists refusal (omega arith) (IsBiconnectedMap-three_connected lists three plane) broken
+nothing_broken biconnected_all lists refusal three plane broken = biconnected_all 4 lists refusal (omega arith) (IsBiconnectedMap-three_connected lists three plane) broken

@@ -41,8 +41,7 @@ stamped_each x k ids Z old best new result whole s =
 
 -- the darts of a row of u
 pub ring_dart : (map : Map) (u : ℕ) (ds : List DartId) → IsRing map u (ids_of ds) → (i : ℕ) → i < length ds → dart_at map (get_or ds i (record { 0 = 0 })).0 ≡ Some (u, get_or (list_of map.lists u) i 0)
-ring_dart map u ds r i l =
-    ap (dart_at map) (sym (get_or-ids ds i l)) ∙ r.each i (omega (arith, length-ids ds))
+ring_dart map u ds r i l = ap (dart_at map) (sym (get_or-ids ds i l)) ∙ r.each i (omega (arith, length-ids ds))
 
 pub ring_live : (map : Map) (u : ℕ) (ds : List DartId) → IsRing map u (ids_of ds) → (i : ℕ) → i < length ds → IsLive map (get_or ds i (record { 0 = 0 })).0
 ring_live map u ds r i l = live_from (dart_at map (get_or ds i (record { 0 = 0 })).0) (u, get_or (list_of map.lists u) i 0) (ring_dart map u ds r i l)
@@ -57,6 +56,9 @@ after_live map walk w i l =
     let d = get_or walk i 0 in
     live_from (dart_at map (after_place walk i)) (face_step map.lists (dart_of map d)) (w.steps i l ∙ ap (option_map (face_step map.lists)) (dart_of-live map d (w.live i l)))
 
+pub behind_live : (map : Map) (walks : List (List ℕ)) → AreFaces map walks → (f : ℕ) → f < length walks → (ds : List DartId) → ids_of ds ≡ walk_at walks f → (i : ℕ) → i < length ds → (e : ℕ) → e ≡ after_place (ids_of ds) i → IsLive map e
+behind_live map walks faces f l ds is i m e behind = subst (λ d. IsLive map d) (sym behind) (after_live map (ids_of ds) (subst (λ (w : List ℕ). IsFaceWalk map w) (sym is) (faces.each f l)) i (omega (arith, length-ids ds, m)))
+
 -- the tail of a live dart is a vertex
 pub tail_below : (map : Map) → IsHalfMap map → (d v : ℕ) → IsLive map d → option_map (λ (e : Dart). e.0) (dart_at map d) ≡ Some v → v < length map.lists
 tail_below map known d v live tail =
@@ -66,9 +68,7 @@ tail_below map known d v live tail =
 
 -- and that of the dart behind a place of a face, by the dart that the call names
 pub corner_below : (map : Map) → IsHalfMap map → (walks : List (List ℕ)) → AreFaces map walks → (f : ℕ) → f < length walks → (ds : List DartId) → ids_of ds ≡ walk_at walks f → (i : ℕ) → i < length ds → (e v : ℕ) → e ≡ after_place (ids_of ds) i → option_map (λ (w : Dart). w.0) (dart_at map e) ≡ Some v → v < length map.lists
-corner_below map known walks faces f l ds is i m e v behind tail =
-    let w = subst (λ (w : List ℕ). IsFaceWalk map w) (sym is) (faces.each f l) in
-    tail_below map known e v (subst (λ d. IsLive map d) (sym behind) (after_live map (ids_of ds) w i (omega (arith, length-ids ds, m)))) tail
+corner_below map known walks faces f l ds is i m e v behind = tail_below map known e v (behind_live map walks faces f l ds is i m e behind)
 
 -- ---- from a vertex
 module _ (u z p : ℕ) (us marks : List ℕ) (z_in : z < length marks) (at : get_or us p 0 ≡ z) where
@@ -178,8 +178,7 @@ module _ (map : Map) (known : IsHalfMap map) (walks : List (List ℕ)) (faces : 
 
 -- no face counts at a vertex with more darts, by the vertex that the call names
 pub large_corner : (map : Map) (walks : List (List ℕ)) (most f d e v z x y : ℕ) → option_map (λ (w : Dart). w.0) (dart_at map e) ≡ Some v → most < length (list_of map.lists v) → IsCorner map walks most f d e z x y → ⊥
-large_corner map walks most f d e v z x y tail large h =
-    omega (arith, subst (λ u. length (list_of map.lists u) ≤ most) (tail_is (dart_at map e) x h.0.y v h.0.dart tail) h.0.small)
+large_corner map walks most f d e v z x y tail large h = omega (arith, subst (λ u. length (list_of map.lists u) ≤ most) (tail_is (dart_at map e) x h.0.y v h.0.dart tail) h.0.small)
 
 -- the meetings of a call at place i of the darts of face f, with the dart behind that the call names
 pub off_place : (map : Map) (walks : List (List ℕ)) (f i e : ℕ) (ds : List DartId) (old : List Meeting) (best : ℕ) (new : List Meeting) (result : ℕ) → ids_of ds ≡ walk_at walks f → i < length ds → e ≡ after_place (ids_of ds) i → IsMet f (IsCorner map walks (length ds) f (get_or ds i (record { 0 = 0 })).0 e) old best new result → IsMet f (IsOffPlace map walks f i) old best new result
@@ -234,5 +233,4 @@ IsClearVertex-lower map walks best least u l h =
     }
 
 pub IsClearFace-lower : (map : Map) (walks : List (List ℕ)) (best least f : ℕ) → least ≤ best → IsClearFace map walks best f → IsClearFace map walks least f
-IsClearFace-lower map walks best least f l h =
-    record { apart = λ z x y v w u p q on ne ne'. let a = h.apart z x y v w u p q on ne ne' in omega arith }
+IsClearFace-lower map walks best least f l h = record { apart = λ z x y v w u p q on ne ne'. let a = h.apart z x y v w u p q on ne ne' in omega arith }

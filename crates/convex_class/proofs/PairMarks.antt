@@ -108,8 +108,7 @@ module _ (map : Map) (known : IsHalfMap map) (plane : IsPlaneUncut map.lists) (u
 
 -- a vertex without neighbours is in no pair
 pub no_pair_alone : (lists : Lists) (u w : ℕ) → IsPlaneUncut lists → list_of lists u ≡ [] → ¬ IsSeparatingPair lists u w
-no_pair_alone lists u w plane none pair =
-    omega (arith, seen_pair lists plane u (omega arith) w pair, ap (λ (us : List ℕ). length us) none)
+no_pair_alone lists u w plane none pair = omega (arith, seen_pair lists plane u (omega arith) w pair, ap (λ (us : List ℕ). length us) none)
 
 -- the least pair, where no lesser vertex has a partner
 pub least_pair_at : (lists : Lists) (u v : ℕ) → ((a b : ℕ) → a < u → ¬ IsSeparatingPair lists a b) → IsSeparatingPair lists u v → ((w : ℕ) → IsSeparatingPair lists u w → v ≤ w) → IsLeastPair lists u v

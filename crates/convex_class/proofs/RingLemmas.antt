@@ -18,8 +18,7 @@ next_entry us i distinct l =
     ap (λ k. get_or us (k + 1) (get_or us 0 (get_or us i 0))) place ∙ get_or_default us (i + 1) (get_or us 0 (get_or us i 0)) 0 l
 
 pub next_at : (map : Map) → IsHalfMap map → (v i d e : ℕ) → v < length map.lists → dart_at map d ≡ Some (v, get_or (list_of map.lists v) i 0) → dart_at map e ≡ option_map (next_dart map.lists) (dart_at map d) → i + 1 < length (list_of map.lists v) → dart_at map e ≡ Some (v, get_or (list_of map.lists v) (i + 1) 0)
-next_at map h v i d e lv is step l =
-    step ∙ (ap (option_map (next_dart map.lists)) is ∙ ap (λ z. Some (v, z)) (next_entry (list_of map.lists v) i (h.simple.no_repeat v lv) l))
+next_at map h v i d e lv is step l = step ∙ (ap (option_map (next_dart map.lists)) is ∙ ap (λ z. Some (v, z)) (next_entry (list_of map.lists v) i (h.simple.no_repeat v lv) l))
 
 pub next_live : (map : Map) (d e : ℕ) → IsLive map d → dart_at map e ≡ option_map (next_dart map.lists) (dart_at map d) → IsLive map e
 next_live map d e live step =

@@ -12,8 +12,7 @@ pub of_dart-z-requires : goal.of_dart-z-requires
 of_dart-z-requires c = c.facts.ensures.faces.all _ (each_dart c.args.ring.now (IsLive c.args.self.now.uncut.map.now) c.requires.ring c.loop-c.c-index c.loop-c-test.true)
 
 pub loop-c-preserved-then-z-place : goal.loop-c-preserved-then-z-place
-loop-c-preserved-then-z-place c =
-    met_none c.args.self.now.uncut.map.now c.args.self.now.uncut.faces.now c.facts.ensures.faces c.args.ring.now c.args.self.now.place c.args.self.now.x c.args.self.now.y c.loop-c.c-index c.of_dart-z.result.0 c.loop-c-test.true (c.of_dart-z.ensures.face, c.of_dart-z.ensures.stands) c.args.met.now c.args.best c.loop-c.met c.loop-c.best (inl c.if-z-place.true) c.loop-c.invariant
+loop-c-preserved-then-z-place c = met_none c.args.self.now.uncut.map.now c.args.self.now.uncut.faces.now c.facts.ensures.faces c.args.ring.now c.args.self.now.place c.args.self.now.x c.args.self.now.y c.loop-c.c-index c.of_dart-z.result.0 c.loop-c-test.true (c.of_dart-z.ensures.face, c.of_dart-z.ensures.stands) c.args.met.now c.args.best c.loop-c.met c.loop-c.best (inl c.if-z-place.true) c.loop-c.invariant
 
 pub loop-c-preserved-then-z-x : goal.loop-c-preserved-then-z-x
 loop-c-preserved-then-z-x c =

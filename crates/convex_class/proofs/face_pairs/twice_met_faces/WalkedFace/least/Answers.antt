@@ -22,14 +22,13 @@ head-head-requires c = walk_live c.args.self.now.uncut.map.now c.args.self.now.u
 pub loop-d-preserved : goal.loop-d-preserved
 loop-d-preserved c =
     let map = c.args.self.now.uncut.map.now in
-    let walks = c.args.self.now.uncut.faces.now in
     let f = c.args.self.now.f in
     let p = c.loop-d.d-index in
     let ds = c.args.self.now.walk.now in
     let d = (get_or ds p (record { 0 = 0 })).0 in
     let tail = c.tail-tail.result.0 in
     let head = c.head-head.result.0 in
-    let side : ℕ → ℕ → ℕ → ℕ → Type 0 = λ d. IsSide map walks d in
+    let side : ℕ → ℕ → ℕ → ℕ → Type 0 = λ d. IsSide map c.args.self.now.uncut.faces.now d in
     let now = c.meet-best.new.met in
     let least = c.meet-best.result in
     let here = IsMet-fewer f c.loop-d.met c.loop-d.best now least (IsHere (record { face = f; tail = tail; head = head }) c.across-z.result) (side d)

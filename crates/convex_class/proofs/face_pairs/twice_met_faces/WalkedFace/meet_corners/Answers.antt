@@ -5,7 +5,7 @@ use Rattle.convex_class.specs.Clear.{IsRing, IsNumber, IsCorner, IsOffPlace}
 use Rattle.convex_class.specs.Meetings.{IsMet}
 use Rattle.convex_class.proofs.WalkMarks.{length-ids}
 use Rattle.convex_class.proofs.MeetingLemmas.{IsMet-none, IsMet-fewer, IsMet-more}
-use Rattle.convex_class.proofs.ClearLemmas.{off_in_ring, off_place, corner_below, large_corner}
+use Rattle.convex_class.proofs.ClearLemmas.{off_in_ring, off_place, corner_below, large_corner, walk_live, behind_live}
 use Rattle.convex_class.proofs.face_pairs.twice_met_faces.WalkedFace.meet_corners.Goals as goal
 
 pub degree-requires : goal.degree-requires
@@ -55,3 +55,12 @@ returns c =
     let same = ap (λ (w : List ℕ). length w) c.args.self.now.walked in
     let whole : c.loop-i.i ≡ length (walk_at c.args.self.now.uncut.faces.now c.args.self.now.f) = omega arith in
     subst (λ k. IsMet c.args.self.now.f (λ z x y. (i : ℕ) × (i < k) × IsOffPlace c.args.self.now.uncut.map.now c.args.self.now.uncut.faces.now c.args.self.now.f i z x y) c.args.met.now c.args.best c.loop-i.met c.loop-i.best) whole c.loop-i.invariant
+
+pub across-x-requires : goal.across-x-requires
+across-x-requires c = record { live = walk_live c.args.self.now.uncut.map.now c.args.self.now.uncut.faces.now c.facts.ensures.faces c.args.self.now.f c.args.self.now.face c.args.self.now.walk.now c.args.self.now.walked c.loop-i.i (omega (arith, c.loop-i-test.true)) }
+
+pub across-y-requires : goal.across-y-requires
+across-y-requires c = record { live = behind_live c.args.self.now.uncut.map.now c.args.self.now.uncut.faces.now c.facts.ensures.faces c.args.self.now.f c.args.self.now.face c.args.self.now.walk.now c.args.self.now.walked c.loop-i.i (omega (arith, c.loop-i-test.true)) c.behind-next.result.0 c.behind-next.ensures }
+
+pub tail-v-requires : goal.tail-v-requires
+tail-v-requires c = behind_live c.args.self.now.uncut.map.now c.args.self.now.uncut.faces.now c.facts.ensures.faces c.args.self.now.f c.args.self.now.face c.args.self.now.walk.now c.args.self.now.walked c.loop-i.i (omega (arith, c.loop-i-test.true)) c.behind-next.result.0 c.behind-next.ensures

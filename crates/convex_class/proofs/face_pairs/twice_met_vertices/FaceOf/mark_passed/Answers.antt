@@ -24,12 +24,10 @@ loop-d-preserved-then-z-u c =
     marked_none c.args.self.now.uncut.map.now c.args.self.now.u c.args.self.now.a c.args.walk.now c.loop-d.d-index c.tail-z.result.0 c.head-h.result.0 c.loop-d-test.true c.tail-z.ensures c.head-h.ensures c.args.marks.now c.args.best c.loop-d.marks c.loop-d.best (inl (elim c.then-z-u.branch [ then-z-u-via-then-z-u w ↦ inl w.if-z-u.true | then-z-u-via-else-z-u+then-z-a w ↦ inr w.if-z-a.true ])) c.loop-d.invariant
 
 pub loop-d-preserved-then-h-u : goal.loop-d-preserved-then-h-u
-loop-d-preserved-then-h-u c =
-    marked_none c.args.self.now.uncut.map.now c.args.self.now.u c.args.self.now.a c.args.walk.now c.loop-d.d-index c.tail-z.result.0 c.head-h.result.0 c.loop-d-test.true c.tail-z.ensures c.head-h.ensures c.args.marks.now c.args.best c.loop-d.marks c.loop-d.best (inr c.if-h-u.true) c.loop-d.invariant
+loop-d-preserved-then-h-u c = marked_none c.args.self.now.uncut.map.now c.args.self.now.u c.args.self.now.a c.args.walk.now c.loop-d.d-index c.tail-z.result.0 c.head-h.result.0 c.loop-d-test.true c.tail-z.ensures c.head-h.ensures c.args.marks.now c.args.best c.loop-d.marks c.loop-d.best (inr c.if-h-u.true) c.loop-d.invariant
 
 pub loop-d-preserved : goal.loop-d-preserved
-loop-d-preserved c =
-    marked_one c.args.self.now.uncut.map.now c.args.self.now.u c.args.self.now.a c.args.walk.now c.loop-d.d-index c.tail-z.result.0 c.head-h.result.0 c.loop-d-test.true c.tail-z.ensures c.head-h.ensures c.args.marks.now c.args.best c.loop-d.marks c.loop-d.best c.stamp-best.new.marks c.stamp-best.result c.stamp-best.ensures c.loop-d.invariant
+loop-d-preserved c = marked_one c.args.self.now.uncut.map.now c.args.self.now.u c.args.self.now.a c.args.walk.now c.loop-d.d-index c.tail-z.result.0 c.head-h.result.0 c.loop-d-test.true c.tail-z.ensures c.head-h.ensures c.args.marks.now c.args.best c.loop-d.marks c.loop-d.best c.stamp-best.new.marks c.stamp-best.result c.stamp-best.ensures c.loop-d.invariant
 
 pub returns : goal.returns
 returns c =
