@@ -44,8 +44,7 @@ cornered steps (suc n) m run e l w =
     record { first = (h.first_x, h.first_y); second = (omega arith, h.second_y); top = (t.0 ∙ omega arith, t.1 ∙ omega arith) }
 
 pub first_three : (steps : ℕ → Step) → IsRun steps 1 → IsCornered (shift_points steps 1) 3
-first_three steps run =
-    cornered steps 1 3 run refl (omega arith) (omega (arith, run 0 (omega arith)))
+first_three steps run = cornered steps 1 3 run refl (omega arith) (omega (arith, run 0 (omega arith)))
 
 area_back : (a b c : Point) → area b a c ≡ neg_ℤ (area a b c)
 area_back a b c = simp ring (omega (arith, sums))

@@ -15,8 +15,7 @@ use Rattle.std.proofs.lemmas.Bool.Decides.{nat_tests}
 
 -- what a call of `head` answers for the dart to u
 pub head-is : (map : Map) (d v u r : ℕ) → dart_at map d ≡ Some (v, u) → option_map (λ (e : Dart). e.1) (dart_at map d) ≡ Some r → u ≡ r
-head-is map d v u r is e =
-    cc
+head-is map d v u r is e = cc
 
 -- a dart leads to a vertex
 pub head-within : (map : Map) (d r : ℕ) → IsHalfMap map → IsLive map d → option_map (λ (e : Dart). e.1) (dart_at map d) ≡ Some r → r < length map.lists
@@ -30,8 +29,7 @@ before-is map d e v u live step is = grind (arith, some_of, dart_at, Some, next_
 
 -- the dart after that to an entry before the last
 pub next-is : (map : Map) (d e v k : ℕ) → IsHalfMap map → v < length map.lists → k + 1 < length (list_of map.lists v) → dart_at map d ≡ Some (v, get_or (list_of map.lists v) k 0) → dart_at map e ≡ option_map (next_dart map.lists) (dart_at map d) → dart_at map e ≡ Some (v, get_or (list_of map.lists v) (k + 1) 0)
-next-is map d e v k known vertex l is step =
-    step ∙ ap (option_map (next_dart map.lists)) is ∙ ap (λ (u : ℕ). Some (v, u)) (entry_after-next (list_of map.lists v) k (known.simple.no_repeat v vertex) l)
+next-is map d e v k known vertex l is step = step ∙ ap (option_map (next_dart map.lists)) is ∙ ap (λ (u : ℕ). Some (v, u)) (entry_after-next (list_of map.lists v) k (known.simple.no_repeat v vertex) l)
 
 module _ (lists : Lists) (simple : IsSimpleMap lists) (ranks : List ℕ) (k v u r b : ℕ) (dart : HasDart lists v u) (rank : r ≡ get_or ranks u 0) where
   -- where a row begins, by the ranks of a neighbour and the next
@@ -187,5 +185,4 @@ only-rank ranks at rank u r s l is_at is_rank = sym (rank.of_vertex u l) ∙ ap 
 
 -- a search of a list comes to what stands in it
 pub not-none : (P : ℕ → Type 0) (us : List ℕ) (n u : ℕ) → length us ≤ n → Contains us u → P u → ((j : ℕ) → j < n → ¬ P (get_or us j 0)) → ⊥
-not-none P us n u all on p none =
-    none on.0 (omega arith) (subst P (sym (get_or_default us on.0 0 u on.1 ∙ on.2)) p)
+not-none P us n u all on p none = none on.0 (omega arith) (subst P (sym (get_or_default us on.0 0 u on.1 ∙ on.2)) p)

@@ -80,12 +80,10 @@ met-cases met u w is =
     ]
 
 met-old : (met : List ℕ) (u w : ℕ) → IsMet met w → IsMet (met ++ u ∷ []) w
-met-old met u w is =
-    (is.0, omega (arith, length-append met (u ∷ []), is.1), get_or_append_left met (u ∷ []) 0 is.0 is.1 ∙ is.2)
+met-old met u w is = (is.0, omega (arith, length-append met (u ∷ []), is.1), get_or_append_left met (u ∷ []) 0 is.0 is.1 ∙ is.2)
 
 met-new : (met : List ℕ) (u : ℕ) → IsMet (met ++ u ∷ []) u
-met-new met u =
-    (length met, omega (arith, length-append met (u ∷ [])), get_or-append_seam met u [] 0)
+met-new met u = (length met, omega (arith, length-append met (u ∷ [])), get_or-append_seam met u [] 0)
 
 -- what was gone along is gone along later too, where the place is an old one
 old-place : (met : List ℕ) (u i : ℕ) → i < length met → get_or (met ++ u ∷ []) i 0 ≡ get_or met i 0
@@ -296,8 +294,7 @@ met-room nodes root tree met filled points h v u m next many few =
     let l = u-inside nodes root tree (take filled met) points h v u m next in
     let point : Point = point_beside (place points v) (node_at nodes u) in
     let more = AreMet-more nodes root tree (take filled met) points h v u m next (set points u point) (get_or-set_same points u point (record { x = pos 0; y = pos 0 }) (omega (arith, l, many))) (λ w other. get_or-set_other points u w point (record { x = pos 0; y = pos 0 }) other) in
-    let k = length-take-le filled met few in
-    omega (arith, few-met nodes root (take filled met ++ u ∷ []) (set points u point) (h + 1) more, length-append (take filled met) (u ∷ []), k)
+    omega (arith, few-met nodes root (take filled met ++ u ∷ []) (set points u point) (h + 1) more, length-append (take filled met) (u ∷ []), length-take-le filled met few)
 
 -- all links are gone along, so all vertices are met
 module _ (nodes : List Node) (root : ℕ) (tree : IsTree nodes root) (met : List ℕ) (sums : List Point) (m : AreMet nodes root met sums (2 * length nodes)) where

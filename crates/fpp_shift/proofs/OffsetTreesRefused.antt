@@ -13,8 +13,7 @@ use Rattle.fpp_shift.specs.Grown.{Links, IsWritten}
 
 -- vertex 0 with a right link to vertex 1, which stands 3 to the right of it
 abbrev two : List Node
-two =
-    record { x = pos 0; y = pos 0; left = None; right = Some (record { 0 = 1 }) } ∷ record { x = pos 3; y = pos 0; left = None; right = None } ∷ []
+two = record { x = pos 0; y = pos 0; left = None; right = Some (record { 0 = 1 }) } ∷ record { x = pos 3; y = pos 0; left = None; right = None } ∷ []
 
 -- the last vertex covered leads on
 last_covered_leads_on : (nodes nodes' : List Node) (p before f : ℕ) (dx : ℤ) (first : Option ℕ) → before ≢ p → right_of nodes p ≡ Some f → right_of nodes' before ≡ Some p → CoversFrom nodes nodes' p before dx first → ⊥

@@ -65,8 +65,7 @@ row-at lists base at ranks triangulation order rank runs found k v low l e =
 
 -- the uses of one step more
 pub uses-more : (steps : ℕ → Step) (i j old before new : ℕ) → suc i ≡ j → before ≤ old + 2 + 14 * i + 2 * faces_made steps i → new ≤ before + 14 + 2 * ((steps i).last - (steps i).first) → new ≤ old + 2 + 14 * j + 2 * faces_made steps j
-uses-more steps i j old before new d h l =
-    omega (arith, ap (λ n. faces_made steps n) d)
+uses-more steps i j old before new d h l = omega (arith, ap (λ n. faces_made steps n) d)
 
 -- the tree of all vertices is the tree of offsets
 pub IsTreeOf-all : GrownIsOffsetTree → (lists : Lists) (at : List ℕ) (nodes : List Node) (k : ℕ) → k ≡ length at → 3 ≤ length at → IsTreeTo lists at nodes k → IsTreeOf lists at nodes
@@ -78,8 +77,7 @@ IsTreeOf-all law lists at nodes k e some tree = λ base order steps run.
 
 -- and its uses are few
 pub uses-all : FaceCount → (lists : Lists) (base : Dart) (at : List ℕ) (order : IsCanonicalOrder lists base at) (steps : ℕ → Step) → IsOrderRun lists base at order.cycle steps → (old new k : ℕ) → k ≡ length at → 3 ≤ length at → AreUsesTo lists at old new k → new ≤ old + 24 * length at
-uses-all law lists base at order steps run old new k e some uses =
-    omega (arith, uses base order steps run (length at - 2) (omega arith), run.end)
+uses-all law lists base at order steps run old new k e some uses = omega (arith, uses base order steps run (length at - 2) (omega arith), run.end)
 
 -- the list of a vertex of the map is such a list, its entries have ranks, and some stand in it
 pub listed-at :
@@ -98,5 +96,4 @@ some-in us u on = let l = on.1 in omega arith
 
 -- the first two vertices of an order are two
 pub two_first : (lists : Lists) (base : Dart) (at : List ℕ) → IsTriangulation lists → IsCanonicalOrder lists base at → (s t : ℕ) → get_or at 0 0 ≡ s → get_or at 1 0 ≡ t → s ≢ t
-two_first lists base at triangulation order s t first second e =
-    omega (arith, same_place at 0 1 order.built.once (omega arith) (omega arith) (first ∙ e ∙ sym second))
+two_first lists base at triangulation order s t first second e = omega (arith, same_place at 0 1 order.built.once (omega arith) (omega arith) (first ∙ e ∙ sym second))

@@ -80,5 +80,4 @@ returns-clause-points g c =
 
 pub returns-clause-uses : goal.returns-clause-uses
 returns-clause-uses g c =
-    let inside = c.requires.tree.inside in
-    (c.loop-i.invariant.least, omega (arith, inside, c.loop-i.invariant.most, c.loop-i.auto.i-end, c.loop-i-test.false, c.len-i-end.ensures))
+    (c.loop-i.invariant.least, omega (arith, c.requires.tree.inside, c.loop-i.invariant.most, c.loop-i.auto.i-end, c.loop-i-test.false, c.len-i-end.ensures))

@@ -5,25 +5,21 @@ use Rattle.fpp_shift.proofs.offset_trees.summed_points.follow.Goals as goal
 
 pub get-node-requires : goal.get-node-requires
 get-node-requires g c =
-    let next = rw c.in-Some.is at c.requires.next.4 in
-    u-inside _ _ c.requires.next.2 _ _ _ _ _ c.requires.next.3 next
+    u-inside _ _ c.requires.next.2 _ _ _ _ _ c.requires.next.3 (rw c.in-Some.is at c.requires.next.4)
 
 pub point_beside-requires : goal.point_beside-requires
 point_beside-requires g c =
-    let next = rw c.in-Some.is at c.requires.next.4 in
-    let small = sum-small _ _ c.requires.next.2 _ _ _ _ _ c.requires.next.3 next in
+    let small = sum-small _ _ c.requires.next.2 _ _ _ _ _ c.requires.next.3 (rw c.in-Some.is at c.requires.next.4) in
     rw (c.point_of.ensures, c.get-node.ensures.node) small
 
 pub put_point-requires : goal.put_point-requires
 put_point-requires g c =
-    let next = rw c.in-Some.is at c.requires.next.4 in
-    let l = u-inside _ _ c.requires.next.2 _ _ _ _ _ c.requires.next.3 next in
+    let l = u-inside _ _ c.requires.next.2 _ _ _ _ _ c.requires.next.3 (rw c.in-Some.is at c.requires.next.4) in
     omega (arith, l, c.requires.points)
 
 pub meet-requires : goal.meet-requires
 meet-requires g c =
-    let next = rw c.in-Some.is at c.requires.next.4 in
-    let room = met-room _ _ c.requires.next.2 c.args.met.now c.args.filled _ _ _ _ c.requires.next.3 next c.requires.points (omega (arith, c.requires.filled, c.requires.met)) in
+    let room = met-room _ _ c.requires.next.2 c.args.met.now c.args.filled _ _ _ _ c.requires.next.3 (rw c.in-Some.is at c.requires.next.4) c.requires.points (omega (arith, c.requires.filled, c.requires.met)) in
     omega (arith, room, c.requires.met)
 
 pub returns-in-Some-clause-met : goal.returns-in-Some-clause-met
@@ -34,8 +30,7 @@ returns-in-Some-clause-met g c = λ root h tree m next.
 
 pub returns-in-Some-clause-within : goal.returns-in-Some-clause-within
 returns-in-Some-clause-within g c =
-    let next = rw c.in-Some.is at c.requires.next.4 in
-    let room = met-room _ _ c.requires.next.2 c.args.met.now c.args.filled _ _ _ _ c.requires.next.3 next c.requires.points (omega (arith, c.requires.filled, c.requires.met)) in
+    let room = met-room _ _ c.requires.next.2 c.args.met.now c.args.filled _ _ _ _ c.requires.next.3 (rw c.in-Some.is at c.requires.next.4) c.requires.points (omega (arith, c.requires.filled, c.requires.met)) in
     omega (arith, room)
 
 pub returns-in-None-clause-met : goal.returns-in-None-clause-met

@@ -54,14 +54,11 @@ returns-clause-grown g c = λ at run n next.
     let is = top-called at run n _ _ _ _ next c.walk-apart.result.0 c.height_of-y_p.result c.height_of-y_q.result (c.walk-apart.ensures.width _ _ (row-is at run n _ _ _ _ next)) c.height_of-y_p.ensures.height c.height_of-y_q.ensures.height (search rules) (search rules) in
     let told = c.top-x.ensures _ _ _ _ _ is in
     let x = told.0 in
-    let y = told.1 in
-    let rest = told.2 in
     let across = is.across in
-    let high = is.high in
     let small = is.small in
     let set = subst (λ (node : Node). SetsNode c.set_x.new.tree c.set_node.new.tree c.args.v.0 node) c.node_with.ensures c.set_node.ensures.set in
     let one = covering at run n _ _ _ _ next _ _ _ _ (before-row at run n _ _ _ _ next _ c.walk-apart.ensures.before) c.cover-first.ensures.covers in
-    grown-after at run n _ _ _ _ next _ _ _ _ _ _ _ _ one c.set_right.ensures.set c.set_x.ensures.set set refl refl (omega (arith, ints, x, across, small)) (omega (arith, ints, y, high, small)) (omega (arith, ints, x, across, small)) (omega (arith, ints, x, rest, across, small))
+    grown-after at run n _ _ _ _ next _ _ _ _ _ _ _ _ one c.set_right.ensures.set c.set_x.ensures.set set refl refl (omega (arith, ints, x, across, small)) (omega (arith, ints, told.1, is.high, small)) (omega (arith, ints, x, across, small)) (omega (arith, ints, x, told.2, across, small))
 
 pub returns-clause-steps : goal.returns-clause-steps
 returns-clause-steps g c = λ at run n next.

@@ -1,7 +1,7 @@
 use Rattle.std.proofs.Common.{◌∙◌, arith}
 use Rattle.std.proofs.lemmas.List.{length-map}
 use Rattle.canon_order.specs.Orders.{vertices_of}
-use Rattle.fpp_shift.proofs.TreeLemmas.{vertex-is}
+use Rattle.fpp_shift.proofs.TreeLemmas.{vertex-is, two_first}
 use Rattle.fpp_shift.proofs.TreeSteps.{IsTreeTo-two, IsTreeTo-more, AreUsesTo-more, next-order, some-next, tree-done, vertex-in, ends-at}
 use Rattle.fpp_shift.proofs.shift_trees.trees_by_map.offset_tree.Goals as goal
 
@@ -83,3 +83,6 @@ returns-clause-links g c =
     let test = c.loop-k-test.false in
     let end = c.loop-k.auto.k-end in
     (tree-done c.args.tri.now.lists c.requires.order.0 (vertices_of c.args.order.now) c.requires.triangulation c.requires.order.1 c.order_is_run.ensures c.facts.ensures.few_vertices c.grown_is_offset_tree.ensures c.face_count.ensures c.loop-k.tree c.loop-k.k c.args.steps.now c.loop-k.steps (c.loop-k.invariant.count ∙ c.requires.nodes) (omega (arith, c.requires.triangulation.some, c.requires.order.1.count)) c.loop-k.invariant.grown c.loop-k.invariant.uses).2
+
+pub begin_tree-requires-clause-apart : goal.begin_tree-requires-clause-apart
+begin_tree-requires-clause-apart g c = two_first c.args.tri.now.lists c.requires.order.0 (vertices_of c.args.order.now) c.requires.triangulation c.requires.order.1 c.get.result.0 c.get-2.result.0 (vertex-is c.args.order.now.at 0 c.get.result c.get.ensures) (vertex-is c.args.order.now.at 1 c.get-2.result c.get-2.ensures)
