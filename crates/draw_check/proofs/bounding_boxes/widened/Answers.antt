@@ -6,10 +6,8 @@ use Rattle.draw_check.proofs.bounding_boxes.widened.Goals as goal
 
 pub returns-clause-point : goal.returns-clause-point
 returns-clause-point c =
-    let left : FitsSigned w32 c.min.result = search rules in
-    let right : FitsSigned w32 c.max.result = search rules in
-    let bottom : FitsSigned w32 c.min-2.result = search rules in
-    let top : FitsSigned w32 c.max-2.result = search rules in
+    let left : FitsSigned w32 c.min.result = search rules in let right : FitsSigned w32 c.max.result = search rules in
+    let bottom : FitsSigned w32 c.min-2.result = search rules in let top : FitsSigned w32 c.max-2.result = search rules in
     rw (to_z-of_z left, to_z-of_z right, to_z-of_z bottom, to_z-of_z top) (record {
       left = omega (arith, ints, c.min.ensures.other_bound);
       right = omega (arith, ints, c.max.ensures.other_bound);
@@ -19,10 +17,8 @@ returns-clause-point c =
 
 pub returns-clause-more : goal.returns-clause-more
 returns-clause-more c = λ u inside.
-    let left : FitsSigned w32 c.min.result = search rules in
-    let right : FitsSigned w32 c.max.result = search rules in
-    let bottom : FitsSigned w32 c.min-2.result = search rules in
-    let top : FitsSigned w32 c.max-2.result = search rules in
+    let left : FitsSigned w32 c.min.result = search rules in let right : FitsSigned w32 c.max.result = search rules in
+    let bottom : FitsSigned w32 c.min-2.result = search rules in let top : FitsSigned w32 c.max-2.result = search rules in
     rw (to_z-of_z left, to_z-of_z right, to_z-of_z bottom, to_z-of_z top) (record {
       left = let h = inside.left in omega (arith, ints, c.min.ensures.self_bound);
       right = let h = inside.right in omega (arith, ints, c.max.ensures.self_bound);
@@ -35,20 +31,13 @@ returns-clause-range c =
     let span = c.requires in
     let p = c.args.p.range in
     let n = pos 1048576 in
-    let left : FitsSigned w32 c.min.result = search rules in
-    let right : FitsSigned w32 c.max.result = search rules in
-    let bottom : FitsSigned w32 c.min-2.result = search rules in
-    let top : FitsSigned w32 c.max-2.result = search rules in
-    let l : FitsSigned w32 c.args.span.left = search rules in
-    let r : FitsSigned w32 c.args.span.right = search rules in
-    let b : FitsSigned w32 c.args.span.bottom = search rules in
-    let t : FitsSigned w32 c.args.span.top = search rules in
-    let x : FitsSigned w32 c.args.p.point.x = search rules in
-    let y : FitsSigned w32 c.args.p.point.y = search rules in
-    let left_is = simp to_z-of_z at c.min.ensures.value in
-    let right_is = simp to_z-of_z at c.max.ensures.value in
-    let bottom_is = simp to_z-of_z at c.min-2.ensures.value in
-    let top_is = simp to_z-of_z at c.max-2.ensures.value in
+    let left : FitsSigned w32 c.min.result = search rules in let right : FitsSigned w32 c.max.result = search rules in
+    let bottom : FitsSigned w32 c.min-2.result = search rules in let top : FitsSigned w32 c.max-2.result = search rules in
+    let l : FitsSigned w32 c.args.span.left = search rules in let r : FitsSigned w32 c.args.span.right = search rules in
+    let b : FitsSigned w32 c.args.span.bottom = search rules in let t : FitsSigned w32 c.args.span.top = search rules in
+    let x : FitsSigned w32 c.args.p.point.x = search rules in let y : FitsSigned w32 c.args.p.point.y = search rules in
+    let left_is = simp to_z-of_z at c.min.ensures.value in let right_is = simp to_z-of_z at c.max.ensures.value in
+    let bottom_is = simp to_z-of_z at c.min-2.ensures.value in let top_is = simp to_z-of_z at c.max-2.ensures.value in
     rw (to_z-of_z left, to_z-of_z right, to_z-of_z bottom, to_z-of_z top) (record {
       left = subst (IsWithin n) (sym left_is) (within-min n c.args.span.left c.args.p.point.x span.left p.x);
       right = subst (IsWithin n) (sym right_is) (within-max n c.args.span.right c.args.p.point.x span.right p.x);
