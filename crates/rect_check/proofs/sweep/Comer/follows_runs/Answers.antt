@@ -10,14 +10,10 @@ loop-at-smaller c = omega (arith, c.loop-at-test.true, c.if-next-at.false)
 
 pub loop-at-preserved : goal.loop-at-preserved
 loop-at-preserved c =
-    let a = c.args in
-    let l = c.loop-at in
-    let h = l.invariant in
-    let f = c.follows_entry in
+    let a = c.args in let l = c.loop-at in let h = l.invariant in let f = c.follows_entry in
     let follows = OnTrue_at c.if-not-follows_entry.false f.ensures.follow in
     let in_table : l.at < length l.until = omega (arith, c.loop-at-test.true, h.runs, a.self.now.within, c.requires.rows) in
-    let ends = h.ends in
-    let size = length-set l.until l.at 0 in
+    let ends = h.ends in let size = length-set l.until l.at 0 in
     record {
       size = f.ensures.size ∙ h.size;
       kept = λ v m. f.ensures.kept v (h.kept v m);
