@@ -1,5 +1,5 @@
 -- The definition tried on a worked case: an order of the tetrahedron.
-use Rattle.std.proofs.Common.{◌≡◌, ◌≢◌, ℕ, zero, suc, ◌+◌, ◌<◌, ◌≤◌, List, [], ◌∷◌, take, get_or, AllPairs, Contains, refl, inl, inr, arith, lit<}
+use Rattle.std.proofs.Common.{◌≡◌, ◌≢◌, ℕ, zero, suc, ◌+◌, ◌<◌, ◌≤◌, List, [], ◌∷◌, take, get_or, AllPairs, Contains, refl, arith, lit<}
 use Rattle.map_lists.specs.Lists.{Lists}
 use Rattle.map_theory.specs.Maps.{HasDart, list_of, entry_after, follows}
 use Rattle.map_theory.proofs.DartLemmas.{Contains-from_place_of}

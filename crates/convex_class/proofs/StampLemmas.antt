@@ -1,5 +1,5 @@
 -- Marks for fewer numbers, and for one step more.
-use Rattle.std.proofs.Common.{◌≡◌, ℕ, ◌+◌, ◌≤◌, List, subst, inl, inr, arith}
+use Rattle.std.proofs.Common.{ℕ, ◌+◌, List, arith}
 use Rattle.std.proofs.lemmas.Bool.{cases_lt}
 use Rattle.convex_class.specs.Stamps.{IsStamped, AreStamped}
 

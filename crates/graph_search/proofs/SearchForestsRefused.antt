@@ -1,5 +1,5 @@
 -- Searches as wrong bodies would leave them.
-use Rattle.std.proofs.Common.{◌≤◌, ℕ, List, [], ◌∷◌, refl, arith}
+use Rattle.std.proofs.Common.{ℕ, List, [], ◌∷◌, refl, arith}
 use Rattle.graph_search.specs.Lows.{AreLows}
 use Rattle.graph_search.specs.UnderWay.{IsSearching}
 

@@ -1,4 +1,4 @@
-use Rattle.std.proofs.Common.{◌≡◌, ◌-◌, refl, ℕ, suc, inl, inr, sym, ap, ◌∙◌, subst, length, arith}
+use Rattle.std.proofs.Common.{◌≡◌, ◌-◌, refl, suc, inl, inr, sym, ap, ◌∙◌, subst, length, arith}
 use Rattle.std.proofs.lemmas.Bool.{cases_eq, true≢false}
 use Rattle.map_theory.specs.Maps.{list_of}
 use Rattle.convex_orders.specs.Contours.{vertices_of}

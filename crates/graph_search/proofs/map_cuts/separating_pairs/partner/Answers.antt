@@ -1,4 +1,4 @@
-use Rattle.std.proofs.Common.{◌<◌, ◌≤◌, ℕ, Bool, false, List, length, MatchBool, sym, subst, inl, inr, arith}
+use Rattle.std.proofs.Common.{◌<◌, ◌≤◌, ℕ, Bool, false, List, sym, subst, inl, inr, arith}
 use Rattle.std.proofs.lemmas.Bool.{cases_eq, cases_lt}
 use Rattle.map_lists.specs.Lists.{Lists}
 use Rattle.graph_search.specs.Cuts.{IsSeparatingPair}
