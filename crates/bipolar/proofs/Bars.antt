@@ -13,9 +13,9 @@ use Rattle.pg_plane.specs.declared.figures.BarFigure.{BarFigure}
 use Rattle.vertex_rounds.specs.Rounds.{HasEdge}
 use Rattle.bar_check.specs.Bars.{number_at, edge_number, column_of, column_between, IsNewHeight, IsBar, Holds, IsColumn, IsStruck, IsAbove, IsEarlier, IsBreak, GoesOnceRound, IsValidBars}
 use Rattle.bar_check.proofs.OverlapLemmas.{valid_bars}
-use Rattle.bipolar_faces.proofs.Upward.{IsRising}
-use Rattle.bipolar_faces.proofs.Numbers.{column, column_of_up, column_of_down, Passes, one_side}
-use Rattle.bipolar_faces.proofs.Turns.{some_break, one_break}
+use Rattle.bipolar.proofs.Upward.{IsRising}
+use Rattle.bipolar.proofs.RisingNumbers.{column, column_of_up, column_of_down, Passes, one_side}
+use Rattle.bipolar.proofs.Turns.{some_break, one_break}
 use Rattle.bipolar.specs.DualNumbers.{IsFaceNumbering, number_between, AreEdgeNumbers}
 use Rattle.bipolar.specs.Drawn.{IsDrawnBy}
 use Rattle.bipolar.specs.Laws.{IsStMap, DualNumbersAreBars}

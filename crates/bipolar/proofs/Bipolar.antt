@@ -10,8 +10,8 @@ use Rattle.map_theory.specs.Maps.{Dart, HasDart, dart_number, dart_count, edge_c
 use Rattle.map_theory.proofs.DartLemmas.{dart_number-lt}
 use Rattle.map_theory.proofs.DartPermutations.{dart_of, tail_of, rotation, twin, dart_of-number, dart_of-twin, IsPermuting-rotation, IsPairing-twin, tail_of-rotation, same_orbit, component_count-classes, face_count-orbits, two_m, balances_map, dart_classes}
 use Rattle.plane_laws.proofs.DartPaths.{tail_of-number, twin-number}
-use Rattle.bipolar_faces.proofs.Upward.{IsBipolar}
-use Rattle.bipolar_faces.proofs.Falls.{count_but}
+use Rattle.bipolar.proofs.Upward.{IsBipolar}
+use Rattle.bipolar.proofs.Falls.{count_but}
 use Rattle.bipolar.specs.Laws.{IsStMap}
 
 -- the rank of the vertex that a dart leaves

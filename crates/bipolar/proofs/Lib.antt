@@ -1,3 +1,11 @@
+-- A map whose edges all go upwards, by its darts: falls, faces and the numbers of faces.
+pub mod Upward
+pub mod Falls
+pub mod Faces
+pub mod RisingNumbers
+pub mod NoCycle
+pub mod DualNumbering
+pub mod Turns
 -- The map by its darts, its numberings, and its bars.
 pub mod Bipolar
 pub mod Numberings

@@ -6,10 +6,10 @@ use Rattle.map_theory.specs.Paths.{SameFace}
 use Rattle.map_theory.proofs.DartLemmas.{get_or-dart_number, HasDart-face_step}
 use Rattle.map_theory.proofs.DartPermutations.{dart_of, rotation, twin, dart_of-twin}
 use Rattle.plane_laws.proofs.DartPaths.{twin-number, face_together, same_face, dart_of-face_step}
-use Rattle.bipolar_faces.proofs.Upward.{InFace, IsDual}
-use Rattle.bipolar_faces.proofs.Faces.{twin_in, step_in, step_face}
-use Rattle.bipolar_faces.proofs.Numbers.{same_number}
-use Rattle.bipolar_faces.proofs.Dual.{dual_numbers, unique, below_faces}
+use Rattle.bipolar.proofs.Upward.{InFace, IsDual}
+use Rattle.bipolar.proofs.Faces.{twin_in, step_in, step_face}
+use Rattle.bipolar.proofs.RisingNumbers.{same_number}
+use Rattle.bipolar.proofs.DualNumbering.{dual_numbers, unique, below_faces}
 use Rattle.bipolar.specs.DualNumbers.{IsUpward, IsFaceNumbering}
 use Rattle.bipolar.specs.Laws.{IsStMap, HasOneNumbering}
 use Rattle.bipolar.proofs.Bipolar.{rank_of, dart_in, is_dart, number_back, head_of, faces_are, rank_at, rank_twin, bipolar}

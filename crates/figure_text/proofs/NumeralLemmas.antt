@@ -11,7 +11,8 @@ use Rattle.std.proofs.lemmas.List.{take_at}
 use Rattle.std.proofs.lemmas.List.Elements.{All-nil, All-cons, All-append}
 use Rattle.figure_text.specs.declared.line_words.Signed.{Signed}
 use Rattle.figure_text.specs.declared.line_words.Word.TheVariants.{Number, Closing}
-use Rattle.figure_text.specs.Words.{far, is_digit, decimal_from, canonical, number_of, plus, minus, signed_of, closing_of, numeral_word, word_of}
+use Rattle.figure_text.specs.Words.{far, number_of, plus, minus, signed_of, closing_of, numeral_word, word_of}
+use Rattle.decimals.specs.Numbers.{is_digit, decimal_from, canonical}
 use Rattle.figure_text.specs.Laws.{sign_of}
 
 -- the number that digits give, read on from n

@@ -1,6 +1,7 @@
 -- The words of a line, and the numbers among them.
 use Rattle.std.specs.Prelude.{ℕ, ◌+◌, ◌-◌, ◌*◌, Bool, true, false, not, ◌&&◌, ◌==◌, nat_lt, min, if◌then◌else◌, List, [], ◌∷◌, ◌++◌, ◌≡◌, length, take, drop, map, slice_index, slice_index_or, codes, bytes_eq, Option, Some, None, option_map}
 use Rattle.std.specs.List.{slice_split}
+use Rattle.decimals.specs.Numbers.{decimal_from, canonical}
 use Rattle.figure_text.specs.declared.line_words.Signed.{Signed}
 use Rattle.figure_text.specs.declared.line_words.Word.{Word}
 use Rattle.figure_text.specs.declared.line_words.Word.TheVariants.{Number, Closing, Named, Other}
@@ -9,25 +10,6 @@ use Rattle.figure_text.specs.declared.line_words.Name.TheVariants.{Figure, Shift
 -- what numbers beyond all ranges are taken for
 abbrev pub far : ℕ
 far = 100000000
-
--- a byte from 0 to 9
-abbrev pub is_digit : ℕ → Bool
-is_digit b = not (nat_lt b 48) && nat_lt b 58
-
--- the number whose decimal digits are those of n and then these, or nothing where a byte is no digit
-abbrev pub decimal_from : ℕ → List ℕ → Option ℕ
-decimal_from n [] = Some n
-decimal_from n (b ∷ bytes) = if is_digit b then decimal_from (10 * n + (b - 48)) bytes else None
-
--- one digit more for a number that is cut to `most`
-abbrev pub one_more : ℕ → ℕ → ℕ → Option ℕ
-one_more most n b = if is_digit b then Some (min most (10 * n + (b - 48))) else None
-
--- digits begin with 0 only where they are just that, and there is one at least
-abbrev pub canonical : List ℕ → Bool
-canonical [] = false
-canonical (b ∷ []) = true
-canonical (b ∷ c ∷ bytes) = not (b == 48)
 
 -- the number that a word is, if it is one
 abbrev pub number_of : List ℕ → Option ℕ

@@ -8,7 +8,6 @@
 #![tactic(auto)]
 
 mod backward_writing;
-pub mod decimals;
 mod fault;
 mod figure;
 mod figure_ends;

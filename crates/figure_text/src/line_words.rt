@@ -3,9 +3,10 @@ ghost use Rattle.std.specs.Prelude.{◌≡◌, ◌↔◌, ◌<◌, ◌≤◌, �
 ghost use Rattle.std.specs.Bool.{OnTrue, OnFalse};
 ghost use Rattle.std.specs.List.{slice_split};
 ghost use Rattle.figure_text.specs.Plain.{IsPlainAt, IsClosingAt};
-ghost use Rattle.figure_text.specs.Words.{far, is_digit, words_left, decimal_from, number_of, signed_of, plus, minus, word_of as word_meant, words_of, numeral_word, closing_of, HasOther};
+ghost use Rattle.figure_text.specs.Words.{far, words_left, number_of, signed_of, plus, minus, word_of as word_meant, words_of, numeral_word, closing_of, HasOther};
+ghost use Rattle.decimals.specs.Numbers.{is_digit, decimal_from};
 
-use crate::decimals::{decimal_number, is_canonical};
+use decimals::{decimal_number, is_canonical};
 use std::alloc::{AllocError, Global};
 
 /// A whole number by its sign and its size. A size beyond all ranges stands as `FAR`.

@@ -9,7 +9,7 @@ use Rattle.clap.specs.Walk.{Text, plain_word}
 use Rattle.pigale_words.specs.Words.{Given, given_in, has_option, Takes, Takes.no_option, Takes.a_form, Takes.two_numbers, jobs, taken_by, job_with, number_given, gen_of, job_given, job_named, job_of, has_number, form_of}
 use Rattle.pigale_words.specs.Spelling.{NamesForm, NamesNumbers, Fits, IsNamed, JobWords, Spell, Spell.nothing, Spell.hyphens, Spell.behind, Spell.job_word}
 use Rattle.pigale_words.specs.Numbers.{number_in, within}
-use Rattle.figure_text.specs.Words.{canonical, decimal_from, is_digit}
+use Rattle.decimals.specs.Numbers.{canonical, decimal_from, is_digit}
 use Rattle.pigale_words.specs.declared.job.Job.{Job}
 use Rattle.pigale_words.specs.declared.job.Job.TheVariants.{Count, Gen}
 use Rattle.pigale_words.specs.declared.output_form.Form.{Form}

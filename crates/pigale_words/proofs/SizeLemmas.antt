@@ -4,7 +4,7 @@ use Rattle.std.proofs.lemmas.Bool.Decides.{nat_tests}
 use Rattle.std.proofs.lemmas.Option.{none-some}
 use Rattle.std.specs.Prelude.{List, option_and_then, if◌then◌else◌}
 use Rattle.clap.specs.Walk.{Text}
-use Rattle.figure_text.specs.Words.{canonical, decimal_from}
+use Rattle.decimals.specs.Numbers.{canonical, decimal_from}
 use Rattle.pigale_words.specs.Numbers.{within, number_in}
 use Rattle.pigale_words.specs.Words.{Takes, Takes.no_option, Takes.a_form, Takes.two_numbers, jobs, job_of}
 use Rattle.pigale_words.specs.Spelling.{Fits, IsNamed}

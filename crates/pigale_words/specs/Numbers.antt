@@ -1,6 +1,6 @@
 -- Numbers that words spell.
 use Rattle.std.specs.Prelude.{ℕ, ◌&&◌, not, nat_lt, if◌then◌else◌, List, Option, Some, None, option_and_then}
-use Rattle.figure_text.specs.Words.{canonical, decimal_from}
+use Rattle.decimals.specs.Numbers.{canonical, decimal_from}
 
 -- the number, if it is from `least` to `most`
 abbrev pub within : ℕ → ℕ → ℕ → Option ℕ

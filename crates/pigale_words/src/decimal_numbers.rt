@@ -2,7 +2,7 @@
 ghost use Rattle.std.specs.Prelude.{◌≡◌};
 ghost use Rattle.pigale_words.specs.Numbers.{number_in as number_by};
 
-use figure_text::decimals::{decimal_number, is_canonical};
+use decimals::{decimal_number, is_canonical};
 
 // The number that stands for all that are beyond every range.
 const BEYOND: u64 = 4294967296;

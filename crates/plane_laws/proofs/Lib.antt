@@ -20,6 +20,7 @@ pub mod EdgeAdded
 pub mod KeptEdges
 pub mod InsertedEntry
 pub mod WithEdge
+mod EdgeRows
 pub mod VertexSmoothed
 pub mod Chords
 pub mod Extended

@@ -1,5 +1,5 @@
 -- Lists with an edge more.
-use Rattle.std.specs.Prelude.{ℕ, ◌+◌, ◌<◌, ◌≤◌, ◌≡◌, ◌≢◌, ◌⊎◌, List, length, slice_set, slice_index_or, insert}
+use Rattle.std.specs.Prelude.{ℕ, ◌+◌, ◌==◌, if◌then◌else◌, ◌<◌, ◌≤◌, ◌≡◌, ◌≢◌, ◌⊎◌, List, length, slice_set, slice_index_or, insert}
 use Rattle.map_lists.specs.Lists.{Lists}
 use Rattle.map_theory.specs.Maps.{HasDart, IsSimpleMap, list_of, follows, place_of}
 use Rattle.map_theory.specs.Edges.{without_edge}
@@ -45,3 +45,8 @@ pub record IsPutAfter (old new : Lists) (u a v c : ℕ) : Type 0 where
 abbrev pub WithEdgeAfter : Type 0
 WithEdgeAfter =
     (lists : Lists) (u a v c : ℕ) → IsSimpleMap lists → HasDart lists u a → HasDart lists v c → u ≢ v → ¬ HasDart lists u v → IsEdgeMore lists (with_edge_after lists u a v c) u (place_of a (list_of lists u) + 1) v (place_of c (list_of lists v) + 1) × IsPutAfter lists (with_edge_after lists u a v c) u a v c
+
+-- the list of w with the edge: us is that without it, and u stands directly after c at v, and v directly after a at u
+abbrev pub row_with_edge : (u a v c w : ℕ) → List ℕ → List ℕ
+row_with_edge u a v c w us =
+    if w == v then insert us (place_of c us + 1) u else if w == u then insert us (place_of a us + 1) v else us

@@ -1,10 +1,14 @@
 //! Laws of plane maps: bridges, faces and components when an edge is removed, the edge bound, and separation at
-//! corners. Each is the contract of a function that does nothing, and speaks of all maps.
+//! corners. Each is the contract of a function that does nothing, and speaks of all maps. `with_edge_after` puts an edge
+//! into rotation lists.
 #![tactic(auto)]
 
+mod edge_insertion;
 pub mod map_edits;
 
 ghost use Rattle.plane_laws.specs.Laws.{ComponentsArePaths, EdgeRemoved, BridgeTest, FacesMerged, EdgeBound, FacesHaveThree, EdgeBoundMet, CornerSplit, DigonSplit};
+
+pub use edge_insertion::with_edge_after;
 
 /// Two vertices of a simple map are in one of the classes that count its components exactly where a path joins them.
 pub fn components_are_paths()

@@ -5,7 +5,7 @@ ghost use Rattle.rect_orders.specs.Maps.{IsRectMap, closed};
 ghost use Rattle.rect_orders.specs.Frames.{IsFrameOf};
 
 use half_edges::{DartId, HalfMap, Rotations, VertexId};
-use list_edits::with_edge_after;
+use plane_laws::with_edge_after;
 use std::alloc::{AllocError, Global};
 
 /// The vertices of the outer face, and one inside.

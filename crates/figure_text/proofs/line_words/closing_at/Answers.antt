@@ -2,7 +2,8 @@
 use Rattle.std.proofs.Common.{◌≡◌, ◌≤◌, ℕ, ◌+◌, ◌-◌, true, false, ◌∷◌, take, drop, get_or, sym, ap, ◌∙◌, arith, rules, below_more}
 use Rattle.figure_text.specs.declared.line_words.Word.{Word}
 use Rattle.figure_text.specs.declared.line_words.Word.TheVariants.{Closing}
-use Rattle.figure_text.specs.Words.{canonical, word_of, words_left}
+use Rattle.figure_text.specs.Words.{word_of, words_left}
+use Rattle.decimals.specs.Numbers.{canonical}
 use Rattle.figure_text.proofs.DecimalLemmas.{take-one_more}
 use Rattle.figure_text.proofs.NumeralLemmas.{word_of-digits_closing}
 use Rattle.figure_text.proofs.WordLemmas.{words-next}

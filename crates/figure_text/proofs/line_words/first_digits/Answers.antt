@@ -2,8 +2,10 @@
 use Rattle.std.proofs.Common.{nat_lt, ◌≡◌, ℕ, ◌+◌, ◌-◌, ◌<◌, ◌≤◌, true, length, take, drop, get_or, refl, sym, ◌∙◌, subst, arith, below_more}
 use Rattle.std.proofs.lemmas.Bool.Decides.{nat_tests}
 use Rattle.std.specs.Prelude.{Some}
-use Rattle.figure_text.specs.Words.{far, is_digit, decimal_from}
-use Rattle.figure_text.proofs.DecimalLemmas.{digits-more, digit-near, digit-no_space, few-digits, below-pow, cut-same}
+use Rattle.figure_text.specs.Words.{far}
+use Rattle.decimals.specs.Numbers.{is_digit, decimal_from}
+use Rattle.figure_text.proofs.DecimalLemmas.{digits-more, digit-near, digit-no_space, few-digits, below-pow}
+use Rattle.decimals.proofs.DigitLemmas.{cut-same}
 use Rattle.figure_text.proofs.line_words.first_digits.Goals as goal
 
 pub returns-then-digit-gt9-clause-value : goal.returns-then-digit-gt9-clause-value

@@ -1,7 +1,7 @@
 -- The digits before this place give the number.
 use Rattle.std.proofs.Common.{◌≡◌, ℕ, ◌+◌, ◌-◌, ◌^◌, ◌<◌, ◌≤◌, take, drop, get_or}
 use Rattle.std.specs.Prelude.{Some}
-use Rattle.figure_text.specs.Words.{decimal_from}
+use Rattle.decimals.specs.Numbers.{decimal_from}
 use Rattle.figure_text.proofs.line_words.first_digits.Given as goal
 
 abbrev pub invariant-loop-i : goal.invariant-loop-i

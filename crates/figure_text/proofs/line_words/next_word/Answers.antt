@@ -1,6 +1,7 @@
 -- Digits before a colon are a number before a colon.
 use Rattle.std.proofs.Common.{◌≡◌, ◌-◌, true, take, drop, sym, ap, ◌∙◌, rules}
-use Rattle.figure_text.specs.Words.{canonical, word_of}
+use Rattle.figure_text.specs.Words.{word_of}
+use Rattle.decimals.specs.Numbers.{canonical}
 use Rattle.figure_text.proofs.DecimalLemmas.{take-one_more}
 use Rattle.figure_text.proofs.NumeralLemmas.{word_of-digits_closing}
 use Rattle.figure_text.proofs.line_words.next_word.Goals as goal

@@ -1,7 +1,8 @@
 -- Digits that end at a space, or at the end.
 use Rattle.std.proofs.Common.{◌≡◌, ◌+◌, ◌-◌, true, ◌∷◌, take, drop, ap, ◌∙◌, arith, rules}
 use Rattle.figure_text.specs.declared.line_words.Word.{Word}
-use Rattle.figure_text.specs.Words.{canonical, words_left}
+use Rattle.figure_text.specs.Words.{words_left}
+use Rattle.decimals.specs.Numbers.{canonical}
 use Rattle.figure_text.proofs.NumeralLemmas.{word_of-digits}
 use Rattle.figure_text.proofs.WordLemmas.{words-next}
 use Rattle.figure_text.proofs.line_words.plain_at.Goals as goal

@@ -1,10 +1,10 @@
 -- Round a vertex the upward edges come by rising column and then the downward ones by falling column: just one edge does not come before the next.
 use Rattle.std.proofs.Common.{◌≡◌, ◌⊎◌, ℕ, ◌<◌, Bool, true, false, not, refl, sym, ap, ◌∙◌, subst, inl, inr, arith}
 use Rattle.std.proofs.lemmas.Bool.{cases_Bool, cases_eq, not_from_true, not_from_false}
-use Rattle.bipolar_faces.proofs.Upward.{IsBipolar, IsRising}
-use Rattle.bipolar_faces.proofs.Falls.{some_fall, before}
-use Rattle.bipolar_faces.proofs.Faces.{up, twin_in, is_up, up_from, is_down, down_from, one_rise, base_up}
-use Rattle.bipolar_faces.proofs.Numbers.{column, column_of_up, column_of_down, is_next, tails}
+use Rattle.bipolar.proofs.Upward.{IsBipolar, IsRising}
+use Rattle.bipolar.proofs.Falls.{some_fall, before}
+use Rattle.bipolar.proofs.Faces.{up, twin_in, is_up, up_from, is_down, down_from, one_rise, base_up}
+use Rattle.bipolar.proofs.RisingNumbers.{column, column_of_up, column_of_down, is_next, tails}
 
 module _ {k m : ℕ} {f g y : ℕ → ℕ} {st : ℕ} (d : IsBipolar k m f g y st) (n : ℕ → ℕ) (w : IsRising k f g y st n) where
   abbrev pub Up : ℕ → Type 0

@@ -1,6 +1,8 @@
-//! Reads decimal numbers digit by digit, capped at a greatest value.
+//! Decimal numbers read digit by digit, capped at a greatest value.
+#![tactic(auto)]
+
 ghost use Rattle.std.specs.Prelude.{◌≡◌, ◌≤◌, min, option_map, IfSome};
-ghost use Rattle.figure_text.specs.Words.{is_digit, one_more, canonical, decimal_from};
+ghost use Rattle.decimals.specs.Numbers.{is_digit, one_more, canonical, decimal_from};
 
 /// Says whether `byte` is a decimal digit.
 pub fn is_digit_byte(byte: u8) -> bool

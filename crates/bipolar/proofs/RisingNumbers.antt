@@ -4,9 +4,9 @@ use Rattle.std.proofs.lemmas.Bool.{cases_Bool, ltb-true, lt-ltb}
 use Rattle.classes.proofs.Classes.{cases_Together}
 use Rattle.classes.proofs.Orbits.{orbits_of, orbits_of-marked}
 use Rattle.classes.proofs.Bound.{after}
-use Rattle.bipolar_faces.proofs.Upward.{SameTail, InFace, IsBipolar, IsRising}
-use Rattle.bipolar_faces.proofs.Falls.{kept_on}
-use Rattle.bipolar_faces.proofs.Faces.{up, twin_in, steps, corner, is_up, up_from, is_down, down_from, twin_up, chain, base_only, crossing_before}
+use Rattle.bipolar.proofs.Upward.{SameTail, InFace, IsBipolar, IsRising}
+use Rattle.bipolar.proofs.Falls.{kept_on}
+use Rattle.bipolar.proofs.Faces.{up, twin_in, steps, corner, is_up, up_from, is_down, down_from, twin_up, chain, base_only, crossing_before}
 
 -- e is left of i: the number of the face on its right is at most that of i
 pub record IsLeft (k : ℕ) (f g : ℕ → ℕ) (st : ℕ) (n : ℕ → ℕ) (e i : ℕ) : Type 0 where

@@ -2,8 +2,7 @@
 ghost use Rattle.std.specs.Prelude.{◌≡◌, ◌≤◌, ◌+◌, ◌++◌, ◌∷◌, [], ℕ, length, slice_index_or, IfOk, OnOk};
 ghost use Rattle.std.specs.List.{insert};
 ghost use Rattle.map_theory.specs.Maps.{place_of as place_of_entry};
-ghost use Rattle.list_edits.specs.Rows.{row_with_edge};
-ghost use Rattle.plane_laws.specs.WithEdge.{with_edge_after as lists_with_edge};
+ghost use Rattle.plane_laws.specs.WithEdge.{row_with_edge, with_edge_after as lists_with_edge};
 
 use map_lists::{ItemLists, Rotations};
 use std::alloc::{AllocError, Global};

@@ -1,7 +1,7 @@
 -- One byte more.
 use Rattle.std.proofs.Common.{get_or, refl, ◌∙◌, sym}
-use Rattle.figure_text.proofs.DecimalLemmas.{cut_from-more, cut_from-none, one_more-le}
-use Rattle.figure_text.proofs.decimals.decimal_number.Goals as goal
+use Rattle.decimals.proofs.DigitLemmas.{cut_from-more, cut_from-none, one_more-le}
+use Rattle.decimals.proofs.decimal_number.Goals as goal
 
 pub loop-byte-preserved : goal.loop-byte-preserved
 loop-byte-preserved c =

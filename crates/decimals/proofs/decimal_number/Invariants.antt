@@ -1,8 +1,8 @@
 -- The digits that are left give the same number.
 use Rattle.std.proofs.Common.{◌≡◌, ◌≤◌, drop}
 use Rattle.std.specs.Prelude.{min, option_map}
-use Rattle.figure_text.specs.Words.{decimal_from}
-use Rattle.figure_text.proofs.decimals.decimal_number.Given as goal
+use Rattle.decimals.specs.Numbers.{decimal_from}
+use Rattle.decimals.proofs.decimal_number.Given as goal
 
 abbrev pub invariant-loop-byte : goal.invariant-loop-byte
 invariant-loop-byte l =

@@ -1,8 +1,8 @@
 use Rattle.std.proofs.Common.{◌+◌, sym, ap, arith}
 use Rattle.std.specs.List.{insert}
 use Rattle.map_theory.proofs.DartLemmas.{place_of-is}
-use Rattle.list_edits.proofs.PutLemmas.{insert-none}
-use Rattle.list_edits.proofs.edge_insertion.place_after.Goals as goal
+use Rattle.plane_laws.proofs.EdgeRows.{insert-none}
+use Rattle.plane_laws.proofs.edge_insertion.place_after.Goals as goal
 
 pub returns-then-us-i-clause-place : goal.returns-then-us-i-clause-place
 returns-then-us-i-clause-place c = λ x.

@@ -1,7 +1,7 @@
 use Rattle.std.proofs.Common.{◌++◌, ◌∷◌, [], List, length, ap, ◌∙◌, arith}
-use Rattle.list_edits.specs.Rows.{row_with_edge}
-use Rattle.list_edits.proofs.PutLemmas.{length-with_edge, one_row, all_rows}
-use Rattle.list_edits.proofs.edge_insertion.with_edge_after.Goals as goal
+use Rattle.plane_laws.specs.WithEdge.{row_with_edge}
+use Rattle.plane_laws.proofs.EdgeRows.{length-with_edge, one_row, all_rows}
+use Rattle.plane_laws.proofs.edge_insertion.with_edge_after.Goals as goal
 
 pub loop-w-preserved : goal.loop-w-preserved
 loop-w-preserved c =

@@ -5,8 +5,8 @@ use Rattle.classes.specs.Classes.{same_class}
 use Rattle.classes.proofs.Classes.{Together-from, same_class-from}
 use Rattle.classes.proofs.Orbits.{orbits_of, orbits_of-step, IsPermuting}
 use Rattle.classes.proofs.Bound.{IsPermuting-pairing, after, IsPermuting-after}
-use Rattle.bipolar_faces.proofs.Upward.{SameTail, InFace, IsBipolar}
-use Rattle.bipolar_faces.proofs.Falls.{falls-from, IsMixed, IsMixed-not, one_fall_of_face, one_fall_of_vertex, some_or_none, some_fall, kept_on}
+use Rattle.bipolar.proofs.Upward.{SameTail, InFace, IsBipolar}
+use Rattle.bipolar.proofs.Falls.{falls-from, IsMixed, IsMixed-not, one_fall_of_face, one_fall_of_vertex, some_or_none, some_fall, kept_on}
 
 -- the dart goes upwards
 abbrev pub up : (ℕ → ℕ) → (ℕ → ℕ) → ℕ → Bool

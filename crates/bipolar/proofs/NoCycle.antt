@@ -4,9 +4,9 @@ use Rattle.std.proofs.lemmas.Bool.{cases_Bool, cases_eq, cases_lt, ltb-true, lt-
 use Rattle.classes.specs.Classes.{label}
 use Rattle.classes.proofs.Orbits.{orbits_of, orbits_of-marked}
 use Rattle.classes.proofs.Bound.{after}
-use Rattle.bipolar_faces.proofs.Upward.{SameTail, InFace, IsBipolar}
-use Rattle.bipolar_faces.proofs.Falls.{some_or_none, some_fall}
-use Rattle.bipolar_faces.proofs.Faces.{up, twin_in, step_in, steps, step_rank, step_face, corner, is_up, up_from, is_down, down_from, twin_up, one_rise, chain, base_only, face_above}
+use Rattle.bipolar.proofs.Upward.{SameTail, InFace, IsBipolar}
+use Rattle.bipolar.proofs.Falls.{some_or_none, some_fall}
+use Rattle.bipolar.proofs.Faces.{up, twin_in, step_in, steps, step_rank, step_face, corner, is_up, up_from, is_down, down_from, twin_up, one_rise, chain, base_only, face_above}
 
 -- some number below n passes
 abbrev pub any_below : (ℕ → Bool) → ℕ → Bool

@@ -6,11 +6,11 @@ use Rattle.classes.proofs.Counting.{count_below_all, count_below_into, count_bel
 use Rattle.classes.proofs.Classes.{Together-from, same_class-from, Together-not, cases_Together, Together-label, label-lt}
 use Rattle.classes.proofs.Orbits.{orbits_of, length-orbits_of, IsLabels-orbits_of}
 use Rattle.classes.proofs.Bound.{after}
-use Rattle.bipolar_faces.proofs.Upward.{InFace, IsBipolar, IsRising, IsDual}
-use Rattle.bipolar_faces.proofs.Falls.{last_below, last_below-passes, some_or_none, but, count_but}
-use Rattle.bipolar_faces.proofs.Faces.{up, twin_in, steps, step_face, is_up, up_from, is_down, twin_up, face_fails}
-use Rattle.bipolar_faces.proofs.Numbers.{same_number}
-use Rattle.bipolar_faces.proofs.NoCycle.{any_below, any_below-from, any_below-at, no_cycle}
+use Rattle.bipolar.proofs.Upward.{InFace, IsBipolar, IsRising, IsDual}
+use Rattle.bipolar.proofs.Falls.{last_below, last_below-passes, some_or_none, but, count_but}
+use Rattle.bipolar.proofs.Faces.{up, twin_in, steps, step_face, is_up, up_from, is_down, twin_up, face_fails}
+use Rattle.bipolar.proofs.RisingNumbers.{same_number}
+use Rattle.bipolar.proofs.NoCycle.{any_below, any_below-from, any_below-at, no_cycle}
 
 -- Some upward darts are done: the number of the face on the right of each is more than that on its left, and is not more than it must be. All darts into a face are done before one out of it.
 pub record IsUnder (k : ℕ) (f g y : ℕ → ℕ) (st : ℕ) (done : ℕ → Bool) (n : ℕ → ℕ) : Type 0 where

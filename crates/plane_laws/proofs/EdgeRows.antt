@@ -7,8 +7,7 @@ use Rattle.std.proofs.lemmas.Grind.{get_or-set_at}
 use Rattle.std.proofs.Math.Seq.{take-suc}
 use Rattle.map_lists.specs.Lists.{Lists}
 use Rattle.map_theory.specs.Maps.{list_of, place_of}
-use Rattle.plane_laws.specs.WithEdge.{with_edge_after}
-use Rattle.list_edits.specs.Rows.{row_with_edge}
+use Rattle.plane_laws.specs.WithEdge.{with_edge_after, row_with_edge}
 
 -- ---- lists with an edge more, row by row
 row_is : (lists : Lists) (u a v c w : ℕ) → w < length lists → list_of (with_edge_after lists u a v c) w ≡ row_with_edge u a v c w (list_of lists w)

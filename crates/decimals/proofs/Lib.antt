@@ -1,0 +1,2 @@
+-- Numbers that are cut while their digits are read.
+pub mod DigitLemmas

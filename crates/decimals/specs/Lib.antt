@@ -1,0 +1,2 @@
+-- What digits mean.
+pub mod Numbers

@@ -1,2 +1,0 @@
--- What the calls rest on.
-mod PutLemmas

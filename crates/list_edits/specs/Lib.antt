@@ -1,2 +1,0 @@
--- What edits of lists write.
-pub mod Rows
