@@ -1,11 +1,11 @@
 -- Maps that grow by one edge: what stays, and that there is room.
 use Rattle.std.proofs.Common.{◌≡◌, ◌≢◌, ℕ, ◌+◌, ◌*◌, ◌<◌, ◌≤◌, length, refl, sym, ap, ◌∙◌, subst, arith, Some}
-use Rattle.map_theory.specs.Maps.{HasDart, IsPlane, list_of, place_of, follows, edge_count, component_count, component_classes}
+use Rattle.map_theory.specs.Maps.{HasDart, IsPlane, list_of, place_of, follows, edge_count, component_count, component_classes, SameComponent}
 use Rattle.map_theory.proofs.DartLemmas.{place_of-lt-length, HasDart-follows}
 use Rattle.classes.specs.Classes.{label}
 use Rattle.classes.proofs.Classes.{same_class-from}
 use Rattle.map_theory.proofs.DartPermutations.{edge_together}
-use Rattle.plane_laws.specs.Laws.{IsTriangle, SameComponent}
+use Rattle.plane_laws.specs.Laws.{IsTriangle}
 use Rattle.plane_laws.proofs.EdgeBound.{edge_bound}
 use Rattle.plane_laws.proofs.Triangles.{edge_bound_met}
 use Rattle.plane_laws.specs.Chords.{IsEar}

@@ -4,9 +4,8 @@ use Rattle.std.proofs.lemmas.Bool.{cases_eq, cases_lt, lt-ltb, le-ltb, eq-eqb, n
 use Rattle.classes.specs.Classes.{count_below, label, merge, relabel}
 use Rattle.classes.proofs.Classes.{IsLabels, Together-from, same_class-from, label-merge, length-classes}
 use Rattle.map_lists.specs.Lists.{Lists}
-use Rattle.map_theory.specs.Maps.{darts, HasDart, IsSimpleMap, component_classes, component_count}
+use Rattle.map_theory.specs.Maps.{darts, HasDart, IsSimpleMap, component_classes, component_count, SameComponent}
 use Rattle.map_theory.proofs.DartPermutations.{IsLabels-components, edge_together}
-use Rattle.plane_laws.specs.Laws.{SameComponent}
 use Rattle.plane_laws.proofs.Completions.{one_component}
 use Rattle.plane_laws.proofs.EdgeComponents.{components_merged}
 use Rattle.plane_laws.proofs.WithEdge.{with_edge, length-new}

@@ -1,8 +1,7 @@
 -- The components of a map, numbered from 0 by their least vertices.
 use Rattle.std.specs.Prelude.{ℕ, ◌<◌, ◌≡◌, ◌↔◌, List, length, slice_index}
 use Rattle.map_lists.specs.Lists.{Lists}
-use Rattle.map_theory.specs.Maps.{vertex_count, component_count}
-use Rattle.plane_laws.specs.Laws.{SameComponent}
+use Rattle.map_theory.specs.Maps.{vertex_count, component_count, SameComponent}
 use Rattle.euler_faces.specs.Search.{component_number}
 
 -- what contracts see of numbered components

@@ -4,20 +4,24 @@ use Rattle.std.proofs.lemmas.List.{get_or_default}
 use Rattle.std.proofs.lemmas.List.Elements.{Contains-get_or}
 use Rattle.map_theory.specs.Maps.{Dart, HasDart}
 use Rattle.map_theory.specs.Paths.{SameFace}
-use Rattle.half_edges.specs.Map.{Map, IsLive, dart_at}
+use Rattle.half_edges.specs.Map.{Map, IsHalfMap, IsLive, dart_at}
 use Rattle.euler_faces.specs.FaceWalks.{walk_at, AreFaces}
 use Rattle.euler_faces.proofs.NumberLemmas.{live_from}
 use Rattle.pg_plane.specs.declared.grid_points.Point.{Point}
 use Rattle.pg_plane.specs.Geometry.{area}
 use Rattle.pg_plane.specs.Range.{IsInRange}
-use Rattle.plane_drawings.specs.Drawing.{place}
-use Rattle.draw_check.specs.Loops.{IsDrawn}
+use Rattle.plane_drawings.specs.Drawing.{place, HasPlaces}
 use Rattle.vertex_rounds.specs.Rounds.{dart_of}
 use Rattle.vertex_rounds.proofs.DartIds.{dart_of-is, has_dart}
 use Rattle.convex_check.specs.Corners.{IsOnTriangle, HasCorners}
 use Rattle.convex_check.specs.Convex.{IsOnFace, HasOuterCorners}
 use Rattle.convex_check.specs.Walks.{AreWalkPlaces}
 use Rattle.convex_check.proofs.BendLemmas.{one_walk_face, in_walk_of}
+
+-- a half-edge map, and a point for each vertex
+pub record IsDrawn (map : Map) (points : List Point) : Type 0 where
+  pub known : IsHalfMap map
+  pub places : HasPlaces map.lists points
 
 -- each dart of a face's walk is live
 pub live_in : (map : Map) (walks : List (List ℕ)) → AreFaces map walks → (f d : ℕ) → f < length walks → Contains (walk_at walks f) d → IsLive map d

@@ -1,7 +1,7 @@
 //! The public calls that check whether a drawing is convex over a base dart.
 ghost use Rattle.std.specs.Prelude.{IfOk};
 ghost use Rattle.half_edges.specs.Map.{IsLive};
-ghost use Rattle.draw_check.specs.Faults.{HasPlaces};
+ghost use Rattle.plane_drawings.specs.Drawing.{HasPlaces};
 ghost use Rattle.vertex_rounds.specs.Rounds.{dart_of};
 ghost use Rattle.convex_check.specs.Verdicts.{IsConvexVerdict};
 

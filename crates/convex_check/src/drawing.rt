@@ -1,6 +1,6 @@
 //! A map over a base dart with a point for each vertex, as the type that the checks of convexity read.
 ghost use Rattle.half_edges.specs.Map.{IsLive};
-ghost use Rattle.draw_check.specs.Faults.{HasPlaces};
+ghost use Rattle.plane_drawings.specs.Drawing.{HasPlaces};
 
 use half_edges::{DartId, HalfMap};
 use pg_plane::Points;

@@ -6,7 +6,7 @@ use Rattle.map_lists.specs.Lists.{Lists}
 use Rattle.map_theory.specs.Maps.{Dart, HasDart, IsSimpleMap, IsPlane, list_of, follows, face_classes, dart_number}
 use Rattle.map_theory.specs.Paths.{SameFace, JoinsAvoiding}
 use Rattle.map_theory.proofs.DartLemmas.{HasDart-follows}
-use Rattle.plane_laws.proofs.ArcLemmas.{arc-first}
+use Rattle.map_theory.proofs.ArcLemmas.{arc-first}
 use Rattle.plane_laws.proofs.CornerSplit.{corner_split}
 use Rattle.plane_laws.proofs.DartPaths.{face_together, same_face, face_step_together}
 use Rattle.graph_search.proofs.ForestLemmas.{IsAdjacency-simple}

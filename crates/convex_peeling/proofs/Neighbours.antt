@@ -5,9 +5,8 @@ use Rattle.std.proofs.lemmas.List.{get_or_default}
 use Rattle.std.proofs.lemmas.List.Elements.{Contains-get_or}
 use Rattle.classes.proofs.Classes.{length-classes, same_class-from}
 use Rattle.map_lists.specs.Lists.{Lists}
-use Rattle.map_theory.specs.Maps.{HasDart, IsSimpleMap, component_count, component_classes, darts, list_of}
+use Rattle.map_theory.specs.Maps.{HasDart, IsSimpleMap, component_count, component_classes, darts, list_of, place_of}
 use Rattle.map_theory.proofs.DartLemmas.{place_of-get_or}
-use Rattle.map_theory.specs.Maps.{place_of}
 use Rattle.map_theory.proofs.DartPermutations.{IsLabels-components}
 use Rattle.plane_laws.specs.Laws.{AreJoined}
 use Rattle.plane_laws.proofs.EdgeBound.{one_class}

@@ -13,7 +13,7 @@ use Rattle.classes.proofs.Swap.{exchange, swapped_other, IsPermuting-exchange}
 use Rattle.classes.proofs.Bound.{joint, after}
 use Rattle.map_theory.proofs.DartPermutations.{tail_of, rotation, twin, IsPermuting-rotation, IsPairing-twin, same_orbit, same_vertex, balances_map, two_m}
 use Rattle.plane_laws.proofs.PlaneCuts.{two_cuts_apart, swapped_commute, joint-same}
-use Rattle.plane_laws.proofs.ArcLemmas.{arc-first, arc-longer}
+use Rattle.map_theory.proofs.ArcLemmas.{arc-first, arc-longer}
 use Rattle.plane_laws.proofs.DartPaths.{before_dart, face_together, same_face, corner_of, numbers_apart, HoldsCut, HoldsCut-joint, arcs_joined}
 use Rattle.graph_search.specs.Cuts.{AreSeparated, IsCutVertex}
 use Rattle.graph_search.proofs.PairLemmas.{AreBoth-pair, off_both}

@@ -18,12 +18,6 @@ use Rattle.vertex_rounds.specs.Least.{IsLeastPair, IsLeastTriple}
 use Rattle.draw_check.proofs.FaceLemmas.{same_step, same_itself, on_base}
 
 module _ (map : Map) (h : IsHalfMap map) where
-  -- the head of the next dart along the face
-  pub third_is : (d e a b w : ℕ) → dart_at map d ≡ Some (a, b) → dart_at map e ≡ option_map (face_step map.lists) (dart_at map d) → option_map (λ (x : Dart). x.1) (dart_at map e) ≡ Some w → (follows map.lists b a ≡ w) × HasDart map.lists b w
-  third_is d e a b w is step head =
-      let same : follows map.lists b a ≡ w = cc in
-      (same, subst (λ (x : ℕ). HasDart map.lists b x) same (h.is_dart e b (follows map.lists b a) (step ∙ ap (option_map (face_step map.lists)) is)))
-
   module _ (c : IsTriangulation map.lists) (base d second third : ℕ) (live : IsLive map base) (live' : IsLive map d) (step : dart_at map second ≡ option_map (face_step map.lists) (dart_at map base)) (step' : dart_at map third ≡ option_map (face_step map.lists) (dart_at map second)) where
     abbrev b : Dart
     b = dart_of map base

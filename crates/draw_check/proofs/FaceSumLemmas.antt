@@ -16,7 +16,7 @@ use Rattle.euler_faces.specs.FaceWalks.{walk_at, first_number, AreFaces}
 use Rattle.euler_faces.proofs.NumberLemmas.{number_at-is, number_at-lt, few_darts, live_from}
 use Rattle.pg_plane.specs.declared.grid_points.Point.{Point}
 use Rattle.pg_plane.specs.Range.{IsWithin}
-use Rattle.draw_check.specs.Loops.{IsDrawn}
+use Rattle.plane_drawings.specs.Drawing.{HasPlaces}
 use Rattle.vertex_rounds.specs.Rounds.{dart_of}
 use Rattle.draw_check.specs.Outer.{swept, sum_over, face_sum, IsInside, HasOuterFace}
 use Rattle.draw_check.specs.FaceSums.{is_on_walk, AreSumsBelow, HasLowSum}
@@ -69,10 +69,10 @@ module _ (map : Map) (h : IsHalfMap map) (walks : List (List ℕ)) (faces : AreF
         }
 
     -- the sums stay small
-    pub sum-within : IsDrawn map points → (f : ℕ) → f < length walks → IsWithin (pos 36893488147419103232) (get_or sums f (pos 0))
-    sum-within drawn f l =
+    pub sum-within : HasPlaces map.lists points → (f : ℕ) → f < length walks → IsWithin (pos 36893488147419103232) (get_or sums f (pos 0))
+    sum-within places f l =
         let ds = darts map.lists in
-        let b = sum_over-within (is_on_walk map (walk_at walks f)) (swept points) (take k ds) (swept-within points drawn.places.in_range) in
+        let b = sum_over-within (is_on_walk map (walk_at walks f)) (swept points) (take k ds) (swept-within points places.in_range) in
         let n : length (take k ds) ≤ 16769025 = omega (arith, length-darts map.lists, few_darts map h, length-take {A = Dart} k ds) in
         let e = s.each f l in
         record { least = omega (arith, ints); most = omega (arith, ints) }

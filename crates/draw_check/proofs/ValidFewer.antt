@@ -12,7 +12,7 @@ use Rattle.pg_plane.specs.Geometry.{vector, IsClockBefore}
 use Rattle.plane_drawings.specs.Drawing.{place, GoesOnceRound, IsPlaneDrawing, KeepsRotations}
 use Rattle.draw_check.specs.Laws.{IsValid}
 use Rattle.pg_plane.proofs.ClockOrder.{clock_cases, clock_apart, clock_chained}
-use Rattle.plane_laws.proofs.RoundOrder.{sorted_from_once, once_from_sorted, sorted_kept}
+use Rattle.map_theory.proofs.RoundOrder.{sorted_from_once, once_from_sorted, sorted_kept}
 
 module _ (lists more : Lists) (points : List Point) (simple : IsSimpleMap lists) (simple' : IsSimpleMap more) (h : IsExtended lists more) where
   -- a dart stays

@@ -1,17 +1,11 @@
 -- What may be wrong with a drawing, and where.
-use Rattle.std.specs.Prelude.{ℕ, ◌<◌, ◌≤◌, ◌≡◌, ◌≢◌, List, length, ℤ}
+use Rattle.std.specs.Prelude.{ℕ, ◌<◌, ◌≤◌, ◌≢◌, List, length, ℤ}
 use Rattle.map_lists.specs.Lists.{Lists}
 use Rattle.map_theory.specs.Maps.{list_of}
 use Rattle.pg_plane.specs.declared.grid_points.Point.{Point}
 use Rattle.pg_plane.specs.Geometry.{IsOnSegment, DoCross}
-use Rattle.pg_plane.specs.Range.{IsInRange}
 use Rattle.plane_drawings.specs.Drawing.{place, IsInGrid, GoesOnceRound}
 use Rattle.vertex_rounds.specs.Rounds.{HasEdge, ComesBefore}
-
--- a point for each vertex, within the range of coordinates
-pub record HasPlaces (lists : Lists) (points : List Point) : Type 0 where
-  pub count : length points ≡ length lists
-  pub in_range : (v : ℕ) → v < length points → IsInRange (place points v)
 
 -- vertex v lies outside the grid
 pub record LeavesGrid (lists : Lists) (points : List Point) (width height : ℤ) (v : ℕ) : Type 0 where

@@ -1,19 +1,13 @@
 -- What the loops of a check go over: edges that something meets, entries of lists, and breaks.
 use Rattle.std.specs.Prelude.{ℕ, ◌<◌, ◌≤◌, ◌≢◌, List}
 use Rattle.map_lists.specs.Lists.{Lists}
-use Rattle.half_edges.specs.Map.{Map, IsHalfMap}
 use Rattle.pg_plane.specs.declared.grid_points.Point.{Point}
 use Rattle.pg_plane.specs.Geometry.{IsOnSegment, DoCross}
 use Rattle.plane_drawings.specs.Drawing.{place, IsBreak}
-use Rattle.draw_check.specs.Faults.{HasPlaces, EdgesCross}
+use Rattle.draw_check.specs.Faults.{EdgesCross}
 use Rattle.vertex_rounds.specs.Rounds.{HasEdge}
 use Rattle.draw_check.specs.declared.edge_meetings.Probe.{Probe}
 use Rattle.draw_check.specs.declared.edge_meetings.Probe.TheVariants.{Vertex, Edge}
-
--- a half-edge map, and a point for each vertex
-pub record IsDrawn (map : Map) (points : List Point) : Type 0 where
-  pub known : IsHalfMap map
-  pub places : HasPlaces map.lists points
 
 -- the vertices of a probe are below n
 abbrev pub IsProbeBelow : ℕ → Probe → Type 0

@@ -2,8 +2,7 @@
 ghost use Rattle.std.specs.Prelude.{◌<◌, ◌↔◌, ℕ, length, IsTrue, MatchBool, pos, ◌<ℤ◌};
 ghost use Rattle.pg_plane.specs.Geometry.{area};
 ghost use Rattle.pg_plane.specs.Range.{IsInRange};
-ghost use Rattle.plane_drawings.specs.Drawing.{place};
-ghost use Rattle.draw_check.specs.Faults.{HasPlaces};
+ghost use Rattle.plane_drawings.specs.Drawing.{place, HasPlaces};
 
 use crate::vertex_points::place_at;
 use half_edges::{HalfMap, VertexId};

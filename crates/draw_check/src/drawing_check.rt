@@ -1,8 +1,7 @@
 //! The public calls `check` and `check_points`, which find the first fault of a straight-line drawing.
 ghost use Rattle.std.specs.Prelude.{IfSome, MatchOption, ℤ};
-ghost use Rattle.plane_drawings.specs.Drawing.{IsPlaneDrawing};
+ghost use Rattle.plane_drawings.specs.Drawing.{IsPlaneDrawing, HasPlaces};
 ghost use Rattle.plane_drawings.specs.SweepCheckLines.{firm_lists};
-ghost use Rattle.draw_check.specs.Faults.{HasPlaces};
 ghost use Rattle.draw_check.specs.Verdicts.{AllInGrid, NoneShareAPlace, NoneOnEdge, NoneCross, IsVerdict};
 
 use crate::Verdict;

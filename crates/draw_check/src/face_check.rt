@@ -4,7 +4,7 @@ ghost use Rattle.map_theory.specs.Maps.{IsPlane, vertex_count, edge_count};
 ghost use Rattle.map_theory.specs.Paths.{SameFace};
 ghost use Rattle.half_edges.specs.Map.{IsLive, first_dart};
 ghost use Rattle.plane_laws.specs.Triangulations.{IsTriangulation};
-ghost use Rattle.draw_check.specs.Faults.{HasPlaces};
+ghost use Rattle.plane_drawings.specs.Drawing.{HasPlaces};
 ghost use Rattle.vertex_rounds.specs.Rounds.{HoldsAt};
 ghost use Rattle.draw_check.specs.FaceVerdicts.{IsWrongFrom, IsFaceVerdict};
 ghost use Rattle.vertex_rounds.specs.Rounds.{dart_of};

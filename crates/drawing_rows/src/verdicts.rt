@@ -1,6 +1,6 @@
 //! Answers test rows on verdicts on straight-line and convex drawings.
 ghost use Rattle.std.specs.Prelude.{IfSome, All};
-ghost use Rattle.draw_check.specs.Faults.{HasPlaces};
+ghost use Rattle.plane_drawings.specs.Drawing.{HasPlaces};
 ghost use Rattle.pg_plane.specs.Range.{IsInRange};
 ghost use Rattle.plane_laws.specs.Triangulations.{IsTriangulation};
 

@@ -4,9 +4,8 @@ use Rattle.std.proofs.lemmas.Bool.{cases_Bool, cases_eq, true≢false, eq-eqb, n
 use Rattle.classes.specs.Classes.{count_below, same_class}
 use Rattle.classes.proofs.Counting.{count_below-le, count_below_weaker}
 use Rattle.map_lists.specs.Lists.{Lists}
-use Rattle.map_theory.specs.Maps.{list_of, HasDart, IsSimpleMap, component_classes}
+use Rattle.map_theory.specs.Maps.{list_of, HasDart, IsSimpleMap, component_classes, SameComponent}
 use Rattle.map_theory.proofs.EntryLemmas.{Contains-here, Contains-there}
-use Rattle.plane_laws.specs.Laws.{SameComponent}
 use Rattle.plane_peeling.proofs.Rings.{each_of_two, each_of_three}
 use Rattle.plane_peeling.proofs.RestrictedMaps.{cases_Contains}
 use Rattle.embed_contraction.specs.Linked.{outside, without_vertices, HasEdge, IsThreeLinked, IsContractible, ContractibleEdge}

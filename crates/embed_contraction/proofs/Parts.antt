@@ -6,10 +6,9 @@ use Rattle.classes.specs.Classes.{count_below, same_class}
 use Rattle.classes.proofs.Counting.{count_below_more}
 use Rattle.classes.proofs.Classes.{Together-from, same_class-from}
 use Rattle.map_lists.specs.Lists.{Lists}
-use Rattle.map_theory.specs.Maps.{list_of, HasDart, IsSimpleMap, component_classes}
+use Rattle.map_theory.specs.Maps.{list_of, HasDart, IsSimpleMap, component_classes, SameComponent}
 use Rattle.map_theory.proofs.EntryLemmas.{Contains-from_list_any, list_any-from_Contains}
 use Rattle.map_theory.proofs.DartPermutations.{dart_of, dart_of-number, dart_of-twin, components-marked, edge_together}
-use Rattle.plane_laws.specs.Laws.{SameComponent}
 use Rattle.plane_peeling.proofs.RestrictedMaps.{cases_Contains, restricted-map, restricted-old, restricted-new, length-restricted}
 use Rattle.embed_contraction.specs.Linked.{outside, without_vertices, HasEdge, IsLinkedWithout}
 

@@ -2,8 +2,7 @@
 use Rattle.std.specs.Prelude.{ℕ, ◌≢◌, ◌==◌, not, Bool, List, [], ◌∷◌, Contains}
 use Rattle.std.specs.List.{list_any}
 use Rattle.map_lists.specs.Lists.{Lists}
-use Rattle.map_theory.specs.Maps.{HasDart, IsSimpleMap}
-use Rattle.plane_laws.specs.Laws.{SameComponent}
+use Rattle.map_theory.specs.Maps.{HasDart, IsSimpleMap, SameComponent}
 use Rattle.plane_peeling.specs.Restricted.{restricted}
 
 -- all vertices but those of a list

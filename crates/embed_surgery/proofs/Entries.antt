@@ -7,7 +7,7 @@ use Rattle.map_theory.specs.Maps.{entry_after, place_of, HasDart, IsSimpleMap, I
 use Rattle.map_theory.proofs.DartLemmas.{place_of-lt-length, get_or-place_of, place_of-get_or, place_of-here}
 use Rattle.map_theory.specs.Paths.{from_entry}
 use Rattle.map_theory.proofs.EntryLemmas.{AllPairs-left, AllPairs-right, AllPairs-append, AllPairs-tail, head_apart, Contains-here, Contains-there, Contains-cons_cases}
-use Rattle.plane_laws.proofs.ArcLemmas.{from_entry-first, length-from_entry}
+use Rattle.map_theory.proofs.ArcLemmas.{from_entry-first, length-from_entry}
 use Rattle.embed_surgery.proofs.Turned.{Contains-turned, AllPairs-turned, entry_after-turned}
 use Rattle.std.specs.Prelude.{◌↔◌, ◌==◌, if◌then◌else◌, map}
 use Rattle.std.specs.List.{range_with_len}

@@ -9,7 +9,7 @@ use Rattle.map_lists.specs.Lists.{Lists}
 use Rattle.map_theory.specs.Maps.{Dart, list_of, HasDart, IsSimpleMap, follows, dart_number, dart_count, face_step, IsPlane, entry_after}
 use Rattle.map_theory.proofs.DartLemmas.{dart_number-lt, get_or-dart_number, HasDart-follows, Contains-entry_after, entry_after-injective}
 use Rattle.map_theory.proofs.DartPermutations.{dart_of, dart_of-number, rotation, twin, IsPermuting-rotation, IsPairing-twin}
-use Rattle.plane_laws.proofs.ArcLemmas.{arc-first}
+use Rattle.map_theory.proofs.ArcLemmas.{arc-first}
 use Rattle.plane_laws.proofs.CornerSplit.{corner_split}
 use Rattle.plane_laws.proofs.DartPaths.{dart_of-face_step, face_step_together, same_face}
 use Rattle.plane_laws.specs.Kept.{IsKeptMap}

@@ -7,14 +7,13 @@ use Rattle.std.proofs.lemmas.List.{append_assoc}
 use Rattle.std.proofs.lemmas.List.Elements.{Contains-append_cases, Contains-append_left, Contains-append_right}
 use Rattle.classes.proofs.Classes.{Together-from}
 use Rattle.map_lists.specs.Lists.{Lists}
-use Rattle.map_theory.specs.Maps.{list_of, HasDart, IsSimpleMap, IsPlane, follows, entry_after, dart_number, place_of, is_empty_list, component_classes}
+use Rattle.map_theory.specs.Maps.{list_of, HasDart, IsSimpleMap, IsPlane, follows, entry_after, dart_number, place_of, is_empty_list, component_classes, SameComponent}
 use Rattle.map_theory.specs.Paths.{SameFace}
 use Rattle.map_theory.proofs.DartLemmas.{dart_number-lt, entry_after-injective, Contains-entry_after, place_of-lt-length}
 use Rattle.map_theory.proofs.EntryLemmas.{Contains-here, Contains-there, Contains-cons_cases, head_apart, AllPairs-tail, AllPairs-left, AllPairs-right, parts_apart}
 use Rattle.map_theory.proofs.WithoutEdge.{length-without_edge, follows_same}
 use Rattle.map_theory.specs.Edges.{without_edge}
 use Rattle.map_theory.proofs.DartPermutations.{twin, IsPairing-twin, has_edge, has_edge-tail, components-marked}
-use Rattle.plane_laws.specs.Laws.{SameComponent}
 use Rattle.plane_laws.proofs.DartPaths.{tail_of-number, same_face, same_face-step}
 use Rattle.plane_laws.specs.WithEdge.{with_edge_at, with_edge_after}
 use Rattle.plane_laws.proofs.InsertedEntry.{entry_after-put}

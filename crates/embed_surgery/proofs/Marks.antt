@@ -7,12 +7,11 @@ use Rattle.classes.proofs.Classes.{Together, IsLabels, label-lt, Together-from}
 use Rattle.classes.proofs.Orbits.{orbits_of, length-orbits_of, IsLabels-orbits_of, orbits_of-marked}
 use Rattle.classes.proofs.Bound.{after, length-joint, IsPermuting-pairing, IsPermuting-after}
 use Rattle.map_lists.specs.Lists.{Lists}
-use Rattle.map_theory.specs.Maps.{Dart, HasDart, IsSimpleMap, dart_number, dart_count, face_step, component_classes, face_count, isolated_count, component_count, IsPlane, vertex_count, edge_count}
+use Rattle.map_theory.specs.Maps.{Dart, HasDart, IsSimpleMap, dart_number, dart_count, face_step, component_classes, face_count, isolated_count, component_count, IsPlane, vertex_count, edge_count, SameComponent}
 use Rattle.map_theory.proofs.DartLemmas.{dart_number-lt, get_or-dart_number}
 use Rattle.map_theory.proofs.DartPermutations.{dart_of, tail_of, dart_of-number, rotation, twin, IsPermuting-rotation, IsPairing-twin, face_count-orbits, dart_classes, class_of_component, component_count-classes, euler_bound_map}
 use Rattle.plane_laws.proofs.DartPaths.{dart_of-face_step}
 use Rattle.std.specs.Prelude.{◌+◌, ◌*◌}
-use Rattle.plane_laws.specs.Laws.{SameComponent}
 
 -- the mark is one along each face step
 abbrev pub KeepsFaces : Lists → (Dart → ℕ) → Type 0

@@ -2,10 +2,9 @@
 use Rattle.std.proofs.Common.{◌≡◌, ◌≢◌, ◌⊎◌, ℕ, ◌<◌, Bool, true, false, List, [], ◌∷◌, length, get_or, AllPairs, Contains, refl, sym, ap, ◌∙◌, subst, inl, inr, arith}
 use Rattle.std.proofs.lemmas.Bool.{cases_eq, cases_lt, false≢true}
 use Rattle.map_lists.specs.Lists.{Lists}
-use Rattle.map_theory.specs.Maps.{Dart, list_of, HasDart, IsSimpleMap, IsPlane, dart_count, entry_after, follows}
+use Rattle.map_theory.specs.Maps.{Dart, list_of, HasDart, IsSimpleMap, IsPlane, dart_count, entry_after, follows, SameComponent}
 use Rattle.map_theory.proofs.EntryLemmas.{Contains-here, Contains-there}
 use Rattle.map_theory.proofs.DartPermutations.{two_m, dart_of, dart_of-number, vertex_count-orbits}
-use Rattle.plane_laws.specs.Laws.{SameComponent}
 use Rattle.plane_laws.specs.Kept.{with_kept, IsKeptMap}
 use Rattle.plane_laws.specs.WithEdge.{with_edge_at, IsEdgeMore}
 use Rattle.plane_laws.proofs.KeptEdges.{kept_edges, length-with_kept}

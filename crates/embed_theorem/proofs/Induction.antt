@@ -3,8 +3,7 @@ use Rattle.std.proofs.Common.{◌≡◌, ◌≢◌, ◌⊎◌, ℕ, zero, suc, �
 use Rattle.std.proofs.lemmas.Bool.{cases_lt, cond-true, cond-false}
 use Rattle.classes.specs.Classes.{same_class}
 use Rattle.map_lists.specs.Lists.{Lists}
-use Rattle.map_theory.specs.Maps.{HasDart, IsSimpleMap, component_classes}
-use Rattle.plane_laws.specs.Laws.{SameComponent}
+use Rattle.map_theory.specs.Maps.{HasDart, IsSimpleMap, component_classes, SameComponent}
 use Rattle.plane_peeling.proofs.Rings.{each_of_two, each_of_three}
 use Rattle.plane_peeling.proofs.RestrictedMaps.{cases_Contains}
 use Rattle.graph6_text.specs.Graphs.{has_edge}

@@ -3,10 +3,10 @@ use Rattle.std.proofs.Common.{◌≡◌, ◌≢◌, ◌⊎◌, ℕ, suc, ◌-◌
 use Rattle.std.proofs.lemmas.Bool.{cases_Bool, cases_eq, cases_lt, eqb-true, eq-eqb, true≢false}
 use Rattle.std.proofs.lemmas.List.{get_or_default}
 use Rattle.map_lists.specs.Lists.{Lists}
-use Rattle.map_theory.specs.Maps.{list_of, HasDart, IsSimpleMap, follows, entry_after}
+use Rattle.map_theory.specs.Maps.{list_of, HasDart, IsSimpleMap, follows, entry_after, SameComponent}
 use Rattle.map_theory.specs.Paths.{JoinsAvoiding}
 use Rattle.map_theory.proofs.EntryLemmas.{Contains-cons_cases}
-use Rattle.plane_laws.specs.Laws.{AreJoined, SameComponent}
+use Rattle.plane_laws.specs.Laws.{AreJoined}
 use Rattle.plane_laws.proofs.ComponentPaths.{components_are_paths}
 use Rattle.plane_peeling.proofs.Rings.{each_of_two, entries_closed}
 use Rattle.plane_peeling.proofs.RestrictedMaps.{cases_Contains}

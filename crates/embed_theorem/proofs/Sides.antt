@@ -2,11 +2,10 @@
 use Rattle.std.proofs.Common.{◌≡◌, ◌≢◌, ◌⊎◌, ℕ, ◌<◌, true, eqb, List, [], ◌∷◌, length, Contains, refl, sym, ◌∙◌, subst, inl, inr, arith}
 use Rattle.std.proofs.lemmas.Bool.{cases_Bool, eq-eqb, eqb-true}
 use Rattle.map_lists.specs.Lists.{Lists}
-use Rattle.map_theory.specs.Maps.{list_of, HasDart, IsSimpleMap}
+use Rattle.map_theory.specs.Maps.{list_of, HasDart, IsSimpleMap, SameComponent}
 use Rattle.map_theory.specs.Edges.{without_edge}
 use Rattle.map_theory.proofs.EntryLemmas.{Contains-cons_cases}
 use Rattle.map_theory.proofs.WithoutEdge.{length-without_edge, IsSimpleMap-without_edge, dart_old, dart_new}
-use Rattle.plane_laws.specs.Laws.{SameComponent}
 use Rattle.plane_laws.proofs.EdgeRemoved.{edge_removed_plane}
 use Rattle.plane_laws.specs.WithEdge.{with_edge_at}
 use Rattle.plane_laws.proofs.WithEdge.{with_edge, length-new}

@@ -4,9 +4,8 @@ use Rattle.std.proofs.lemmas.Bool.{cases_Bool, cases_eq, cases_lt, true≢false,
 use Rattle.classes.specs.Classes.{label, same_class}
 use Rattle.classes.proofs.Classes.{Together-from, label_past, label-lt, length-classes}
 use Rattle.map_lists.specs.Lists.{Lists}
-use Rattle.map_theory.specs.Maps.{HasDart, IsSimpleMap, darts, component_classes}
+use Rattle.map_theory.specs.Maps.{HasDart, IsSimpleMap, darts, component_classes, SameComponent}
 use Rattle.map_theory.proofs.DartPermutations.{IsLabels-components, edge_together}
-use Rattle.plane_laws.specs.Laws.{SameComponent}
 use Rattle.plane_laws.specs.Kept.{with_kept, IsKeptMap}
 use Rattle.plane_laws.proofs.KeptEdges.{kept_edges, length-with_kept}
 use Rattle.plane_peeling.proofs.Rings.{each_of_two}

@@ -6,10 +6,9 @@ use Rattle.std.proofs.lemmas.List.Elements.{Contains-get_or}
 use Rattle.classes.specs.Classes.{same_class}
 use Rattle.classes.proofs.Classes.{same_class-from}
 use Rattle.map_lists.specs.Lists.{Lists}
-use Rattle.map_theory.specs.Maps.{HasDart, IsSimpleMap, component_classes, component_count}
+use Rattle.map_theory.specs.Maps.{HasDart, IsSimpleMap, component_classes, component_count, SameComponent}
 use Rattle.map_theory.specs.Paths.{JoinsAvoiding}
 use Rattle.map_theory.proofs.DartPermutations.{edge_together}
-use Rattle.plane_laws.specs.Laws.{SameComponent}
 use Rattle.plane_laws.proofs.ComponentPaths.{components_are_paths, JoinsAvoiding-fewer}
 use Rattle.plane_peeling.proofs.Counted.{marks_everywhere}
 use Rattle.embed_contraction.specs.Linked.{without_vertices, HasEdge, IsLinkedWithout}

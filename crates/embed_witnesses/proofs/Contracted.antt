@@ -6,10 +6,9 @@ use Rattle.std.proofs.lemmas.Bool.Decides.{nat_tests}
 use Rattle.std.proofs.lemmas.List.FromFn.{length-range_with_len, get_or-range_with_len, get_or-map-range_with_len}
 use Rattle.classes.specs.Classes.{same_class}
 use Rattle.map_lists.specs.Lists.{Lists}
-use Rattle.map_theory.specs.Maps.{HasDart, IsSimpleMap, component_classes, component_count, list_of}
+use Rattle.map_theory.specs.Maps.{HasDart, IsSimpleMap, component_classes, component_count, list_of, SameComponent}
 use Rattle.map_theory.specs.Paths.{JoinsAvoiding}
 use Rattle.map_theory.proofs.EntryLemmas.{Contains-filter, Contains-from_filter}
-use Rattle.plane_laws.specs.Laws.{SameComponent}
 use Rattle.plane_laws.proofs.ComponentPaths.{components_are_paths}
 use Rattle.plane_laws.proofs.Completions.{one_component}
 use Rattle.graph6_text.specs.Graphs.{EdgeGraph, IsGraph, has_edge}

@@ -2,9 +2,8 @@
 use Rattle.std.proofs.Common.{◌≡◌, ◌⊎◌, ℕ, ◌<◌, ◌≤◌, List, [], ◌∷◌, length, Contains, get_or, refl, sym, ◌∙◌, subst, inl, inr, arith}
 use Rattle.std.proofs.lemmas.Bool.{cases_eq, cases_lt}
 use Rattle.map_lists.specs.Lists.{Lists}
-use Rattle.map_theory.specs.Maps.{IsSimpleMap, component_count}
+use Rattle.map_theory.specs.Maps.{IsSimpleMap, component_count, SameComponent}
 use Rattle.graph_search.specs.Cuts.{AreSeparated}
-use Rattle.plane_laws.specs.Laws.{SameComponent}
 use Rattle.plane_laws.proofs.ComponentPaths.{components_are_paths}
 use Rattle.convex_peeling.specs.Polyhedral.{IsThreeConnected}
 use Rattle.plane_peeling.proofs.Rings.{each_of_two, each_of_three}

@@ -7,7 +7,7 @@ ghost use Rattle.simple_maps.specs.Faults.{first_fault};
 ghost use Rattle.plane_laws.specs.Triangulations.{IsTriangulation};
 ghost use Rattle.conn_parts.specs.Counted.{IsCountOf};
 ghost use Rattle.line_inputs.specs.Given.{IsGivenGrid};
-ghost use Rattle.draw_check.specs.Faults.{HasPlaces};
+ghost use Rattle.plane_drawings.specs.Drawing.{HasPlaces};
 ghost use Rattle.draw_check.specs.Verdicts.{IsVerdict};
 ghost use Rattle.figure_verdicts.specs.Verdicts.{IsDrawnVerdict};
 ghost use Rattle.figure_verdicts.specs.declared.verdict.FigureVerdict.TheVariants.{Yes as FigureYes};

@@ -2,5 +2,5 @@
 #![tactic(auto)]
 
 pub mod longest_paths;
-pub mod map_cuts;
+pub mod list_cuts;
 pub mod search_forests;

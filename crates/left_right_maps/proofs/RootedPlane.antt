@@ -6,8 +6,8 @@ use Rattle.std.proofs.lemmas.Bool.{cases_Bool, cases_eq, cond-true, cond-false, 
 use Rattle.classes.specs.Classes.{count_below}
 use Rattle.classes.proofs.Counting.{count_below_into, count_below_all, count_below_but_two, one_if}
 use Rattle.map_lists.specs.Lists.{Lists}
-use Rattle.map_theory.specs.Maps.{Dart, HasDart, IsPlane, dart_count, component_count}
-use Rattle.plane_laws.specs.Laws.{SameComponent, AreJoined}
+use Rattle.map_theory.specs.Maps.{Dart, HasDart, IsPlane, dart_count, component_count, SameComponent}
+use Rattle.plane_laws.specs.Laws.{AreJoined}
 use Rattle.plane_laws.proofs.ComponentPaths.{JoinsAvoiding-itself, JoinsAvoiding-more, components_are_paths}
 use Rattle.plane_laws.proofs.Completions.{one_component}
 use Rattle.left_right_laws.specs.Tours.{AreNested, IsTour}

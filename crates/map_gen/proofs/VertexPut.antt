@@ -5,13 +5,12 @@ use Rattle.std.proofs.lemmas.Bool.{cases_eq}
 use Rattle.std.proofs.lemmas.List.{ext_get_or}
 use Rattle.classes.proofs.Classes.{Together-from, same_class-from}
 use Rattle.map_lists.specs.Lists.{Lists}
-use Rattle.map_theory.specs.Maps.{list_of, place_of, HasDart, IsSimpleMap, IsPlane, follows, entry_after, edge_count, component_classes, is_empty_list, face_classes, dart_number}
+use Rattle.map_theory.specs.Maps.{list_of, place_of, HasDart, IsSimpleMap, IsPlane, follows, entry_after, edge_count, component_classes, is_empty_list, face_classes, dart_number, SameComponent}
 use Rattle.map_theory.specs.Paths.{SameFace}
 use Rattle.map_theory.proofs.DartLemmas.{place_of-lt-length, place_of-here, place_of-there, entry_after-injective, HasDart-follows}
 use Rattle.map_theory.proofs.EntryLemmas.{Contains-cons_cases}
 use Rattle.map_theory.proofs.WithoutEntry.{entry_after-without}
 use Rattle.map_theory.proofs.DartPermutations.{IsLabels-components, isolated_alone}
-use Rattle.plane_laws.specs.Laws.{SameComponent}
 use Rattle.plane_laws.proofs.DartPaths.{same_face-step}
 use Rattle.plane_laws.specs.WithEdge.{with_edge_at, with_edge_after, IsEdgeMore}
 use Rattle.plane_laws.proofs.InsertedEntry.{insert-distinct, insert-new, insert-kept, without-insert, entry_after-insert, entry_after-put}

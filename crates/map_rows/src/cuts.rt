@@ -1,5 +1,5 @@
 //! Test rows on cut vertices and separating pairs of a map.
-use graph_search::map_cuts::{cut_vertex, separating_pair};
+use conn_parts::{cut_vertex, separating_pair};
 use half_edges::HalfMap;
 use row_texts::fault_texts::{put_pair, put_vertex};
 use row_texts::reply::Reply;

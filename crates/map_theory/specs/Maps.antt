@@ -1,7 +1,7 @@
 -- Plane maps as lists: for each vertex, its neighbours in clockwise order. Vertices are numbered from 0.
 use Rattle.std.specs.Prelude.{ℕ, zero, suc, ◌+◌, ◌-◌, ◌*◌, ◌/◌, ◌<◌, ◌≡◌, ◌≢◌, Bool, true, false, ◌&&◌, ◌==◌, if◌then◌else◌, List, [], ◌∷◌, ◌++◌, map, length, slice_index_or, AllPairs, Contains, sum_by, count_by}
 use Rattle.map_lists.specs.Lists.{Lists}
-use Rattle.classes.specs.Classes.{classes, class_count, orbits}
+use Rattle.classes.specs.Classes.{classes, class_count, same_class, orbits}
 
 -- a dart: an edge with a direction, from the first vertex to the second
 abbrev pub Dart : Type 0
@@ -103,6 +103,10 @@ face_count lists = class_count (face_classes lists) + isolated_count lists
 -- the components: each vertex is labelled by the least vertex of its component
 abbrev pub component_classes : Lists → List ℕ
 component_classes lists = classes (length lists) (darts lists)
+
+-- u and v are in one of the classes that count components
+abbrev pub SameComponent : Lists → ℕ → ℕ → Type 0
+SameComponent lists u v = same_class (component_classes lists) u v ≡ true
 
 -- c: the classes of vertices under "joined by a path"
 unfoldable pub component_count : Lists → ℕ

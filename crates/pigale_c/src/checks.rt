@@ -2,7 +2,7 @@
 ghost use Rattle.std.specs.Prelude.{◌≡◌, Some, None, IfOk, IfErr};
 ghost use Rattle.simple_maps.specs.Faults.{first_fault};
 ghost use Rattle.refusals.specs.Conditions.{fault_refusal};
-ghost use Rattle.draw_check.specs.Faults.{HasPlaces};
+ghost use Rattle.plane_drawings.specs.Drawing.{HasPlaces};
 ghost use Rattle.pigale_c.specs.Arrays.{lists_in, points_in, IsGivenDrawing};
 ghost use Rattle.pigale_c.specs.Judged.{IsBendVerdict, IsJudged, IsJudgedConvex};
 ghost use Rattle.pigale_c.specs.Failures.{Fails};

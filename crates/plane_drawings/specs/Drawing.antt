@@ -4,11 +4,17 @@ use Rattle.map_lists.specs.Lists.{Lists}
 use Rattle.map_theory.specs.Maps.{Dart, HasDart, list_of, follows}
 use Rattle.map_theory.specs.Paths.{SameFace}
 use Rattle.pg_plane.specs.declared.grid_points.Point.{Point}
+use Rattle.pg_plane.specs.Range.{IsInRange}
 use Rattle.pg_plane.specs.Geometry.{vector, area, IsOnSegment, DoCross, IsClockBefore}
 
 -- the place of a vertex
 abbrev pub place : List Point → ℕ → Point
 place points v = slice_index_or points v (record { x = pos 0; y = pos 0 })
+
+-- a point for each vertex, within the range of coordinates
+pub record HasPlaces (lists : Lists) (points : List Point) : Type 0 where
+  pub count : length points ≡ length lists
+  pub in_range : (v : ℕ) → v < length points → IsInRange (place points v)
 
 -- a point of the grid from (0, 0) to (width, height)
 pub record IsInGrid (width height : ℤ) (p : Point) : Type 0 where

@@ -15,7 +15,7 @@ use Rattle.map_theory.proofs.EntryLemmas.{Contains-cons_cases, Contains-from_lis
 use Rattle.map_theory.proofs.DartLemmas.{HasDart-follows, HasDart-face_step, entry_after-injective}
 use Rattle.map_theory.proofs.DartPermutations.{rotation, twin}
 use Rattle.plane_laws.specs.Laws.{IsTriangle, side}
-use Rattle.plane_laws.proofs.ArcLemmas.{from_entry-first, from_entry-next, from_entry-not_first, from_entry-has, length-from_entry, arc-first, arc-last}
+use Rattle.map_theory.proofs.ArcLemmas.{from_entry-first, from_entry-next, from_entry-not_first, from_entry-has, length-from_entry, arc-first, arc-last}
 use Rattle.plane_laws.proofs.DartPaths.{face_step_together, same_face}
 use Rattle.plane_laws.proofs.ComponentPaths.{JoinsAvoiding-itself, JoinsAvoiding-more}
 use Rattle.plane_laws.proofs.CornerSplit.{corner_split}

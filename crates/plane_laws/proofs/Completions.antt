@@ -6,10 +6,10 @@ use Rattle.classes.proofs.Counting.{count_below_into}
 use Rattle.classes.proofs.Classes.{same_class-from, Together-from, length-classes}
 use Rattle.classes.proofs.Bound.{after}
 use Rattle.map_lists.specs.Lists.{Lists}
-use Rattle.map_theory.specs.Maps.{darts, list_of, place_of, HasDart, IsSimpleMap, IsPlane, follows, dart_number, dart_count, edge_count, vertex_count, component_count, component_classes}
+use Rattle.map_theory.specs.Maps.{darts, list_of, place_of, HasDart, IsSimpleMap, IsPlane, follows, dart_number, dart_count, edge_count, vertex_count, component_count, component_classes, SameComponent}
 use Rattle.map_theory.proofs.DartLemmas.{place_of-lt-length, dart_number-lt, HasDart-follows}
 use Rattle.map_theory.proofs.DartPermutations.{dart_of, rotation, twin, dart_of-number, IsLabels-components, edge_together}
-use Rattle.plane_laws.specs.Laws.{IsTriangle, SameComponent}
+use Rattle.plane_laws.specs.Laws.{IsTriangle}
 use Rattle.plane_laws.proofs.DartPaths.{corner_of, before_dart}
 use Rattle.plane_laws.proofs.EdgeBound.{edge_bound}
 use Rattle.plane_laws.proofs.Triangles.{IsTriangle-number, number-IsTriangle, edge_bound_met}

@@ -12,7 +12,7 @@ use Rattle.map_theory.specs.Paths.{IsPath, JoinsAvoiding, SameFace, arc, from_en
 use Rattle.map_theory.proofs.DartLemmas.{dart_number-lt, get_or-dart_number, dart_number-injective, HasDart-follows, HasDart-face_step}
 use Rattle.map_theory.proofs.DartPermutations.{dart_of, dart_of-number, tail_of, turned_dart, rotation, twin, IsPermuting-rotation, IsPairing-twin, tail_of-rotation, orbits-face_images}
 use Rattle.plane_laws.proofs.PlaneCuts.{image_of_some}
-use Rattle.plane_laws.proofs.ArcLemmas.{from_entry-first, from_entry-in, from_entry-next, from_entry-not_first, from_entry-has, length-from_entry, before_end, arc-at}
+use Rattle.map_theory.proofs.ArcLemmas.{from_entry-first, from_entry-in, from_entry-next, from_entry-not_first, from_entry-has, length-from_entry, before_end, arc-at}
 
 -- the tail of a dart's number
 pub tail_of-number : (lists : Lists) (v u : ℕ) → HasDart lists v u → tail_of lists (dart_number lists (v, u)) ≡ v

@@ -15,7 +15,7 @@ use Rattle.classes.proofs.Bound.{joint, after}
 use Rattle.map_theory.proofs.DartPermutations.{tail_of, rotation, twin, IsPermuting-rotation, IsPairing-twin, same_orbit, same_vertex, balances_map, two_m}
 use Rattle.plane_laws.specs.Laws.{side, DigonSplit}
 use Rattle.plane_laws.proofs.PlaneCuts.{two_cuts_apart, swapped_commute, joint-same}
-use Rattle.plane_laws.proofs.ArcLemmas.{arc-itself, arc-first, arc-last, arc-wider, arc-longer}
+use Rattle.map_theory.proofs.ArcLemmas.{arc-itself, arc-first, arc-last, arc-wider, arc-longer}
 use Rattle.plane_laws.proofs.DartPaths.{arc_dart, before_dart, face_step_together, face_together, same_face, corner_of, numbers_apart, HoldsCut, HoldsCut-joint, arc_held, arcs_joined}
 use Rattle.plane_laws.proofs.ComponentPaths.{JoinsAvoiding-more, JoinsAvoiding-fewer}
 use Rattle.plane_laws.proofs.CornerSplit.{corner_split}

@@ -1,8 +1,6 @@
 -- The laws of maps of genus zero.
 pub mod PlaneCuts
 mod LawCases
-pub mod ArcLemmas
-pub mod RoundOrder
 pub mod DartPaths
 pub mod ComponentPaths
 pub mod CornerSplit

@@ -5,10 +5,9 @@ use Rattle.std.proofs.lemmas.Bool.{cases_eq}
 use Rattle.std.proofs.lemmas.List.{get_or_default, ext_get_or}
 use Rattle.classes.specs.Classes.{label}
 use Rattle.classes.proofs.Classes.{same_class-from}
-use Rattle.plane_laws.specs.Laws.{SameComponent}
+use Rattle.map_theory.specs.Maps.{SameComponent, list_of, place_of, HasDart, IsSimpleMap, IsPlane, follows, entry_after, component_classes}
 use Rattle.map_theory.proofs.DartPermutations.{edge_together}
 use Rattle.map_lists.specs.Lists.{Lists}
-use Rattle.map_theory.specs.Maps.{list_of, place_of, HasDart, IsSimpleMap, IsPlane, follows, entry_after, component_classes}
 use Rattle.map_theory.specs.Edges.{without_edge, without_entry}
 use Rattle.map_theory.specs.Paths.{SameFace}
 use Rattle.map_theory.proofs.DartLemmas.{entry_after-injective, place_of-lt-length, HasDart-follows}

@@ -1,10 +1,9 @@
 -- Edges put into maps of genus zero, said of the map with the edge; the map before is the one without it.
 use Rattle.std.specs.Prelude.{ℕ, ◌+◌, ◌≡◌, ◌≢◌}
 use Rattle.map_lists.specs.Lists.{Lists}
-use Rattle.map_theory.specs.Maps.{HasDart, IsSimpleMap, IsPlane, follows, face_count, component_count}
+use Rattle.map_theory.specs.Maps.{HasDart, IsSimpleMap, IsPlane, follows, face_count, component_count, SameComponent}
 use Rattle.map_theory.specs.Edges.{without_edge}
 use Rattle.map_theory.specs.Paths.{SameFace}
-use Rattle.plane_laws.specs.Laws.{SameComponent}
 
 -- with the edge: genus zero, one face more, and its two darts in different faces
 pub record IsSplitFace (old new : Lists) (u v : ℕ) : Type 0 where

@@ -1,14 +1,9 @@
 -- Laws of simple maps, and of those of genus zero.
 use Rattle.std.specs.Prelude.{ℕ, ◌+◌, ◌*◌, ◌<◌, ◌≤◌, ◌≡◌, ◌⊎◌, ◌↔◌, true, List, [], ◌∷◌, ◌++◌, ◌≢◌, Contains, length}
-use Rattle.classes.specs.Classes.{same_class}
 use Rattle.map_lists.specs.Lists.{Lists}
-use Rattle.map_theory.specs.Maps.{Dart, HasDart, IsSimpleMap, IsPlane, vertex_count, edge_count, component_count, component_classes, list_of, follows, face_step}
+use Rattle.map_theory.specs.Maps.{Dart, HasDart, IsSimpleMap, IsPlane, vertex_count, edge_count, component_count, SameComponent, list_of, follows, face_step}
 use Rattle.map_theory.specs.Edges.{without_edge}
 use Rattle.map_theory.specs.Paths.{JoinsAvoiding, arc, SameFace}
-
--- u and v are in one of the classes that count components
-abbrev pub SameComponent : Lists → ℕ → ℕ → Type 0
-SameComponent lists u v = same_class (component_classes lists) u v ≡ true
 
 -- a path joins u and v
 abbrev pub AreJoined : Lists → ℕ → ℕ → Type 0

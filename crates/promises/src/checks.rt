@@ -4,7 +4,7 @@ ghost use Rattle.bar_check.specs.Bars.{HasBars};
 ghost use Rattle.bar_check.specs.Verdicts.{IsBarVerdict};
 ghost use Rattle.convex_check.specs.Verdicts.{IsConvexVerdict};
 ghost use Rattle.draw_check.specs.FaceVerdicts.{IsFaceVerdict};
-ghost use Rattle.draw_check.specs.Faults.{HasPlaces};
+ghost use Rattle.plane_drawings.specs.Drawing.{HasPlaces};
 ghost use Rattle.draw_check.specs.Outer.{IsOuterVerdict};
 ghost use Rattle.draw_check.specs.Verdicts.{IsVerdict};
 ghost use Rattle.figure_verdicts.specs.Verdicts.{IsFigureVerdict};

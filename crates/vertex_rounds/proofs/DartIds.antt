@@ -1,7 +1,7 @@
 -- The dart of a live id.
 use Rattle.std.proofs.Common.{◌≡◌, ℕ, Option, Some, unwrap_or, sym, ap, subst, ◌∙◌}
 use Rattle.std.specs.Option.{option_map}
-use Rattle.map_theory.specs.Maps.{Dart, HasDart, follows}
+use Rattle.map_theory.specs.Maps.{Dart, HasDart, follows, face_step}
 use Rattle.map_theory.proofs.DartLemmas.{HasDart-follows}
 use Rattle.half_edges.specs.Map.{Map, IsHalfMap, IsLive, dart_at, next_dart}
 use Rattle.euler_faces.proofs.NumberLemmas.{some_of}
@@ -40,3 +40,10 @@ next_head map h d e w live step head =
     let t : Some (follows map.lists v u) ≡ Some w = sym (ap (option_map (λ (x : Dart). x.1)) to) ∙ head in
     let same : follows map.lists v u ≡ w = cc in
     (same, subst (λ (x : ℕ). HasDart map.lists v x) same (HasDart-follows map.lists v u (has_dart map h d live)))
+
+-- the head of the next dart along a face is what follows the dart's tail at its head
+pub face_next_head : (map : Map) → IsHalfMap map → (d e a b w : ℕ) → dart_at map d ≡ Some (a, b) → dart_at map e ≡ option_map (face_step map.lists) (dart_at map d) → option_map (λ (x : Dart). x.1) (dart_at map e) ≡ Some w
+    → (follows map.lists b a ≡ w) × HasDart map.lists b w
+face_next_head map h d e a b w is step head =
+    let same : follows map.lists b a ≡ w = cc in
+    (same, subst (λ (x : ℕ). HasDart map.lists b x) same (h.is_dart e b (follows map.lists b a) (step ∙ ap (option_map (face_step map.lists)) is)))

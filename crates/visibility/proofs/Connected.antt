@@ -4,9 +4,8 @@ use Rattle.std.specs.Prelude.{slice_index}
 use Rattle.std.proofs.lemmas.Bool.{cases_eq}
 use Rattle.classes.proofs.Classes.{same_class-from, Together-from}
 use Rattle.map_lists.specs.Lists.{Lists}
-use Rattle.map_theory.specs.Maps.{IsSimpleMap, component_count, component_classes}
+use Rattle.map_theory.specs.Maps.{IsSimpleMap, component_count, component_classes, SameComponent}
 use Rattle.map_theory.proofs.DartPermutations.{edge_together}
-use Rattle.plane_laws.specs.Laws.{SameComponent}
 use Rattle.plane_laws.proofs.Completions.{one_component}
 use Rattle.graph_search.specs.Forests.{Holds, IsForest, IsForestOf}
 use Rattle.graph_search.proofs.ForestLemmas.{same_vertex}

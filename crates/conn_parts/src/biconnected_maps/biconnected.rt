@@ -7,7 +7,7 @@ ghost use Rattle.conn_parts.specs.BiconnectedMaps.{IsBiconnectedMap, BreaksFirst
 ghost use Rattle.conn_parts.specs.Searched.{IsSearchOf, IsFirstSearch};
 
 use crate::CountedMaker;
-use graph_search::map_cuts::searched_cut_vertex;
+use graph_search::list_cuts::searched_cut_vertex;
 use graph_search::search_forests::{Forest, low_points, search_forest, search_forest_along};
 use half_edges::{HalfMap, Rotations, VertexId};
 use refusals::{Refusal, Unserved};

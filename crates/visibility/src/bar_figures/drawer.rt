@@ -16,7 +16,7 @@ use bipolar::dual_orders::{FaceTables, number_faces};
 use conn_parts::plane_count;
 use euler_faces::Counter;
 use graph_search::longest_paths::PathTables;
-use graph_search::map_cuts::{is_uncut, list_cut_vertex, searched_cut_vertex};
+use graph_search::list_cuts::{is_uncut, list_cut_vertex, searched_cut_vertex};
 use graph_search::search_forests::{Forest, SearchTables};
 use half_edges::{Rotations, VertexId};
 use pg_plane::{BarFigure, Ints};

@@ -1,9 +1,9 @@
 use Rattle.std.proofs.Common.{Some, None, rules, arith}
 use Rattle.vertex_rounds.specs.Rounds.{dart_of}
-use Rattle.vertex_rounds.proofs.DartIds.{has_dart}
+use Rattle.vertex_rounds.proofs.DartIds.{has_dart, face_next_head}
 use Rattle.vertex_rounds.proofs.FirstLemmas.{least_pair}
 use Rattle.draw_check.specs.FaceVerdicts.{IsWrongFrom}
-use Rattle.draw_check.proofs.FaceIds.{no_wrong_three, least_wrong_three, third_is}
+use Rattle.draw_check.proofs.FaceIds.{no_wrong_three, least_wrong_three}
 use Rattle.draw_check.proofs.FaceLemmas.{counterclockwise_from}
 use Rattle.draw_check.proofs.face_check.check_points_by_faces.Goals as goal
 
@@ -25,7 +25,7 @@ returns-in-Some-dart_of c =
     let first = least_pair map c.facts.ensures _ (IsWrongFrom map points base) 0 (Some (a, b)) c.in-Some-first_dart.ensures (λ d live late r s. search rules) (λ v u x. (omega arith, x.dart)) in (
       c.in_default.ensures,
       least_wrong_three map points base a.0 b.0 c.head.result.0 first
-          (third_is map c.facts.ensures c.in-Some-dart_of.d.0 c.face_step.result.0 a.0 b.0 c.head.result.0 c.in-Some-dart_of.ensures c.face_step.ensures c.head.ensures).0,
+          (face_next_head map c.facts.ensures c.in-Some-dart_of.d.0 c.face_step.result.0 a.0 b.0 c.head.result.0 c.in-Some-dart_of.ensures c.face_step.ensures c.head.ensures).0,
     )
 
 pub returns-in-None : goal.returns-in-None

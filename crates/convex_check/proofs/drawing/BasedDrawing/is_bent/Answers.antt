@@ -3,8 +3,7 @@ use Rattle.std.proofs.lemmas.Bool.{true≢false}
 use Rattle.map_theory.specs.Paths.{SameFace}
 use Rattle.euler_faces.specs.FaceWalks.{walk_at}
 use Rattle.vertex_rounds.specs.Rounds.{dart_of}
-use Rattle.vertex_rounds.proofs.DartIds.{dart_of-live, tail_is, head_is}
-use Rattle.draw_check.proofs.FaceIds.{third_is}
+use Rattle.vertex_rounds.proofs.DartIds.{dart_of-live, tail_is, head_is, face_next_head}
 use Rattle.convex_check.proofs.BendLemmas.{one_walk_face, face_one_walk, IsBentFrom-turn, turn-IsBentFrom}
 use Rattle.convex_check.proofs.drawing.BasedDrawing.is_bent.Goals as goal
 
@@ -13,7 +12,7 @@ turns_right-requires-clause-c c =
     let map = c.args.self.now.map.now in
     let d = c.args.d.0 in
     let x = dart_of map d in
-    let third = third_is map c.facts.ensures d c.face_step.result.0 x.0 x.1 c.head-c.result.0 (dart_of-live map d c.requires.live) c.face_step.ensures c.head-c.ensures in
+    let third = face_next_head map c.facts.ensures d c.face_step.result.0 x.0 x.1 c.head-c.result.0 (dart_of-live map d c.requires.live) c.face_step.ensures c.head-c.ensures in
     c.facts.ensures.simple.in_range x.1 c.head-c.result.0 third.1
 
 pub returns-then-face-outer : goal.returns-then-face-outer
@@ -28,7 +27,7 @@ returns-then-face-outer c =
     let d = c.args.d.0 in
     let tail : c.tail-a.result.0 ≡ a = sym (tail_is map d c.tail-a.result.0 c.requires.live c.tail-a.ensures) in
     let head : c.head-b.result.0 ≡ b = sym (head_is map d c.head-b.result.0 c.requires.live c.head-b.ensures) in
-    let third = third_is map known d c.face_step.result.0 a b c.head-c.result.0 is c.face_step.ensures c.head-c.ensures in
+    let third = face_next_head map known d c.face_step.result.0 a b c.head-c.result.0 is c.face_step.ensures c.head-c.ensures in
     let other : ¬ SameFace map.lists (dart_of map base) (a, b) = λ same.
     c.if-face-outer.true
     (face_one_walk map known c.args.faces.now c.requires.faces base d c.args.self.now.based c.requires.live c.of_dart-outer.result.0 c.of_dart-face.result.0 c.of_dart-outer.ensures.face c.of_dart-face.ensures.face c.of_dart-outer.ensures.stands c.of_dart-face.ensures.stands

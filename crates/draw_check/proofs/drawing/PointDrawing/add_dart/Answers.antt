@@ -13,7 +13,7 @@ use Rattle.draw_check.proofs.drawing.PointDrawing.add_dart.Goals as goal
 pub overflow_add-sums : goal.overflow_add-sums
 overflow_add-sums c =
     let map = c.args.self.now.map.now in let points = c.args.self.now.points.now in
-    let a = sum-within map c.facts.ensures c.args.faces.now c.requires.faces points (number_at map c.args.d.0) c.args.sums.now c.requires.sums (record { known = c.facts.ensures; places = c.args.self.now.places }) c.of_dart-face.result.0 c.of_dart-face.ensures.face in
+    let a = sum-within map c.facts.ensures c.args.faces.now c.requires.faces points (number_at map c.args.d.0) c.args.sums.now c.requires.sums c.args.self.now.places c.of_dart-face.result.0 c.of_dart-face.ensures.face in
     let b = swept-within points c.args.self.now.places.in_range (c.tail.result.0, c.head.result.0) in
     let e : c.area2-area.result ≡ swept points (c.tail.result.0, c.head.result.0) = c.area2-area.ensures ∙ (area_from_zero c.spot-a.result.point c.spot-b.result.point ∙ ap₂ cross c.spot-a.ensures c.spot-b.ensures) in
     let e' = c.from.ensures in
@@ -23,7 +23,7 @@ overflow_add-sums c =
 pub returns : goal.returns
 returns c =
     let map = c.args.self.now.map.now in let points = c.args.self.now.points.now in
-    let a = sum-within map c.facts.ensures c.args.faces.now c.requires.faces points (number_at map c.args.d.0) c.args.sums.now c.requires.sums (record { known = c.facts.ensures; places = c.args.self.now.places }) c.of_dart-face.result.0 c.of_dart-face.ensures.face in
+    let a = sum-within map c.facts.ensures c.args.faces.now c.requires.faces points (number_at map c.args.d.0) c.args.sums.now c.requires.sums c.args.self.now.places c.of_dart-face.result.0 c.of_dart-face.ensures.face in
     let b = swept-within points c.args.self.now.places.in_range (c.tail.result.0, c.head.result.0) in
     let e : c.area2-area.result ≡ swept points (c.tail.result.0, c.head.result.0) = c.area2-area.ensures ∙ (area_from_zero c.spot-a.result.point c.spot-b.result.point ∙ ap₂ cross c.spot-a.ensures c.spot-b.ensures) in
     let e' = c.from.ensures in

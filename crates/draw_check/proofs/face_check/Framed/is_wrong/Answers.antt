@@ -1,15 +1,15 @@
 use Rattle.std.proofs.Common.{◌≡◌, ℕ, ◌<◌, true, not, sym, subst, arith}
 use Rattle.vertex_rounds.specs.Rounds.{dart_of}
-use Rattle.vertex_rounds.proofs.DartIds.{dart_of-live, has_dart, tail_is, head_is}
+use Rattle.vertex_rounds.proofs.DartIds.{dart_of-live, has_dart, tail_is, head_is, face_next_head}
 use Rattle.draw_check.specs.FaceVerdicts.{IsDrawnWrong}
-use Rattle.draw_check.proofs.FaceIds.{third_is, IsSign, well_is, wrong_is}
+use Rattle.draw_check.proofs.FaceIds.{IsSign, well_is, wrong_is}
 use Rattle.draw_check.proofs.face_check.Framed.is_wrong.Goals as goal
 
 pub turns_well-requires-clause-c : goal.turns_well-requires-clause-c
 turns_well-requires-clause-c c =
     let map = c.args.self.now.drawing.map.now in
     let d = dart_of map c.args.d.0 in
-    let third = third_is map c.facts.ensures c.args.d.0 c.face_step.result.0 d.0 d.1 c.head-c.result.0 (dart_of-live map c.args.d.0 c.requires) c.face_step.ensures c.head-c.ensures in
+    let third = face_next_head map c.facts.ensures c.args.d.0 c.face_step.result.0 d.0 d.1 c.head-c.result.0 (dart_of-live map c.args.d.0 c.requires) c.face_step.ensures c.head-c.ensures in
     let l = c.facts.ensures.simple.in_range d.1 c.head-c.result.0 third.1 in
     let n = c.args.self.now.drawing.places.count in
     omega arith
@@ -24,7 +24,7 @@ returns-then-a-c c =
     let w = c.head-c.result.0 in
     let first : c.tail-a.result.0 ≡ dart.0 = sym (tail_is map d c.tail-a.result.0 c.requires c.tail-a.ensures) in
     let second : c.head-b.result.0 ≡ dart.1 = sym (head_is map d c.head-b.result.0 c.requires c.head-b.ensures) in
-    let third = third_is map c.facts.ensures d c.face_step.result.0 dart.0 dart.1 w (dart_of-live map d c.requires) c.face_step.ensures c.head-c.ensures in
+    let third = face_next_head map c.facts.ensures d c.face_step.result.0 dart.0 dart.1 w (dart_of-live map d c.requires) c.face_step.ensures c.head-c.ensures in
     let on = c.is_on_base.result in
     let r = c.turns_well.result in
     let sign = subst (λ (x : ℕ). IsSign points on r dart.0 x w) second (subst (λ (x : ℕ). IsSign points on r x c.head-b.result.0 w) first c.turns_well.ensures) in
