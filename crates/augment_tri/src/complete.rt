@@ -27,31 +27,18 @@ pub fn triangulate(alloc: Global, map: HalfMap) -> Result<HalfMap, (HalfMap, All
     ensures known { IfOk result IsHalfMap }
     ensures err { IfErr result (λ e. e.0 ≡ map) }
 {
-    match components(alloc, &map) {
-        Ok(parts) => triangulate_parts(map, &parts),
-        Err(e) => Err((map, e)),
-    }
-}
-
-/// Completes `map` as [`triangulate`] does, by its components `parts` instead of finding them.
-pub fn triangulate_parts(map: HalfMap, parts: &Parts) -> Result<HalfMap, (HalfMap, AllocError)>
-    requires plane { IsPlane map.lists }
-    requires some { 3 ≤ vertex_count map.lists }
-    requires parts { ArePartsOf map.lists parts.now }
-    ensures triangulation { IfOk result (λ new. IsTriangulation new.lists) }
-    ensures extended { IfOk result (λ new. IsExtended map.lists new.lists) }
-    ensures ids { IfOk result (λ new. (d v u : ℕ) → dart_at map d ≡ Some (v, u) → dart_at new d ≡ Some (v, u)) }
-    ensures known { IfOk result IsHalfMap }
-    ensures err { IfErr result (λ e. e.0 ≡ map) }
-{
+    let parts = match components(alloc, &map) {
+        Ok(parts) => parts,
+        Err(e) => return Err((map, e)),
+    };
     let mut map = map;
-    match complete_parts(&mut map, parts) {
+    match complete_parts(&mut map, &parts) {
         Ok(()) => Ok(map),
         Err(e) => Err((map, e)),
     }
 }
 
-/// Completes `map` in place as [`triangulate_parts`] does, by its components `parts`. It fails only when out of memory.
+/// Completes `map` in place as [`triangulate`] does, by its components `parts`. It fails only when out of memory.
 #[inline(always)]
 pub fn complete_parts(map: &mut HalfMap, parts: &Parts) -> Result<(), AllocError>
     requires plane { IsPlane map.old.lists }

@@ -6,4 +6,4 @@ mod ears;
 mod face_filling;
 mod joined_components;
 
-pub use complete::{complete_parts, triangulate, triangulate_parts};
+pub use complete::{complete_parts, triangulate};

@@ -4,7 +4,7 @@ ghost use Rattle.convex_class.specs.Laws.{ThreeConnectedBreakNothing};
 
 mod three_connected;
 
-pub use three_connected::{ConvexMap, convex_map, convex_map_with_faces};
+pub use three_connected::{ConvexMap, convex_map};
 
 /// States the law that a three-connected map of genus zero breaks no condition.
 pub fn three_connected_break_nothing()

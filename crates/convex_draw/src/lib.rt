@@ -5,4 +5,4 @@ pub mod convex_figures;
 pub mod convex_points;
 mod map_drawing;
 
-pub use map_drawing::{convex_draw, figure_by_faces, run_figure};
+pub use map_drawing::{convex_draw, figure_by_faces};

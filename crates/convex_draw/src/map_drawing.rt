@@ -40,7 +40,7 @@ pub(crate) fn in_square(points: Points, side: u32) -> GridFigure
     }
 }
 
-/// Returns [`run_figure`]'s figure for `map` over `base`, by its `lists` and `faces`. Fails only when out of memory.
+/// Draws `map` over `base` as [`convex_draw`] does, by its `lists` and `faces`. Fails only when out of memory.
 pub fn figure_by_faces(
     alloc: Global,
     map: &HalfMap,
@@ -69,10 +69,15 @@ pub fn figure_by_faces(
     Ok(in_square(points, side))
 }
 
-/// Returns `convex_draw`'s figure for `map` over `base`: the points are counts of faces over a construction sequence.
+/// Draws `map`, three-connected and of genus zero, convexly over `base`. That dart is drawn from the upper left corner
+/// of the grid to the lower right one, and its face is the outer one. The grid is f - 1 by f - 1, for f faces. No inner
+/// face bends inwards, and the outer one is a triangle with flat angles.
 ///
-/// It fails only when out of memory. The map stays as it is.
-pub fn run_figure(alloc: Global, map: &HalfMap, base: DartId) -> Result<GridFigure, AllocError>
+/// The points are counts of faces over a construction sequence. It fails only when out of memory. The map stays as it
+/// is.
+///
+/// Source: Felsner, Convex drawings of planar graphs and the order dimension of 3-polytopes, 2001.
+pub fn convex_draw(alloc: Global, map: &HalfMap, base: DartId) -> Result<GridFigure, AllocError>
     requires plane { IsPlane map.now.lists }
     requires three { IsThreeConnected map.now.lists }
     requires base { IsLive map.now base.0 }
@@ -83,20 +88,4 @@ pub fn run_figure(alloc: Global, map: &HalfMap, base: DartId) -> Result<GridFigu
     let all = faces(alloc, map)?;
     let figure = figure_by_faces(alloc, map, &lists, &all, base)?;
     Ok(figure)
-}
-
-/// Draws `map`, three-connected and of genus zero, convexly over `base`. That dart is drawn from the upper left corner
-/// of the grid to the lower right one, and its face is the outer one. The grid is f - 1 by f - 1, for f faces. No inner
-/// face bends inwards, and the outer one is a triangle with flat angles.
-///
-/// It fails only when out of memory. The map stays as it is.
-///
-/// Source: Felsner, Convex drawings of planar graphs and the order dimension of 3-polytopes, 2001.
-pub fn convex_draw(alloc: Global, map: &HalfMap, base: DartId) -> Result<GridFigure, AllocError>
-    requires plane { IsPlane map.now.lists }
-    requires three { IsThreeConnected map.now.lists }
-    requires base { IsLive map.now base.0 }
-    ensures { IfOk result (λ figure. (s d : ℕ) → dart_at map.now base.0 ≡ Some (s, d) → IsConvexGrid map.now.lists s d figure) }
-{
-    run_figure(alloc, map, base)
 }

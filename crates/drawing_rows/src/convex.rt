@@ -140,9 +140,9 @@ fn of_base(row: &Row<'_>, map: &HalfMap, base: DartId, out: &mut Reply)
 /// Answers a row on convex drawings, of a map that is three-connected and of genus zero, over the first dart of vertex
 /// 0.
 pub fn answer(row: &Row<'_>, given: &SomeLists, out: &mut Reply) {
-    if let Ok(map) = convex_map(out.alloc, &given.lists) {
-        if let Some(base) = first_base(&map) {
-            of_base(row, &map, base, out);
+    if let Ok(found) = convex_map(out.alloc, &given.lists) {
+        if let Some(base) = first_base(&found.map) {
+            of_base(row, &found.map, base, out);
         }
     }
 }

@@ -6,7 +6,7 @@ mod contour_rows;
 mod points_by_rank;
 mod ranked_lists;
 
-pub use contour_rows::{list_rows, order_rows, rows_into};
+pub use contour_rows::{order_rows, rows_into};
 pub use points_by_rank::points_at;
 pub use ranked_lists::RankedList;
 

@@ -3,13 +3,16 @@ ghost use Rattle.std.specs.Prelude.{◌≡◌, ◌<◌, length, IfOk, IfErr, ◌
 ghost use Rattle.convex_class.specs.Convexity.{BreaksConvex};
 ghost use Rattle.convex_draw.specs.Figures.{IsConvexFigure};
 ghost use Rattle.convex_draw.specs.Grids.{IsConvexGrid};
+ghost use Rattle.convex_draw.specs.RunPoints.{AreRunPoints};
 ghost use Rattle.convex_faces.specs.Directions.{IsWoodIn, IsDrawnWood, count_in, root_in, out_in};
 ghost use Rattle.convex_laws.specs.Regions.{IsFaceRegion};
 ghost use Rattle.convex_peeling.specs.Polyhedral.{IsThreeConnected};
+ghost use Rattle.euler_faces.specs.FaceWalks.{AreFaces};
 ghost use Rattle.half_edges.specs.Map.{IsLive, dart_at};
 ghost use Rattle.map_theory.specs.Maps.{IsPlane, Dart};
 ghost use Rattle.refusals.specs.Conditions.{IfRefused};
 
+use convex_class::convex_maps::ConvexMap;
 use convex_draw::convex_figures::ConvexDrawer;
 use convex_faces::{Axis, ConvexWood};
 use half_edges::HalfMap;
@@ -19,11 +22,12 @@ use refusals::Unserved;
 use std::alloc::{AllocError, Global};
 
 /// Makes the three-connected map of genus zero with these `lists`, or names the first condition that they break.
-pub fn convex_map(alloc: Global, lists: &Rotations) -> Result<HalfMap, Unserved>
+pub fn convex_map(alloc: Global, lists: &Rotations) -> Result<ConvexMap, Unserved>
     requires some_list { 0 < length lists.now }
-    ensures lists { IfOk result (λ map. map.lists ≡ lists.now) }
-    ensures plane { IfOk result (λ map. IsPlane lists.now) }
-    ensures served { IfOk result (λ map. IsThreeConnected lists.now) }
+    ensures lists { IfOk result (λ found. found.map.lists ≡ lists.now) }
+    ensures faces { IfOk result (λ found. AreFaces found.map found.faces) }
+    ensures plane { IfOk result (λ found. IsPlane lists.now) }
+    ensures served { IfOk result (λ found. IsThreeConnected lists.now) }
     ensures refused { IfErr result (IfRefused (BreaksConvex lists.now)) }
 {
     convex_class::convex_maps::convex_map(alloc, lists)
@@ -34,7 +38,8 @@ pub fn convex_draw(alloc: Global, map: &HalfMap, base: DartId) -> Result<GridFig
     requires plane { IsPlane map.now.lists }
     requires three { IsThreeConnected map.now.lists }
     requires base { IsLive map.now base.0 }
-    ensures { IfOk result (λ figure. (s d : ℕ) → dart_at map.now base.0 ≡ Some (s, d) → IsConvexGrid map.now.lists s d figure) }
+    ensures points { IfOk result (λ figure. (s d : ℕ) → dart_at map.now base.0 ≡ Some (s, d) → AreRunPoints map.now.lists s d figure.points) }
+    ensures grid { IfOk result (λ figure. (s d : ℕ) → dart_at map.now base.0 ≡ Some (s, d) → IsConvexGrid map.now.lists s d figure) }
 {
     convex_draw::convex_draw(alloc, map, base)
 }

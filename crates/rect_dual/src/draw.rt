@@ -3,5 +3,5 @@
 mod box_sides;
 mod drawing;
 
-pub(crate) use drawing::framed;
-pub use drawing::{rect_draw, rect_draw_by_lists};
+pub use drawing::rect_draw;
+pub(crate) use drawing::{framed, rect_draw_by_lists};

@@ -7,7 +7,7 @@ ghost use Rattle.rect_dual.specs.RectDrawTables.{HasLowerRows};
 
 use canon_order::Order;
 use half_edges::{HalfMap, Rotations};
-use order_drawings::order_tables::list_rows;
+use order_drawings::order_tables::rows_into;
 use rect_orders::rect_order::{Frame, rect_order, with_closing_edge};
 use std::alloc::{AllocError, Global};
 
@@ -34,7 +34,7 @@ pub(crate) fn framed_order(
     order_drawings::order_tables::ranks_are_places();
     let more = with_closing_edge(alloc, lists, frame)?;
     let order = rect_order(alloc, &more, frame)?;
-    let mut rows = list_rows(alloc, &more, &order)?;
+    let mut rows = rows_into(Rotations::new(alloc), &more, &order)?;
     let lower = rows.len() - 1;
     rows.truncate(lower);
     Ok(FramedOrder { order, rows })

@@ -11,6 +11,6 @@ pub mod rect_turns;
 pub mod side;
 mod side_lines;
 
-pub use draw::{rect_draw, rect_draw_by_lists};
+pub use draw::rect_draw;
 pub use labels::{Label, Labelling, edge_labels};
 pub use rect_check::{RectVerdict, check_rects};

@@ -26,7 +26,7 @@ pub struct ConvexMap {
 ///
 /// `Err` names the first condition that the lists break, in the order of [`Refusal`], with the least
 /// vertices. Or there was not enough memory. The time and the memory are linear in the entries.
-pub fn convex_map_with_faces(alloc: Global, lists: &Rotations) -> Result<ConvexMap, Unserved>
+pub fn convex_map(alloc: Global, lists: &Rotations) -> Result<ConvexMap, Unserved>
     requires some_list { 0 < length lists.now }
     ensures lists { IfOk result (λ found. found.map.lists ≡ lists.now) }
     ensures faces { IfOk result (λ found. AreFaces found.map found.faces) }
@@ -40,16 +40,4 @@ pub fn convex_map_with_faces(alloc: Global, lists: &Rotations) -> Result<ConvexM
         Some((u, v)) => Err(Unserved::Refused(Refusal::SeparatingPair(u, v))),
         None => Ok(ConvexMap { map, faces: all }),
     }
-}
-
-/// Returns the map that [`convex_map_with_faces`] gives, without its faces.
-pub fn convex_map(alloc: Global, lists: &Rotations) -> Result<HalfMap, Unserved>
-    requires some_list { 0 < length lists.now }
-    ensures lists { IfOk result (λ map. map.lists ≡ lists.now) }
-    ensures plane { IfOk result (λ map. IsPlane lists.now) }
-    ensures served { IfOk result (λ map. IsThreeConnected lists.now) }
-    ensures refused { IfErr result (IfRefused (BreaksConvex lists.now)) }
-{
-    let found = convex_map_with_faces(alloc, lists)?;
-    Ok(found.map)
 }

@@ -9,7 +9,7 @@ ghost use Rattle.convex_class.specs.Convexity.{BreaksConvex};
 ghost use Rattle.convex_draw.specs.Figures.{IsConvexFigure};
 
 use crate::figure_by_faces;
-use convex_class::convex_maps::convex_map_with_faces;
+use convex_class::convex_maps::convex_map;
 use half_edges::{DartId, HalfMap, Rotations, VertexId};
 use pg_plane::GridFigure;
 use refusals::Unserved;
@@ -44,7 +44,7 @@ pub fn convex_figure(alloc: Global, lists: &Rotations) -> Result<GridFigure, Uns
     ensures served { OnOk result (IsThreeConnected lists.now) }
     ensures refused { IfErr result (IfRefused (BreaksConvex lists.now)) }
 {
-    let found = convex_map_with_faces(alloc, lists)?;
+    let found = convex_map(alloc, lists)?;
     let base = first_dart(&found.map);
     let figure = figure_by_faces(alloc, &found.map, lists, &found.faces, base)?;
     Ok(figure)

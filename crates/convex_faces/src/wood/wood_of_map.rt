@@ -8,7 +8,7 @@ ghost use Rattle.convex_faces.specs.Directions.{IsWoodIn, IsDrawnWood};
 use crate::wood::axis_darts::outs_along;
 use crate::wood::wood_type::ConvexWood;
 use convex_counts::face_woods::Axis;
-use convex_draw::run_figure;
+use convex_draw::convex_draw;
 use half_edges::{DartId, HalfMap};
 use std::alloc::{AllocError, Global};
 
@@ -35,7 +35,7 @@ pub fn convex_wood(alloc: Global, map: &HalfMap, base: DartId) -> Result<ConvexW
     ensures drawn { IfOk result (λ wood. (s d : ℕ) → dart_at map.now base.0 ≡ Some (s, d) → IsDrawnWood map.now s d wood) }
 {
     map.facts();
-    let figure = run_figure(alloc, map, base)?;
+    let figure = convex_draw(alloc, map, base)?;
     let points = &figure.points;
     let ones = outs_along(alloc, map, points, Axis::One)?;
     let twos = outs_along(alloc, map, points, Axis::Two)?;

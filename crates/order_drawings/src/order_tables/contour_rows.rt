@@ -148,21 +148,11 @@ pub fn order_rows(alloc: Global, tri: &HalfMap, order: &Order) -> Result<Rotatio
 {
     tri.facts();
     let lists = tri.rotations(alloc)?;
-    let rows = list_rows(alloc, &lists, order)?;
+    let rows = rows_into(Rotations::new(alloc), &lists, order)?;
     Ok(rows)
 }
 
-/// Like [`order_rows`], but takes the lists of the map.
-pub fn list_rows(alloc: Global, lists: &Rotations, order: &Order) -> Result<Rotations, AllocError>
-    requires triangulation { IsTriangulation lists.now }
-    requires order { (base : Dart) × IsCanonicalOrder lists.now base (vertices_of order.now) }
-    ensures { IfOk result (AreRowsOf lists.now (vertices_of order.now)) }
-{
-    let rows = rows_into(Rotations::new(alloc), lists, order)?;
-    Ok(rows)
-}
-
-/// Like [`list_rows`], but makes the rows in the memory of `spent`.
+/// Returns the rows of `order` as [`order_rows`] does, by the `lists` of the map and in the memory of `spent`.
 #[inline(always)]
 pub fn rows_into(
     spent: Rotations,

@@ -100,8 +100,8 @@ pub fn rect_draw(alloc: Global, map: &HalfMap, base: DartId) -> Result<RectFigur
     rect_draw_by_lists(alloc, map, &lists, base)
 }
 
-/// Like [`rect_draw`], but takes the lists of the map as well.
-pub fn rect_draw_by_lists(
+// Draws `map` over `base` as `rect_draw` does, by its `lists`.
+pub(crate) fn rect_draw_by_lists(
     alloc: Global,
     map: &HalfMap,
     lists: &Rotations,

@@ -11,13 +11,13 @@ use Rattle.rect_dual.proofs.framed_orders.framed_order.Goals as goal
 pub rect_order-requires : goal.rect_order-requires
 rect_order-requires c = record { class = (c.args.lists.now, record { class = c.requires.class; closed_is = c.in_ok-more.ensures; inner_is = c.requires.inner }) }
 
-pub list_rows-requires-clause-triangulation : goal.list_rows-requires-clause-triangulation
-list_rows-requires-clause-triangulation c =
+pub rows_into-requires-clause-triangulation : goal.rows_into-requires-clause-triangulation
+rows_into-requires-clause-triangulation c =
     let f = c.args.frame in
     subst IsTriangulation (sym c.in_ok-more.ensures) (c.closed_is_triangulation.ensures c.args.lists.now f.left.0 f.top.0 f.right.0 f.bottom.0 c.requires.class).0
 
-pub list_rows-requires-clause-order : goal.list_rows-requires-clause-order
-list_rows-requires-clause-order c =
+pub rows_into-requires-clause-order : goal.rows_into-requires-clause-order
+rows_into-requires-clause-order c =
     let f = c.args.frame in
     let order = c.in_ok-order.ensures.order c.args.lists.now record { class = c.requires.class; closed_is = c.in_ok-more.ensures; inner_is = c.requires.inner } in
     ((f.bottom.0, f.left.0), subst (λ (l : Lists). IsCanonicalOrder l (f.bottom.0, f.left.0) (vertices_of c.in_ok-order.order)) (sym c.in_ok-more.ensures) order.canonical)

@@ -1,7 +1,7 @@
 use Rattle.std.proofs.Common.{ℕ, MatchOption, sym, subst}
 use Rattle.graph_search.specs.Cuts.{IsCutVertex, IsSeparatingPair, IsLeastPair}
 use Rattle.convex_class.proofs.BiconnectedLemmas.{IsThreeConnected-biconnected}
-use Rattle.convex_class.proofs.convex_maps.three_connected.convex_map_with_faces.Goals as goal
+use Rattle.convex_class.proofs.convex_maps.three_connected.convex_map.Goals as goal
 
 pub separating_pair_by-requires-clause-uncut : goal.separating_pair_by-requires-clause-uncut
 separating_pair_by-requires-clause-uncut c = λ v. subst (λ lists. ¬ IsCutVertex lists v) (sym c.in_ok-map.ensures.lists) (c.in_ok-map.ensures.served.uncut v)
