@@ -6,7 +6,7 @@ ghost use Rattle.pg_plane.specs.Range.{IsInRange, IsWithin};
 ghost use Rattle.draw_check.specs.Spans.{IsIn, IsBoxInRange, IsApart, IsLeftOf, IsStrictlyLeftOf, MissesStar, MissesFan};
 
 use crate::vertex_points::PlacedPoint;
-use pg_plane::{Point, area2};
+use pg_plane::{MOST_COORDINATE, Point, area2};
 
 // A bounding box. It has no points where its right side is to the left of its left one.
 #[derive(Clone, Copy)]
@@ -24,15 +24,12 @@ pub(crate) struct Extent {
     ghost range: { IsBoxInRange span },
 }
 
-// The greatest coordinate.
-const GREATEST: i32 = 1_048_576;
-
 // A box without points.
 pub(crate) const NO_SPAN: BoundingBox = BoundingBox {
-    left: GREATEST,
-    right: -GREATEST,
-    bottom: GREATEST,
-    top: -GREATEST,
+    left: MOST_COORDINATE,
+    right: -MOST_COORDINATE,
+    bottom: MOST_COORDINATE,
+    top: -MOST_COORDINATE,
 };
 
 // Returns `span` extended to hold `p` too.

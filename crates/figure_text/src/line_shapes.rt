@@ -11,6 +11,7 @@ use crate::GridJob;
 use crate::front_pieces::{are_within, have_shapes, pieces};
 use crate::line_words::{Name, Word};
 use kuratowski::Kind as Subdivided;
+use map_lists::MOST_VERTICES;
 
 /// The kind of lines that a figure's first line announces.
 #[derive(Clone, Copy, PartialEq, Eq)]
@@ -37,7 +38,7 @@ pub enum Judged {
 }
 
 // The greatest absolute value of a coordinate.
-pub const MOST: u32 = 1_048_576;
+pub const MOST_COORDINATE: u32 = pg_plane::MOST_COORDINATE as u32;
 
 // Returns word `i`, or `Other` after the last.
 #[inline(always)]
@@ -118,7 +119,7 @@ pub fn behind(words: &[Word], from: usize) -> &[Word]
 pub fn is_inside(word: Word) -> bool
     ensures { IsTrue result ↔ IsInside word }
 {
-    size_of(word) <= MOST
+    size_of(word) <= MOST_COORDINATE
 }
 
 // Says whether the number `word` may be that of a vertex: it is from 1 to 65535.
@@ -247,7 +248,7 @@ pub fn is_counted(words: &[Word]) -> bool
 pub fn is_count_in_range(words: &[Word]) -> bool
     ensures { IsTrue result ↔ ((1 ≤ size (word_at words.now 3)) × (size (word_at words.now 3) ≤ 4095)) }
 {
-    1 <= size_of(word(words, 3)) && size_of(word(words, 3)) <= 4095
+    1 <= size_of(word(words, 3)) && size_of(word(words, 3)) <= u32::from(MOST_VERTICES)
 }
 
 // Returns the verdict on a line: by whether it has the due `shape`, and whether its numbers are in `range`.

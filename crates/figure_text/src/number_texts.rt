@@ -7,7 +7,7 @@ use itoa::write_digits;
 use std::alloc::{AllocError, Global};
 
 // How many numbers have four digits at most.
-const MOST: usize = 10_000;
+const MANY: usize = 10_000;
 
 /// The text of a number below 10,000 behind a space: the last `length` of seven bytes. Those before it are spaces.
 #[derive(Clone, Copy)]
@@ -67,7 +67,7 @@ impl Numerals {
     // Appends the text of the next number, if it is below 10,000.
     fn add(&mut self) -> Result<(), AllocError> {
         let number = self.texts.len();
-        if number < MOST {
+        if number < MANY {
             self.texts.push(text_of(number))?;
         }
         Ok(())

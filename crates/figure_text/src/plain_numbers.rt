@@ -5,6 +5,7 @@ ghost use Rattle.figure_text.specs.Words.{words_left};
 ghost use Rattle.figure_text.specs.Lines.{vertex_of, integer_of};
 ghost use Rattle.figure_text.specs.Plain.{IsVertexAt, IsNeighbour, IsCoordinateAt, IsCoordinateWord};
 
+use crate::line_shapes::MOST_COORDINATE;
 use crate::line_words::{Digits, plain_at, short_at};
 use map_lists::ItemLists;
 use pg_plane::Ints;
@@ -80,7 +81,7 @@ fn coordinate_at(line: &[u8], at: usize) -> Option<Digits>
     ensures { IfSome result (IsCoordinateAt line.now at) }
 {
     match plain_at(line, at) {
-        Some(digits) if digits.value <= 1_048_576 => Some(digits),
+        Some(digits) if digits.value <= MOST_COORDINATE => Some(digits),
         _ => None,
     }
 }
@@ -91,7 +92,7 @@ pub fn short_coordinate_at(line: &[u8], at: usize) -> Option<Digits>
     ensures { IfSome result (IsCoordinateAt line.now at) }
 {
     match short_at(line, at) {
-        Some(digits) if digits.value <= 1_048_576 => Some(digits),
+        Some(digits) if digits.value <= MOST_COORDINATE => Some(digits),
         _ => None,
     }
 }

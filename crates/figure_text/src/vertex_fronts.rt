@@ -4,19 +4,19 @@ ghost use Rattle.figure_text.specs.Pieces.{pieces as the_pieces, grid_front as g
 ghost use Rattle.figure_text.specs.Plain.{IsPieceAt, IsFrontOf, plain_value};
 
 use crate::front_pieces::{Piece, pieces};
-use crate::line_shapes::{Kind, size_of};
+use crate::line_shapes::{Kind, MOST_COORDINATE, size_of};
 use crate::line_words::{Name, Next, Signed, Word, closing_at, is_letter_at, is_word_at, short_at};
 use crate::plain_numbers::short_coordinate_at;
 use crate::vertex_lines::{VertexLine, signed_number};
 
-/// The most words that a front has.
-const MOST: usize = 7;
+/// The most words that a front has, each of which may be a number.
+const MOST_NUMBERS: usize = 7;
 
 /// The numbers in the front of a line, or in some first pieces of it.
 #[derive(Clone, Copy, PartialEq, Eq)]
 pub struct LineFront {
     /// The size of each number, at the place of its word.
-    pub numbers: [u32; MOST],
+    pub numbers: [u32; MOST_NUMBERS],
     /// The place behind them.
     pub end: usize,
 }
@@ -73,7 +73,7 @@ fn plain_piece(piece: Piece, place: usize, line: &[u8], at: usize) -> Option<Nex
             None => None,
         },
         Piece::Last => match closing_at(line, at) {
-            Some(digits) if digits.value <= 1_048_576 => Some(Next {
+            Some(digits) if digits.value <= MOST_COORDINATE => Some(Next {
                 word: Word::Closing(Signed {
                     negative: false,
                     size: digits.value,
@@ -93,7 +93,7 @@ impl LineFront {
         ensures { (place : ℕ) (line : List ℕ) → IsFrontOf [] place line result }
     {
         LineFront {
-            numbers: [0; MOST],
+            numbers: [0; MOST_NUMBERS],
             end: 0,
         }
     }

@@ -7,7 +7,9 @@ ghost use Rattle.figure_text.specs.Reading.{Judges, IsRow, RowInRange};
 ghost use Rattle.figure_text.specs.Drafts.{with_values, with_row};
 
 use crate::front_pieces::{is_front, pieces};
-use crate::line_shapes::{Judged, Kind, MOST, behind, is_witness, judged_row, size_of, word};
+use crate::line_shapes::{
+    Judged, Kind, MOST_COORDINATE, behind, is_witness, judged_row, size_of, word,
+};
 use crate::line_words::{Signed, Word, fill_front, fill_known};
 use crate::plain_numbers::push_plain;
 use crate::vertex_fronts::LineFront;
@@ -64,7 +66,11 @@ fn push_vertices(words: &[Word], lists: &mut ItemLists<u16>) -> Result<(), Alloc
 pub fn signed_number(z: Signed) -> i32
     ensures { result ≡ signed_value z }
 {
-    let size = if z.size < MOST { z.size } else { MOST };
+    let size = if z.size < MOST_COORDINATE {
+        z.size
+    } else {
+        MOST_COORDINATE
+    };
     if z.negative {
         -(size as i32)
     } else {

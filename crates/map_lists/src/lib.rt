@@ -10,4 +10,4 @@ mod rotations;
 pub use ids::{DartId, FaceId, VertexId};
 pub use item_lists::{ItemLists, PathList};
 pub use items::{Counts, EdgeList, Ends, ItemList, VertexList};
-pub use rotations::Rotations;
+pub use rotations::{MOST_VERTICES, Rotations};

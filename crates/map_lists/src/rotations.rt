@@ -6,6 +6,9 @@ use crate::ItemLists;
 use std::alloc::Global;
 use std::marker::Model;
 
+/// The most vertices that a map has.
+pub const MOST_VERTICES: u16 = 4095;
+
 /// Rotation lists: for each vertex, by its number from 0, the vertices round it. Contracts see them as that list of
 /// lists, which are at most 4095: `len` and `facts` say so. They are made as `ItemLists`, or of their two vectors.
 #[derive(Drop)]

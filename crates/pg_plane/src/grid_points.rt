@@ -4,6 +4,9 @@ ghost use Rattle.std.specs.Prelude.{◌≡◌, ◌↔◌, ◌-ℤ◌, ◌*ℤ◌
 ghost use Rattle.pg_plane.specs.Geometry.{area, cross, IsBetween, IsOnSegment, AreOpposite, DoCross, IsFirstHalf, IsClockBefore};
 ghost use Rattle.pg_plane.specs.Range.{IsWithin, IsInRange, IsDirection};
 
+/// The greatest absolute value of a coordinate: 2^20.
+pub const MOST_COORDINATE: i32 = 1_048_576;
+
 /// A point of the grid, or a direction. Coordinates are from -2^20 to 2^20, those of a direction from
 /// -2^21 to 2^21, wherever a call asks for it.
 #[derive(Clone, Copy, PartialEq, Eq)]

@@ -9,4 +9,4 @@ mod figures;
 mod grid_points;
 
 pub use figures::{BarFigure, GridFigure, Ints, Points, RectFigure};
-pub use grid_points::{Point, area2, clock_before, crosses, on_segment};
+pub use grid_points::{MOST_COORDINATE, Point, area2, clock_before, crosses, on_segment};

@@ -6,8 +6,8 @@ ghost use Rattle.pigale_c.specs.Arrays.{lists_in, points_in, IsGivenMap, AllInRa
 ghost use Rattle.pigale_c.specs.Failures.{IsBadOnly};
 
 use crate::outcome::Failure;
-use map_lists::Rotations;
-use pg_plane::{Point, Points};
+use map_lists::{MOST_VERTICES, Rotations};
+use pg_plane::{MOST_COORDINATE, Point, Points};
 use std::alloc::Global;
 
 /// The arrays of a map, as they are given: where the list of each vertex ends, and the neighbours.
@@ -36,7 +36,7 @@ fn are_cuts(ends: &[usize], total: usize) -> bool
 fn is_given_map(ends: &[usize], neighbours: &[u16]) -> bool
     ensures { IsTrue result ↔ IsGivenMap ends.now neighbours.now }
 {
-    !ends.is_empty() && ends.len() < 4096 && are_cuts(ends, neighbours.len())
+    !ends.is_empty() && ends.len() <= usize::from(MOST_VERTICES) && are_cuts(ends, neighbours.len())
 }
 
 /// Copies the rotation lists of two arrays. Fails with `BadArgument` where they describe none, and when out of memory.
@@ -64,7 +64,7 @@ pub(crate) fn lists_of(
 fn is_coordinate(z: i32) -> bool
     ensures { IsTrue result ↔ IsWithin (pos 1048576) z }
 {
-    -1048576 <= z && z <= 1048576
+    -MOST_COORDINATE <= z && z <= MOST_COORDINATE
 }
 
 // Says whether both coordinates of a point are in range.

@@ -1,7 +1,7 @@
 //! Test maps of families, of any size: wheels, prisms, grids of cells, stacked triangulations.
 use crate::cell_grids::push_grid;
 use map_gen::stacked;
-use map_lists::{ItemLists, Rotations};
+use map_lists::{ItemLists, MOST_VERTICES, Rotations};
 use std::alloc::Global;
 
 /// Returns the number after `i`, cyclically among the first `k`.
@@ -52,7 +52,7 @@ fn push_all(made: &Rotations, lists: &mut ItemLists<u16>) {
 
 /// Appends the lists of the map of `n` vertices that `gen` makes from `number`, if `n` is from 3 to 4095.
 fn put_stacked(alloc: Global, lists: &mut ItemLists<u16>, n: u16, number: u16) {
-    if 3 <= n && n <= 4095 {
+    if 3 <= n && n <= MOST_VERTICES {
         match stacked(alloc, n, u32::from(number)) {
             Ok(made) => push_all(&made, lists),
             Err(_) => {}
@@ -71,7 +71,7 @@ pub fn map_of(alloc: Global, family: &str, size: u16, number: u16) -> Rotations 
         "stacked" => put_stacked(alloc, &mut lists, size, number),
         _ => {}
     }
-    if lists.len() < 4096 {
+    if lists.len() <= usize::from(MOST_VERTICES) {
         Rotations::from_lists(lists)
     } else {
         Rotations::new(alloc)

@@ -8,7 +8,7 @@ ghost use Rattle.planar_code.specs.declared.record_scanner.Phase.TheVariants.{Na
 
 use super::number_gathering::{gather_narrow, gather_wide, lend_whole, number_of};
 use super::open_lists::OpenLists;
-use map_lists::Rotations;
+use map_lists::{MOST_VERTICES, Rotations};
 use std::alloc::{AllocError, Global};
 use std::marker::Model;
 use std::mem;
@@ -40,9 +40,6 @@ pub enum Phase {
     /// Among the lists of a wide record, behind the high byte of a number.
     WideHalf(u16, u8),
 }
-
-/// The most lists that a record may have.
-const MOST_LISTS: u16 = 4095;
 
 /// Scans numbers of a narrow record of `count` lists. Returns the next phase and the outcome. The lists of a record
 /// that ends are moved to `lent`.
@@ -107,7 +104,7 @@ fn advance(
         Phase::WideStart => (Phase::WideHigh(piece[0]), Scanned::More(1)),
         Phase::WideHigh(high) => {
             let count = number_of(high, piece[0]);
-            if count == 0 || count > MOST_LISTS {
+            if count == 0 || count > MOST_VERTICES {
                 (Phase::WideHigh(high), Scanned::Bad(1))
             } else {
                 (Phase::Wide(count), Scanned::More(1))
@@ -165,7 +162,7 @@ impl Scanner {
         ensures lists { self.new.lists ≡ self.old.lists }
         ensures room { OnOk result (bytes ≤ self.new.room) }
     {
-        self.gathered.reserve(bytes, usize::from(MOST_LISTS))
+        self.gathered.reserve(bytes, usize::from(MOST_VERTICES))
     }
 
     /// Lends the lists of the record that ended last, numbered from 0.

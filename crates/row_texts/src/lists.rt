@@ -5,7 +5,7 @@ use crate::reply::Reply;
 use crate::row_arguments::{halves, numbers, pair};
 use half_edges::{Counts, Rotations, VertexList};
 use map_gen::stacked;
-use map_lists::ItemLists;
+use map_lists::{ItemLists, MOST_VERTICES};
 use std::alloc::Global;
 
 // Appends the empty lists of `n` isolated vertices.
@@ -67,7 +67,7 @@ fn star(alloc: Global, n: u16, most: usize, lists: &mut ItemLists<u16>)
 
 // Appends the lists of the stacked triangulation of `n` vertices that `number` chooses, if `n` is from 3 to 4095.
 fn stack(alloc: Global, n: u16, number: u16, lists: &mut ItemLists<u16>) {
-    if n < 3 || 4095 < n {
+    if n < 3 || MOST_VERTICES < n {
         return;
     }
     if let Ok(made) = stacked(alloc, n, u32::from(number)) {
@@ -107,7 +107,7 @@ pub struct SomeLists {
 pub fn lists_of(alloc: Global, text: &str) -> Option<SomeLists> {
     let mut lists = ItemLists::new(alloc);
     fill(alloc, text, &mut lists);
-    if lists.len() == 0 || 4095 < lists.len() {
+    if lists.len() == 0 || usize::from(MOST_VERTICES) < lists.len() {
         None
     } else {
         Some(SomeLists {

@@ -5,17 +5,14 @@ ghost use Rattle.plane_drawings.specs.Drawing.{place};
 
 use crate::reply::Reply;
 use crate::row_arguments::{halves, part};
-use pg_plane::{BarFigure, Ints, Point, Points};
+use pg_plane::{BarFigure, Ints, MOST_COORDINATE, Point, Points};
 use std::alloc::Global;
-
-/// The greatest coordinate.
-pub const MOST: i32 = 1 << 20;
 
 /// Returns the whole number that a text is, and 0 where it is none. `+` and `-` stand for the ends of the range.
 pub fn integer(text: &str) -> i32 {
     match text {
-        "+" => MOST,
-        "-" => -MOST,
+        "+" => MOST_COORDINATE,
+        "-" => -MOST_COORDINATE,
         _ => text.parse::<i32>().unwrap_or(0),
     }
 }
@@ -73,7 +70,10 @@ pub fn put_points(points: &Points, most: usize, out: &mut Reply) {
 pub fn is_in_range(p: Point) -> bool
     ensures { IsTrue result → IsInRange p }
 {
-    -MOST <= p.x && p.x <= MOST && -MOST <= p.y && p.y <= MOST
+    -MOST_COORDINATE <= p.x
+        && p.x <= MOST_COORDINATE
+        && -MOST_COORDINATE <= p.y
+        && p.y <= MOST_COORDINATE
 }
 
 /// Says whether no coordinate of the points is beyond the range.

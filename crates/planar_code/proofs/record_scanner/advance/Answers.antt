@@ -23,17 +23,17 @@ returns-in-WideStart c =
     Advances-at _ WideStart (WideHigh b) _ _ _ _ _ (More 1) c.in-WideStart.is
     (begins-high c.args.piece.now c.requires.some c.args.gathered.now c.args.lent.now b refl (rw c.in-WideStart.is at c.requires.is))
 
-pub returns-then-count-gt-MOST_LISTS : goal.returns-then-count-gt-MOST_LISTS
-returns-then-count-gt-MOST_LISTS c =
+pub returns-then-count-gt-MOST_VERTICES : goal.returns-then-count-gt-MOST_VERTICES
+returns-then-count-gt-MOST_VERTICES c =
     let high = c.in-WideHigh.high in
     Advances-at _ (WideHigh high) (WideHigh high) _ _ _ _ _ (Bad 1) c.in-WideHigh.is
-    (count-bad c.args.piece.now c.requires.some c.args.gathered.now c.args.lent.now high (get_or c.args.piece.now 0 0) c.number_of-count.result refl c.number_of-count.ensures c.if-count-gt-MOST_LISTS.either (rw c.in-WideHigh.is at c.requires.is))
+    (count-bad c.args.piece.now c.requires.some c.args.gathered.now c.args.lent.now high (get_or c.args.piece.now 0 0) c.number_of-count.result refl c.number_of-count.ensures c.if-count-gt-MOST_VERTICES.either (rw c.in-WideHigh.is at c.requires.is))
 
-pub returns-else-count-gt-MOST_LISTS : goal.returns-else-count-gt-MOST_LISTS
-returns-else-count-gt-MOST_LISTS c =
+pub returns-else-count-gt-MOST_VERTICES : goal.returns-else-count-gt-MOST_VERTICES
+returns-else-count-gt-MOST_VERTICES c =
     let high = c.in-WideHigh.high in
     let small = c.type_inv.piece 0 in
-    let some = c.if-count-gt-MOST_LISTS.false.0 in
+    let some = c.if-count-gt-MOST_VERTICES.false.0 in
     Advances-at _ (WideHigh high) (Wide c.number_of-count.result) _ _ _ _ _ (More 1) c.in-WideHigh.is
     (count-ends c.args.piece.now c.requires.some c.args.gathered.now c.args.lent.now high (get_or c.args.piece.now 0 0) c.number_of-count.result refl (omega arith) c.number_of-count.ensures (omega arith) (omega arith) (rw c.in-WideHigh.is at c.requires.is))
 
