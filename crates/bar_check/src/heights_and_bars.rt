@@ -10,7 +10,7 @@ use crate::drawing::Bars;
 use half_edges::{HalfMap, VertexId};
 use pg_plane::{BarFigure, Ints};
 
-// Returns entry `i` of `list`, or 0 behind its end.
+// Returns entry `i` of `list`, or 0 past its end.
 pub(crate) fn entry_or_zero(list: &Ints, i: usize) -> i32
     ensures { result ≡ number_at list.now i }
 {

@@ -1,7 +1,7 @@
 //! Marks of the outer cycle while vertices are peeled off a map, and each vertex's number of marked neighbours.
 //!
 //! `marked` says of each vertex whether it is on that cycle, `gone` whether it was taken off, and `near` counts its
-//! neighbours that are marked. What is marked and comes to have two marked neighbours is put on `stack`.
+//! marked neighbours. A marked vertex is pushed on `stack` when that count becomes two.
 
 ghost use Rattle.std.specs.Prelude.{◌≡◌, ◌≢◌, ◌<◌, ◌⊎◌, ◌↔◌, ℕ, false, true, [], ◌∷◌, ◌++◌, length, slice_index, slice_set, filter, Contains, All, IfOk};
 ghost use Rattle.map_theory.specs.Maps.{IsSimpleMap, list_of};
@@ -123,9 +123,9 @@ impl AtVertex<'_> {
         }
     }
 
-    /// Takes the vertex off the outer cycle, of which `marked` has the marks and `near` counts each vertex's
-    /// neighbours: its own neighbours that are left are on the cycle now. What may be taken off next for that goes on
-    /// `stack`.
+    /// Takes the vertex off the outer cycle: clears its mark in `marked` and marks its neighbours that are left.
+    /// `near`, the number of marked neighbours of each vertex, is updated. Marked vertices whose number becomes two are
+    /// pushed on `stack`. It fails only when out of memory.
     #[inline(always)]
     pub fn leave_cycle(
         &self,

@@ -135,7 +135,8 @@ impl Peeler {
         Ok(())
     }
 
-    /// Orders `tri` as [`canon_order`] does, by its lists, and leaves the order in `order`.
+    /// Orders `tri`, whose rotations are `lists`, as [`canon_order`] does for the dart `base`, and leaves the order in
+    /// the field `order`. It fails only when out of memory.
     #[inline(always)]
     pub fn order_map(
         &mut self,
@@ -165,7 +166,8 @@ impl Peeler {
         Ok(())
     }
 
-    /// Orders the triangulation with these lists as [`canon_order`] does, for the base from `t` to `s`, into `order`.
+    /// Orders the triangulation `lists` as [`canon_order`] does for the base from `t` to `s`, and leaves the order in
+    /// the field `order`. It fails only when out of memory.
     #[inline(always)]
     pub fn order_lists(
         &mut self,
@@ -197,10 +199,10 @@ impl Peeler {
 /// genus zero with n >= 3 and m = 3n - 6.
 ///
 /// `at` has all vertices once: s is the first, t the second, and the third vertex of the face on the left
-/// of the base is the last. Each vertex from the third place on is put on the outer cycle of the map of
+/// of the base is the last. Each vertex from the third one on is put on the outer cycle of the map of
 /// those before it: its neighbours among these are at least two consecutive vertices of that cycle, which
 /// goes from s to t, and each two of them that follow one another are a face of the whole map with it.
-/// These faces are all but that of the base. `rank` has the place of each vertex in `at`.
+/// These faces are all but that of the base. `rank` has the index of each vertex in `at`.
 ///
 /// It fails only when out of memory. The map stays as it is. The time is linear in the vertices: they are
 /// taken off from the last one on, each goes onto the outer cycle and off it once, and its neighbours

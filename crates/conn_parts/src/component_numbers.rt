@@ -28,7 +28,7 @@ impl Model for Parts {
 }
 
 impl Parts {
-    /// Makes the components of no vertices. It takes no memory.
+    /// Returns the components of no vertices. It takes no memory.
     pub fn new(alloc: Global) -> Parts {
         Parts {
             count: 0,
@@ -72,8 +72,8 @@ pub fn list_components(alloc: Global, lists: &Rotations) -> Result<Parts, AllocE
     Ok(parts)
 }
 
-/// Returns the components of `lists`, as [`list_components`] has them, in the memory of others that are done with:
-/// `spent` and `queue`. What these hold says nothing before or after.
+/// Returns the components of `lists`, like [`list_components`], but in the memory of `spent` and `queue`. What these
+/// two hold does not matter.
 #[inline(always)]
 pub fn numbered_parts(
     lists: &Rotations,

@@ -28,8 +28,8 @@ pub struct CountedMap {
     pub count: EulerCount,
 }
 
-/// Returns the map with these `lists`, which are from 1 to 4095, its components and its counts, or the first fault of
-/// the lists. The time is linear in the entries, and so is the memory.
+/// Returns the map with these `lists`, from 1 to 4095 of them, with its components and its counts; or the first fault
+/// of the lists. The time is linear in the entries, and so is the memory.
 pub fn counted_map(alloc: Global, lists: &Rotations) -> Result<CountedMap, MapFault>
     requires some_list { 0 < length lists.now }
     ensures counted { IfOk result (IsCountedMap lists.now) }
@@ -40,7 +40,7 @@ pub fn counted_map(alloc: Global, lists: &Rotations) -> Result<CountedMap, MapFa
     maker.counted_map(lists)
 }
 
-/// Makes maps with their counts, one after another, in the memory of those that are done with.
+/// Makes maps with their counts, one after another, in memory kept from earlier ones.
 #[derive(Drop)]
 pub struct CountedMaker {
     alloc: Global,
@@ -67,8 +67,8 @@ impl CountedMaker {
         }
     }
 
-    /// Returns the map with these `lists`, its components and its counts, as `counted_map` has them. After `NoMemory`
-    /// the maker serves as before.
+    /// Like the function `counted_map`, returns the map with these `lists`, its components and its counts. After
+    /// `NoMemory` the maker can still be used.
     pub fn counted_map(&mut self, lists: &Rotations) -> Result<CountedMap, MapFault>
         requires some_list { 0 < length lists.now }
         ensures counted { IfOk result (IsCountedMap lists.now) }
@@ -106,12 +106,12 @@ impl CountedMaker {
         Ok(map)
     }
 
-    /// Returns the map of a record with these lists, which are from 1 to 4095, and leaves its components in `parts`.
-    /// The map has genus zero and at least `least` vertices.
+    /// Returns the map of a record with these `lists`, from 1 to 4095 of them, and leaves its components in the field
+    /// `parts`. The map has genus zero and at least `least` vertices.
     ///
     /// `Err` names the first condition that the lists break, of these in this order: the four faults of a map, each
     /// with the least vertices; too few vertices; a genus above zero. Or there was not enough memory: after that the
-    /// maker serves as before. The time is linear in the entries.
+    /// maker can still be used. The time is linear in the entries.
     #[inline(always)]
     pub fn plane_half_map(&mut self, lists: &Rotations, least: u16) -> Result<HalfMap, Unserved>
         requires some_list { 0 < length lists.now }

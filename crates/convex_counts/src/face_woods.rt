@@ -1,5 +1,6 @@
 //! Laws of the realizer of a construction sequence with faces of any size: the directions in which one coordinate alone
-//! rises, over points by counts of faces (Felsner 2001). Each speaks of all runs, as the contract of an empty function.
+//! rises, over points by counts of faces (Felsner 2001). At a vertex the sector of an axis lies between the edges that
+//! leave along the other two axes.
 
 ghost use Rattle.convex_counts.specs.FaceWoodsLaws.{CornersMeet, OuterSides, SomeRising, OneRising};
 
@@ -7,7 +8,7 @@ mod axis;
 
 pub use axis::Axis;
 
-/// States the law that at each corner of a face that a run makes the two edges have one sector between them.
+/// States the law that each corner of a face that a construction sequence makes lies in one sector.
 pub fn corners_meet()
     ensures { CornersMeet }
 {}
@@ -18,12 +19,13 @@ pub fn outer_sides()
     ensures { OuterSides }
 {}
 
-/// States the law that from each vertex but the root of an axis an edge leads along that axis.
+/// States the law that from each vertex but the root of an axis an edge leads along that axis: its coordinate rises,
+/// and no other does.
 pub fn some_rising()
     ensures { SomeRising }
 {}
 
-/// States the law that at most one edge leads from a vertex along an axis.
+/// States the law that from each vertex at most one edge leads along an axis: its coordinate rises, and no other does.
 pub fn one_rising()
     ensures { OneRising }
 {}

@@ -1,7 +1,7 @@
 //! The contour as a list of vertices with a current position, kept as two stacks.
 //!
-//! A contour is a list of vertices. What stands before a place of it and what stands behind that are two stacks, so
-//! that a part at the place goes, and another comes, in as many steps as the parts have vertices.
+//! One stack has the vertices before that position, the other those from it on. So one part of the list is replaced by
+//! another there in as many steps as the two have vertices.
 ghost use Rattle.std.specs.Prelude.{◌≡◌, ◌+◌, ◌<◌, ◌≤◌, suc, [], length, slice_index, IfOk};
 ghost use Rattle.convex_orders.specs.Contours.{vertices_of};
 
@@ -10,9 +10,9 @@ use std::alloc::{AllocError, Global};
 /// A list of vertices with a current position in it.
 #[derive(Drop)]
 pub(crate) struct Contour {
-    /// The vertices before the place.
+    /// The vertices before the current position.
     pub(crate) left: Vec<u16>,
-    /// Those from the place on, the last first.
+    /// Those from the current position on, the last first.
     pub(crate) right: Vec<u16>,
 }
 
@@ -25,7 +25,7 @@ impl Contour {
         }
     }
 
-    /// Leaves no vertex.
+    /// Removes all vertices.
     pub(crate) fn clear(&mut self)
         ensures left { self.new.left.items ≡ [] }
         ensures right { self.new.right.items ≡ [] }

@@ -4,17 +4,17 @@ ghost use Rattle.convex_orders.specs.Contours.{AreInner};
 
 use crate::map_tables::Tables;
 
-/// A part of a list of vertices along a contour, with the numbers of the faces inside of the edges.
+/// An interval of a contour, with the numbers of the faces inside of the edges.
 #[derive(Clone, Copy)]
 pub(crate) struct Stretch<'a> {
     pub(crate) tables: &'a Tables,
     /// For each vertex the number of the face inside of the edge from it on.
     pub(crate) inner: &'a [u32],
-    /// The list.
+    /// The vertices of the contour.
     pub(crate) ws: &'a [u16],
-    /// The place in it where the part begins.
+    /// The index in `ws` of the interval's first vertex.
     pub(crate) first: usize,
-    /// The place where it ends.
+    /// The index of its last vertex.
     pub(crate) last: usize,
     ghost order: { first < last },
     ghost within: { last < length ws.now },

@@ -1,8 +1,8 @@
 //! The construction sequence (run) of a three-connected plane map, as rows, found by removing faces from outside.
 //!
-//! Marks say which faces are left, by numbers, and two stacks are their contour, with a place between them. A vertex
-//! that may go next is looked for from that place backwards, and what goes and what comes is told there; so all rows
-//! take about as many steps as the map has darts.
+//! A row is one step of the sequence: an interval of the contour, its cuts (the indices where the face outside changes)
+//! and the new vertices. Marks say which faces are left, and two stacks are their contour, with a current
+//! position. The next vertex to remove is sought from there backwards; so the time is about linear in the darts.
 #![tactic(auto)]
 
 mod contour;

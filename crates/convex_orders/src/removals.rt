@@ -29,7 +29,7 @@ use convex_laws::convex_rows::ConvexRows;
 use map_lists::ItemLists;
 use std::alloc::{AllocError, Global};
 
-/// The rows of a run, and the tables of the search for them. What the tables hold from run to run is memory alone.
+/// The rows of a construction sequence, and the tables by which they are found. These keep their memory between maps.
 #[derive(Drop)]
 pub struct RowTables {
     /// The rows.
@@ -54,7 +54,7 @@ fn push_row(rows: &mut ConvexRows, row: &[u16], cuts: &[u16]) -> Result<(), Allo
 }
 
 impl RowTables {
-    /// Makes tables for the rows of a run of a three-connected plane map, with no rows yet. They take no memory.
+    /// Returns tables with no rows yet, for three-connected plane maps. They take no memory.
     pub fn new(alloc: Global) -> RowTables {
         RowTables {
             rows: ConvexRows {

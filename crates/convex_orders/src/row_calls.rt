@@ -58,11 +58,11 @@ pub fn tables_of(
     })
 }
 
-/// Returns the rows of a construction sequence of a three-connected map of genus zero by its `tables`, in the memory of
+/// Returns the rows (steps) of a construction sequence of the three-connected plane map of `tables`, in the memory of
 /// `spent`. It fails only when out of memory.
 ///
-/// The run makes all faces but that of the base. Its first two ranks stand for the base's head and its tail, and the
-/// last one for the vertex before the base on the base's face.
+/// The sequence makes all faces but that of the base, the dart from `tables.tail` to `tables.head`. The first vertex is
+/// the base's head and the second its tail. The last is the vertex before the base on the base's face.
 pub fn rows_again(spent: RowTables, tables: &Tables) -> Result<RowTables, AllocError>
     ensures { IfOk result (λ made. AreRowsOfRun tables.now.lists tables.now.tail tables.now.head made.rows) }
 {
@@ -72,10 +72,10 @@ pub fn rows_again(spent: RowTables, tables: &Tables) -> Result<RowTables, AllocE
     Ok(made)
 }
 
-/// Returns the rows of a construction sequence of `map`, three-connected and of genus zero, from the dart `base`, from
-/// s to d. It takes the map's `lists` and its `faces`. It fails only when out of memory, and the map stays as it is.
+/// Returns the rows (steps) of a construction sequence of `map`, three-connected and of genus zero, for the dart `base`
+/// from s to d. `lists` and `faces` are those of the map. It fails only when out of memory.
 ///
-/// The run makes all faces but that of the base. Its first two ranks stand for d and s, and the last one for the
+/// The sequence makes all faces but that of the base. The first vertex is d and the second s, and the last one is the
 /// vertex before the base on the base's face.
 pub fn rows_by_faces(
     alloc: Global,

@@ -13,7 +13,7 @@ const BEGINS_BELOW: u32 = 4;
 // The mark of a return edge of the nonplanar part.
 const RETURNS: u32 = 9;
 
-/// Returns at which of three passes an edge with these marks is linked, from 0 to 2.
+/// Returns in which of three passes, from 0 to 2, `Kernel::chain_without` chains an edge with the marks `mark`.
 pub fn turn_of(mark: u32) -> u32 {
     if mark & RETURNS == RETURNS {
         2

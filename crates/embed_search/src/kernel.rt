@@ -110,8 +110,8 @@ impl Kernel {
         }
     }
 
-    /// Chains the kernel's edges except `out` in `links`, for the next search. A search then goes along those first
-    /// along which the last one returned, and last along those of its tree that join two ways by which it did.
+    /// Chains the kernel's edges except `out` in `links`, for the next search. That tries the last one's marked return
+    /// edges first, and last the tree edges with marked return edges from the lower end and to the upper end.
     pub fn chain_without(&self, links: &mut Links, out: u32) {
         links.begin_chains(self.edges.vertices);
         links.darts = twice(self.edges.count);

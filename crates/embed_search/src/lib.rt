@@ -1,7 +1,7 @@
 //! Fast answers for bare graphs: rotation lists by the left-right test, and Kuratowski subdivisions by its conflicts.
 //!
-//! That a graph is nonplanar is told only where what shows it passed a check. Of lists and of subdivisions nothing is
-//! promised but that they come: whoever calls checks them.
+//! A graph is said to be nonplanar only where a proof of that passed a check. Nothing is promised of rotation lists and
+//! subdivisions that are returned: the caller has to check them.
 #![tactic(auto)]
 
 mod conflict_marks;

@@ -111,8 +111,8 @@ impl Tables {
         self.tracer.keep(witness);
     }
 
-    /// Returns a witness that the graph of the last call is nonplanar, or None where that is not seen to be. It fails
-    /// only when out of memory.
+    /// Returns a witness that the graph of the last call is nonplanar, or None where the search finds none. It is not
+    /// checked. It fails only when out of memory.
     pub fn witness(&mut self, alloc: Global) -> Result<Option<Witness>, AllocError> {
         if self.edges.are_of_k5() {
             for edge in 0..self.edges.count {
@@ -136,7 +136,7 @@ pub fn planar_lists(alloc: Global, graph: &Graph) -> Result<Option<Rotations>, A
     Tables::new().planar_lists(alloc, graph)
 }
 
-/// Returns a witness that `graph` is nonplanar, or None where that is not seen to be. It fails only when out of memory.
+/// Returns a witness, not checked, that `graph` is nonplanar, or None if none is found. Fails only when out of memory.
 pub fn find_witness(alloc: Global, graph: &Graph) -> Result<Option<Witness>, AllocError> {
     let mut tables = Tables::new();
     tables.begin(graph);

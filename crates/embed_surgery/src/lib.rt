@@ -1,2 +1,2 @@
-//! Marks on faces and gluing of maps, which the theorem on planar graphs rests on.
+//! Lemmas for the theorem on planar graphs: maps glued at a vertex or along an edge, and their faces counted by marks.
 #![tactic(auto)]

@@ -88,8 +88,8 @@ impl StoredMap<'_> {
 /// Numbers the components of lists that are a simple map by their least vertices, and returns how many there are. The
 /// lists are concatenated in `entries`, each up to its end in `ends`.
 ///
-/// For each vertex `numbers`, which holds `UNMET` alone, gets the number of its component, and `queue` is room for a
-/// vertex. The time is linear in the entries.
+/// Writes the component's number, from 0, of each vertex to `numbers`, whose entries have to be `UNMET`. `queue` is
+/// scratch space. Both have an entry for each vertex. The time is linear in the entries.
 pub fn number_components(
     entries: &[u16],
     ends: &[usize],

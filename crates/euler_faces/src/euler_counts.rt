@@ -122,9 +122,9 @@ impl Counter {
         Ok(())
     }
 
-    /// Returns the counts of `lists`, which are from 1 to 4095, or the first fault of the lists.
+    /// Returns the counts of `lists`, from 1 to 4095 of them, or their first fault.
     ///
-    /// After `NoMemory` the counter serves as before. The time is linear in the entries.
+    /// After `NoMemory` the counter can still be used. The time is linear in the entries.
     pub fn count(&mut self, lists: &Rotations) -> Result<EulerCount, MapFault>
         requires some_list { 0 < length lists.now }
         ensures n { IfOk result (λ count. count.n ≡ vertex_count lists.now) }
@@ -153,8 +153,8 @@ impl Counter {
     }
 }
 
-/// Returns the counts of `lists`, which are from 1 to 4095, or the first fault of the lists. The time is linear in the
-/// entries, and so is the memory: six bytes for a dart.
+/// Returns the counts of `lists`, from 1 to 4095 of them, or their first fault. The time is linear in the entries, and
+/// so is the memory: six bytes for a dart.
 pub fn count_lists(alloc: Global, lists: &Rotations) -> Result<EulerCount, MapFault>
     requires some_list { 0 < length lists.now }
     ensures n { IfOk result (λ count. count.n ≡ vertex_count lists.now) }

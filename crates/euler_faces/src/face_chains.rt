@@ -77,9 +77,9 @@ fn go_on<F: Fn(DartId) -> bool>(
 
 /// Marks the faces that chains of faces reach from that of dart `start`, each sharing an edge with the next.
 ///
-/// A test says of a dart whether its edge counts. `met` has no mark yet; in the end it has one at twice the id of
-/// a dart where a chain comes to the face on its left over an even number of edges that count, and one behind that
-/// where a chain comes there over an odd number.
+/// `counts` says of a dart whether its edge counts. `met` has two entries for each dart id, with no mark yet. In the
+/// end entry 2i is marked where a chain comes to the face on the left of dart i over an even number of edges that
+/// count, and entry 2i + 1 where one comes there over an odd number.
 ///
 /// It fails only when out of memory. The time is linear in the map.
 pub fn mark_reached<F: Fn(DartId) -> bool>(

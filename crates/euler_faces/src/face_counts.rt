@@ -101,7 +101,7 @@ impl StoredMap<'_> {
         count
     }
 
-    // Returns the number of isolated vertices for so many `components`. If there is one, and an edge, no list is read.
+    // Returns the number of isolated vertices, by that of `components`. With one component and an edge no list is read.
     pub(crate) fn count_isolated(&self, components: u16) -> u32
         requires { components ≡ component_count (lists_of self.now) }
         ensures count { result ≡ isolated_count (lists_of self.now) }

@@ -21,8 +21,8 @@ fn count_isolated(map: &HalfMap) -> u32
     count
 }
 
-/// Returns the counts of `map`, which has so many `components`, by the walks of its faces, in time and memory linear in
-/// its darts. It fails only when out of memory.
+/// Returns the counts of `map` by the walks of its faces; `components` is the number of its components. The time and
+/// the memory are linear in its darts. It fails only when out of memory.
 pub fn euler_by_components(
     alloc: Global,
     map: &HalfMap,

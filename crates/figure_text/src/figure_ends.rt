@@ -17,9 +17,9 @@ use std::alloc::{AllocError, Global};
 /// An item at an offset of a text.
 #[derive(Drop)]
 pub enum Item {
-    /// A figure, with the offset and the number of the line behind it.
+    /// A figure, with the offset and the number of the line after it.
     Drawn(Figure, usize, u32),
-    /// A note: a line of what another job wrote, with the offset and the number of the line behind it.
+    /// A note: a line that another job wrote, with the offset and the number of the line after it.
     Note(usize, u32),
     /// The end of the text.
     End,
@@ -115,7 +115,7 @@ fn ids_of(alloc: Global, list: &[u16]) -> Result<Vec<VertexId>, AllocError>
     list.iter().map(|u| VertexId(*u)).collect(alloc)
 }
 
-// Returns the paths of `draft`: its lists behind the first. It fails only when out of memory.
+// Returns the paths of `draft`: its lists after the first. It fails only when out of memory.
 fn paths_of(alloc: Global, draft: &Draft) -> Result<PathList, AllocError>
     requires { 0 < length draft.now.lists }
     ensures { IfOk result (λ paths. paths ≡ map ids (drop 1 draft.now.lists)) }

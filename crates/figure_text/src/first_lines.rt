@@ -19,9 +19,9 @@ use std::alloc::{AllocError, Global};
 /// A closed line that stands outside a figure, judged.
 #[derive(Clone, Copy, PartialEq, Eq)]
 pub enum Front {
-    /// A note: a line of what another job wrote.
+    /// A note: a line that another job wrote.
     Note,
-    /// The first line of a figure of this kind with so many lines of vertices, or of branches and paths.
+    /// The first line of a figure: its kind, and how many lines of vertices, or of branches and paths, follow.
     Begins(Kind, usize),
     /// It has the shape of the first line of a figure of this kind, and a number outside its range.
     Limit(Kind),
@@ -29,7 +29,7 @@ pub enum Front {
     Bad,
 }
 
-// Returns word `i` of `line`, which is cut at its spaces, or no bytes where there are not so many.
+// Returns word `i`, from 0, of `line`, which is cut at its spaces, or no bytes where there are fewer words.
 fn part(line: &[u8], i: usize) -> &[u8]
     ensures { result.now ≡ part_at line.now i }
 {

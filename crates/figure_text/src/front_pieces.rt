@@ -17,13 +17,13 @@ use Piece::{Last, Literal, Place, Row, Value};
 pub enum Piece {
     /// The number of the vertex, from 1.
     Place,
-    /// This word of figures.
+    /// This known word.
     Literal(Name),
-    /// `branch` or `path`, by the place of the line.
+    /// `branch` or `path`, by the number of the line.
     Row,
     /// A number of the vertex.
     Value,
-    /// The last of them, before a colon.
+    /// The last number of the vertex, before a colon.
     Last,
 }
 
@@ -39,7 +39,7 @@ const RECTS: [Piece; 7] = [Place, Literal(X), Value, Value, Literal(Y), Value, L
 // The pieces for a witness.
 const WITNESS: [Piece; 1] = [Row];
 
-/// Returns the pieces that stand before the vertices in a line of a figure of this kind.
+/// Returns the pieces before the neighbours, or before the vertices of a branch or a path, in a line of this `kind`.
 pub fn pieces(kind: Kind) -> &'static [Piece]
     ensures pieces { result.now ≡ the_pieces kind }
     ensures few { length result.now ≤ 7 }
@@ -52,7 +52,7 @@ pub fn pieces(kind: Kind) -> &'static [Piece]
     }
 }
 
-/// Says whether `word`, in line `place` of its figure, has the shape of `piece`.
+/// Says whether `word`, in line number `place`, from 1, after a figure's first line, has the shape of `piece`.
 #[inline(always)]
 pub fn fits(piece: Piece, place: usize, word: Word) -> bool
     ensures { IsTrue result ↔ Fits place piece word }
@@ -66,7 +66,7 @@ pub fn fits(piece: Piece, place: usize, word: Word) -> bool
     }
 }
 
-/// Says whether `word`, that of `piece`, is within its range.
+/// Says whether `word` is within the range of `piece`: that of coordinates for a number of the vertex, else any.
 #[inline(always)]
 pub fn is_within(piece: Piece, word: Word) -> bool
     ensures { IsTrue result ↔ IsWithin piece word }

@@ -157,7 +157,7 @@ pub fn job_kind(words: &[Word]) -> Option<Kind>
     }
 }
 
-// Returns how many lines of vertices, or of branches and paths, the `words` of a first line announce.
+// Returns how many lines of vertices, or of branches and paths, follow the first line `words` of a figure of `kind`.
 pub fn row_count(kind: Kind, words: &[Word]) -> usize
     ensures { result ≡ rows_due kind words.now }
 {
@@ -167,7 +167,7 @@ pub fn row_count(kind: Kind, words: &[Word]) -> usize
     }
 }
 
-// Returns the word with which line `place` of a witness begins, counted from 1: `branch` or `path`.
+// Returns the word with which line number `place` after a witness's first line begins, from 1: `branch` or `path`.
 pub fn row_word(place: usize) -> Name
     ensures { result ≡ row_name place }
 {
@@ -184,7 +184,7 @@ pub fn is_witness(kind: Kind) -> bool
     }
 }
 
-// Says whether line `place` of a figure may have `len` words.
+// Says whether line number `place`, from 1, after the first line of a figure of `kind` may have `len` words.
 fn is_long(kind: Kind, place: usize, len: usize) -> bool
     ensures { result ≡ is_long_enough kind place len }
 {
@@ -200,7 +200,7 @@ fn is_long(kind: Kind, place: usize, len: usize) -> bool
     }
 }
 
-// Says whether `words` have the shape that is due in line `place` of a figure.
+// Says whether `words` have the shape of line number `place`, from 1, after the first line of a figure of `kind`.
 fn is_row(kind: Kind, place: usize, words: &[Word]) -> bool
     ensures { IsTrue result ↔ IsRow kind place words.now }
 {
@@ -262,7 +262,8 @@ pub fn worth(shape: bool, range: bool) -> Judged
     }
 }
 
-/// Judges the `words` of line `place` of a figure, the line of a vertex, of branches or of a path.
+/// Judges the `words` of line number `place`, from 1, after the first line of a figure of `kind`: the line of a vertex,
+/// of branches or of a path.
 pub fn judged_row(kind: Kind, place: usize, words: &[Word]) -> Judged
     ensures { Judges (IsRow kind place words.now) (RowInRange kind words.now) result }
 {

@@ -199,7 +199,7 @@ const MOST_DIGITS: usize = 6;
 pub struct Digits {
     /// The number that they give.
     pub value: u32,
-    /// The place behind them.
+    /// The index in the line after them.
     pub end: usize,
 }
 
@@ -277,7 +277,7 @@ fn closes_at(line: &[u8], end: usize) -> bool
 pub struct Next {
     /// The word.
     pub word: Word,
-    /// The place behind it.
+    /// The index in the line after it.
     pub end: usize,
 }
 

@@ -9,7 +9,7 @@ use std::alloc::{AllocError, Global};
 // How many numbers have four digits at most.
 const MANY: usize = 10_000;
 
-/// The text of a number below 10,000 behind a space: the last `length` of seven bytes. Those before it are spaces.
+/// The text of a number below 10,000 after a space: the last `length` of seven bytes. Those before it are spaces.
 #[derive(Clone, Copy)]
 pub struct Numeral {
     length: u8,

@@ -110,7 +110,7 @@ fn write_figure<R: Numbered>(
 
 /// Appends the text of `fig`, with the figure's `number`, to `out`. Each list of the drawing has an entry for each
 /// vertex, but for the columns of bars, of which there may be any number. A witness has as many branches and paths as
-/// its kind has, and no path is empty. When memory runs out the bytes are as they were.
+/// its kind has, and no path is empty. When memory runs out `out` is unchanged.
 pub fn print_figure(
     alloc: Global,
     number: u32,
@@ -206,7 +206,7 @@ impl Printer {
     }
 
     /// Appends the text of a straight-line drawing with this `number` to `out`, of `lists` and a point for each of
-    /// them. When memory runs out the bytes are as they were.
+    /// them. When memory runs out `out` is unchanged.
     pub fn print_grid(
         &mut self,
         number: u32,
@@ -228,7 +228,7 @@ impl Printer {
     }
 
     /// Appends the text of a visibility drawing with this `number` to `out`, of `lists` and a bar for each of them.
-    /// When memory runs out the bytes are as they were.
+    /// When memory runs out `out` is unchanged.
     pub fn print_bars(
         &mut self,
         number: u32,
@@ -252,7 +252,7 @@ impl Printer {
     }
 
     /// Appends the text of a rectangular dual with this `number` to `out`, of `lists` and a rectangle for each of them.
-    /// When memory runs out the bytes are as they were.
+    /// When memory runs out `out` is unchanged.
     pub fn print_rects(
         &mut self,
         number: u32,
@@ -272,8 +272,8 @@ impl Printer {
         self.print_lines(&heading, rects, out)
     }
 
-    /// Appends the text of `witness` with this `number`, and with the line of its `graph`, to `out`. When memory runs
-    /// out the bytes are as they were.
+    /// Appends the text of `witness`, as figure `number`, to `out`, with the graph6 line of its `graph` in the first
+    /// line. When memory runs out `out` is unchanged.
     pub fn print_witness(
         &mut self,
         number: u32,

@@ -15,9 +15,9 @@ const MOST_NUMBERS: usize = 7;
 /// The numbers in the front of a line, or in some first pieces of it.
 #[derive(Clone, Copy, PartialEq, Eq)]
 pub struct LineFront {
-    /// The size of each number, at the place of its word.
+    /// The absolute value of each number, at the index of its word.
     pub numbers: [u32; MOST_NUMBERS],
-    /// The place behind them.
+    /// The index in the line after these words and the space that follows.
     pub end: usize,
 }
 
@@ -166,7 +166,7 @@ impl VertexLine<'_> {
             && self.with_piece(front, 5, Piece::Last)
     }
 
-    /// Reads what stands before the neighbours into `front`, and says whether all its words are good.
+    /// Reads the front of this line into `front`, which is empty, and says whether all its words are plainly written.
     #[inline(always)]
     pub fn read_front(&self, front: &mut LineFront) -> bool
         ensures { IsFrontOf [] self.now.place self.now.line.now front.old → IsTrue result → IsFrontOf (the_pieces self.now.kind) self.now.place self.now.line.now front.new }

@@ -35,7 +35,7 @@ pub struct Draft {
 pub struct VertexLine<'a> {
     /// The kind of its figure.
     pub kind: Kind,
-    /// Its number behind the first line, from 1.
+    /// Its number among the lines after the first, from 1.
     pub place: usize,
     /// Its bytes.
     pub line: &'a [u8],
@@ -90,15 +90,15 @@ pub fn integer(word: Word) -> i32
     }
 }
 
-/// The numbers of a line, each at the place of its word.
+/// The numbers of a line, each at the index of its word.
 trait Values {
-    /// The number at the place of a word.
+    /// The number at the index of a word.
     ghost value: { Self → ℕ → ℤ };
 
-    /// There is a number at the place of a word.
+    /// There is a number at the index of a word.
     ghost Has: { Self → ℕ → Type 0 };
 
-    /// Returns the number at the place of word `i`.
+    /// Returns the number that word `i` of the line is.
     fn value_at(&self, i: usize) -> i32
         requires { Has self.now i }
         ensures { result ≡ value self.now i };

@@ -39,7 +39,8 @@ pub trait Numbered {
         ensures is { result ≡ longest }
         ensures few { result ≤ 80 };
 
-    /// Writes what stands on `line` before the neighbours before `end`, and returns where it starts.
+    /// Writes the front of `line`, all before its neighbours, into `bytes` so that it ends before index `end`. Returns
+    /// the index at which it starts; the bytes before that may change too.
     fn write_front(&self, line: &PrintedLine<'_>, bytes: &mut [u8], end: usize) -> usize
         requires has { Has self.now line.now.v }
         requires room { (longest ≤ end) × (end ≤ length bytes.old) }
@@ -162,7 +163,8 @@ impl Numbered for RectFigure {
     }
 }
 
-// Writes `line`, with the numbers that `figure` has for its vertex, before `end`, and returns where it starts.
+// Writes `line`, with the numbers that `figure` has for its vertex, into `bytes` so that it ends before index `end`.
+// Returns the index at which it starts.
 #[inline(always)]
 fn write_line<R: Numbered>(
     line: &PrintedLine<'_>,
@@ -182,8 +184,8 @@ fn write_line<R: Numbered>(
     figure.write_front(line, bytes, front)
 }
 
-/// Writes the lines of the vertices, with the numbers of `figure` and their neighbours by `lists`, at the end, and
-/// returns where they start: there is still room for a first line.
+/// Writes the lines of the vertices, with the numbers of `figure` and the neighbours in `lists`, at the end of `bytes`.
+/// Returns the index at which they start: at least 60 bytes before it are left for a first line.
 pub fn write_lines<R: Numbered>(
     texts: &Texts<'_>,
     figure: &R,

@@ -72,8 +72,8 @@ pub(crate) fn push_witness(
     Ok(())
 }
 
-/// Appends the text of `witness` with this `number`, and with the line of its `graph`, to `out`. When memory runs out
-/// the bytes are as they were.
+/// Appends the text of `witness`, as figure `number`, to `out`, with the graph6 line of its `graph` in the first line.
+/// When memory runs out `out` is unchanged.
 pub fn print_witness(
     alloc: Global,
     number: u32,

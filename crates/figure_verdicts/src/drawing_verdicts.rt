@@ -41,7 +41,8 @@ fn are_triangulation(alloc: Global, lists: &Rotations) -> bool
     }
 }
 
-/// Says without a map whether `lists` are seen to be a triangulation validly drawn at `points` in the grid to `corner`.
+/// Says whether a quick test, with no half-edge map, shows that `lists` are a triangulation validly drawn at `points`
+/// in the grid up to `corner`. False proves nothing.
 pub fn is_drawn_triangulation(
     alloc: Global,
     lists: &Rotations,

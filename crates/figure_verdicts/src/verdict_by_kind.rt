@@ -215,12 +215,13 @@ fn witness_verdict(graph: &Graph, witness: &Witness) -> FigureVerdict
     }
 }
 
-/// Returns the verdict on `figure`, whose numbers are within the ranges of its text: the first fault of its lists where
-/// they are no simple map. Else, of a straight-line drawing, its first fault in its grid, which is 2n - 4 by n - 2 for
-/// the shift method and n - 2 by n - 2 for Schnyder's; or, for a connected map, the least dart of a face that is turned
-/// inside out, as seen from the first vertex's first dart. For a convex drawing the grid is f - 1 by f - 1, for f
-/// faces, and it is how a face bends. Of bars it is their first fault within the width f - 1, and of rectangles their
-/// first fault. Else it is `Yes`. A witness has no lists: its verdict is its own first fault, or `Yes`.
+/// Returns the verdict on `figure`, whose numbers are within the ranges of its text: its first fault, or `Yes`.
+///
+/// Lists that are no simple map give their first fault. Bars are judged within the width f - 1, for f faces. A
+/// straight-line drawing is judged in its grid: 2n - 4 by n - 2 for the shift method, n - 2 by n - 2 for Schnyder's,
+/// and f - 1 by f - 1 for a convex one. If it has no fault there and the map is connected, the face of the first
+/// vertex's first dart has to be outside; else the least dart of a face turned inside out is named. Of a convex drawing
+/// how a face bends is named instead. A witness has no lists: its verdict is its own first fault.
 pub fn figure_verdict(alloc: Global, figure: &Figure) -> Result<FigureVerdict, AllocError>
     requires { IsGiven figure.now }
     ensures { IfOk result (IsFigureVerdict figure.now) }

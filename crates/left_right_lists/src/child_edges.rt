@@ -15,7 +15,7 @@ use std::alloc::{AllocError, Global};
 pub(crate) struct TreeVertex<'a> {
     /// The graph and its tree.
     pub rooted: RootedGraph<'a>,
-    /// What waits below each of the vertices that are placed, the last ones first.
+    /// For each vertex placed so far, the return edges from its subtree to proper ancestors; the last vertex first.
     pub opens: &'a ItemLists<(u16, u16)>,
     /// The vertex.
     pub v: u16,
@@ -36,7 +36,8 @@ impl<'a> TreeVertex<'a> {
             && u != entry(&tree.parents, self.v)
     }
 
-    /// Lists for each vertex `u` the return edges by the edge to `u`. It fails only when out of memory.
+    /// Lists for each child `u` the return edges from its subtree that end above this vertex, and for any other `u` the
+    /// edge to `u` alone. It fails only when out of memory.
     pub(crate) fn returned(&self, alloc: Global) -> Result<ItemLists<(u16, u16)>, AllocError>
         ensures { IfOk result (λ rows. AreValues (returned_at self.now.rooted.graph.now.n self.now.rooted.tree.now self.now.opens.now self.now.v) [] rows self.now.rooted.graph.now.n) }
     {
@@ -51,7 +52,8 @@ impl<'a> TreeVertex<'a> {
         Ok(rows)
     }
 
-    /// Lists for each vertex `u` the entries at this vertex for the edge to `u`. Fails only when out of memory.
+    /// Lists for each child `u` its block of entries at this vertex, as [`push_block`] makes it, and for any other `u`
+    /// the entry `u` alone. It fails only when out of memory.
     pub(crate) fn blocks(&self, alloc: Global) -> Result<ItemLists<u16>, AllocError>
         ensures { IfOk result (λ rows. AreValues (block_at self.now.rooted.graph.now.n self.now.rooted.tree.now self.now.opens.now self.now.v) [] rows self.now.rooted.graph.now.n) }
     {
@@ -73,8 +75,9 @@ impl<'a> TreeVertex<'a> {
         Ok(rows)
     }
 
-    /// Returns the vertices to which the edges lead, in an order in which they may stand, by the sides of edges that
-    /// return and by what returns by each edge, which are `returned`. It fails only when out of memory.
+    /// Returns the other ends of this vertex's edges to children and of its return edges, in an order in which each
+    /// edge may precede all later ones. `sides` has the sides of return edges, as `sides_of` returns them, and
+    /// `returned` is what [`TreeVertex::returned`] lists. It fails only when out of memory.
     pub(crate) fn order(
         &self,
         alloc: Global,

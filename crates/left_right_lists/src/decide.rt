@@ -10,7 +10,7 @@ use graph6_text::Graph;
 use map_lists::Rotations;
 use std::alloc::{AllocError, Global};
 
-/// Returns lists that are a map of genus zero of `graph`, or none without such a map. Fails only when out of memory.
+/// Returns the rotation lists of a map of genus zero of `graph`, or None if it has none. Fails only when out of memory.
 ///
 /// It takes polynomial time, and is not fast.
 pub fn map_of_graph(alloc: Global, graph: &Graph) -> Result<Option<Rotations>, AllocError>
@@ -31,7 +31,7 @@ pub fn map_of_graph(alloc: Global, graph: &Graph) -> Result<Option<Rotations>, A
     Ok(Some(rooted.rows_of(alloc, &entries)?))
 }
 
-/// Tells whether a graph has a map of genus zero, as [`map_of_graph`] finds it. It fails only when out of memory.
+/// Says whether `graph` has a map of genus zero, by [`map_of_graph`]. It fails only when out of memory.
 ///
 /// It takes polynomial time, and is not fast.
 pub fn has_map(alloc: Global, graph: &Graph) -> Result<bool, AllocError>

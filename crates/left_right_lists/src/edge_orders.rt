@@ -9,7 +9,7 @@ use left_right_check::entry;
 use map_lists::ItemLists;
 use std::alloc::{AllocError, Global};
 
-// Says whether the vertex `u` is not yet put in order, by the flags `free`.
+// Says whether `free` has a flag for vertex `u` that is set: its edge has no position in the order yet.
 fn is_free(free: &[bool], u: u16) -> bool
     ensures { IsTrue result ↔ IsFree free.now u }
 {
@@ -17,8 +17,8 @@ fn is_free(free: &[bool], u: u16) -> bool
     u < free.len() && free[u]
 }
 
-/// The return edges of each of the edges of a vertex, with the sides on which they return: the edges are put in order
-/// by them.
+/// What orders the edges of a vertex: `returns` lists the return edges by each, and `sides` has their sides, in a table
+/// for [`group`]. `depths` has the depth of each of the `n` vertices.
 #[derive(Clone, Copy)]
 pub(crate) struct Choice<'a> {
     pub depths: &'a [u16],
@@ -29,8 +29,8 @@ pub(crate) struct Choice<'a> {
 }
 
 impl<'a> Choice<'a> {
-    // Says whether each return edge of `ds` may stand before each of `es`. A later one on the left, or an earlier one
-    // on the right, must not end deeper.
+    // Says whether each return edge of `ds` may precede each of `es`. One of `es` on the left, or one of `ds` on the
+    // right, must not end deeper than the other.
     fn may_all_precede(&self, ds: &[(u16, u16)], es: &[(u16, u16)]) -> bool
         ensures { IsTrue result ↔ MayAllPrecede (slice_index self.now.depths.now) (side_in self.now.sides.now) ds.now es.now }
     {
@@ -49,7 +49,7 @@ impl<'a> Choice<'a> {
         true
     }
 
-    // Says whether the edge to `u` is not yet put in order, and may stand before all others that are not.
+    // Says whether the edge to `u` is flagged in `free`, and may precede all others that are.
     fn is_first(&self, free: &[bool], u: u16) -> bool
         requires { length free.now ≡ self.now.n }
         ensures { IsTrue result ↔ IsFirst self.now.depths.now self.now.sides.now self.now.returns.now free.now u }
@@ -69,7 +69,7 @@ impl<'a> Choice<'a> {
         true
     }
 
-    // Returns the least `u` whose edge may stand before all others that are not yet put in order, if there is one.
+    // Returns the least `u` whose edge is flagged in `free` and may precede all others that are, or None.
     fn first_free(&self, free: &[bool]) -> Option<u16>
         requires { length free.now ≡ self.now.n }
         ensures { MatchOption result ((u : ℕ) → ¬ IsFirst self.now.depths.now self.now.sides.now self.now.returns.now free.now u) (IsFirst self.now.depths.now self.now.sides.now self.now.returns.now free.now) }
@@ -82,8 +82,8 @@ impl<'a> Choice<'a> {
         None
     }
 
-    /// Returns the vertices flagged in `free`, in an order in which the edge to each may stand before all later ones,
-    /// where there is such an order. It clears the flags. It fails only when out of memory.
+    /// Returns the vertices flagged in `free`, in an order in which the edge to each may precede all later ones. There
+    /// has to be such an order. It clears the flags. It fails only when out of memory.
     pub(crate) fn order_of(&self, alloc: Global, free: &mut [bool]) -> Result<Vec<u16>, AllocError>
         requires free { length free.old ≡ self.now.n }
         requires order { (us : List ℕ) × IsOrderOf self.now.depths.now self.now.sides.now self.now.returns.now free.old us }

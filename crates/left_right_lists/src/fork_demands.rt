@@ -24,8 +24,8 @@ fn has_lower(depths: &[u16], darts: &[(u16, u16)], d: (u16, u16)) -> bool
     false
 }
 
-// Lists the demands of a fork, where `ones` return by one edge and `others` by another. They are the edges that end
-// below the end of one in the other list, each with its side. It fails only when out of memory.
+// Returns the demands of a fork with the return edges `ones` by one edge and `others` by another. They are the edges
+// that end deeper than some edge of the other list, each with whether it is of `others`. Fails only when out of memory.
 fn demands_of(
     alloc: Global,
     depths: &[u16],
@@ -46,7 +46,7 @@ fn demands_of(
     Ok(demands)
 }
 
-/// A graph with a depth-first tree, at whose forks the edges that return demand to be on one side or on different ones.
+/// A graph with a depth-first tree, at whose forks return edges must be on one side or on different sides.
 #[derive(Clone, Copy)]
 struct Forks<'a> {
     alloc: Global,
@@ -55,7 +55,7 @@ struct Forks<'a> {
 }
 
 impl<'a> Forks<'a> {
-    // Returns the edges that return from vertex `v` by the vertex's edge to `next`.
+    // Returns the return edges of `v` by its edge to `next`, as `is_return` has them. It fails only when out of memory.
     fn returns_by(&self, v: u16, next: u16) -> Result<Vec<(u16, u16)>, AllocError>
         requires { IsUpward self.now.graph.now self.now.up.now }
         ensures { IfOk result (λ found. (d : Dart) → Contains found.items d ↔ Returns self.now.graph.now self.now.up.now.tree.parents.items self.now.up.now.tree.depths.items v next d) }
@@ -73,8 +73,8 @@ impl<'a> Forks<'a> {
         Ok(found)
     }
 
-    // Merges groups as the forks of the edge from `v` to `e` with other edges of `v` demand. Returns false where
-    // these contradict the groups.
+    // Merges `groups` as the forks of the edge from `v` to `e` with other edges of `v` demand. Returns false where
+    // these contradict `groups`. It fails only when out of memory.
     fn meet_edge(&self, groups: &mut [(u32, bool)], v: u16, e: u16) -> Result<bool, AllocError>
         requires up { IsUpward self.now.graph.now self.now.up.now }
         requires long { length groups.old ≡ 65536 }
@@ -98,7 +98,7 @@ impl<'a> Forks<'a> {
         Ok(true)
     }
 
-    // Merges groups as all forks demand. Returns false where their demands contradict one another.
+    // Merges `groups` as all forks demand, or returns false where they contradict. It fails only when out of memory.
     fn meet_all(&self, groups: &mut [(u32, bool)]) -> Result<bool, AllocError>
         requires up { IsUpward self.now.graph.now self.now.up.now }
         requires long { length groups.old ≡ 65536 }
@@ -116,8 +116,8 @@ impl<'a> Forks<'a> {
     }
 }
 
-/// Returns a table of sides by which the edges that return are parted into left and right, or none where there is no
-/// such partition. It fails only when out of memory.
+/// Returns a left-right partition of the return edges of `graph` along the tree of `up`, as a table for
+/// [`crate::side_groups::group`], or None where there is none. It fails only when out of memory.
 pub(crate) fn sides_of(
     alloc: Global,
     graph: &Graph,

@@ -1,7 +1,7 @@
 //! A planarity test whose yes and no are both proved, and a map of each planar graph.
 //!
-//! A graph has a map of genus zero exactly where the edges that return along a depth-first tree can be parted into left
-//! and right. All that forks demand of their sides is met in a table of groups, or there is no such partition. By these
+//! A graph has a map of genus zero exactly where the return edges (back edges) of a depth-first tree have a left-right
+//! partition. All that forks demand of their sides is met in a table of groups, or there is no such partition. By these
 //! sides the vertices are placed one by one, the last of the tree's order first, and their entries are the lists of a
 //! map.
 #![tactic(auto)]

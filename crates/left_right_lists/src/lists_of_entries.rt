@@ -8,8 +8,8 @@ use map_lists::{ItemLists, Rotations, VertexId};
 use std::alloc::{AllocError, Global};
 
 impl<'a> RootedGraph<'a> {
-    /// Returns the rotation lists of the graph: for each vertex its `entries` and its parent, without edges that only
-    /// the tree has. It fails only when out of memory.
+    /// Returns the rotation lists of the graph: for each vertex its list of `entries`, which `all_entries` made, and
+    /// then its parent, without edges of the tree alone. It fails only when out of memory.
     pub(crate) fn rows_of(
         &self,
         alloc: Global,

@@ -1,4 +1,4 @@
-//! The vertices of a tree placed one by one, the last of the search order first: their list entries.
+//! The list entries of all vertices of a depth-first tree, found from the last vertex of the search order to the first.
 ghost use Rattle.std.specs.Prelude.{◌≡◌, ◌<◌, [], ℕ, length, slice_index_or, Contains, IfOk};
 ghost use Rattle.map_lists.specs.Lists.{Lists};
 ghost use Rattle.embed_theorem.specs.Expanded.{IsMapOf};
@@ -13,7 +13,7 @@ use left_right_check::entry;
 use map_lists::ItemLists;
 use std::alloc::{AllocError, Global};
 
-// Returns the lists of `rows` whose indices are `us`, joined in this order. It fails only when out of memory.
+// Returns the lists of `rows` at the indices `us`, concatenated in this order. It fails only when out of memory.
 fn joined_rows<T: Copy>(
     alloc: Global,
     rows: &ItemLists<T>,
@@ -30,8 +30,8 @@ fn joined_rows<T: Copy>(
 }
 
 impl<'a> RootedGraph<'a> {
-    /// Lists the entries of all vertices but their parents, those of the last vertices first, by the sides of edges
-    /// that return. It fails only when out of memory.
+    /// Returns for each vertex its list entries without its parent, the last vertex of the search order first. `sides`
+    /// has the sides of return edges, as `sides_of` returns them. It fails only when out of memory.
     pub(crate) fn all_entries(
         &self,
         alloc: Global,

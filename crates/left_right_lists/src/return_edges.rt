@@ -46,7 +46,7 @@ impl<'a> RootedGraph<'a> {
         entry(&self.tree.depths, u) != 0 && entry(&self.tree.parents, u) == v
     }
 
-    /// Says whether an edge of the graph or of its tree joins two vertices.
+    /// Says whether an edge of the graph or of its tree joins `u` and `v`.
     pub(crate) fn are_joined(&self, u: u16, v: u16) -> bool
         ensures { result ≡ joined_in self.now.graph.now self.now.tree.now.parents.items self.now.tree.now.depths.items u v }
     {
@@ -68,8 +68,8 @@ impl<'a> RootedGraph<'a> {
         after_steps(&self.tree.parents, v, low - high) == u
     }
 
-    /// Says whether an edge of the graph or of its tree returns from vertex `v` by the vertex's edge to `next`: it ends
-    /// above `v`, and the way from `v` down to its lower end, and then along it, begins with that edge.
+    /// Says whether `d`, an edge from its lower end to its upper one, is a return edge of `v` by its edge to `next`. It
+    /// ends above `v`, and the tree path from `v` down to `d.0`, with `d` after it, begins with that edge.
     pub(crate) fn is_return(&self, v: u16, next: u16, d: (u16, u16)) -> bool
         requires { joined_in self.now.graph.now self.now.tree.now.parents.items self.now.tree.now.depths.items d.0 d.1 ≡ true }
         ensures { IsTrue result ↔ Returns self.now.graph.now self.now.tree.now.parents.items self.now.tree.now.depths.items v next d }
@@ -109,7 +109,8 @@ pub(crate) struct Upward {
     pub darts: Vec<(u16, u16)>,
 }
 
-/// Returns a depth-first tree of a graph, and the edges that lead upwards in it. It fails only when out of memory.
+/// Returns a depth-first tree of `graph`, which has a vertex, and all edges from lower to upper end. It fails only when
+/// out of memory.
 pub(crate) fn upward_of(alloc: Global, graph: &Graph) -> Result<Upward, AllocError>
     requires { 0 < graph.now.n }
     ensures { IfOk result (IsUpward graph.now) }

@@ -6,7 +6,8 @@ ghost use Rattle.left_right_lists.specs.Groups.{Demand, IsPlaced, Fits, AreMerge
 use left_right_check::turned;
 use std::alloc::{AllocError, Global};
 
-/// Returns the number of the group of the edge `d`, and whether the edge is on the other side than the group.
+/// Returns entry 256 t + w of `groups` for the return edge `d` from t up to w: the number of its group, and whether it
+/// is on the side opposite to the group's. For an entry past the table it returns `(0, false)`.
 pub(crate) fn group(groups: &[(u32, bool)], d: (u16, u16)) -> (u32, bool)
     ensures { result ≡ group_of groups.now d }
 {

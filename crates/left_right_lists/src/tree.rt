@@ -10,14 +10,14 @@ use graph6_text::Graph;
 use left_right_check::entry;
 use std::alloc::{AllocError, Global};
 
-/// A depth-first tree of a graph, as tables. The root is made the parent of a vertex of each part other than its own.
+/// A depth-first tree of a graph, as tables. The root is made the parent of a vertex of each other component.
 #[derive(Drop)]
 pub struct Tree {
     /// The root.
     pub root: u16,
-    /// The vertices, each behind its parent.
+    /// The vertices, each after its parent.
     pub order: Vec<u16>,
-    /// For each vertex its place in that order.
+    /// For each vertex its index in `order`.
     pub number: Vec<u16>,
     /// For each vertex its parent.
     pub parents: Vec<u16>,
@@ -25,7 +25,7 @@ pub struct Tree {
     pub depths: Vec<u16>,
 }
 
-/// Returns a depth-first tree of a graph. It fails only when out of memory.
+/// Returns a depth-first tree of `graph`, which has a vertex. It fails only when out of memory.
 pub fn tree_of(alloc: Global, graph: &Graph) -> Result<Tree, AllocError>
     requires { 0 < graph.now.n }
     ensures { IfOk result (IsTreeOf graph.now) }

@@ -1,5 +1,5 @@
-//! From sides to maps: a graph whose edges that return can be parted into left and right has a map of genus
-//! zero. Each law is the contract of a function that does nothing, and speaks of all graphs.
+//! From sides to maps: a graph whose return edges have a left-right partition has a map of genus zero. Each law is the
+//! contract of a function that does nothing, and holds of all graphs.
 #![tactic(auto)]
 
 ghost use Rattle.left_right_maps.specs.Brackets.{BalancedIsPlane};
@@ -7,8 +7,8 @@ ghost use Rattle.left_right_maps.specs.Graphs.{PlanarByLeftRight};
 ghost use Rattle.left_right_maps.specs.Orders.{ForkIsOrdered};
 ghost use Rattle.left_right_maps.specs.RootedMaps.{TreeHasTour};
 
-/// At each fork of a graph parted into left and right, its edges can be put in an order in which the edges
-/// that return by them may stand.
+/// States the law that with a left-right partition the edges of each fork have an order in which each may precede all
+/// later ones, by the sides of their return edges.
 pub fn fork_is_ordered()
     ensures { ForkIsOrdered }
 {}

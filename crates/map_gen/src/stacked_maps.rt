@@ -108,14 +108,14 @@ fn inner_face(map: &HalfMap) -> FaceDarts
     }
 }
 
-/// Returns the map with `n` vertices, from 3 to 4095, that the generator makes from a number.
+/// Returns the map with `n` vertices, from 3 to 4095, that the generator makes from the seed `number`.
 ///
 /// It begins with the triangle of the vertices 0, 1 and 2, whose lists are `1 2`, `2 0` and `0 1`, and with
 /// one inner face, which goes from 0 to 2 to 1. Each further vertex k is put into an inner face: the number
 /// becomes 1103515245 times itself and 12345 more, modulo 2^32, and its upper half, modulo the count of inner
-/// faces, is the place of a face, which goes from a to b to c. The list of k is `a c b`; k stands directly
-/// behind c in the list of a, behind a in that of b, and behind b in that of c. The face from a to b to k
-/// comes in the place of the old one, and those from b to c to k and from c to a to k come last.
+/// faces, is the index of a face, which goes from a to b to c. The list of k is `a c b`; k comes directly
+/// after c in the list of a, after a in that of b, and after b in that of c. The face from a to b to k
+/// replaces the old one, and those from b to c to k and from c to a to k are appended.
 ///
 /// It fails only when out of memory. The time is linear in `n`.
 pub fn stacked(alloc: Global, n: u16, number: u32) -> Result<Rotations, AllocError>

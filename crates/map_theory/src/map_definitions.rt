@@ -1,4 +1,3 @@
-//! The definitions that Pigale's contracts cite, and the lemmas on them that several crates need.
+//! The definitions of maps that contracts cite (darts, faces, components, genus), and lemmas that several crates need.
 //!
-//! The definitions stand in `specs/`, one module for each subject: plane maps and their counts,
-//! classes and orbits, planar_code and how it is read, and the text that a run writes.
+//! The definitions stand in `specs/`: maps and their counts in `Maps`, paths in `Paths`, lists less an edge in `Edges`.

@@ -1,5 +1,5 @@
-//! A canonical order of a triangulation is a run of insertions over the contour, whose faces are those of the
-//! map. What is proved of runs then holds of orders.
+//! Law: a canonical order of a triangulation is a construction sequence (a run), whose faces are those of the map. What
+//! is proved of construction sequences then holds of canonical orders.
 
 ghost use Rattle.order_drawings.specs.OrderRuns.{OrderIsRun};
 

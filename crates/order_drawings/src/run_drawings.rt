@@ -1,5 +1,5 @@
-//! Triangulations drawn by the run of a canonical order. What a method of drawing has to show is of runs alone:
-//! that the faces which a run makes are counterclockwise, and the one on the other side of the base is not.
+//! Laws: when points over a canonical order of a triangulation are a plane drawing. A method has to show only that the
+//! faces which the construction sequence makes are counterclockwise, and the other face of the base is clockwise.
 //! Each law is the contract of a function that does nothing but call those on which it stands.
 
 ghost use Rattle.order_drawings.specs.RunDrawings.{CounterclockwiseRunDraws, PointsOfOrder};

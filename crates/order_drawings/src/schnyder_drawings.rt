@@ -1,5 +1,5 @@
-//! Triangulations drawn by Schnyder's coordinates (1990). Each law is the contract of a function that does
-//! nothing but call those on which it stands.
+//! Laws: Schnyder's coordinates (1990) are a plane drawing of a triangulation, and each has one. Each law is the
+//! contract of a function that does nothing but call those on which it stands.
 
 ghost use Rattle.order_drawings.specs.SchnyderDrawings.{WoodPointsDraw, SomeWoodPoints, SomeSchnyderDrawing};
 

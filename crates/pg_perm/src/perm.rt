@@ -94,7 +94,7 @@ impl Perm {
         self.images.swap(a as usize, b as usize);
     }
 
-    /// Returns the number of orbits. The time is linear.
+    /// Returns the number of orbits. The time is linear. It fails only when out of memory.
     pub fn orbit_count(&self, alloc: Global) -> Result<u32, AllocError>
         ensures { IfOk result (λ count. count ≡ orbit_count self.now) }
     {

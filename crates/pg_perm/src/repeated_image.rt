@@ -1,11 +1,11 @@
-//! The least pair of indices that have one image in a list.
+//! The least pair of indices at which a list of images has the same number.
 ghost use Rattle.std.specs.Prelude.{◌≡◌, ◌≢◌, ◌<◌, ◌^◌, length, All, AllPairs, IfOk, MatchOption};
 ghost use Rattle.pg_perm.specs.Repeat.{IsFirstRepeat};
 
 use std::alloc::{AllocError, Global};
 
-/// Returns the least pair of indices, by its first and then by its second, that have one image. None means that no
-/// number stands twice. The time is linear. It fails only when out of memory.
+/// Returns the least pair of indices, by its first and then by its second, at which `images` has the same number, or
+/// None where no number is repeated. The time is linear. It fails only when out of memory.
 pub fn first_repeat(alloc: Global, images: &[u32]) -> Result<Option<(u32, u32)>, AllocError>
     requires few { length images.now < 2 ^ 32 }
     requires in_range { All (λ x. x < length images.now) images.now }

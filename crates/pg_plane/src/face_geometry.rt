@@ -4,9 +4,9 @@
 
 ghost use Rattle.pg_plane.specs.Law.{FacesArePlane};
 
-/// Where each face is a triangle that is walked counterclockwise, but for that of a base, which is walked
-/// clockwise, vertices stand apart, none stands on an edge of which it is no end, no two edges cross, and
-/// the directions round each vertex go clockwise just once round.
+/// States the law of a drawing in which each face is a triangle walked counterclockwise, but for that of a base,
+/// which is walked clockwise. Its points are distinct, and none lies on an edge of which it is no end. No two edges
+/// cross, and the directions from each vertex go clockwise exactly once round.
 pub fn faces_are_plane()
     ensures { FacesArePlane }
 {}

@@ -8,7 +8,7 @@ ghost use Rattle.pg_plane.specs.Range.{IsWithin, IsInRange, IsDirection};
 pub const MOST_COORDINATE: i32 = 1_048_576;
 
 /// A point of the grid, or a direction. Coordinates are from -2^20 to 2^20, those of a direction from
-/// -2^21 to 2^21, wherever a call asks for it.
+/// -2^21 to 2^21, where a call requires it.
 #[derive(Clone, Copy, PartialEq, Eq)]
 pub struct Point {
     /// How far to the right.
@@ -48,8 +48,8 @@ fn minor(u: i64, v: i64, s: i64, t: i64) -> i64
     product(u, v) - product(s, t)
 }
 
-/// Returns twice the area of the triangle `a`, `b`, `c`: positive where `c` lies to the left of the way from `a` to
-/// `b`, and zero where the three are in line.
+/// Returns twice the signed area of the triangle `a`, `b`, `c`: positive where `c` lies to the left of the line from
+/// `a` to `b`, and zero where the three are collinear.
 pub fn area2(a: Point, b: Point, c: Point) -> i64
     requires a { IsInRange a }
     requires b { IsInRange b }

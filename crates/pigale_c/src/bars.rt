@@ -58,8 +58,8 @@ fn judged(given: &MapArrays<'_>, bars: &BarArrays<'_>, width: i32) -> Result<Out
     Ok(Outcome::Bars(verdict))
 }
 
-/// Judges a visibility drawing of a map within the width from 0 to `width`. Returns the status of the verdict, and
-/// writes the vertices that it names to `found`.
+/// Judges a visibility drawing of a map within the width from 0 to `width`: bars at heights `y` from `x1` to `x2`, and
+/// the `column` of each edge. Returns the verdict's status, and writes the vertices that it names to `found`.
 #[unsafe(no_mangle)]
 pub extern "C" fn pigale_check_bars(
     alloc: Global,
@@ -104,8 +104,8 @@ fn drawn(given: &MapArrays<'_>, bars: &BarArrays<'_>) -> Result<BarFigure, Failu
     Ok(figure)
 }
 
-/// Draws a biconnected plane map by bars, over the width f - 1 for f faces, into the last four arrays. Returns a
-/// status, and writes the numbers beside it to `found`.
+/// Draws a biconnected plane map by bars, over the width f - 1 for f faces, at heights `y` from `x1` to `x2`, with the
+/// `column` of each edge. Returns a status, and writes the numbers beside it to `found`.
 #[unsafe(no_mangle)]
 pub extern "C" fn pigale_bars(
     alloc: Global,

@@ -1,4 +1,7 @@
 //! Pigale as a library for C: calls over plain numbers and arrays, each with the clauses of the call that it makes.
+//!
+//! A map is given by `neighbours`, the lists of its vertices concatenated in clockwise order, and `ends`, where the
+//! list of each vertex ends in it. The numbers beside a status are the vertices, from 0, or the count that it names.
 #![tactic(auto)]
 
 pub mod bars;

@@ -59,7 +59,8 @@ fn judged(given: &MapArrays<'_>, rects: &RectArrays<'_>) -> Result<Outcome, Fail
     Ok(Outcome::Rects(verdict))
 }
 
-/// Judges a rectangular dual of a map. Returns the verdict's status, and writes the vertices that it names to `found`.
+/// Judges a rectangular dual of a map, with a rectangle from `x1` to `x2` and `y1` to `y2` for each vertex. Returns the
+/// verdict's status, and writes the vertices that it names to `found`.
 #[unsafe(no_mangle)]
 pub extern "C" fn pigale_check_rects(
     alloc: Global,
@@ -101,8 +102,8 @@ fn drawn(given: &MapArrays<'_>, rects: &RectArrays<'_>) -> Result<RectFigure, Fa
     }
 }
 
-/// Draws a map of triangles within a quadrangle as a rectangular dual, within n - 2 by n - 2, into the four arrays.
-/// Returns a status, and writes the numbers beside it to `found`.
+/// Draws a map of triangles within a quadrangle as a rectangular dual, within n - 2 by n - 2, into `x1`, `x2`, `y1` and
+/// `y2`. Returns a status, and writes the numbers beside it to `found`.
 #[unsafe(no_mangle)]
 pub extern "C" fn pigale_rect(
     alloc: Global,

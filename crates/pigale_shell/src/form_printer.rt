@@ -54,8 +54,8 @@ impl FormPrinter {
         }
     }
 
-    /// Appends a straight-line drawing of a simple map in the form of its record. When memory runs out the bytes are as
-    /// they were.
+    /// Appends a straight-line drawing of a simple map in the form of its record. When memory runs out `out` is
+    /// unchanged.
     pub(crate) fn print_grid(
         &mut self,
         given: &MapRecord<'_>,
@@ -76,8 +76,8 @@ impl FormPrinter {
         }
     }
 
-    /// Appends a visibility drawing of a simple map in the form of its record. When memory runs out the bytes are as
-    /// they were.
+    /// Appends a visibility drawing of a simple map in the form of its record. When memory runs out `out` is
+    /// unchanged.
     pub(crate) fn print_bars(
         &mut self,
         given: &MapRecord<'_>,
@@ -97,7 +97,7 @@ impl FormPrinter {
         }
     }
 
-    /// Appends a rectangular dual in the form of its record. When memory runs out the bytes are as they were.
+    /// Appends a rectangular dual in the form of its record. When memory runs out `out` is unchanged.
     pub(crate) fn print_rects(
         &mut self,
         given: &MapRecord<'_>,
@@ -117,7 +117,7 @@ impl FormPrinter {
     }
 
     /// Appends what was found of a graph in the form of its record: a map of it, as it is drawn, or a witness that it
-    /// has none in the plane. When memory runs out the bytes are as they were.
+    /// has none in the plane. When memory runs out `out` is unchanged.
     pub(crate) fn print_embedded(
         &mut self,
         given: &GraphRecord<'_>,
@@ -141,7 +141,7 @@ impl FormPrinter {
         }
     }
 
-    // Appends a witness of a graph in the form of its record. When memory runs out the bytes are as they were.
+    // Appends a witness of a graph in the form of its record. When memory runs out `out` is unchanged.
     fn print_witness(
         &mut self,
         given: &GraphRecord<'_>,

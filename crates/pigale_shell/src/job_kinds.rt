@@ -12,6 +12,6 @@ pub enum JobKind {
     Graphs(Form),
     /// Figures.
     Figures,
-    /// Nothing: it makes the map of so many vertices from a number.
+    /// Nothing: it makes a map, by its number of vertices and the seed.
     Made(u16, u32),
 }

@@ -96,7 +96,7 @@ pub(crate) fn answer_map(
     }
 }
 
-/// A law: no job serves a map that it refuses, and none names two conditions.
+/// States the law that no job serves a map that it refuses, and none names two conditions.
 pub(crate) fn map_jobs_are_lawful()
     ensures { (job : MapJob) → IsLawful (says_of job) }
 {

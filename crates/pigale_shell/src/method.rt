@@ -55,7 +55,7 @@ pub trait Method: Drop {
         ensures served { OnOk result (says.Serves lists.now) }
         ensures refused { IfErr result (IfRefused (says.Breaks lists.now)) };
 
-    /// Appends what was found of a record that it serves. When memory runs out the bytes are as they were.
+    /// Appends what was found of a record that it serves. When memory runs out `out` is unchanged.
     fn print(
         &mut self,
         given: &MapRecord<'_>,
@@ -70,7 +70,7 @@ pub trait Method: Drop {
     /// Keeps the memory of a figure that is printed.
     fn keep(&mut self, figure: Self::Figure);
 
-    /// A law: no map is both served and refused, and each breaks one condition first.
+    /// States the law that no map is both served and refused, and each breaks one condition first.
     fn lawful()
         ensures { IsLawful (says) };
 }

@@ -1,4 +1,4 @@
-//! The lines of the output: counts, refusals, and the last line of a run.
+//! The lines of the output, as text: counts, refusals, and the last line of a run.
 ghost use Rattle.std.specs.Prelude.{◌≡◌, ◌+◌, ◌++◌, ◌∷◌, [], OnOk, IfOk, decimal};
 ghost use Rattle.pigale_shell.specs.Text.{counts_line, refusal_bytes, refusal_line as refusal_line_of, last_line as last_line_of};
 ghost use Rattle.map_theory.specs.Maps.{genus_of};
@@ -104,7 +104,7 @@ fn push_refusal(out: &mut Vec<u8>, refusal: Refusal) -> Result<(), AllocError>
     }
 }
 
-/// Returns the line that refuses record `number` for a condition.
+/// Returns the line that refuses record `number` for the condition `refusal`, as text.
 pub fn refusal_line(alloc: Global, number: u32, refusal: Refusal) -> Result<Vec<u8>, AllocError>
     ensures { IfOk result (λ line. line.items ≡ refusal_line_of number refusal) }
 {

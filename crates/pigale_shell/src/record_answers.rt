@@ -1,4 +1,4 @@
-//! The answer to one record of planar_code: its block, or the line that refuses it.
+//! The answer to one record of planar_code, as text or SVG: its block, or the line that refuses it.
 ghost use Rattle.std.specs.Prelude.{◌≡◌, ◌<◌, ◌≤◌, ◌↔◌, length, IsTrue, IfOk, OnOk, OnErr};
 ghost use Rattle.pigale_shell.specs.Text.{refusal_line as refusal_line_of};
 ghost use Rattle.pigale_shell.specs.Forms.{line_in as line_by};
@@ -16,9 +16,9 @@ use pigale_words::{Form, Job};
 use refusals::{Refusal, Unserved};
 use std::alloc::{AllocError, Global};
 
-/// Appends the block of a job over planar_code for a record with these lists, which are from 1 to 4095, and
-/// answers whether the record was served. The record's `number` is from 1 to 16777216. When memory
-/// runs out nothing has changed.
+/// Appends to `out` the block of `job`, one over planar_code, for a record with these `lists`, from 1 to 4095 of
+/// them. Returns whether the record was served. The record's `number` is from 1 to 16777216. When memory runs out
+/// `out` is unchanged.
 pub fn answer_record(
     alloc: Global,
     job: Job,

@@ -1,5 +1,5 @@
-//! Lines in an order, on which things lie, where a line may be inserted after any other: a linked list, numbered in
-//! the end. A line more moves all numbers behind it in constant time.
+//! The lines on which the left, or the lower, sides of boxes lie, in order: a linked list that is numbered in the end.
+//! A line is inserted after any other in constant time, and so the numbers of all later lines rise by one.
 
 ghost use Rattle.std.specs.Prelude.{◌≡◌, ◌<◌, ◌^◌, ℕ, suc, List, length, slice_index, All, IfOk};
 ghost use Rattle.rect_runs.specs.Numbers.{shifted, with_new};
@@ -7,7 +7,7 @@ ghost use Rattle.rect_dual.specs.Lines.{AreLines, AreWalked};
 
 use std::alloc::{AllocError, Global};
 
-/// Puts thing `z`, the next one, on the line of thing `u`.
+/// Puts box `z`, the next one, on the line of box `u`.
 pub fn put_level(lines: &mut [u16], u: u16, z: u16)
     requires u { u < length lines.old }
     requires z { z < length lines.old }
@@ -18,7 +18,7 @@ pub fn put_level(lines: &mut [u16], u: u16, z: u16)
     lines[z as usize] = lines[u as usize];
 }
 
-/// Puts thing `z`, the next one, on a new line directly after that of thing `u`.
+/// Puts box `z`, the next one, on a new line directly after that of box `u`.
 pub fn put_own(lines: &mut [u16], next: &mut [u16], u: u16, z: u16)
     requires u { u < length lines.old }
     requires z { z < length lines.old }
@@ -51,10 +51,10 @@ fn walk(numbers: &mut [u32], next: &[u16], first: u16, count: usize)
     }
 }
 
-/// Lines as a linked list: the line of each thing, and the line after each line.
+/// Lines as a linked list: the line of each box, and the line after each line.
 #[derive(Clone, Copy)]
 pub struct Linked<'a> {
-    /// For each thing the thing that names its line.
+    /// For each box the box that names its line.
     pub lines: &'a [u16],
     /// For each line the next one.
     pub next: &'a [u16],
@@ -64,8 +64,8 @@ pub struct Linked<'a> {
 }
 
 impl Linked<'_> {
-    /// Returns for each thing the number of its line, where there are `count` lines from `first` on. The time is
-    /// linear in the things and the lines. It fails only when out of memory.
+    /// Returns for each box the number of its line, where there are `count` lines from `first` on. The time is
+    /// linear in the boxes and the lines. It fails only when out of memory.
     pub fn numbers(&self, alloc: Global, first: u16, count: usize) -> Result<Vec<u32>, AllocError>
         requires first { first < length self.now.lines.now }
         requires few { count < 2 ^ 20 }

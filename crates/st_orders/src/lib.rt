@@ -1,5 +1,5 @@
-//! St-numberings (st-orders) of biconnected maps: the vertices from one end of an edge to the other, each other one
-//! with an earlier and a later neighbour.
+//! St-numberings (st-orders) of biconnected maps: s and t, the ends of an edge, come first and last, and each other
+//! vertex has an earlier and a later neighbour.
 //!
 //! A search from s that sees t next gives each vertex a range of places within its parent's. A vertex stands
 //! on the other side of its parent than the vertex at its low point does: so it stands between the two.

@@ -105,7 +105,7 @@ fn push_columns(
 }
 
 /// Appends a visibility drawing of a simple map as SVG, with a bar for each vertex and a column for each edge. When
-/// memory runs out the bytes are as they were.
+/// memory runs out `out` is unchanged.
 pub fn svg_bars(
     alloc: Global,
     lists: &Rotations,

@@ -82,7 +82,7 @@ fn push_dots(out: &mut Vec<u8>, points: &Points, height: i32) -> Result<(), Allo
 }
 
 /// Appends a straight-line drawing of a simple map as SVG, with a point for each vertex. When memory runs out the
-/// bytes are as they were.
+/// bytes are unchanged.
 pub fn svg_grid(
     alloc: Global,
     lists: &Rotations,

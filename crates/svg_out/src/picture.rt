@@ -8,7 +8,7 @@ use std::alloc::{AllocError, Global};
 
 /// Appends a figure with this number as SVG. Its lists are a simple map, and its drawing has an entry for each
 /// vertex, and bars a column for each edge. A witness, which has as many branches and paths as its kind and no empty
-/// path, is its text in a comment, where alone the number shows. When memory runs out the bytes are as they were.
+/// path, is its text in a comment, where alone the number shows. When memory runs out `out` is unchanged.
 pub fn svg(alloc: Global, number: u32, figure: &Figure, out: &mut Vec<u8>) -> Result<(), AllocError>
     requires { IsDrawn figure.now }
     ensures ok { OnOk result ((svg : List ℕ) × IsSvg number figure.now svg × (out.new.items ≡ out.old.items ++ svg)) }

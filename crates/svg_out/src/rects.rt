@@ -42,7 +42,7 @@ fn push_tiles(
     Ok(())
 }
 
-/// Appends a rectangular dual as SVG, with a rectangle for each list. When memory runs out the bytes are as before.
+/// Appends a rectangular dual as SVG, with a rectangle for each list. When memory runs out `out` is unchanged.
 pub fn svg_rects(
     alloc: Global,
     lists: &Rotations,

@@ -24,7 +24,7 @@ fn comment(
 }
 
 /// Appends the text of a witness with this number as a comment, since a witness has no picture. No byte of the text
-/// is a minus, so the comment ends at its last line. When memory runs out the bytes are as they were.
+/// is a minus, so the comment ends at its last line. When memory runs out `out` is unchanged.
 pub fn svg_witness(
     alloc: Global,
     number: u32,

@@ -1,4 +1,4 @@
-//! Rounds of the vertices of a map, entry by entry, and searches for the first dart that passes a test.
+//! Searches for the first dart of a map that passes a test, and whether exactly one dart of a vertex does.
 #![tactic(auto)]
 
 mod first_passing;

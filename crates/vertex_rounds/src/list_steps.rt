@@ -1,4 +1,5 @@
-//! The next dart of a vertex in the order of its list, which ends at the last entry.
+//! Steps of a search round a vertex: the next dart of its list, up to the last, and a test against the least vertex
+//! yet.
 ghost use Rattle.std.specs.Prelude.{◌≡◌, ◌+◌, ◌<◌, ◌↔◌, ℕ, length, IsTrue, Some, MatchOption};
 ghost use Rattle.map_theory.specs.Maps.{list_of, place_of};
 ghost use Rattle.half_edges.specs.Map.{IsHalfMap, IsLive, dart_at};
@@ -21,7 +22,7 @@ pub fn later_dart(map: &HalfMap, d: DartId) -> Option<DartId>
     }
 }
 
-/// Says whether `v` is less than the least vertex so far, if there is one.
+/// Says whether `v` is less than `least`, the least vertex found so far, or none was found.
 pub fn is_below(v: VertexId, least: Option<VertexId>) -> bool
     ensures { IsTrue result ↔ IsBelow v.0 least }
 {

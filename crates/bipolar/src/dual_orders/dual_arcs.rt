@@ -44,8 +44,8 @@ impl DirectedMap<'_> {
     }
 }
 
-/// Returns for each face the faces on the right of the upward edges that it has on its left; `rank` has the ranks. It
-/// fails only when out of memory.
+/// Returns for each of `faces` the faces on the right of the upward edges that have it on their left. Edges go upwards
+/// by `rank`, the rank of each vertex. It fails only when out of memory.
 pub fn face_arcs(
     alloc: Global,
     map: &HalfMap,

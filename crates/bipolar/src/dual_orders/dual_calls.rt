@@ -62,8 +62,8 @@ pub fn dual_rows(
     Ok(rows)
 }
 
-/// Returns the dual numbers of an st-order of a connected map of genus zero, for each edge in the order of edges. It
-/// fails only when out of memory. The time is linear in the edges, and so is the memory.
+/// Returns the dual numbers of the st-order `order`, for the dart `st`, of a connected map of genus zero. They come by
+/// the lesser end of the edge and then by its greater. Time and memory are linear. It fails only when out of memory.
 pub fn dual_numbers(
     alloc: Global,
     map: &HalfMap,

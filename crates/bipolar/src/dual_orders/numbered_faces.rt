@@ -47,7 +47,7 @@ fn after(ends: &[usize], v: usize, d: usize) -> usize
     }
 }
 
-// Appends `twin` to `arcs` where its dart, from the first vertex of `dart` to the second, leads to one of greater rank.
+// Appends `twin`, the number of the twin of `dart`, to `arcs` where `dart`, as tail and head, leads to greater rank.
 fn put_upward(
     rank: &[u16],
     dart: (u16, u16),
@@ -142,7 +142,7 @@ fn lead_to_faces(arcs: &mut [u32], of: &[u32])
 pub struct FaceTables {
     /// For each dart, by its number, the number of its face.
     pub of: Vec<u32>,
-    /// For each face the faces on the right of the upward edges on its left.
+    /// For each face the faces on the right of the upward edges that have it on their left.
     pub arcs: ItemLists<u32>,
 }
 
@@ -157,8 +157,8 @@ impl FaceTables {
 }
 
 /// Numbers the faces of a map, and lists for each those on the right of its upward edges. The map is given by its
-/// concatenated lists, `entries` with `ends`, by the `twins` of its darts, and by ranks. It goes on in the memory of
-/// other tables, and fails only when out of memory. The time is linear in the darts.
+/// concatenated lists, `entries` with `ends`, by the `twins` of its darts, and by the `rank` of each vertex. It reuses
+/// the memory of `tables`, and fails only when out of memory. The time is linear in the darts.
 pub fn number_faces(
     tables: FaceTables,
     entries: &[u16],

@@ -39,8 +39,8 @@ fn first_search(alloc: Global, lists: &Rotations) -> Result<Forest, AllocError>
     }
 }
 
-/// Returns the map of a record with these lists, which are from 1 to 4095, with a search of the lists. The map has
-/// genus zero and at least `least` vertices, is connected and has no cut vertex.
+/// Returns the map of a record with these `lists`, from 1 to 4095 of them, and a depth-first search of the lists. The
+/// map has genus zero and at least `least` vertices, is connected and has no cut vertex.
 ///
 /// `Err` names the first condition that the lists break, in the order of [`Refusal`], with the least
 /// vertices. Or there was not enough memory. The time is linear in the entries.

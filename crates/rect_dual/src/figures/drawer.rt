@@ -52,7 +52,8 @@ impl RectDrawer {
         }
     }
 
-    /// Returns the figure of a record, as `rect_figure` has it. After `NoMemory` the drawer serves as before.
+    /// Like `rect_figure`, returns the figure of the record `lists` or the condition that it breaks. After `NoMemory`
+    /// the drawer can still be used.
     pub fn figure(&mut self, lists: &Rotations) -> Result<RectFigure, Unserved>
         requires some_list { 0 < length lists.now }
         ensures figure { IfOk result (IsRectFigure lists.now) }

@@ -317,8 +317,9 @@ impl BarDrawer {
         }
     }
 
-    /// Returns the figure of a record, as `bar_figure` has it. After `NoMemory` the drawer serves as before.
-    // a caller that has it inside spills what it prints with
+    /// Like `bar_figure`, returns the figure of the record `lists` or the condition that it breaks. After `NoMemory`
+    /// the drawer can still be used.
+    // inlined, it would make its caller spill registers
     #[inline(never)]
     pub fn figure(&mut self, lists: &Rotations) -> Result<BarFigure, Unserved>
         requires some_list { 0 < length lists.now }
