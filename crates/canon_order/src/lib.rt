@@ -12,7 +12,7 @@ mod vertex_list_tools;
 mod vertex_order;
 
 pub use fault::OrderFault;
-pub use order::{Peeler, canon_order, turned_order};
+pub use order::{Peeler, canon_order, reversed_order};
 pub use vertex_list_tools::push_three;
 pub use vertex_order::Order;
 

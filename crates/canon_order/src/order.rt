@@ -10,7 +10,7 @@ use crate::cycle_marks::AtVertex;
 use crate::fault::OrderFault;
 use crate::removable_vertices::{mark_base, removable_vertex};
 use crate::triangulation_base::Base;
-use crate::vertex_list_tools::{entry_behind, resized, turned_vertices};
+use crate::vertex_list_tools::{entry_behind, resized, reversed_vertices};
 use crate::vertex_order::Order;
 use half_edges::{Counts, DartId, HalfMap, Rotations, VertexId, VertexList};
 use std::alloc::{AllocError, Global};
@@ -61,13 +61,13 @@ fn peel(
 }
 
 /// Returns the order of the vertices `taken`, given from the last one to the first. Fails only when out of memory.
-pub fn turned_order(alloc: Global, taken: &[u16]) -> Result<Order, AllocError>
+pub fn reversed_order(alloc: Global, taken: &[u16]) -> Result<Order, AllocError>
     requires few { length taken.now < 4096 }
     requires within { All (λ v. v < length taken.now) taken.now }
     requires distinct { AllPairs ◌≢◌ taken.now }
     ensures vertices { IfOk result (λ order. vertices_of order ≡ reverse taken.now) }
 {
-    let at = turned_vertices(alloc, taken)?;
+    let at = reversed_vertices(alloc, taken)?;
     let order = Order::of(at, Counts::new(alloc))?;
     Ok(order)
 }

@@ -108,7 +108,7 @@ pub(crate) fn entry_behind(list: &[u16], u: u16) -> u16
 }
 
 // Returns the vertices of `taken` in reversed order.
-pub(crate) fn turned_vertices(alloc: Global, taken: &[u16]) -> Result<Vec<VertexId>, AllocError>
+pub(crate) fn reversed_vertices(alloc: Global, taken: &[u16]) -> Result<Vec<VertexId>, AllocError>
     ensures { IfOk result (λ at. map (λ v. v.0) at.items ≡ reverse taken.now) }
 {
     let mut at = Vec::with_capacity(alloc, taken.len())?;

@@ -21,11 +21,11 @@ pub fn outer_sides()
 
 /// States the law that from each vertex but the root of an axis an edge leads along that axis: its coordinate rises,
 /// and no other does.
-pub fn some_rising()
+pub fn some_axis_edge()
     ensures { SomeRising }
 {}
 
 /// States the law that from each vertex at most one edge leads along an axis: its coordinate rises, and no other does.
-pub fn one_rising()
+pub fn at_most_one_axis_edge()
     ensures { OneRising }
 {}

@@ -15,7 +15,7 @@ use Rattle.convex_peeling.proofs.PolyhedralLemmas.{three_connected_is_polyhedral
 use Rattle.convex_laws.specs.declared.convex_rows.rows.ConvexRows.{ConvexRows}
 use Rattle.convex_laws.specs.Removed.{IsRowMore}
 use Rattle.convex_orders.specs.declared.contour_counts.ContourCounts.{ContourCounts}
-use Rattle.convex_orders.specs.declared.contour_tracing.Rims.{Rims}
+use Rattle.convex_orders.specs.declared.contour_tracing.ContourFaces.{ContourFaces}
 use Rattle.convex_orders.specs.declared.count_direction.Way.TheVariants.{Comes, Goes}
 use Rattle.convex_orders.specs.Contours.{contour_of, AreEdges, AreInner, inner_number, number_at}
 use Rattle.convex_orders.specs.Counts.{met_at, met_below, met_between, edges_between, AreCounts}
@@ -73,7 +73,7 @@ module _ (lists own other : Lists) (count s d : ℕ) (based : IsBased lists s d)
     some_trace = record { alive = o.alive; w = o.contour; r = o.places; a = first; b = o.last; trace = trace_from }
 
     -- what is gone along from there on
-    module _ (us : List ℕ) (traced : (alive : ℕ → Bool) (w : ℕ → ℕ) (r a b : ℕ) → IsTrace lists own marks left x alive w r a b → IsListOf us w b) (rims rims' : Rims) (traces : (alive : ℕ → Bool) (w : ℕ → ℕ) (r a b : ℕ) → IsTrace lists own marks left x alive w r a b → AreNoted lists own w a b rims rims') (are : AreInner lists own ws rims.inner.items) where
+    module _ (us : List ℕ) (traced : (alive : ℕ → Bool) (w : ℕ → ℕ) (r a b : ℕ) → IsTrace lists own marks left x alive w r a b → IsListOf us w b) (rims rims' : ContourFaces) (traces : (alive : ℕ → Bool) (w : ℕ → ℕ) (r a b : ℕ) → IsTrace lists own marks left x alive w r a b → AreNoted lists own w a b rims rims') (are : AreInner lists own ws rims.inner.items) where
       list : IsListOf us o.contour o.last
       list = traced o.alive o.contour o.places first o.last trace_from
 

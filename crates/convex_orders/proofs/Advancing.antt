@@ -3,7 +3,7 @@ use Rattle.std.proofs.Common.{◌≡◌, ℕ, suc, ◌-◌, ◌<◌, Bool, List,
 use Rattle.convex_peeling.specs.Removals.{Removal}
 use Rattle.convex_laws.specs.declared.convex_rows.rows.ConvexRows.{ConvexRows}
 use Rattle.convex_laws.specs.Removed.{IsRowMore}
-use Rattle.convex_orders.specs.declared.contour_tracing.Rims.{Rims}
+use Rattle.convex_orders.specs.declared.contour_tracing.ContourFaces.{ContourFaces}
 use Rattle.convex_orders.specs.declared.removals.RowTables.{RowTables}
 use Rattle.convex_orders.specs.declared.map_tables.Tables.{Tables}
 use Rattle.convex_orders.specs.declared.count_direction.Way.TheVariants.{Comes, Goes}
@@ -22,14 +22,14 @@ module _ (t : Tables) (s mid : RowTables) (first end x : ℕ) (marks : List Bool
   same = sym (read ∙ ap (λ m. m.items) same_marks)
 
   inner : AreInner t.lists t.faces.own (vertices_of s.contour) mid.rims.inner.items
-  inner = subst (λ (r : Rims). AreInner t.lists t.faces.own (vertices_of s.contour) r.inner.items) (sym same_rims) kept.inner
+  inner = subst (λ (r : ContourFaces). AreInner t.lists t.faces.own (vertices_of s.contour) r.inner.items) (sym same_rims) kept.inner
 
   module _ (alive : ℕ → Bool) (w : ℕ → ℕ) (r : ℕ) (o : Removal) (at : IsOffAt t.lists t.faces.own s.marks.items t.tail t.head (vertices_of s.contour) first end alive w r o) where
     pub begins : SomeTrace t.lists t.faces.own marks mid.contour.left.items x
     begins = subst (λ m. SomeTrace t.lists t.faces.own m mid.contour.left.items x) same
         (some_trace t.lists t.faces.own t.faces.other t.faces.count t.tail t.head (based t) t.numbers s.marks.items (vertices_of s.contour) first end alive w r o at mid.contour.left.items mid.contour.right.items x s.rows mid.rows out)
 
-    module _ (us : List ℕ) (rims : Rims) (traced : (alive : ℕ → Bool) (w : ℕ → ℕ) (r a b : ℕ) → IsTrace t.lists t.faces.own marks mid.contour.left.items x alive w r a b → IsListOf us w b) (traces : (alive : ℕ → Bool) (w : ℕ → ℕ) (r a b : ℕ) → IsTrace t.lists t.faces.own marks mid.contour.left.items x alive w r a b → AreNoted t.lists t.faces.own w a b mid.rims rims) where
+    module _ (us : List ℕ) (rims : ContourFaces) (traced : (alive : ℕ → Bool) (w : ℕ → ℕ) (r a b : ℕ) → IsTrace t.lists t.faces.own marks mid.contour.left.items x alive w r a b → IsListOf us w b) (traces : (alive : ℕ → Bool) (w : ℕ → ℕ) (r a b : ℕ) → IsTrace t.lists t.faces.own marks mid.contour.left.items x alive w r a b → AreNoted t.lists t.faces.own w a b mid.rims rims) where
       traced_by : (alive : ℕ → Bool) (w : ℕ → ℕ) (r a b : ℕ) → IsTrace t.lists t.faces.own s.marks.items mid.contour.left.items x alive w r a b → IsListOf us w b
       traced_by = subst (λ m. (alive : ℕ → Bool) (w : ℕ → ℕ) (r a b : ℕ) → IsTrace t.lists t.faces.own m mid.contour.left.items x alive w r a b → IsListOf us w b) (sym same) traced
 
@@ -62,7 +62,7 @@ module _ (t : Tables) (s mid : RowTables) (first end x : ℕ) (marks : List Bool
               some = omega (arith, long_enough, ap length left_is);
               rims = subst (λ r. AreRims r (length t.lists)) (sym rims_are) size;
               inner = subst (λ z. AreInner t.lists t.faces.own z new.rims.inner.items) (sym contour_is)
-                  (subst (λ (r : Rims). AreInner t.lists t.faces.own (contour_of us mid.contour.right.items) r.inner.items) (sym rims_are)
+                  (subst (λ (r : ContourFaces). AreInner t.lists t.faces.own (contour_of us mid.contour.right.items) r.inner.items) (sym rims_are)
                   (new_inner t.lists t.faces.own t.faces.other t.faces.count t.tail t.head (based t) t.numbers s.marks.items (vertices_of s.contour) first end alive w r o at mid.contour.left.items mid.contour.right.items x s.rows mid.rows out us traced_by mid.rims rims noted_by inner));
               counts = subst (λ z. AreCounts t.lists t.faces.own t.faces.count z new.counts.places.items new.counts.edges.items) (sym contour_is)
                   (new_counts t.lists t.faces.own t.faces.other t.faces.count t.tail t.head (based t) t.numbers s.marks.items (vertices_of s.contour) first end alive w r o at mid.contour.left.items mid.contour.right.items x s.rows mid.rows out us traced_by mid.rims rims noted_by inner t.few s.counts mid.counts kept.counts less new.counts more);

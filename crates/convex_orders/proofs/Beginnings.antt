@@ -1,7 +1,7 @@
 -- The first contour by the tables: where just the face of the base is taken off.
 use Rattle.std.proofs.Common.{◌≡◌, ℕ, ◌<◌, Bool, false, List, [], ◌∷◌, ◌++◌, length, set, length-set, ap, ◌∙◌, arith}
 use Rattle.convex_peeling.specs.Contours.{IsFirst}
-use Rattle.convex_orders.specs.declared.contour_tracing.Rims.{Rims}
+use Rattle.convex_orders.specs.declared.contour_tracing.ContourFaces.{ContourFaces}
 use Rattle.convex_orders.specs.declared.removals.RowTables.{RowTables}
 use Rattle.convex_orders.specs.declared.map_tables.Tables.{Tables}
 use Rattle.convex_orders.specs.FaceNumbers.{entry}
@@ -31,7 +31,7 @@ module _ (t : Tables) (s : RowTables) (blank : IsBlank t s) (f : ℕ) (f_is : f 
     pub some_first : SomeTrace t.lists t.faces.own marks items t.tail
     some_first = let x = found t.lists t.tail t.head (based t) t.faces.own t.faces.other t.faces.count t.numbers in record { alive = x.0; w = x.1; r = x.2; a = 0; b = x.2; trace = traced x.0 x.1 x.2 x.4 }
 
-    module _ (us : List ℕ) (rims : Rims) (is_list : (alive : ℕ → Bool) (w : ℕ → ℕ) (r a b : ℕ) → IsTrace t.lists t.faces.own marks items t.tail alive w r a b → IsListOf us w b) (noted : (alive : ℕ → Bool) (w : ℕ → ℕ) (r a b : ℕ) → IsTrace t.lists t.faces.own marks items t.tail alive w r a b → AreNoted t.lists t.faces.own w a b s.rims rims) where
+    module _ (us : List ℕ) (rims : ContourFaces) (is_list : (alive : ℕ → Bool) (w : ℕ → ℕ) (r a b : ℕ) → IsTrace t.lists t.faces.own marks items t.tail alive w r a b → IsListOf us w b) (noted : (alive : ℕ → Bool) (w : ℕ → ℕ) (r a b : ℕ) → IsTrace t.lists t.faces.own marks items t.tail alive w r a b → AreNoted t.lists t.faces.own w a b s.rims rims) where
       pub list_first : (alive : ℕ → Bool) (w : ℕ → ℕ) (r : ℕ) → IsFirst t.lists t.tail t.head alive w r → IsListOf us w r
       list_first alive w r h = is_list alive w r 0 r (traced alive w r h)
 

@@ -6,7 +6,7 @@ ghost use Rattle.convex_orders.specs.Counts.{met_below, numbered_below, AreCount
 ghost use Rattle.convex_orders.specs.Moved.{HaveSize, AreNone, CanMoveAll, AreMoved};
 ghost use Rattle.convex_orders.specs.Ways.{CanMove, IsMoved};
 
-use crate::contour_interval::Stretch;
+use crate::contour_interval::ContourInterval;
 use crate::count_direction::Way;
 use crate::map_tables::Tables;
 use crate::slice_tools::{part, refill};
@@ -80,12 +80,12 @@ impl ContourCounts {
 
     /// Adds or subtracts, by `way`, an interval of the contour: the faces round the vertices strictly within it, and
     /// those of all its edges.
-    pub(crate) fn move_part(&mut self, way: Way, stretch: &Stretch<'_>)
+    pub(crate) fn move_part(&mut self, way: Way, stretch: &ContourInterval<'_>)
         requires size { HaveSize self.old stretch.now.tables.now.faces.count }
         requires can { CanMoveAll stretch.now.tables.now.lists stretch.now.tables.now.faces.own stretch.now.tables.now.faces.count way stretch.now.ws.now stretch.now.first stretch.now.last self.old }
         ensures { AreMoved stretch.now.tables.now.lists stretch.now.tables.now.faces.own stretch.now.tables.now.faces.count way stretch.now.ws.now stretch.now.first stretch.now.last self.old self.new }
     {
-        let Stretch {
+        let ContourInterval {
             tables,
             inner,
             ws,

@@ -1,4 +1,4 @@
-//! An interval of the contour, as the type `Stretch`, with the face inside of each edge.
+//! An interval of the contour, as the type `ContourInterval`, with the face inside of each edge.
 ghost use Rattle.std.specs.Prelude.{◌<◌, length};
 ghost use Rattle.convex_orders.specs.Contours.{AreInner};
 
@@ -6,7 +6,7 @@ use crate::map_tables::Tables;
 
 /// An interval of a contour, with the numbers of the faces inside of the edges.
 #[derive(Clone, Copy)]
-pub(crate) struct Stretch<'a> {
+pub(crate) struct ContourInterval<'a> {
     pub(crate) tables: &'a Tables,
     /// For each vertex the number of the face inside of the edge from it on.
     pub(crate) inner: &'a [u32],

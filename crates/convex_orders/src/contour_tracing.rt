@@ -10,7 +10,7 @@ use std::alloc::{AllocError, Global};
 
 /// The faces on both sides of the contour, by face number, one entry for each vertex.
 #[derive(Drop)]
-pub(crate) struct Rims {
+pub(crate) struct ContourFaces {
     /// Where the dart along the contour was in the list of the vertex; whatever this holds, all answers are the same.
     pub(crate) hints: Vec<u16>,
     /// The number of the face inside of the edge to the next vertex.
@@ -46,10 +46,10 @@ fn rim_near(own: &[u32], other: &[u32], marks: &[bool], from: usize) -> usize
     }
 }
 
-impl Rims {
+impl ContourFaces {
     /// Returns room for no vertices. It takes no memory.
-    pub(crate) fn new(alloc: Global) -> Rims {
-        Rims {
+    pub(crate) fn new(alloc: Global) -> ContourFaces {
+        ContourFaces {
             hints: Vec::new(alloc),
             inner: Vec::new(alloc),
             outer: Vec::new(alloc),

@@ -3,7 +3,7 @@ ghost use Rattle.std.specs.Prelude.{◌≡◌, ◌+◌, ◌<◌, ℕ, if◌then�
 ghost use Rattle.convex_orders.specs.Contours.{number_at};
 ghost use Rattle.convex_orders.specs.Cuts.{AreCutPlaces, IsCutRow};
 
-use crate::contour_interval::Stretch;
+use crate::contour_interval::ContourInterval;
 use std::alloc::AllocError;
 
 // Appends `x` to `row`, unless `test` holds.
@@ -20,13 +20,13 @@ fn push_unless(row: &mut Vec<u16>, test: bool, x: u16) -> Result<(), AllocError>
 pub(crate) fn put_cuts(
     row: &mut Vec<u16>,
     outer: &[u32],
-    stretch: &Stretch<'_>,
+    stretch: &ContourInterval<'_>,
 ) -> Result<(), AllocError>
     requires few { length stretch.now.ws.now < 65536 }
     requires vertices { (p : ℕ) → p < stretch.now.last → slice_index stretch.now.ws.now p < length outer.now }
     ensures { IfOk result (λ _. (count : ℕ) (cut : ℕ → ℕ) → AreCutPlaces (number_at outer.now stretch.now.ws.now) stretch.now.first stretch.now.last count cut → IsCutRow row.new.items stretch.now.first count cut) }
 {
-    let Stretch {
+    let ContourInterval {
         ws,
         first,
         last,

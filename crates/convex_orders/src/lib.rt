@@ -22,4 +22,4 @@ mod slice_tools;
 
 pub use map_tables::Tables;
 pub use removals::RowTables;
-pub use row_calls::{rows_again, rows_by_faces, tables_of};
+pub use row_calls::{rows_by_faces, rows_in_memory, tables_of};

@@ -16,8 +16,8 @@ ghost use Rattle.convex_orders.specs.declared.count_direction.Way.TheVariants.{C
 
 use crate::contour::Contour;
 use crate::contour_counts::ContourCounts;
-use crate::contour_interval::Stretch;
-use crate::contour_tracing::Rims;
+use crate::contour_interval::ContourInterval;
+use crate::contour_tracing::ContourFaces;
 use crate::count_direction::Way;
 use crate::interval_cuts::put_cuts;
 use crate::map_tables::Tables;
@@ -38,7 +38,7 @@ pub struct RowTables {
     pub(crate) marks: Vec<bool>,
     // The contour of these faces.
     pub(crate) contour: Contour,
-    pub(crate) rims: Rims,
+    pub(crate) rims: ContourFaces,
     pub(crate) counts: ContourCounts,
     // Room for the cuts of a row.
     pub(crate) cuts: Vec<u16>,
@@ -64,7 +64,7 @@ impl RowTables {
             },
             marks: Vec::new(alloc),
             contour: Contour::new(alloc),
-            rims: Rims::new(alloc),
+            rims: ContourFaces::new(alloc),
             counts: ContourCounts::new(alloc),
             cuts: Vec::new(alloc),
         }
@@ -97,7 +97,7 @@ impl RowTables {
         ensures rims { IfOk result (λ _. self.new.rims ≡ self.old.rims) }
     {
         self.contour.move_to(end + 1)?;
-        let stretch = Stretch {
+        let stretch = ContourInterval {
             tables,
             inner: &self.rims.inner,
             ws: &self.contour.left,
@@ -128,7 +128,7 @@ impl RowTables {
         ensures contour { IfOk result (λ _. self.new.contour ≡ self.old.contour) }
     {
         let last = self.contour.left.len() - 1;
-        let stretch = Stretch {
+        let stretch = ContourInterval {
             tables,
             inner: &self.rims.inner,
             ws: &self.contour.left,

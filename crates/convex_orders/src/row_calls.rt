@@ -8,7 +8,7 @@ ghost use Rattle.convex_laws.specs.Removed.{AreRowsOfRun};
 ghost use Rattle.convex_orders.specs.FaceNumbers.{AreFaceNumbers};
 
 use crate::contour_counts::ContourCounts;
-use crate::contour_tracing::Rims;
+use crate::contour_tracing::ContourFaces;
 use crate::face_numbers::{FaceNumbers, numbers_of_faces};
 use crate::map_tables::Tables;
 use crate::removals::RowTables;
@@ -63,7 +63,7 @@ pub fn tables_of(
 ///
 /// The sequence makes all faces but that of the base, the dart from `tables.tail` to `tables.head`. The first vertex is
 /// the base's head and the second its tail. The last is the vertex before the base on the base's face.
-pub fn rows_again(spent: RowTables, tables: &Tables) -> Result<RowTables, AllocError>
+pub fn rows_in_memory(spent: RowTables, tables: &Tables) -> Result<RowTables, AllocError>
     ensures { IfOk result (λ made. AreRowsOfRun tables.now.lists tables.now.tail tables.now.head made.rows) }
 {
     let mut made = spent;
@@ -95,6 +95,6 @@ pub fn rows_by_faces(
     let faces = numbers_of_faces(alloc, map, faces)?;
     let (tail, head) = (map.tail(base).0, map.head(base).0);
     let tables = tables_of(Rotations::new(alloc), lists, faces, tail, head)?;
-    let made = rows_again(RowTables::new(alloc), &tables)?;
+    let made = rows_in_memory(RowTables::new(alloc), &tables)?;
     Ok(made.rows)
 }

@@ -8,7 +8,7 @@ ghost use Rattle.figure_text.specs.Reading.{Judges, is_note as is_note_line};
 ghost use Rattle.figure_text.specs.Front.{IsFront, IsFrontBy, IsFirstOf, IsGraphOf};
 
 use crate::line_shapes::{
-    Judged, Kind, is_count_in_range, is_counted, is_first_head, is_numbered, job_kind, row_count,
+    Judged, Kind, is_count_in_range, is_counted, is_first_head, is_numbered, job_kind, line_count,
     worth,
 };
 use crate::line_words::{Word, fill_front};
@@ -71,7 +71,7 @@ fn front_of(kind: Kind, words: &[Word], tail: Judged) -> Front
         Judged::Limit => Front::Limit(kind),
         Judged::Good => {
             if is_numbered(words) {
-                Front::Begins(kind, row_count(kind, words))
+                Front::Begins(kind, line_count(kind, words))
             } else {
                 Front::Limit(kind)
             }

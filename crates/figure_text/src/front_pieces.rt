@@ -5,8 +5,8 @@ ghost use Rattle.figure_text.specs.Lines.{size, is_natural, row_name};
 ghost use Rattle.figure_text.specs.Pieces.{pieces as the_pieces, Fits, IsWithin, Along};
 
 use crate::line_shapes::{
-    Kind, is_closing_word, is_inside, is_name, is_natural_word, is_number_word, row_word, size_of,
-    word,
+    Kind, is_closing_word, is_inside, is_name, is_natural_word, is_number_word, size_of,
+    witness_word, word,
 };
 use crate::line_words::Name::{At, X, Y};
 use crate::line_words::{Name, Word};
@@ -60,7 +60,7 @@ pub fn fits(piece: Piece, place: usize, word: Word) -> bool
     match piece {
         Piece::Place => is_natural_word(word) && size_of(word) as usize == place,
         Piece::Literal(name) => is_name(word, name),
-        Piece::Row => is_name(word, row_word(place)),
+        Piece::Row => is_name(word, witness_word(place)),
         Piece::Value => is_number_word(word),
         Piece::Last => is_closing_word(word),
     }

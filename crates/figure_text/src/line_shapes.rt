@@ -158,7 +158,7 @@ pub fn job_kind(words: &[Word]) -> Option<Kind>
 }
 
 // Returns how many lines of vertices, or of branches and paths, follow the first line `words` of a figure of `kind`.
-pub fn row_count(kind: Kind, words: &[Word]) -> usize
+pub fn line_count(kind: Kind, words: &[Word]) -> usize
     ensures { result ≡ rows_due kind words.now }
 {
     match kind {
@@ -168,7 +168,7 @@ pub fn row_count(kind: Kind, words: &[Word]) -> usize
 }
 
 // Returns the word with which line number `place` after a witness's first line begins, from 1: `branch` or `path`.
-pub fn row_word(place: usize) -> Name
+pub fn witness_word(place: usize) -> Name
     ensures { result ≡ row_name place }
 {
     if place == 1 { Name::Branch } else { Name::Path }
@@ -201,7 +201,7 @@ fn is_long(kind: Kind, place: usize, len: usize) -> bool
 }
 
 // Says whether `words` have the shape of line number `place`, from 1, after the first line of a figure of `kind`.
-fn is_row(kind: Kind, place: usize, words: &[Word]) -> bool
+fn is_vertex_line(kind: Kind, place: usize, words: &[Word]) -> bool
     ensures { IsTrue result ↔ IsRow kind place words.now }
 {
     let front = pieces(kind);
@@ -213,7 +213,7 @@ fn is_row(kind: Kind, place: usize, words: &[Word]) -> bool
 }
 
 // Says whether the numbers of a line with a due shape are within their ranges.
-fn is_row_in_range(kind: Kind, words: &[Word]) -> bool
+fn is_vertex_line_in_range(kind: Kind, words: &[Word]) -> bool
     ensures { IsTrue result ↔ RowInRange kind words.now }
 {
     let front = pieces(kind);
@@ -264,10 +264,13 @@ pub fn worth(shape: bool, range: bool) -> Judged
 
 /// Judges the `words` of line number `place`, from 1, after the first line of a figure of `kind`: the line of a vertex,
 /// of branches or of a path.
-pub fn judged_row(kind: Kind, place: usize, words: &[Word]) -> Judged
+pub fn judged_vertex_line(kind: Kind, place: usize, words: &[Word]) -> Judged
     ensures { Judges (IsRow kind place words.now) (RowInRange kind words.now) result }
 {
-    worth(is_row(kind, place, words), is_row_in_range(kind, words))
+    worth(
+        is_vertex_line(kind, place, words),
+        is_vertex_line_in_range(kind, words),
+    )
 }
 
 /// Judges the `words` of the line of the columns.

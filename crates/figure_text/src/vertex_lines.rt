@@ -8,7 +8,7 @@ ghost use Rattle.figure_text.specs.Drafts.{with_values, with_row};
 
 use crate::front_pieces::{is_front, pieces};
 use crate::line_shapes::{
-    Judged, Kind, MOST_COORDINATE, behind, is_witness, judged_row, size_of, word,
+    Judged, Kind, MOST_COORDINATE, behind, is_witness, judged_vertex_line, size_of, word,
 };
 use crate::line_words::{Signed, Word, fill_front, fill_known};
 use crate::plain_numbers::push_plain;
@@ -231,7 +231,7 @@ impl VertexLine<'_> {
         }
         match fill_known(self.line, found) {
             Ok(false) => Some(Judged::Bad),
-            Ok(true) => match judged_row(self.kind, self.place, found) {
+            Ok(true) => match judged_vertex_line(self.kind, self.place, found) {
                 Judged::Good => match push_row(self.kind, found, draft) {
                     Ok(()) => Some(Judged::Good),
                     Err(_) => None,

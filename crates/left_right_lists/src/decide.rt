@@ -28,7 +28,7 @@ pub fn map_of_graph(alloc: Global, graph: &Graph) -> Result<Option<Rotations>, A
         tree: &up.tree,
     };
     let entries = rooted.all_entries(alloc, &sides)?;
-    Ok(Some(rooted.rows_of(alloc, &entries)?))
+    Ok(Some(rooted.rotation_lists(alloc, &entries)?))
 }
 
 /// Says whether `graph` has a map of genus zero, by [`map_of_graph`]. It fails only when out of memory.

@@ -10,7 +10,7 @@ use std::alloc::{AllocError, Global};
 impl<'a> RootedGraph<'a> {
     /// Returns the rotation lists of the graph: for each vertex its list of `entries`, which `all_entries` made, and
     /// then its parent, without edges of the tree alone. It fails only when out of memory.
-    pub(crate) fn rows_of(
+    pub(crate) fn rotation_lists(
         &self,
         alloc: Global,
         entries: &ItemLists<u16>,

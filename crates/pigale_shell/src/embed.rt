@@ -9,7 +9,7 @@ ghost use Rattle.pigale_shell.specs.EmbedText.{embed_answers, embed_last_line as
 use super::form_printer::{FormPrinter, line_in};
 use super::method::GraphRecord;
 use super::output_lines::{end_line, stop_line};
-use super::record_answers::refused_line;
+use super::record_answers::refusal_line_in_form;
 use embed_graph::embed_figures::Embedder;
 use graph6_text::Graph;
 use line_inputs::graph_lines::{Ending, GraphReader};
@@ -75,7 +75,7 @@ impl RecordJob<GraphReader> for EmbedJob {
     ) -> Result<bool, AllocError> {
         let n = given.n();
         if n < 3 {
-            let line = refused_line(self.alloc, self.form, number, Refusal::Small(n))?;
+            let line = refusal_line_in_form(self.alloc, self.form, number, Refusal::Small(n))?;
             out.extend_from_slice(&line)?;
             return Ok(false);
         }

@@ -67,7 +67,7 @@ pub(crate) fn answer_with<M: Method>(
             Ok(true)
         }
         Err(Unserved::Refused(refusal)) => {
-            let line = refused_line(alloc, given.form, given.number, refusal)?;
+            let line = refusal_line_in_form(alloc, given.form, given.number, refusal)?;
             out.extend_from_slice(&line)?;
             Ok(false)
         }
@@ -76,7 +76,7 @@ pub(crate) fn answer_with<M: Method>(
 }
 
 /// Returns the line that refuses record `number` for the condition `refusal`, as text or as an SVG comment.
-pub(crate) fn refused_line(
+pub(crate) fn refusal_line_in_form(
     alloc: Global,
     form: Form,
     number: u32,

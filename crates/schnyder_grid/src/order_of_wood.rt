@@ -7,7 +7,7 @@ ghost use Rattle.schnyder_wood.specs.Parents.{parent_in, IsWoodOf};
 ghost use Rattle.wood_laws.specs.Arranged.{IsArranged};
 
 use crate::order_arcs::wood_arcs;
-use canon_order::{Order, turned_order};
+use canon_order::{Order, reversed_order};
 use graph_search::longest_paths::topological_order;
 use half_edges::HalfMap;
 use schnyder_wood::{Colour, Wood};
@@ -41,5 +41,5 @@ pub fn wood_order(alloc: Global, tri: &HalfMap, wood: &Wood) -> Result<Order, Al
     let arcs = wood_arcs(alloc, &lists, wood)?;
     let order = topological_order(alloc, &arcs, wood.root(Colour::One).0 as u32)?;
     let taken = turned(alloc, &order)?;
-    turned_order(alloc, &taken)
+    reversed_order(alloc, &taken)
 }

@@ -14,7 +14,7 @@ use crate::convex_figures::face_numbers_by_twins::{NumberTables, numbers_again};
 use crate::convex_points::{FaceRun, SpotTable, count_points_again};
 use crate::map_drawing::in_square;
 use conn_parts::{Parts, numbered_parts};
-use convex_orders::{RowTables, Tables, rows_again, tables_of};
+use convex_orders::{RowTables, Tables, rows_in_memory, tables_of};
 use half_edges::{Rotations, VertexId};
 use pg_plane::GridFigure;
 use refusals::Unserved;
@@ -88,7 +88,7 @@ fn run_again(
         arcs,
     } = spent.faces;
     let tables = tables_of(run.lists, lists, numbers, 0, t)?;
-    let rows = rows_again(run.rows, &tables)?;
+    let rows = rows_in_memory(run.rows, &tables)?;
     let side = tables.faces.count - 1;
     let made = FaceRun {
         rows: &rows.rows,

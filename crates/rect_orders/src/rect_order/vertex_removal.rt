@@ -10,7 +10,7 @@ ghost use Rattle.rect_orders.specs.Contours.{IsFresh, IsPrepared, IsClosedOf, Is
 use crate::rect_order::outer_cycle::Cycle;
 use crate::rect_order::outer_frame::Frame;
 use canon_order::cycle_marks::{AtVertex, Three, mark};
-use canon_order::{Order, push_three, turned_order};
+use canon_order::{Order, push_three, reversed_order};
 use half_edges::Rotations;
 use std::alloc::{AllocError, Global};
 
@@ -144,6 +144,6 @@ pub fn rect_order(alloc: Global, more: &Rotations, frame: Frame) -> Result<Order
     more.facts();
     let closed = Closed { lists: more, frame };
     let taken = closed.taken_off(alloc)?;
-    let order = turned_order(alloc, &taken)?;
+    let order = reversed_order(alloc, &taken)?;
     Ok(order)
 }

@@ -15,8 +15,8 @@ use crate::column_pass::{Sides, SpanTables};
 use bipolar::dual_orders::{FaceTables, number_faces};
 use conn_parts::plane_count;
 use euler_faces::Counter;
-use graph_search::longest_paths::PathTables;
 use graph_search::list_cuts::{is_uncut, list_cut_vertex, searched_cut_vertex};
+use graph_search::longest_paths::PathTables;
 use graph_search::search_forests::{Forest, SearchTables};
 use half_edges::{Rotations, VertexId};
 use pg_plane::{BarFigure, Ints};
@@ -70,7 +70,7 @@ fn sees_all(forest: &Forest) -> bool
 
 // Numbers the faces of `map` into `tables`, with arcs from each face to those on the right of its edges by `rank`. It
 // fails only when out of memory.
-fn find_faces(
+fn number_faces_into(
     tables: &mut FaceTables,
     alloc: Global,
     map: &Rooted<'_>,
@@ -170,7 +170,7 @@ impl DualTables {
             0,
             map.t,
         )?;
-        find_faces(&mut self.faces, alloc, map, &self.ranges.from)?;
+        number_faces_into(&mut self.faces, alloc, map, &self.ranges.from)?;
         if map.lists.len() + self.faces.arcs.len() != map.twins.len() / 2 + 2 {
             return Ok(Found::Nothing);
         }
@@ -206,7 +206,7 @@ impl DualTables {
     {
         map.facts();
         no_refusal_is_plane();
-        find_faces(&mut self.faces, alloc, map, &search.forest.number)?;
+        number_faces_into(&mut self.faces, alloc, map, &search.forest.number)?;
         if map.lists.len() + self.faces.arcs.len() != map.twins.len() / 2 + 2 {
             return Ok(Found::Nothing);
         }

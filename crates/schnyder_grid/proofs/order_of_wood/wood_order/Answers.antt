@@ -30,8 +30,8 @@ topological_order-requires-clause-acyclic c =
 turned_again : (taken us vs : List ℕ) → taken ≡ us → us ≡ reverse vs → reverse taken ≡ vs
 turned_again taken us vs e e' = ap reverse (e ∙ e') ∙ reverse-reverse vs
 
-pub turned_order-requires-clause-within : goal.turned_order-requires-clause-within
-turned_order-requires-clause-within c =
+pub reversed_order-requires-clause-within : goal.reversed_order-requires-clause-within
+reversed_order-requires-clause-within c =
     let taken = c.deref-2.result.now in
     let vs = c.deref.result.now in
     let order = c.in_ok-order.order.items in
@@ -41,8 +41,8 @@ turned_order-requires-clause-within c =
     let len : length arcs ≡ length taken = omega (arith, topological.count, ap length again, length-reverse taken) in
     subst (λ n. All (λ v. v < n) taken) len (All-from_reverse (λ v. v < length arcs) taken (subst (All (λ v. v < length arcs)) (sym again) topological.vertices))
 
-pub turned_order-requires-clause-distinct : goal.turned_order-requires-clause-distinct
-turned_order-requires-clause-distinct c =
+pub reversed_order-requires-clause-distinct : goal.reversed_order-requires-clause-distinct
+reversed_order-requires-clause-distinct c =
     let taken = c.deref-2.result.now in
     let vs = c.deref.result.now in
     let arcs = c.in_ok-arcs.arcs in
@@ -61,8 +61,8 @@ returns c = record {
       let topological : IsTopological arcs c.root.result.0 vs = subst (λ (l : List ℕ). IsTopological arcs c.root.result.0 l) (sym c.deref.ensures.value) c.in_ok-order.ensures in
       let named : IsTopological arcs wood.root_one vs = subst (λ r. IsTopological arcs r vs) c.root.ensures topological in
       let again = turned_again taken c.in_ok-taken.taken.items vs c.deref-2.ensures.value c.in_ok-taken.ensures in
-      IfOk-weaker c.turned_order.result (λ order. vertices_of order ≡ reverse taken)
+      IfOk-weaker c.reversed_order.result (λ order. vertices_of order ≡ reverse taken)
       (λ order. (base : Dart) → HasDart lists base.0 base.1 → IsWoodOf lists base wood → IsArranged lists base (parent_in wood) (vertices_of order))
       (λ order e. λ base has of. subst (IsArranged lists base (parent_in wood)) (sym (e ∙ again)) (arranged lists base wood arcs c.requires.triangulation has of graph vs named))
-      c.turned_order.ensures.vertices;
+      c.reversed_order.ensures.vertices;
 }

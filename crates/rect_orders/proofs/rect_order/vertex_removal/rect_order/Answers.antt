@@ -10,8 +10,8 @@ invariant_of-closed c =
     let (map, k) = c.requires.class in
     record { few = c.facts.ensures; simple = ∣ simple_here map frame.left.0 frame.top.0 frame.right.0 frame.bottom.0 frame.inner.0 c.args.more.now k ∣₁ }
 
-pub turned_order-requires-clause-few : goal.turned_order-requires-clause-few
-turned_order-requires-clause-few c =
+pub reversed_order-requires-clause-few : goal.reversed_order-requires-clause-few
+reversed_order-requires-clause-few c =
     let frame = c.args.frame in
     let (map, k) = c.requires.class in
     let few = c.facts.ensures in
@@ -19,14 +19,14 @@ turned_order-requires-clause-few c =
     let same = ap length c.deref.ensures.value in
     omega arith
 
-pub turned_order-requires-clause-within : goal.turned_order-requires-clause-within
-turned_order-requires-clause-within c =
+pub reversed_order-requires-clause-within : goal.reversed_order-requires-clause-within
+reversed_order-requires-clause-within c =
     let frame = c.args.frame in
     let (map, k) = c.requires.class in
     subst (λ (us : List ℕ). All (λ v. v < length us) us) (sym c.deref.ensures.value) (taken_within _ map frame.left.0 frame.top.0 frame.right.0 frame.bottom.0 frame.inner.0 k c.in_ok-taken.taken.items (c.in_ok-taken.ensures map k))
 
-pub turned_order-requires-clause-distinct : goal.turned_order-requires-clause-distinct
-turned_order-requires-clause-distinct c =
+pub reversed_order-requires-clause-distinct : goal.reversed_order-requires-clause-distinct
+reversed_order-requires-clause-distinct c =
     let frame = c.args.frame in
     let (map, k) = c.requires.class in
     subst (λ (us : List ℕ). AllPairs ◌≢◌ us) (sym c.deref.ensures.value) (taken_apart _ map frame.left.0 frame.top.0 frame.right.0 frame.bottom.0 frame.inner.0 k c.in_ok-taken.taken.items (c.in_ok-taken.ensures map k))

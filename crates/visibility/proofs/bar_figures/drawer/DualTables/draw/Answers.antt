@@ -7,7 +7,7 @@ use Rattle.visibility.proofs.bar_figures.drawer.DualTables.draw.Goals as goal
 use Rattle.visibility.proofs.bar_figures.drawer.DualTables.draw.Goals.{After-deref-3}
 
 -- what is known once the faces are counted
-faced : (c : After-deref-3) → IsFaced c.args.map.now.lists.now c.args.map.now.twins.now c.args.map.now.t c.fill_places.new.ranges.from.items c.find_faces.new.tables.of.items c.find_faces.new.tables.arcs
+faced : (c : After-deref-3) → IsFaced c.args.map.now.lists.now c.args.map.now.twins.now c.args.map.now.t c.fill_places.new.ranges.from.items c.number_faces_into.new.tables.of.items c.number_faces_into.new.tables.arcs
 faced c =
     let r = c.facts.ensures in
     let order = c.in_ok-fill_places.ensures.order in
@@ -16,8 +16,8 @@ faced c =
       connected = c.requires.connected;
       at = order.0;
       order = order.1;
-      faces = c.in_ok-find_faces.ensures.numbers;
-      lead = rw c.deref-2.ensures.value at c.in_ok-find_faces.ensures.arcs;
+      faces = c.in_ok-number_faces_into.ensures.numbers;
+      lead = rw c.deref-2.ensures.value at c.in_ok-number_faces_into.ensures.arcs;
       counted = omega (arith, c.if-len-map.false, c.len.ensures.is, c.len-2.ensures, ap (λ n. n / 2) (r.are_twins.count ∙ length-darts c.args.map.now.lists.now));
     }
 

@@ -1,6 +1,6 @@
 use Rattle.std.proofs.Common.{◌≡◌, ◌≤◌, map, length}
 use Rattle.std.specs.Vec.{vec_capacity}
-use Rattle.canon_order.proofs.vertex_list_tools.turned_vertices.Given as goal
+use Rattle.canon_order.proofs.vertex_list_tools.reversed_vertices.Given as goal
 
 abbrev pub invariant-loop-v : goal.invariant-loop-v
 invariant-loop-v l = record {

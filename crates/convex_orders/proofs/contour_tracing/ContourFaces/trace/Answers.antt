@@ -5,7 +5,7 @@ use Rattle.convex_orders.specs.Shown.{IsTrace}
 use Rattle.convex_orders.proofs.Known.{based}
 use Rattle.convex_orders.proofs.Noting.{AreNoted-more, AreRims-seen}
 use Rattle.convex_orders.proofs.Traced.{traced_last, traced_rim, next_is, traced_more, traced_stop, traced_apart, traced_end, traced_short}
-use Rattle.convex_orders.proofs.contour_tracing.Rims.trace.Goals as goal
+use Rattle.convex_orders.proofs.contour_tracing.ContourFaces.trace.Goals as goal
 
 pub see-x-requires-clause-some : goal.see-x-requires-clause-some
 see-x-requires-clause-some c =

@@ -2,7 +2,7 @@ use Rattle.std.proofs.Common.{◌≡◌, [], filter, take}
 use Rattle.graph6_text.specs.Graphs.{has_edge}
 use Rattle.left_right_lists.specs.Blocks.{AreValues}
 use Rattle.left_right_lists.specs.Placing.{row_at}
-use Rattle.left_right_lists.proofs.return_edges.RootedGraph.rows_of.Given as goal
+use Rattle.left_right_lists.proofs.return_edges.RootedGraph.rotation_lists.Given as goal
 
 abbrev pub invariant-loop-v : goal.invariant-loop-v
 invariant-loop-v l = AreValues (λ v. filter (has_edge l.self.graph.now v) (row_at l.self.graph.now.n l.self.tree.now l.entries v)) [] l.lists l.v

@@ -6,7 +6,7 @@ use Rattle.convex_orders.specs.Shown.{IsRimIn}
 use Rattle.convex_orders.specs.Splits.{IsRimAt}
 use Rattle.convex_orders.proofs.Known.{based}
 use Rattle.convex_orders.proofs.Rows.{rows_of, place_rim, place_numbers}
-use Rattle.convex_orders.proofs.contour_tracing.Rims.see.Goals as goal
+use Rattle.convex_orders.proofs.contour_tracing.ContourFaces.see.Goals as goal
 
 pub returns-clause-rim : goal.returns-clause-rim
 returns-clause-rim c =

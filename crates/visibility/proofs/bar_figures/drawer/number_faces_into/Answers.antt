@@ -2,7 +2,7 @@ use Rattle.std.proofs.Common.{length, ap, subst, arith}
 use Rattle.map_lists.specs.Lists.{Lists}
 use Rattle.map_lists.proofs.CutLemmas.{IsStored, IsStored-cuts, IsStored-cut, length-cut}
 use Rattle.bipolar.specs.FaceNumbers.{AreFaceNumbers, AreFaceArcs}
-use Rattle.visibility.proofs.bar_figures.drawer.find_faces.Goals as goal
+use Rattle.visibility.proofs.bar_figures.drawer.number_faces_into.Goals as goal
 
 pub number_faces-requires-clause-darts : goal.number_faces-requires-clause-darts
 number_faces-requires-clause-darts c =

@@ -1,7 +1,7 @@
 use Rattle.std.proofs.Common.{ℕ, suc, ◌≡◌, ◌+◌, Bool, length, slice_index}
 use Rattle.convex_orders.specs.Noted.{AreRims, AreNoted}
 use Rattle.convex_orders.specs.Shown.{IsTrace}
-use Rattle.convex_orders.proofs.contour_tracing.Rims.trace.Given as goal
+use Rattle.convex_orders.proofs.contour_tracing.ContourFaces.trace.Given as goal
 
 abbrev pub invariant-loop : goal.invariant-loop
 invariant-loop l = record {

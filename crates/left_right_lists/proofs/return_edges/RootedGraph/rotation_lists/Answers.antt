@@ -3,7 +3,7 @@ use Rattle.std.proofs.lemmas.List.{take_all}
 use Rattle.graph6_text.specs.Graphs.{has_edge}
 use Rattle.left_right_lists.specs.Placing.{row_at}
 use Rattle.left_right_lists.proofs.Tabled.{values_more}
-use Rattle.left_right_lists.proofs.return_edges.RootedGraph.rows_of.Goals as goal
+use Rattle.left_right_lists.proofs.return_edges.RootedGraph.rotation_lists.Goals as goal
 
 pub loop-v-preserved : goal.loop-v-preserved
 loop-v-preserved c =
