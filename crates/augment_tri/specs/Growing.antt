@@ -16,7 +16,7 @@ pub record IsRoomy (map : Map) : Type 0 where
   pub some : 3 ≤ vertex_count map.lists
   pub room : 3 * vertex_count map.lists ≤ edge_count map.lists + map.spare + 6
 
--- Such a map of one component: edges may be put in until all its faces are triangles.
+-- A map as in `IsRoomy` of one component: edges may be put in until all its faces are triangles.
 pub record IsFillable (map : Map) : Type 0 where
   pub roomy : IsRoomy map
   pub one : component_count map.lists ≡ 1

@@ -65,8 +65,8 @@ impl FacePath<'_> {
     }
 }
 
-// Returns the first of two consecutive darts of the face of `d` whose outer ends are distinct and not adjacent, so that
-// an edge can cut this ear off: `d` or one of the next two darts. The face must be no triangle.
+// Returns the first of two consecutive darts of the face of `d` whose outer ends are distinct and not adjacent. An edge
+// can cut this ear off. The dart is `d` or one of the next two. The face must be no triangle.
 fn ear_near(map: &HalfMap, d: DartId) -> DartId
     requires fillable { IsFillable map.now }
     requires live { IsLive map.now d.0 }

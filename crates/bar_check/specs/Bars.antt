@@ -26,7 +26,7 @@ edge_number lists a b = edges_before lists a + edges_until lists a b
 abbrev pub column_of : Lists → BarFigure → ℕ → ℕ → ℤ
 column_of lists fig a b = number_at fig.column (edge_number lists a b)
 
--- the same for either end first
+-- the column of the edge between u and v, in either order
 abbrev pub column_between : Lists → BarFigure → ℕ → ℕ → ℤ
 column_between lists fig u v = if nat_lt u v then column_of lists fig u v else column_of lists fig v u
 

@@ -26,6 +26,7 @@ pub record NumbersArePlaces (lists : Lists) : Type 0 where
   pub below : (a b : ℕ) → HasEdge lists a b → edge_number lists a b < edge_count lists
   pub rise : (a b c d : ℕ) → HasEdge lists a b → HasEdge lists c d → ComesBefore a b c d → edge_number lists a b < edge_number lists c d
 
+-- The numbers of the edges of each simple map are their places.
 abbrev pub EdgeNumbers : Type 0
 EdgeNumbers = (lists : Lists) → IsSimpleMap lists → NumbersArePlaces lists
 

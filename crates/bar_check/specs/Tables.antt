@@ -34,7 +34,7 @@ abbrev pub AreNext : Lists → ℕ → ℕ → List ℕ → Type 0
 AreNext lists b i next =
     (a : ℕ) → a < length lists → slice_index next a ≡ edges_before lists a + edges_until lists a b + (if nat_lt a b then count_by (λ u. u == a) (take i (list_of lists b)) else 0)
 
--- so far, and the columns of the edges that were met are written
+-- `AreNext`, and the columns of the edges that were met are written
 pub record AreFilled (map : Map) (fig : BarFigure) (b i : ℕ) (next : List ℕ) (columns : List ℤ) : Type 0 where
   pub vertices : length next ≡ length map.lists
   pub numbers : AreNext map.lists b i next

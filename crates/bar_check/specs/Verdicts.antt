@@ -37,6 +37,7 @@ NoneOverlap lists fig = (a b c d : ℕ) → ¬ DoOverlap lists fig a b c d
 abbrev pub KeepsTurns : Lists → BarFigure → Type 0
 KeepsTurns lists fig = (v : ℕ) → v < length lists → 2 ≤ length (list_of lists v) → GoesOnceRound lists fig v
 
+-- The verdict is the first fault of the bars in the order below, with the least vertices, where none before it is found.
 abbrev pub IsBarVerdict : Lists → BarFigure → ℤ → BarVerdict → Type 0
 IsBarVerdict lists fig width BadShape = ¬ HasShape lists fig
 IsBarVerdict lists fig width (BadHeight v) = HasShape lists fig × IsLeast (HasBadHeight lists fig) v.0

@@ -137,13 +137,13 @@ impl Bars<'_> {
     }
 }
 
-/// Returns the first fault of a visibility drawing in the order of the variants of `BarVerdict`, with the least ids,
-/// or `Yes` exactly where it is one of the map within this width.
+/// Returns the first fault of the visibility drawing `fig`, in the order of the variants of `BarVerdict`, with the
+/// least ids. It is `Yes` exactly where `fig` is one of the map within `width`.
 ///
-/// `fig` has a bar for each vertex. It takes no memory from the heap, and at most 200 KB of the stack. The time
-/// is that of reading the map, and for each bar a step for each column that it holds, where whole blocks of 16 and
-/// of 256 columns may take one step. Only where a bar is in the way, a second sweep fills the columns of each bar,
-/// and an edge that it does not pass is compared with each vertex.
+/// `fig` has a bar for each vertex. It takes no memory from the heap, and at most 200 KB of the stack. The time is that
+/// of reading the map, and for each bar a step for each column that it holds. Whole blocks of 16 and of 256 columns may
+/// take one step. Only where a bar is in the way, a second sweep fills the columns of each bar, and an edge that it
+/// does not pass is compared with each vertex.
 pub fn check_bars(map: &HalfMap, fig: &BarFigure, width: i32) -> BarVerdict
     requires { HasBars map.now.lists fig.now }
     ensures { IsBarVerdict map.now.lists fig.now width result }

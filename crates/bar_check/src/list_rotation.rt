@@ -30,8 +30,8 @@ struct TwoNeighbours {
     w: VertexId,
 }
 
-// Says whether, of the edges of `v`, that to `u`, in column `x`, comes before that to `w`, in column `z`: upwards by
-// rising column, and then downwards by falling column.
+// Says whether, of the edges of `v`, that to `u` comes before that to `w`. They are in the columns `x` and `z`. Upward
+// edges come first, by rising column, and then downward ones by falling column.
 fn is_earlier(fig: &BarFigure, corner: TwoNeighbours, x: i32, z: i32) -> bool
     ensures { (lists : Lists) → x ≡ the_column lists fig.now corner.v.0 corner.u.0 → z ≡ the_column lists fig.now corner.v.0 corner.w.0
         → IsTrue result ↔ IsEarlier lists fig.now corner.v.0 corner.u.0 corner.w.0 }

@@ -9,23 +9,23 @@ use Rattle.graph_search.specs.Arcs.{arcs_of}
 abbrev pub InWalk : Map → List (List ℕ) → ℕ → ℕ → ℕ → Type 0
 InWalk map walks f u v = (f < length walks) × ((d : ℕ) × Contains (walk_at walks f) d × (dart_at map d ≡ Some (u, v)))
 
--- of an upward dart the right face was put behind a row, and of a downward one nothing
+-- where the dart (u, v) goes upwards, the face on its right was appended; where it goes downwards, nothing was
 pub record IsPutRight (map : Map) (walks : List (List ℕ)) (rank : List ℕ) (u v : ℕ) (old new : List ℕ) : Type 0 where
   pub up : slice_index rank u < slice_index rank v → (r : ℕ) × (new ≡ old ++ r ∷ []) × InWalk map walks r v u
   pub down : slice_index rank v ≤ slice_index rank u → new ≡ old
 
--- the right faces of the upward ones among some darts
+-- the row has exactly the faces on the right of those of the darts `ids` that go upwards
 pub record AreRightFaces (map : Map) (walks : List (List ℕ)) (rank ids row : List ℕ) : Type 0 where
   pub from : (r : ℕ) → Contains row r → (d : ℕ) × (u : ℕ) × (v : ℕ) × Contains ids d × (dart_at map d ≡ Some (u, v)) × (slice_index rank u < slice_index rank v) × InWalk map walks r v u
   pub to : (d u v : ℕ) → Contains ids d → dart_at map d ≡ Some (u, v) → slice_index rank u < slice_index rank v → (r : ℕ) × Contains row r × InWalk map walks r v u
 
--- such a row stands behind other faces
+-- exactly the faces on the right of those of the darts `ids` that go upwards were appended
 pub record ArePutRight (map : Map) (walks : List (List ℕ)) (rank ids old new : List ℕ) : Type 0 where
   pub row : List ℕ
   pub grown : new ≡ old ++ row
   pub faces : AreRightFaces map walks rank ids row
 
--- for each face the right faces of the upward darts of its walk
+-- for each face, those on the right of the upward darts of its walk
 pub record AreFaceArcs (map : Map) (walks : List (List ℕ)) (rank : List ℕ) (arcs : List (List ℕ)) : Type 0 where
   pub count : length arcs ≡ length walks
   pub rows : (f : ℕ) → f < length walks → AreRightFaces map walks rank (walk_at walks f) (arcs_of arcs f)
@@ -39,18 +39,18 @@ pub record IsLeftNumber (map : Map) (walks : List (List ℕ)) (rank numbers : Li
   pub up : slice_index rank u < slice_index rank v → IsNumberOf map walks numbers u v x
   pub down : slice_index rank v ≤ slice_index rank u → IsNumberOf map walks numbers v u x
 
--- a row of such numbers, for the first entries of the list of v
+-- for the first entries of v's list, as many as the row has, the number of the face on the left of the edge to it
 pub record AreLeftNumbers (map : Map) (walks : List (List ℕ)) (rank numbers : List ℕ) (v : ℕ) (row : List ℕ) : Type 0 where
   pub entries : (i : ℕ) → i < length row → IsLeftNumber map walks rank numbers v (slice_index (list_of map.lists v) i) (slice_index row i)
 
--- a row of so many such numbers stands behind others
+-- for the first `count` entries of v's list, the numbers of the faces on the left of their edges were appended
 pub record ArePutNumbers (map : Map) (walks : List (List ℕ)) (rank numbers : List ℕ) (v count : ℕ) (old new : List ℕ) : Type 0 where
   pub row : List ℕ
   pub grown : new ≡ old ++ row
   pub size : length row ≡ count
   pub left : AreLeftNumbers map walks rank numbers v row
 
--- for each vertex the numbers of its edges, in the order of its list
+-- for each vertex a row: for each entry of its list, the number of the face on the left of that edge
 pub record AreNumberRows (map : Map) (walks : List (List ℕ)) (rank numbers : List ℕ) (rows : List (List ℕ)) : Type 0 where
   pub count : length rows ≡ length map.lists
   pub sizes : (v : ℕ) → v < length map.lists → length (arcs_of rows v) ≡ length (list_of map.lists v)

@@ -22,6 +22,7 @@ pub record HasOneNumbering (lists : Lists) (rank : List ℕ) (s t : ℕ) : Type 
   pub one : (a b : Dart → ℕ) → IsFaceNumbering lists rank s t a → IsFaceNumbering lists rank s t b → (d : Dart) → HasDart lists d.0 d.1 → a d ≡ b d
   pub below : (a : Dart → ℕ) → IsFaceNumbering lists rank s t a → (d : Dart) → HasDart lists d.0 d.1 → a d < face_count lists
 
+-- Each st-order of a connected map of genus zero has exactly one such numbering.
 abbrev pub NumberingIsOne : Type 0
 NumberingIsOne =
     (lists : Lists) (s t : ℕ) (at rank : List ℕ) → IsStMap lists s t at rank → HasOneNumbering lists rank s t

@@ -21,7 +21,7 @@ pub record GiveDualNumbers (map : Map) (rank : List ℕ) (st : ℕ) (rows : List
   pub low : (v i : ℕ) → slice_index (arcs_of rows v) i < face_count map.lists
   pub duals : (columns : List ℕ) → AreColumns map.lists rows columns → (s t : ℕ) → dart_at map st ≡ Some (s, t) → AreDualNumbers map.lists rank s t columns
 
--- the same by lists alone, for the dart (s, t)
+-- `GiveDualNumbers` by lists alone, for the dart (s, t)
 pub record GiveDuals (lists : Lists) (rank : List ℕ) (s t : ℕ) (rows : Lists) : Type 0 where
   pub sizes : AreRows lists rows
   pub both : (u v : ℕ) → HasDart lists u v → in_row lists rows u v ≡ in_row lists rows v u

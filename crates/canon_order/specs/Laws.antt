@@ -19,7 +19,7 @@ pub record IsRunInList (lists : Lists) (us : List ℕ) (v p q : ℕ) : Type 0 wh
   pub after : stands_in us (follows lists v p) ≡ false
   pub before : (u : ℕ) → HasDart lists v u → follows lists v u ≡ q → stands_in us u ≡ false
 
--- So it is for each vertex of a canonical order from the third to the last but one, where us are it and those before it.
+-- `IsRunInList` for each vertex of a canonical order from the third to the last but one, where us are it and those before it.
 abbrev pub RowEnds : Type 0
 RowEnds =
     (lists : Lists) (base : Dart) (at : List ℕ) → IsTriangulation lists → (order : IsCanonicalOrder lists base at) → (k : ℕ) (later : 2 ≤ k) (within : k < length at) → suc k < length at → IsRunInList lists (take (suc k) at) (slice_index at k) (order.built.put k later within).p (order.built.put k later within).q

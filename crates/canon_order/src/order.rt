@@ -204,9 +204,9 @@ impl Peeler {
 /// goes from s to t, and each two of them that follow one another are a face of the whole map with it.
 /// These faces are all but that of the base. `rank` has the index of each vertex in `at`.
 ///
-/// It fails only when out of memory. The map stays as it is. The time is linear in the vertices: they are
-/// taken off from the last one on, each goes onto the outer cycle and off it once, and its neighbours
-/// count how many of theirs are there; one with just two may be taken off.
+/// It fails only when out of memory. The map stays as it is. The time is linear in the vertices, which are taken off
+/// from the last one on. Each goes onto the outer cycle and off it once, and its neighbours count how many of theirs
+/// are there. One with just two may be taken off.
 ///
 /// Source: de Fraysseix, Pach, Pollack, How to draw a planar graph on a grid, 1990.
 pub fn canon_order(alloc: Global, tri: &HalfMap, base: DartId) -> Result<Order, OrderFault>

@@ -44,6 +44,7 @@ class_count labels = count_below (λ i. label labels i == i) (length labels)
 abbrev pub orbits : List ℕ → List ℕ
 orbits images = classes (length images) (enumerate_from 0 images)
 
+-- how many orbits there are
 abbrev pub orbit_count : List ℕ → ℕ
 orbit_count images = class_count (orbits images)
 

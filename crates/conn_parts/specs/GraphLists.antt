@@ -12,5 +12,6 @@ neighbours_below graph v n = filter (λ u. has_edge graph v u) (range_with_len 0
 abbrev pub lists_below : EdgeGraph → ℕ → Lists
 lists_below graph n = map (λ v. neighbours_below graph v graph.n) (range_with_len 0 n)
 
+-- a graph as lists: each vertex with its neighbours, rising
 abbrev pub graph_lists : EdgeGraph → Lists
 graph_lists graph = lists_below graph graph.n

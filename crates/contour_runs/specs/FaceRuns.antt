@@ -32,12 +32,12 @@ place_after g s v = if nat_lt v g.count then moved s (g.place v) else v + suc s.
 abbrev pub after : Stage → Step → Stage
 after g s = record { width = g.width + s.first + s.vertices + 1 - s.last; count = g.count + s.vertices; vertex = vertex_after g s; place = place_after g s }
 
--- the stage after so many steps, from the two vertices of the base on
+-- the stage after the first k steps, from the two vertices of the base on
 abbrev pub stage_after : (ℕ → Step) → ℕ → Stage
 stage_after steps zero = base
 stage_after steps (suc k) = after (stage_after steps k) (steps k)
 
--- how many faces so many steps make
+-- how many faces the first k steps make
 abbrev pub faces_made : (ℕ → Step) → ℕ → ℕ
 faces_made steps zero = 0
 faces_made steps (suc k) = faces_made steps k + (steps k).faces

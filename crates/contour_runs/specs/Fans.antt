@@ -7,6 +7,7 @@ use Rattle.contour_runs.specs.FaceRuns as face_runs
 abbrev pub fan : Step → face_runs.Step
 fan s = record { first = s.first; last = s.last; vertices = 1; faces = s.last - s.first; cut = λ i. s.first + i; turn = λ i. s.first + i }
 
+-- the steps as steps that make faces of any size
 abbrev pub fans : (ℕ → Step) → ℕ → face_runs.Step
 fans steps k = fan (steps k)
 
@@ -23,5 +24,6 @@ pub record IsRunOfFans (steps : ℕ → Step) (n : ℕ) : Type 0 where
   pub stage : AreOneStage (stage_after steps n) (face_runs.stage_after (fans steps) n)
   pub darts : (k i x y : ℕ) → k < n → IsDartOf steps k ((steps k).first + i) x y ↔ face_runs.IsDartOf (face_runs.stage_after (fans steps) k) (fan (steps k)) i x y
 
+-- Each run of insertions is a run that makes faces of any size.
 abbrev pub RunOfFans : Type 0
 RunOfFans = (steps : ℕ → Step) (n : ℕ) → IsRun steps n → IsRunOfFans steps n

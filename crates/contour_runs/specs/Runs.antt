@@ -34,7 +34,7 @@ after g s = record { width = g.width + s.first + 2 - s.last; count = suc g.count
 abbrev pub base : Stage
 base = record { width = 2; count = 2; vertex = λ i. i; place = λ v. v }
 
--- the stage after so many steps
+-- the stage after the first k steps
 abbrev pub stage_after : (ℕ → Step) → ℕ → Stage
 stage_after steps zero = base
 stage_after steps (suc k) = after (stage_after steps k) (steps k)

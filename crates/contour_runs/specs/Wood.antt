@@ -7,7 +7,7 @@ use Rattle.contour_runs.specs.Runs.{Step, Stage, stage_after}
 unfoldable pub one_gain : Step → ℕ → ℕ
 one_gain s i = if nat_le i s.first then 1 else 0
 
--- and to coordinate two: 1 behind that
+-- what a step adds to coordinate two of what stands at a place: 1 after its first place
 unfoldable pub two_gain : Step → ℕ → ℕ
 two_gain s i = if nat_le i s.first then 0 else 1
 
@@ -31,7 +31,7 @@ coordinates_after g s at = record { one = one_after g s at; two = two_after g s 
 abbrev pub base_coordinates : Coordinates
 base_coordinates = record { one = λ v. if v == 0 then 1 else 0; two = λ v. 0 }
 
--- the coordinates after so many steps
+-- the coordinates after the first k steps
 abbrev pub coordinates : (ℕ → Step) → ℕ → Coordinates
 coordinates steps zero = base_coordinates
 coordinates steps (suc k) = coordinates_after (stage_after steps k) (steps k) (coordinates steps k)
@@ -43,10 +43,11 @@ drawn_one at v = if v == 0 then at.one 0 - 1 else at.one v
 unfoldable pub drawn_two : Coordinates → ℕ → ℕ
 drawn_two at v = if v == 0 then at.two 0 + 1 else at.two v
 
+-- the drawing by some coordinates
 abbrev pub drawn : Coordinates → Coordinates
 drawn at = record { one = drawn_one at; two = drawn_two at }
 
--- the drawing after so many steps
+-- the drawing after the first n steps
 abbrev pub wood_points : (ℕ → Step) → ℕ → Coordinates
 wood_points steps n = drawn (coordinates steps n)
 

@@ -1,5 +1,5 @@
-//! Laws of construction sequences (runs): a map is built up from the two vertices of its base, by adding vertices from
-//! outside over intervals of the contour.
+//! Laws of construction sequences (runs), which build up a map by adding vertices from outside over intervals of the
+//! contour. A run begins with the two vertices of the map's base.
 //! In the general form a step adds a face of any size. Methods of drawing rest on such runs. The definitions speak of
 //! positions on the contour alone, and of no map; each law is the contract of a function that does nothing.
 #![tactic(auto)]

@@ -27,9 +27,11 @@ pub record AreOuterCorners (lists : Lists) (points : List Point) (base : Dart) (
   pub apart : area (place points a) (place points b) (place points c) ≢ pos 0
   pub all : (v : ℕ) → IsOnFace lists base v → IsOnTriangle (place points v) (place points a) (place points b) (place points c)
 
+-- the base's face has three such corners
 abbrev pub HasOuterCorners : Lists → List Point → Dart → Type 0
 HasOuterCorners lists points base = (a : ℕ) × (b : ℕ) × (c : ℕ) × AreOuterCorners lists points base a b c
 
+-- A convex drawing: no face but the base's turns to the right at a vertex, and the base's face is a triangle on whose sides all its vertices stand.
 pub record IsConvex (lists : Lists) (points : List Point) (base : Dart) : Type 0 where
   pub inner : (a b : ℕ) → HasDart lists a b → ¬ SameFace lists base (a, b) → pos 0 ≤ℤ area (place points a) (place points b) (place points (follows lists b a))
   pub outer : HasOuterCorners lists points base

@@ -15,5 +15,6 @@ pub record AreCorners (points : List Point) (a b c : Point) : Type 0 where
   pub apart : area a b c ≢ pos 0
   pub all : (p : Point) → Contains points p → IsOnTriangle p a b c
 
+-- the points have three such corners
 abbrev pub HasCorners : List Point → Type 0
 HasCorners points = (a : Point) × (b : Point) × (c : Point) × AreCorners points a b c

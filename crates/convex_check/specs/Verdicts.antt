@@ -18,6 +18,7 @@ NoneBent lists points base = (a b c : ℕ) → ¬ IsBent lists points base a b c
 abbrev pub IsBentFrom : Map → List Point → ℕ → ℕ → ℕ → Type 0
 IsBentFrom map points base a b = IsBent map.lists points (dart_of map base) a b (follows map.lists b a)
 
+-- The verdict is the least corner at which a face bends inwards, or that the outer face is no triangle, or that neither is found.
 abbrev pub IsConvexVerdict : Lists → List Point → Dart → ConvexVerdict → Type 0
 IsConvexVerdict lists points base (Bent a b c) = IsLeastTriple (IsBent lists points base) a.0 b.0 c.0
 IsConvexVerdict lists points base OuterBent = NoneBent lists points base × ¬ HasOuterCorners lists points base

@@ -18,7 +18,7 @@ IsNumber walks d f = (f < length walks) × Contains (walk_at walks f) d
 abbrev pub IsOffAt : Map → ℕ → ℕ → ℕ → ℕ → Type 0
 IsOffAt map u a d z = (h : ℕ) × (dart_at map d ≡ Some (z, h)) × (z ≢ u) × (h ≢ u) × (z ≢ a)
 
--- The face of u's dart d has at most so many darts, and passes z, which is no neighbour of u along it.
+-- The face of u's dart d has at most `most` darts, and passes z, which is no neighbour of u along it.
 pub record IsOff (map : Map) (walks : List (List ℕ)) (most u d z : ℕ) : Type 0 where
   pub f : ℕ
   pub a : ℕ
@@ -39,11 +39,11 @@ pub record IsClearVertex (map : Map) (walks : List (List ℕ)) (least u : ℕ) :
 abbrev pub IsAcross : Map → List (List ℕ) → ℕ → ℕ → Type 0
 IsAcross map walks d z = (x : ℕ) × (y : ℕ) × (e : ℕ) × (dart_at map d ≡ Some (x, y)) × (dart_at map e ≡ Some (y, x)) × IsNumber walks e z
 
--- so it is, and d leads from x to y
+-- z is the face across the dart d, which leads from x to y
 abbrev pub IsSide : Map → List (List ℕ) → ℕ → ℕ → ℕ → ℕ → Type 0
 IsSide map walks d z x y = (dart_at map d ≡ Some (x, y)) × IsAcross map walks d z
 
--- The face z is at the vertex v of the dart e, which has at most so many darts; it is not f, nor across e or the dart d.
+-- The face z is at the vertex v of the dart e, which has at most `most` darts; it is not f, nor across e or the dart d.
 pub record IsOffCorner (map : Map) (walks : List (List ℕ)) (most f d e z v : ℕ) : Type 0 where
   pub y : ℕ
   pub c : ℕ
@@ -56,7 +56,7 @@ pub record IsOffCorner (map : Map) (walks : List (List ℕ)) (most f d e z v : �
   pub not_before : ¬ IsAcross map walks d z
   pub not_behind : ¬ IsAcross map walks e z
 
--- the same, with v as both ends of an edge
+-- `IsOffCorner` at x; y is x too, so that a vertex stands as an edge with equal ends
 abbrev pub IsCorner : Map → List (List ℕ) → ℕ → ℕ → ℕ → ℕ → ℕ → ℕ → ℕ → Type 0
 IsCorner map walks most f d e z x y = IsOffCorner map walks most f d e z x × (y ≡ x)
 
@@ -64,7 +64,7 @@ IsCorner map walks most f d e z x y = IsOffCorner map walks most f d e z x × (y
 abbrev pub after_place : List ℕ → ℕ → ℕ
 after_place walk i = slice_index_or walk (i + 1) (slice_index walk 0)
 
--- the same at place i of walk f
+-- `IsCorner` at place i of walk f
 abbrev pub IsOffPlace : Map → List (List ℕ) → ℕ → ℕ → ℕ → ℕ → ℕ → Type 0
 IsOffPlace map walks f i z x y = IsCorner map walks (length (walk_at walks f)) f (slice_index (walk_at walks f) i) (after_place (walk_at walks f) i) z x y
 

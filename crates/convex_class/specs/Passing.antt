@@ -12,11 +12,11 @@ pub record IsPassed (lists : Lists) (u a w : ℕ) : Type 0 where
   pub other : next ≢ u
   pub face : SameFace lists (u, a) (w, next)
 
--- so does the face of one of the first k darts of u
+-- the face of one of the first k darts of u passes the greater vertex w, and goes on from there to another vertex than u
 abbrev pub IsSeen : Lists → ℕ → ℕ → ℕ → Type 0
 IsSeen lists u k w = (i : ℕ) × (i < k) × IsPassed lists u (slice_index (list_of lists u) i) w
 
--- and of two of them
+-- the faces of two of the first k darts of u pass w so
 abbrev pub IsTwiceSeen : Lists → ℕ → ℕ → ℕ → Type 0
 IsTwiceSeen lists u k w =
     (i : ℕ) × (j : ℕ) × (i < j) × (j < k) × IsPassed lists u (slice_index (list_of lists u) i) w × IsPassed lists u (slice_index (list_of lists u) j) w

@@ -8,7 +8,7 @@ pub record IsStamped (u : ℕ) (Z : ℕ → Type 0) (old : List ℕ) (best : ℕ
   pub set : (z : ℕ) → Z z → slice_index new z ≡ u
   pub kept : (z : ℕ) → slice_index old z ≡ u → slice_index new z ≡ u
 
--- So did those of k steps; where two have a number in common, neither it nor u is less than `result`.
+-- `IsStamped` for all numbers in the sets of k steps. Where two sets have a number in common, neither it nor u is less than `result`.
 pub record AreStamped (u k : ℕ) (Z : ℕ → ℕ → Type 0) (old : List ℕ) (best : ℕ) (new : List ℕ) (result : ℕ) : Type 0 where
   pub all : IsStamped u (λ z. (i : ℕ) × (i < k) × Z i z) old best new result
   pub apart : (i j z : ℕ) → i < j → j < k → Z i z → Z j z → (result ≤ u) × (result ≤ z)

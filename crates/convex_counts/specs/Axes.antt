@@ -3,11 +3,13 @@ use Rattle.std.specs.Prelude.{ℕ, ◌≡◌}
 use Rattle.convex_counts.specs.declared.face_woods.axis.Axis.{Axis}
 use Rattle.convex_counts.specs.declared.face_woods.axis.Axis.TheVariants.{One, Two, Three}
 
+-- the axis after one, cyclically
 abbrev pub next : Axis → Axis
 next One = Two
 next Two = Three
 next Three = One
 
+-- the axis before one, cyclically
 abbrev pub previous : Axis → Axis
 previous One = Three
 previous Two = One
@@ -18,9 +20,10 @@ pub data IsEntry (Leads : Axis → ℕ → ℕ → Type 0) (v u : ℕ) (ahead be
   out : (c : Axis) → Leads c v u → ahead ≡ previous c → behind ≡ next c → IsEntry Leads v u ahead behind
   into : (c : Axis) → Leads c u v → ((c' : Axis) → ¬ Leads c' v u) → ahead ≡ c → behind ≡ c → IsEntry Leads v u ahead behind
 
--- what lies ahead of the entry u, or behind it
+-- what lies ahead of the entry u
 abbrev pub IsAhead : (Axis → ℕ → ℕ → Type 0) → ℕ → ℕ → Axis → Type 0
 IsAhead Leads v u ahead = (behind : Axis) × IsEntry Leads v u ahead behind
 
+-- what lies behind the entry u
 abbrev pub IsBehind : (Axis → ℕ → ℕ → Type 0) → ℕ → ℕ → Axis → Type 0
 IsBehind Leads v u behind = (ahead : Axis) × IsEntry Leads v u ahead behind

@@ -4,7 +4,7 @@ use Rattle.contour_runs.specs.Runs.{Stage}
 use Rattle.contour_runs.specs.Wood.{Coordinates}
 use Rattle.contour_runs.specs.FaceRuns.{Step, stage_after, IsRun}
 
--- how many of the first so many turns come before a place
+-- how many of the first m turns come before place i
 unfoldable pub turned : (ℕ → ℕ) → ℕ → ℕ → ℕ
 turned turn zero i = 0
 turned turn (suc m) i = if nat_lt (turn m) i then suc (turned turn m i) else turned turn m i
@@ -26,16 +26,17 @@ two_after g s at v = if nat_lt v g.count then at.two v + two_gain s (g.place v) 
 abbrev pub counts_after : Stage → Step → Coordinates → Coordinates
 counts_after g s at = record { one = one_after g s at; two = two_after g s at }
 
--- the coordinates after so many steps; with no face there is nothing to count
+-- the coordinates after the first k steps; with no face there is nothing to count
 abbrev pub face_counts : (ℕ → Step) → ℕ → Coordinates
 face_counts steps zero = record { one = λ v. 0; two = λ v. 0 }
 face_counts steps (suc k) = counts_after (stage_after steps k) (steps k) (face_counts steps k)
 
--- How the contour goes on from place j: to the left, where coordinate two alone changes and grows; or to the right, where one alone changes and shrinks.
+-- the contour goes to the left from place j: coordinate two alone changes, and grows
 pub record IsLeft (g : Stage) (at : Coordinates) (j : ℕ) : Type 0 where
   pub one : at.one (g.vertex (suc j)) ≡ at.one (g.vertex j)
   pub two : at.two (g.vertex j) < at.two (g.vertex (suc j))
 
+-- the contour goes to the right from place j: coordinate one alone changes, and shrinks
 pub record IsRight (g : Stage) (at : Coordinates) (j : ℕ) : Type 0 where
   pub one : at.one (g.vertex (suc j)) < at.one (g.vertex j)
   pub two : at.two (g.vertex (suc j)) ≡ at.two (g.vertex j)

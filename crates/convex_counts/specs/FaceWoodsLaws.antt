@@ -20,20 +20,23 @@ pub record HasOutside (steps : ℕ → Step) (n : ℕ) (c : Axis) (x y : ℕ) : 
   pub tail : IsAhead (IsRising (face_counts steps n)) x y c
   pub head : IsBehind (IsRising (face_counts steps n)) y x c
 
+-- The sector outside is that of axis two along the edges before place `top`, that of axis one along those from it on, and that of axis three along the base.
 pub record AreOuterSides (steps : ℕ → Step) (n top : ℕ) : Type 0 where
   pub right : (p x y : ℕ) → p < top → GoesAlong (stage_after steps n) x y p → HasOutside steps n Two x y
   pub left : (p x y : ℕ) → top ≤ p → GoesAlong (stage_after steps n) x y p → HasOutside steps n One x y
   pub base : HasOutside steps n Three 1 0
 
+-- The edges of the last contour of a whole run have these sectors outside.
 abbrev pub OuterSides : Type 0
 OuterSides = (steps : ℕ → Step) (n : ℕ) (whole : IsWholeRun steps n) → 0 < n → AreOuterSides steps n whole.top
 
--- From each vertex but the root of an axis some edge leads along that axis, and of the darts of the run just one does.
+-- From each vertex but the root of an axis some edge of the run leads along that axis.
 abbrev pub SomeRising : Type 0
 SomeRising =
     (steps : ℕ → Step) (n v : ℕ) (c : Axis) → IsWholeRun steps n → 0 < n → v < (stage_after steps n).count → ¬ IsRootRank (stage_after steps n).count c v
     → (u : ℕ) × IsRunEdge steps n v u × IsRising (face_counts steps n) c v u
 
+-- Of the darts of the run that leave a vertex, at most one leads along each axis.
 abbrev pub OneRising : Type 0
 OneRising =
     (steps : ℕ → Step) (n v u w : ℕ) (c : Axis) → IsWholeRun steps n → 0 < n → IsDart steps n v u → IsDart steps n u v → IsDart steps n v w → IsDart steps n w v

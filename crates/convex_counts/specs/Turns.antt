@@ -26,7 +26,7 @@ pub record State : Type 0 where
 abbrev pub state_after : State → Step → State
 state_after z s = record { stage = after z.stage s; counts = counts_after z.stage s z.counts }
 
--- the state after so many steps, each with its turns read off, whatever turns it had
+-- the state after the first k steps, each with its turns read off, whatever turns it had
 abbrev pub state : (ℕ → Step) → ℕ → State
 state steps zero = record { stage = base; counts = record { one = λ v. 0; two = λ v. 0 } }
 state steps (suc k) = state_after (state steps k) (with_turns (state steps k).stage (state steps k).counts (steps k))

@@ -10,7 +10,7 @@ use Rattle.convex_laws.specs.Rows.{AreRows, AreRanked}
 use Rattle.convex_draw.specs.declared.convex_points.spots.Spot.{Spot}
 use Rattle.convex_draw.specs.Spots.{spot_of}
 
--- A run, by its rows, that makes so many faces from the base d to s over so many vertices.
+-- A run, by its rows, that makes `faces` faces from the base d to s over `count` vertices.
 pub record IsListedRun (steps : ℕ → Step) (at : ℕ → ℕ) (rows : ConvexRows) (d s count faces : ℕ) : Type 0 where
   pub touched : IsTouchedRun steps (length rows.rows)
   pub rows_are : AreRows rows steps (length rows.rows) at

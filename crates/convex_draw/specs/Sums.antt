@@ -20,12 +20,12 @@ pub record IsLast (g : Stage) (at : Coordinates) (name : ℕ → ℕ) (spots : L
   pub wide : g.width ≡ width
   pub end : name 1 ≡ s
 
--- of a vertex its coordinates are kept
+-- the coordinates of the vertex r of the run are kept at its name
 pub record IsSum (at : Coordinates) (name : ℕ → ℕ) (spots : List Spot) (r : ℕ) : Type 0 where
   pub one : (spot_of spots (name r)).one ≡ at.one r
   pub two : (spot_of spots (name r)).two ≡ at.two r
 
--- so it is on the contour from place p on
+-- the coordinates of the vertices on the contour from place p on are kept, and nothing else has changed
 pub record AreWalked (g : Stage) (at : Coordinates) (name : ℕ → ℕ) (p : ℕ) (old now : List Spot) : Type 0 where
   pub done : (i : ℕ) → p ≤ i → i < g.width → IsSum at name now (g.vertex i)
   pub others : (u : ℕ) → ((i : ℕ) → p ≤ i → i < g.width → name (g.vertex i) ≢ u) → spot_of now u ≡ spot_of old u
@@ -45,7 +45,7 @@ pub record IsAdded (u : ℕ) (old now : List Spot) : Type 0 where
   pub one : (spot_of now u).one ≡ (spot_of old u).one + (spot_of old (spot_of old u).over).one
   pub two : (spot_of now u).two ≡ (spot_of old u).two + (spot_of old (spot_of old u).over).two
 
--- so it is strictly within a row, before place j of it
+-- `IsAdded` for the vertices strictly within a row and before place j of it; nothing else has changed
 pub record AreAdded (row : List ℕ) (j : ℕ) (old now : List Spot) : Type 0 where
   pub added : (i : ℕ) → 0 < i → i < j → IsAdded (slice_index row i) old now
   pub others : (u : ℕ) → ((i : ℕ) → 0 < i → i < j → slice_index row i ≢ u) → spot_of now u ≡ spot_of old u

@@ -1,5 +1,5 @@
-//! The answer of the job `convex` to a record, as a value: the convex drawing by face counts of Felsner (2001), or
-//! the first condition of the job that the record breaks.
+//! The answer of the job `convex` to a record: a convex drawing by face counts, or the first condition of the job that
+//! the record breaks. The method is that of Felsner (2001).
 
 mod draw;
 mod drawer;

@@ -20,6 +20,6 @@ pub record Notes (map : Map) (points : List Point) (c : Axis) (id : ℕ) (old ne
   pub kept : (v : ℕ) → IsNoted map points c v (slice_index old v) → IsNoted map points c v (slice_index new v)
   pub here : (v u : ℕ) → dart_at map id ≡ Some (v, u) → IsRisingBy c (place points v) (place points u) → IsNoted map points c v (slice_index new v)
 
--- Each vertex has a dart along the axis, if one of the first so many ids is that of such a dart.
+-- Each vertex has a dart along the axis noted, if one of the first k ids is that of such a dart.
 abbrev pub AreNoted : Map → List Point → Axis → ℕ → List ℕ → Type 0
 AreNoted map points c k outs = (id v u : ℕ) → id < k → dart_at map id ≡ Some (v, u) → IsRisingBy c (place points v) (place points u) → IsNoted map points c v (slice_index outs v)

@@ -7,6 +7,7 @@ use Rattle.convex_counts.specs.declared.face_woods.axis.Axis.{Axis}
 use Rattle.convex_counts.specs.declared.face_woods.axis.Axis.TheVariants.{One, Two, Three}
 use Rattle.convex_counts.specs.Axes.{next, previous, IsEntry}
 
+-- root one is the head of the base, root two its tail, and root three the vertex before the tail on the base's face
 pub record AreRoots (lists : Lists) (base : Dart) (root : Axis → ℕ) : Type 0 where
   pub one : root One ≡ base.1
   pub two : root Two ≡ base.0

@@ -28,7 +28,7 @@ SomeOut =
 abbrev pub AreRisingOut : Lists → Coordinates → (ℕ → ℕ) → (Axis → ℕ) → (Axis → ℕ → ℕ) → Type 0
 AreRisingOut lists counts rank root out = (c : Axis) (v : ℕ) → v < length lists → v ≢ root c → HasDart lists v (out c v) × IsRising counts c (rank v) (rank (out c v))
 
--- Such edges are a convex wood.
+-- Edges that lead so along their axes are a convex wood.
 abbrev pub WoodOfRun : Type 0
 WoodOfRun =
     (lists : Lists) (s d : ℕ) (steps : ℕ → Step) (n : ℕ) (rank : ℕ → ℕ) (face : ℕ → ℕ → ℕ) (at : ℕ → ℕ) (root : Axis → ℕ) (out : Axis → ℕ → ℕ) → IsNamedRun lists s d steps n rank face at → AreRoots lists (s, d) root

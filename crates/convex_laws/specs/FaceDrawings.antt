@@ -17,10 +17,12 @@ pub record IsOuterDart (steps : ℕ → Step) (n x y face : ℕ) : Type 0 where
   pub along : GoesAlong (stage_after steps n) x y place
   pub number : face ≡ faces_made steps n
 
+-- the dart of the base itself, which is on the face with the last number
 pub record IsBaseDart (steps : ℕ → Step) (n x y face : ℕ) : Type 0 where
   pub tail : x ≡ 1
   pub head : y ≡ 0
   pub number : face ≡ faces_made steps n
 
+-- the dart (x, y) is on the face with this number: one that the run makes, or the outer one, which has the last number
 abbrev pub IsRunDart : (ℕ → Step) → ℕ → ℕ → ℕ → ℕ → Type 0
 IsRunDart steps n x y face = IsMadeDart steps n x y face ⊎ (IsOuterDart steps n x y face ⊎ IsBaseDart steps n x y face)

@@ -28,7 +28,7 @@ pub record IsRowMore (lists : Lists) (w : ℕ → ℕ) (o : Removal) (old new : 
   pub cuts_are : new.cuts ≡ old.cuts ++ cuts ∷ []
   pub news_are : new.news ≡ old.news ++ news ∷ []
 
--- There are so many rows of each kind.
+-- There are m rows of each kind.
 pub record HasRows (rows : ConvexRows) (m : ℕ) : Type 0 where
   pub rows_count : length rows.rows ≡ m
   pub cuts_count : length rows.cuts ≡ m

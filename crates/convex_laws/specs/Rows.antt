@@ -29,7 +29,7 @@ pub record AreRows (rows : ConvexRows) (steps : ℕ → Step) (n : ℕ) (at : �
   pub cuts : (k j : ℕ) → k + suc j ≡ n → AreCuts (list_of rows.cuts j) (steps k)
   pub news : (k j : ℕ) → k + suc j ≡ n → AreNew (list_of rows.news j) (stage_after steps k) (steps k) at
 
--- each rank stands for a vertex of its own, of the first so many
+-- each rank stands for a vertex of its own, of the first `count`
 pub record AreRanked (steps : ℕ → Step) (n count : ℕ) (at : ℕ → ℕ) : Type 0 where
   pub all : (stage_after steps n).count ≡ count
   pub below : (r : ℕ) → r < count → at r < count

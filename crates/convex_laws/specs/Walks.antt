@@ -8,7 +8,7 @@ abbrev pub IsWalk : Lists → ℕ → ℕ → List Dart → Type 0
 IsWalk lists v w [] = v ≡ w
 IsWalk lists v w (d ∷ ds) = (d.0 ≡ v) × HasDart lists d.0 d.1 × IsWalk lists d.1 w ds
 
--- the same walk, from its end to its start
+-- a walk reversed: from its end to its start
 abbrev pub turned : List Dart → List Dart
 turned [] = []
 turned (d ∷ ds) = turned ds ++ twin_dart d ∷ []

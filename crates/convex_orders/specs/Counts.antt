@@ -22,10 +22,11 @@ numbered_below number n f = count_below (λ i. number i == f) n
 abbrev pub edges_below : Lists → Lists → List ℕ → ℕ → ℕ → ℕ
 edges_below lists own ws n f = numbered_below (inner_number lists own ws) n f
 
--- the same for the vertices strictly between two places, and for the edges from the one to the other
+-- how often the vertices strictly between two places meet the face f
 abbrev pub met_between : Lists → List ℕ → ℕ → ℕ → ℕ → ℕ
 met_between own ws first last f = sum_below (λ k. met_at own f (slice_index ws (suc first + k))) (last - suc first)
 
+-- how many of the edges from the one place to the other have the number f
 abbrev pub edges_between : Lists → Lists → List ℕ → ℕ → ℕ → ℕ → ℕ
 edges_between lists own ws first last f = numbered_below (λ k. inner_number lists own ws (first + k)) (last - first) f
 

@@ -40,7 +40,7 @@ pub record AreOwn (map : Map) (walks : List (List ℕ)) (v : ℕ) (row : List �
 pub record AreOther (map : Map) (walks : List (List ℕ)) (v : ℕ) (row : List ℕ) : Type 0 where
   pub each : (i : ℕ) → i < length row → InWalk map walks (slice_index row i) (slice_index (list_of map.lists v) i) v
 
--- a row more at the end: so many numbers, of which P holds
+-- a row was appended: `size` numbers, of which P holds
 pub record IsRowPut (P : List ℕ → Type 0) (size : ℕ) (old new : List ℕ) : Type 0 where
   pub row : List ℕ
   pub grown : new ≡ old ++ row

@@ -37,13 +37,13 @@ pub record IsRemovableRow (own other : List ℕ) (marks : List Bool) (places edg
   pub open_at : IsOpenAt own other marks place
   pub whole : NoneSplit own marks places edges
 
--- such a row is that of the vertex at place j of the list, neither the first nor the last
+-- `IsRemovableRow` of the row of the vertex at place j of the list, which is neither the first nor the last
 pub record IsRemovablePlace (own other : Lists) (marks : List Bool) (places edges ws : List ℕ) (j : ℕ) : Type 0 where
   pub after : 0 < j
   pub before : suc j < length ws
   pub removable : IsRemovableRow (list_of own (slice_index ws j)) (list_of other (slice_index ws j)) marks places edges
 
--- Of so many vertices the edges from place `first` to place `end`, and no others, have numbers that are not marked.
+-- Of `many` vertices the edges from place `first` to place `end`, and no others, have numbers that are not marked.
 pub record IsGoneRun (number : ℕ → ℕ) (marks : List Bool) (many first end : ℕ) : Type 0 where
   pub order : first < end
   pub within : end < many

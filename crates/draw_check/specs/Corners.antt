@@ -11,7 +11,7 @@ abbrev pub IsCornerWell : List Point → Bool → ℕ → ℕ → ℕ → Type 0
 IsCornerWell points is_outer a b c =
     a < b → a < c → MatchBool is_outer (area (place points a) (place points b) (place points c) <ℤ pos 0) (pos 0 <ℤ area (place points a) (place points b) (place points c))
 
--- So it is with each entry of the list of v and the entry before it, cyclically; the first entry of vertex 0 is that of the outer face.
+-- `IsCornerWell` for each entry of the list of v and the entry before it, cyclically; the first entry of vertex 0 is that of the outer face.
 pub record IsRoundWell (lists : Lists) (points : List Point) (v : ℕ) : Type 0 where
   pub some : 0 < length (list_of lists v)
   pub first : IsCornerWell points (v == 0) v (slice_index (list_of lists v) 0) (slice_index (list_of lists v) (length (list_of lists v) - 1))

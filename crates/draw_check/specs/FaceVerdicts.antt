@@ -30,6 +30,7 @@ pub record IsDrawnWrong (lists : Lists) (points : List Point) (base : Dart) (a b
 abbrev pub IsWrongFrom : Map → List Point → ℕ → ℕ → ℕ → Type 0
 IsWrongFrom map points base a b = IsDrawnWrong map.lists points (dart_of map base) a b (follows map.lists b a)
 
+-- The verdict is the least vertex outside the grid, or else the least face that is not drawn as it should be, or that there is neither.
 abbrev pub IsFaceVerdict : Lists → List Point → ℤ → ℤ → Dart → FaceVerdict → Type 0
 IsFaceVerdict lists points width height base (OutOfGrid v) = IsLeast (LeavesGrid lists points width height) v.0
 IsFaceVerdict lists points width height base (Wrong a b c) =

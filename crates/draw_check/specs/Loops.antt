@@ -20,7 +20,7 @@ Meets points (Vertex v) a b = (v.0 ≢ a) × (v.0 ≢ b) × IsOnSegment (place p
 Meets points (Edge s t) a b =
     (a ≢ s.0) × (a ≢ t.0) × (b ≢ s.0) × (b ≢ t.0) × DoCross (place points s.0) (place points t.0) (place points a) (place points b)
 
--- the same of an edge in either direction
+-- `Meets`, as a record
 pub record Touches (points : List Point) (probe : Probe) (a b : ℕ) : Type 0 where
   pub meets : Meets points probe a b
 
@@ -29,7 +29,7 @@ pub record IsMet (lists : Lists) (points : List Point) (probe : Probe) (a b : �
   pub edge : HasEdge lists a b
   pub meets : Meets points probe a b
 
--- the same of edges whose lesser end is at least `from`
+-- the edge from a to b is met, and its lesser end a is at least `from`
 pub record IsMetFrom (lists : Lists) (points : List Point) (probe : Probe) (from a b : ℕ) : Type 0 where
   pub late : from ≤ a
   pub met : IsMet lists points probe a b

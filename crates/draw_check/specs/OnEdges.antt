@@ -12,15 +12,15 @@ abbrev pub BoundsEdge : List Point → List ℕ → ℕ → ℕ → ℕ → Type
 BoundsEdge points crowd a b best =
     (j : ℕ) → j < length crowd → Meets points (Vertex (record { 0 = slice_index crowd j })) a b → best ≤ slice_index crowd j
 
--- so of the edges from v to some heads
+-- `BoundsEdge` for the edges from v to each of the heads
 abbrev pub BoundsFan : List Point → List ℕ → ℕ → List ℕ → ℕ → Type 0
 BoundsFan points crowd v heads best = (i : ℕ) → i < length heads → BoundsEdge points crowd v (slice_index heads i) best
 
--- so of the edges from v to its neighbours from number `from` on
+-- `BoundsEdge` for the edges from v to its neighbours from number `from` on
 abbrev pub BoundsStar : Lists → List Point → List ℕ → ℕ → ℕ → ℕ → Type 0
 BoundsStar lists points crowd v from best = (u : ℕ) → from ≤ u → HasDart lists v u → BoundsEdge points crowd v u best
 
--- so of all edges
+-- `BoundsEdge` for all edges
 abbrev pub BoundsCrowd : Lists → List Point → List ℕ → ℕ → Type 0
 BoundsCrowd lists points crowd best = (w a b : ℕ) → Contains crowd w → LiesOnEdge lists points w a b → best ≤ w
 

@@ -40,6 +40,7 @@ AreOthersPositive lists points base =
 abbrev pub HasOuterFace : Lists → List Point → Dart → Type 0
 HasOuterFace lists points base = component_count lists ≡ 1 → AreOthersPositive lists points base
 
+-- The verdict is the least dart of a connected map whose face is not the base's and has no positive area. It is `Yes` where there is none, or the map is not connected.
 abbrev pub IsOuterVerdict : Lists → List Point → Dart → OuterVerdict → Type 0
 IsOuterVerdict lists points base (Inside v u) =
     (component_count lists ≡ 1) × IsLeastPair (IsInside lists points base) v.0 u.0

@@ -24,6 +24,7 @@ NoneOnEdge lists points = (v a b : ℕ) → ¬ LiesOnEdge lists points v a b
 abbrev pub NoneCross : Lists → List Point → Type 0
 NoneCross lists points = (a b c d : ℕ) → ¬ EdgesCross lists points a b c d
 
+-- The verdict is the first fault of the drawing in the order below, with the least vertices, where none before it is found.
 abbrev pub IsVerdict : Lists → List Point → ℤ → ℤ → Verdict → Type 0
 IsVerdict lists points width height (OutOfGrid v) = IsLeast (LeavesGrid lists points width height) v.0
 IsVerdict lists points width height (SamePlace u v) =

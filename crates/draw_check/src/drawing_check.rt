@@ -14,13 +14,13 @@ use plane_drawings::sweep_check::loose_vertices;
 /// Returns the first fault of the drawing of `map` at `points`, in the order of the variants of `Verdict`, with the
 /// least ids. `Yes` is returned where all points lie in the grid, the drawing is plane and the rotations are kept.
 ///
-/// The grid goes from (0, 0) to `corner`. There is one point for each vertex, and no coordinate is beyond
-/// 2^20 in size. It takes no memory from the heap. Where a sweep finds the drawing plane, or plane without
-/// the edges of a few loose vertices, the time is m log n for n vertices and m edges, besides that in which
-/// the lines that the sweep meets are moved, and that in which the edges of the loose vertices are compared
-/// with all else. Else runs of 16 edges from one vertex are compared with boxes of 16 vertices, and where those
-/// meet, each edge with each vertex; and the edges before the first that a later one crosses are compared with
-/// runs after them, first by a box of what the edges of 16 vertices reach, then one by one.
+/// The grid goes from (0, 0) to `corner`. There is one point for each vertex, and no coordinate is beyond 2^20 in size.
+/// It takes no memory from the heap. A sweep may find the drawing plane, or plane without the edges of a few excluded
+/// vertices. Then the time is m log n for n vertices and m edges. To this come the moves of the lines that the sweep
+/// meets, and the comparisons of the edges of excluded vertices with all else. Otherwise batches of 16 edges from one
+/// vertex are compared with boxes of 16 vertices, and where those meet, each edge with each vertex. Edges are compared
+/// with batches after them, up to the first edge that a later one crosses. This goes first by a box of what the edges
+/// of 16 vertices reach, then one by one.
 pub fn check_points(map: &HalfMap, points: &Points, corner: Point) -> Verdict
     requires { HasPlaces map.now.lists points.now }
     ensures { IsVerdict map.now.lists points.now corner.x corner.y result }

@@ -23,12 +23,13 @@ fn is_one_of(d: DartId, one: DartId, two: DartId, three: DartId) -> bool
     d.0 == one.0 || d.0 == two.0 || d.0 == three.0
 }
 
-/// Returns the least vertex outside the grid; or else the least face, written from its least vertex, that is not
-/// drawn counterclockwise, or not clockwise for the face left of `base`; or `Yes`.
+/// Returns the least vertex outside the grid, or else the least face that is drawn with the wrong orientation, written
+/// from its least vertex, or else `Yes`. The face left of `base` has to be clockwise, and each other one
+/// counterclockwise.
 ///
-/// `tri` is a triangulation: of genus zero, with at least three vertices and 3n - 6 edges. `base` is live,
-/// and the grid goes from (0, 0) to `corner`. There is one point for each vertex, and no coordinate is beyond
-/// 2^20 in size. It takes no memory, and linear time.
+/// `tri` is a triangulation: of genus zero, with at least three vertices and 3n - 6 edges. `base` is live, and the grid
+/// goes from (0, 0) to `corner`. There is one point for each vertex, and no coordinate is beyond 2^20 in size. It takes
+/// no memory, and linear time.
 pub fn check_points_by_faces(
     tri: &HalfMap,
     base: DartId,
@@ -89,9 +90,9 @@ impl Framed<'_> {
         is_one_of(d, self.base, second, third)
     }
 
-    // Says whether `d` reports its face as wrong: the face is drawn with the wrong orientation, and `d` leaves the
-    // least vertex of the face, so that each face is reported once. The face left of the base is to be clockwise, and
-    // each other one counterclockwise.
+    // Says whether `d` reports its face as wrong. It does so if the face is drawn with the wrong orientation and `d`
+    // leaves its least vertex, so each face is reported once. The face left of the base is to be clockwise, and each
+    // other one counterclockwise.
     fn is_wrong(&self, d: DartId) -> bool
         requires { IsLive self.now.drawing.map.now d.0 }
         ensures { IsTrue result ↔ HoldsAt self.now.drawing.map.now (IsWrongFrom self.now.drawing.map.now self.now.drawing.points.now self.now.base.0) d.0 }

@@ -70,12 +70,12 @@ pub fn check_outer_connected(
     }
 }
 
-/// Returns the least dart, by its tail and then by its head, whose face is not that of `base` and has an area
-/// that is not positive, where the map is connected; and `Yes` where there is none or the map is not connected.
+/// Returns the least dart, by its tail and then by its head, whose face is not that of `base` and has no positive area.
+/// It is `Yes` where there is none, or the map is not connected.
 ///
-/// Twice the area of a face is the sum of a.x * b.y - b.x * a.y over its darts from a to b, in 128 bits.
-/// `base` is live, `fig` has one point for each vertex, and no coordinate is beyond 2^20 in size; its grid is
-/// not looked at. It fails only when out of memory. The time and the memory are linear in the vertices and the darts.
+/// Twice the area of a face is the sum of a.x * b.y - b.x * a.y over its darts from a to b, in 128 bits. `base` is
+/// live, `fig` has one point for each vertex, and no coordinate is beyond 2^20 in size; its grid is not looked at. It
+/// fails only when out of memory. The time and the memory are linear in the vertices and the darts.
 pub fn check_outer(
     alloc: Global,
     map: &HalfMap,

@@ -13,6 +13,7 @@ outside vs u = not (list_any (λ w. w == u) vs)
 abbrev pub without_vertices : List ℕ → Lists → Lists
 without_vertices vs lists = restricted (outside vs) lists
 
+-- v has an edge
 abbrev pub HasEdge : Lists → ℕ → Type 0
 HasEdge lists v = (u : ℕ) × HasDart lists v u
 

@@ -9,5 +9,6 @@ use Rattle.kuratowski.specs.declared.witness.Kind.{Kind}
 abbrev pub HasWitness : EdgeGraph → Type 0
 HasWitness graph = (kind : Kind) × (branch : List VertexId) × (paths : List (List VertexId)) × IsWitness graph kind branch paths
 
+-- how many paths a witness of this kind has
 abbrev pub path_count : Kind → ℕ
 path_count kind = length (pairs_of kind)

@@ -13,7 +13,7 @@ pub record IsDrawnMap (graph : EdgeGraph) (lists : Lists) (figure : GridFigure) 
   pub map : IsMapOf lists graph
   pub valid : IsSchnyderFigure lists figure
 
--- such a map with its figure, or a witness that is accepted for the graph
+-- a map as in `IsDrawnMap` with its figure, or a witness that is accepted for the graph
 abbrev pub IsEmbedFigure : EdgeGraph → EmbedFigure → Type 0
 IsEmbedFigure graph (Drawn lists figure) = IsDrawnMap graph lists figure
 IsEmbedFigure graph (NotPlanar witness) = IsWitness graph witness.kind witness.branch witness.paths

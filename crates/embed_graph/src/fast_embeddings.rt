@@ -117,7 +117,7 @@ pub(crate) fn refuted(
 /// witness that there is none. It fails only when out of memory.
 ///
 /// The map is that of the left-right test, whose lists are checked, and whose no is right. A witness is one of the
-/// first 3n - 5 edges of the graph's line, where it has more; where the search for it finds none that is accepted,
+/// first 3n - 5 edges of the graph's line, where it has more. Where the search for it finds none that is accepted,
 /// edges are contracted as long as the test refuses the graph. The test is not proved to find each map: where its lists
 /// are not accepted, the answer is that of `map_of_graph`. No graph is known for which either comes.
 pub fn embed(alloc: Global, graph: &Graph) -> Result<Embedding, AllocError>

@@ -58,7 +58,7 @@ second_name p = p % 3
 abbrev pub path_between : ℕ → ℕ → ℕ
 path_between a b = if a == 0 then b - 1 else if a == 1 then b + 2 else if a == 2 then b + 4 else 9
 
--- and of any two
+-- the number of the path of K5 between two branches, in either order
 abbrev pub link_between : ℕ → ℕ → ℕ
 link_between a b = if nat_lt a b then path_between a b else path_between b a
 

@@ -9,6 +9,7 @@ abbrev pub merged_edge : EdgeGraph → ℕ → ℕ → ℕ → ℕ → Bool
 merged_edge graph a b u v =
     (not (u == b) && not (v == b)) && (has_edge graph u v || ((u == a) && has_edge graph b v) || ((v == a) && has_edge graph u b))
 
+-- the graph in which a has the neighbours of b too, and b none
 abbrev pub merged : EdgeGraph → ℕ → ℕ → EdgeGraph
 merged graph a b = record { n = graph.n; edges = filter (λ e. merged_edge graph a b e.0 e.1) (pairs graph.n) }
 

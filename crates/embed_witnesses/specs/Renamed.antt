@@ -17,7 +17,7 @@ renamed_list to vs = map (λ v. record { 0 = to v.0 }) vs
 abbrev pub renamed_paths : (ℕ → ℕ) → List (List VertexId) → List (List VertexId)
 renamed_paths to paths = map (renamed_list to) paths
 
--- the same kind, with branches and paths renamed
+-- `new` is `old` with its branches and paths renamed; its kind stays
 pub record IsRenamed (to : ℕ → ℕ) (old new : Witness) : Type 0 where
   pub kind : new.kind ≡ old.kind
   pub branch : new.branch ≡ renamed_list to old.branch

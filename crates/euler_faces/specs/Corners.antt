@@ -8,7 +8,7 @@ pub record IsCornerOfThree (lists : Lists) (v u : ℕ) : Type 0 where
   pub joined : HasDart lists v (follows lists u v)
   pub back : follows lists v (follows lists u v) ≡ u
 
--- so it is at each dart with a number below n
+-- `IsCornerOfThree` at each dart with a number below n
 abbrev pub AreCornersBelow : Lists → ℕ → Type 0
 AreCornersBelow lists n =
     (d : ℕ) → d < n → IsCornerOfThree lists (slice_index_or (darts lists) d (0, 0)).0 (slice_index_or (darts lists) d (0, 0)).1

@@ -31,7 +31,7 @@ pieces Bars = bar_front
 pieces Rects = rect_front
 pieces (Witness kind) = row_front
 
--- how many they are
+-- how many words stand before the vertices of a line
 abbrev pub front_length : Kind → ℕ
 front_length kind = length (pieces kind)
 
@@ -51,11 +51,11 @@ IsWithin Row word = Unit {0}
 IsWithin Value word = IsInside word
 IsWithin Last word = IsInside word
 
--- the first words of a line stand so to pieces, one by one
+-- each of the first words stands so to its piece
 abbrev pub Along : (Piece → Word → Type 0) → List Piece → List Word → Type 0
 Along Stands pieces words = (i : ℕ) → i < length pieces → Stands (slice_index_or pieces i Row) (word_at words i)
 
--- the line at this place may have so many words
+-- the line at this place may have `len` words
 abbrev pub is_long : Kind → ℕ → ℕ → Bool
 is_long (Grid job) place len = true
 is_long Bars place len = true

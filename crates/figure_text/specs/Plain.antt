@@ -23,7 +23,7 @@ pub record IsClosingAt (line : List ℕ) (at : ℕ) (digits : Digits) : Type 0 w
   pub order : at ≤ digits.end
   pub within : digits.end ≤ length line
 
--- the same, and it numbers a vertex
+-- the words from a place on begin with this number, which is that of a vertex: from 1 to 65535
 pub record IsVertexAt (line : List ℕ) (at : ℕ) (digits : Digits) : Type 0 where
   pub plain : IsPlainAt line at digits
   pub least : 1 ≤ digits.value
@@ -33,7 +33,7 @@ pub record IsVertexAt (line : List ℕ) (at : ℕ) (digits : Digits) : Type 0 wh
 abbrev pub IsNeighbour : Word → Type 0
 IsNeighbour word = IsTrue (is_natural word) × IsVertex word
 
--- the same, and it is a coordinate
+-- the words from a place on begin with this number, which is a coordinate: at most 2^20
 pub record IsCoordinateAt (line : List ℕ) (at : ℕ) (digits : Digits) : Type 0 where
   pub plain : IsPlainAt line at digits
   pub most : digits.value ≤ 1048576
@@ -42,11 +42,11 @@ pub record IsCoordinateAt (line : List ℕ) (at : ℕ) (digits : Digits) : Type 
 abbrev pub IsCoordinateWord : Word → Type 0
 IsCoordinateWord word = IsTrue (is_number word) × IsInside word
 
--- a number without a minus, as a whole number
+-- a natural number as an integer
 abbrev pub plain_value : ℕ → ℤ
 plain_value n = signed_value (record { negative = false; size = n })
 
--- a piece holds a number of the vertex
+-- the words of this piece have a number that is kept for the vertex
 abbrev pub IsHeld : Piece → Type 0
 IsHeld Place = ⊥
 IsHeld (Literal name) = ⊥

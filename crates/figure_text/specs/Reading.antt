@@ -36,7 +36,7 @@ pub record IsRow (kind : Kind) (place : ℕ) (words : List Word) : Type 0 where
   pub long : IsTrue (is_long kind place (length words))
   pub vertices : All (λ w. IsTrue (is_natural w)) (drop (front_length kind) words)
 
--- and the ranges of its numbers
+-- the numbers of the line of a vertex, or of one of a witness, are within their ranges
 pub record RowInRange (kind : Kind) (words : List Word) : Type 0 where
   pub front : Along IsWithin (pieces kind) words
   pub vertices : All (λ w. IsVertex w) (drop (front_length kind) words)
@@ -61,7 +61,7 @@ pub record Rows (kind : Kind) (text : List ℕ) (lines : List (List ℕ)) (rest 
   pub plain : All IsPlain lines
   pub good : (i : ℕ) → i < length lines → IsGoodRow kind (i + 1) (slice_index_or lines i [])
 
--- the lines before a line that is due, of the first so many, and from there on this
+-- The text begins with fewer than n good lines of vertices, closed one after another, and goes on with `rest`: a line of the n is still due there.
 pub record StopsAt (kind : Kind) (n : ℕ) (text : List ℕ) (lines : List (List ℕ)) (rest : List ℕ) : Type 0 where
   pub rows : Rows kind text lines rest
   pub few : length lines < n

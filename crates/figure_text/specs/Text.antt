@@ -174,6 +174,6 @@ IsWhole (Bars lists bars) = HasBars lists bars
 IsWhole (Rects lists rects) = HasRects lists rects
 IsWhole (WitnessFigure graph witness) = HasPaths witness
 
--- how many bytes the fronts of n lines take at most, each with the byte that closes its line, where one front takes so many
+-- how many bytes the fronts of n lines take at most, each with the byte that closes its line, where one front takes `longest`
 unfoldable pub fronts_room : ℕ → ℕ → ℕ
 fronts_room longest n = (longest + 1) * n

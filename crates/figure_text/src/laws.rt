@@ -3,8 +3,8 @@ ghost use Rattle.figure_text.specs.Laws.{PrintedIsRead, OneAnswer};
 
 /// States the law that the text that `print_figure` appends of a figure is read back as the same figure, wherever it
 /// stands and whatever follows. A reading may answer that figure, with the offset after what was appended. All numbers
-/// of the figure have to be within the ranges of the text: its own from 1 to 16777216, from 1 to 4095 vertices,
-/// neighbours from 1 to 65535, and coordinates from -1048576 to 1048576.
+/// of the figure have to be within the ranges of the text: its own from 1 to 16777216, and from 1 to 4095 vertices.
+/// Neighbours are from 1 to 65535, and coordinates from -1048576 to 1048576.
 pub fn printed_is_read()
     ensures { PrintedIsRead }
 {}

@@ -336,8 +336,8 @@ pub fn plain_at(line: &[u8], at: usize) -> Option<Digits>
     None
 }
 
-/// Returns the number that begins at index `at` of `line`, if it has no minus and at most four digits, a space follows,
-/// and the line has five bytes from `at` on. Else it returns None.
+/// Returns the number that begins at index `at` of `line`, if it has no minus and at most four digits, and a space
+/// follows. Otherwise it returns None, as where the line has fewer than five bytes from `at` on.
 #[inline(always)]
 pub fn short_at(line: &[u8], at: usize) -> Option<Digits>
     ensures { IfSome result (IsPlainAt line.now at) }
@@ -354,9 +354,9 @@ pub fn short_at(line: &[u8], at: usize) -> Option<Digits>
     None
 }
 
-/// Returns the number before a colon that begins at index `at` of `line`, if it has no minus and at most four digits, a
-/// space follows the colon, and the line has six bytes from `at` on. Else it returns None. `end` is the index after the
-/// colon.
+/// Returns the number before a colon that begins at index `at` of `line`, if it has no minus and at most four digits,
+/// and a space follows the colon. Otherwise it returns None, as where the line has fewer than six bytes from `at` on.
+/// `end` is the index after the colon.
 #[inline(always)]
 pub fn closing_at(line: &[u8], at: usize) -> Option<Digits>
     ensures { IfSome result (IsClosingAt line.now at) }

@@ -39,7 +39,7 @@ fn push_row(out: &mut Vec<u8>, word: &[u8], ids: &[VertexId]) -> Result<(), Allo
     Ok(())
 }
 
-// Appends to `out` the lines of the branches and of the paths of `witness`.
+// Appends to `out` a line with the branch vertices of `witness`, and a line for each of its paths.
 fn push_rows(out: &mut Vec<u8>, witness: &Witness) -> Result<(), AllocError>
     ensures { OnOk result (out.new.items ≡ out.old.items ++ witness_lines witness.now (length witness.now.paths + 1)) }
 {
@@ -50,8 +50,8 @@ fn push_rows(out: &mut Vec<u8>, witness: &Witness) -> Result<(), AllocError>
     Ok(())
 }
 
-// Appends to `text` the text of `witness` with this `number`. It has a first line, which holds that of `graph`, and the
-// lines of the branches and of the paths.
+// Appends to `text` the text of `witness` as figure `number`. The first line holds the graph6 line of `graph`, and the
+// others hold the branches and the paths.
 pub(crate) fn push_witness(
     text: &mut Vec<u8>,
     number: u32,

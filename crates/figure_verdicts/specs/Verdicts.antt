@@ -86,11 +86,11 @@ IsJobVerdict Shift lists points width height verdict = IsDrawnVerdict lists poin
 IsJobVerdict Schnyder lists points width height verdict = IsDrawnVerdict lists points width height verdict
 IsJobVerdict Convex lists points width height verdict = IsShapedVerdict lists points width height verdict
 
--- the same in the grid of the job
+-- `IsJobVerdict` in the grid of the job
 abbrev pub IsFittingVerdict : GridJob → Lists → List Point → FigureVerdict → Type 0
 IsFittingVerdict job lists points verdict = IsJobVerdict job lists points (grid_width job lists) (grid_height job lists) verdict
 
--- the same of lists that may be no simple map, whose first fault then comes first
+-- `IsFittingVerdict` of lists that may be no simple map, whose first fault then comes first
 abbrev pub IsGridVerdict : GridJob → Lists → List Point → FigureVerdict → Type 0
 IsGridVerdict job lists points (Refused fault) = IsFirstFault (first_fault lists) fault
 IsGridVerdict job lists points (Drawing verdict) = (first_fault lists ≡ None) × IsFittingVerdict job lists points (Drawing verdict)
@@ -112,7 +112,7 @@ IsColumnsVerdict lists bars width (RectFault verdict) = ⊥
 IsColumnsVerdict lists bars width (WitnessFault verdict) = ⊥
 IsColumnsVerdict lists bars width Yes = IsBarVerdict lists bars width NoBarFault
 
--- the same of lists that may be no simple map, whose first fault then comes first
+-- The verdict on bars, of lists that may be no simple map: their first fault then comes first.
 abbrev pub IsBarsVerdict : Lists → BarFigure → FigureVerdict → Type 0
 IsBarsVerdict lists bars (Refused fault) = IsFirstFault (first_fault lists) fault
 IsBarsVerdict lists bars (Drawing verdict) = ⊥
@@ -134,7 +134,7 @@ IsTiledVerdict lists rects (RectFault verdict) = IsRectVerdict lists rects verdi
 IsTiledVerdict lists rects (WitnessFault verdict) = ⊥
 IsTiledVerdict lists rects Yes = IsRectVerdict lists rects NoRectFault
 
--- the same of lists that may be no simple map, whose first fault then comes first
+-- The verdict on rectangles, of lists that may be no simple map: their first fault then comes first.
 abbrev pub IsRectsVerdict : Lists → RectFigure → FigureVerdict → Type 0
 IsRectsVerdict lists rects (Refused fault) = IsFirstFault (first_fault lists) fault
 IsRectsVerdict lists rects (Drawing verdict) = ⊥

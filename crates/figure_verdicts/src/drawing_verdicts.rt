@@ -100,8 +100,8 @@ impl MapDrawing<'_> {
         }
     }
 
-    /// Returns the first fault of the drawing in the grid up to `corner`; or, where it has none, the least dart of a
-    /// face that is turned inside out; or `Yes`.
+    /// Returns the first fault of the drawing in the grid up to `corner`. If it has none, it returns the least dart of
+    /// a face that is turned inside out, or `Yes`.
     pub fn drawn_verdict(&self, corner: Point) -> Result<FigureVerdict, AllocError>
         ensures { IfOk result (IsDrawnVerdict self.now.map.now.lists self.now.points.now corner.x corner.y) }
     {

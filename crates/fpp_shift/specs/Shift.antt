@@ -26,7 +26,7 @@ x_after g s at v = if nat_lt v g.count then at.x v + shift s (g.place v) else to
 unfoldable pub y_after : Stage → Step → Places → ℕ → ℕ
 y_after g s at v = if nat_lt v g.count then at.y v else top_y at (g.vertex s.first) (g.vertex s.last)
 
--- The points after so many steps. Both vertices of the base begin at (0, 0), so the first step puts the third vertex at (1, 1), with the second at (2, 0).
+-- The points after the first k steps. Both vertices of the base begin at (0, 0), so the first step puts the third vertex at (1, 1), with the second at (2, 0).
 abbrev pub shift_points : (ℕ → Step) → ℕ → Places
 shift_points steps zero = record { x = λ v. 0; y = λ v. 0 }
 shift_points steps (suc k) = record {

@@ -45,6 +45,6 @@ abbrev pub SomeShiftPoints : Type 0
 SomeShiftPoints =
     (lists : Lists) (base : Dart) (at : List ℕ) → IsTriangulation lists → (order : IsCanonicalOrder lists base at) → (points : List Point) × AreShiftPoints lists base at order.cycle points
 
--- So each triangulation has such a drawing, for each base dart.
+-- Each triangulation has a drawing by shift points, for each base dart.
 abbrev pub SomeShiftDrawing : Type 0
 SomeShiftDrawing = (lists : Lists) (base : Dart) → IsTriangulation lists → HasDart lists base.0 base.1 → (points : List Point) × IsShiftDrawing lists base points

@@ -18,7 +18,7 @@ pub record AddsUp (at : List ℕ) (steps : ℕ → Step) (nodes : List Node) : T
   pub tree : IsTree nodes (slice_index at 0)
   pub points : (points : List Point) → ArePointsOf nodes (slice_index at 0) points → (k : ℕ) → k < length at → place points (slice_index at k) ≡ point_of (shift_points steps (length at - 2)) k
 
--- So does the tree of offsets of each canonical order of a triangulation.
+-- The tree of offsets of each canonical order of a triangulation adds up to the shift points of the order's run.
 abbrev pub OffsetTreeAddsUp : Type 0
 OffsetTreeAddsUp =
     (lists : Lists) (base : Dart) (at : List ℕ) (nodes : List Node) → IsTriangulation lists → length lists < 4096 → (order : IsCanonicalOrder lists base at) → (steps : ℕ → Step) → IsOrderRun lists base at order.cycle steps → length nodes ≡ length lists → IsTreeOf lists at nodes → AddsUp at steps nodes

@@ -17,30 +17,30 @@ pub record IsListOf (lists : Lists) (v : ℕ) (list : List ℕ) : Type 0 where
 abbrev pub IsEarlier : List ℕ → ℕ → List ℕ → ℕ → Type 0
 IsEarlier ranks k list i = slice_index ranks (slice_index list i) < k
 
--- It has rank k or a later one.
+-- The entry at a place of a list has rank k or a later one.
 abbrev pub IsLater : List ℕ → ℕ → List ℕ → ℕ → Type 0
 IsLater ranks k list i = k ≤ slice_index ranks (slice_index list i)
 
--- The row of the vertex v, of rank k, begins at its neighbour u: u is of a lower rank, and it is the first vertex of all or the neighbour after it is of a higher one.
+-- The row of the vertex v, of rank k, begins at its neighbour u: u is of a lower rank, and it is the first vertex of all or the neighbour after it is of rank k or higher.
 pub record BeginsRow (lists : Lists) (ranks : List ℕ) (k v u : ℕ) : Type 0 where
   pub dart : HasDart lists v u
   pub earlier : slice_index ranks u < k
   pub begins : (slice_index ranks u ≡ 0) ⊎ (k ≤ slice_index ranks (follows lists v u))
 
--- It ends at u: u is of a lower rank, and it is the second vertex of all or the neighbour before it is of a higher one.
+-- The row of the vertex v, of rank k, ends at its neighbour u: u is of a lower rank, and it is the second vertex of all or the neighbour before it is of rank k or higher.
 pub record EndsRow (lists : Lists) (ranks : List ℕ) (k v u : ℕ) : Type 0 where
   pub dart : HasDart lists v u
   pub earlier : slice_index ranks u < k
   pub ends : (slice_index ranks u ≡ 1) ⊎ ((w : ℕ) → HasDart lists v w → follows lists v w ≡ u → k ≤ slice_index ranks w)
 
--- It begins at p and ends at q, and nowhere else.
+-- The row of the vertex v, of rank k, begins at p and ends at q, and nowhere else.
 pub record HasRow (lists : Lists) (ranks : List ℕ) (k v p q : ℕ) : Type 0 where
   pub begin : BeginsRow lists ranks k v p
   pub only_begin : (u : ℕ) → BeginsRow lists ranks k v u → u ≡ p
   pub end : EndsRow lists ranks k v q
   pub only_end : (u : ℕ) → EndsRow lists ranks k v u → u ≡ q
 
--- So each vertex of a canonical order from the third on has a row, from the first vertex of a step of the order's run to the last.
+-- Each vertex of a canonical order from the third on has a row. That of the vertex of rank k + 2 goes from the first vertex under step k of the order's run to the last.
 abbrev pub OrderHasRows : Type 0
 OrderHasRows =
     (lists : Lists) (base : Dart) (at ranks : List ℕ) → IsTriangulation lists → (order : IsCanonicalOrder lists base at) → IsRankOf ranks at → (steps : ℕ → Step) → IsOrderRun lists base at order.cycle steps

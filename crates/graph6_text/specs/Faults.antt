@@ -12,12 +12,13 @@ is_bad_byte byte = nat_lt byte 63 || nat_lt 126 byte
 abbrev pub four_byte_start : ℕ → Result (ℕ × ℕ) G6Fault
 four_byte_start n = if nat_lt n 63 then Err LongCount else if nat_lt 255 n then Err (TooMany n) else Ok (n, 4)
 
+-- the number of vertices by the three bytes that begin with b, after a first byte 126, and that it takes four bytes; or what is wrong with them
 abbrev pub long_rest : ℕ → List ℕ → Result (ℕ × ℕ) G6Fault
 long_rest b [] = Err ShortLine
 long_rest b (c ∷ []) = Err ShortLine
 long_rest b (c ∷ d ∷ bytes) = four_byte_start ((b - 63) * 4096 + (c - 63) * 64 + (d - 63))
 
--- the same behind a first byte 126
+-- what the bytes after a first byte 126 say: a second 126 would begin a count of eight bytes, which is too long
 abbrev pub long_start : List ℕ → Result (ℕ × ℕ) G6Fault
 long_start [] = Err ShortLine
 long_start (b ∷ bytes) = if b == 126 then Err LongCount else long_rest b bytes

@@ -17,7 +17,7 @@ pub record AreCutFlags (lists : Lists) (flags : List Bool) : Type 0 where
   pub yes : (v : ℕ) → v < length lists → slice_index_or flags v false ≡ true → IsCutVertex lists v
   pub no : (v : ℕ) → v < length lists → slice_index_or flags v false ≡ false → ¬ IsCutVertex lists v
 
--- the same child, in tables
+-- `IsSeparatedChild` of tables with an entry for each vertex
 abbrev pub IsSeparatedIn : List ℕ → List ℕ → List ℕ → ℕ → ℕ → Type 0
 IsSeparatedIn number parent low v c = IsSeparatedChild (length number) (λ u. slice_index number u) (λ u. slice_index parent u) (λ u. slice_index low u) v c
 

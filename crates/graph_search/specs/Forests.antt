@@ -28,7 +28,7 @@ pub record IsForest (lists : Lists) (order number last parent : ℕ → ℕ) : T
   pub has_parent : (u v : ℕ) → u < length lists → v < length lists → Holds number last u v → parent v < length lists
   pub nearest : (u v : ℕ) → u < length lists → v < length lists → Holds number last u v → number u ≤ number (parent v)
 
--- the same of tables with an entry for each vertex
+-- `IsForest` of tables with an entry for each vertex
 pub record IsForestOf (lists : Lists) (order number last parent : List ℕ) : Type 0 where
   pub orders : length order ≡ length lists
   pub numbers : length number ≡ length lists

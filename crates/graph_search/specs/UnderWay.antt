@@ -72,7 +72,7 @@ pub record AreLowering (lists : Lists) (number last parent cursor low : ℕ → 
   pub seen : (v : ℕ) → v < length lists → low v < length lists → number v < length lists
   pub met : (v : ℕ) → v < length lists → low v < length lists → ∥ IsMetFrom lists number last v (low v) ∥₁
 
--- the same of tables with an entry for each vertex
+-- `AreLowering` of tables with an entry for each vertex
 pub record AreLowsSoFar (lists : Lists) (number last parent cursor low : List ℕ) : Type 0 where
   pub lows : length low ≡ length lists
   pub so_far : AreLowering lists (λ v. slice_index number v) (λ v. slice_index last v) (λ v. slice_index parent v) (λ v. slice_index cursor v) (λ v. slice_index low v)

@@ -61,7 +61,7 @@ pub record IsDrawnFor (form : Form) (lists : Lists) (to : ℕ) (at : List ℕ) (
   pub third : place figure.points (follows lists to 0) ≡ form.third (length lists)
   pub by_order : form.AreMethodPoints lists (0, to) at cycle figure.points
 
--- so it does for each such base for which the vertices are in a canonical order
+-- `IsDrawnFor` for each such base for which the vertices are in a canonical order
 abbrev pub IsDrawnBy : Form → Lists → List ℕ → GridFigure → Type 0
 IsDrawnBy form lists at figure =
     (to : ℕ) → HasDart lists 0 to → (order : IsCanonicalOrder lists (0, to) at) → IsDrawnFor form lists to at order.cycle figure

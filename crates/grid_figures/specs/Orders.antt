@@ -25,11 +25,11 @@ pub record IsDrawingOrder (lists : Lists) (found : DrawingOrder) : Type 0 where
   pub canonical : IsCanonicalOrder found.tri.lists (0, to) (vertices_of found.order)
   pub rank : IsRankOf found.order.rank (vertices_of found.order)
 
--- the lists that were made for a completion, where edges were put in, or else the map's own
+-- the lists `made` for a completion, if edges were put in; else the map's own lists
 abbrev pub lists_by : Bool → Lists → Lists → Lists
 lists_by made lists own = if made then lists else own
 
--- The order is a canonical one of a completion of the simple map of these lists, for a base of it.
+-- The order is a canonical one of the completion `more` of the simple map of these lists, for a base of it.
 pub record IsOrdered (lists more : Lists) (order : Order) : Type 0 where
   pub simple : IsSimpleMap lists
   pub triangulation : IsTriangulation more

@@ -1,5 +1,5 @@
-//! The answer of the job `schnyder` to a record, as a value: a figure by Schnyder's coordinates (1990), or the
-//! first condition of the job that the record breaks.
+//! The answer of the job `schnyder` to a record: a figure by Schnyder's coordinates (1990), or the first condition of
+//! the job that the record breaks.
 
 ghost use Rattle.grid_figures.specs.SchnyderFiguresLaws.{SomeSchnyderFigure};
 

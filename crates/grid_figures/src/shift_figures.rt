@@ -1,5 +1,5 @@
-//! The answer of the job `shift` to a record, as a value: a figure by the shift method of de Fraysseix, Pach
-//! and Pollack (1990), or the first condition of the job that the record breaks.
+//! The answer of the job `shift` to a record: a figure by the shift method, or the first condition of the job that the
+//! record breaks. The method is that of de Fraysseix, Pach and Pollack (1990).
 
 ghost use Rattle.grid_figures.specs.ShiftFiguresLaws.{SomeShiftFigure};
 

@@ -31,7 +31,7 @@ abbrev pub with_edge : Lists → ℕ → Option ℕ → ℕ → Option ℕ → L
 with_edge lists u a v b =
     slice_set (slice_set lists u (with_entry (list_of lists u) a v)) v (with_entry (list_of lists v) b u)
 
--- the same of the records: the vertex of a corner
+-- the vertex of a corner, by the records
 abbrev pub corner_tail : List DartRecord → Corner → ℕ
 corner_tail darts (After e) = tail_of darts e.0
 corner_tail darts (Only v) = v.0
@@ -41,7 +41,7 @@ abbrev pub corner_entry : List DartRecord → Corner → Option ℕ
 corner_entry darts (After e) = Some (head_of darts e.0)
 corner_entry darts (Only v) = None
 
--- and what it names
+-- a corner is one of the map: its dart is live, or its vertex is isolated
 abbrev pub IsCornerIn : Lists → List DartRecord → Corner → Type 0
 IsCornerIn lists darts (After e) = live_of darts e.0 ≡ true
 IsCornerIn lists darts (Only v) = (v.0 < length lists) × (list_of lists v.0 ≡ [])

@@ -9,6 +9,7 @@ kept_before [] v = 0
 kept_before (k ∷ keep) zero = 0
 kept_before (k ∷ keep) (suc v) = (if k then 1 else 0) + kept_before keep v
 
+-- v is one of the kept vertices
 abbrev pub is_kept : List Bool → ℕ → Bool
 is_kept keep v = slice_index_or keep v false
 
@@ -22,5 +23,6 @@ kept_lists [] lists = []
 kept_lists (k ∷ keep) [] = []
 kept_lists (k ∷ keep) (us ∷ lists) = if k then us ∷ kept_lists keep lists else kept_lists keep lists
 
+-- the lists of the kept vertices, restricted to them and numbered anew in rising order
 abbrev pub induced_lists : List Bool → Lists → Lists
 induced_lists keep lists = map (induced_list keep) (kept_lists keep lists)

@@ -3,6 +3,7 @@ use Rattle.std.specs.Prelude.{ℕ, ◌+◌, ◌*◌, ◌<◌, ◌≤◌, ◌≡�
 use Rattle.map_lists.specs.Lists.{Lists}
 use Rattle.map_theory.specs.Maps.{Dart, IsSimpleMap, HasDart, list_of, follows, edge_count}
 
+-- a half-edge map, as contracts see it
 pub record Map : Type 0 where
   -- for each vertex its neighbours, clockwise
   pub lists : Lists
@@ -15,6 +16,7 @@ pub record Map : Type 0 where
 abbrev pub dart_at : Map → ℕ → Option Dart
 dart_at map d = slice_index_or map.ids d None
 
+-- the id is that of a dart
 abbrev pub IsLive : Map → ℕ → Type 0
 IsLive map d = IsSome (dart_at map d)
 
@@ -26,7 +28,7 @@ next_dart lists d = (d.0, follows lists d.0 d.1)
 abbrev pub first_dart : Lists → ℕ → Dart
 first_dart lists v = (v, slice_index (list_of lists v) 0)
 
--- twice the number of edges that there are or can be added: the number of each id is below it
+-- all ids are below this: two for each edge that the map has or has room for
 abbrev pub id_bound : Map → ℕ
 id_bound map = 2 * (edge_count map.lists + map.spare)
 

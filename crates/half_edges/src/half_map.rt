@@ -59,7 +59,7 @@ impl MapMemory {
         }
     }
 
-    /// Makes the map with these `lists`, which are a simple map, from the tails and twins of their darts. It fails
+    /// Makes the half-edge map of `lists`, which are a simple map, from the tails and twins of their darts. It fails
     /// only when out of memory.
     #[inline(always)]
     pub fn from_twins(
@@ -117,8 +117,8 @@ impl MapMaker {
         }
     }
 
-    /// Returns the map with these lists, or their first fault, as `HalfMap::from_rotations` has it. After `NoMemory`
-    /// the maker serves as before.
+    /// Returns the half-edge map of `lists`, or their first fault, like [`HalfMap::from_rotations`], but in the memory
+    /// of maps that `keep` took over. After `NoMemory` the maker can be used as before.
     pub fn from_rotations(&mut self, lists: &Rotations) -> Result<HalfMap, MapFault>
         requires some_list { 0 < length lists.now }
         ensures lists { IfOk result (λ map. map.lists ≡ lists.now) }
@@ -145,7 +145,7 @@ impl MapMaker {
 }
 
 impl HalfMap {
-    /// Returns the map with these lists, which are from 1 to 4095, or the first fault of the lists.
+    /// Returns the half-edge map of `lists`, which are from 1 to 4095, or their first fault.
     ///
     /// Its `spare` is 0. Time and memory are linear in the entries: 16 bytes for a dart, and six more while it is made.
     pub fn from_rotations(alloc: Global, lists: &Rotations) -> Result<HalfMap, MapFault>

@@ -16,6 +16,7 @@ pairs_of K5 =
     (0, 1) ∷ (0, 2) ∷ (0, 3) ∷ (0, 4) ∷ (1, 2) ∷ (1, 3) ∷ (1, 4) ∷ (2, 3) ∷ (2, 4) ∷ (3, 4) ∷ []
 pairs_of K33 = (0, 3) ∷ (0, 4) ∷ (0, 5) ∷ (1, 3) ∷ (1, 4) ∷ (1, 5) ∷ (2, 3) ∷ (2, 4) ∷ (2, 5) ∷ []
 
+-- the pair of branches that path p joins
 abbrev pub pair_at : Kind → ℕ → ℕ × ℕ
 pair_at kind p = slice_index_or (pairs_of kind) p (0, 0)
 

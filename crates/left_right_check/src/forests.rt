@@ -34,8 +34,8 @@ pub fn after_steps(parents: &[u16], vertex: u16, steps: u16) -> u16
     v
 }
 
-/// Says whether tables of parents and depths, by vertex, are those of a rooted forest of a graph: each vertex is a
-/// root, or is below its parent, to which an edge joins it.
+/// Says whether tables of parents and depths, by vertex, are those of a rooted forest of a graph. Then each vertex is a
+/// root, or is one step below its parent, to which an edge joins it.
 #[tactic(auto, using(crate::proofs::TieLemmas::forest_by_places, crate::proofs::TieLemmas::placed_past))]
 pub fn is_forest(graph: &Graph, parents: &[u16], depths: &[u16]) -> bool
     ensures { IsTrue result → IsForestOf graph.now parents.now depths.now }
@@ -85,8 +85,8 @@ impl<'a> RootedForest<'a> {
         after_steps(self.parents, edge.from, low - high - 1) == end
     }
 
-    /// Says whether an edge returns from `vertex` by the vertex's edge to `end`: the way up from `vertex` leads to its
-    /// upper end, and the way down to its lower end begins with that edge.
+    /// Says whether an edge returns from `vertex` by the vertex's edge to `end`. Then the way up from `vertex` leads to
+    /// its upper end, and the way down to its lower end begins with that edge.
     pub(crate) fn returns_by(&self, vertex: u16, end: u16, edge: ReturnEdge) -> bool
         ensures { IsTrue result → ReturnsBy self.now.graph.now self.now.parents.now self.now.depths.now vertex end edge.from edge.to }
     {

@@ -62,8 +62,8 @@ impl<'a> RootedForest<'a> {
         self.ends_above(lowest, pair.other)
     }
 
-    /// Says whether a fork puts two edges on different sides: the one returns by its first edge, the other by its
-    /// second one, and each ends below the end of one that returns by the other edge, of `lowest`.
+    /// Says whether a fork puts two edges on different sides. Then the one returns by its first edge and the other by
+    /// its second one. Each ends below the end of one that returns by the other edge, which `lowest` names.
     pub fn are_opposite(&self, fork: Fork, pair: Pair, lowest: Pair) -> bool
         ensures { IsTrue result → AreTied self.now.graph.now self.now.parents.now self.now.depths.now true pair.one.from pair.one.to pair.other.from pair.other.to }
     {

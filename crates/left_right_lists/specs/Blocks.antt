@@ -4,11 +4,12 @@ use Rattle.map_theory.specs.Maps.{Dart}
 use Rattle.left_right_maps.specs.RootedMaps.{is_child}
 use Rattle.left_right_lists.specs.Orders.{returns_in}
 
--- the first edges that pass, and the others
+-- the first edges, as long as they pass
 abbrev pub lead : (Dart → Bool) → List Dart → List Dart
 lead p [] = []
 lead p (d ∷ ds) = cond (p d) (d ∷ lead p ds) []
 
+-- the edges from the first one that does not pass
 abbrev pub trail : (Dart → Bool) → List Dart → List Dart
 trail p [] = []
 trail p (d ∷ ds) = cond (p d) (trail p ds) (d ∷ ds)
@@ -18,13 +19,15 @@ abbrev pub uppers : List Dart → List ℕ
 uppers [] = []
 uppers (d ∷ ds) = uppers ds ++ d.0 ∷ []
 
--- of what returns from below a child of v: the left edges that end at v, those that end above it, and the right ones that end at v
+-- of what returns from below a child of v: the left edges that end at v
 abbrev pub lefts : ℕ → List Dart → List Dart
 lefts v ds = lead (λ d. eqb d.1 v) ds
 
+-- of what returns from below a child of v: the edges that end above v
 abbrev pub middle : ℕ → List Dart → List Dart
 middle v ds = lead (λ d. not (eqb d.1 v)) (trail (λ d. eqb d.1 v) ds)
 
+-- of what returns from below a child of v: the right edges that end at v
 abbrev pub rights : ℕ → List Dart → List Dart
 rights v ds = trail (λ d. not (eqb d.1 v)) (trail (λ d. eqb d.1 v) ds)
 
@@ -33,10 +36,11 @@ abbrev pub is_item : (ℕ → ℕ → Bool) → (ℕ → ℕ) → (ℕ → ℕ) 
 is_item edge parent depth v u =
     is_child parent depth v u || (edge v u && (ltb (depth u) (depth v) && not (eqb u (parent v))))
 
--- what returns by the edge from v to u, and what stands at v for it
+-- the return edges by v's edge to u: those from below the child u, or that edge itself
 abbrev pub returned : (ℕ → ℕ) → (ℕ → ℕ) → (ℕ → List Dart) → ℕ → ℕ → List Dart
 returned parent depth opens v u = cond (is_child parent depth v u) (middle v (opens u)) ((v, u) ∷ [])
 
+-- what stands at v for its edge to u
 abbrev pub block : (ℕ → ℕ) → (ℕ → ℕ) → (ℕ → List Dart) → ℕ → ℕ → List ℕ
 block parent depth opens v u =
     cond (is_child parent depth v u) (uppers (lefts v (opens u)) ++ u ∷ uppers (rights v (opens u))) (u ∷ [])

@@ -11,19 +11,23 @@ use Rattle.left_right_lists.specs.Trees.{joined, AreSides}
 abbrev pub Group : Type 0
 Group = ℕ × Bool
 
--- an edge of which a side is asked for, and whether that is the other side
+-- an edge that a fork puts on a side, and whether that is the other side
 abbrev pub Demand : Type 0
 Demand = Dart × Bool
 
+-- a demand of no meaning, for places that have none
 abbrev pub none_demanded : Demand
 none_demanded = ((0, 0), false)
 
+-- the place of an edge in the table, by its ends below 256
 abbrev pub dart_place : Dart → ℕ
 dart_place d = d.0 * 256 + d.1
 
+-- the entry at a place of the table
 abbrev pub group_at : List Group → ℕ → Group
 group_at groups p = slice_index_or groups p (0, false)
 
+-- the entry of an edge
 abbrev pub group_of : List Group → Dart → Group
 group_of groups d = group_at groups (dart_place d)
 
@@ -31,7 +35,7 @@ group_of groups d = group_at groups (dart_place d)
 abbrev pub side_in : List Group → ℕ → ℕ → Bool
 side_in groups t w = (group_of groups (t, w)).1
 
--- the ends of an edge are such that it has a place
+-- an edge has a place in the table: both its ends are below 256
 abbrev pub IsPlaced : Dart → Type 0
 IsPlaced d = (d.0 < 256) × (d.1 < 256)
 
@@ -71,7 +75,7 @@ abbrev pub IsForkMet : EdgeGraph → List ℕ → List ℕ → List Group → �
 IsForkMet graph parents depths groups v e f =
     (k : ℕ) × ((b : Bool) × ((x y : Dart) → Returns graph parents depths v e x → Returns graph parents depths v f y → (slice_index depths y.1 < slice_index depths x.1 → group_of groups x ≡ (k, b)) × (slice_index depths x.1 < slice_index depths y.1 → group_of groups y ≡ (k, not b))))
 
--- so are those of all forks of v's edge to e
+-- the demands of all forks of v's edge to e are met
 abbrev pub AreForksMet : EdgeGraph → List ℕ → List ℕ → List Group → ℕ → ℕ → Type 0
 AreForksMet graph parents depths groups v e =
     (f : ℕ) → f < graph.n → e ≢ f → IsForkMet graph parents depths groups v e f

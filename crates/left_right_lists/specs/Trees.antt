@@ -20,10 +20,11 @@ pub record IsTabled (f : ℕ → ℕ) (table : List ℕ) (n : ℕ) : Type 0 wher
 abbrev pub is_other : List ℕ → List ℕ → ℕ → ℕ → Bool
 is_other parents depths root v = not (eqb (up (slice_index parents) (slice_index depths v) v) root)
 
--- the depths and parents of vertices in the tree made of a forest: the roots of the other trees become children of the root
+-- the depth of a vertex in the tree made of a forest, in which the roots of the other trees become children of the root
 abbrev pub grown_depth : List ℕ → List ℕ → ℕ → ℕ → ℕ
 grown_depth parents depths root v = slice_index depths v + cond (is_other parents depths root v) 1 0
 
+-- the parent of a vertex in that tree
 abbrev pub grown_parent : List ℕ → List ℕ → ℕ → ℕ → ℕ
 grown_parent parents depths root v =
     cond (eqb (slice_index depths v) 0 && is_other parents depths root v) root (slice_index parents v)
@@ -52,5 +53,6 @@ pub record AreOfTree (graph : EdgeGraph) (root : ℕ) (order number parents dept
   pub place : (k : ℕ) → k < graph.n → slice_index number (slice_index order k) ≡ k
   pub rising : (v : ℕ) → 0 < slice_index depths v → slice_index number (slice_index parents v) < slice_index number v
 
+-- `AreOfTree`, of a tree as the code holds it
 abbrev pub IsTreeOf : EdgeGraph → Tree → Type 0
 IsTreeOf graph tree = AreOfTree graph tree.root tree.order.items tree.number.items tree.parents.items tree.depths.items

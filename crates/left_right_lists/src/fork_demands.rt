@@ -11,7 +11,7 @@ use graph6_text::Graph;
 use left_right_check::entry;
 use std::alloc::{AllocError, Global};
 
-// Says whether an edge of `darts` ends nearer to the root than the edge `d`.
+// Says whether an edge of `darts` ends nearer to the root than the edge `d`, by the vertices' `depths`.
 fn has_lower(depths: &[u16], darts: &[(u16, u16)], d: (u16, u16)) -> bool
     ensures { IsTrue result ↔ HasLower depths.now darts.now (slice_index depths.now d.1) }
 {

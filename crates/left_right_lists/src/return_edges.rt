@@ -12,7 +12,7 @@ use left_right_check::{after_steps, entry};
 use map_lists::VertexId;
 use std::alloc::{AllocError, Global};
 
-/// Appends `item` to `list` if `wanted` is set. It fails only when out of memory.
+/// Appends `item` to `list`, but only if `wanted` is set. It fails only when out of memory.
 pub(crate) fn push_if<T: Copy>(list: &mut Vec<T>, wanted: bool, item: T) -> Result<(), AllocError>
     ensures { IfOk result (λ _. list.new.items ≡ cond wanted (list.old.items ++ item ∷ []) list.old.items) }
 {

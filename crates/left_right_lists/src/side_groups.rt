@@ -19,8 +19,8 @@ pub(crate) fn group(groups: &[(u32, bool)], d: (u16, u16)) -> (u32, bool)
     }
 }
 
-// Merges the groups of the edges `a` and `b`, so that they are on one side, or on different ones if `turn` is set.
-// Returns false where one group has them otherwise already.
+// Merges the groups of the edges `a` and `b` in `groups`, so that both edges are on one side, or on different ones if
+// `turn` is set. Returns false where they are in one group already, and not so.
 fn tie(groups: &mut [(u32, bool)], a: (u16, u16), b: (u16, u16), turn: bool) -> bool
     requires long { length groups.old ≡ 65536 }
     requires one { IsPlaced a }
@@ -44,8 +44,8 @@ fn tie(groups: &mut [(u32, bool)], a: (u16, u16), b: (u16, u16), turn: bool) -> 
     true
 }
 
-/// Merges the groups of all edges of `demands`, each on the side that its flag says. Returns false where that
-/// contradicts their groups.
+/// Merges the groups of all edges of `demands` in `groups`, each on the side that its flag says. Returns false where
+/// that contradicts their groups.
 pub(crate) fn tie_all(groups: &mut [(u32, bool)], demands: &[((u16, u16), bool)]) -> bool
     requires long { length groups.old ≡ 65536 }
     requires placed { (d : Demand) → Contains demands.now d → IsPlaced d.0 }

@@ -279,7 +279,7 @@ impl Few {
         fresh
     }
 
-    /// Orients all edges as `orient_all` does from the first vertex on: where it goes along a list from its last edge
+    /// Orients all edges as `orient_all` does from the first vertex on. Where that goes along a list from its last edge
     /// to its first one, this takes the neighbours from the greatest to the least.
     pub fn orient_all(&mut self, links: &Links, search: &mut Search) {
         search.root_count = 0;

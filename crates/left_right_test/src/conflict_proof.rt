@@ -82,8 +82,8 @@ impl<'a> Conflict<'a> {
         self.return_edge(self.search.lowpt_edge.get(dart))
     }
 
-    // Says whether two edges that return by the first of two darts of a vertex are on one side, since they end below
-    // the lowpoint of the second.
+    // Says whether the fork of the two `darts` of a vertex ties the return edges of `pair` to one side. Both must
+    // return by the first dart, and end below the lowpoint of the second.
     fn are_alike(&self, pair: Pair, darts: (u32, u32)) -> bool
         ensures { IsTrue result → AreTied self.now.forest.graph.now self.now.forest.parents.now self.now.forest.depths.now false pair.one.from pair.one.to pair.other.from pair.other.to }
     {
@@ -92,7 +92,7 @@ impl<'a> Conflict<'a> {
         self.forest.are_alike(at, pair, low)
     }
 
-    // Says whether two edges that return by two darts of a vertex are on different sides.
+    // Says whether the fork of the two `darts` of a vertex ties the return edges of `pair` to different sides.
     fn are_opposite(&self, pair: Pair, darts: (u32, u32)) -> bool
         ensures { IsTrue result → AreTied self.now.forest.graph.now self.now.forest.parents.now self.now.forest.depths.now true pair.one.from pair.one.to pair.other.from pair.other.to }
     {
@@ -122,6 +122,7 @@ impl<'a> Conflict<'a> {
     }
 
     // Says whether the forest ties two successive return edges of the ring, `edges`, by the tie with the end `end`.
+    // They are tied to different sides if `turn` is set, else to one.
     fn is_step(&self, edges: (ReturnEdge, ReturnEdge), end: u32, turn: bool) -> bool
         ensures { IsTrue result → AreTied self.now.forest.graph.now self.now.forest.parents.now self.now.forest.depths.now turn edges.0.from edges.0.to edges.1.from edges.1.to }
     {
@@ -164,8 +165,8 @@ impl<'a> Conflict<'a> {
         if side { Some(at) } else { None }
     }
 
-    // Says whether the conflict binds two return edges to one side: by a fork, or by a third edge, which returns by the
-    // dart of the conflict, and on the other side than each.
+    // Says whether the conflict ties the return edges of `pair` to one side. Either one fork does so, or a third edge
+    // does: it returns by the dart of the conflict, and is tied to the side opposite to each of them.
     fn are_bound(&self, pair: Pair) -> bool
         ensures { IsTrue result → AreTied self.now.forest.graph.now self.now.forest.parents.now self.now.forest.depths.now false pair.one.from pair.one.to pair.other.from pair.other.to }
     {
@@ -201,8 +202,8 @@ impl<'a> Conflict<'a> {
 }
 
 impl LeftRightTest {
-    // Says whether the conflict shows that a graph has no map of genus zero, in the forest that was read: the return
-    // edges of the ring would have to be on one side and on different ones.
+    // Says whether the conflict shows that `graph` has no map of genus zero, in the forest that was read. Then the
+    // return edges of the ring would have to be both on one side and on different ones.
     fn is_refuted(&self, graph: &Graph) -> bool
         ensures { IsTrue result → HasNoMap graph.now }
     {
@@ -233,7 +234,8 @@ impl LeftRightTest {
         }
     }
 
-    /// Says whether the conflict that the search met shows that a graph has no map of genus zero.
+    /// Says whether the conflict that the search met shows that `graph` has no map of genus zero. It reads the forest
+    /// of the search into the tables.
     pub fn is_shown(&mut self, graph: &Graph) -> bool
         ensures { IsTrue result → HasNoMap graph.now }
     {

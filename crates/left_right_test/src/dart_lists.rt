@@ -36,7 +36,7 @@ impl Links {
         }
     }
 
-    /// Empties all lists, for the vertices and the number of edges of `edges`.
+    /// Empties all lists, for as many vertices and edges as `edges` has.
     pub fn begin(&mut self, edges: &Edges) {
         self.vertices = edges.vertices;
         self.darts = twice(edges.count);
@@ -62,7 +62,8 @@ impl Links {
         self.count_dart(vertex);
     }
 
-    // Puts `dart` at the front of the list of `vertex`, without a link back to it and without counting it.
+    // Puts `dart`, which leads to `head`, at the front of the list of `vertex`, without a link back to it and without
+    // counting it.
     #[inline(always)]
     fn chain_first(&mut self, dart: u32, vertex: u32, head: u32) {
         self.head.set(dart, head);
@@ -76,7 +77,7 @@ impl Links {
         self.first.fill(vertices, NONE);
     }
 
-    /// Puts both darts of `edge` at the fronts of their lists, which are linked forwards only.
+    /// Puts both darts of edge number `edge` of `edges` at the fronts of their lists, which are linked forwards only.
     #[inline(always)]
     pub fn chain_edge(&mut self, edges: &Edges, edge: u32) {
         self.chain(edge, edges.one.get(edge), edges.other.get(edge));
@@ -103,7 +104,8 @@ impl Links {
         self.count_dart(b);
     }
 
-    /// Puts both darts of `edge` at the fronts of their lists, linked both ways, and counts them.
+    /// Puts both darts of edge number `edge` of `edges` at the fronts of their lists, linked both ways, and counts
+    /// them.
     #[inline(always)]
     pub fn put_edge(&mut self, edges: &Edges, edge: u32) {
         let a = edges.one.get(edge);
@@ -112,7 +114,7 @@ impl Links {
         self.put_first(twice(edge) ^ 1, b, a);
     }
 
-    /// Makes the lists of all `edges`, linked both ways.
+    /// Replaces the lists by those of the darts of all `edges`, linked both ways and counted.
     pub fn put_all(&mut self, edges: &Edges) {
         self.begin(edges);
         for edge in 0..edges.count {
@@ -131,7 +133,7 @@ impl Links {
         self.prev.set(after, before);
     }
 
-    /// Removes `dart` from the list of `vertex`.
+    /// Removes `dart` from the list of `vertex`, whose degree falls by one.
     pub fn take_out(&mut self, dart: u32, vertex: u32) {
         let before = self.prev.get(dart);
         let after = self.next.get(dart);

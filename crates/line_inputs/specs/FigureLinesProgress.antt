@@ -64,7 +64,7 @@ IsAtLine (Limit k) = Unit {0}
 IsAtLine (EndInFigure k) = ⊥
 IsAtLine TooLong = ⊥
 
--- and this is the fault
+-- the fault of such an ending; for an ending that is none, a fault of no meaning
 abbrev pub fault_at : Ending → TextFault
 fault_at Well = fault.NoMemory
 fault_at (BadLine k) = fault.BadLine k

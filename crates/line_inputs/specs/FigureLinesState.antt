@@ -30,7 +30,7 @@ ending_by None line [] = Well
 ending_by None line (b ∷ pending) = BadLine line
 ending_by (Some begun) line pending = EndInFigure begun.first
 
--- a figure goes on behind so many bytes of a part, which are so many whole lines
+-- a figure goes on after the first `bytes` bytes of a part, which are `lines` whole lines
 abbrev pub TakesRun : List ℕ → List Figure → ℕ → List ℕ → List ℕ → ℕ → ℕ → Begun → Type 0
 TakesRun consumed figures line part pending bytes lines begun = Progress (consumed ++ take bytes part) figures (line + lines) pending (Some begun)
 
@@ -40,6 +40,7 @@ IsLinePart part (Open begun) = Unit {0}
 IsLinePart part (Closed k after) = (0 < k) × (k ≤ length part) × IsWhole after
 IsLinePart part (Ran run) = (0 < run.bytes) × (run.bytes ≤ length part) × (run.lines ≤ run.bytes)
 
+-- what a part of a piece makes of the bytes before it, as `IsLinePart` has it
 abbrev pub TakesLine : List ℕ → List Figure → ℕ → List ℕ → List ℕ → Line → Type 0
 TakesLine consumed figures line part pending (Open begun) = Progress (consumed ++ part) figures line pending begun
 TakesLine consumed figures line part pending (Closed k after) = (pending ≡ []) × Closes (consumed ++ take k part) figures line after
@@ -50,6 +51,7 @@ abbrev pub IsFrontPart : List ℕ → Front → Type 0
 IsFrontPart part (Lines run) = (0 < run.bytes) × (run.bytes ≤ length part) × (run.lines ≤ run.bytes)
 IsFrontPart part (NoLine begun) = Unit {0}
 
+-- what the front of a part makes of the bytes before it, as `IsFrontPart` has it
 abbrev pub TakesFront : List ℕ → List Figure → ℕ → List ℕ → List ℕ → Front → Type 0
 TakesFront consumed figures line part pending (Lines run) = TakesRun consumed figures line part pending run.bytes run.lines run.begun
 TakesFront consumed figures line part pending (NoLine begun) = Progress consumed figures line pending begun

@@ -13,7 +13,7 @@ pub record Face : Type 0 where
 abbrev pub next_number : ℕ → ℕ
 next_number z = (z * 1103515245 + 12345) % 4294967296
 
--- the face that a number chooses of so many, by its upper half
+-- the face that the number z chooses of `faces`, by its upper half
 abbrev pub chosen : ℕ → ℕ → ℕ
 chosen z faces = (z / 65536) % faces
 
@@ -21,7 +21,7 @@ chosen z faces = (z / 65536) % faces
 abbrev pub with_behind : List ℕ → ℕ → ℕ → List ℕ
 with_behind us u x = insert us (place_of u us + 1) x
 
--- The vertex k put into a face and joined to its three vertices: k comes behind c in a's list, behind a in b's, and behind b in c's, and its own list is a, c, b.
+-- The vertex k put into the face f and joined to its three vertices: k comes after c in a's list, after a in b's, and after b in c's, and its own list is a, c, b.
 abbrev pub with_vertex : Lists → ℕ → Face → Lists
 with_vertex lists k f =
     slice_set (slice_set (slice_set (slice_set lists f.a (with_behind (list_of lists f.a) f.c k)) f.b (with_behind (list_of lists f.b) f.a k)) f.c (with_behind (list_of lists f.c) f.b k)) k (f.a ∷ f.c ∷ f.b ∷ [])
@@ -57,7 +57,7 @@ triangle n number = record {
   number = number;
 }
 
--- with so many vertices put in
+-- the triangle with k more vertices put in
 unfoldable pub stacking : ℕ → ℕ → ℕ → Stacking
 stacking n number zero = triangle n number
 stacking n number (suc k) = stack (k + 3) (stacking n number k)

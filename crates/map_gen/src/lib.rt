@@ -7,8 +7,8 @@ mod stacked_maps;
 
 pub use stacked_maps::stacked;
 
-/// Each map of n vertices that the generator makes, n at least three, has exactly n vertices and is a triangulation.
-/// It is a simple map of genus zero with 3n - 6 edges, and so all its faces are triangles.
+/// States the law that each map of n vertices that the generator makes, n at least three, has exactly n vertices and is
+/// a triangulation. It is a simple map of genus zero with 3n - 6 edges, and so all its faces are triangles.
 pub fn stacked_is_triangulation()
     ensures { StackedIsTriangulation }
 {}

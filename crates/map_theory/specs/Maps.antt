@@ -7,7 +7,7 @@ use Rattle.classes.specs.Classes.{classes, class_count, same_class, orbits}
 abbrev pub Dart : Type 0
 Dart = ℕ × ℕ
 
--- the same edge in the other direction
+-- the dart of this edge in the other direction
 abbrev pub twin_dart : Dart → Dart
 twin_dart d = (d.1, d.0)
 
@@ -40,6 +40,7 @@ darts_since v (us ∷ lists) = darts_from v us ++ darts_since (v + 1) lists
 abbrev pub darts : Lists → List Dart
 darts lists = darts_since 0 lists
 
+-- two darts are one
 abbrev pub same_dart : Dart → Dart → Bool
 same_dart d e = (d.0 == e.0) && (d.1 == e.1)
 
@@ -82,6 +83,7 @@ face_classes lists = orbits (face_images lists)
 abbrev pub vertex_count : Lists → ℕ
 vertex_count lists = length lists
 
+-- how many darts there are
 abbrev pub dart_count : Lists → ℕ
 dart_count lists = sum_by length lists
 
@@ -89,10 +91,12 @@ dart_count lists = sum_by length lists
 abbrev pub edge_count : Lists → ℕ
 edge_count lists = dart_count lists / 2
 
+-- a list is empty
 abbrev pub is_empty_list : List ℕ → Bool
 is_empty_list [] = true
 is_empty_list (u ∷ us) = false
 
+-- how many vertices are isolated
 abbrev pub isolated_count : Lists → ℕ
 isolated_count lists = count_by is_empty_list lists
 
@@ -116,6 +120,7 @@ component_count lists = class_count (component_classes lists)
 abbrev pub genus_of : ℕ → ℕ → ℕ → ℕ → ℕ
 genus_of n m f c = (2 * c + m - (n + f)) / 2
 
+-- the genus of a map: half of 2c + m - n - f
 abbrev pub genus : Lists → ℕ
 genus lists = genus_of (vertex_count lists) (edge_count lists) (face_count lists) (component_count lists)
 

@@ -2,7 +2,7 @@
 
 ghost use Rattle.map_theory.specs.Bound.{EulerBound};
 
-/// In a simple map n + f is at most 2c + m, by an even difference (Euler's formula, as a bound).
+/// States the law that in a simple map n + f is at most 2c + m, by an even difference (Euler's formula, as a bound).
 pub fn euler_bound()
     ensures { EulerBound }
 {}

@@ -31,7 +31,7 @@ place_before n i = if i == 0 then n - 1 else i - 1
 abbrev pub place_after : ℕ → ℕ → ℕ
 place_after n i = if nat_lt (i + 1) n then i + 1 else 0
 
--- the place so many places before it
+-- the place that is the given number of places before i, cyclically
 abbrev pub back : ℕ → ℕ → ℕ → ℕ
 back n i zero = i
 back n i (suc c) = place_before n (back n i c)
@@ -78,7 +78,7 @@ pub record IsOrderRow (list ranks : List ℕ) (steps : ℕ → Step) (k : ℕ) :
   pub found : IsRowIn list ranks (k + 2) start us
   pub row : IsRow (stage_after steps k) (steps k) (map (slice_index ranks) us)
 
--- So it is for each vertex of a canonical order from the third on, and a run of it.
+-- The list of each vertex of a canonical order, from the third on, has the row of its step, for each run of the order.
 abbrev pub OrderRows : Type 0
 OrderRows =
     (lists : Lists) (base : Dart) (at ranks : List ℕ) → IsTriangulation lists → (order : IsCanonicalOrder lists base at) → IsRankOf ranks at → (steps : ℕ → Step) → IsOrderRun lists base at order.cycle steps

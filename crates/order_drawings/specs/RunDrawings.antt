@@ -29,7 +29,7 @@ pub record IsRunDrawing (lists : Lists) (base : Dart) (point : ℕ → Point) (p
   pub second : place points base.0 ≡ point 1
   pub top : place points (follows lists base.1 base.0) ≡ point (length lists - 1)
 
--- Such points of the run of a canonical order are such a drawing.
+-- Points by which each face of the run of a canonical order is counterclockwise are such a drawing.
 abbrev pub CounterclockwiseRunDraws : Type 0
 CounterclockwiseRunDraws =
     (lists : Lists) (base : Dart) (at : List ℕ) (steps : ℕ → Step) (point : ℕ → Point) (points : List Point) → IsTriangulation lists → HasDart lists base.0 base.1 → (order : IsCanonicalOrder lists base at) → IsOrderRun lists base at order.cycle steps

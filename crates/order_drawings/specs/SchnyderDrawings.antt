@@ -35,16 +35,16 @@ pub record IsSchnyderOf (lists : Lists) (at : List ℕ) (figure : GridFigure) : 
   pub width : figure.width ≡ pos (vertex_count lists - 2)
   pub height : figure.height ≡ pos (vertex_count lists - 2)
 
--- Such points are such a drawing.
+-- Points by Schnyder's coordinates over a canonical order are such a drawing.
 abbrev pub WoodPointsDraw : Type 0
 WoodPointsDraw =
     (lists : Lists) (base : Dart) (at : List ℕ) (points : List Point) → IsTriangulation lists → HasDart lists base.0 base.1 → (order : IsCanonicalOrder lists base at) → AreWoodPoints lists base at order.cycle points → IsSchnyderDrawing lists base points
 
--- Each canonical order has such points.
+-- Each canonical order has points by Schnyder's coordinates.
 abbrev pub SomeWoodPoints : Type 0
 SomeWoodPoints =
     (lists : Lists) (base : Dart) (at : List ℕ) → IsTriangulation lists → (order : IsCanonicalOrder lists base at) → (points : List Point) × AreWoodPoints lists base at order.cycle points
 
--- So each triangulation has such a drawing, for each base dart.
+-- Each triangulation has a drawing by Schnyder's coordinates, for each base dart.
 abbrev pub SomeSchnyderDrawing : Type 0
 SomeSchnyderDrawing = (lists : Lists) (base : Dart) → IsTriangulation lists → HasDart lists base.0 base.1 → (points : List Point) × IsSchnyderDrawing lists base points

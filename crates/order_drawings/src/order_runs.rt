@@ -3,9 +3,9 @@
 
 ghost use Rattle.order_drawings.specs.OrderRuns.{OrderIsRun};
 
-/// The outer cycles of a canonical order are the contours of a construction sequence (a run), whose last vertex
-/// covers all but the base. Each face that it makes is a face of the map. Each face of the map is made but the one on
-/// the other side of the base.
+/// States the law that the outer cycles of a canonical order are the contours of a construction sequence (a run), whose
+/// last vertex covers all but the base. Each face that it makes is a face of the map. Each face of the map is made but
+/// the one on the other side of the base.
 pub fn order_is_run()
     ensures { OrderIsRun }
 {

@@ -10,7 +10,8 @@ pub use contour_rows::{order_rows, rows_into};
 pub use points_by_rank::points_at;
 pub use ranked_lists::RankedList;
 
-/// The rank of each vertex in a canonical order is an index of the order, below the number of vertices.
+/// States the law that the rank of each vertex in a canonical order is an index of the order, below the number of
+/// vertices.
 pub fn ranks_are_places()
     ensures { RanksArePlaces }
 {}

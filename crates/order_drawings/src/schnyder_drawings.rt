@@ -11,7 +11,7 @@ pub fn wood_points_draw()
     crate::run_drawings::counterclockwise_run_draws();
 }
 
-/// Each canonical order of a triangulation has points at Schnyder's coordinates.
+/// States the law that each canonical order of a triangulation has points at Schnyder's coordinates.
 pub fn some_wood_points()
     ensures { SomeWoodPoints }
 {
@@ -19,7 +19,7 @@ pub fn some_wood_points()
     crate::run_drawings::points_of_order();
 }
 
-/// Each triangulation has a drawing by Schnyder's coordinates, for each base dart.
+/// States the law that each triangulation has a drawing by Schnyder's coordinates, for each base dart.
 pub fn some_schnyder_drawing()
     ensures { SomeSchnyderDrawing }
 {

@@ -16,7 +16,7 @@ pub record Gives (left left' : Option (List ℕ)) (k : ℕ) (buf buf' : List ℕ
 pub record Takes (left left' : Option (List ℕ)) (bytes : List ℕ) : Type 0 where
   pub split : WhereTold left (λ all. (rest : List ℕ) × (all ≡ bytes ++ rest) × (left' ≡ Some rest))
 
--- at most so many bytes were taken
+-- at most n bytes were taken
 pub record TakesAtMost (n : ℕ) (left left' : Option (List ℕ)) : Type 0 where
   pub bytes : List ℕ
   pub takes : Takes left left' bytes

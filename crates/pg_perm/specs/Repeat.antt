@@ -9,7 +9,7 @@ pub record IsRepeat (images : List ℕ) (i j : ℕ) : Type 0 where
   pub within : j < length images
   pub same : slice_index images i ≡ slice_index images j
 
--- and no such pair is less, by its first and then by its second place
+-- one number stands at the places i and j, and no such pair is less, by its first and then by its second place
 pub record IsFirstRepeat (images : List ℕ) (i j : ℕ) : Type 0 where
   pub repeat : IsRepeat images i j
   pub least : (a b : ℕ) → IsRepeat images a b → (i < a) ⊎ ((i ≡ a) × (j ≤ b))

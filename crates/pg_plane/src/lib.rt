@@ -1,7 +1,7 @@
-//! Points of the integer grid, and the predicates of a checker of drawings: on which side of a segment a point lies,
-//! whether it lies on it, whether two segments cross, and which of two directions comes first clockwise. Each call is
-//! its formula over whole numbers of any size, without overflow for coordinates from -2^20 to 2^20. Beside them the
-//! figures that drawings are made of.
+//! Points of the integer grid, the predicates of a checker of drawings, and the figures that drawings are made of. The
+//! predicates say on which side of a segment a point lies, whether it lies on it, whether two segments cross, and which
+//! of two directions comes first clockwise. Each call is its formula over whole numbers of any size, without overflow
+//! for coordinates from -2^20 to 2^20.
 #![tactic(auto)]
 
 pub mod face_geometry;

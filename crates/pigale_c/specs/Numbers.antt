@@ -107,7 +107,7 @@ answer_of (Rects verdict) = rects_answer_of verdict
 answer_of (NotPlanar K5) = told 80 none
 answer_of (NotPlanar K33) = told 81 none
 
--- the outcome of a call that has one, or failed
+-- what a call comes to: its outcome, or the failure as one
 abbrev pub outcome_of : Result Outcome Failure → Outcome
 outcome_of (Ok outcome) = outcome
 outcome_of (Err failure) = Failed failure

@@ -83,7 +83,8 @@ pub extern "C" fn pigale_check_bars(
     report(judged(&given, &bars, width), found)
 }
 
-// Draws the map `given` by bars, where the arrays `bars` have room for them, or returns why it did not.
+// Draws the map `given` by bars, if the arrays `bars` have the lengths of its figure. Otherwise it returns why it did
+// not. The arrays are only measured.
 fn drawn(given: &MapArrays<'_>, bars: &BarArrays<'_>) -> Result<BarFigure, Failure>
     ensures shape { IfOk result (AreBarsFor (length given.now.ends.now)) }
     ensures columns { IfOk result (λ fig. length fig.column ≡ length bars.now.column.now) }

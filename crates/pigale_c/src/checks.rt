@@ -23,7 +23,7 @@ struct Drawing {
     points: Points,
 }
 
-// Reads a map and its points from arrays, or returns why they are none.
+// Reads the map `given` and its points, with the coordinates `x` and `y`, or returns why the arrays are none.
 fn drawing_of(given: &MapArrays<'_>, x: &[i32], y: &[i32]) -> Result<Drawing, Failure>
     ensures map { IfOk result (λ drawing. drawing.map.lists ≡ lists_in given.now.ends.now given.now.neighbours.now) }
     ensures points { IfOk result (λ drawing. drawing.points ≡ points_in x.now y.now) }
@@ -39,7 +39,8 @@ fn drawing_of(given: &MapArrays<'_>, x: &[i32], y: &[i32]) -> Result<Drawing, Fa
     Ok(Drawing { map, points })
 }
 
-// Returns the verdict on a straight-line drawing in the grid from (0, 0) to `corner`, or why there is none.
+// Returns the verdict on the drawing of the map `given` with straight edges, at the points of `x` and `y`, in the grid
+// from (0, 0) to `corner`. Or it returns why there is none.
 fn judged(given: &MapArrays<'_>, x: &[i32], y: &[i32], corner: Point) -> Result<Outcome, Failure>
     ensures { IsJudged given.now.ends.now given.now.neighbours.now x.now y.now corner.x corner.y (outcome_of result) }
 {
@@ -75,8 +76,8 @@ pub extern "C" fn pigale_check(
     report(judged(&given, x, y, corner), found)
 }
 
-// Returns the verdict on the bends of a drawing's faces, with the face of the first dart of vertex 0 outside. It
-// fails only when out of memory.
+// Returns the verdict on the bends of the faces of `map`, drawn at `points`, with the face of the first dart of vertex
+// 0 outside. It fails only when out of memory.
 fn bends(alloc: Global, map: &HalfMap, points: &Points) -> Result<ConvexVerdict, AllocError>
     requires { HasPlaces map.now.lists points.now }
     ensures { IfOk result (IsBendVerdict map.now.lists points.now) }
@@ -91,7 +92,8 @@ fn bends(alloc: Global, map: &HalfMap, points: &Points) -> Result<ConvexVerdict,
     }
 }
 
-// Returns the first fault of a straight-line drawing in the grid from (0, 0) to `corner`, else the verdict on bends.
+// Returns the first fault of the drawing of the map `given`, at the points of `x` and `y`, in the grid from (0, 0) to
+// `corner`. If it has none, it returns the verdict on the bends of its faces.
 fn judged_convex(
     given: &MapArrays<'_>,
     x: &[i32],

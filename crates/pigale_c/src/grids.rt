@@ -13,7 +13,8 @@ use grid_figures::shift_figures::shift_figure;
 use map_lists::Rotations;
 use std::alloc::Global;
 
-// Reads the lists of the map `given`, where `x` and `y` have room for all vertices. Else returns why not.
+// Reads the rotation lists of the map `given`, if `x` and `y` have one entry for each vertex. Otherwise it returns
+// `BadArgument`, as for arrays that are no map, or `NoMemory`.
 fn lists_with_room(given: &MapArrays<'_>, x: &[i32], y: &[i32]) -> Result<Rotations, Failure>
     ensures lists { IfOk result (λ lists. lists ≡ lists_in given.now.ends.now given.now.neighbours.now) }
     ensures given { IfOk result (λ lists. IsGivenGrid given.now.ends.now given.now.neighbours.now x.now y.now) }
@@ -28,7 +29,8 @@ fn lists_with_room(given: &MapArrays<'_>, x: &[i32], y: &[i32]) -> Result<Rotati
     Ok(lists)
 }
 
-// Writes the drawing of the map `given` by the shift method into `x` and `y`, or returns why there is none.
+// Writes the drawing of the map `given` by the shift method into `x` and `y`. Returns `Served`, or why there is none,
+// and then leaves both arrays as they were.
 fn shift(given: &MapArrays<'_>, x: &mut [i32], y: &mut [i32]) -> Result<Outcome, Failure>
     ensures { IsShiftDrawn given.now.ends.now given.now.neighbours.now x.old y.old x.new y.new (outcome_of result) }
 {
@@ -38,7 +40,8 @@ fn shift(given: &MapArrays<'_>, x: &mut [i32], y: &mut [i32]) -> Result<Outcome,
     Ok(Outcome::Served)
 }
 
-// Writes the drawing of the map `given` by Schnyder's method into `x` and `y`, or returns why there is none.
+// Writes the drawing of the map `given` by Schnyder's method into `x` and `y`. Returns `Served`, or why there is none,
+// and then leaves both arrays as they were.
 fn schnyder(given: &MapArrays<'_>, x: &mut [i32], y: &mut [i32]) -> Result<Outcome, Failure>
     ensures { IsSchnyderDrawn given.now.ends.now given.now.neighbours.now x.old y.old x.new y.new (outcome_of result) }
 {
@@ -48,7 +51,8 @@ fn schnyder(given: &MapArrays<'_>, x: &mut [i32], y: &mut [i32]) -> Result<Outco
     Ok(Outcome::Served)
 }
 
-// Writes the convex drawing of the map `given` into `x` and `y`, or returns why there is none.
+// Writes the convex drawing of the map `given` into `x` and `y`. Returns `Served`, or why there is none, and then
+// leaves both arrays as they were.
 fn convex(given: &MapArrays<'_>, x: &mut [i32], y: &mut [i32]) -> Result<Outcome, Failure>
     ensures { IsConvexDrawn given.now.ends.now given.now.neighbours.now x.old y.old x.new y.new (outcome_of result) }
 {

@@ -99,14 +99,14 @@ pub struct Answer {
     pub numbers: Numbers,
 }
 
-// Returns the answer with this `status` and these `numbers`.
+// Returns the answer with `status` and `numbers`.
 fn answer_of(status: u8, numbers: Numbers) -> Answer
     ensures { result ≡ record { status = status; numbers = numbers } }
 {
     Answer { status, numbers }
 }
 
-// Returns four numbers as the numbers beside a status.
+// Returns the numbers beside a status, where all four are used.
 fn four(first: u32, second: u32, third: u32, fourth: u32) -> Numbers
     ensures { result ≡ four_of first second third fourth }
 {
@@ -244,7 +244,7 @@ fn outcome_answer(outcome: Outcome) -> Answer
     }
 }
 
-// Returns the outcome of a call, which is `Failed` where the call failed.
+// Returns the outcome of `call`, which is `Failed` where the call failed.
 fn ended(call: Result<Outcome, Failure>) -> Outcome
     ensures { result ≡ outcome_of call }
 {
@@ -254,7 +254,7 @@ fn ended(call: Result<Outcome, Failure>) -> Outcome
     }
 }
 
-/// Writes the numbers of the outcome of a call to `found`, and returns its status.
+/// Writes the numbers of the outcome of `call` to `found`, and returns its status.
 pub(crate) fn report(call: Result<Outcome, Failure>, found: &mut Numbers) -> u8
     ensures status { result ≡ (answer_of (outcome_of call)).status }
     ensures numbers { found.new ≡ (answer_of (outcome_of call)).numbers }

@@ -83,7 +83,8 @@ pub extern "C" fn pigale_check_rects(
     report(judged(&given, &rects), found)
 }
 
-// Draws the map `given` as a rectangular dual, where the arrays `rects` have room for it, or returns why it did not.
+// Draws the map `given` as a rectangular dual, if the arrays `rects` have one entry for each vertex. Otherwise it
+// returns why it did not. The arrays are only measured.
 fn drawn(given: &MapArrays<'_>, rects: &RectArrays<'_>) -> Result<RectFigure, Failure>
     ensures shape { IfOk result (AreRectsFor (length given.now.ends.now)) }
     ensures given { IfOk result (λ fig. IsGivenRects given.now.ends.now given.now.neighbours.now (rects_in rects.now.x1.now rects.now.x2.now rects.now.y1.now rects.now.y2.now)) }

@@ -16,7 +16,7 @@ use Rattle.pigale_shell.specs.declared.job_kinds.JobKind.TheVariants.{Maps}
 abbrev pub IsMapBlock : Says → Form → ℕ → Lists → List ℕ → Type 0
 IsMapBlock says form k lists text = IsJobBlock (says.Serves lists) (says.IsText form k lists) (says.Breaks lists) form k text
 
--- the same of any job: there is none by a job that reads no planar_code
+-- the text is the answer of this job for record k; a job that reads no planar_code has none
 abbrev pub IsBlock : JobKind → ℕ → Lists → List ℕ → Type 0
 IsBlock (Maps job form) k lists text = IsMapBlock (says_of job) form k lists text
 IsBlock job k lists text = ⊥

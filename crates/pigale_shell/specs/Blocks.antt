@@ -28,7 +28,7 @@ pub record Says : Type 1 where
   pub Breaks : Lists → Refusal → Type 0
   pub IsText : Form → ℕ → Lists → List ℕ → Type 0
 
--- No lists are both served and refused, and lists break one condition first.
+-- No lists are both served and refused, and lists break at most one condition first.
 pub record IsLawful (says : Says) : Type 0 where
   pub breaks_nothing : (lists : Lists) (refusal : Refusal) → 0 < length lists → says.Serves lists → ¬ says.Breaks lists refusal
   pub one_break : (lists : Lists) → 0 < length lists → (refusal refusal' : Refusal) → says.Breaks lists refusal → says.Breaks lists refusal' → refusal ≡ refusal'

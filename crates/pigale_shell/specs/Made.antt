@@ -31,7 +31,7 @@ abbrev pub IsMadeBlock : ℕ → Lists → List ℕ → Type 0
 IsMadeBlock k lists text =
     (figure : GridFigure) × IsShiftFigure lists figure × (text ≡ count_line k lists ++ sums_line k (total_x figure.points) (total_y figure.points))
 
--- Whatever the input is, the one record is the map that is made of so many vertices from a number, and it ends well.
+-- Whatever the input is, the one record is the map of `size` vertices that is made from `number`, and it ends well.
 abbrev pub made : ℕ → ℕ → Reads Lists (Unit {0})
 made size number = record {
   IsReading = λ input records ending. records ≡ stacked size number ∷ [];

@@ -29,6 +29,6 @@ OneText =
 abbrev pub OneRefusalLine : Type 0
 OneRefusalLine = (job : MapJob) (form : Form) (k : ℕ) (lists : Lists) (line text : List ℕ) → 0 < length lists → IsRefused ((says_of job).Breaks lists) form k line → IsMapBlock (says_of job) form k lists text → text ≡ line
 
--- So has a graph that is too small.
+-- A graph that is too small has one block in `embed`: the line that refuses it.
 abbrev pub OneGraphRefusalLine : Type 0
 OneGraphRefusalLine = (form : Form) (k : ℕ) (graph : EdgeGraph) (line text : List ℕ) → IsRefused (IsTooSmall graph) form k line → IsEmbedBlock form k graph text → text ≡ line

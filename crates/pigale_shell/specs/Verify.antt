@@ -41,7 +41,7 @@ verdict_words (Cross e f) = (codes "Cross", e.a.0 ∷ e.b.0 ∷ f.a.0 ∷ f.b.0 
 verdict_words (Turned v) = (codes "Turned", v.0 ∷ [])
 verdict_words NoFault = (codes "yes", [])
 
--- the same of bars
+-- the name of a fault of bars, and its vertices
 abbrev pub bars_words : BarVerdict → List ℕ × List ℕ
 bars_words BadShape = (codes "BadShape", [])
 bars_words (BadHeight v) = (codes "BadHeight", v.0 ∷ [])
@@ -52,13 +52,13 @@ bars_words (Overlap e f) = (codes "Overlap", e.a.0 ∷ e.b.0 ∷ f.a.0 ∷ f.b.0
 bars_words (TurnedBars v) = (codes "Turned", v.0 ∷ [])
 bars_words NoBarFault = (codes "yes", [])
 
--- the same of how a drawing bends
+-- the name of a fault in how the faces of a drawing bend, and its vertices
 abbrev pub convex_words : ConvexVerdict → List ℕ × List ℕ
 convex_words (Bent a b c) = (codes "Bent", a.0 ∷ b.0 ∷ c.0 ∷ [])
 convex_words OuterBent = (codes "OuterBent", [])
 convex_words NoBend = (codes "yes", [])
 
--- the same of rectangles
+-- the name of a fault of rectangles, and its vertices
 abbrev pub rects_words : RectVerdict → List ℕ × List ℕ
 rects_words (BadRect v) = (codes "BadRect", v.0 ∷ [])
 rects_words (Meet u v) = (codes "Meet", u.0 ∷ v.0 ∷ [])
@@ -68,10 +68,11 @@ rects_words NoFrame = (codes "NoFrame", [])
 rects_words (Frame v) = (codes "Frame", v.0 ∷ [])
 rects_words NoRectFault = (codes "yes", [])
 
--- the line of a verdict by its name and numbers, each after a space
+-- numbers in decimal, each after a space
 abbrev pub spaced : List ℕ → List ℕ
 spaced ns = flat_map (λ n. 32 ∷ decimal n) ns
 
+-- the line of the verdict on figure k, by its name and numbers, which are printed as they are
 unfoldable pub numbers_line : ℕ → List ℕ × List ℕ → List ℕ
 numbers_line k words = line ((word_and_number (codes "verdict") k ++ 32 ∷ words.0) ++ spaced words.1)
 

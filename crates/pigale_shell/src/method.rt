@@ -48,7 +48,7 @@ pub trait Method: Drop {
     /// Makes the job, before the first map. It takes no memory.
     fn new(alloc: Global) -> Self;
 
-    /// Answers lists, or names the first condition that they break.
+    /// Returns the answer to `lists`. `Err` has the first condition that they break, or says that memory ran out.
     fn figure(&mut self, lists: &Rotations) -> Result<Self::Figure, Unserved>
         requires some_list { 0 < length lists.now }
         ensures figure { IfOk result (IsFigure lists.now) }
@@ -67,7 +67,7 @@ pub trait Method: Drop {
         ensures text { OnOk result (Appends (says.IsText given.now.form given.now.number given.now.lists.now) out.old.items out.new.items) }
         ensures err { OnErr result (out.new.items ≡ out.old.items) };
 
-    /// Keeps the memory of a figure that is printed.
+    /// Takes back a figure that was printed: it may draw the next one in its memory, or drop it.
     fn keep(&mut self, figure: Self::Figure);
 
     /// States the law that no map is both served and refused, and each breaks one condition first.

@@ -25,7 +25,7 @@ fn push_numbers(out: &mut Vec<u8>, vertices: &[u16]) -> Result<(), AllocError>
     Ok(())
 }
 
-// Appends numbers to `out`, each after a space.
+// Appends the numbers `found` to `out`, each after a space and as it is.
 fn push_places(out: &mut Vec<u8>, found: &[usize]) -> Result<(), AllocError>
     ensures { OnOk result (out.new.items ≡ out.old.items ++ spaced found.now) }
 {
@@ -194,8 +194,9 @@ impl RecordJob<FigureReader> for VerifyJob {
 
     ghost answers = { λ kind. verify_answers };
 
-    // Appends the line of the verdict on a figure, and returns whether it is valid. The checks of bars and rectangles
-    // keep large arrays on the stack. Inlined into the step that takes a line, they would make each line touch it.
+    // Appends the line of the verdict on the figure `given`, which is the figure `number`, to `out`. Returns whether it
+    // is valid. The checks of bars and rectangles keep large arrays on the stack. Inlined into the step that takes a
+    // line, they would make each line touch it.
     #[inline(never)]
     fn answer(
         &mut self,
@@ -214,7 +215,9 @@ impl RecordJob<FigureReader> for VerifyJob {
         }
     }
 
-    // Returns the last line of the run: `end` with the counts, or `stop` with the line at which the input ended.
+    // Returns the last line of a run of `verify`. It is `end` with the counts of `records` and `refused` where the
+    // input ended well. Otherwise it is `stop` with the reason, and with the line at which the input ended, if one is
+    // at fault.
     fn last_line(
         &self,
         alloc: Global,

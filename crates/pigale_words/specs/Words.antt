@@ -32,6 +32,7 @@ pub record Given : Type 0 where
   pub size : Option Text
   pub number : Option Text
 
+-- the first text that these rows of clap have for each of the four names
 abbrev pub given_in : List Row → Given
 given_in rows = record {
   job = first_of (codes "job") rows;
@@ -40,7 +41,7 @@ given_in rows = record {
   number = first_of (codes "number") rows;
 }
 
--- the same, where clap has no fault to name
+-- what these rows give, or None where clap has a fault to name
 abbrev pub given_by : Kinds → List Row → Option Given
 given_by [] rows = Some (given_in rows)
 given_by (fault ∷ faults) rows = None
@@ -49,6 +50,7 @@ given_by (fault ∷ faults) rows = None
 unfoldable pub given : List Text → Option Given
 given words = given_by (fault_of command words) (matches_of command words)
 
+-- some option is given
 abbrev pub has_option : Given → Bool
 has_option g = is_some g.form || (is_some g.size || is_some g.number)
 
@@ -69,13 +71,13 @@ form_given g = if has_number g then None else form_of g.form
 abbrev pub number_given : ℕ → ℕ → Option Text → Option ℕ
 number_given least most given = option_and_then (number_in least most) given
 
--- the job that makes a map of so many vertices from a number
+-- the job that makes a map from a size and a number, where both are given
 abbrev pub gen_of : Option ℕ → Option ℕ → Option Job
 gen_of None number = None
 gen_of (Some size) None = None
 gen_of (Some size) (Some number) = Some (Gen size number)
 
--- the same, by the texts of its two options; it takes no other
+-- the job `gen` by the texts of its two options; None where one is missing or out of range, or where a form is given
 abbrev pub gen_given : Given → Option Job
 gen_given g = if is_some g.form then None else gen_of (number_given 3 4095 g.size) (number_given 0 4294967295 g.number)
 
@@ -113,6 +115,7 @@ job_with g two_numbers = gen_given g
 abbrev pub job_named : Given → Text → Option Job
 job_named g word = option_and_then (job_with g) (taken_by word)
 
+-- the job that what was given names, if any
 abbrev pub job_given : Given → Option Job
 job_given g = option_and_then (job_named g) g.job
 

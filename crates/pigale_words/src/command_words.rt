@@ -199,12 +199,12 @@ fn job_given(matches: &ArgMatches) -> Option<Job>
 
 /// Returns the job that `words` name, those after the program's name.
 ///
-/// clap reads them as a command with one positional, the job's word, and the options `--form`, `--size` and
-/// `--number`. Each option has one text, which may follow as the next word or after a `=`. The word is the job's name
-/// in lower case. A job that draws what it reads has the first option, whose text is `text` or `svg`. `gen` has the
-/// other two, which it requires: a size from 3 to 4095 and a number from 0 to 4294967295, both in decimal. The others
-/// have none. `BadWords` comes exactly where the words name no job: where clap refuses them, where there is no such
-/// job, and where an option is given that the job does not have.
+/// clap reads them as a command with one positional, the job's word, and the options `--form`, `--size` and `--number`.
+/// Each option has one text, which may follow as the next word or after a `=`. The word is the job's name in lower
+/// case. A job that draws what it reads has the first option, whose text is `text` or `svg`. `gen` has the other two,
+/// which it requires: a size from 3 to 4095 and a number from 0 to 4294967295, both in decimal. The others have none.
+/// `BadWords` comes exactly where the words name no job: where clap refuses them, there is no such job, or an option is
+/// given that the job does not have.
 pub fn words_to_job(alloc: Global, words: &[String]) -> Result<Job, WordFault>
     ensures job { MatchResult result
         (λ job. job_of (map string_bytes words.now) ≡ Some job)
@@ -218,11 +218,11 @@ pub fn words_to_job(alloc: Global, words: &[String]) -> Result<Job, WordFault>
     }
 }
 
-/// A law: the words of each job are its word and its options, and no others.
+/// States the law that the words of each job are its word and its options, and no others.
 ///
-/// The options stand before or behind the word, each as the two words `--name text` or as the one word `--name=text`.
-/// `--` may stand once; behind it is no option, and so nothing but the job's word where that has not come before. A job
-/// that draws has the form at most, and `gen` the size and the number, in either order.
+/// The options stand before or after the word, each as the two words `--name text` or as the one word `--name=text`.
+/// `--` may stand once; after it comes no option, and so nothing but the job's word where that has not come before. A
+/// job that draws has the form at most, and `gen` the size and the number, in either order.
 pub fn job_words()
     ensures { JobWords }
 {}

@@ -20,7 +20,7 @@ pub record Scan : Type 0 where
 abbrev pub most_lists : ℕ
 most_lists = 4095
 
--- how many more bytes there is room for, where so many lists and entries fit in
+-- how many more bytes there is room for: `room`, but none where fewer than `most_lists` lists fit in
 abbrev pub room_of : ℕ → ℕ → ℕ
 room_of most room = if nat_le most_lists most then room else 0
 
@@ -48,7 +48,7 @@ pub record CanTake (phase : Phase) (gathered : Open) (piece : List ℕ) : Type 0
   pub room : length piece ≤ room_of gathered.most gathered.room
   pub is : IsScanned phase gathered
 
--- a piece has more than `least` bytes and room, and there is room for so many lists
+-- a piece has more than `least` bytes, with room for all of them, and there is room for `count` lists
 pub record CanGather (least : ℕ) (phase : Phase) (count : ℕ) (gathered : Open) (piece : List ℕ) : Type 0 where
   pub some : least < length piece
   pub is : IsScanned phase gathered
@@ -68,7 +68,7 @@ Passes bytes (byte ∷ more) = GoesOn (bytes ++ byte ∷ []) × Passes (bytes ++
 abbrev pub PassesBefore : List ℕ → List ℕ → ℕ → Type 0
 PassesBefore bytes piece k = (0 < k) × (k ≤ length piece) × Passes bytes (take (k - 1) piece)
 
--- What a piece of bytes makes of those before it, so many of which are taken.
+-- What a piece of bytes makes of those before it, and how many of the piece are taken.
 abbrev pub Scans : Scan → List ℕ → Scanned → Scan → Type 0
 Scans old piece (More k) new =
     (k ≤ length piece) × Passes old.bytes (take k piece) × (new.bytes ≡ old.bytes ++ take k piece)

@@ -38,7 +38,7 @@ looked_at More = 0
 looked_at (Ended k) = k
 looked_at (Bad k place) = k
 
--- the same behind bytes of the piece that joined
+-- what a piece comes to that begins with `passed` bytes that joined, by what its other bytes come to
 abbrev pub shifted : ℕ → Taken → Taken
 shifted passed More = More
 shifted passed (Ended k) = Ended (passed + k)

@@ -11,6 +11,7 @@ pub record Reaches (lines : List Line) (i : ℕ) (e : Line) : Type 0 where
   pub low : e.low < i
   pub high : i ≤ e.high
 
+-- What the sweep keeps, before it comes to i.
 pub record IsSwept (at : ℕ → Point) (lines : List Line) (i : ℕ) (status : List Line) : Type 0 where
   -- the status holds the lines that reach over i, and no others
   pub reaching : All (Reaches lines i) status

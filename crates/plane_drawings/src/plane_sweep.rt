@@ -13,9 +13,9 @@ pub fn sweep_is_kept()
     ensures { SweepIsKept }
 {}
 
-/// A sweep from left to right over the vertices of a drawing, in which each step passes its tests, shows
-/// that the drawing is plane: vertices stand apart, none stands on an edge of which it is no end, and no
-/// two edges cross. It asks nothing of the map but that it is simple.
+/// States the law that a drawing is plane if each step of a sweep from left to right over its vertices passes its
+/// tests. Then vertices stand apart, none stands on an edge of which it is no end, and no two edges cross. It requires
+/// nothing of the map but that it is simple.
 pub fn sweep_is_plane()
     ensures { SweepIsPlane }
 {}

@@ -5,7 +5,7 @@ use Rattle.map_theory.specs.Maps.{HasDart, IsSimpleMap, IsPlane, follows, face_c
 use Rattle.map_theory.specs.Edges.{without_edge}
 use Rattle.map_theory.specs.Paths.{SameFace}
 
--- with the edge: genus zero, one face more, and its two darts in different faces
+-- with the edge between u and v: genus zero, one face more, and its two darts in different faces
 pub record IsSplitFace (old new : Lists) (u v : ℕ) : Type 0 where
   pub plane : IsPlane new
   pub faces : face_count new ≡ face_count old + 1
@@ -17,7 +17,7 @@ abbrev pub EdgeInFace : Type 0
 EdgeInFace =
     (lists : Lists) (u v : ℕ) → IsSimpleMap lists → HasDart lists u v → follows lists u v ≢ v → follows lists v u ≢ u → IsPlane (without_edge lists u v) → SameFace (without_edge lists u v) (u, follows lists u v) (v, follows lists v u) → IsSplitFace (without_edge lists u v) lists u v
 
--- with the edge: genus zero, one face and one component less, and its two darts in one face
+-- with the edge between u and v: genus zero, one face and one component less, and both its darts in one face
 pub record IsJoinedFaces (old new : Lists) (u v : ℕ) : Type 0 where
   pub plane : IsPlane new
   pub faces : face_count old ≡ face_count new + 1

@@ -15,46 +15,47 @@ pub fn components_are_paths()
     ensures { ComponentsArePaths }
 {}
 
-/// A map of genus zero without one of its edges has genus zero.
+/// States the law that a map of genus zero without one of its edges has genus zero.
 pub fn edge_removed()
     ensures { EdgeRemoved }
 {}
 
-/// In a map of genus zero an edge's two darts lie in one face exactly where taking the edge away
+/// States the law that in a map of genus zero an edge's two darts lie in one face exactly where taking the edge away
 /// makes a component more.
 pub fn bridge_test()
     ensures { BridgeTest }
 {}
 
-/// Where a connected map of genus zero stays connected without an edge, the edge's darts lie in
+/// States the law on a connected map of genus zero that stays connected without an edge. The edge's darts lie in
 /// different faces, these become one, and all others stay.
 pub fn faces_merged()
     ensures { FacesMerged }
 {}
 
-/// A simple map of genus zero with at least three vertices has at most 3n - 6 edges.
+/// States the law that a simple map of genus zero with at least three vertices has at most 3n - 6 edges.
 pub fn edge_bound()
     ensures { EdgeBound }
 {}
 
-/// In a connected map with at least three vertices each face has at least three darts.
+/// States the law that in a connected map with at least three vertices each face has at least three darts.
 pub fn faces_have_three()
     ensures { FacesHaveThree }
 {}
 
-/// A simple map of genus zero with at least three vertices has just 3n - 6 edges exactly where it is
-/// connected and each of its faces is a triangle.
+/// States the law on simple maps of genus zero with at least three vertices. They have 3n - 6 edges exactly where they
+/// are connected and each face is a triangle.
 pub fn edge_bound_met()
     ensures { EdgeBoundMet }
 {}
 
-/// Where two corners of a vertex lie in one face of a map of genus zero, the vertex separates the
-/// entries from the one up to the other from those from the other up to the one.
+/// States the law on two corners of a vertex that lie in one face of a map of genus zero. The vertex separates the
+/// entries from the one corner up to the other from those from the other up to the one.
 pub fn corner_split()
     ensures { CornerSplit }
 {}
 
-/// Where two adjacent vertices of a map of genus zero also have corners in one face, they separate the two sides.
+/// States the law that two adjacent vertices of a map of genus zero that also have corners in one face separate its two
+/// sides.
 pub fn digon_split()
     ensures { DigonSplit }
 {}

@@ -30,7 +30,7 @@ AreBlocks IsBlock k [] text = text ≡ []
 AreBlocks IsBlock k (record' ∷ records) text =
     (block : List ℕ) × (rest : List ℕ) × IsBlock k record' block × AreBlocks IsBlock (k + 1) records rest × (text ≡ block ++ rest)
 
--- the job refuses so many of the records
+-- the job refuses `refused` of the records
 abbrev pub Refuses : {Record Ending : Type 0} → Answers Record Ending → List Record → ℕ → Type 0
 Refuses job [] refused = refused ≡ 0
 Refuses job (record' ∷ records) refused =

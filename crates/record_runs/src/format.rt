@@ -72,8 +72,8 @@ pub trait Format: Drop {
         ensures well { OnTrue result (end.now ≡ reads.well) }
         ensures bad { OnFalse result (reads.IsBad end.now) };
 
-    /// Says four laws: the place is the number of bytes consumed; they are read as their records and that ending; an
-    /// input begins with the records of its first bytes, and with those that it has.
+    /// States four laws. The place is the number of bytes consumed. These bytes are read as their records and that
+    /// ending. An input begins with the records of its first bytes, and with those that it has.
     fn lawful()
         ensures place_is { (reader : Self) (consumed : List ℕ) (records : List Self.Record) → At reader consumed records → length consumed ≡ place reader }
         ensures is_read { (reader : Self) (consumed : List ℕ) (records : List Self.Record) → At reader consumed records →

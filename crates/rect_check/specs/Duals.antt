@@ -96,9 +96,11 @@ pub record IsQuadrangle (lists : Lists) (s d p q : ℕ) : Type 0 where
 abbrev pub top_vertex : Lists → ℕ
 top_vertex lists = slice_index_or (list_of lists 0) 0 0
 
+-- the vertex after the top one on the outer face
 abbrev pub right_vertex : Lists → ℕ
 right_vertex lists = follows lists (top_vertex lists) 0
 
+-- the vertex after the right one on the outer face
 abbrev pub bottom_vertex : Lists → ℕ
 bottom_vertex lists = follows lists (right_vertex lists) (top_vertex lists)
 

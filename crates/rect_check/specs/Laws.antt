@@ -7,6 +7,7 @@ use Rattle.rect_check.specs.Verdicts.{IsRectVerdict}
 use Rattle.rect_check.specs.declared.verdict.RectVerdict.{RectVerdict}
 use Rattle.rect_check.specs.declared.verdict.RectVerdict.TheVariants.{Yes}
 
+-- A verdict is `Yes` exactly where the figure is a rectangular dual.
 abbrev pub YesIsDual : Type 0
 YesIsDual =
     (lists : Lists) (fig : RectFigure) (verdict : RectVerdict) → IsRectVerdict lists fig verdict → ((verdict ≡ Yes) ↔ (IsRectangularDual lists fig))

@@ -9,7 +9,7 @@ use Rattle.rect_check.specs.Duals.{number_at, IsSpan, DoMeet, ShareSide, HasFram
 abbrev pub IsMarked : List Bool → ℕ → Type 0
 IsMarked marks v = slice_index_or marks v false ≡ true
 
--- each mark of the old ones is one of the new ones
+-- each vertex that has a mark in `old` has one in `new` too
 abbrev pub AreKept : (old new : List Bool) → Type 0
 AreKept old new = (v : ℕ) → IsMarked old v → IsMarked new v
 

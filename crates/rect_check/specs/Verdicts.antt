@@ -29,6 +29,7 @@ HasContacts lists fig = (u v : ℕ) → u < v → v < length lists → ShareSide
 abbrev pub IsUnframed : Lists → RectFigure → ℕ → Type 0
 IsUnframed lists fig v = IsFirstUnframed fig 0 (top_vertex lists) (right_vertex lists) (bottom_vertex lists) v
 
+-- The verdict is the first fault of the rectangles in the order below, where none before it is found. Its vertices are the least ones, or for `Frame` the first on the outer face.
 abbrev pub IsRectVerdict : Lists → RectFigure → RectVerdict → Type 0
 IsRectVerdict lists fig (BadRect v) = IsLeast (HasBadRect lists fig) v.0
 IsRectVerdict lists fig (Meet u v) = AreRects lists fig × IsLeastPair (RectsMeet lists fig) u.0 v.0

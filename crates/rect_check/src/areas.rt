@@ -9,7 +9,7 @@ use crate::rects::{Rects, number, number_in};
 use half_edges::VertexId;
 use pg_plane::Ints;
 
-// Returns the product of two lengths.
+// Returns the product of the lengths `u` and `v`.
 fn product(u: i32, v: i32) -> i64
     requires u { IsLength u }
     requires v { IsLength v }
@@ -29,14 +29,14 @@ fn distance(n: u16, p: i32, q: i32) -> i32
     q - p
 }
 
-// Returns the greater of two numbers.
+// Returns the greater of `u` and `v`.
 fn greater(u: i32, v: i32) -> i32
     ensures { result ≡ int_max u v }
 {
     u.max(v)
 }
 
-// Returns the greatest number of `list`, or 0 where that is greater.
+// Returns the greatest number of `list`, or 0 if all are negative or there is none.
 pub(crate) fn greatest(list: &Ints) -> i32
     ensures { result ≡ the_greatest list.now }
 {

@@ -24,7 +24,8 @@ impl Rects<'_> {
         if fitting { None } else { self.first_meet() }
     }
 
-    // Returns the first fault of two rectangles, or of the areas. `marks` is room for a flag for each vertex.
+    // Returns the first of three faults: two rectangles that meet, a gap, or a wrong contact. `marks` is working room,
+    // a flag for each vertex.
     fn first_of_pairs_in(&self, marks: &mut [bool]) -> Option<RectVerdict>
         requires marks { length marks.old ≡ length self.now.map.now.lists }
         ensures { MatchOption result (NoneMeet self.now.map.now.lists self.now.fig.now × DoFill self.now.map.now.lists self.now.fig.now × HasContacts self.now.map.now.lists self.now.fig.now)
@@ -43,7 +44,8 @@ impl Rects<'_> {
         }
     }
 
-    // Returns the first fault of two rectangles, or of the areas, with room for `MOST` flags.
+    // Returns what `first_of_pairs_in` does for the map, which has `n` vertices, with an array of `MOST` flags on the
+    // stack.
     fn first_of_pairs_of<const MOST: usize>(&self, n: usize) -> Option<RectVerdict>
         requires n { n ≡ length self.now.map.now.lists }
         requires most { n ≤ MOST }
@@ -55,7 +57,7 @@ impl Rects<'_> {
         self.first_of_pairs_in(&mut marks[..n])
     }
 
-    // Returns the first fault of two rectangles, or of the areas, with as much room as the map needs.
+    // Returns what `first_of_pairs_in` does, with 255 flags on the stack, or 4095 for a larger map.
     fn first_of_pairs(&self) -> Option<RectVerdict>
         ensures { MatchOption result (NoneMeet self.now.map.now.lists self.now.fig.now × DoFill self.now.map.now.lists self.now.fig.now × HasContacts self.now.map.now.lists self.now.fig.now)
             (IsRectVerdict self.now.map.now.lists self.now.fig.now) }

@@ -21,7 +21,7 @@ pub use check::check_rects;
 pub use outer_frame::{OuterFour, outer_four};
 pub use verdict::RectVerdict;
 
-/// A verdict is `Yes` exactly where the figure is a rectangular dual.
+/// States the law that a verdict is `Yes` exactly where the figure is a rectangular dual.
 pub fn yes_is_dual()
     ensures { YesIsDual }
 {}

@@ -31,7 +31,7 @@ fn from_behind(n: u16, z: i32) -> u16
     (i32::from(n) - z) as u16
 }
 
-// Returns the greater of two numbers.
+// Returns the greater of `u` and `v`.
 fn greater(u: u16, v: u16) -> u16
     ensures first { u ≤ result }
     ensures second { v ≤ result }
@@ -47,7 +47,7 @@ struct Pass<'a> {
 }
 
 impl Pass<'_> {
-    // Returns where the rectangle of `v` begins, or on the way back how far its end is before n.
+    // Returns where the rectangle of `v` begins. On the way back it returns how far that rectangle's end is before n.
     fn near(&self, v: VertexId) -> u16
         requires vertex { v.0 < length self.now.rects.map.now.lists }
         ensures { pos result ≡ near_at self.now.back (length self.now.rects.map.now.lists) self.now.rects.fig.now v.0 }
@@ -59,7 +59,8 @@ impl Pass<'_> {
         }
     }
 
-    // Returns where the rectangle of `v` ends, or on the way back how far its beginning is before n.
+    // Returns where the rectangle of `v` ends. On the way back it returns how far that rectangle's beginning is before
+    // n.
     fn far(&self, v: VertexId) -> u16
         requires vertex { v.0 < length self.now.rects.map.now.lists }
         ensures { pos result ≡ far_at self.now.back (length self.now.rects.map.now.lists) self.now.rects.fig.now v.0 }
@@ -71,8 +72,8 @@ impl Pass<'_> {
         }
     }
 
-    // Marks `v` in `marks`, if its rectangle begins before the end of an earlier one in a row of its own. `table` has
-    // for each row how far the earlier ones reach, and is raised to the end of this one.
+    // Marks `v` in `marks`, if its rectangle begins before the end of an earlier one in a row that both have. `table`
+    // has for each row how far the earlier ones reach. Its rows under `v` are raised to the end of that rectangle.
     fn mark_next(&self, table: &mut [u16], marks: &mut [bool], v: VertexId)
         requires vertex { v.0 < length self.now.rects.map.now.lists }
         requires table { length table.old ≡ length self.now.rects.map.now.lists }
@@ -117,7 +118,8 @@ impl Pass<'_> {
 }
 
 impl Rects<'_> {
-    // Returns the least two rectangles whose interiors meet. The slices are room for the order, rows and marks.
+    // Returns the least two rectangles whose interiors meet. `order`, `table` and `marks` are working room, an entry
+    // for each vertex.
     fn first_meet_in(
         &self,
         order: &mut [u16],
@@ -144,7 +146,8 @@ impl Rects<'_> {
         self.first_marked_meet(marks)
     }
 
-    // Returns the least two rectangles whose interiors meet, with room for `MOST` vertices.
+    // Returns what `first_meet_in` does for the map, which has `n` vertices, with arrays for `MOST` vertices on the
+    // stack.
     fn first_meet_of<const MOST: usize>(&self, n: usize) -> Option<(VertexId, VertexId)>
         requires n { n ≡ length self.now.map.now.lists }
         requires most { n ≤ MOST }

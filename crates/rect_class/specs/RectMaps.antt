@@ -43,6 +43,7 @@ pub record IsInner (lists : Lists) (v : ℕ) : Type 0 where
   pub not_right : v ≢ right_vertex lists
   pub not_bottom : v ≢ bottom_vertex lists
 
+-- some vertex is off the outer face, where that is a quadrangle
 abbrev pub HasInner : Lists → Type 0
 HasInner lists = (v : ℕ) × IsInner lists v
 

@@ -72,14 +72,14 @@ fn first_broken(
     }
 }
 
-/// Returns the map of a record with these lists, from 1 to 4095, if it is of the class of `rect`. It then has genus
-/// zero, is connected and has no cut vertex. Its outer face is a quadrangle, each other face is a triangle, each
-/// triangle of edges is a face, and some vertex is inside.
+/// Returns the half-edge map of `lists`, the from 1 to 4095 lists of a record, if it is of the class of `rect`. It then
+/// has genus zero, is connected and has no cut vertex. Its outer face is a quadrangle, each other face is a triangle,
+/// each triangle of edges is a face, and some vertex is inside.
 ///
-/// `Err` names the first condition that the lists break, in the order of [`Refusal`], with the least vertices. Or
-/// there was not enough memory. For each edge it goes over the shorter of two lists. Only where a triangle may
-/// separate does it look each common neighbour up among the neighbours of a vertex whose degree is no lower. The time
-/// is linear but for the lengths of these lists, which are short also at hubs.
+/// `Err` names the first condition that the lists break, in the order of [`Refusal`], with the least vertices, or says
+/// that memory ran out. For each edge it goes over the shorter of two lists. Only where a triangle may separate does it
+/// look each common neighbour up among the neighbours of a vertex whose degree is no lower. The time is linear but for
+/// the lengths of these lists, which are short also at hubs.
 pub fn rect_map(alloc: Global, lists: &Rotations) -> Result<HalfMap, Unserved>
     requires some_list { 0 < length lists.now }
     ensures lists { IfOk result (λ map. map.lists ≡ lists.now) }

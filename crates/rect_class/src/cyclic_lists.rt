@@ -10,7 +10,7 @@ pub(crate) struct Ring<'a> {
 }
 
 impl Ring<'_> {
-    // Returns the entry after the one at index `k`, cyclically.
+    // Returns the entry that follows the one at index `k`, cyclically.
     pub(crate) fn behind(&self, k: usize) -> u16
         requires { k < length self.now.us.now }
         ensures { result ≡ entry_after (slice_index self.now.us.now k) self.now.us.now }
@@ -19,7 +19,7 @@ impl Ring<'_> {
         if k + 1 < us.len() { us[k + 1] } else { us[0] }
     }
 
-    // Returns the entry before the one at index `k`, cyclically.
+    // Returns the entry that precedes the one at index `k`, cyclically.
     pub(crate) fn ahead(&self, k: usize) -> u16
         requires { k < length self.now.us.now }
         ensures { entry_after result self.now.us.now ≡ slice_index self.now.us.now k }

@@ -14,15 +14,15 @@ mod upper_neighbours;
 pub use class_conditions::rect_map;
 pub use frame_finder::{FrameFinder, next_on_face};
 
-/// A map of the class breaks no condition.
+/// States the law that a map of the class breaks no condition.
 pub fn biconnected_break_nothing()
     ensures { RectMapsBreakNothing }
 {
     conn_parts::biconnected_maps::biconnected_break_nothing();
 }
 
-/// A map of the class is a connected near triangulation within a quadrangle, without separating triangle and
-/// with more than four vertices.
+/// States the law that a map of the class is a connected near triangulation within a quadrangle, without separating
+/// triangle and with more than four vertices.
 pub fn biconnected_are_rect_maps()
     ensures { BiconnectedAreRectMaps }
 {}

@@ -85,7 +85,7 @@ impl Edge<'_> {
         twin.is_face(c)
     }
 
-    // Returns the head of the dart after this one along its face, on the left.
+    // Returns the third vertex of the face on the left of the dart: the head of the next dart along that face.
     fn left(&self) -> VertexId
         ensures { follows self.now.near.map.now.lists self.now.b.0 self.now.a.0 ≡ result.0 }
     {
@@ -94,7 +94,7 @@ impl Edge<'_> {
         map.head(map.face_step(self.d))
     }
 
-    // Returns the head of the next dart round `a`, which is on the face on the right.
+    // Returns the third vertex of the face on the right of the dart: the head of the next dart round `a`.
     fn right(&self) -> VertexId
         ensures { follows self.now.near.map.now.lists self.now.a.0 self.now.b.0 ≡ result.0 }
     {

@@ -19,11 +19,11 @@ pub record AreLefts (rows : Lists) (places : List ℕ) (n : ℕ) (left : List �
   pub latest : (k v : ℕ) → k < n → StandsLeft rows places k v → k + 2 ≤ slice_index left v
   pub sound : (k v : ℕ) → slice_index left v ≡ k + 2 → (k < n) × StandsLeft rows places k v
 
--- Whether the edge from i to the later vertex j is a run: the row of j begins with i, or no later vertex than j has i to its left.
+-- Whether the edge from rank i to the later rank j is a run: the row of j begins with i, or no later vertex than j has i to its left.
 abbrev pub is_run : List ℕ → List ℕ → ℕ → ℕ → Bool
 is_run first left i j = (slice_index first j == i) || (slice_index left i == j)
 
--- how the edge between i and j stands at i
+-- how the edge between the vertices of ranks i and j stands at that of rank i: it leaves the one of lower rank and enters the other, as a run or as a rise
 abbrev pub end_at : List ℕ → List ℕ → ℕ → ℕ → End
 end_at first left i j = if nat_lt i j then if is_run first left i j then run_out else rise_out else if is_run first left j i then run_in else rise_in
 

@@ -1,7 +1,7 @@
 -- Things that lie on lines, and the lines as a linked list.
 use Rattle.std.specs.Prelude.{ℕ, suc, ◌<◌, ◌≡◌, List, slice_index}
 
--- The first m things have the numbers f of q lines. Each line goes by a thing of its own; the first is `first`, and each other one stands behind the one before it.
+-- A linked list of q lines. The first m things lie on them: thing v on line number f v. A line goes by one of its things, `at i` for line i: `lines` leads from each thing to that of its line, and `next` from the thing of a line to that of the next line.
 pub record AreLines (f : ℕ → ℕ) (m q first : ℕ) (lines next : List ℕ) : Type 0 where
   pub at : ℕ → ℕ
   pub some : 0 < q
@@ -12,7 +12,7 @@ pub record AreLines (f : ℕ → ℕ) (m q first : ℕ) (lines next : List ℕ) 
   pub own : (i : ℕ) → i < q → f (at i) ≡ i
   pub links : (i : ℕ) → suc i < q → slice_index next (at i) ≡ at (suc i)
 
--- the numbers of the first k lines are written at their things, and thing r is that of the next line
+-- A walk along the linked lines has gone over k of them: each has its number at its thing, and r is the thing of line k, if there is one.
 pub record AreWalked (f : ℕ → ℕ) (m q first : ℕ) (lines next : List ℕ) (h : AreLines f m q first lines next) (k r : ℕ) (numbers : List ℕ) : Type 0 where
   pub written : (i : ℕ) → i < k → i < q → slice_index numbers (h.at i) ≡ i
   pub here : k < q → r ≡ h.at k

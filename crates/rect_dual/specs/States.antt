@@ -20,7 +20,7 @@ pub record IsLeftState (steps : ℕ → Step) (n k : ℕ) (lines next before : L
   pub linked : IsLinkedBack (stage_after steps k) before
   pub leads_are : AreLeft (stage_after steps k) (numbers steps n).x (is_marked leads)
 
--- the same of lower sides, with the contour linked forwards
+-- After k of n steps: the lower sides have these lines, the contour is linked forwards, and of its vertices those are marked that lead by the numbers after all n steps.
 pub record IsLowState (steps : ℕ → Step) (n k : ℕ) (lines next behind : List ℕ) (leads : List Bool) : Type 0 where
   pub lines_are : AreLines (numbers steps k).y (k + 2) (suc (suc (run_turns steps k))) 1 lines next
   pub linked : IsLinked (stage_after steps k) behind

@@ -13,8 +13,8 @@ pub enum Side {
 impl Side {
     ghost use Rattle.rect_dual.specs.SidesOfBoxes.{gets_line, place_in, second_line};
 
-    // Says whether a new vertex gets a line of its own on this side, where its turn is at a horizontal edge if `run`
-    // is set, else at a vertical one.
+    // Says whether a new vertex gets a line of its own on this side. Its turn is at a horizontal edge if `run` is set,
+    // else at a vertical one.
     pub(crate) fn gets_line(self, run: bool) -> bool
         ensures { result ≡ gets_line self run }
     {

@@ -40,7 +40,7 @@ pub record IsClosedOf (lists map : Lists) (s d p t x : ℕ) : Type 0 where
   pub closed_is : lists ≡ closed map s d p t
   pub inner_is : x ≡ follows map t s
 
--- the same, of a frame
+-- `IsClosedOf` for the vertices of a frame
 abbrev pub IsClosedAt : Lists → Lists → Frame → Type 0
 IsClosedAt lists map frame = IsClosedOf lists map frame.left.0 frame.top.0 frame.right.0 frame.bottom.0 frame.inner.0
 
@@ -50,7 +50,7 @@ pub record IsContour (map : Lists) (s d p t : ℕ) (gone marked : List Bool) (re
   pub left : IsRectLeft map s d p t (kept_of gone) ws rest
   pub marks : (v : ℕ) → (is_set marked v ≡ true) ↔ Contains ws v
 
--- the same, of the map with that frame whose closed map has these lists
+-- `IsContour` for each map with this frame whose closed map has these lists
 abbrev pub IsContourAt : Lists → Frame → List Bool → List Bool → List ℕ → Type 0
 IsContourAt lists frame gone marked rest = (map : Lists) → IsClosedAt lists map frame → IsContour map frame.left.0 frame.top.0 frame.right.0 frame.bottom.0 gone marked rest
 

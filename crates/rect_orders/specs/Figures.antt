@@ -27,6 +27,7 @@ pub record IsDualFor (lists : Lists) (s d p t : ℕ) (fig : RectFigure) : Type 0
   pub contacts : (u v : ℕ) → u < v → v < length lists → ShareSide fig u v ↔ HasDart lists u v
   pub framed : IsFramed fig s d p t
 
+-- The boxes of a rectangular order are a rectangular dual of its map.
 abbrev pub BoxesAreDualOfMap : Type 0
 BoxesAreDualOfMap =
     (lists : Lists) (s d p t : ℕ) (at ranks : List ℕ) (steps : ℕ → Step) (fig : RectFigure) → IsRectOrder lists s d p t at → IsRectMap lists s d p t → IsRankOf ranks at → IsRunOfMap lists at steps → AreBoxesAt (boxes steps (length at - 3)) lists ranks fig → IsDualFor lists s d p t fig

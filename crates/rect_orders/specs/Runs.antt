@@ -9,7 +9,7 @@ use Rattle.rect_runs.specs.RectBoxesLaws.{AreJoined}
 use Rattle.rect_orders.specs.Maps.{IsRectMap, closed}
 use Rattle.rect_orders.specs.Orders.{IsRectOrder}
 
--- a run whose step n ends one place earlier
+-- the steps, of which step n ends one place earlier
 abbrev pub shortened : (ℕ → Step) → ℕ → ℕ → Step
 shortened steps n k = if k == n then record { first = (steps k).first; last = (steps k).last - 1 } else steps k
 

@@ -3,13 +3,14 @@
 
 ghost use Rattle.rect_orders.specs.Labellings.{LabelsOfOrder, BoxesByLabelling};
 
-/// The labels of edge ends in the construction sequence of a rectangular order are a regular edge labelling of the map.
+/// States the law that the labels of edge ends in the construction sequence of a rectangular order are a regular edge
+/// labelling of the map.
 pub fn labels_of_order()
     ensures { LabelsOfOrder }
 {}
 
-/// The boxes of a rectangular order come of an edge labelling: along each run the right side of the one is the left
-/// side of the other, and along each rise the upper side of the one is the lower side of the other.
+/// States the law that the boxes of a rectangular order come of an edge labelling. Along each run the right side of the
+/// one is the left side of the other. Along each rise the upper side of the one is the lower side of the other.
 pub fn boxes_by_labelling()
     ensures { BoxesByLabelling }
 {}

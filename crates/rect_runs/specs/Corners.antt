@@ -42,5 +42,6 @@ pub record AreCorners (run : Bool) (turn j : ℕ) : Type 0 where
   pub later : Follows (at_later run) (at_older turn (suc j))
   pub new : Follows (at_new turn (suc j)) (at_new turn j)
 
+-- At each corner of each face of a labelled run, the two edges follow one another.
 abbrev pub CornersFollow : Type 0
 CornersFollow = (steps : ℕ → Step) (k n j : ℕ) → IsLabelledRun steps n → k < n → (steps k).first ≤ j → j < (steps k).last → AreCorners (labels steps k j) (turn_of steps k) j

@@ -49,6 +49,7 @@ other_end rise_out = rise_in
 other_end run_out = run_in
 other_end rise_in = rise_out
 
+-- Both ends of an edge agree: one is the other end of the other.
 abbrev pub EndsAgree : Type 0
 EndsAgree = (steps : ℕ → Step) (n u v : ℕ) (e : End) → IsEndAt steps n u v e → IsEndAt steps n v u (other_end e)
 
@@ -59,6 +60,7 @@ pub record AreFrameEnds (steps : ℕ → Step) (n : ℕ) : Type 0 where
   pub right : (v : ℕ) (e : End) → v ≢ 1 → v ≢ n + 2 → IsEndAt steps (suc n) (n + 1) v e → e ≡ run_in
   pub top : (v : ℕ) (e : End) → v ≢ 0 → IsEndAt steps (suc n) (n + 2) v e → e ≡ rise_in
 
+-- The edges at the frame of a rectangular run stand so.
 abbrev pub FrameEnds : Type 0
 FrameEnds = (steps : ℕ → Step) (n : ℕ) → IsRectRun steps n → AreFrameEnds steps n
 

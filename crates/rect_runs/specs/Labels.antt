@@ -6,7 +6,7 @@ use Rattle.contour_runs.specs.Runs.{Step, IsRun}
 unfoldable pub labels_after : Step → (ℕ → Bool) → ℕ → Bool
 labels_after s label i = if nat_lt i s.first then label i else if i == s.first then true else if i == suc s.first then false else label (i + s.last - (s.first + 2))
 
--- the labels after so many steps; the base is a rise
+-- the labels after the first k steps; the base is a rise
 abbrev pub labels : (ℕ → Step) → ℕ → ℕ → Bool
 labels steps zero = λ i. false
 labels steps (suc k) = labels_after (steps k) (labels steps k)

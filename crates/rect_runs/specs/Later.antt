@@ -15,6 +15,6 @@ pub record StandsOver (steps : ℕ → Step) (k u v : ℕ) : Type 0 where
 abbrev pub HaveTwoLater : (ℕ → Step) → ℕ → Type 0
 HaveTwoLater steps n = (k v : ℕ) → k < n → IsCovered steps k v → (m : ℕ) × (m < k) × StandsOver steps m v (m + 2)
 
--- such a run of steps is labelled
+-- A run of steps in which each covered vertex has two later neighbours is labelled.
 abbrev pub TwoLaterSort : Type 0
 TwoLaterSort = (steps : ℕ → Step) (n : ℕ) → IsRun steps n → HaveTwoLater steps n → IsLabelledRun steps n

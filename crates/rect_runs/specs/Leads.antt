@@ -7,7 +7,7 @@ pub record AreLeft (g : Stage) (x : ℕ → ℕ) (lead : ℕ → Bool) : Type 0 
   pub yes : (i j : ℕ) → i < g.width → lead (g.vertex i) ≡ true → j < i → x (g.vertex j) < x (g.vertex i)
   pub no : (i : ℕ) → i < g.width → lead (g.vertex i) ≡ false → (j : ℕ) × (j < i) × (x (g.vertex i) ≤ x (g.vertex j))
 
--- the same of lower sides, and of the vertices behind
+-- Exactly those are marked whose number is greater than those of all vertices after them; another one has after it a vertex whose number is no less.
 pub record AreLower (g : Stage) (y : ℕ → ℕ) (lead : ℕ → Bool) : Type 0 where
   pub yes : (i j : ℕ) → j < g.width → lead (g.vertex i) ≡ true → i < j → y (g.vertex j) < y (g.vertex i)
   pub no : (i : ℕ) → i < g.width → lead (g.vertex i) ≡ false → (j : ℕ) × (i < j) × (j < g.width) × (y (g.vertex i) ≤ y (g.vertex j))

@@ -16,15 +16,16 @@ shifted least a = if nat_lt a least then a else suc a
 unfoldable pub with_new : ℕ → (ℕ → ℕ) → ℕ → ℕ → ℕ
 with_new count f new v = if nat_lt v count then f v else new
 
--- the left and the lower side of each vertex
+-- the x of the left side and the y of the lower side of the box of each vertex
 pub record Numbers : Type 0 where
   pub x : ℕ → ℕ
   pub y : ℕ → ℕ
 
--- The number of a line of its own: one more than the greatest x at places up to the one behind the turn, or than the greatest y at places from the turn on.
+-- The x of a line of its own: one more than the greatest x at the places up to the one after the turn c.
 abbrev pub new_x : Stage → ℕ → (ℕ → ℕ) → ℕ
 new_x g c x = past (λ j. x (g.vertex j)) (suc (suc c))
 
+-- The y of a line of its own: one more than the greatest y at the places from the turn c on.
 abbrev pub new_y : Stage → ℕ → (ℕ → ℕ) → ℕ
 new_y g c y = past (λ j. y (g.vertex (c + j))) (g.width - c)
 
@@ -49,7 +50,7 @@ turn_of steps k = turn (labels steps k) (steps k)
 abbrev pub turns_at_run : (ℕ → Step) → ℕ → Bool
 turns_at_run steps k = labels steps k (turn_of steps k)
 
--- the numbers after so many steps
+-- the numbers after the first k steps
 abbrev pub numbers : (ℕ → Step) → ℕ → Numbers
 numbers steps zero = base_numbers
 numbers steps (suc k) = numbers_after (stage_after steps k) (turn_of steps k) (turns_at_run steps k) (numbers steps k)

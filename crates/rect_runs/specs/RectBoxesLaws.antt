@@ -33,7 +33,7 @@ abbrev pub area_of : Boxes → ℕ → ℕ
 area_of b zero = 0
 area_of b (suc m) = area_of b m + (b.right m - b.left m) * (b.high m - b.low m)
 
--- The first m boxes fill a grid without overlap.
+-- The first m boxes tile the grid of this width and height: none overlap, and their areas add up to its area.
 pub record AreFilling (b : Boxes) (m width height : ℕ) : Type 0 where
   pub wide : (v : ℕ) → v < m → b.left v < b.right v
   pub tall : (v : ℕ) → v < m → b.low v < b.high v
@@ -55,5 +55,6 @@ pub record IsRunDual (steps : ℕ → Step) (n : ℕ) (b : Boxes) (width height 
   pub contacts : (u v : ℕ) → u < v → v < n + 3 → ShareSide b u v ↔ AreJoined steps (suc n) u v
   pub frame : IsFramed b n width height
 
+-- The boxes of a rectangular run are a rectangular dual of it.
 abbrev pub BoxesAreDual : Type 0
 BoxesAreDual = (steps : ℕ → Step) (n : ℕ) → IsRectRun steps n → IsRunDual steps n (boxes steps n) (grid_width steps n) (grid_height steps n)

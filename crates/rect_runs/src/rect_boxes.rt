@@ -4,9 +4,9 @@
 
 ghost use Rattle.rect_runs.specs.RectBoxesLaws.{BoxesAreDual};
 
-/// The boxes of m vertices fill a grid of at most m - 2 by m - 2. No two overlap, and their areas sum to that of the
-/// grid. Two of them share a side of positive length exactly where their vertices are joined. The first vertex is at
-/// the left, the second along the bottom, the last but one at the right, and the last along the top.
+/// States the law that the boxes of m vertices fill a grid of at most m - 2 by m - 2. No two overlap, and their areas
+/// sum to that of the grid. Two of them share a side of positive length exactly where their vertices are joined. The
+/// first vertex is at the left, the second along the bottom, the last but one at the right, and the last along the top.
 pub fn boxes_are_dual()
     ensures { BoxesAreDual }
 {}

@@ -10,24 +10,25 @@ pub fn corners_of_faces()
     ensures { CornersOfFaces }
 {}
 
-/// An edge has one label at each of its ends.
+/// States the law that an edge has one label at each of its ends.
 pub fn one_end()
     ensures { OneEnd }
 {}
 
-/// An edge leaves at one end exactly as it enters at the other: both ends agree that it is horizontal or vertical.
+/// States the law that an edge leaves at one end exactly as it enters at the other: both ends agree that it is
+/// horizontal or vertical.
 pub fn ends_agree()
     ensures { EndsAgree }
 {}
 
-/// The four outer vertices have edges with one label each, apart from edges between them. Runs leave the first, rises
-/// leave the second, runs enter the last but one, and rises enter the last.
+/// States the law that the four outer vertices have edges with one label each, apart from edges between them. Runs
+/// leave the first, rises leave the second, runs enter the last but one, and rises enter the last.
 pub fn frame_ends()
     ensures { FrameEnds }
 {}
 
-/// The box of a vertex ends on the right where that of its neighbour along a run begins, and above where that of its
-/// neighbour along a rise begins.
+/// States the law that the boxes of neighbours meet at their edge. Along a run the one ends on the right where the
+/// other begins, and along a rise it ends above where the other begins.
 pub fn edges_meet()
     ensures { EdgesMeet }
 {}

@@ -21,6 +21,7 @@ refusal_for (one_sided v u) = OneSided v u
 abbrev pub map_refusal : ℕ → ℕ → ℕ → Option Refusal
 map_refusal least n g = if nat_lt n least then Some (Small n) else (if nat_lt 0 g then Some (Genus g) else None)
 
+-- the condition that a fault breaks, where there is one, else the later one
 abbrev pub refusal_after : Option Fault → Option Refusal → Option Refusal
 refusal_after (Some fault) later = Some (refusal_for fault)
 refusal_after None later = later
@@ -29,7 +30,7 @@ refusal_after None later = later
 abbrev pub fault_refusal : Lists → Option Refusal
 fault_refusal lists = refusal_after (first_fault lists) None
 
--- The first of the conditions 1 to 6; None for a simple map of genus zero with at least so many vertices.
+-- The first of the conditions 1 to 6; None for a simple map of genus zero with at least `least` vertices.
 abbrev pub first_refusal : ℕ → Lists → Option Refusal
 first_refusal least lists = refusal_after (first_fault lists) (map_refusal least (vertex_count lists) (genus lists))
 

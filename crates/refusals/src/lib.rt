@@ -1,4 +1,4 @@
-//! Why a record is refused: the conditions of all jobs, in one order, and how an answer names the first that is broken.
+//! Why a record is refused: the conditions of all jobs, in one order. An answer names the first that is broken.
 #![tactic(auto)]
 
 ghost use Rattle.refusals.specs.Laws.{NoRefusalIsPlane};

@@ -18,6 +18,7 @@ ComesDown wood e r = HasParent wood one r e ⊎ HasParent wood two r e
 abbrev pub JoinsRoots : Parents → ℕ → ℕ → Type 0
 JoinsRoots wood e r = ((e ≡ wood.root_one) × (r ≡ wood.root_two)) ⊎ ((e ≡ wood.root_two) × (r ≡ wood.root_three))
 
+-- r is the parent of colour three of e, or e and r are roots, one after the other
 abbrev pub GoesUp : Parents → ℕ → ℕ → Type 0
 GoesUp wood e r = HasParent wood three e r ⊎ JoinsRoots wood e r
 

@@ -1,9 +1,9 @@
 //! A law: the figures of the job `schnyder` are by the regions of a Schnyder wood.
 ghost use Rattle.schnyder_grid.specs.FigureRegions.{FiguresByRegions};
 
-/// Law: for each figure of the job `schnyder` there are a completion of its map to a triangulation and a Schnyder wood
-/// of it with these coordinates. That of a colour, at an inner vertex, is the number of vertices in its region of this
-/// colour less the number of vertices on its path of the colour before.
+/// States the law that each figure of the job `schnyder` has its coordinates by a Schnyder wood of some completion of
+/// its map to a triangulation. The coordinate of an inner vertex for a colour is how many more vertices its region of
+/// this colour has than its path of the colour before.
 pub fn figures_by_regions()
     ensures { FiguresByRegions }
 {

@@ -18,13 +18,13 @@ use std::alloc::Global;
 /// Returns the drawing of a triangulation, a simple map of genus zero with n >= 3 vertices and 3n - 6 edges, by the
 /// regions of a wood of it.
 ///
-/// It is plane and keeps the rotations, in the grid n - 2 by n - 2. Each vertex but the roots has as coordinate
-/// of a colour by how much more vertices its region of this colour has than its path of the colour before; those
-/// of colours one and two are x and y. The roots stand at (n - 2, 1), (0, n - 2) and (1, 0); of all faces that of
-/// the dart from root two to root one alone is drawn clockwise.
+/// It is plane and keeps the rotations, in the grid n - 2 by n - 2. The coordinate of an inner vertex for a colour is
+/// how many more vertices its region of this colour has than its path of the colour before. Those of colours one and
+/// two are x and y. The roots stand at (n - 2, 1), (0, n - 2) and (1, 0). Of all faces that of the dart from root two
+/// to root one alone is drawn clockwise.
 ///
-/// It fails only when out of memory. The map and the wood stay as they are. The time is linear in the map: no
-/// region is counted, for the wood gives a canonical order, and over this the coordinates are sums of few terms.
+/// It fails only when out of memory. The map and the wood stay as they are. The time is linear in the map. No region is
+/// counted: the wood gives a canonical order, over which the coordinates are sums of few terms.
 ///
 /// Source: Schnyder, Embedding planar graphs on the grid, 1990.
 pub fn schnyder_draw(alloc: Global, tri: &HalfMap, wood: &Wood) -> Result<GridFigure, SchnyderFault>

@@ -17,7 +17,7 @@ pub record NotesPath (wood : Parents) (c : Colour) (v : ℕ) (ups : List ℕ) : 
   pub count : length ups ≡ count_in wood
   pub each : (u : ℕ) → u < count_in wood → (IsPassed wood c v u × (slice_index ups u ≡ parent_in wood c u)) ⊎ ((¬ IsPassed wood c v u) × (slice_index ups u ≡ u))
 
--- the same for the first d steps alone
+-- as `NotesPath`, of the first d steps alone
 abbrev pub IsNoted : Parents → Colour → ℕ → ℕ → List ℕ → Type 0
 IsNoted wood c v d ups =
     (u : ℕ) → u < count_in wood → (((e : ℕ) × (e < d) × LeadsIn wood c e v u × IsInnerIn wood u) × (slice_index ups u ≡ parent_in wood c u)) ⊎ (((e : ℕ) → e < d → ¬ LeadsIn wood c e v u) × (slice_index ups u ≡ u))

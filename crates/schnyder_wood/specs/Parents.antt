@@ -13,7 +13,7 @@ kind One = one
 kind Two = two
 kind Three = three
 
--- one of three
+-- of three values, the one for a colour
 abbrev pub by_colour : {A : Type 0} → A → A → A → Colour → A
 by_colour a b c one = a
 by_colour a b c two = b
@@ -32,9 +32,11 @@ pub record Parents : Type 0 where
 abbrev pub count_in : Parents → ℕ
 count_in wood = length wood.ones
 
+-- the root of a colour
 abbrev pub root_in : Parents → Colour → ℕ
 root_in wood = by_colour wood.root_one wood.root_two wood.root_three
 
+-- the parent of v of a colour
 abbrev pub parent_in : Parents → Colour → ℕ → ℕ
 parent_in wood c v = slice_index (by_colour wood.ones wood.twos wood.threes c) v
 
@@ -54,12 +56,12 @@ pub record IsRooted (wood : Parents) : Type 0 where
   pub falls : (c : Colour) (v : ℕ) → IsInnerIn wood v → height c (parent_in wood c v) < height c v
   pub goes_on : (c : Colour) (v : ℕ) → IsInnerIn wood v → IsInnerIn wood (parent_in wood c v) ⊎ (parent_in wood c v ≡ root_in wood c)
 
--- so many steps to the parent of a colour, each from an inner vertex, lead from v to w
+-- a number of steps to the parent of a colour, each from an inner vertex, lead from v to w
 abbrev pub LeadsIn : Parents → Colour → ℕ → ℕ → ℕ → Type 0
 LeadsIn wood c zero v w = v ≡ w
 LeadsIn wood c (suc d) v w = IsInnerIn wood v × LeadsIn wood c d (parent_in wood c v) w
 
--- the path from v along a colour, from vertex to parent up to the root of the colour, has so many vertices
+-- the path from v along a colour, from vertex to parent up to the root of the colour, has k vertices
 pub record IsPathLength (wood : Parents) (c : Colour) (v k : ℕ) : Type 0 where
   pub steps : ℕ
   pub leads : LeadsIn wood c steps v (root_in wood c)

@@ -49,9 +49,9 @@ fn parent_tables(alloc: Global, rows: &Rotations, order: &Order) -> Result<Table
 /// Returns the Schnyder wood of a canonical order of a triangulation: a simple map of genus zero with n >= 3 vertices
 /// and 3n - 6 edges.
 ///
-/// The roots of the colours one, two and three are the order's first, second and last vertex. The parents of
-/// colours one and two of a vertex are the first and the last of its neighbours that come before it, along the
-/// outer cycle of these; that of colour three is the vertex that takes it off the outer cycle.
+/// The roots of the colours one, two and three are the order's first, second and last vertex. The parents of colours
+/// one and two of a vertex are the first and the last of its earlier neighbours, along the outer cycle at that time.
+/// That of colour three is the vertex that takes it off the outer cycle.
 ///
 /// It fails only when out of memory. The map and the order stay as they are. The time is linear in the map's entries.
 ///

@@ -26,6 +26,7 @@ abbrev pub least_where : (ℕ → Bool) → List ℕ → Option ℕ
 least_where p [] = None
 least_where p (u ∷ us) = lesser_of (if p u then Some u else None) (least_where p us)
 
+-- (v, u) where u was found at v, else what was found later
 abbrev pub or_from : Option (ℕ × ℕ) → Option ℕ → ℕ → Option (ℕ × ℕ)
 or_from later None v = later
 or_from later (Some u) v = Some (v, u)
@@ -39,18 +40,19 @@ first_from find v (us ∷ lists) = or_from (first_from find (v + 1) lists) (find
 abbrev pub least_out_of_range : ℕ → ℕ → List ℕ → Option ℕ
 least_out_of_range n v us = least_where (nat_le n) us
 
--- v itself
+-- v, where v stands in its own list us
 abbrev pub own_number : ℕ → List ℕ → Option ℕ
 own_number v us = least_where (λ u. u == v) us
 
--- the least number that stands there twice
+-- the least number that stands at least twice in v's list us
 abbrev pub least_repeated : ℕ → List ℕ → Option ℕ
 least_repeated v us = least_where (λ u. nat_lt 1 (count_by (λ w. w == u) us)) us
 
--- the least number in whose own list v does not stand
+-- the least number in v's list us in whose own list v does not stand
 abbrev pub least_one_sided : Lists → ℕ → List ℕ → Option ℕ
 least_one_sided lists v us = least_where (λ u. not (list_any (λ w. w == v) (list_of lists u))) us
 
+-- the fault with the vertices that were found, else the later one
 abbrev pub fault_or : (ℕ → ℕ → Fault) → Option (ℕ × ℕ) → Option Fault → Option Fault
 fault_or fault None later = later
 fault_or fault (Some place) later = Some (fault place.0 place.1)

@@ -11,19 +11,21 @@ HasFault lists (loop_at v) = HasDart lists v v
 HasFault lists (repeated v u) = (v < length lists) × (2 ≤ count_by (λ w. w == u) (list_of lists v))
 HasFault lists (one_sided v u) = HasDart lists v u × ¬ HasDart lists u v
 
--- which of the four kinds a fault is, and its two vertices; a loop's are one
+-- which of the four kinds a fault is
 abbrev pub kind : Fault → ℕ
 kind (out_of_range v u) = 1
 kind (loop_at v) = 2
 kind (repeated v u) = 3
 kind (one_sided v u) = 4
 
+-- the first vertex of a fault
 abbrev pub first_vertex : Fault → ℕ
 first_vertex (out_of_range v u) = v
 first_vertex (loop_at v) = v
 first_vertex (repeated v u) = v
 first_vertex (one_sided v u) = v
 
+-- the second vertex of a fault, which of a loop is the first one again
 abbrev pub second_vertex : Fault → ℕ
 second_vertex (out_of_range v u) = u
 second_vertex (loop_at v) = v
@@ -49,5 +51,6 @@ pub record NamesTheFirst (lists : Lists) : Type 0 where
   pub found : (fault : Fault) → (first_fault lists ≡ Some fault) ↔ IsFirstFault lists fault
   pub none : (first_fault lists ≡ None) ↔ ((fault : Fault) → ¬ HasFault lists fault)
 
+-- The first fault of all lists is named so.
 abbrev pub FirstFaultIsFirst : Type 0
 FirstFaultIsFirst = (lists : Lists) → NamesTheFirst lists

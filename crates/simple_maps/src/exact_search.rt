@@ -28,7 +28,8 @@ fn number_of(lists: &Rotations, v: u16, u: u16) -> u32
     unreachable!()
 }
 
-// Appends for each dart of a map its tail, and the number of its twin. It fails only when out of memory.
+// Appends the slot of each dart of the map of `lists`: its tail to `tails`, and the number of its twin to `twins`. It
+// fails only when out of memory.
 fn push_slots(
     lists: &Rotations,
     tails: &mut Vec<u16>,

@@ -6,7 +6,7 @@ ghost use Rattle.simple_maps.specs.Faults.{lesser_of, least_where, first_from, l
 use map_lists::Rotations;
 use std::alloc::{AllocError, Global};
 
-// Returns the lesser of `u` and the least number so far, if there is one.
+// Returns the lesser of `u` and `least`, the least number so far, if there is one.
 pub(crate) fn lesser(least: Option<u16>, u: u16) -> Option<u16>
     ensures { result ≡ lesser_of least (Some u) }
 {
@@ -29,7 +29,7 @@ fn least_beyond(list: &[u16], n: usize) -> Option<u16>
     least
 }
 
-// Finds the first vertex whose list holds a number that is no vertex, and the least such number.
+// Returns the first vertex of `lists` whose list holds a number that is no vertex, with the least such number.
 pub(crate) fn first_out_of_range(lists: &Rotations) -> Option<(u16, u16)>
     ensures { result ≡ first_from (least_out_of_range (length lists.now)) 0 lists.now }
 {
@@ -48,7 +48,7 @@ pub(crate) fn holds(list: &[u16], u: u16) -> bool
     list.contains(&u)
 }
 
-// Finds the first vertex whose list holds itself.
+// Returns the first vertex of `lists` whose list holds itself.
 pub(crate) fn first_loop(lists: &Rotations) -> Option<u16>
     ensures { MatchOption result (first_from own_number 0 lists.now ≡ None)
         (λ v. first_from own_number 0 lists.now ≡ Some (v, v)) }
@@ -62,7 +62,8 @@ pub(crate) fn first_loop(lists: &Rotations) -> Option<u16>
     None
 }
 
-// Returns the least number twice in `list`. Sets `marks` of each number in `list` to `mark`, which none has before.
+// Returns the least number that is in `list` twice. It sets `marks` of each number in `list` to `mark`, which none has
+// before.
 fn least_twice(marks: &mut [u16], mark: u16, list: &[u16]) -> Option<u16>
     requires within { All (λ u. u < length marks.old) list.now }
     requires fresh { All (λ m. m < mark) marks.old }
@@ -80,7 +81,8 @@ fn least_twice(marks: &mut [u16], mark: u16, list: &[u16]) -> Option<u16>
     twice
 }
 
-// Finds the first vertex whose list holds a number twice, and the least such number.
+// Returns the first vertex of `lists` whose list holds a number twice, with the least such number. It fails only when
+// out of memory.
 pub(crate) fn first_repeated(
     alloc: Global,
     lists: &Rotations,

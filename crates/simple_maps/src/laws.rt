@@ -2,13 +2,13 @@
 
 ghost use Rattle.simple_maps.specs.Laws.{NoFaultIsSimple, FirstFaultIsFirst};
 
-/// Lists of at least one vertex have no first fault exactly where they are a simple map.
+/// States the law that at least one list has no first fault exactly where the lists are a simple map.
 pub fn no_fault_is_simple()
     ensures { NoFaultIsSimple }
 {}
 
-/// The first fault of lists is one of their faults, and the first of them: by kind, then by the first
-/// vertex, then by the second. Where no fault is found the lists have none.
+/// States the law that the first fault of lists is the first of their faults: by kind, then by the first vertex, then
+/// by the second. Where no fault is found the lists have none.
 pub fn first_fault_is_first()
     ensures { FirstFaultIsFirst }
 {}

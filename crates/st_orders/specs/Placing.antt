@@ -52,7 +52,7 @@ pub record IsMarked (old new : ℕ → Bool) (place : ℕ) (value : Bool) : Type
   pub here : new place ≡ value
   pub elsewhere : (v : ℕ) → v ≢ place → new v ≡ old v
 
--- the same search in tables with an entry for each vertex, where s and t are those numbered 0 and 1
+-- A search in tables with an entry for each vertex, where s and t are those numbered 0 and 1.
 pub record IsWholeSearch (lists : Lists) (order number last parent low : List ℕ) : Type 0 where
   pub orders : length order ≡ length lists
   pub numbers : length number ≡ length lists
@@ -67,17 +67,17 @@ pub record AreTables (lists : Lists) (from to : List ℕ) (recent : List Bool) :
   pub tos : length to ≡ length lists
   pub recents : length recent ≡ length lists
 
--- and the ranges in tables, with the sides, which are in none
+-- `IsPlacing` of tables with an entry for each vertex; the sides are in no table
 pub record IsPlacingIn (lists : Lists) (order number last parent low from to : List ℕ) (recent : List Bool) (k : ℕ) : Type 0 where
   pub side : ℕ → Bool
   pub tables : AreTables lists from to recent
   pub placing : IsPlacing lists (λ i. slice_index order i) (λ v. slice_index number v) (λ v. slice_index last v) (λ v. slice_index parent v) (λ v. slice_index low v) (slice_index order 1) (λ v. slice_index from v) (λ v. slice_index to v) side (λ v. slice_index_or recent v false) k
 
--- such a search as code has it, with its low points
+-- `IsWholeSearch` of the tables of a search as the code has it, with its low points
 abbrev pub IsWholeBy : Lists → Forest → (low : List ℕ) → Type 0
 IsWholeBy lists forest low = IsWholeSearch lists forest.order.items forest.number.items forest.last.items forest.parent.items low
 
--- and the ranges of the vertices numbered below k by it
+-- `IsPlacingIn` of these tables and the ranges: the vertices numbered below k have their ranges
 abbrev pub ArePlacedBelow : Lists → Forest → (low : List ℕ) → Ranges → ℕ → Type 0
 ArePlacedBelow lists forest low ranges k = IsPlacingIn lists forest.order.items forest.number.items forest.last.items forest.parent.items low ranges.from.items ranges.to.items ranges.recent.items k
 

@@ -29,6 +29,6 @@ pub record IsStOrder (lists : Lists) (s t : ℕ) (at rank : List ℕ) : Type 0 w
 abbrev pub vertices_of : StOrder → List ℕ
 vertices_of order = map (λ v. v.0) order.at
 
--- the same of an order as the code holds it
+-- `IsStOrder` of an order as the code holds it
 abbrev pub IsStOrderOf : Lists → ℕ → ℕ → StOrder → Type 0
 IsStOrderOf lists s t order = IsStOrder lists s t (vertices_of order) order.rank

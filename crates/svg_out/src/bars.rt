@@ -12,7 +12,7 @@ use map_lists::Rotations;
 use pg_plane::{BarFigure, Ints};
 use std::alloc::{AllocError, Global};
 
-// Returns entry `v` of a list of whole numbers.
+// Returns entry `v` of `list`.
 pub(crate) fn integer(list: &Ints, v: usize) -> i32
     requires { v < length list.now }
     ensures { result ≡ integer_at list.now v }
@@ -31,7 +31,8 @@ pub(crate) fn greatest_from(least: i32, list: &Ints) -> i32
     most
 }
 
-// Returns both ends of vertex `v`'s bar in the picture of a drawing of this `height`, left first, a bit beyond the bar.
+// Returns both ends of vertex `v`'s bar in the picture, left first, each 3 beyond the bar. The drawing is `height`
+// high.
 fn bar_ends(bars: &BarFigure, height: i32, v: usize) -> (Spot, Spot)
     requires y { v < length bars.now.y }
     requires x1 { v < length bars.now.x1 }
@@ -46,7 +47,7 @@ fn bar_ends(bars: &BarFigure, height: i32, v: usize) -> (Spot, Spot)
     (Spot { x: x1, y }, Spot { x: x2, y })
 }
 
-// Returns the end of edge `i` at the bar of vertex `v`, in the picture of a drawing of this `height`.
+// Returns the end of edge `i` at the bar of vertex `v` in the picture. The drawing is `height` high.
 fn edge_end(bars: &BarFigure, height: i32, i: usize, v: usize) -> Spot
     requires column { i < length bars.now.column }
     requires y { v < length bars.now.y }
@@ -66,7 +67,7 @@ fn thick() -> &'static [u8]
     b" stroke-width=\"3\""
 }
 
-// Appends the bars of all vertices to `out`, in the picture of a drawing of this `height`.
+// Appends the bars of all vertices to `out`. The drawing is `height` high, and y goes down in its picture.
 fn push_bars(
     out: &mut Vec<u8>,
     lists: &Rotations,
@@ -83,7 +84,7 @@ fn push_bars(
     Ok(())
 }
 
-// Appends the columns of all edges to `out`, in the picture of a drawing of this `height`.
+// Appends the columns of all `edges` to `out`. The drawing is `height` high, and y goes down in its picture.
 fn push_columns(
     out: &mut Vec<u8>,
     edges: &[(usize, usize)],

@@ -41,7 +41,7 @@ fn height_of(points: &Points) -> i32
     height
 }
 
-// Returns the position of a point in the picture of a drawing of this `height`.
+// Returns the position of `point` in the picture of a drawing that is `height` high.
 fn spot(height: i32, point: Point) -> Spot
     ensures x { result.x ≡ far_right point.x }
     ensures y { result.y ≡ far_down height point.y }
@@ -52,7 +52,7 @@ fn spot(height: i32, point: Point) -> Spot
     }
 }
 
-// Appends a segment for each edge to `out`, in the picture of a drawing of this `height`.
+// Appends a segment for each of `edges` to `out`. The drawing is `height` high, and y goes down in its picture.
 fn push_straight_edges(
     out: &mut Vec<u8>,
     edges: &[(usize, usize)],
@@ -71,7 +71,7 @@ fn push_straight_edges(
     Ok(())
 }
 
-// Appends a dot for each vertex to `out`, in the picture of a drawing of this `height`.
+// Appends a dot for each of `points` to `out`. The drawing is `height` high, and y goes down in its picture.
 fn push_dots(out: &mut Vec<u8>, points: &Points, height: i32) -> Result<(), AllocError>
     ensures { OnOk result (out.new.items ≡ out.old.items ++ flat_map (dot height) points.now) }
 {

@@ -16,7 +16,7 @@ fn unfilled() -> &'static [u8]
     b" fill=\"none\" stroke=\"black\"/>\n"
 }
 
-// Appends the rectangles of all vertices to `out`, in the picture of a drawing of this `height`.
+// Appends the rectangles of all vertices to `out`. The drawing is `height` high, and y goes down in its picture.
 fn push_tiles(
     out: &mut Vec<u8>,
     lists: &Rotations,

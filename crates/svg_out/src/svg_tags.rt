@@ -15,7 +15,7 @@ fn push_number(out: &mut Vec<u8>, number: i64) -> Result<(), AllocError>
     out.extend_from_slice(buffer.format(number).as_bytes())
 }
 
-// Appends the SVG attribute `name` with this number to `out`, after a space.
+// Appends the SVG attribute `name` with the value `number` to `out`, after a space.
 fn push_attribute(out: &mut Vec<u8>, name: &[u8], number: i64) -> Result<(), AllocError>
     ensures { OnOk result (out.new.items ≡ out.old.items ++ attribute name.now number) }
 {
@@ -34,14 +34,15 @@ pub(crate) fn across(x: i32) -> i64
     10 * i64::from(x)
 }
 
-/// Converts the coordinate `y` of a figure of this `height` to that of the picture, in which y goes down.
+/// Converts the coordinate `y` of a figure that is `height` high to that of the picture, ten times as large and counted
+/// downwards.
 pub(crate) fn down(height: i32, y: i32) -> i64
     ensures { result ≡ far_down height y }
 {
     10 * (i64::from(height) - i64::from(y))
 }
 
-/// Returns the distance from `p` to `q` in the picture.
+/// Returns the distance in the picture from the coordinate `p` of a figure to `q`: ten times as large.
 pub(crate) fn extent(p: i32, q: i32) -> i64
     ensures { result ≡ the_extent p q }
 {
@@ -92,7 +93,7 @@ pub(crate) fn push_segment(
     Ok(())
 }
 
-/// Appends the SVG dot of a vertex to `out`, in the picture of a drawing of this `height`.
+/// Appends the SVG dot of the vertex at `point` to `out`. The drawing is `height` high, and y goes down in its picture.
 pub(crate) fn push_dot(out: &mut Vec<u8>, height: i32, point: Point) -> Result<(), AllocError>
     ensures { OnOk result (out.new.items ≡ out.old.items ++ dot height point) }
 {
@@ -103,7 +104,8 @@ pub(crate) fn push_dot(out: &mut Vec<u8>, height: i32, point: Point) -> Result<(
     Ok(())
 }
 
-// Returns the size of the picture, with its margin, of a figure of this `size` in one direction.
+// Returns the size of the picture, with its margin of 10 on both sides, of a figure that is `size` long in that
+// direction.
 fn with_margin(size: i32) -> i64
     ensures { result ≡ pos 10 *ℤ size +ℤ pos 20 }
 {
@@ -117,7 +119,7 @@ fn front() -> &'static [u8]
     b"<svg xmlns=\"http://www.w3.org/2000/svg\" viewBox=\"-10 -10 "
 }
 
-/// Appends the first line of the picture of a figure of this width and height to `out`.
+/// Appends the opening tag of the picture of a figure to `out`. The figure is `width` wide and `height` high.
 pub(crate) fn push_opening(out: &mut Vec<u8>, width: i32, height: i32) -> Result<(), AllocError>
     ensures { OnOk result (out.new.items ≡ out.old.items ++ opening width height) }
 {

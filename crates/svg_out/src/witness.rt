@@ -7,7 +7,7 @@ use graph6_text::Graph;
 use kuratowski::Witness;
 use std::alloc::{AllocError, Global};
 
-// Returns the text of `witness` with this number, and with the line of `graph`, in a comment.
+// Returns the text of `witness` as figure `number`, with the graph6 line of `graph`, as an SVG comment.
 fn comment(
     alloc: Global,
     number: u32,

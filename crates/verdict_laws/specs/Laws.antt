@@ -33,6 +33,7 @@ use Rattle.verdict_laws.specs.AtMostOne.{AtMostOne}
 abbrev pub OneVerdict : Type 0
 OneVerdict = (lists : Lists) (points : List Point) (width height : ℤ) → AtMostOne Verdict (IsVerdict lists points width height)
 
+-- The outer face of a drawing has at most one verdict.
 abbrev pub OneOuterVerdict : Type 0
 OneOuterVerdict = (lists : Lists) (points : List Point) (base : Dart) → AtMostOne OuterVerdict (IsOuterVerdict lists points base)
 
@@ -60,8 +61,10 @@ OneFigureVerdict = (figure : Figure) → AtMostOne FigureVerdict (IsFigureVerdic
 abbrev pub OneBreak : Type 0
 OneBreak = (least : ℕ) (lists : Lists) → AtMostOne Refusal (BreaksFirst least lists)
 
+-- Lists break at most one condition on three-connected maps first.
 abbrev pub OneConvexBreak : Type 0
 OneConvexBreak = (lists : Lists) → 0 < length lists → AtMostOne Refusal (BreaksConvex lists)
 
+-- Lists break at most one condition on maps with rectangular duals first.
 abbrev pub OneRectBreak : Type 0
 OneRectBreak = (lists : Lists) → 0 < length lists → AtMostOne Refusal (BreaksRect lists)

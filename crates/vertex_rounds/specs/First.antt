@@ -25,7 +25,7 @@ abbrev pub IsFirstOrNone : Map → (DartId → Bool → Type 0) → ℕ → Opti
 IsFirstOrNone map says from None = (v u : ℕ) → from ≤ v → Fails map says v u
 IsFirstOrNone map says from (Some dart) = IsFirst map says from dart.0.0 dart.1.0
 
--- what a search for the first dart answers
+-- `found` is the first dart, of those with a tail from `from` on, at which the test passes, or None where there is none
 pub record FindsFirst (map : Map) (says : DartId → Bool → Type 0) (from : ℕ) (found : Option (VertexId × VertexId)) : Type 0 where
   pub first : IsFirstOrNone map says from found
 
@@ -34,24 +34,24 @@ abbrev pub IsLeastOrNone : Map → (DartId → Bool → Type 0) → ℕ → Opti
 IsLeastOrNone map says v None = (u : ℕ) → Fails map says v u
 IsLeastOrNone map says v (Some u) = Passes map says v u.0 × ((t : ℕ) → t < u.0 → Fails map says v t)
 
--- what a search of the darts from one vertex answers
+-- `found` is the least head of a dart from v at which the test passes, or None where there is none
 pub record FindsLeast (map : Map) (says : DartId → Bool → Type 0) (v : ℕ) (found : Option VertexId) : Type 0 where
   pub least : IsLeastOrNone map says v found
 
--- just one dart from v passes; or none, or two
+-- true: the test passes at exactly one dart from v; false: at none, or at two or more
 abbrev pub PassesOnce : Map → (DartId → Bool → Type 0) → ℕ → Bool → Type 0
 PassesOnce map says v true = (u : ℕ) × Passes map says v u × ((w : ℕ) → w ≢ u → Fails map says v w)
 PassesOnce map says v false = ((u : ℕ) → Fails map says v u) ⊎ ((u : ℕ) × (w : ℕ) × (u ≢ w) × Passes map says v u × Passes map says v w)
 
--- what a round of v answers
+-- a round of the darts from v answers whether the test passes at exactly one of them
 pub record IsPassedOnce (map : Map) (says : DartId → Bool → Type 0) (v : ℕ) (result : Bool) : Type 0 where
   pub passed : PassesOnce map says v result
 
--- the same where v has two neighbours at least
+-- like `PassesOnce`, but true says nothing where v has fewer than two neighbours, and false says that it has at least two
 abbrev pub PassesOnceOfTwo : Map → (DartId → Bool → Type 0) → ℕ → Bool → Type 0
 PassesOnceOfTwo map says v true = 2 ≤ length (list_of map.lists v) → PassesOnce map says v true
 PassesOnceOfTwo map says v false = (2 ≤ length (list_of map.lists v)) × PassesOnce map says v false
 
--- what a round of v answers then
+-- a round of the darts from v answers `PassesOnceOfTwo`
 pub record TurnsOnce (map : Map) (says : DartId → Bool → Type 0) (v : ℕ) (result : Bool) : Type 0 where
   pub once : PassesOnceOfTwo map says v result

@@ -51,7 +51,7 @@ fn turns_round<F: Fn(DartId) -> bool>(map: &HalfMap, test: &F, v: VertexId, firs
 
 /// Says whether exactly one dart from `v` passes the test, or `v` has fewer than two neighbours.
 ///
-/// Where the test says that an entry of the list of `v` does not come before the next one, cyclically, in some order,
+/// Let the test say that an entry of the list of `v` does not come before the next one, cyclically, in some order. Then
 /// this is whether the list goes once round in that order.
 pub fn turns_once<F: Fn(DartId) -> bool>(map: &HalfMap, v: VertexId, test: F) -> bool
     requires vertex { v.0 < length map.now.lists }

@@ -14,7 +14,7 @@ pub record AreBarsOf (map : Map) (rank : List ℕ) (st : ℕ) (fig : BarFigure) 
   pub drawn : (s t : ℕ) → dart_at map st ≡ Some (s, t) → (columns : List ℕ) × AreDualNumbers map.lists rank s t columns × IsDrawnBy map.lists rank columns fig
   pub valid : IsValidBars map.lists fig (pos (face_count map.lists - 1))
 
--- the same for the ranks of some st-order
+-- `AreBarsOf` for the ranks of some st-order
 abbrev pub AreBarsFor : Map → ℕ → BarFigure → Type 0
 AreBarsFor map st fig =
     (s t : ℕ) → dart_at map st ≡ Some (s, t) → (at : List ℕ) × (rank : List ℕ) × IsStOrder map.lists s t at rank × AreBarsOf map rank st fig

@@ -33,7 +33,7 @@ pub record IsSearchFrom (lists : Lists) (t : ℕ) (order number last parent low 
   pub first : slice_index number 0 ≡ 0
   pub second : slice_index number t ≡ 1
 
--- such a search of a connected map without cut vertices
+-- a search from vertex 0 that sees t next, of a connected map without cut vertices
 pub record IsUncutSearch (lists : Lists) (t : ℕ) (order number last parent low : List ℕ) : Type 0 where
   pub connected : component_count lists ≡ 1
   pub uncut : (v : ℕ) → ¬ IsCutVertex lists v

@@ -27,7 +27,7 @@ pub record IsFilledTo (lists rows : Lists) (b i : ℕ) (starts columns : List �
   pub same : (a : ℕ) → a < b → slice_index starts a ≡ slice_index places a
   pub vertices : length starts ≡ length lists
 
--- the same with the numbers as whole ones
+-- `IsFilledTo`, with the numbers of the columns as integers
 pub record AreFilledTo (lists rows : Lists) (b i : ℕ) (starts : List ℕ) (columns : List ℤ) : Type 0 where
   pub numbers : List ℕ
   pub are : columns ≡ map pos numbers

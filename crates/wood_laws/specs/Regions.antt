@@ -6,7 +6,7 @@ use Rattle.map_theory.specs.Maps.{Dart, HasDart, follows}
 use Rattle.wood_runs.specs.Parents.{Colour, next, previous}
 use Rattle.wood_laws.specs.Woods.{root, IsInner, LeadsBy}
 
--- w is on the path of a colour from v: so many steps to the parent lead there
+-- w is on the path of a colour from v: steps to the parent, each from an inner vertex, lead there
 abbrev pub IsOnPath : Lists → Dart → (Colour → ℕ → ℕ) → Colour → ℕ → ℕ → Type 0
 IsOnPath lists base parent c v w = (d : ℕ) × LeadsBy lists base (parent c) d v w
 
@@ -26,12 +26,13 @@ pub data GoesOn (lists : Lists) (base : Dart) (parent : Colour → ℕ → ℕ) 
   over : x' ≡ y → y' ≡ x → IsBoundaryEdge lists base parent c v x y → odd' ≡ not odd → GoesOn lists base parent c v x y odd x' y' odd'
   past : x' ≡ y → y' ≡ x → ¬ IsBoundaryEdge lists base parent c v x y → odd' ≡ odd → GoesOn lists base parent c v x y odd x' y' odd'
 
--- a chain of so many moves leads from the outer face, which lies left of the base, to the face left of (x, y)
+-- a chain of k moves leads from the outer face, which lies left of the base, to the face left of (x, y)
 abbrev pub ReachesBy : Lists → Dart → (Colour → ℕ → ℕ) → Colour → ℕ → ℕ → ℕ → ℕ → Bool → Type 0
 ReachesBy lists base parent c v zero x y odd = (x ≡ base.0) × (y ≡ base.1) × (odd ≡ false)
 ReachesBy lists base parent c v (suc k) x y odd =
     (x' : ℕ) × (y' : ℕ) × (odd' : Bool) × ReachesBy lists base parent c v k x' y' odd' × GoesOn lists base parent c v x' y' odd' x y odd
 
+-- `ReachesBy`, for a chain of any length
 abbrev pub Reaches : Lists → Dart → (Colour → ℕ → ℕ) → Colour → ℕ → ℕ → ℕ → Bool → Type 0
 Reaches lists base parent c v x y odd = (k : ℕ) × ReachesBy lists base parent c v k x y odd
 

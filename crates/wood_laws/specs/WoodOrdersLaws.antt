@@ -17,7 +17,7 @@ abbrev pub ArrangedIsOrder : Type 0
 ArrangedIsOrder =
     (lists : Lists) (base : Dart) (parent : Colour → ℕ → ℕ) (at : List ℕ) → IsTriangulation lists → HasDart lists base.0 base.1 → IsWood lists base parent → IsArranged lists base parent at → IsCanonicalOrder lists base at
 
--- And the parents of the wood are those of each run of that order.
+-- The parents of a wood are those of each run of the canonical order in which the vertices are arranged as the wood has them.
 abbrev pub ParentsOfArranged : Type 0
 ParentsOfArranged =
     (lists : Lists) (base : Dart) (parent : Colour → ℕ → ℕ) (at : List ℕ) (steps : ℕ → Step) → IsTriangulation lists → HasDart lists base.0 base.1 → IsWood lists base parent → IsArranged lists base parent at → (order : IsCanonicalOrder lists base at) → IsOrderRun lists base at order.cycle steps → AreParentsOf at steps parent
@@ -27,7 +27,7 @@ abbrev pub SomeArranged : Type 0
 SomeArranged =
     (lists : Lists) (base : Dart) (parent : Colour → ℕ → ℕ) → IsTriangulation lists → HasDart lists base.0 base.1 → IsWood lists base parent → (at : List ℕ) × IsArranged lists base parent at
 
--- So each wood is the wood of a canonical order.
+-- Each wood is the wood of a canonical order.
 abbrev pub OrderOfWood : Type 0
 OrderOfWood =
     (lists : Lists) (base : Dart) (parent : Colour → ℕ → ℕ) → IsTriangulation lists → HasDart lists base.0 base.1 → IsWood lists base parent → (at : List ℕ) × IsWoodOfOrder lists base at parent
@@ -43,7 +43,7 @@ abbrev pub NestedInWood : Type 0
 NestedInWood =
     (lists : Lists) (base : Dart) (parent : Colour → ℕ → ℕ) (c : Colour) (u v w : ℕ) → IsTriangulation lists → HasDart lists base.0 base.1 → IsWood lists base parent → IsInner lists base u → IsInner lists base v → IsInRegion lists base parent c u v → IsInRegion lists base parent c v w → IsInRegion lists base parent c u w
 
--- Each inner vertex has three coordinates: by so many vertices a region has more than the path of the colour before, and together they are one less than the vertices.
+-- Each inner vertex has a coordinate for each colour: how many more vertices its region has than the path of the colour before. The three together are one less than the number of vertices.
 abbrev pub CoordinatesInWood : Type 0
 CoordinatesInWood =
     (lists : Lists) (base : Dart) (parent : Colour → ℕ → ℕ) (v : ℕ) → IsTriangulation lists → HasDart lists base.0 base.1 → IsWood lists base parent → IsInner lists base v → (x : ℕ) × (y : ℕ) × (z : ℕ) × AreCoordinates lists base parent v x y z

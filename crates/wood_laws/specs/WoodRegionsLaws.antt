@@ -31,11 +31,12 @@ abbrev pub RegionsNested : Type 0
 RegionsNested =
     (lists : Lists) (base : Dart) (at : List ℕ) (parent : Colour → ℕ → ℕ) (c : Colour) (u v w : ℕ) → IsTriangulation lists → IsWoodOfOrder lists base at parent → IsInner lists base u → IsInner lists base v → IsInRegion lists base parent c u v → IsInRegion lists base parent c v w → IsInRegion lists base parent c u w
 
--- By so many vertices a region has more than the path of the colour before: the coordinate of this colour, of which the three are one less than the vertices.
+-- The coordinate k of v for this colour is how many more vertices its region has than the path of the colour before.
 abbrev pub IsCoordinate : Lists → Dart → (Colour → ℕ → ℕ) → Colour → ℕ → ℕ → Type 0
 IsCoordinate lists base parent c v k =
     (r d : ℕ) → IsRegionCount lists base parent c v r → LeadsBy lists base (parent (previous c)) d v (root lists base (previous c)) → r ≡ k + suc d
 
+-- x, y and z are the coordinates of v for the three colours; their sum is one less than the number of vertices
 pub record AreCoordinates (lists : Lists) (base : Dart) (parent : Colour → ℕ → ℕ) (v x y z : ℕ) : Type 0 where
   pub first : IsCoordinate lists base parent one v x
   pub second : IsCoordinate lists base parent two v y
@@ -50,6 +51,7 @@ pub record StandsAtCoordinates (lists : Lists) (base : Dart) (parent : Colour �
   pub coordinates : AreCoordinates lists base parent v x y z
   pub place_is : place points v ≡ record { x = pos x; y = pos y }
 
+-- In a drawing of a triangulation by Schnyder's coordinates each inner vertex stands at its coordinates.
 abbrev pub DrawnAtCoordinates : Type 0
 DrawnAtCoordinates =
     (lists : Lists) (base : Dart) (at : List ℕ) (parent : Colour → ℕ → ℕ) (points : List Point) (v : ℕ) → IsTriangulation lists → (order : IsCanonicalOrder lists base at) → (drawn : AreWoodPoints lists base at order.cycle points) → AreParentsOf at drawn.steps parent → IsInner lists base v → StandsAtCoordinates lists base parent points v

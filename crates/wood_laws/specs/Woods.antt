@@ -18,7 +18,7 @@ root lists base three = follows lists base.1 base.0
 abbrev pub IsInner : Lists → Dart → ℕ → Type 0
 IsInner lists base v = (v < length lists) × ((c : Colour) → v ≢ root lists base c)
 
--- so many steps to the parent, each from an inner vertex, lead from v to w
+-- a number of steps to the parent, each from an inner vertex, lead from v to w
 abbrev pub LeadsBy : Lists → Dart → (ℕ → ℕ) → ℕ → ℕ → ℕ → Type 0
 LeadsBy lists base up zero v w = v ≡ w
 LeadsBy lists base up (suc d) v w = IsInner lists base v × LeadsBy lists base up d (up v) w

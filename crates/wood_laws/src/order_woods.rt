@@ -2,9 +2,9 @@
 
 ghost use Rattle.wood_laws.specs.Woods.{WoodOfOrder};
 
-/// The parents of the run of a canonical order are a wood of the map: three for each vertex but the roots, by
-/// different edges; none of them the root of another colour; never back to a vertex by one colour; and round
-/// each such vertex in their order.
+/// States the law that the parents of the run of a canonical order are a wood of the map. Each vertex but the roots has
+/// three, by different edges, none of them the root of another colour. They never lead back to a vertex by one colour,
+/// and stand in order round each such vertex.
 pub fn wood_of_order()
     ensures { WoodOfOrder }
 {}

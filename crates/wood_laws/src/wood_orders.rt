@@ -3,25 +3,26 @@
 
 ghost use Rattle.wood_laws.specs.WoodOrdersLaws.{ArrangedIsOrder, CoordinatesInWood, InsideOfWood, NestedInWood, OrderOfWood, ParentsOfArranged, SomeArranged};
 
-/// Let all vertices stand in a list, roots one and two first and root three last, such that each inner vertex has
-/// its parents of colours one and two before it and that of colour three after it: the list is a canonical order.
+/// States the law that a list of all vertices, roots one and two first and root three last, is a canonical order if its
+/// parents stand as follows. For each inner vertex those of colours one and two come before it, and that of colour
+/// three after it.
 pub fn arranged_is_order()
     ensures { ArrangedIsOrder }
 {}
 
-/// For each Schnyder wood the vertices can be listed so that each inner vertex has its parents of colours one and two
-/// before it and that of colour three after it.
+/// States the law that for each Schnyder wood the vertices can be listed as follows. Each inner vertex has its parents
+/// of colours one and two before it, and that of colour three after it.
 pub fn some_arranged()
     ensures { SomeArranged }
 {}
 
-/// A list of the vertices in which a Schnyder wood's parents stand so, two before and one after, has exactly these
-/// parents as the wood of its order.
+/// States the law on a list in which a Schnyder wood's parents stand so, two before each inner vertex and one after.
+/// The wood of this order has exactly these parents.
 pub fn parents_of_arranged()
     ensures { ParentsOfArranged }
 {}
 
-/// Each Schnyder wood is the wood of a canonical order.
+/// States the law that each Schnyder wood is the wood of a canonical order.
 pub fn order_of_wood()
     ensures { OrderOfWood }
 {
@@ -31,8 +32,8 @@ pub fn order_of_wood()
     order_drawings::order_runs::order_is_run();
 }
 
-/// Whether a face lies inside the closed path of a region does not depend on the chain of faces that leads to
-/// it from the outer face; and some chain leads to each face.
+/// States the law that a face lies inside the closed path of a region, or not, whatever chain of faces leads to it from
+/// the outer face. Some chain leads to each face.
 pub fn inside_of_wood()
     ensures { InsideOfWood }
 {
@@ -40,7 +41,8 @@ pub fn inside_of_wood()
     crate::wood_regions::inside_is_known();
 }
 
-/// Where an inner vertex lies in a region of another, its own region of that colour is part of that region.
+/// States the law that where an inner vertex lies in a region of another, its own region of that colour is part of that
+/// region.
 pub fn nested_in_wood()
     ensures { NestedInWood }
 {
@@ -48,8 +50,8 @@ pub fn nested_in_wood()
     crate::wood_regions::regions_nested();
 }
 
-/// By each of its three coordinates the region of an inner vertex has more vertices than the path of the colour
-/// before, and together they are one less than the vertices.
+/// States the law that an inner vertex has a coordinate for each colour: how many more vertices its region has than its
+/// path of the colour before. The three together are one less than the number of vertices.
 pub fn coordinates_in_wood()
     ensures { CoordinatesInWood }
 {

@@ -4,19 +4,21 @@
 
 ghost use Rattle.wood_laws.specs.WoodRegionsLaws.{InsideIsKnown, RegionsNested, DrawnAtCoordinates};
 
-/// Whether a face lies inside the closed path of a region does not depend on the chain of faces that leads to
-/// it from the outer face; and some chain leads to each face.
+/// States the law that a face lies inside the closed path of a region, or not, whatever chain of faces leads to it from
+/// the outer face. Some chain leads to each face.
 pub fn inside_is_known()
     ensures { InsideIsKnown }
 {}
 
-/// Where an inner vertex lies in a region of another, its own region of that colour is part of that region.
+/// States the law that where an inner vertex lies in a region of another, its own region of that colour is part of that
+/// region.
 pub fn regions_nested()
     ensures { RegionsNested }
 {}
 
-/// An inner vertex stands in the drawing by Schnyder's coordinates where its regions and paths have it. Region c has by
-/// coordinate c more vertices than the path of the colour before. The three are together one less than the vertices.
+/// States the law that an inner vertex stands in the drawing by Schnyder's coordinates where its regions and paths have
+/// it. Its coordinate c is how many more vertices region c has than the path of the colour before. The three together
+/// are one less than the number of vertices.
 pub fn drawn_at_coordinates()
     ensures { DrawnAtCoordinates }
 {}

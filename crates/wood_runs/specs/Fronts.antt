@@ -6,6 +6,7 @@ use Rattle.contour_runs.specs.Runs.{Step, Stage, stage_after}
 unfoldable pub front_after : Step → ℕ → (ℕ → ℕ) → ℕ → ℕ
 front_after s new front i = if nat_lt i s.first then front i else if i == s.first then new else if i == suc s.first then suc new else front (i + s.last - (s.first + 2))
 
+-- the face that lies before each edge of the contour, after the first k steps
 abbrev pub fronts : (ℕ → Step) → ℕ → ℕ → ℕ
 fronts steps zero = λ i. 0
 fronts steps (suc k) = front_after (steps k) (2 * k + 1) (fronts steps k)
@@ -21,6 +22,7 @@ shade_after g s new front shade v f =
     else if nat_lt f new then if shade (g.vertex s.first) f == 2 then 2 else if shade (g.vertex s.last) f == 1 then 1 else 3
     else if f == new then 2 else 1
 
+-- the shade of each face for each vertex, after the first k steps
 abbrev pub shades : (ℕ → Step) → ℕ → ℕ → ℕ → ℕ
 shades steps zero = λ v f. if v == 0 then 1 else 2
 shades steps (suc k) = shade_after (stage_after steps k) (steps k) (2 * k + 1) (fronts steps k) (shades steps k)

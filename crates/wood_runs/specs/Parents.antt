@@ -8,11 +8,13 @@ pub data Colour : Type 0 where
   two : Colour
   three : Colour
 
+-- the colour after one, cyclically
 abbrev pub next : Colour → Colour
 next one = two
 next two = three
 next three = one
 
+-- the colour before one, cyclically
 abbrev pub previous : Colour → Colour
 previous one = three
 previous two = one
@@ -39,6 +41,7 @@ pub record IsParentThree (steps : ℕ → Step) (n v w : ℕ) : Type 0 where
   pub covered : IsCovered steps step v
   pub parent : w ≡ step + 2
 
+-- w is the parent of v of a colour
 abbrev pub IsParent : Colour → (ℕ → Step) → ℕ → ℕ → ℕ → Type 0
 IsParent one = IsParentOne
 IsParent two = IsParentTwo

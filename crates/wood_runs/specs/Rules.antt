@@ -22,6 +22,6 @@ pub record IsOrdered (steps : ℕ → Step) (n v u w : ℕ) : Type 0 where
   pub second_end : IsEnd second steps n v w
   pub follow : MayFollow first second
 
--- So it is at each corner of each vertex that is not one of the base.
+-- At each corner of each vertex that is not one of the base, the two edges have a colour and follow one another as the rule has it.
 abbrev pub CornersOrdered : Type 0
 CornersOrdered = (steps : ℕ → Step) (n v u w : ℕ) → IsRun steps n → 2 ≤ v → IsCorner steps n v u w → IsOrdered steps n v u w

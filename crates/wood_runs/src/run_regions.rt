@@ -5,7 +5,8 @@
 
 ghost use Rattle.wood_runs.specs.Laws.{RegionsNested};
 
-/// Where a vertex lies in a region of another, its own region of that colour is part of that region.
+/// States the law that where a vertex lies in a region of another, its own region of that colour is part of that
+/// region.
 pub fn regions_nested()
     ensures { RegionsNested }
 {}

@@ -4,9 +4,10 @@
 
 ghost use Rattle.wood_runs.specs.Rules.{CornersOrdered};
 
-/// Law: in the Schnyder wood of a construction sequence the edges come round each vertex counterclockwise thus. The
-/// parent of colour one, the children of colour three, the parent of colour two, the children of colour one, the
-/// parent of colour three, the children of colour two. It is said of each two consecutive edges.
+/// States the law on the order of edges counterclockwise round each vertex, in the Schnyder wood of a construction
+/// sequence. First are the parent of colour one and the children of colour three, then the parent of colour two and the
+/// children of colour one. Last are the parent of colour three and the children of colour two. It is said of each two
+/// consecutive edges.
 pub fn corners_ordered()
     ensures { CornersOrdered }
 {}

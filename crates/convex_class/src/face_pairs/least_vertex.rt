@@ -59,9 +59,9 @@ impl UncutMap<'_> {
         Ok(best)
     }
 
-    // Returns a vertex before which none is in a separating pair: the least of two vertices with two faces in common,
-    // but along an edge, or else the number of vertices. Each vertex looks at the faces that have no more darts, and
-    // each face at the vertices, so that the time is linear.
+    // Returns a vertex before which none is in a separating pair. It is the least of two vertices with two faces in
+    // common, but along an edge, or else the number of vertices. Each vertex looks at the faces that have no more
+    // darts, and each face at the vertices, so that the time is linear.
     pub(crate) fn least_paired(&self, alloc: Global) -> Result<u16, AllocError>
         ensures { IfOk result (λ least. (u v : ℕ) → IsSeparatingPair self.now.map.now.lists u v → least ≤ u) }
     {

@@ -32,9 +32,9 @@ fn first_dart(map: &HalfMap) -> DartId
 /// The outer face, that of the dart from vertex 0 to the first of its list, is a triangle with flat angles. The grid is
 /// f - 1 by f - 1, for f faces.
 ///
-/// `Err` names the first condition that the lists break, of these in this order: the four faults of a map, each
-/// with the least vertices; fewer than four vertices; a genus above zero; more than one component; a cut vertex,
-/// the least; a separating pair, the least. Or there was not enough memory.
+/// `Err` names the first condition that the lists break, or says that memory ran out. First come the four faults of a
+/// map, each with the least vertices. Then come fewer than four vertices, a genus above zero, more than one component,
+/// a cut vertex, the least, and a separating pair, the least.
 ///
 /// Source: Felsner, Convex drawings of planar graphs and the order dimension of 3-polytopes, 2001.
 pub fn convex_figure(alloc: Global, lists: &Rotations) -> Result<GridFigure, Unserved>

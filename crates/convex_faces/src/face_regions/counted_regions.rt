@@ -65,10 +65,10 @@ impl WoodVertex<'_> {
 
 /// Returns the number of faces in the region of `v` for `axis` of the convex realizer `wood`.
 ///
-/// The region is bounded by a closed path: from the vertex along the next axis to its root, over the outer face to
-/// the root of the axis before without passing that of the axis itself, and back along the axis before. It has the
-/// faces other than the outer one to which chains of faces from there, each sharing an edge with the next, step over
-/// the path an odd number of times. An edge that the path passes twice counts twice.
+/// The region is bounded by a closed path from the vertex along the next axis to its root, over the outer face, and
+/// back along the axis before. The part on the outer face does not pass the root of the axis itself. A face other than
+/// the outer one is inside if a chain of faces from there steps over the path an odd number of times. Each face of a
+/// chain shares an edge with the next. An edge that the path passes twice counts twice.
 ///
 /// Fails only when out of memory. Map and wood stay as they are. The time is linear in the map: a search of its faces.
 ///

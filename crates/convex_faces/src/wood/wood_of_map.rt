@@ -15,16 +15,16 @@ use std::alloc::{AllocError, Global};
 /// Returns a convex realizer of `map`, three-connected and of genus zero, over `base`: three axes along which its edges
 /// lead. The roots of the axes are the base's head and tail, and the vertex before the base on its face, the outer one.
 ///
-/// Each edge is directed one way or both ways, and each direction has an axis, the two of one edge different ones.
-/// Each vertex has one outgoing direction for each axis, but a root has none of its own. Counterclockwise round a
-/// vertex stand the outgoing ones as one, two, three, and those of an axis that enter between the two others. No
-/// inner face has an axis along which all its darts lead.
+/// Each edge is directed one way or both ways, and each direction has an axis, the two of one edge different ones. Each
+/// vertex has one outgoing direction for each axis, but a root has none of its own. Counterclockwise round a vertex
+/// stand the outgoing ones as one, two, three, and those of an axis that enter between the two others. No inner face
+/// has an axis along which all its darts lead.
 ///
-/// Some figure that meets the contract of `convex_draw` for the same map and base is drawn by this wood: its
-/// coordinates are the numbers of faces in the regions of its vertices.
+/// Some figure that meets the contract of `convex_draw` for this map and base is drawn by this wood. Its coordinates
+/// are the numbers of faces in the regions of its vertices.
 ///
-/// It fails only when out of memory. The map stays as it is. The time is linear in the map: the directions are read
-/// off the counts of faces of the convex drawing, one dart after another.
+/// It fails only when out of memory. The map stays as it is. The time is linear in the map: the directions are read off
+/// the face counts of the convex drawing, dart by dart.
 ///
 /// Source: Felsner, Convex drawings of planar graphs and the order dimension of 3-polytopes, 2001.
 pub fn convex_wood(alloc: Global, map: &HalfMap, base: DartId) -> Result<ConvexWood, AllocError>

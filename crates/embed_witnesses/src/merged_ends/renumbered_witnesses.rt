@@ -12,8 +12,9 @@ use kuratowski::Witness;
 use map_lists::Ends;
 use std::alloc::{AllocError, Global};
 
-/// Returns `small`, a witness of the graph with the edge `e` contracted, on the numbers that its vertices had: one of
-/// the graph in which the lesser end has the neighbours of both and the greater none. It fails only when out of memory.
+/// Returns `small`, a witness of the graph with the edge `e` contracted, with the numbers that its vertices had before.
+/// It is one of the graph in which the lesser end has the neighbours of both and the greater none. It fails only when
+/// out of memory.
 pub fn on_old_numbers(
     alloc: Global,
     graph: &Graph,

@@ -18,8 +18,8 @@ use std::sync::ledger::Ledger;
 ///
 /// At most 24 uses of the tree are made for each vertex. It takes no memory and refuses nothing.
 ///
-/// The map and the order stay as they are. The time is linear in the entries of the map: one round of a vertex
-/// finds where the row of the contour begins and ends over which it is put, and the tree is gone along between.
+/// The map and the order stay as they are. The time is linear in the entries of the map. One round of a vertex finds
+/// where the interval of the contour under it begins and ends, and the tree is gone along between.
 ///
 /// Source: Chrobak, Payne, A linear-time algorithm for drawing a planar graph on a grid, 1995.
 pub fn offset_tree<L: Ledger>(

@@ -168,9 +168,9 @@ fn some_if(made: bool, lists: Rotations) -> Option<Rotations>
 /// it. The base of the order goes from vertex 0 to the first of its list, or to its least neighbour in the completion
 /// where the list is empty.
 ///
-/// `Err` names the first condition that the lists break, of these in this order: the four faults of a map,
-/// each with the least vertices; fewer than three vertices; a genus above zero. Or there was not enough
-/// memory. The time is linear in the entries.
+/// `Err` names the first condition that the lists break, or says that memory ran out. First come the four faults of a
+/// map, each with the least vertices. Then come fewer than three vertices, and a genus above zero. The time is linear
+/// in the entries.
 pub fn drawing_order(alloc: Global, lists: &Rotations) -> Result<DrawingOrder, Unserved>
     requires some_list { 0 < length lists.now }
     ensures order { IfOk result (IsDrawingOrder lists.now) }

@@ -101,11 +101,11 @@ impl WoodDrawer {
 /// simple map of genus zero with n >= 3 vertices and 3n - 6 edges.
 ///
 /// It is plane and keeps the rotations, in the grid n - 2 by n - 2. The order's first vertex stands at (n - 2, 1), its
-/// second at (0, n - 2) and its last at (1, 0); of all faces that of the base alone is drawn clockwise.
+/// second at (0, n - 2) and its last at (1, 0). Of all faces that of the base alone is drawn clockwise.
 ///
-/// It fails only when out of memory. The map and the order stay as they are. The time is linear in the
-/// vertices: a vertex is put over a row of the contour, which gives how far what it covers stands from it, and
-/// these differences are added up in the end.
+/// It fails only when out of memory. The map and the order stay as they are. The time is linear in the vertices. A
+/// vertex is put over an interval of the contour, which gives how far what it covers stands from it. These differences
+/// are added up in the end.
 ///
 /// Source: Schnyder, Embedding planar graphs on the grid, 1990.
 pub fn wood_draw(alloc: Global, tri: &HalfMap, order: &Order) -> Result<GridFigure, AllocError>

@@ -35,9 +35,9 @@ fn end_fault(begun: Option<Begun>, line: u32) -> TextFault
 
 /// Reads the item at offset `at` of a text, which is at most its length and begins line number `line`, counted from 1.
 ///
-/// Each line is judged as it is closed. A closed line of another shape than the one that is due is a
-/// `BadLine`, and so is a line outside a figure that is not closed; a line of the due shape with a number
-/// outside its range is a `Limit`; where the text ends inside a figure, the answer is `EndInFigure`.
+/// Each line is judged as it is closed. A closed line of another shape than the one that is due is a `BadLine`, and so
+/// is a line outside a figure that is not closed. A line of the due shape with a number outside its range is a `Limit`.
+/// Where the text ends inside a figure, the answer is `EndInFigure`.
 pub fn read_figure(alloc: Global, bytes: &[u8], at: usize, line: u32) -> Result<Item, TextFault>
     requires within { at ≤ length bytes.now }
     requires few { line ≤ 16777217 }

@@ -53,7 +53,7 @@ impl Method for Bars {
         self.drawer.keep(figure);
     }
 
-    // Does nothing but call the laws of the job's class.
+    // Does nothing but call laws of the job's class. Its contract is that the job is lawful.
     fn lawful() {
         conn_parts::biconnected_maps::biconnected_break_nothing();
         verdict_laws::one_break();

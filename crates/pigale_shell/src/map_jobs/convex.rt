@@ -51,10 +51,10 @@ impl Method for Convex {
             .print_grid(given, GridJob::Convex, &figure.points, out)
     }
 
-    // Drops the figure.
+    // Drops the figure, whose memory is not used again.
     fn keep(&mut self, _figure: GridFigure) {}
 
-    // Does nothing but call the laws of the job's class.
+    // Does nothing but call laws of the job's class. Its contract is that the job is lawful.
     fn lawful() {
         convex_class::convex_maps::three_connected_break_nothing();
         verdict_laws::one_convex_break();

@@ -48,10 +48,10 @@ impl Method for Rect {
         self.printer.print_rects(given, figure, out)
     }
 
-    // Drops the figure.
+    // Drops the figure, whose memory is not used again.
     fn keep(&mut self, _figure: RectFigure) {}
 
-    // Does nothing but call the laws of the job's class.
+    // Does nothing but call laws of the job's class. Its contract is that the job is lawful.
     fn lawful() {
         rect_class::biconnected_break_nothing();
         verdict_laws::one_rect_break();

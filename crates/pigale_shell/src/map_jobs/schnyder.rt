@@ -56,6 +56,6 @@ impl Method for Schnyder {
         self.drawer.keep_schnyder(figure);
     }
 
-    // Does nothing.
+    // Does nothing. Its contract, that the job is lawful, is proved without a further law.
     fn lawful() {}
 }

@@ -30,13 +30,13 @@ fn first_dart(map: &HalfMap) -> DartId
 /// they fill one of at most n - 2 by n - 2, and two share a side exactly where their vertices are adjacent. The outer
 /// face, that of vertex 0's first dart, is walked by the left, the upper, the right and the lower rectangle.
 ///
-/// `Err` names the first condition that the lists break, of these in this order: the four faults of a map, each
-/// with the least vertices; fewer than three vertices; a genus above zero; more than one component; a cut vertex,
-/// the least; an outer face that is no quadrangle; another that is no triangle, with its least dart; three edges that
-/// bound no face, with the least vertices; no vertex inside. Or there was not enough memory.
+/// `Err` names the first condition that the lists break, or says that memory ran out. First come the four faults of a
+/// map, each with the least vertices. Then come fewer than three vertices, a genus above zero, more than one component,
+/// and a cut vertex, the least. After these come an outer face that is no quadrangle, and another that is no triangle,
+/// with its least dart. Last come three edges that bound no face, with the least vertices, and no vertex inside.
 ///
-/// Source: Kant, He, Regular edge labeling of 4-connected plane graphs and its applications in graph drawing
-/// problems, 1997.
+/// Source: Kant, He, Regular edge labeling of 4-connected plane graphs and its applications in graph drawing problems,
+/// 1997.
 pub fn rect_figure(alloc: Global, lists: &Rotations) -> Result<RectFigure, Unserved>
     requires some_list { 0 < length lists.now }
     ensures figure { IfOk result (IsRectFigure lists.now) }

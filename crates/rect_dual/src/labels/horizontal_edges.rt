@@ -14,7 +14,7 @@ pub(crate) struct RunTables {
     ghost size: { vec_len left ≡ vec_len first },
 }
 
-// Fills both tables, which are zeros at first, from the rows and their turns.
+// Fills the tables `first` and `left`, which are zeros before, from the rows and turns of `turned`.
 fn fill_tables(first: &mut [u32], left: &mut [u32], turned: &TurnedRows<'_>)
     requires first { length first.old ≡ length turned.now.rows.now + 3 }
     requires left { length left.old ≡ length turned.now.rows.now + 3 }
@@ -31,7 +31,8 @@ fn fill_tables(first: &mut [u32], left: &mut [u32], turned: &TurnedRows<'_>)
     }
 }
 
-/// Returns the tables of a run with these rows and turns. It fails only when out of memory.
+/// Returns the tables that tell horizontal edges from vertical ones, made from the rows and turns of `turned`. It fails
+/// only when out of memory.
 pub(crate) fn run_tables(alloc: Global, turned: &TurnedRows<'_>) -> Result<RunTables, AllocError>
     ensures first { IfOk result (λ tables. length tables.first.items ≡ length turned.now.rows.now + 3) }
     ensures left { IfOk result (λ tables. length tables.left.items ≡ length turned.now.rows.now + 3) }

@@ -38,7 +38,7 @@ impl Model for Labelling {
 }
 
 impl Labelling {
-    /// Returns the number of ids that have a label: those with lesser numbers. It takes no memory.
+    /// Returns how many ids have a label: all below this number. It takes no memory.
     pub fn len(&self) -> usize
         ensures { result ≡ length self.now }
     {

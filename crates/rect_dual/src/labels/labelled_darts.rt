@@ -11,14 +11,14 @@ use half_edges::{Counts, DartId, HalfMap, VertexId};
 use rect_orders::rect_order::Frame;
 use std::alloc::{AllocError, Global};
 
-// Says whether `u` is `a` and `v` is `b`.
+// Says whether (`u`, `v`) is (`a`, `b`).
 fn are(u: VertexId, v: VertexId, a: VertexId, b: VertexId) -> bool
     ensures { IsTrue result ↔ ((u.0 ≡ a.0) × (v.0 ≡ b.0)) }
 {
     u.0 == a.0 && v.0 == b.0
 }
 
-// Says whether `v` comes directly after `u` along the outer face.
+// Says whether `v` comes directly after `u` along the outer face, whose vertices are those of `frame`.
 fn is_side(frame: &Frame, u: VertexId, v: VertexId) -> bool
     ensures { IsTrue result ↔ IsSide frame.now.left.0 frame.now.top.0 frame.now.right.0 frame.now.bottom.0 u.0 v.0 }
 {
@@ -27,7 +27,7 @@ fn is_side(frame: &Frame, u: VertexId, v: VertexId) -> bool
             || (are(u, v, frame.right, frame.bottom) || are(u, v, frame.bottom, frame.left)))
 }
 
-// Says whether `u` and `v` are the ends of an edge of the outer face.
+// Says whether `u` and `v` are the ends of an edge of the outer face, whose vertices are those of `frame`.
 fn is_frame_edge(frame: &Frame, u: VertexId, v: VertexId) -> bool
     ensures { IsTrue result ↔ IsFrameEdge frame.now.left.0 frame.now.top.0 frame.now.right.0 frame.now.bottom.0 u.0 v.0 }
 {
@@ -35,7 +35,7 @@ fn is_frame_edge(frame: &Frame, u: VertexId, v: VertexId) -> bool
 }
 
 impl RunTables {
-    // Says whether the edge from rank `i` to the later rank `j` is horizontal.
+    // Says whether the edge from rank `i` to the later rank `j` is horizontal, which is called a run.
     fn is_run_to(&self, i: u32, j: u32) -> bool
         requires first { j < length self.now.first.items }
         requires left { i < length self.now.left.items }
@@ -78,7 +78,8 @@ pub(crate) struct Ranked<'a> {
 }
 
 impl Ranked<'_> {
-    // Returns the label of the dart `d`, or `Frame` where no dart has this id.
+    // Returns the label of the dart `d`: how its edge stands at its tail, or `Frame` on the outer face. For an id of no
+    // dart it returns `Frame` too.
     fn dart_label(&self, d: DartId) -> Label
         ensures { (u v : ℕ) → dart_at self.now.map.now d.0 ≡ Some (u, v) → IsLabelOf self.now.frame.now.left.0 self.now.frame.now.top.0 self.now.frame.now.right.0 self.now.frame.now.bottom.0
             (end_by self.now.tables.now.first.items self.now.tables.now.left.items self.now.ranks.now) u v result }
@@ -96,7 +97,8 @@ impl Ranked<'_> {
             .inner_label(self.ranks.get(u.0 as usize), self.ranks.get(v.0 as usize))
     }
 
-    // Returns the labels of all ids. It fails only when out of memory.
+    // Returns a table with the label of each dart, at the number of its id. At other ids it has `Frame`. It fails only
+    // when out of memory.
     pub(crate) fn dart_labels(&self, alloc: Global) -> Result<Vec<Label>, AllocError>
         ensures count { IfOk result (λ labels. length labels.items ≡ id_bound self.now.map.now) }
         ensures labels { IfOk result (λ labels. AreLabelsOf self.now.map.now self.now.frame.now.left.0 self.now.frame.now.top.0 self.now.frame.now.right.0 self.now.frame.now.bottom.0

@@ -44,16 +44,16 @@ fn framed(alloc: Global, map: &HalfMap, frame: Frame) -> Result<Labelling, Alloc
 }
 
 /// Returns an edge labelling of a map of the class of the job `rect`, whose outer face is that of the base dart. Each
-/// edge off that face is horizontal (a run) or vertical (a rise), with a direction. Clockwise round each vertex
-/// inside stand entering runs, leaving rises, leaving runs and entering rises, at least one of each. The outer face
-/// is walked along four vertices, from the one that the base dart leaves: runs alone leave the first, rises alone
-/// enter the second, runs alone enter the third, and rises alone leave the fourth.
+/// edge off that face is horizontal (a run) or vertical (a rise), with a direction. Clockwise round each vertex inside
+/// stand entering runs, leaving rises, leaving runs and entering rises, at least one of each. The outer face is walked
+/// along four vertices, from the one that the base dart leaves. Runs alone leave the first, rises alone enter the
+/// second, runs alone enter the third, and rises alone leave the fourth.
 ///
 /// It fails only when out of memory, and the map stays as it is. The time is linear in the map: two tables over the
 /// vertices, from the rows and turns of a rectangular order, tell the label of each dart.
 ///
-/// Source: Kant, He, Regular edge labeling of 4-connected plane graphs and its applications in graph drawing
-/// problems, 1997.
+/// Source: Kant, He, Regular edge labeling of 4-connected plane graphs and its applications in graph drawing problems,
+/// 1997.
 pub fn edge_labels(alloc: Global, map: &HalfMap, base: DartId) -> Result<Labelling, AllocError>
     requires live { IsLive map.now base.0 }
     requires class { (s : ℕ) × (d : ℕ) × (p : ℕ) × (t : ℕ) × (dart_at map.now base.0 ≡ Some (s, d)) × IsRectMap map.now.lists s d p t }

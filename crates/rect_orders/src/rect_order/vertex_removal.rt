@@ -131,8 +131,8 @@ impl Closed<'_> {
 /// top and bottom added. The left vertex is the first, the bottom the second, the right one the last but one, and the
 /// top the last. Each other vertex has at least two later neighbours. `rank` has each vertex's index in `at`.
 ///
-/// It fails only when out of memory. The lists stay as they are. The time is linear in the vertices: they are taken
-/// off from the last one on, each goes onto the outer cycle and off it once, and its neighbours count how many of
+/// It fails only when out of memory. The lists stay as they are. The time is linear in the vertices, which are taken
+/// off from the last one on. Each goes onto the outer cycle and off it once, and its neighbours count how many of
 /// theirs are there and how many are gone.
 ///
 /// Source: Kant, He, Regular edge labeling of 4-connected plane graphs, 1997.

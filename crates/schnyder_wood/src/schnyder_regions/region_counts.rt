@@ -120,12 +120,12 @@ fn base_dart(map: &HalfMap, wood: &Wood) -> DartId
 
 /// Returns the number of vertices in the region of the inner vertex `v` opposite `colour`'s root, boundary included.
 ///
-/// The region is bounded by the paths of the two other colours and by the outer edge between their roots. It
-/// has the vertices on these, and those on a face to which a chain of faces from the outer one, each sharing an
-/// edge with the next, comes over an odd number of these edges.
+/// The region is bounded by the paths of the two other colours and by the outer edge between their roots. It has the
+/// vertices on these, and those on the faces inside. A face is inside if a chain of faces from the outer one, each
+/// sharing an edge with the next, comes there over an odd number of these edges.
 ///
-/// It fails only when out of memory. The map and the wood stay as they are. The time is linear in the map: a
-/// search goes over its faces.
+/// It fails only when out of memory. The map and the wood stay as they are. The time is linear in the map: a search
+/// goes over its faces.
 ///
 /// Source: Schnyder, Embedding planar graphs on the grid, 1990.
 pub fn region_count(

@@ -25,15 +25,15 @@ fn first_dart(map: &HalfMap) -> DartId
     }
 }
 
-/// Returns the visibility drawing of a record with these `lists`, from 1 to 4095. Each vertex is a horizontal bar,
-/// and each edge a column between the bars of its ends, over a width of one less than the number of faces.
+/// Returns the visibility drawing of a record with these `lists`, from 1 to 4095. Each vertex is a horizontal bar, and
+/// each edge a column between the bars of its ends, over a width of one less than the number of faces.
 ///
-/// The heights are an st-order from vertex 0 to the first of its list, the columns are its dual numbers, and each
-/// bar reaches from its least column to its greatest.
+/// The heights are an st-order from vertex 0 to the first of its list, and the columns are its dual numbers. Each bar
+/// reaches from its least column to its greatest.
 ///
-/// `Err` names the first condition that the lists break, of these in this order: the four faults of a map, each
-/// with the least vertices; fewer than three vertices; a genus above zero; more than one component; a cut vertex,
-/// the least. Or there was not enough memory. The time is linear in the entries.
+/// `Err` names the first condition that the lists break, or says that memory ran out. First come the four faults of a
+/// map, each with the least vertices. Then come fewer than three vertices, a genus above zero, more than one component,
+/// and a cut vertex, the least. The time is linear in the entries.
 ///
 /// Source: Tamassia, Tollis, A unified approach to visibility representations of planar graphs, 1986.
 pub fn bar_figure(alloc: Global, lists: &Rotations) -> Result<BarFigure, Unserved>
