@@ -5,7 +5,7 @@ ghost use Rattle.figure_text.specs.Lines.{integer_of, IsColumnsLine, ColumnsInRa
 ghost use Rattle.figure_text.specs.Figures.{ids, witness_of, columns_of, JudgesColumns};
 
 use crate::Figure;
-use crate::line_shapes::{Judged, behind, is_name, judged_columns};
+use crate::line_shapes::{Judged, is_name, judged_columns, words_from};
 use crate::line_words::{Name, Word, known_words, next_word};
 use crate::plain_numbers::push_coordinates;
 use crate::vertex_lines::{Draft, integer};
@@ -77,7 +77,7 @@ pub fn columns_line(alloc: Global, line: &[u8]) -> Columns
     match known_words(alloc, line) {
         Ok(None) => Columns::Bad,
         Ok(Some(found)) => match judged_columns(&found) {
-            Judged::Good => match integers(alloc, behind(&found, 1)) {
+            Judged::Good => match integers(alloc, words_from(&found, 1)) {
                 Ok(list) => Columns::Good(list),
                 Err(_) => Columns::NoMemory,
             },

@@ -105,7 +105,7 @@ pub fn is_name(word: Word, name: Name) -> bool
 }
 
 // Returns the words from index `from` on.
-pub fn behind(words: &[Word], from: usize) -> &[Word]
+pub fn words_from(words: &[Word], from: usize) -> &[Word]
     ensures { result.now ≡ drop from words.now }
 {
     if from <= words.len() {
@@ -134,7 +134,9 @@ fn is_columns_line(words: &[Word]) -> bool
     ensures { IsTrue result ↔ IsColumnsLine words.now }
 {
     is_name(word(words, 0), Name::Columns)
-        && behind(words, 1).iter().all(|word| is_number_word(*word))
+        && words_from(words, 1)
+            .iter()
+            .all(|word| is_number_word(*word))
 }
 
 // Returns the kind of figure that `words`, those of a first line from `figure` on, announce: the third is the job's.
@@ -207,7 +209,7 @@ fn is_vertex_line(kind: Kind, place: usize, words: &[Word]) -> bool
     let front = pieces(kind);
     have_shapes(front, place, words)
         && is_long(kind, place, words.len())
-        && behind(words, front.len())
+        && words_from(words, front.len())
             .iter()
             .all(|word| is_natural_word(*word))
 }
@@ -218,7 +220,7 @@ fn is_vertex_line_in_range(kind: Kind, words: &[Word]) -> bool
 {
     let front = pieces(kind);
     are_within(front, words)
-        && behind(words, front.len())
+        && words_from(words, front.len())
             .iter()
             .all(|word| is_vertex(*word))
 }
@@ -277,6 +279,6 @@ pub fn judged_vertex_line(kind: Kind, place: usize, words: &[Word]) -> Judged
 pub fn judged_columns(words: &[Word]) -> Judged
     ensures { Judges (IsColumnsLine words.now) (ColumnsInRange words.now) result }
 {
-    let inside = behind(words, 1).iter().all(|word| is_inside(*word));
+    let inside = words_from(words, 1).iter().all(|word| is_inside(*word));
     worth(is_columns_line(words), inside)
 }

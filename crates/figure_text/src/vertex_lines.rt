@@ -8,7 +8,7 @@ ghost use Rattle.figure_text.specs.Drafts.{with_values, with_row};
 
 use crate::front_pieces::{is_front, pieces};
 use crate::line_shapes::{
-    Judged, Kind, MOST_COORDINATE, behind, is_witness, judged_vertex_line, size_of, word,
+    Judged, Kind, MOST_COORDINATE, is_witness, judged_vertex_line, size_of, word, words_from,
 };
 use crate::line_words::{Signed, Word, fill_front, fill_known};
 use crate::plain_numbers::push_plain;
@@ -171,7 +171,7 @@ fn push_row(kind: Kind, words: &Vec<Word>, draft: &mut Draft) -> Result<(), Allo
     requires { RowInRange kind words.now.items }
     ensures { OnOk result (draft.new ≡ with_row kind draft.old words.now.items) }
 {
-    push_vertices(behind(words, pieces(kind).len()), &mut draft.lists)?;
+    push_vertices(words_from(words, pieces(kind).len()), &mut draft.lists)?;
     push_values(kind, words, draft)
 }
 

@@ -13,10 +13,10 @@ mod entry_blocks;
 mod fork_demands;
 mod lists_of_entries;
 mod one_tree;
-mod placing;
 mod return_edges;
 mod search_depths;
 mod side_groups;
 mod tree;
+mod vertex_entries;
 
 pub use decide::{has_map, map_of_graph};

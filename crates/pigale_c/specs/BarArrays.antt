@@ -36,14 +36,14 @@ AreJudgedBars ends neighbours fig width (Failed failure) =
 AreJudgedBars ends neighbours fig width outcome = ⊥
 
 -- a map, and room for a bar of each vertex and a column of each edge
-pub record HasBarRoom (ends neighbours : List ℕ) (fig : BarFigure) : Type 0 where
+pub record HasBarArrays (ends neighbours : List ℕ) (fig : BarFigure) : Type 0 where
   pub given : IsGivenBars ends neighbours fig
   pub columns : length fig.column ≡ edge_count (lists_in ends neighbours)
 
 -- The map is served, and the arrays have a figure of it; or the call failed, and the arrays are as they were.
 abbrev pub AreDrawnBars : List ℕ → List ℕ → BarFigure → BarFigure → Outcome → Type 0
 AreDrawnBars ends neighbours old new Served =
-    HasBarRoom ends neighbours old × IsBiconnectedMap 3 (lists_in ends neighbours) × IsBarFigure (lists_in ends neighbours) new
+    HasBarArrays ends neighbours old × IsBiconnectedMap 3 (lists_in ends neighbours) × IsBarFigure (lists_in ends neighbours) new
 AreDrawnBars ends neighbours old new (Failed failure) =
-    Fails (HasBarRoom ends neighbours old) (BreaksFirst 3 (lists_in ends neighbours)) failure × (new ≡ old)
+    Fails (HasBarArrays ends neighbours old) (BreaksFirst 3 (lists_in ends neighbours)) failure × (new ≡ old)
 AreDrawnBars ends neighbours old new outcome = ⊥

@@ -3,7 +3,7 @@ ghost use Rattle.std.specs.Prelude.{◌≡◌, ◌↔◌, length, IsTrue, IfOk, 
 ghost use Rattle.conn_parts.specs.BiconnectedMaps.{IsBiconnectedMap, BreaksFirst};
 ghost use Rattle.visibility.specs.Figures.{IsBarFigure};
 ghost use Rattle.pigale_c.specs.Arrays.{lists_in};
-ghost use Rattle.pigale_c.specs.BarArrays.{bars_in, AreBarsFor, IsGivenBars, AreJudgedBars, HasBarRoom, AreDrawnBars};
+ghost use Rattle.pigale_c.specs.BarArrays.{bars_in, AreBarsFor, IsGivenBars, AreJudgedBars, HasBarArrays, AreDrawnBars};
 ghost use Rattle.pigale_c.specs.Failures.{Fails};
 ghost use Rattle.pigale_c.specs.Numbers.{Reports, outcome_of};
 
@@ -88,10 +88,10 @@ pub extern "C" fn pigale_check_bars(
 fn drawn(given: &MapArrays<'_>, bars: &BarArrays<'_>) -> Result<BarFigure, Failure>
     ensures shape { IfOk result (AreBarsFor (length given.now.ends.now)) }
     ensures columns { IfOk result (λ fig. length fig.column ≡ length bars.now.column.now) }
-    ensures given { IfOk result (λ fig. HasBarRoom given.now.ends.now given.now.neighbours.now (bars_in bars.now.y.now bars.now.x1.now bars.now.x2.now bars.now.column.now)) }
+    ensures given { IfOk result (λ fig. HasBarArrays given.now.ends.now given.now.neighbours.now (bars_in bars.now.y.now bars.now.x1.now bars.now.x2.now bars.now.column.now)) }
     ensures served { IfOk result (λ fig. IsBiconnectedMap 3 (lists_in given.now.ends.now given.now.neighbours.now)) }
     ensures figure { IfOk result (IsBarFigure (lists_in given.now.ends.now given.now.neighbours.now)) }
-    ensures failed { IfErr result (Fails (HasBarRoom given.now.ends.now given.now.neighbours.now (bars_in bars.now.y.now bars.now.x1.now bars.now.x2.now bars.now.column.now))
+    ensures failed { IfErr result (Fails (HasBarArrays given.now.ends.now given.now.neighbours.now (bars_in bars.now.y.now bars.now.x1.now bars.now.x2.now bars.now.column.now))
         (BreaksFirst 3 (lists_in given.now.ends.now given.now.neighbours.now))) }
 {
     if !bars.are_for(given.ends.len()) {

@@ -15,7 +15,7 @@ use std::alloc::Global;
 
 // Reads the rotation lists of the map `given`, if `x` and `y` have one entry for each vertex. Otherwise it returns
 // `BadArgument`, as for arrays that are no map, or `NoMemory`.
-fn lists_with_room(given: &MapArrays<'_>, x: &[i32], y: &[i32]) -> Result<Rotations, Failure>
+fn lists_for_points(given: &MapArrays<'_>, x: &[i32], y: &[i32]) -> Result<Rotations, Failure>
     ensures lists { IfOk result (λ lists. lists ≡ lists_in given.now.ends.now given.now.neighbours.now) }
     ensures given { IfOk result (λ lists. IsGivenGrid given.now.ends.now given.now.neighbours.now x.now y.now) }
     ensures count { IfOk result (λ lists. length lists ≡ length given.now.ends.now) }
@@ -34,7 +34,7 @@ fn lists_with_room(given: &MapArrays<'_>, x: &[i32], y: &[i32]) -> Result<Rotati
 fn shift(given: &MapArrays<'_>, x: &mut [i32], y: &mut [i32]) -> Result<Outcome, Failure>
     ensures { IsShiftDrawn given.now.ends.now given.now.neighbours.now x.old y.old x.new y.new (outcome_of result) }
 {
-    let lists = lists_with_room(given, x, y)?;
+    let lists = lists_for_points(given, x, y)?;
     let figure = shift_figure(given.alloc, &lists)?;
     put_points(figure.points.as_slice(), x, y);
     Ok(Outcome::Served)
@@ -45,7 +45,7 @@ fn shift(given: &MapArrays<'_>, x: &mut [i32], y: &mut [i32]) -> Result<Outcome,
 fn schnyder(given: &MapArrays<'_>, x: &mut [i32], y: &mut [i32]) -> Result<Outcome, Failure>
     ensures { IsSchnyderDrawn given.now.ends.now given.now.neighbours.now x.old y.old x.new y.new (outcome_of result) }
 {
-    let lists = lists_with_room(given, x, y)?;
+    let lists = lists_for_points(given, x, y)?;
     let figure = schnyder_figure(given.alloc, &lists)?;
     put_points(figure.points.as_slice(), x, y);
     Ok(Outcome::Served)
@@ -56,7 +56,7 @@ fn schnyder(given: &MapArrays<'_>, x: &mut [i32], y: &mut [i32]) -> Result<Outco
 fn convex(given: &MapArrays<'_>, x: &mut [i32], y: &mut [i32]) -> Result<Outcome, Failure>
     ensures { IsConvexDrawn given.now.ends.now given.now.neighbours.now x.old y.old x.new y.new (outcome_of result) }
 {
-    let lists = lists_with_room(given, x, y)?;
+    let lists = lists_for_points(given, x, y)?;
     let figure = convex_figure(given.alloc, &lists)?;
     put_points(figure.points.as_slice(), x, y);
     Ok(Outcome::Served)

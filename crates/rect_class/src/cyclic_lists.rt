@@ -11,7 +11,7 @@ pub(crate) struct Ring<'a> {
 
 impl Ring<'_> {
     // Returns the entry that follows the one at index `k`, cyclically.
-    pub(crate) fn behind(&self, k: usize) -> u16
+    pub(crate) fn next_at(&self, k: usize) -> u16
         requires { k < length self.now.us.now }
         ensures { result ≡ entry_after (slice_index self.now.us.now k) self.now.us.now }
     {
@@ -20,7 +20,7 @@ impl Ring<'_> {
     }
 
     // Returns the entry that precedes the one at index `k`, cyclically.
-    pub(crate) fn ahead(&self, k: usize) -> u16
+    pub(crate) fn previous_at(&self, k: usize) -> u16
         requires { k < length self.now.us.now }
         ensures { entry_after result self.now.us.now ≡ slice_index self.now.us.now k }
     {
@@ -36,7 +36,7 @@ impl Ring<'_> {
         let ring = *self;
         for k in 0..ring.us.len() {
             if ring.us[k] == u {
-                return ring.behind(k);
+                return ring.next_at(k);
             }
         }
         u

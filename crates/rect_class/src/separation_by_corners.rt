@@ -77,7 +77,7 @@ impl Star<'_> {
             return true;
         }
         let ring = Ring { us };
-        let (last, next) = (ring.ahead(k), ring.behind(k));
+        let (last, next) = (ring.previous_at(k), ring.next_at(k));
         self.are_sides(self.lists.list(usize::from(u)), last, next)
     }
 

@@ -30,11 +30,11 @@ returns c =
     let v = c.args.self.now.v in
     let k = c.args.k in
     let u = get_or (list_of lists v) k 0 in
-    let last = c.ahead-last.result in
-    let next = c.behind-next.result in
+    let last = c.previous_at-last.result in
+    let next = c.next_at-next.result in
     let us_is : c.list-us.result.now ≡ list_of lists v = c.list-us.ensures ∙ ap (list_of lists) c.from.ensures in
     let ws_is : c.list.result.now ≡ list_of lists u = c.list.ensures ∙ ap (list_of lists) (c.from-2.ensures ∙ ap (λ (xs : List ℕ). get_or xs k 0) us_is) in
     OnTrue_from c.are_sides.result (ComesBefore c.args.self.now.degrees.now u v → IsClosedOver lists v u) (λ t before.
-    IsClosedOver-sides lists c.args.self.now.marks.now v u last next c.args.self.now.stamped (subst (λ (us : List ℕ). entry_after last us ≡ get_or us k 0) us_is c.ahead-last.ensures)
-    (subst (λ (us : List ℕ). next ≡ entry_after (get_or us k 0) us) us_is c.behind-next.ensures)
+    IsClosedOver-sides lists c.args.self.now.marks.now v u last next c.args.self.now.stamped (subst (λ (us : List ℕ). entry_after last us ≡ get_or us k 0) us_is c.previous_at-last.ensures)
+    (subst (λ (us : List ℕ). next ≡ entry_after (get_or us k 0) us) us_is c.next_at-next.ensures)
     (subst (λ (ws : List ℕ). (j : ℕ) → j < length ws → IsSide c.args.self.now.marks.now (v + 1) last next (get_or ws j 0)) ws_is (OnTrue_at t c.are_sides.ensures)))

@@ -1,6 +1,6 @@
 use Rattle.std.proofs.Common.{length, get_or, ap, sym, ◌∙◌, arith}
 use Rattle.rect_class.proofs.CornerLemmas.{entry_after-at, place_after-next, place_after-end}
-use Rattle.rect_class.proofs.cyclic_lists.Ring.behind.Goals as goal
+use Rattle.rect_class.proofs.cyclic_lists.Ring.next_at.Goals as goal
 
 pub returns-then-k-us : goal.returns-then-k-us
 returns-then-k-us c =

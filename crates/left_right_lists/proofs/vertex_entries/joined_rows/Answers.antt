@@ -1,7 +1,7 @@
 use Rattle.std.proofs.Common.{◌<◌, [], length, slice_index, slice_index_or, arith}
 use Rattle.std.proofs.lemmas.List.Elements.{Contains-get_or}
 use Rattle.left_right_lists.proofs.Tabled.{joined_all}
-use Rattle.left_right_lists.proofs.placing.joined_rows.Goals as goal
+use Rattle.left_right_lists.proofs.vertex_entries.joined_rows.Goals as goal
 
 pub list-requires : goal.list-requires
 list-requires g c =

@@ -1,6 +1,6 @@
 use Rattle.std.proofs.Common.{◌-◌, length, get_or, ap, ◌∙◌, arith}
 use Rattle.rect_class.proofs.CornerLemmas.{entry_after-at, place_after-next, place_after-end}
-use Rattle.rect_class.proofs.cyclic_lists.Ring.ahead.Goals as goal
+use Rattle.rect_class.proofs.cyclic_lists.Ring.previous_at.Goals as goal
 
 pub returns-then-k-gt0 : goal.returns-then-k-gt0
 returns-then-k-gt0 c =
