@@ -2,6 +2,7 @@
 use Rattle.std.proofs.Common.{◌≡◌, ◌≢◌, ◌⊎◌, ℕ, Bool, true, false, if◌then◌else◌, ◌==◌, Option, Some, None, option_map, unwrap_or, refl, sym, ap, ap₂, ◌∙◌, subst, inl, inr}
 use Rattle.std.specs.Prelude.{MatchBool, IsSome, IsTrue, nat_eq, ◌↔◌}
 use Rattle.std.proofs.lemmas.Bool.{cases_eq, eq-eqb, eqb-true, ne_eqb, false≢true}
+use Rattle.std.proofs.lemmas.Option.{same_Some}
 use Rattle.map_lists.specs.Lists.{Lists}
 use Rattle.map_theory.specs.Maps.{Dart, HasDart, IsSimpleMap, follows, face_step, component_count}
 use Rattle.plane_laws.specs.Laws.{IsTriangle}
@@ -16,10 +17,6 @@ use Rattle.augment_tri.proofs.EarCover.{covered_here, covered_there}
 pub MatchBool-weaker : (b : Bool) (P Q P' Q' : Type 0) → MatchBool b P Q → (P → P') → (Q → Q') → MatchBool b P' Q'
 MatchBool-weaker true P Q P' Q' h f g = f h
 MatchBool-weaker false P Q P' Q' h f g = g h
-
--- one dart has an id
-pub one_dart : (x y : Dart) → Some x ≡ Some y → x ≡ y
-one_dart x y e = ap (λ (o : Option Dart). unwrap_or o (0, 0)) e
 
 -- the dart of a live id
 some_dart : (o : Option Dart) → IsSome o → (x : Dart) × (o ≡ Some x)
@@ -70,15 +67,12 @@ module _ (map : Map) (d e f a b c x : ℕ) (roomy : IsRoomy map) (along : AlongF
   pub has_ab : HasDart lists a b
   has_ab = roomy.known.is_dart d a b along.at_d
 
-  pub has_bc : HasDart lists b c
-  has_bc = roomy.known.is_dart e b c along.at_e
-
   pub has_cx : HasDart lists c x
   has_cx = roomy.known.is_dart f c x along.at_f
 
   -- what the caller knows of d
   same_ends : (v u : ℕ) → dart_at map d ≡ Some (v, u) → (a ≡ v) × (b ≡ u)
-  same_ends v u q = let one = one_dart (a, b) (v, u) (sym along.at_d ∙ q) in (ap (λ (z : Dart). z.0) one, ap (λ (z : Dart). z.1) one)
+  same_ends v u q = let one = same_Some (a, b) (v, u) (sym along.at_d ∙ q) in (ap (λ (z : Dart). z.0) one, ap (λ (z : Dart). z.1) one)
 
   step_is : (v u : ℕ) → dart_at map d ≡ Some (v, u) → face_step lists (v, u) ≡ (b, c)
   step_is v u q = let same = same_ends v u q in ap₂ (λ y z. (z, follows lists z y)) (sym same.0) (sym same.1) ∙ ap (λ z. (b, z)) along.next
@@ -111,7 +105,7 @@ triangle_by_ids map d e f g a b known to_e to_f to_g at_d =
     let step = face_step map.lists in
     let third = step (step (step (a, b))) in
     let at_g : dart_at map g ≡ Some third = to_g ∙ ap (option_map step) (to_f ∙ ap (option_map step) (to_e ∙ ap (option_map step) at_d)) in (
-      λ t. one_dart third (a, b) (sym at_g ∙ (ap (dart_at map) (eqb-true g d t) ∙ at_d)),
+      λ t. same_Some third (a, b) (sym at_g ∙ (ap (dart_at map) (eqb-true g d t) ∙ at_d)),
       λ t. eq-eqb g d (known.one_id g d a b (at_g ∙ ap (λ (z : Dart). Some z) t) at_d),
     )
 
@@ -119,7 +113,7 @@ triangle_by_ids map d e f g a b known to_e to_f to_g at_d =
 pub dart_before : (map : Map) (d before a b : ℕ) → IsLive map before → option_map (next_dart map.lists) (dart_at map before) ≡ dart_at map d → dart_at map d ≡ Some (a, b) → (p : ℕ) × (dart_at map before ≡ Some (a, p)) × (follows map.lists a p ≡ b)
 dart_before map d before a b live to_d at_d =
     let y = live_dart map before live in
-    let one = one_dart (next_dart map.lists y.0) (a, b) (sym (ap (option_map (next_dart map.lists)) y.1) ∙ (to_d ∙ at_d)) in
+    let one = same_Some (next_dart map.lists y.0) (a, b) (sym (ap (option_map (next_dart map.lists)) y.1) ∙ (to_d ∙ at_d)) in
     let tail : y.0.0 ≡ a = ap (λ (z : Dart). z.0) one in
     (y.0.1, y.1 ∙ ap (λ v. Some (v, y.0.1)) tail, ap (λ v. follows map.lists v y.0.1) (sym tail) ∙ ap (λ (z : Dart). z.1) one)
 
@@ -130,12 +124,12 @@ near_covered old new d ear put at a b s t roomy is_ear cut at_d at_ear near at_p
     let has_ab = roomy.known.is_dart d a b at_d in
     elim (cases_eq ear d) [
       | inl e ↦
-          let here = one_dart (s, follows old.lists t s) (v, u) (sym at_put ∙ (ap (dart_at new) (sym (goes ∙ rw (eq-eqb ear d e) refl)) ∙ at_at)) in
-          let same = one_dart (a, b) (s, t) (sym at_d ∙ (ap (dart_at old) (sym e) ∙ at_ear)) in
+          let here = same_Some (s, follows old.lists t s) (v, u) (sym at_put ∙ (ap (dart_at new) (sym (goes ∙ rw (eq-eqb ear d e) refl)) ∙ at_at)) in
+          let same = same_Some (a, b) (s, t) (sym at_d ∙ (ap (dart_at old) (sym e) ∙ at_ear)) in
           let start : IsCovered first k old.lists s t = subst (λ (y : Dart). IsCovered first k old.lists y.0 y.1) same covered in
           subst (λ (y : Dart). IsCovered first k new.lists y.0 y.1) here (covered_here old.lists simple roomy.plane s t is_ear new.lists cut first k start)
       | inr ne ↦
-          let here = one_dart (a, b) (v, u) (sym (ids d a b at_d) ∙ (ap (dart_at new) (sym (goes ∙ rw (ne_eqb ear d ne) refl)) ∙ at_at)) in
+          let here = same_Some (a, b) (v, u) (sym (ids d a b at_d) ∙ (ap (dart_at new) (sym (goes ∙ rw (ne_eqb ear d ne) refl)) ∙ at_at)) in
           let other : s ≡ a → t ≡ b → ⊥ = λ q r. ne (roomy.known.one_id ear d a b (at_ear ∙ ap₂ (λ y z. Some (y, z)) q r) at_d) in
           subst (λ (y : Dart). IsCovered first k new.lists y.0 y.1) here (covered_there old.lists simple roomy.plane s t is_ear new.lists cut first k a b has_ab near other covered)
     ]

@@ -1,20 +1,17 @@
 -- The edges of a vertex have an order, and a list that goes once round is in it.
-use Rattle.std.proofs.Common.{◌⊎◌, ℕ, ◌<◌, ◌≤◌, length, ℤ, ◌≤ℤ◌, sym, ◌∙◌, inl, inr, ⊎_elim, arith}
+use Rattle.std.proofs.Common.{◌⊎◌, ℕ, ◌<◌, ◌≤◌, length, ℤ, ◌≤ℤ◌, sym, ◌∙◌, arith}
 use Rattle.std.proofs.lemmas.Int.{ints, by_lt_z}
 use Rattle.map_lists.specs.Lists.{Lists}
 use Rattle.map_theory.specs.Maps.{IsSimpleMap, list_of, entry_after}
 use Rattle.pg_plane.specs.declared.figures.BarFigure.{BarFigure}
 use Rattle.map_theory.proofs.DartLemmas.{Contains-entry_after}
 use Rattle.map_theory.proofs.RoundOrder.{sorted_from_once, once_from_sorted}
-use Rattle.bar_check.specs.Bars.{number_at, column_between, IsAbove, IsEarlier, GoesOnceRound}
+use Rattle.bar_check.specs.Bars.{number_at, IsAbove, IsEarlier, GoesOnceRound}
 use Rattle.bar_check.specs.Laws.{IsInOrder}
 
 module _ (lists : Lists) (fig : BarFigure) (v : ℕ) where
   abbrev y : ℕ → ℤ
   y u = number_at fig.y u
-
-  abbrev x : ℕ → ℤ
-  x u = column_between lists fig v u
 
   -- u is no vertex above v
   not_above : (u : ℕ) → y u ≤ℤ y v → ¬ IsAbove fig v u

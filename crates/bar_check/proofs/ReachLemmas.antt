@@ -1,9 +1,7 @@
 -- The quick sweep over the bars from below.
-use Rattle.std.proofs.Common.{◌≡◌, ◌⊎◌, ℕ, ◌+◌, ◌-◌, ◌*◌, ◌/◌, ◌<◌, ◌≤◌, cond, List, length, get_or, ℤ, pos, ◌≤ℤ◌, ◌<ℤ◌, sym, ap, ◌∙◌, subst, inl, inr, ⊎_elim, arith}
+use Rattle.std.proofs.Common.{◌≡◌, ◌⊎◌, ℕ, ◌+◌, ◌-◌, ◌/◌, ◌<◌, ◌≤◌, cond, List, length, get_or, ℤ, pos, ◌≤ℤ◌, ◌<ℤ◌, sym, ap, ◌∙◌, subst, inl, inr, ⊎_elim, arith}
 use Rattle.std.proofs.lemmas.Bool.{cases_lt, cases_order, lt-ltb, le-ltb}
 use Rattle.std.proofs.lemmas.Int.{ints}
-use Rattle.std.proofs.lemmas.Nat.{div-mul-add}
-use Rattle.std.proofs.Math.Nat.{mul-div-le}
 use Rattle.map_lists.specs.Lists.{Lists}
 use Rattle.map_theory.specs.Maps.{HasDart, IsSimpleMap, list_of, place_of}
 use Rattle.map_theory.proofs.DartLemmas.{place_of-lt-length, get_or-place_of}
@@ -13,10 +11,6 @@ use Rattle.bar_check.specs.Verdicts.{HasHeights, NoneThrough}
 use Rattle.bar_check.specs.Tables.{DoGoRight, StandsAt}
 use Rattle.bar_check.specs.Reach.{IsRaised, IsReached, IsPassed, IsUp, IsBegun, HasReach, IsSwept}
 use Rattle.bar_check.proofs.HeightLemmas.{natural_is}
-
--- the columns of one block
-pub same_block : (w k x : ℕ) → 0 < w → k ≤ x → x < (k / w + 1) * w → x / w ≡ k / w
-same_block w k x some from to = grind (arith, mul-div-le, div-mul-add)
 
 -- what is passed is not reached by more
 pub low_from_passed : (y : ℤ) (h k : ℕ) (peaks blocks superblocks : List ℤ) → IsReached y k peaks blocks superblocks → IsPassed h k peaks blocks superblocks → y ≤ℤ pos h

@@ -11,10 +11,11 @@ use Rattle.half_edges.specs.Map.{Map, IsHalfMap, dart_at}
 use Rattle.euler_faces.specs.FaceWalks.{walk_at, first_number, AreFaces}
 use Rattle.euler_faces.proofs.NumberLemmas.{number_at-is}
 use Rattle.euler_faces.proofs.WalkFaces.{in_class, in_walk}
+use Rattle.euler_faces.proofs.SideMarks.{some_dart}
 use Rattle.graph_search.specs.Arcs.{arcs_of, HasArc, IsAcyclic, AreLongest}
 use Rattle.bipolar.specs.DualNumbers.{IsUpward, IsFaceNumbering}
 use Rattle.bipolar.specs.FaceArcs.{InWalk, AreFaceArcs}
-use Rattle.bipolar.proofs.Darts.{live_dart, live_at}
+use Rattle.bipolar.proofs.Darts.{live_at}
 
 module _ (map : Map) (h : IsHalfMap map) (walks : List (List ℕ)) (faces : AreFaces map walks) where
   abbrev lists : Lists
@@ -47,7 +48,7 @@ module _ (map : Map) (h : IsHalfMap map) (walks : List (List ℕ)) (faces : AreF
   first_in f l =
       let d = get_or (walk_at walks f) 0 0 in
       let walk = faces.each f l in
-      let x = live_dart (dart_at map d) (walk.live 0 walk.some) in
+      let x = some_dart (dart_at map d) (walk.live 0 walk.some) in
       (x.0, x.1, (l, (d, Contains-get_or (walk_at walks f) 0 0 walk.some, x.2)), x.2)
 
   pub walk_dart : (f u v : ℕ) → InWalk map walks f u v → HasDart lists u v

@@ -4,7 +4,7 @@ use Rattle.std.proofs.lemmas.Bool.{eq-eqb}
 use Rattle.classes.specs.Classes.{label, class_count}
 use Rattle.classes.proofs.Classes.{IsLabels, label-lt}
 use Rattle.classes.proofs.Orbits.{orbits_of}
-use Rattle.classes.proofs.Bound.{after, Balances, joint, length-joint, IsLabels-joint}
+use Rattle.classes.proofs.Bound.{after, joint, length-joint, IsLabels-joint}
 use Rattle.map_lists.specs.Lists.{Lists}
 use Rattle.map_theory.specs.Maps.{Dart, HasDart, dart_number, dart_count, edge_count, vertex_count, face_count, isolated_count}
 use Rattle.map_theory.proofs.DartLemmas.{dart_number-lt}
@@ -46,12 +46,6 @@ module _ {lists : Lists} {s t : ℕ} {at rank : List ℕ} (x : IsStMap lists s t
 
   some : 0 < vertex_count lists
   some = x.simple.some_vertex
-
-  pub s_in : s < vertex_count lists
-  s_in = x.dart.0
-
-  pub t_in : t < vertex_count lists
-  t_in = (x.simple.both_ways s t x.dart).0
 
   pub rank_s : get_or rank s 0 ≡ 0
   rank_s = ap (λ v. get_or rank v 0) (sym x.order.first) ∙ x.order.of_place 0 some

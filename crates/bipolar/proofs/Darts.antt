@@ -1,51 +1,23 @@
 -- Darts by their ids, and rows of right faces.
-use Rattle.std.proofs.Common.{◌≡◌, ◌≢◌, ◌↔◌, ℕ, ◌+◌, ◌<◌, List, [], ◌∷◌, ◌++◌, length, get_or, take, AllPairs, Contains, Option, Some, None, refl, sym, ap, ◌∙◌, subst, inl, inr, arith}
+use Rattle.std.proofs.Common.{◌≡◌, ◌↔◌, ℕ, ◌+◌, ◌<◌, List, [], ◌∷◌, ◌++◌, length, get_or, take, Contains, Option, Some, refl, sym, ap, ◌∙◌, subst, inl, inr, arith}
+use Rattle.euler_faces.proofs.SideMarks.{some_dart}
 use Rattle.std.specs.Prelude.{option_map, IsSome, IsTrue, nat_lt, slice_get}
-use Rattle.std.proofs.lemmas.Bool.{cases_lt, false≢true, ltb-true, lt-ltb}
-use Rattle.std.proofs.lemmas.Option.{get_or_from_slice_get}
-use Rattle.std.proofs.lemmas.List.{take_more, get_or_default, get_or_append_left, get_or_push, length-append}
+use Rattle.std.proofs.lemmas.Bool.{cases_lt, ltb-true, lt-ltb}
+use Rattle.std.proofs.lemmas.Option.{get_or_from_slice_get, same_Some}
+use Rattle.std.proofs.lemmas.List.{take_more, get_or_append_left, get_or_push, length-append}
 use Rattle.std.proofs.lemmas.List.Elements.{Contains-append_left, Contains-push, Contains-push_cases}
-use Rattle.map_theory.specs.Maps.{Dart, twin_dart, list_of, follows, entry_after}
-use Rattle.map_theory.proofs.DartLemmas.{place_of-get_or}
+use Rattle.map_theory.specs.Maps.{Dart, list_of, follows}
 use Rattle.half_edges.specs.Map.{Map, IsHalfMap, dart_at, next_dart}
+use Rattle.half_edges.proofs.ArenaLemmas.{entry_after-next}
+use Rattle.half_edges.proofs.LinkLemmas.{tails_same}
 use Rattle.bipolar.specs.FaceArcs.{InWalk, IsPutRight, AreRightFaces, IsLeftNumber, AreLeftNumbers}
-
--- what a live id stands for
-pub live_dart : (o : Option Dart) → IsSome o → (u : ℕ) × (v : ℕ) × (o ≡ Some (u, v))
-live_dart None s = absurd (false≢true s)
-live_dart (Some d) s = (d.0, d.1, refl)
-
-inside : Dart → Option Dart → Dart
-inside d None = d
-inside d (Some e) = e
-
-number_inside : ℕ → Option ℕ → ℕ
-number_inside n None = n
-number_inside n (Some m) = m
-
-same_number : (a b : ℕ) → Some a ≡ Some b → a ≡ b
-unfolding number_inside
-same_number a b e = ap (number_inside a) e
 
 -- the tail and the head that a map tells of an id
 pub tail_is : (o : Option Dart) (u v t : ℕ) → o ≡ Some (u, v) → option_map (λ (d : Dart). d.0) o ≡ Some t → t ≡ u
-tail_is o u v t e told = same_number t u (sym told ∙ ap (option_map (λ (d : Dart). d.0)) e)
+tail_is o u v t e told = same_Some t u (sym told ∙ ap (option_map (λ (d : Dart). d.0)) e)
 
 pub head_is : (o : Option Dart) (u v t : ℕ) → o ≡ Some (u, v) → option_map (λ (d : Dart). d.1) o ≡ Some t → t ≡ v
-head_is o u v t e told = same_number t v (sym told ∙ ap (option_map (λ (d : Dart). d.1)) e)
-
-pub twin_at : (o o' : Option Dart) (u v : ℕ) → o ≡ Some (u, v) → o' ≡ option_map twin_dart o → o' ≡ Some (v, u)
-twin_at o o' u v e step = step ∙ ap (option_map twin_dart) e
-
-inside_of : (d e : Dart) → Some d ≡ Some e → d ≡ e
-unfolding inside
-inside_of d e p = ap (inside d) p
-
--- one id stands for one dart
-pub one_dart : (o : Option Dart) (u v a b : ℕ) → o ≡ Some (u, v) → o ≡ Some (a, b) → (u ≡ a) × (v ≡ b)
-one_dart o u v a b e e' =
-    let same = inside_of (u, v) (a, b) (sym e ∙ e') in
-    (ap (λ (d : Dart). d.0) same, ap (λ (d : Dart). d.1) same)
+head_is o u v t e told = same_Some t v (sym told ∙ ap (option_map (λ (d : Dart). d.1)) e)
 
 pub live_at : (o : Option Dart) (u v : ℕ) → o ≡ Some (u, v) → IsSome o
 live_at o u v e = subst IsSome (sym e) refl
@@ -83,7 +55,7 @@ module _ (map : Map) (walks : List (List ℕ)) (rank ids : List ℕ) where
             elim (Contains-push_cases (take k ids) d x (subst (λ z. Contains z x) grown c)) [
               | inl c' ↦ (let f = w.to x a b c' e up' in (f.0, kept f.0 f.1, f.2))
               | inr same ↦
-                  let is = one_dart (dart_at map d) u v a b dart (ap (dart_at map) same ∙ e) in
+                  let is = tails_same u v a b (dart_at map d) dart (ap (dart_at map) same ∙ e) in
                   let new = put.up (omega (arith, up', ap (λ z. get_or rank z 0) is.0, ap (λ z. get_or rank z 0) is.1)) in
                   (new.0, subst (λ z. Contains z new.0) (sym new.1) (Contains-push row new.0), subst (λ z. InWalk map walks new.0 z a) is.1 (subst (λ z. InWalk map walks new.0 v z) is.0 new.2))
             ];
@@ -93,18 +65,11 @@ module _ (map : Map) (walks : List (List ℕ)) (rank ids : List ℕ) where
 pub AreLeftNumbers-more : (map : Map) (walks : List (List ℕ)) (rank numbers : List ℕ) (v x : ℕ) (row : List ℕ) → AreLeftNumbers map walks rank numbers v row → IsLeftNumber map walks rank numbers v (get_or (list_of map.lists v) (length row) 0) x → AreLeftNumbers map walks rank numbers v (row ++ x ∷ [])
 AreLeftNumbers-more map walks rank numbers v x row w is = grind (arith, cases_lt, length, IsLeftNumber, get_or, list_of, get_or_append_left, length-append, get_or_push)
 
--- the entry at the next place is the next one
-next_entry : (us : List ℕ) (i : ℕ) → AllPairs ◌≢◌ us → i + 1 < length us → entry_after (get_or us i 0) us ≡ get_or us (i + 1) 0
-unfolding entry_after
-next_entry us i distinct l =
-    let place = place_of-get_or us i 0 distinct (omega arith) in
-    ap (λ k. get_or us (k + 1) (get_or us 0 (get_or us i 0))) place ∙ get_or_default us (i + 1) (get_or us 0 (get_or us i 0)) 0 l
-
 pub next_at : (map : Map) → IsHalfMap map → (v i : ℕ) (o o' : Option Dart) → v < length map.lists → o ≡ Some (v, get_or (list_of map.lists v) i 0) → o' ≡ option_map (next_dart map.lists) o → i + 1 < length (list_of map.lists v) → o' ≡ Some (v, get_or (list_of map.lists v) (i + 1) 0)
 next_at map h v i o o' lv e step l =
-    step ∙ (ap (option_map (next_dart map.lists)) e ∙ ap (λ z. Some (v, z)) (next_entry (list_of map.lists v) i (h.simple.no_repeat v lv) l))
+    step ∙ (ap (option_map (next_dart map.lists)) e ∙ ap (λ z. Some (v, z)) (entry_after-next (list_of map.lists v) i (h.simple.no_repeat v lv) l))
 
 pub next_live : (map : Map) (o o' : Option Dart) → IsSome o → o' ≡ option_map (next_dart map.lists) o → IsSome o'
 next_live map o o' live step =
-    let x = live_dart o live in
+    let x = some_dart o live in
     live_at o' x.0 (follows map.lists x.0 x.1) (step ∙ ap (option_map (next_dart map.lists)) x.2)

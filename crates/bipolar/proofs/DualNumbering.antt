@@ -1,6 +1,6 @@
 -- The dual numbers: dart by dart the number of the face on the right is raised, until there is none left; there is just one such numbering, and all its numbers are below the number of faces.
 use Rattle.std.proofs.Common.{◌≡◌, ◌≢◌, ◌⊎◌, ℕ, zero, suc, ◌+◌, ◌<◌, ◌≤◌, Bool, true, false, not, ◌&&◌, ◌||◌, cond, eqb, ltb, length, refl, sym, ap, ◌∙◌, subst, inl, inr, arith}
-use Rattle.std.proofs.lemmas.Bool.{cases_Bool, cases_eq, cases_lt, lt-ltb, le-ltb, eqb-true, eq-eqb, ne_eqb, and_parts, and_from, true≢false, false≢true, not_from_false}
+use Rattle.std.proofs.lemmas.Bool.{cases_Bool, cases_eq, cases_lt, lt-ltb, le-ltb, eqb-true, eq-eqb, ne_eqb, and_parts, and_from, true≢false, false≢true, not_from_false, not-true}
 use Rattle.classes.specs.Classes.{count_below, label, same_class, class_count}
 use Rattle.classes.proofs.Counting.{count_below_all, count_below_into, count_below-le, count_below_same}
 use Rattle.classes.proofs.Classes.{Together-from, same_class-from, Together-not, cases_Together, Together-label, label-lt}
@@ -143,7 +143,7 @@ module _ {k m : ℕ} {f g y : ℕ → ℕ} {st : ℕ} (d : IsBipolar k m f g y s
             let z = any_below-at (test (label (orbits_of (after f g) k) i)) k t in
             let one = and_parts (eqb (label (orbits_of (after f g) k) i) (label (orbits_of (after f g) k) z.0)) (up g y z.0 && not (done z.0)) z.2 in
             let two = and_parts (up g y z.0) (not (done z.0)) one.1 in
-            (z.0, z.1, eqb-true (label (orbits_of (after f g) k) i) (label (orbits_of (after f g) k) z.0) one.0, is_up d z.0 two.0, not_true (done z.0) two.1) in
+            (z.0, z.1, eqb-true (label (orbits_of (after f g) k) i) (label (orbits_of (after f g) k) z.0) one.0, is_up d z.0 two.0, not-true (done z.0) two.1) in
             absurd (no_cycle d (y (g st) + 1) set (record {
               faces = λ i li. ap (λ c. any_below (test c) k) (sym (step_face d i li));
               off = elim (cases_Bool (set st)) [
@@ -156,10 +156,6 @@ module _ {k m : ℕ} {f g y : ℕ → ℕ} {st : ℕ} (d : IsBipolar k m f g y s
                   (c.0, c.1, c.2, omega (arith, d.greatest c.0 c.1), holds c.0 c.0 c.1 refl c.2 c.3, z.2 ∙ c.4);
             }) x l (holds x x l refl u e))
       ]
-    where
-      not_true : (b : Bool) → not b ≡ true → b ≡ false
-      not_true true e = sym e
-      not_true false e = refl
 
   -- where all are done the numbers are the dual numbers
   pub IsDual-from : (done : ℕ → Bool) (n : ℕ → ℕ) → IsUnder k f g y st done n → ((x : ℕ) → x < k → y x < y (g x) → done x ≡ true) → IsDual k f g y st n
@@ -185,11 +181,7 @@ module _ {k m : ℕ} {f g y : ℕ → ℕ} {st : ℕ} (d : IsBipolar k m f g y s
 
   waits_parts : (done : ℕ → Bool) (e : ℕ) → waits done e ≡ true → (y e < y (g e)) × (done e ≡ false)
   unfolding waits
-  waits_parts done e t = let parts = and_parts (up g y e) (not (done e)) t in (is_up d e parts.0, not_true (done e) parts.1)
-    where
-      not_true : (b : Bool) → not b ≡ true → b ≡ false
-      not_true true e = sym e
-      not_true false e = refl
+  waits_parts done e t = let parts = and_parts (up g y e) (not (done e)) t in (is_up d e parts.0, not-true (done e) parts.1)
 
   waits_from : (done : ℕ → Bool) (e : ℕ) → y e < y (g e) → done e ≡ false → waits done e ≡ true
   unfolding waits

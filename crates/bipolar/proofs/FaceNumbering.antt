@@ -3,8 +3,8 @@ use Rattle.std.proofs.Common.{◌≡◌, ◌≢◌, ◌⊎◌, ◌||◌, ℕ, �
 use Rattle.std.proofs.lemmas.Bool.{cases_Bool, cases_eq, cases_lt, false≢true, lt-ltb}
 use Rattle.std.proofs.lemmas.Bool.Decides.{nat_tests}
 use Rattle.std.proofs.lemmas.Option.{slice_get_within, get_or_from_slice_get}
-use Rattle.std.proofs.lemmas.List.{append_assoc, append-nil, length-append, length-map, get_or-map, get_or_append_left, get_or_push, drop-map, take-map}
-use Rattle.std.proofs.lemmas.List.Elements.{All-append, All-contains_itself, Contains-get_or, Contains-append_left, Contains-push, Contains-push_cases}
+use Rattle.std.proofs.lemmas.List.{append_assoc, append-nil, length-append, get_or-map, get_or_append_left, get_or_push, drop-map, take-map}
+use Rattle.std.proofs.lemmas.List.Elements.{All-append, All-contains_itself, Contains-append_left, Contains-push, Contains-push_cases}
 use Rattle.classes.specs.Classes.{image, label, same_class}
 use Rattle.classes.proofs.Classes.{Together, Together-from, same_class-from, IsLabels}
 use Rattle.classes.proofs.Orbits.{length-orbits, IsLabels-orbits}
@@ -15,6 +15,7 @@ use Rattle.map_lists.proofs.CutLemmas.{length-cut, pushed, IsStored-cuts, IsStor
 use Rattle.map_theory.specs.Maps.{Dart, HasDart, list_of, darts, dart_count, dart_number, place_of, twin_dart, face_images, face_classes}
 use Rattle.map_theory.proofs.DartLemmas.{length-darts, length-face_images, IsDartNumber-darts, get_or-face_images, place_after, place_of-entry_after, place_of-lt-length, place_of_number, dart_number-lt, get_or-dart_number, IsPermutationOfBelow-face_images}
 use Rattle.map_theory.proofs.DartCounts.{few_darts-simple}
+use Rattle.map_theory.proofs.EntryLemmas.{Contains-from_map, Contains-map}
 use Rattle.simple_maps.proofs.FlatLemmas.{start-is, end-is, count-is, dart-is}
 use Rattle.euler_faces.specs.Numbers.{mark_at}
 use Rattle.euler_faces.specs.Search.{IsNumberedBy}
@@ -22,15 +23,6 @@ use Rattle.euler_faces.specs.FaceSearch.{no_face, with_face}
 use Rattle.euler_faces.proofs.SearchLemmas.{marks-set, length-marks_of, set-here}
 use Rattle.graph_search.specs.Arcs.{arcs_of}
 use Rattle.bipolar.specs.FaceNumbers.{AreDarts, dart_of, GoesUp, IsPutUp, IsNew, ArePutTwins, AreNumberedBelow, AreFaceNumbers, AreFaceArcs}
-
--- the images of what a list contains
-Contains-map : (g : ℕ → ℕ) (xs : List ℕ) (x : ℕ) → Contains xs x → Contains (map g xs) (g x)
-Contains-map g xs x h = (h.0, omega (arith, h.1, length-map xs g), get_or-map g xs h.0 x (g x) h.1 ∙ ap g h.2)
-
-Contains-map_back : (g : ℕ → ℕ) (xs : List ℕ) (y : ℕ) → Contains (map g xs) y → (x : ℕ) × Contains xs x × (g x ≡ y)
-Contains-map_back g xs y h =
-    let l : h.0 < length xs = omega (arith, h.1, length-map xs g) in
-    (get_or xs h.0 0, Contains-get_or xs h.0 0 l, sym (get_or-map g xs h.0 0 y l) ∙ h.2)
 
 -- the pieces of images are the images of the pieces
 cut-map : (g : ℕ → ℕ) (from : ℕ) (ends xs : List ℕ) → cut from ends (map g xs) ≡ map (map g) (cut from ends xs)
@@ -320,7 +312,7 @@ module _ (entries ends twins : List ℕ) (t : AreDarts entries ends twins) where
             count_is = long;
             from = λ e r has.
                 let in_row : Contains (map (λ d. get_or of d 0) (arcs_of (cut 0 arc_ends arcs) e)) r = subst (λ (xs : List ℕ). Contains xs r) (row e (omega (arith, has.0, long))) has.1 in
-                let x = Contains-map_back (λ d. get_or of d 0) (arcs_of (cut 0 arc_ends arcs) e) r in_row in
+                let x = Contains-from_map (λ d. get_or of d 0) (arcs_of (cut 0 arc_ends arcs) e) r in_row in
                 let h = (w.rows e (omega (arith, has.0, long))).from x.0 x.1 in
                 let i_in : h.0 < length entries = omega (arith, h.1, all_darts) in
                 let dart : Dart = dart_of lists h.0 in

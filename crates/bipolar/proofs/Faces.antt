@@ -1,6 +1,6 @@
 -- The faces of a bipolar map: each has one peak and one bottom, and its upward darts stand one above another.
 use Rattle.std.proofs.Common.{◌≡◌, ◌⊎◌, ℕ, zero, suc, ◌+◌, ◌<◌, ◌≤◌, Bool, true, false, not, ◌&&◌, ltb, refl, sym, ap, ◌∙◌, subst, inl, inr, arith}
-use Rattle.std.proofs.lemmas.Bool.{cases_Bool, cases_eq, ltb-true, ltb-false, lt-ltb, le-ltb, and_parts, and_from, false≢true, not_from_true, not_from_false}
+use Rattle.std.proofs.lemmas.Bool.{cases_Bool, cases_eq, ltb-true, ltb-false, lt-ltb, le-ltb, and_parts, and_from, false≢true, not_from_true, not_from_false, not-true}
 use Rattle.classes.specs.Classes.{same_class}
 use Rattle.classes.proofs.Classes.{Together-from, same_class-from}
 use Rattle.classes.proofs.Orbits.{orbits_of, orbits_of-step, IsPermuting}
@@ -17,9 +17,6 @@ abbrev pub Apart : (ℕ → ℕ) → (ℕ → ℕ) → ℕ → ℕ → Type 0
 Apart g y i j = (i ≡ j) ⊎ ((y (g i) ≤ y j) ⊎ (y (g j) ≤ y i))
 
 module _ {k m : ℕ} {f g y : ℕ → ℕ} {st : ℕ} (d : IsBipolar k m f g y st) where
-  abbrev pub h : ℕ → ℕ
-  h = after f g
-
   pub twin_in : (i : ℕ) → i < k → g i < k
   twin_in i l = d.pairs.within i l
 
@@ -87,17 +84,13 @@ module _ {k m : ℕ} {f g y : ℕ → ℕ} {st : ℕ} (d : IsBipolar k m f g y s
       elim (some_or_none (λ j. same_class (orbits_of (after f g) k) i j && not (up g y j)) k) [
         | inl found ↦ (
             let parts = and_parts (same_class (orbits_of (after f g) k) i found.0) (not (up g y found.0)) found.2 in
-            (found.0, found.1, Together-from (orbits_of (after f g) k) i found.0 parts.0, not_true (up g y found.0) parts.1)
+            (found.0, found.1, Together-from (orbits_of (after f g) k) i found.0 parts.0, not-true (up g y found.0) parts.1)
             )
         | inr none ↦ absurd (no_ascent i (y (g st)) (λ j lj same. elim (cases_Bool (up g y j)) [
           | inl e ↦ e
           | inr e ↦ absurd (false≢true (sym (none j lj) ∙ and_from (same_class (orbits_of (after f g) k) i j) (not (up g y j)) (same_class-from (orbits_of (after f g) k) i j same) (not_from_false (up g y j) e)))
         ]) i l refl (omega arith))
       ]
-    where
-      not_true : (b : Bool) → not b ≡ true → b ≡ false
-      not_true true e = sym e
-      not_true false e = refl
 
   below_top : (i : ℕ) → i < k → (SameTail k f (g st) i → ⊥) → y i < y (g st)
   below_top i l ne = grind (arith, cases_eq, twin_in)
@@ -209,16 +202,12 @@ module _ {k m : ℕ} {f g y : ℕ → ℕ} {st : ℕ} (d : IsBipolar k m f g y s
       (λ j lj s e.
       let above : y (g r) ≤ y (f (g j)) =
       elim (cases_Bool (up g y j)) [
-        | inl u ↦ omega (arith, ltb-false (y j) (y (g r)) (not_true (ltb (y j) (y (g r))) e), is_up j u, step_rank j lj)
+        | inl u ↦ omega (arith, ltb-false (y j) (y (g r)) (not-true (ltb (y j) (y (g r))) e), is_up j u, step_rank j lj)
         | inr u ↦ omega (arith, above_bottom (y j) r j lr lj s (down_from r nr) (up_from (f (g r)) tr) u (omega arith), step_rank j lj)
       ] in
       not_from_false (ltb (y (f (g j))) (y (g r))) (le-ltb (y (f (g j))) (y (g r)) above))
       (not_from_false (ltb (y r) (y (g r))) (le-ltb (y r) (y (g r)) (omega arith))) in
-      ltb-false (y i) (y (g r)) (not_true (ltb (y i) (y (g r))) kept)
-    where
-      not_true : (b : Bool) → not b ≡ true → b ≡ false
-      not_true true e = sym e
-      not_true false e = refl
+      ltb-false (y i) (y (g r)) (not-true (ltb (y i) (y (g r))) kept)
 
   -- An upward dart that crosses the level between r and r + 1 has one before it: one that crosses it too, with the face on its right.
   pub crossing_before : (i r : ℕ) → i < k → y i ≤ r → r < y (g i) → (e : ℕ) × (e < k) × (y e ≤ r) × (r < y (g e)) × InFace k f g i (g e)

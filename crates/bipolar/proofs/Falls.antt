@@ -1,6 +1,7 @@
 -- Falls: darts that pass a test, whose images do not. Where an orbit has both kinds it has a fall, and where there are as few falls as orbits, each has one.
 use Rattle.std.proofs.Common.{◌≡◌, ◌≢◌, ◌⊎◌, ℕ, zero, suc, ◌+◌, ◌<◌, ◌≤◌, Bool, true, false, not, ◌&&◌, cond, eqb, List, refl, sym, ap, ◌∙◌, inl, inr, arith}
-use Rattle.std.proofs.lemmas.Bool.{cases_Bool, cases_eq, cases_lt, eq-eqb, eqb-true, ne_eqb, and_parts, and_from, false≢true, false_from_ne_true, not_from_true, not_from_false}
+use Rattle.std.proofs.lemmas.Bool.{cases_Bool, cases_eq, cases_lt, eq-eqb, eqb-true, ne_eqb, and_parts, and_from, false≢true, false_from_ne_true, not_from_true, not_from_false, not-false}
+use Rattle.std.specs.Cmp.{both_ways}
 use Rattle.classes.specs.Classes.{count_below, label, same_class, class_count}
 use Rattle.classes.proofs.Counting.{one_if, count_below_same, count_below_more, count_below_not, count_below_into}
 use Rattle.classes.proofs.Classes.{Together, Together-from, same_class-from, IsLabels}
@@ -35,11 +36,6 @@ some_or_none p (suc n) =
       ]
     ]
 
-both_or_either : (x y : Bool) → (x ≡ true → y ≡ true) → (y ≡ true → x ≡ true) → x ≡ y
-both_or_either true y h h' = sym (h refl)
-both_or_either false true h h' = h' refl
-both_or_either false false h h' = refl
-
 -- a test that passes at one number of an orbit and fails at another passes somewhere in it just before it fails
 pub some_fall : (q : ℕ → ℕ) (k : ℕ) → IsPermuting q k → (p : ℕ → Bool) (a b : ℕ) → a < k → b < k → Together (orbits_of q k) a b → p a ≡ true → p b ≡ false → (i : ℕ) × (i < k) × Together (orbits_of q k) a i × (p i ≡ true) × (p (q i) ≡ false)
 some_fall q k w p a b la lb same pa pb =
@@ -54,7 +50,7 @@ some_fall q k w p a b la lb same pa pb =
           let mark : ℕ → Bool = λ i. same_class orbits a i && p i in
           let on : (i : ℕ) → i < k → mark i ≡ true → mark (q i) ≡ true = grind (arith, and_parts, same_class, same_class-from, Together-from, orbits_of-step, cases_Bool, and_from, falls, not, not_from_false, false≢true) in
           let back = marks_back q k w mark on in
-          let same_mark = orbits_of-marked mark q k w.within (λ i l. both_or_either (mark i) (mark (q i)) (on i l) (back i l)) a b la lb same in
+          let same_mark = orbits_of-marked mark q k w.within (λ i l. both_ways (mark i) (mark (q i)) (on i l) (back i l)) a b la lb same in
           let there : mark a ≡ true = and_from (same_class orbits a a) (p a) (same_class-from orbits a a refl) pa in
           absurd (false≢true (sym pb ∙ (and_parts (same_class orbits a b) (p b) (sym same_mark ∙ there)).1))
     ]
@@ -267,9 +263,5 @@ before q k w a la =
       | inr ne ↦
           let step = orbits_of-step q k w.within a la in
           let i = some_fall q k w (λ i. not (eqb i a)) (q a) a (w.within a la) la (sym step) (not_from_false (eqb (q a) a) (ne_eqb (q a) a ne)) (not_from_true (eqb a a) (eq-eqb a a refl)) in
-          (i.0, i.1, step ∙ i.2, eqb-true (q i.0) a (not_false (eqb (q i.0) a) i.4))
+          (i.0, i.1, step ∙ i.2, eqb-true (q i.0) a (not-false (eqb (q i.0) a) i.4))
     ]
-  where
-    not_false : (b : Bool) → not b ≡ false → b ≡ true
-    not_false true e = refl
-    not_false false e = sym e

@@ -1,6 +1,6 @@
 -- No cycle: in a set of faces without that of the base dart, some face has none of the set on its left. The heights are gone over: at each vertex the faces that begin there leave the set, and those left of the edges below it may join.
 use Rattle.std.proofs.Common.{◌≡◌, ◌⊎◌, ℕ, zero, suc, ◌<◌, ◌≤◌, Bool, true, false, not, ◌&&◌, ◌||◌, eqb, ltb, refl, sym, ap, ap₂, ◌∙◌, subst, inl, inr, arith}
-use Rattle.std.proofs.lemmas.Bool.{cases_Bool, cases_eq, cases_lt, ltb-true, lt-ltb, eqb-true, eq-eqb, or_left, or_right, and_parts, and_from, true≢false, false≢true, not_from_true, not_from_false, false_from_ne_true}
+use Rattle.std.proofs.lemmas.Bool.{cases_Bool, cases_eq, cases_lt, ltb-true, lt-ltb, eqb-true, eq-eqb, or_left, or_right, and_parts, and_from, false≢true, not_from_true, not_from_false, false_from_ne_true, or_cases, not-true, not-false, both_ways, and_left, and_right}
 use Rattle.classes.specs.Classes.{label}
 use Rattle.classes.proofs.Orbits.{orbits_of, orbits_of-marked}
 use Rattle.classes.proofs.Bound.{after}
@@ -32,21 +32,6 @@ any_below-at p (suc n) t =
     not_last : (x z : Bool) → z ≡ false → (x || z) ≡ true → x ≡ true
     not_last true z e t = refl
     not_last false z e t = absurd (false≢true (sym e ∙ t))
-
-one_of_both : (x z : Bool) → (x || z) ≡ true → (x ≡ true) ⊎ (z ≡ true)
-one_of_both true z t = inl refl
-one_of_both false z t = inr t
-
-not_true : (b : Bool) → not b ≡ true → b ≡ false
-not_true true e = sym e
-not_true false e = refl
-
-not_false : (b : Bool) → not b ≡ false → b ≡ true
-not_false true e = refl
-not_false false e = sym e
-
-clash : (b : Bool) → b ≡ false → b ≡ true → ⊥
-clash b p q = false≢true (sym p ∙ q)
 
 -- Each face of the set has another of it on its left, by an edge that begins below r; the face of the base dart is not in the set.
 pub record IsFed (k : ℕ) (f g y : ℕ → ℕ) (st r : ℕ) (set : ℕ → Bool) : Type 0 where
@@ -107,33 +92,25 @@ module _ {k m : ℕ} {f g y : ℕ → ℕ} {st : ℕ} (d : IsBipolar k m f g y s
       let last : out e ≡ false = not_from_true (set e && up g y e) (and_from (set e) (up g y e) s u) in
       let other : (c : ℕ) × (c < k) × SameTail k f c e × (out c ≡ true) =
       elim (cases_eq (y st) (y e)) [
-        | inl q ↦ (st, d.base, d.vertices st e d.base l q, not_from_false (set st && up g y st) (left_off (set st) (up g y st) w.off))
+        | inl q ↦ (st, d.base, d.vertices st e d.base l q, not_from_false (set st && up g y st) (and_left (set st) (up g y st) w.off))
         | inr q ↦ (
             let c = d.earlier e l (omega (arith, q, d.least e l)) in
-            (c.0, c.1, d.vertices c.0 e c.1 l c.2, not_from_false (set c.0 && up g y c.0) (right_off (set c.0) (up g y c.0) (down_from d c.0 c.3)))
+            (c.0, c.1, d.vertices c.0 e c.1 l c.2, not_from_false (set c.0 && up g y c.0) (and_right (set c.0) (up g y c.0) (down_from d c.0 c.3)))
             )
       ] in
       let found = some_fall f k d.rotates out other.0 e other.1 l other.2 other.3 last in
       let b = found.0 in
-      let next = and_parts (set (f b)) (up g y (f b)) (not_false (set (f b) && up g y (f b)) found.4) in
+      let next = and_parts (set (f b)) (up g y (f b)) (not-false (set (f b) && up g y (f b)) found.4) in
       let at_b : y b ≡ r = omega (arith, tails other.0 b other.1 found.1 found.2, tails other.0 e other.1 l other.2, at) in (
         b,
         record {
           within = found.1;
           at = at_b;
-          down = false_from_ne_true (up g y b) (λ t. clash (set b && up g y b) (not_true (set b && up g y b) found.3) (and_from (set b) (up g y b) (back_step r set w b found.1 at_b t next.1 next.0) t));
+          down = false_from_ne_true (up g y b) (λ t. both_ways (set b && up g y b) (not-true (set b && up g y b) found.3) (and_from (set b) (up g y b) (back_step r set w b found.1 at_b t next.1 next.0) t));
           next_up = next.1;
           next_in = next.0;
         },
       )
-    where
-      left_off : (x z : Bool) → x ≡ false → (x && z) ≡ false
-      left_off true z e = absurd (true≢false e)
-      left_off false z e = refl
-
-      right_off : (x z : Bool) → z ≡ false → (x && z) ≡ false
-      right_off true z e = e
-      right_off false z e = refl
 
   module _ (r : ℕ) (set : ℕ → Bool) (w : IsFed k f g y st (suc r) set) (b : ℕ) (first : IsLeftmost r set b) where
     next : ℕ → Bool
@@ -160,7 +137,7 @@ module _ {k m : ℕ} {f g y : ℕ → ℕ} {st : ℕ} (d : IsBipolar k m f g y s
 
     why_of : (i : ℕ) → next i ≡ true → (set i ≡ true) ⊎ ((j : ℕ) × (j < k) × InFace k f g i (g j) × (y j ≡ r) × (up g y j ≡ false))
     unfolding next
-    why_of i t = grind (arith, and_parts, any_below, eqb, face, ltb, not, up, one_of_both, any_below-at, eqb-true, not_true)
+    why_of i t = grind (arith, and_parts, any_below, eqb, face, ltb, not, up, or_cases, any_below-at, eqb-true, not-true)
 
     abbrev Found : ℕ → Type 0
     Found i = (e : ℕ) × (e < k) × (y e < y (g e)) × (y e < r) × (next e ≡ true) × InFace k f g i (g e)

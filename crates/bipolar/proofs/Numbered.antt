@@ -6,6 +6,7 @@ use Rattle.map_theory.specs.Maps.{Dart, HasDart, list_of, place_of}
 use Rattle.map_theory.proofs.DartLemmas.{place_of-lt-length, get_or-place_of}
 use Rattle.half_edges.specs.Map.{Map, IsHalfMap, IsLive, dart_at}
 use Rattle.euler_faces.specs.FaceWalks.{AreFaces, walk_at}
+use Rattle.euler_faces.proofs.SideMarks.{some_dart}
 use Rattle.graph_search.specs.Arcs.{arcs_of, IsAcyclic, AreLongest}
 use Rattle.bipolar.specs.Laws.{IsStMap}
 use Rattle.bipolar.proofs.Bipolar.{one_vertex}
@@ -13,7 +14,6 @@ use Rattle.bipolar.proofs.Numberings.{one_numbering}
 use Rattle.bipolar.specs.FaceArcs.{InWalk, AreFaceArcs, IsLeftNumber, AreNumberRows}
 use Rattle.bipolar.specs.Columns.{in_row}
 use Rattle.bipolar.specs.Numbered.{IsStOf, GiveDualNumbers}
-use Rattle.bipolar.proofs.Darts.{live_dart}
 use Rattle.bipolar.proofs.Agree.{walk_dart, acyclic, numbers_agree}
 
 module _ (map : Map) (h : IsHalfMap map) (rank : List ℕ) (st : ℕ) (live : IsLive map st) (w : IsStOf map rank st) where
@@ -23,7 +23,7 @@ module _ (map : Map) (h : IsHalfMap map) (rank : List ℕ) (st : ℕ) (live : Is
   module _ (walks : List (List ℕ)) (faces : AreFaces map walks) (arcs : List (List ℕ)) (a : AreFaceArcs map walks rank arcs) (o : ℕ) (lo : o < length walks) (stands : Contains (walk_at walks o) st) where
     pub acyclic_arcs : IsAcyclic arcs o
     acyclic_arcs =
-        let x = live_dart (dart_at map st) live in
+        let x = some_dart (dart_at map st) live in
         let number = (one_numbering (st_map x.0 x.1 x.2)).some in
         acyclic map h walks faces rank x.0 x.1 number.0 number.1 arcs a o (lo, (st, stands, x.2))
 
@@ -39,7 +39,7 @@ module _ (map : Map) (h : IsHalfMap map) (rank : List ℕ) (st : ℕ) (live : Is
       give = record {
         sizes = record { count = r.count; sizes = r.sizes };
         both = λ u v has.
-            let x = live_dart (dart_at map st) live in
+            let x = some_dart (dart_at map st) live in
             let m = st_map x.0 x.1 x.2 in
             let number = (one_numbering m).some in
             let agree = numbers_agree map h walks faces rank x.0 x.1 number.0 number.1 arcs a o (lo, (st, stands, x.2)) numbers longest in
@@ -59,7 +59,7 @@ module _ (map : Map) (h : IsHalfMap map) (rank : List ℕ) (st : ℕ) (live : Is
                   one.2 ∙ (agree one.0 v u one.1 ∙ sym (two.2 ∙ agree two.0 v u two.1))
             ];
         low = λ v i.
-            let x = live_dart (dart_at map st) live in
+            let x = some_dart (dart_at map st) live in
             let m = st_map x.0 x.1 x.2 in
             let number = (one_numbering m).some in
             let below = (one_numbering m).below number.0 number.1 in

@@ -24,9 +24,6 @@ module _ {lists : Lists} {s t : ℕ} {at rank : List ℕ} (x : IsStMap lists s t
   abbrev g : ℕ → ℕ
   g = twin lists
 
-  number_of : Dart → ℕ
-  number_of d = dart_number lists d
-
   dart_back : (d : Dart) → HasDart lists d.0 d.1 → dart_of lists (dart_number lists d) ≡ d
   dart_back d has = get_or-dart_number lists d.0 d.1 (0, 0) has
 

@@ -1,6 +1,6 @@
 -- Round a vertex the upward edges come by rising column and then the downward ones by falling column: just one edge does not come before the next.
-use Rattle.std.proofs.Common.{◌≡◌, ◌⊎◌, ℕ, ◌<◌, Bool, true, false, not, refl, sym, ap, ◌∙◌, subst, inl, inr, arith}
-use Rattle.std.proofs.lemmas.Bool.{cases_Bool, cases_eq, not_from_true, not_from_false}
+use Rattle.std.proofs.Common.{◌≡◌, ◌⊎◌, ℕ, ◌<◌, true, false, not, sym, ap, ◌∙◌, subst, inl, inr, arith}
+use Rattle.std.proofs.lemmas.Bool.{cases_Bool, cases_eq, not_from_true, not_from_false, not-true, not-false}
 use Rattle.bipolar.proofs.Upward.{IsBipolar, IsRising}
 use Rattle.bipolar.proofs.Falls.{some_fall, before}
 use Rattle.bipolar.proofs.Faces.{up, twin_in, is_up, up_from, is_down, down_from, one_rise, base_up}
@@ -74,8 +74,8 @@ module _ {k m : ℕ} {f g y : ℕ → ℕ} {st : ℕ} (d : IsBipolar k m f g y s
               let e = d.later i l (omega (arith, d.greatest i l, nt)) in
               let same = d.vertices c.0 e.0 c.1 e.1 (c.2 ∙ sym e.2) in
               let j = some_fall f k d.rotates (λ x. not (up g y x)) c.0 e.0 c.1 e.1 same (not_from_false (up g y c.0) (down_from d c.0 c.3)) (not_from_true (up g y e.0) (up_from d e.0 e.3)) in
-              let low = is_down d j.0 j.1 (not_true (up g y j.0) j.3) in
-              let high = is_up d (f j.0) (not_false (up g y (f j.0)) j.4) in (
+              let low = is_down d j.0 j.1 (not-true (up g y j.0) j.3) in
+              let high = is_up d (f j.0) (not-false (up g y (f j.0)) j.4) in (
                 j.0,
                 j.1,
                 omega (arith, tails d n w c.0 j.0 c.1 j.1 j.2, c.2),
@@ -83,14 +83,6 @@ module _ {k m : ℕ} {f g y : ℕ → ℕ} {st : ℕ} (d : IsBipolar k m f g y s
               )
         ]
       ]
-    where
-      not_true : (b : Bool) → not b ≡ true → b ≡ false
-      not_true true e = sym e
-      not_true false e = refl
-
-      not_false : (b : Bool) → not b ≡ false → b ≡ true
-      not_false true e = refl
-      not_false false e = sym e
 
   -- at the vertex of the base no edge goes down, and at that of its twin none goes up
   at_base : (i : ℕ) → i < k → f i ≡ st → (j : ℕ) → j < k → y i ≡ y j → up g y j ≡ false → ⊥

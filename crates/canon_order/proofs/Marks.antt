@@ -6,6 +6,7 @@ use Rattle.std.proofs.lemmas.Bool.{cases_eq, cases_lt, cases_Bool, true≢false,
 use Rattle.std.proofs.lemmas.List.{get_or_past, get_or_default, take_more, length-take-le, get_or-take}
 use Rattle.std.proofs.lemmas.List.Sums.{sum_by-cons, count_by-le-length}
 use Rattle.std.proofs.lemmas.List.Elements.{Contains-append_left, Contains-append_right, Contains-append_cases, Contains-get_or}
+use Rattle.std.proofs.Math.Bool.{and-true}
 use Rattle.map_lists.specs.Lists.{Lists}
 use Rattle.map_theory.specs.Maps.{IsSimpleMap, list_of}
 use Rattle.map_theory.proofs.DartCounts.{length-le-below}
@@ -255,14 +256,10 @@ kept_of-set gone v l =
           ap (kept_but (kept_of gone) v) e ∙ (kept_but-itself (kept_of gone) v
           ∙ sym (ap (kept_of (set gone v true)) e ∙ and_right (ltb v (length (set gone v true))) (not (is_set (set gone v true) v)) (ap not (is_set-here gone v true l))))
       | inr ne ↦
-          ap (λ b. kept_of gone u && not b) (ne_eqb u v ne) ∙ (and_true (kept_of gone u)
+          ap (λ b. kept_of gone u && not b) (ne_eqb u v ne) ∙ (and-true (kept_of gone u)
           ∙ sym (ap₂ (λ n b. ltb u n && not b) (length-set gone v true) (is_set-other gone v u true ne)))
     ] in
     λ i u. same u i
-  where
-    and_true : (x : Bool) → (x && true) ≡ x
-    and_true true = refl
-    and_true false = refl
 
 -- what is marked after a vertex is taken off
 pub marks_after : (C : Lists) (gone marked : List Bool) (v : ℕ) (gone' marked' : List Bool) (ws after : List ℕ) → IsSimpleMap C → v < length C → length gone ≡ length C → length marked ≡ length C → kept_of gone v ≡ true → IsCycleAfter C (kept_of gone) v ws after → ((u : ℕ) → (is_set marked u ≡ true) ↔ Contains ws u) → IsTaken C v marked gone marked' gone' → (u : ℕ) → (is_set marked' u ≡ true) ↔ Contains after u

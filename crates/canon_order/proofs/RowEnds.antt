@@ -27,9 +27,6 @@ module _ (lists : Lists) (base : Dart) (at : List ℕ) (triangulation : IsTriang
   abbrev n : ℕ
   n = length at
 
-  some : 3 ≤ n
-  some = let h = order.count in let m = triangulation.some in omega arith
-
   -- one vertex has one place
   one_place : (i j : ℕ) → i < n → j < n → get_or at i 0 ≡ get_or at j 0 → i ≡ j
   one_place i j l m e = same_place at i j order.built.once l m e

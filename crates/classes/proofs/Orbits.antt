@@ -1,10 +1,11 @@
 -- Orbits: the classes into which a function joins the numbers below k with their images; and what is known where it is a bijection.
-use Rattle.std.proofs.Common.{◌≡◌, ◌≢◌, ℕ, zero, suc, ◌+◌, ◌<◌, ◌≤◌, Bool, true, false, not, List, [], ◌∷◌, length, get_or, refl, sym, ◌∙◌, subst, inl, inr, arith}
+use Rattle.std.proofs.Common.{◌≡◌, ◌≢◌, ℕ, zero, suc, ◌+◌, ◌<◌, ◌≤◌, Bool, true, not, List, [], ◌∷◌, length, get_or, refl, sym, ◌∙◌, subst, inl, inr, arith}
 use Rattle.std.specs.List.{All, enumerate_from}
 use Rattle.std.proofs.lemmas.Bool.{cases_eq, cases_lt}
 use Rattle.std.proofs.lemmas.List.{get_or_default}
 use Rattle.std.proofs.lemmas.List.Elements.{All-head, All-tail, All-cons}
 use Rattle.std.proofs.lemmas.List.FromFn.{length-enumerate_from, get_or-enumerate_from}
+use Rattle.std.specs.Cmp.{both_ways}
 use Rattle.classes.specs.Classes.{alone, merge_all, count_below, classes, orbits, image, IsPermutationOfBelow}
 use Rattle.classes.proofs.Counting.{count_below_images_le, count_below_not, weaker_test_back}
 use Rattle.classes.proofs.Classes.{Together, IsLabels, IsEquivalenceBelow, PairsBelow, IsLabels-alone, length-alone, merge_all-holds, merge_all-same, length-classes, IsLabels-classes, classes-holds, classes-lies}
@@ -146,13 +147,8 @@ count_below-images f k w p =
 pub marks_back : (f : ℕ → ℕ) (k : ℕ) → IsPermuting f k → (marked : ℕ → Bool) → ((i : ℕ) → i < k → marked i ≡ true → marked (f i) ≡ true) → (i : ℕ) → i < k → marked (f i) ≡ true → marked i ≡ true
 marks_back f k w marked keeps = weaker_test_back marked (λ i. marked (f i)) k keeps (sym (count_below-images f k w marked))
 
-same_from_both : (x y : Bool) → (x ≡ true → y ≡ true) → (y ≡ true → x ≡ true) → x ≡ y
-same_from_both true y h h' = sym (h refl)
-same_from_both false true h h' = h' refl
-same_from_both false false h h' = refl
-
 -- marks that each step keeps are one on each orbit
 pub orbits-closed_marks : (images : List ℕ) → IsPermutationOfBelow images → (marked : ℕ → Bool) → ((i : ℕ) → i < length images → marked i ≡ true → marked (image images i) ≡ true) → (i j : ℕ) → i < length images → j < length images → Together (orbits images) i j → marked i ≡ marked j
 orbits-closed_marks images p marked keeps =
     let w = IsPermuting-image images p in
-    orbits-marked marked images p.within (λ i l. same_from_both (marked i) (marked (image images i)) (keeps i l) (marks_back (image images) (length images) w marked keeps i l))
+    orbits-marked marked images p.within (λ i l. both_ways (marked i) (marked (image images i)) (keeps i l) (marks_back (image images) (length images) w marked keeps i l))

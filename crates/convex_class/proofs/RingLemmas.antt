@@ -1,24 +1,17 @@
 -- The darts from a vertex, put into a row one after another.
-use Rattle.std.proofs.Common.{◌≡◌, ◌≢◌, ℕ, ◌+◌, ◌<◌, List, [], ◌∷◌, ◌++◌, length, get_or, map, AllPairs, Some, sym, ap, ◌∙◌, inl, inr, arith}
+use Rattle.std.proofs.Common.{◌≡◌, ℕ, ◌+◌, ◌<◌, List, [], ◌∷◌, ◌++◌, length, get_or, map, Some, sym, ap, ◌∙◌, inl, inr, arith}
 use Rattle.std.specs.Option.{option_map}
 use Rattle.std.proofs.lemmas.Bool.{cases_lt}
-use Rattle.std.proofs.lemmas.List.{get_or_default, get_or_append_left, get_or_push, length-append, map-append}
-use Rattle.map_theory.specs.Maps.{list_of, entry_after}
-use Rattle.map_theory.proofs.DartLemmas.{place_of-get_or}
+use Rattle.std.proofs.lemmas.List.{get_or_append_left, get_or_push, length-append, map-append}
+use Rattle.map_theory.specs.Maps.{list_of}
 use Rattle.half_edges.specs.Map.{Map, IsHalfMap, IsLive, dart_at, next_dart}
+use Rattle.half_edges.proofs.ArenaLemmas.{entry_after-next}
 use Rattle.euler_faces.proofs.NumberLemmas.{live_from, some_of}
 use Rattle.map_lists.specs.declared.ids.DartId.{DartId}
 use Rattle.euler_faces.specs.FaceWalks.{ids_of}
 
--- the entry at the next place is the next one
-next_entry : (us : List ℕ) (i : ℕ) → AllPairs ◌≢◌ us → i + 1 < length us → entry_after (get_or us i 0) us ≡ get_or us (i + 1) 0
-unfolding entry_after
-next_entry us i distinct l =
-    let place = place_of-get_or us i 0 distinct (omega arith) in
-    ap (λ k. get_or us (k + 1) (get_or us 0 (get_or us i 0))) place ∙ get_or_default us (i + 1) (get_or us 0 (get_or us i 0)) 0 l
-
 pub next_at : (map : Map) → IsHalfMap map → (v i d e : ℕ) → v < length map.lists → dart_at map d ≡ Some (v, get_or (list_of map.lists v) i 0) → dart_at map e ≡ option_map (next_dart map.lists) (dart_at map d) → i + 1 < length (list_of map.lists v) → dart_at map e ≡ Some (v, get_or (list_of map.lists v) (i + 1) 0)
-next_at map h v i d e lv is step l = step ∙ (ap (option_map (next_dart map.lists)) is ∙ ap (λ z. Some (v, z)) (next_entry (list_of map.lists v) i (h.simple.no_repeat v lv) l))
+next_at map h v i d e lv is step l = step ∙ (ap (option_map (next_dart map.lists)) is ∙ ap (λ z. Some (v, z)) (entry_after-next (list_of map.lists v) i (h.simple.no_repeat v lv) l))
 
 pub next_live : (map : Map) (d e : ℕ) → IsLive map d → dart_at map e ≡ option_map (next_dart map.lists) (dart_at map d) → IsLive map e
 next_live map d e live step =

@@ -1,5 +1,6 @@
 -- A map whose faces have at most three darts has no separating pair.
 use Rattle.std.proofs.Common.{◌≡◌, ◌≢◌, ◌⊎◌, ℕ, ◌+◌, ◌<◌, ◌≤◌, List, length, get_or, Some, sym, ap, ◌∙◌, inl, inr, arith}
+use Rattle.vertex_rounds.proofs.LeastLemmas.{place_in}
 use Rattle.std.specs.Option.{option_map}
 use Rattle.std.proofs.lemmas.Bool.{cases_eq}
 use Rattle.std.proofs.lemmas.List.{get_or_default, get_or_past}
@@ -12,7 +13,6 @@ use Rattle.convex_peeling.specs.PolyhedralMapsLaws.{IsPlaneUncut}
 use Rattle.convex_peeling.proofs.PolyhedralLemmas.{pairs_meet_twice}
 use Rattle.convex_class.specs.Clear.{after_place}
 use Rattle.convex_class.proofs.Bad.{StandsIn, head_of, some_walk, same_walk}
-use Rattle.convex_class.proofs.ClearLemmas.{place_in}
 
 after_next : (walk : List ℕ) (i j : ℕ) → i + 1 ≡ j → j < length walk → after_place walk i ≡ get_or walk j 0
 after_next walk i j e l = ap (λ k. get_or walk k (get_or walk 0 0)) e ∙ get_or_default walk j (get_or walk 0 0) 0 l

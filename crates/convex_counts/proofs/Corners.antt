@@ -1,5 +1,5 @@
 -- The grid, its corners and the outer face of a whole run.
-use Rattle.std.proofs.Common.{◌≡◌, ℕ, zero, suc, ◌+◌, ◌-◌, ◌*◌, ◌<◌, ◌≤◌, ℤ, pos, negsuc, neg_ℤ, ◌-ℤ◌, ◌*ℤ◌, ◌<ℤ◌, refl, sym, ap, ap₂, subst, ◌∙◌, inl, inr, arith}
+use Rattle.std.proofs.Common.{◌≡◌, ℕ, zero, suc, ◌+◌, ◌-◌, ◌*◌, ◌<◌, ◌≤◌, ℤ, pos, negsuc, neg_ℤ, ◌-ℤ◌, ◌*ℤ◌, ◌<ℤ◌, refl, sym, ap, ap₂, subst, ◌∙◌, arith}
 use Rattle.std.proofs.lemmas.Bool.{cases_lt}
 use Rattle.std.proofs.lemmas.Int.{ints}
 use Rattle.pg_plane.specs.declared.grid_points.Point.{Point}
@@ -84,8 +84,8 @@ module _ (steps : ℕ → Step) (n : ℕ) (whole : IsWholeRun steps n) where
       let same : v ≡ g.vertex whole.top = omega arith in
       (ap at.one same ∙ second_axis whole.top (omega arith) whole.within, ap at.two same ∙ on_first_axis whole.top (omega arith))
 
-  cornered_at : IsCornered steps n (faces_made steps n)
-  cornered_at = grind (arith, fall, sums, at_last, cases_lt, on_first_axis, second_axis)
+  pub cornered : IsCornered steps n (faces_made steps n)
+  cornered = grind (arith, fall, sums, at_last, cases_lt, on_first_axis, second_axis)
 
   outer_left : (j : ℕ) → suc j < g.width → pos 0 <ℤ area (thrice at (g.vertex j)) (thrice at (g.vertex (suc j))) outside
   outer_left j l = grind (arith, cases_lt, outside_right, at, on_first_axis, outside_left, second_axis)
@@ -93,9 +93,6 @@ module _ (steps : ℕ → Step) (n : ℕ) (whole : IsWholeRun steps n) where
 pub some_faces : (steps : ℕ → Step) (n : ℕ) → IsRun steps n → 0 < n → 0 < faces_made steps n
 some_faces steps zero run l = absurd (omega arith)
 some_faces steps (suc n) run l = let s = (run n (omega arith)).some_face in omega arith
-
-pub cornered : (steps : ℕ → Step) (n : ℕ) → IsWholeRun steps n → IsCornered steps n (faces_made steps n)
-cornered steps n whole = cornered_at steps n whole
 
 pub left_of_outer : (steps : ℕ → Step) (n j : ℕ) → IsWholeRun steps n → suc j < (stage_after steps n).width → pos 0 <ℤ area (thrice (face_counts steps n) ((stage_after steps n).vertex j)) (thrice (face_counts steps n) ((stage_after steps n).vertex (suc j))) outside
 left_of_outer steps n j whole l = outer_left steps n whole j l

@@ -6,6 +6,7 @@ use Rattle.pg_plane.specs.declared.grid_points.Point.{Point}
 use Rattle.pg_plane.specs.Geometry.{area}
 use Rattle.pg_plane.proofs.Ring.{ring, sums}
 use Rattle.pg_plane.proofs.Identities.{area_turned}
+use Rattle.pg_plane.proofs.Crossing.{flat_ends, flat_last}
 use Rattle.contour_runs.specs.Runs.{Stage}
 use Rattle.contour_runs.specs.Wood.{Coordinates, point_of}
 use Rattle.contour_runs.proofs.Areas.{spread_area}
@@ -30,12 +31,6 @@ middle steps at k i = (let g = stage_after steps k in let s = steps k in sum_of 
 -- the area of three vertices
 abbrev pub area_of : Coordinates → ℕ → ℕ → ℕ → ℤ
 area_of at x y z = area (point_of at x) (point_of at y) (point_of at z)
-
-flat_back : (a b : Point) → area a b a ≡ pos 0
-flat_back a b = simp ring (omega (arith, sums))
-
-flat_end : (a b : Point) → area a b b ≡ pos 0
-flat_end a b = simp ring (omega (arith, sums))
 
 -- thrice a vector, with the sum of three
 triple : (u v : ℤ) (a b c a' b' c' : ℤ) → (((u +ℤ u) +ℤ u) *ℤ ((a' +ℤ b') +ℤ c')) -ℤ (((a +ℤ b) +ℤ c) *ℤ ((v +ℤ v) +ℤ v)) ≡ (((((u *ℤ a') -ℤ (a *ℤ v)) +ℤ ((u *ℤ b') -ℤ (b *ℤ v))) +ℤ ((u *ℤ c') -ℤ (c *ℤ v))) +ℤ ((((u *ℤ a') -ℤ (a *ℤ v)) +ℤ ((u *ℤ b') -ℤ (b *ℤ v))) +ℤ ((u *ℤ c') -ℤ (c *ℤ v)))) +ℤ ((((u *ℤ a') -ℤ (a *ℤ v)) +ℤ ((u *ℤ b') -ℤ (b *ℤ v))) +ℤ ((u *ℤ c') -ℤ (c *ℤ v)))
@@ -121,11 +116,11 @@ module _ (steps : ℕ → Step) (n : ℕ) (whole : IsWholeRun steps n) (k i : �
             let same = ap old e in
             let ab : pos 0 ≤ℤ area_of at (old j) (old (suc j)) b = elim (cases_lt (suc j) (s.cut (suc i))) [
               | inl l ↦ grind (arith, first_second, on_second, turned_weak, at, old, weak, second_strict)
-              | inr l ↦ let e : suc j ≡ s.cut (suc i) = omega arith in null _ (ap (λ z. area_of at (old j) (old (suc j)) (old z)) (sym e) ∙ flat_end (point_of at (old j)) (point_of at (old (suc j))))
+              | inr l ↦ let e : suc j ≡ s.cut (suc i) = omega arith in null _ (ap (λ z. area_of at (old j) (old (suc j)) (old z)) (sym e) ∙ flat_last (point_of at (old j)) (point_of at (old (suc j))))
             ] in
             let spread = spread_area at _ _ _ (three_sides steps n whole.turned k i lk li j (suc j) c lo (omega arith) (omega arith) hi (omega arith) (omega arith)) in
             record {
-              first = null _ (ap (λ z. area_of at (old j) (old (suc j)) z) (sym same) ∙ flat_back (point_of at (old j)) (point_of at (old (suc j))));
+              first = null _ (ap (λ z. area_of at (old j) (old (suc j)) z) (sym same) ∙ flat_ends (point_of at (old j)) (point_of at (old (suc j))));
               second = ab;
               third = weak _ spread;
               some = inr (inr spread);
@@ -155,7 +150,7 @@ module _ (steps : ℕ → Step) (n : ℕ) (whole : IsWholeRun steps n) (k i : �
       let q = second_third steps n whole.turned k i lk li (s.cut (suc i)) y t' (omega arith) (omega arith) (omega arith) in
       record {
         first = weak _ spread;
-        second = null _ (flat_back (point_of at b) (point_of at y));
+        second = null _ (flat_ends (point_of at b) (point_of at y));
         third = turned_weak at b y c (third_weak at y c b p.sum p.one (omega arith));
         some = inl spread;
       }
@@ -186,7 +181,7 @@ module _ (steps : ℕ → Step) (n : ℕ) (whole : IsWholeRun steps n) (k i : �
       record {
         first = turned_weak at c (old (s.cut i)) a (first_weak at (old (s.cut i)) a c p.0 p.1 (omega arith));
         second = weak _ spread;
-        third = null _ (flat_back (point_of at c) (point_of at (old (s.cut i))));
+        third = null _ (flat_ends (point_of at c) (point_of at (old (s.cut i))));
         some = inr (inl spread);
       }
 

@@ -2,13 +2,13 @@
 use Rattle.std.proofs.Common.{◌≡◌, ℕ, suc, ◌+◌, ◌<◌, ◌≤◌, List, length, set, sym, ap, ◌∙◌, subst, inl, inr, arith}
 use Rattle.std.proofs.lemmas.Bool.{cases_lt}
 use Rattle.map_theory.specs.Maps.{list_of}
-use Rattle.contour_runs.proofs.Upward.{upward}
 use Rattle.contour_runs.specs.Wood.{Coordinates}
 use Rattle.contour_runs.specs.FaceRuns.{Step, moved, stage_after, faces_made}
 use Rattle.contour_runs.proofs.FaceRunsStages.{IsStage-run, IsRun-less, count-le}
 use Rattle.convex_counts.specs.Counts.{face_counts}
 use Rattle.convex_counts.proofs.Steps.{IsFalling-run}
 use Rattle.convex_laws.specs.declared.convex_rows.rows.ConvexRows.{ConvexRows}
+use Rattle.convex_laws.proofs.FaceNumbers.{made-le}
 use Rattle.convex_draw.specs.declared.convex_points.spots.Spot.{Spot}
 use Rattle.convex_draw.specs.Spots.{Setting, IsPut, IsWritten, AreKept, IsUnder, spot_of}
 use Rattle.convex_draw.specs.Runs.{IsCountRun}
@@ -16,9 +16,6 @@ use Rattle.convex_draw.proofs.Gone.{IsGone-run}
 use Rattle.convex_draw.proofs.Puts.{kept, AreGaps-after}
 use Rattle.convex_draw.proofs.Unders.{IsUnder-covered}
 use Rattle.convex_draw.proofs.Writes.{spot_of-set_same}
-
-pub faces_made-le : (steps : ℕ → Step) (m n : ℕ) → m ≤ n → faces_made steps m ≤ faces_made steps n
-faces_made-le steps m n l = upward (λ k. faces_made steps m ≤ faces_made steps k) m n l (omega arith) (λ k a b c. omega arith)
 
 -- the setting of step k
 abbrev pub setting : (ℕ → Step) → (ℕ → ℕ) → ℕ → Setting
@@ -58,7 +55,7 @@ module _ (steps : ℕ → Step) (name : ℕ → ℕ) (rows : ConvexRows) (count 
       (k j width : ℕ) (spots : List Spot) → k + suc j ≡ n → length spots ≡ count → AreKept steps name k width spots → IsPut (setting steps name k) spots (list_of rows.rows j) (list_of rows.cuts j) (list_of rows.news j)
   IsPut-run k j width spots e same before =
       let run = IsRun-less steps k n (omega arith) h.run in
-      let made = faces_made-le steps (suc k) n (omega arith) in
+      let made = made-le steps (suc k) n (omega arith) in
       let few = h.few in
       let grown = count-le steps (suc k) n (omega arith) in
       let all = h.all in

@@ -17,10 +17,11 @@ use Rattle.euler_faces.specs.ChainSearch.{place, AreReached}
 use Rattle.euler_faces.specs.FaceWalks.{walk_at, first_number, AreFaces}
 use Rattle.euler_faces.proofs.NumberLemmas.{number_at-is, id_of-number}
 use Rattle.euler_faces.proofs.WalkFaces.{in_class, in_walk}
+use Rattle.euler_faces.proofs.SideMarks.{some_dart}
 use Rattle.convex_peeling.specs.Contours.{face_of}
 use Rattle.convex_peeling.proofs.Faces.{along_face}
 use Rattle.convex_orders.specs.FaceNumbers.{InWalk}
-use Rattle.convex_orders.proofs.FaceNumbersRows.{live_dart, live_at}
+use Rattle.convex_orders.proofs.FaceNumbersRows.{live_at}
 use Rattle.convex_laws.specs.Walks.{IsWalk, is_odd_on}
 use Rattle.convex_laws.specs.ClosedWalksLaws.{HasSide}
 use Rattle.convex_laws.proofs.Sides.{sides_are_known}
@@ -70,7 +71,7 @@ module _ (map : Map) (h : IsHalfMap map) (walks : List (List ℕ)) (faces : AreF
   first_of_walk f l =
       let d = get_or (walk_at walks f) 0 0 in
       let walk = faces.each f l in
-      let x = live_dart (dart_at map d) (walk.live 0 walk.some) in
+      let x = some_dart (dart_at map d) (walk.live 0 walk.some) in
       (x.0, x.1, record { stands = (l, (d, Contains-get_or (walk_at walks f) 0 0 walk.some, x.2)); at = x.2 })
 
   walk_dart : (f u v : ℕ) → InWalk map walks f u v → HasDart lists u v

@@ -45,9 +45,6 @@ module _ (map : Map) (known : IsHalfMap map) (start : Dart) (wood : Directions) 
   pub start_is : (root Two, root One) ≡ start
   start_is = ap₂ (λ (x y : ℕ). (x, y)) roots.two roots.one
 
-  pub has_before : HasDart lists (root Three) (root Two)
-  has_before = subst (HasDart lists (root Three)) (sym roots.two) roots.before
-
   pub has_base : HasDart lists (root Two) (root One)
   has_base =
       let next = HasDart-follows lists start.0 (root Three) (known.simple.both_ways (root Three) start.0 roots.before) in

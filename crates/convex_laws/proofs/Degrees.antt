@@ -1,7 +1,7 @@
 -- A closed walk passes the edges at a vertex an even number of times, counted together.
 use Rattle.std.proofs.Common.{◌≡◌, ◌≢◌, ℕ, zero, suc, ◌+◌, ◌<◌, Bool, true, false, ◌&&◌, ◌||◌, eqb, ltb, List, [], ◌∷◌, length, get_or, refl, sym, ap, ap₂, ◌∙◌, subst, inl, inr, arith}
 use Rattle.std.proofs.lemmas.Bool.{cases_eq, cases_lt, eq-eqb, ne_eqb, lt-ltb, le-ltb, cond-true, cond-false, and_left, and_right}
-use Rattle.std.proofs.Math.Bool.{or_comm}
+use Rattle.std.proofs.Math.Bool.{or_comm, and-true}
 use Rattle.map_lists.specs.Lists.{Lists}
 use Rattle.map_theory.specs.Maps.{Dart, HasDart, IsSimpleMap, list_of, place_of, dart_count, same_dart}
 use Rattle.map_theory.proofs.DartLemmas.{place_of-lt-length, get_or-place_of, place_of-get_or, place_after, place_of-entry_after}
@@ -72,17 +72,13 @@ module _ (lists : Lists) (simple : IsSimpleMap lists) where
               | inl e ↦
                   let at : (n : ℕ) → n < length us → t n ≡ eqb d.0 (get_or us n 0) = λ n l.
                   ap (λ b. b || same_dart d (get_or us n 0, x)) (first n)
-                  ∙ (ap (λ b. eqb d.0 (get_or us n 0) && b) (eq-eqb d.1 x (sym e)) ∙ and_true (eqb d.0 (get_or us n 0))) in
+                  ∙ (ap (λ b. eqb d.0 (get_or us n 0) && b) (eq-eqb d.1 x (sym e)) ∙ and-true (eqb d.0 (get_or us n 0))) in
                   one_place x d.0 (subst (λ z. HasDart lists z d.0) (sym e) (simple.both_ways d.0 d.1 has)) t at ∙ sym (ap₂ flipped (ne_eqb x d.0 ne) (eq-eqb x d.1 e))
               | inr ne' ↦
                   odd_below_none t (length us) (λ n l. ap (λ b. b || same_dart d (get_or us n 0, x)) (first n) ∙ and_right (eqb d.0 (get_or us n 0)) (eqb d.1 x) (ne_eqb d.1 x (λ q. ne' (sym q))))
                   ∙ sym (ap₂ flipped (ne_eqb x d.0 ne) (ne_eqb x d.1 ne'))
             ]
       ]
-    where
-      and_true : (a : Bool) → (a && true) ≡ a
-      and_true true = refl
-      and_true false = refl
 
   -- a walk passes the edges at a vertex an odd number of times where it ends there or starts there, and not both
   passes : (walk : List Dart) (v w x : ℕ) → IsWalk lists v w walk → odd_below (λ n. is_odd_on walk x (get_or (list_of lists x) n 0)) (length (list_of lists x)) ≡ flipped (eqb x v) (eqb x w)

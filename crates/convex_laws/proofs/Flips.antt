@@ -1,5 +1,6 @@
 -- Flips of Booleans.
 use Rattle.std.proofs.Common.{◌≡◌, ℕ, Bool, true, false, ◌&&◌, eqb, refl, sym, ap, ap₂, ◌∙◌}
+use Rattle.std.proofs.Math.Bool.{and_comm}
 use Rattle.convex_laws.specs.Walks.{flipped}
 
 pub flipped_twice : (a b : Bool) → flipped a (flipped a b) ≡ b
@@ -36,12 +37,6 @@ flipped_self false = refl
 -- what is flipped on both sides
 pub flipped_both : (c p b : Bool) → flipped (flipped c p) (flipped c b) ≡ flipped p b
 flipped_both c p b = ap (λ x. flipped x (flipped c b)) (flipped_comm c p) ∙ (sym (flipped_assoc p c (flipped c b)) ∙ ap (flipped p) (flipped_twice c b))
-
-pub and_comm : (a b : Bool) → (a && b) ≡ (b && a)
-and_comm true true = refl
-and_comm true false = refl
-and_comm false true = refl
-and_comm false false = refl
 
 -- two numbers exchanged or not
 pub pair_alike : (c : Bool) (at at' : Bool → ℕ) (r : ℕ) → ((b : Bool) → at b ≡ at' (flipped c b)) → (eqb (at false) r && eqb (at true) r) ≡ (eqb (at' false) r && eqb (at' true) r)

@@ -87,15 +87,12 @@ module _ (k : ℕ) (twin step back : ℕ → ℕ) (at : ℕ → Point) (tail : �
   break_smaller i b = λ x. b (subst (λ z. IsClockBefore z (direction step (λ j. larger (at j)) i)) (sym (way_larger (next twin back i)))
       (subst (λ z. IsClockBefore (larger (direction step at (next twin back i))) z) (sym (way_larger i)) (clock_larger (direction step at (next twin back i)) (direction step at i) x)))
 
-  pub smaller_plane : IsPlaneRound k twin step back (λ i. larger (at i)) tail → IsPlaneRound k twin step back at tail
-  smaller_plane p = record {
+  -- A drawing is plane where it is plane three times as large.
+  pub larger_is_plane : IsPlaneRound k twin step back (λ i. larger (at i)) tail → IsPlaneRound k twin step back at tail
+  larger_is_plane p = record {
     apart = λ i j li lj e. p.apart i j li lj (ap larger e);
     off_edges = λ i m li lm ne ne' on. p.off_edges i m li lm ne ne' (larger_on (at m) (at i) (at (step i)) on);
     no_crossing = λ i j li lj x. p.no_crossing i j li lj (larger_cross_segments (at i) (at (step i)) (at j) (at (step j)) x);
     some_break = λ o lo. let b = p.some_break o lo in (b.0, b.1, b.2, break_smaller b.0 b.3);
     one_break = λ i j li lj same a b. p.one_break i j li lj same (break_larger i a) (break_larger j b);
   }
-
--- A drawing is plane where it is plane three times as large.
-pub larger_is_plane : (k : ℕ) (twin step back : ℕ → ℕ) (at : ℕ → Point) (tail : ℕ → ℕ) → IsPlaneRound k twin step back (λ i. larger (at i)) tail → IsPlaneRound k twin step back at tail
-larger_is_plane k twin step back at tail p = smaller_plane k twin step back at tail p

@@ -2,7 +2,6 @@
 use Rattle.std.proofs.Common.{◌≡◌, ◌≢◌, ◌⊎◌, ℕ, suc, ◌+◌, ◌-◌, ◌<◌, ◌≤◌, List, length, pos, ◌≤ℤ◌, ◌<ℤ◌, sym, ap, ap₂, subst, ◌∙◌, inl, inr, arith}
 use Rattle.std.proofs.lemmas.Bool.{cases_order}
 use Rattle.std.proofs.lemmas.Int.{ints}
-use Rattle.contour_runs.proofs.Upward.{upward}
 use Rattle.classes.proofs.Bound.{IsPermuting-pairing}
 use Rattle.map_lists.specs.Lists.{Lists}
 use Rattle.map_theory.specs.Maps.{Dart, HasDart, follows, dart_number, dart_count}
@@ -24,16 +23,14 @@ use Rattle.convex_laws.specs.FaceDrawings.{IsRunDart}
 use Rattle.convex_laws.proofs.Joined.{face_counts_draw, AreDartsOf}
 use Rattle.convex_laws.specs.ConvexDrawings.{IsRunMap, AreCountPoints, IsConvexDrawing, ConvexRunDraws, grid_point}
 use Rattle.convex_laws.proofs.Rounds.{step, back, steps, twins_in, back_in, step_back, head_tail, has_dart, dart_of-step, number, number_in, number_dart, number_tail, number_head, is_plane, rotations_kept}
+use Rattle.convex_laws.proofs.FaceNumbers.{made-less}
 
 -- the number of a face tells its step
-faces-lt : (s : ℕ → Step) (k n i : ℕ) → k < n → i < (s k).faces → faces_made s k + i < faces_made s n
-faces-lt s k n i l li = let h = upward (λ z. faces_made s (suc k) ≤ faces_made s z) (suc k) n l (omega arith) (λ z a b c. omega arith) in omega arith
-
 same_number : (s : ℕ → Step) (k l i j : ℕ) → i < (s k).faces → j < (s l).faces → faces_made s k + i ≡ faces_made s l + j → (k ≡ l) × (i ≡ j)
 same_number s k l i j li lj e = elim (cases_order k l) [
   | inl same ↦ let f = ap (faces_made s) same in (same, omega arith)
-  | inr (inl m) ↦ let f = faces-lt s k l i m li in absurd (omega arith)
-  | inr (inr m) ↦ let f = faces-lt s l k j m lj in absurd (omega arith)
+  | inr (inl m) ↦ let f = made-less s l k i m li in absurd (omega arith)
+  | inr (inr m) ↦ let f = made-less s k l j m lj in absurd (omega arith)
 ]
 
 module _ (lists : Lists) (base : Dart) (s : ℕ → Step) (n : ℕ) (rank : ℕ → ℕ) (face : ℕ → ℕ → ℕ) (m : IsRunMap lists base s n rank face) where
@@ -112,7 +109,7 @@ module _ (lists : Lists) (base : Dart) (s : ℕ → Step) (n : ℕ) (rank : ℕ 
         let stage = IsStage-run s n whole.turned.run in
         let on : IsOnSegment (point_of at (rank x)) (point_of at 0) (point_of at (rank e)) ⊎ IsOnSegment (point_of at (rank x)) (point_of at (rank e)) (point_of at 1) =
         elim (m.on_face x y has) [
-          | inl a ↦ let f = a.number in let less = faces-lt s a.step n a.place a.earlier a.dart.within in absurd (omega arith)
+          | inl a ↦ let f = a.number in let less = made-less s n a.step a.place a.earlier a.dart.within in absurd (omega arith)
           | inr (inl a) ↦ let w = a.along.within in side a.place (rank e) (rank x) last (omega arith) a.along.tail
           | inr (inr a) ↦ let w : ℕ = (stage_after s n).width - 1 in side w (rank e) (rank x) last (omega arith) (stage.end w (omega arith) ∙ sym a.tail)
         ] in

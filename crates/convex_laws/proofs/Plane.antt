@@ -1,6 +1,6 @@
 -- What the triangles say of the darts alone.
 use Rattle.std.proofs.Common.{◌≡◌, ◌⊎◌, ℕ, ◌+◌, ◌*◌, ◌<◌, Bool, true, false, not, ◌&&◌, eqb, refl, sym, ap, ap₂, subst, ◌∙◌, inl, inr, arith, eq-eqb, eqb-true}
-use Rattle.std.proofs.lemmas.Bool.{cases_Bool, true≢false, and_parts}
+use Rattle.std.proofs.lemmas.Bool.{cases_Bool, true≢false, and_parts, not-true, not-false}
 use Rattle.pg_plane.specs.declared.grid_points.Point.{Point}
 use Rattle.pg_plane.specs.Geometry.{vector, IsOnSegment, DoCross, IsClockBefore}
 use Rattle.classes.proofs.Orbits.{IsPermuting, marks_back}
@@ -146,19 +146,11 @@ module _ (k : ℕ) (twin step back : ℕ → ℕ) (at : ℕ → Point) (tail fac
   some_break o lo = elim (find_below (λ i. eqb (tail i) (tail o) && not (is_before (direction step at (next twin back i)) (direction step at i))) k) [
     | inl f ↦
         let p = and_parts (eqb (tail f.0) (tail o)) (not (is_before (direction step at (next twin back f.0)) (direction step at f.0))) f.2 in
-        (f.0, f.1, eqb-true (tail f.0) (tail o) p.0, is_before-false _ _ (not_true _ p.1))
+        (f.0, f.1, eqb-true (tail f.0) (tail o) p.0, is_before-false _ _ (not-true _ p.1))
     | inr none ↦
         absurd (never_round (next twin back) k nexts (λ i. direction step at i) tail next_tail o lo
-        (λ i l t. is_before-true _ _ (was_false _ (sym (ap (λ x. x && not (is_before (direction step at (next twin back i)) (direction step at i))) (eq-eqb (tail i) (tail o) t)) ∙ none i l))))
+        (λ i l t. is_before-true _ _ (not-false _ (sym (ap (λ x. x && not (is_before (direction step at (next twin back i)) (direction step at i))) (eq-eqb (tail i) (tail o) t)) ∙ none i l))))
   ]
-    where
-      not_true : (x : Bool) → not x ≡ true → x ≡ false
-      not_true true h = sym h
-      not_true false h = refl
-
-      was_false : (x : Bool) → not x ≡ false → x ≡ true
-      was_false true h = refl
-      was_false false h = sym h
 
   pub plane_round : IsPlaneRound k twin step back at tail
   plane_round = record {

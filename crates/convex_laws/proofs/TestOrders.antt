@@ -1,16 +1,13 @@
 -- No vertex counts a face in both coordinates: along a contour those that count it as one come before those that count it as two.
-use Rattle.std.proofs.Common.{◌≡◌, ◌⊎◌, ℕ, zero, suc, ◌+◌, ◌-◌, ◌<◌, ◌≤◌, Bool, true, false, refl, sym, ap, ◌∙◌, subst, inl, inr, arith}
-use Rattle.std.proofs.lemmas.Bool.{cases_lt, lt-ltb, le-ltb, lt-leb, le-leb, ltb-true, leb-true}
-use Rattle.std.proofs.Common.{true≢false, ltb, leb}
+use Rattle.std.proofs.Common.{◌≡◌, ◌⊎◌, ℕ, zero, suc, ◌+◌, ◌-◌, ◌<◌, ◌≤◌, Bool, true, refl, sym, ap, ◌∙◌, subst, inl, inr, arith}
+use Rattle.std.proofs.lemmas.Bool.{cases_lt, lt-ltb, le-ltb, lt-leb, le-leb, ltb-true, leb-true, both_ways}
+use Rattle.std.proofs.Common.{ltb, leb}
 use Rattle.contour_runs.specs.Runs.{Stage}
 use Rattle.contour_runs.specs.Laws.{IsStage}
 use Rattle.contour_runs.specs.FaceRuns.{Step, stage_after, IsStep, IsRun, faces_made}
 use Rattle.contour_runs.proofs.FaceRunsPlaces.{order, cut-first, cut-last, vertex_after-low, vertex_after-new, vertex_after-high, cases_place}
 use Rattle.contour_runs.proofs.FaceRunsStages.{IsStage-run, IsRun-less}
 use Rattle.convex_laws.proofs.FaceTests.{one_counted, two_counted, one_hits, two_hits, counted-older, counted-later, counted-hits, counted-new}
-
-never : (b : Bool) → b ≡ false → b ≡ true → ⊥
-never b e f = true≢false (sym f ∙ e)
 
 module _ (steps : ℕ → Step) where
   abbrev st : ℕ → Stage
@@ -100,14 +97,14 @@ module _ (steps : ℕ → Step) where
               record {
                 one = λ e. c.low;
                 one_back = λ e. h.0 ∙ le-leb q t (omega arith);
-                two = λ e. absurd (never (ltb t q) (le-ltb t q (omega arith)) (sym h.1 ∙ e));
+                two = λ e. absurd (both_ways (ltb t q) (le-ltb t q (omega arith)) (sym h.1 ∙ e));
                 two_back = λ m. absurd (omega arith);
               }
-          | inr (inl c) ↦ grind (arith, vertex_after-new, st, counted-new, one_hits, two_hits, never)
+          | inr (inl c) ↦ grind (arith, vertex_after-new, st, counted-new, one_hits, two_hits, both_ways)
           | inr (inr c) ↦
               let h = at_older c.from q c.within (vertex_after-high (st n) (steps n) q c.from (omega arith) c.to) in
               record {
-                one = λ e. absurd (never (leb c.from t) (lt-leb c.from t (omega arith)) (sym h.0 ∙ e));
+                one = λ e. absurd (both_ways (leb c.from t) (lt-leb c.from t (omega arith)) (sym h.0 ∙ e));
                 one_back = λ m. absurd (omega arith);
                 two = λ e. omega arith;
                 two_back = λ m. h.1 ∙ lt-ltb t c.from (omega arith);
@@ -152,7 +149,7 @@ module _ (steps : ℕ → Step) where
               two = λ p q a b e. let x = known n i stage step li p (omega arith) in let y = known n i stage step li q b in y.two_back (let z = x.two e in omega arith);
               apart = λ v lv e e'. elim (cases_lt v (st n).count) [
                 | inl older ↦ grind (arith, st, ltb-true, counted-hits, two_hits, leb-true, one_hits)
-                | inr new ↦ never (O (suc n) (faces_made steps n + i) v) (counted-new (λ s. s.last) one_hits steps n i v new) e
+                | inr new ↦ both_ways (O (suc n) (faces_made steps n + i) v) (counted-new (λ s. s.last) one_hits steps n i v new) e
               ];
             }
       ]

@@ -1,10 +1,10 @@
 -- Walks put together, and turned.
 use Rattle.std.proofs.Common.{◌≡◌, ℕ, Bool, ◌||◌, eqb, List, [], ◌∷◌, ◌++◌, refl, sym, ap, ap₂, ◌∙◌, subst}
-use Rattle.std.proofs.Math.Bool.{or_comm}
+use Rattle.std.proofs.Math.Bool.{or_comm, and_comm}
 use Rattle.map_lists.specs.Lists.{Lists}
 use Rattle.map_theory.specs.Maps.{Dart, IsSimpleMap, twin_dart, same_dart}
 use Rattle.convex_laws.specs.Walks.{IsWalk, turned, flipped, is_edge, is_odd_on}
-use Rattle.convex_laws.proofs.Flips.{flipped_assoc, flipped_comm, flipped_false, and_comm}
+use Rattle.convex_laws.proofs.Flips.{flipped_assoc, flipped_comm, flipped_false}
 
 pub IsWalk-append : (lists : Lists) (xs ys : List Dart) (v w u : ℕ) → IsWalk lists v w xs → IsWalk lists w u ys → IsWalk lists v u (xs ++ ys)
 IsWalk-append lists [] ys v w u e is = subst (λ z. IsWalk lists z u ys) (sym e) is

@@ -1,7 +1,8 @@
 -- The coordinates of a run are the face counts of the regions of its wood.
-use Rattle.std.proofs.Common.{◌≡◌, ◌≢◌, ◌⊎◌, ℕ, zero, suc, ◌+◌, ◌-◌, ◌<◌, ◌≤◌, pos, ◌+ℤ◌, Bool, true, false, not, ◌&&◌, eqb, List, length, refl, sym, ap, ap₂, ◌∙◌, subst, inl, inr, arith}
+use Rattle.std.proofs.Common.{◌≡◌, ◌≢◌, ◌⊎◌, ℕ, zero, suc, ◌+◌, ◌-◌, ◌<◌, ◌≤◌, pos, Bool, true, false, not, ◌&&◌, eqb, List, length, refl, sym, ap, ap₂, ◌∙◌, subst, inl, inr, arith}
 use Rattle.std.proofs.lemmas.Bool.{cases_lt, cases_eq, lt-ltb, eq-eqb, ne_eqb, and_from}
-use Rattle.classes.specs.Classes.{count_below, class_count, same_class}
+use Rattle.std.proofs.Math.Bool.{and_comm}
+use Rattle.classes.specs.Classes.{count_below, same_class}
 use Rattle.classes.specs.Classes.{label as label_in}
 use Rattle.classes.proofs.Counting.{one_if, count_below_same, count_below_into, count_below_not, count_below_split}
 use Rattle.classes.proofs.Classes.{IsLabels, label-lt}
@@ -34,13 +35,12 @@ use Rattle.euler_faces.specs.Chains.{GoesOn, along, over, ReachesBy, Reaches}
 use Rattle.convex_laws.specs.ClosedWalksLaws.{HasSide}
 use Rattle.convex_laws.specs.Inside.{is_other_face}
 use Rattle.convex_laws.specs.Regions.{IsRegionWalk, IsFaceRegion}
-use Rattle.convex_laws.proofs.Flips.{flipped_twice, flipped_comm, and_comm}
+use Rattle.convex_laws.proofs.Flips.{flipped_twice, flipped_comm}
 use Rattle.convex_laws.proofs.Sides.{sides_are_known}
 use Rattle.convex_laws.proofs.RegionWalks.{IsRegionWalk-closed}
 use Rattle.convex_laws.proofs.AllDarts.{rank_at, goes_all, numbered}
 use Rattle.convex_laws.proofs.Outs.{IsWoodRun, rises_out}
 use Rattle.convex_laws.proofs.Heights.{height}
-use Rattle.convex_laws.proofs.ConvexWoodsTurned.{faces_made-well_turned}
 use Rattle.convex_laws.proofs.ConvexWoodsWhole.{wood_at, IsWoodRun-named, some_out}
 use Rattle.convex_laws.proofs.FaceTests.{one_counted, two_counted, one_is_count, two_is_count}
 use Rattle.convex_laws.proofs.TestOrders.{tests_apart}

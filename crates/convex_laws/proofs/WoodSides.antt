@@ -1,9 +1,9 @@
 -- Which faces of a map lie inside the closed paths of its regions, by what the vertices count over a run.
-use Rattle.std.proofs.Common.{◌≡◌, ◌≢◌, ℕ, zero, suc, ◌+◌, ◌-◌, ◌<◌, ◌≤◌, Bool, true, false, not, ◌&&◌, ◌||◌, ltb, leb, eqb, List, [], ◌∷◌, ◌++◌, length, refl, sym, ap, ap₂, ◌∙◌, subst, inl, inr, arith}
-use Rattle.std.proofs.Math.Bool.{or_comm}
+use Rattle.std.proofs.Common.{◌≡◌, ◌≢◌, ℕ, zero, suc, ◌+◌, ◌-◌, ◌<◌, ◌≤◌, Bool, true, false, not, ◌&&◌, ltb, leb, eqb, List, [], ◌∷◌, ◌++◌, length, refl, sym, ap, ap₂, ◌∙◌, subst, inl, inr, arith}
+use Rattle.std.proofs.Math.Bool.{and-true}
 use Rattle.std.proofs.lemmas.Bool.{cases_lt, cases_eq, cases_order, lt-ltb, le-ltb, lt-leb, le-leb, eq-eqb, ne_eqb, and_left, and_right, and_from}
 use Rattle.map_lists.specs.Lists.{Lists}
-use Rattle.map_theory.specs.Maps.{Dart, HasDart, IsSimpleMap, same_dart}
+use Rattle.map_theory.specs.Maps.{Dart, HasDart, IsSimpleMap}
 use Rattle.map_theory.specs.Paths.{SameFace}
 use Rattle.contour_runs.specs.Runs.{Stage}
 use Rattle.contour_runs.specs.Laws.{IsStage}
@@ -33,6 +33,7 @@ use Rattle.convex_laws.proofs.WayTests.{no_edge, edge_on, edge_back}
 use Rattle.convex_laws.proofs.EdgeTests.{ltb_not}
 use Rattle.convex_laws.proofs.FaceTests.{test-outer, one_hits, two_hits}
 use Rattle.convex_laws.proofs.RunSides.{ones, twos, IsBy, inner, last, base, IsSided, sided_at, one_number, base_off, base_behind}
+use Rattle.convex_laws.proofs.Degrees.{is_odd_on-turned}
 
 inner_three : (p q r : Bool) → flipped (flipped (flipped q r) false) (flipped (flipped p r) false) ≡ flipped p (flipped false q)
 inner_three x0 x1 x2 = grind arith
@@ -51,17 +52,6 @@ side_first x0 x1 x2 = grind arith
 
 side_second : (p q o : Bool) → flipped (flipped p q) o ≡ flipped q (flipped o p)
 side_second x0 x1 x2 = grind arith
-
-and_true : (a : Bool) → (a && true) ≡ a
-and_true true = refl
-and_true false = refl
-
-is_edge-swap : (d : Dart) (x y : ℕ) → is_edge d y x ≡ is_edge d x y
-is_edge-swap d x y = or_comm (same_dart d (y, x)) (same_dart d (x, y))
-
-is_odd_on-swap : (ds : List Dart) (x y : ℕ) → is_odd_on ds y x ≡ is_odd_on ds x y
-is_odd_on-swap [] x y = refl
-is_odd_on-swap (d ∷ ds) x y = ap₂ flipped (is_edge-swap d x y) (is_odd_on-swap ds x y)
 
 -- the darts from a place of a walk to the next, so many from place a on
 abbrev pub darts_along : (ℕ → ℕ) → ℕ → ℕ → List Dart
@@ -334,7 +324,7 @@ module _ (lists : Lists) (s d : ℕ) (steps : ℕ → Step) (n : ℕ) (rank : �
         by_kind Three (inner lf lg a b e1 e2 e3) =
             base_w ∙ (no_edge 1 0 (rank x) (rank y) (λ e f. let z = is_base x y lx ly e f in omega arith) (λ e f. let z = is_base y x ly lx e f in omega arith) ∙ sym e3)
         by_kind One (last i a ef lg e1 e2 e3) =
-            some_odd w x y i top (end - top) (λ j p r. on_w i a j (omega arith)) ∙ (ap (λ z. leb top i && z) (lt-ltb i (top + (end - top)) (omega arith)) ∙ (and_true (leb top i) ∙ sym e1))
+            some_odd w x y i top (end - top) (λ j p r. on_w i a j (omega arith)) ∙ (ap (λ z. leb top i && z) (lt-ltb i (top + (end - top)) (omega arith)) ∙ (and-true (leb top i) ∙ sym e1))
         by_kind Two (last i a ef lg e1 e2 e3) =
             let z : 0 + top ≡ top = omega arith in
             some_odd w x y i 0 top (λ j p r. on_w i a j (omega arith)) ∙ (ap₂ (λ p q. p && q) (le-leb 0 i (omega arith)) (ap (ltb i) z) ∙ (ltb_not i top ∙ sym e2))
@@ -375,5 +365,5 @@ module _ (lists : Lists) (s d : ℕ) (steps : ℕ → Step) (n : ℕ) (rank : �
       let back = simple.both_ways x y has in
       elim (sided_at steps n h.whole h.some (rank x) (rank y) (face x y) (face y x) (h.map.on_face x y has) (h.map.on_face y x back)) [
         | inl q ↦ sides_told x y has q c v l
-        | inr q ↦ flipped_comm (label c (face x y) v) (label c (face y x) v) ∙ (sides_told y x back q c v l ∙ is_odd_on-swap (region_walk c v l).0 x y)
+        | inr q ↦ flipped_comm (label c (face x y) v) (label c (face y x) v) ∙ (sides_told y x back q c v l ∙ is_odd_on-turned (region_walk c v l).0 x y)
       ]

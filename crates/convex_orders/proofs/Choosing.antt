@@ -7,7 +7,6 @@ use Rattle.convex_orders.specs.declared.removals.RowTables.{RowTables}
 use Rattle.convex_orders.specs.declared.map_tables.Tables.{Tables}
 use Rattle.convex_orders.specs.Contours.{vertices_of, AreInner}
 use Rattle.convex_orders.specs.Counts.{AreCounts}
-use Rattle.convex_orders.specs.Moved.{HaveSize}
 use Rattle.convex_orders.specs.Shown.{IsListOf, IsChoice, IsOffAt, SomeOff, GoesOffAt}
 use Rattle.convex_orders.specs.Splits.{IsRemovablePlace}
 use Rattle.convex_orders.specs.Standing.{Stands, HasOther}
@@ -17,9 +16,6 @@ use Rattle.convex_orders.proofs.Stretches.{some_place}
 use Rattle.convex_orders.proofs.StandLemmas.{choice, off_by, stands_more}
 
 module _ (t : Tables) (s : RowTables) (kept : IsKept t s) where
-  pub sizes : HaveSize s.counts t.faces.count
-  sizes = record { places = kept.counts.places_long; edges = kept.counts.edges_long }
-
   -- where the place has moved
   module _ (contour : Contour) (same : vertices_of contour ≡ vertices_of s.contour) where
     pub inner_moved : AreInner t.lists t.faces.own (vertices_of contour) s.rims.inner.items

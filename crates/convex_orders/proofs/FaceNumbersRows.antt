@@ -1,23 +1,20 @@
 -- Darts by their ids, and rows of numbers as a table.
-use Rattle.std.proofs.Common.{◌≡◌, ◌≢◌, ℕ, ◌+◌, ◌<◌, List, [], ◌∷◌, ◌++◌, length, get_or, AllPairs, Option, Some, None, refl, sym, ap, ◌∙◌, subst, inl, inr, arith, append_assoc, append-nil}
+use Rattle.std.proofs.Common.{◌≡◌, ℕ, ◌+◌, ◌<◌, List, [], ◌∷◌, ◌++◌, length, get_or, Option, Some, refl, sym, ap, ◌∙◌, subst, inl, inr, arith, append_assoc, append-nil}
 use Rattle.std.specs.Prelude.{option_map, IsSome}
-use Rattle.std.proofs.lemmas.Bool.{cases_lt, false≢true}
-use Rattle.std.proofs.lemmas.List.{get_or_default, get_or_append_left, get_or_push, length-append}
+use Rattle.std.proofs.lemmas.Bool.{cases_lt}
+use Rattle.std.proofs.lemmas.List.{get_or_append_left, get_or_push, length-append}
 use Rattle.classes.proofs.Classes.{Together}
 use Rattle.map_lists.specs.Lists.{Lists}
-use Rattle.map_theory.specs.Maps.{Dart, HasDart, twin_dart, list_of, follows, entry_after, place_of, dart_number, face_classes}
-use Rattle.map_theory.proofs.DartLemmas.{place_of-get_or, place_of-lt-length, get_or-place_of}
+use Rattle.map_theory.specs.Maps.{Dart, HasDart, twin_dart, list_of, follows, place_of, dart_number, face_classes}
+use Rattle.map_theory.proofs.DartLemmas.{place_of-lt-length, get_or-place_of}
 use Rattle.half_edges.specs.Map.{Map, IsHalfMap, dart_at, next_dart}
+use Rattle.half_edges.proofs.ArenaLemmas.{entry_after-next}
 use Rattle.euler_faces.specs.FaceWalks.{walk_at, first_number, AreFaces}
 use Rattle.euler_faces.proofs.NumberLemmas.{number_at-is}
 use Rattle.euler_faces.proofs.WalkFaces.{in_class, in_walk}
+use Rattle.euler_faces.proofs.SideMarks.{some_dart}
 use Rattle.convex_peeling.specs.Contours.{face_of}
 use Rattle.convex_orders.specs.FaceNumbers.{entry, AreFaceNumbers, InWalk, AreOwn, AreOther, IsRowPut}
-
--- what a live id stands for
-pub live_dart : (o : Option Dart) → IsSome o → (u : ℕ) × (v : ℕ) × (o ≡ Some (u, v))
-live_dart None s = absurd (false≢true s)
-live_dart (Some d) s = (d.0, d.1, refl)
 
 pub live_at : (o : Option Dart) (u v : ℕ) → o ≡ Some (u, v) → IsSome o
 live_at o u v e = subst IsSome (sym e) refl
@@ -26,17 +23,10 @@ pub twin_at : (o o' : Option Dart) (u v : ℕ) → o ≡ Some (u, v) → o' ≡ 
 twin_at o o' u v e step = step ∙ ap (option_map twin_dart) e
 
 pub next_live : (map : Map) (o o' : Option Dart) → IsSome o → o' ≡ option_map (next_dart map.lists) o → IsSome o'
-next_live map o o' s step = let x = live_dart o s in live_at o' x.0 (follows map.lists x.0 x.1) (step ∙ ap (option_map (next_dart map.lists)) x.2)
-
--- the entry at the next place is the next one
-next_entry : (us : List ℕ) (i : ℕ) → AllPairs ◌≢◌ us → i + 1 < length us → entry_after (get_or us i 0) us ≡ get_or us (i + 1) 0
-unfolding entry_after
-next_entry us i distinct l =
-    let place = place_of-get_or us i 0 distinct (omega arith) in
-    ap (λ k. get_or us (k + 1) (get_or us 0 (get_or us i 0))) place ∙ get_or_default us (i + 1) (get_or us 0 (get_or us i 0)) 0 l
+next_live map o o' s step = let x = some_dart o s in live_at o' x.0 (follows map.lists x.0 x.1) (step ∙ ap (option_map (next_dart map.lists)) x.2)
 
 pub next_at : (map : Map) → IsHalfMap map → (v i : ℕ) (o o' : Option Dart) → v < length map.lists → o ≡ Some (v, get_or (list_of map.lists v) i 0) → o' ≡ option_map (next_dart map.lists) o → i + 1 < length (list_of map.lists v) → o' ≡ Some (v, get_or (list_of map.lists v) (i + 1) 0)
-next_at map h v i o o' lv e step l = step ∙ (ap (option_map (next_dart map.lists)) e ∙ ap (λ z. Some (v, z)) (next_entry (list_of map.lists v) i (h.simple.no_repeat v lv) l))
+next_at map h v i o o' lv e step l = step ∙ (ap (option_map (next_dart map.lists)) e ∙ ap (λ z. Some (v, z)) (entry_after-next (list_of map.lists v) i (h.simple.no_repeat v lv) l))
 
 -- one number more in a row
 pub AreOwn-more : (map : Map) (walks : List (List ℕ)) (v x : ℕ) (row : List ℕ) → AreOwn map walks v row → InWalk map walks x v (get_or (list_of map.lists v) (length row) 0) → AreOwn map walks v (row ++ x ∷ [])

@@ -1,5 +1,5 @@
 -- Marks on numbers, written one after another along a row.
-use Rattle.std.proofs.Common.{◌≡◌, ◌≢◌, ◌↔◌, ℕ, ◌+◌, ◌<◌, Bool, true, false, List, length, slice_index, set, sym, ap, ◌∙◌, inl, inr, arith}
+use Rattle.std.proofs.Common.{◌≡◌, ◌≢◌, ◌↔◌, ℕ, ◌<◌, Bool, true, false, List, length, slice_index, set, arith}
 use Rattle.std.proofs.lemmas.Bool.{cases_eq, true≢false}
 use Rattle.std.proofs.lemmas.List.{get_or-set_same, get_or-set_other}
 use Rattle.convex_orders.specs.Shown.{is_set}
@@ -9,9 +9,6 @@ pub record IsBefore (row : List ℕ) (k f : ℕ) : Type 0 where
   pub place : ℕ
   pub within : place < k
   pub here : slice_index row place ≡ f
-
-pub IsBefore-more : (row : List ℕ) (k f : ℕ) → IsBefore row k f → IsBefore row (k + 1) f
-IsBefore-more row k f b = let m = b.within in record { place = b.place; within = omega arith; here = b.here }
 
 -- one mark taken away
 pub set_less : (marks : List Bool) (x f : ℕ) → x < length marks → (is_set (set marks x false) f ≡ true) ↔ ((is_set marks f ≡ true) × (f ≢ x))

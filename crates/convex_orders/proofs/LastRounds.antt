@@ -11,9 +11,6 @@ use Rattle.convex_orders.specs.Contours.{contour_of, inner_number}
 use Rattle.convex_orders.specs.Counts.{AreCounts}
 use Rattle.convex_orders.specs.Standing.{HasOther, AllInner}
 
-pub ne_from : (a b : ℕ) → eqb a b ≡ false → a ≢ b
-ne_from a b h e = true≢false (sym (eq-eqb a b e) ∙ h)
-
 -- where the count is all, all pass the test
 all_pass : (p : ℕ → Bool) (n : ℕ) → count_below p n ≡ n → (i : ℕ) → i < n → p i ≡ true
 all_pass p zero e i l = absurd (omega arith)

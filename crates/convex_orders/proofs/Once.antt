@@ -1,8 +1,9 @@
 -- No number stands twice in a row of a polyhedral map, and counts of what is met at most once.
-use Rattle.std.proofs.Common.{◌≡◌, ◌≢◌, ℕ, zero, suc, ◌<◌, ◌≤◌, Bool, true, false, eqb, ltb, eq-eqb, eqb-true, lt-ltb, length, slice_index, AllPairs, refl, sym, ap, ◌∙◌, inl, inr, arith}
+use Rattle.std.proofs.Common.{◌≡◌, ◌≢◌, ℕ, zero, suc, ◌<◌, ◌≤◌, Bool, eqb, ltb, eq-eqb, eqb-true, lt-ltb, length, slice_index, AllPairs, refl, sym, ap, ◌∙◌, inl, inr, arith}
 use Rattle.std.specs.Prelude.{if◌then◌else◌}
 use Rattle.std.proofs.lemmas.Bool.{cases_lt}
 use Rattle.std.proofs.lemmas.List.{get_or_default}
+use Rattle.std.specs.Cmp.{both_ways}
 use Rattle.classes.specs.Classes.{count_below}
 use Rattle.map_lists.specs.Lists.{Lists}
 use Rattle.map_theory.specs.Maps.{list_of, IsSimpleMap}
@@ -40,10 +41,5 @@ one_if_some m l = elim (cases_lt 0 m) [
   | inr none ↦ (let z : m ≡ 0 = omega arith in z ∙ ap {B = ℕ} (λ k. if ltb 0 k then 1 else 0) (sym z))
 ]
 
-pub same_bool : (a b : Bool) → (a ≡ true → b ≡ true) → (b ≡ true → a ≡ true) → a ≡ b
-same_bool true b h k = sym (h refl)
-same_bool false true h k = k refl
-same_bool false false h k = refl
-
 pub same_test : (a b c d : ℕ) → (a ≡ b → c ≡ d) → (c ≡ d → a ≡ b) → eqb a b ≡ eqb c d
-same_test a b c d h k = same_bool (eqb a b) (eqb c d) (λ t. eq-eqb c d (h (eqb-true a b t))) (λ t. eq-eqb a b (k (eqb-true c d t)))
+same_test a b c d h k = both_ways (eqb a b) (eqb c d) (λ t. eq-eqb c d (h (eqb-true a b t))) (λ t. eq-eqb a b (k (eqb-true c d t)))

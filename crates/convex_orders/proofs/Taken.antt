@@ -1,6 +1,7 @@
 -- The marks after a removal, and the removal at a removable vertex.
 use Rattle.std.proofs.Common.{◌≡◌, ◌≢◌, ◌⊎◌, ◌↔◌, ℕ, suc, ◌+◌, ◌<◌, ◌≤◌, Bool, true, false, List, length, set, Contains, refl, sym, ap, ◌∙◌, subst, inl, inr, arith}
 use Rattle.std.proofs.lemmas.Bool.{cases_Bool, true≢false}
+use Rattle.std.specs.Cmp.{both_ways}
 use Rattle.map_lists.specs.Lists.{Lists}
 use Rattle.map_theory.specs.Maps.{list_of, HasDart, IsSimpleMap}
 use Rattle.convex_peeling.specs.Polyhedral.{IsPolyhedral}
@@ -15,14 +16,13 @@ use Rattle.convex_orders.specs.Shown.{is_set, IsBased, AreMarks, IsChoice, GoesO
 use Rattle.convex_orders.proofs.Flags.{set_less}
 use Rattle.convex_orders.specs.Counts.{AreCounts}
 use Rattle.convex_orders.proofs.ContourCountsRows.{passes-number, entry-lt}
-use Rattle.convex_orders.proofs.Once.{same_bool}
 use Rattle.convex_orders.proofs.RemovedFaces.{made_passes}
 use Rattle.convex_orders.proofs.Stretches.{polyhedral, has_three, vertex_in, off_base}
 
 module _ (lists own other : Lists) (count : ℕ) (simple : IsSimpleMap lists) (n : AreFaceNumbers lists own other count) (marks new : List Bool) (alive : ℕ → Bool) (w : ℕ → ℕ) (r : ℕ) (o : Removal) (off : IsTakenOff lists alive w r o) (are : AreMarks lists own marks alive) where
   -- the marks after a removal, where some numbers lose their marks
   pub marks_after : (Gone : ℕ → Type 0) → ((f : ℕ) → (is_set new f ≡ true) ↔ ((is_set marks f ≡ true) × (¬ Gone f))) → ((i x y : ℕ) → i < o.faces → HasDart lists x y → face_of lists x y ≡ o.made i → Gone (entry lists own x y)) → ((x y : ℕ) → HasDart lists x y → Gone (entry lists own x y) → o.alive (face_of lists x y) ≢ true) → AreMarks lists own new o.alive
-  marks_after Gone set made dead x y has = grind (arith, set, entry, face_of, same_bool, is_set, cases_Bool)
+  marks_after Gone set made dead x y has = grind (arith, set, entry, face_of, both_ways, is_set, cases_Bool)
 
   -- one face
   pub marks_after_one : (a b : ℕ) → HasDart lists a b → new ≡ set marks (entry lists own a b) false → length marks ≡ count → o.faces ≡ 1 → o.made 0 ≡ face_of lists a b → AreMarks lists own new o.alive

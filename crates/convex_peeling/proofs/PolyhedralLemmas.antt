@@ -51,11 +51,6 @@ cases_IsEdgeBetween lists d e u v =
         | inl has ↦ grind (arith, SameFace, cases_SameFace)
       ]
     ]
-  where
-    cases_both : (P Q : Type 0) → P ⊎ (¬ P) → Q ⊎ (¬ Q) → (P × Q) ⊎ (¬ (P × Q))
-    cases_both P Q (inl p) (inl q) = inl (p, q)
-    cases_both P Q (inl p) (inr not_q) = inr (λ h. not_q h.1)
-    cases_both P Q (inr not_p) q = inr (λ h. not_p h.0)
 
 -- Without cut vertices no face passes a vertex twice.
 pub faces_pass_once : (lists : Lists) (x y z : ℕ) → IsPlaneUncut lists → HasDart lists x y → HasDart lists x z → SameFace lists (x, y) (x, z) → y ≡ z

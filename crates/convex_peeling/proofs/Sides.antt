@@ -98,9 +98,6 @@ module _ (lists : Lists) (simple : IsSimpleMap lists) (u v s t : ℕ) (separated
   s_in : s < length lists
   s_in = let j = separated.joined in subst (λ x. x < length lists) j.start (j.is_path.vertices 0 0 j.is_path.some)
 
-  t_in : t < length lists
-  t_in = let j = separated.joined in let some = j.is_path.some in subst (λ x. x < length lists) j.end (j.is_path.vertices (length separated.path - 1) 0 (omega arith))
-
   -- who is linked to s off both is so along each dart that is left
   linked_alike : Together (component_classes R) s t → AreLinked lists (Off (u ∷ v ∷ [])) s t
   linked_alike together =

@@ -1,12 +1,13 @@
 -- The steps of a frame at one vertex: two where it is no branch, and one on each path of a branch.
-use Rattle.std.proofs.Common.{◌≡◌, ◌≢◌, ◌⊎◌, ◌||◌, ℕ, zero, suc, ◌<◌, ◌≤◌, Bool, true, cond, eqb, refl, sym, ap, ◌∙◌, subst, inl, inr, arith, not}
+use Rattle.std.proofs.Common.{◌≡◌, ◌≢◌, ◌⊎◌, ◌||◌, ℕ, suc, ◌<◌, ◌≤◌, Bool, true, cond, eqb, refl, sym, ap, ◌∙◌, subst, inl, inr, arith, not}
+use Rattle.graph6_text.proofs.BitLemmas.{below_six}
 use Rattle.std.proofs.lemmas.Bool.{cases_eq, eq-eqb, ne_eqb, cond-true, cond-false, or_left, or_right, and_from}
 use Rattle.classes.specs.Classes.{count_below}
 use Rattle.kuratowski.specs.Witnesses.{branch_count, pair_at}
 use Rattle.kuratowski.specs.declared.witness.Kind.{Kind}
 use Rattle.kuratowski.specs.declared.witness.Kind.TheVariants.{K5, K33}
 use Rattle.embed_contraction.specs.Traces.{path_count}
-use Rattle.embed_contraction.proofs.Numbers.{each_of_six, each_of_nine, each_of_ten}
+use Rattle.embed_contraction.proofs.Numbers.{each_of_nine, each_of_ten}
 use Rattle.embed_contraction.proofs.Traces.{pairs_within}
 use Rattle.embed_contraction.proofs.Parts.{minus, count_below-minus}
 use Rattle.embed_contraction.proofs.Frames.{IsFrame}
@@ -147,4 +148,4 @@ module _ (n : ℕ) (kind : Kind) (branch size : ℕ → ℕ) (way : ℕ → ℕ 
 
 -- a branch of K3,3 has three paths
 pub three_paths : (b : ℕ) → b < 6 → count_below (λ p. eqb (pair_at K33 p).0 b || eqb (pair_at K33 p).1 b) 9 ≡ 3
-three_paths = each_of_six (λ b. count_below (λ p. eqb (pair_at K33 p).0 b || eqb (pair_at K33 p).1 b) 9 ≡ 3) refl refl refl refl refl refl
+three_paths = below_six (λ b. count_below (λ p. eqb (pair_at K33 p).0 b || eqb (pair_at K33 p).1 b) 9 ≡ 3) refl refl refl refl refl refl

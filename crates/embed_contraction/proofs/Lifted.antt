@@ -1,14 +1,15 @@
 -- A witness lifted: mended at x, or with x and y exchanged, or else K5 split.
-use Rattle.std.proofs.Common.{◌≡◌, ◌≢◌, ◌⊎◌, ◌&&◌, ◌||◌, ℕ, zero, suc, ◌+◌, ◌-◌, ◌<◌, ◌≤◌, true, false, not, eqb, length, refl, sym, ap, ap₂, ◌∙◌, inl, inr, arith}
+use Rattle.std.proofs.Common.{◌≡◌, ◌≢◌, ◌⊎◌, ℕ, zero, suc, ◌+◌, ◌-◌, ◌<◌, ◌≤◌, true, false, eqb, length, refl, sym, ap, ap₂, ◌∙◌, inl, inr, arith}
 use Rattle.std.proofs.lemmas.Bool.{cases_eq, true≢false, eqb-true, or_cases, and_parts}
 use Rattle.std.proofs.lemmas.Bool.Decides.{nat_tests}
 use Rattle.graph6_text.specs.Graphs.{EdgeGraph, has_edge}
 use Rattle.graph6_text.proofs.EdgeLemmas.{has_edge-turned}
+use Rattle.graph6_text.proofs.BitLemmas.{below_six}
 use Rattle.kuratowski.specs.Witnesses.{branch_count, pair_at, vertex_at, path_at}
 use Rattle.kuratowski.specs.declared.witness.Kind.{Kind}
 use Rattle.kuratowski.specs.declared.witness.Kind.TheVariants.{K5, K33}
 use Rattle.embed_contraction.specs.Traces.{path_count, HasWitness}
-use Rattle.embed_contraction.proofs.Numbers.{each_of_three, each_of_five, each_of_six}
+use Rattle.embed_contraction.proofs.Numbers.{each_of_three, each_of_five}
 use Rattle.embed_contraction.proofs.Traces.{pairs_within}
 use Rattle.embed_contraction.proofs.Parts.{all_or_one}
 use Rattle.embed_contraction.specs.Contracted.{IsContractedBy, IsEdgeOf, LiftedWitness, before_left, LiftedContraction}
@@ -228,7 +229,7 @@ pub on_path : (kind : Kind) (j : ℕ) → j < branch_count kind → (p : ℕ) ×
 on_path K5 =
     each_of_five (λ j. (p : ℕ) × (p < 10) × (((pair_at K5 p).0 ≡ j) ⊎ ((pair_at K5 p).1 ≡ j))) (0, omega arith, inl refl) (0, omega arith, inr refl) (1, omega arith, inr refl) (2, omega arith, inr refl) (3, omega arith, inr refl)
 on_path K33 =
-    each_of_six (λ j. (p : ℕ) × (p < 9) × (((pair_at K33 p).0 ≡ j) ⊎ ((pair_at K33 p).1 ≡ j))) (0, omega arith, inl refl) (3, omega arith, inl refl) (6, omega arith, inl refl) (0, omega arith, inr refl) (1, omega arith, inr refl) (2, omega arith, inr refl)
+    below_six (λ j. (p : ℕ) × (p < 9) × (((pair_at K33 p).0 ≡ j) ⊎ ((pair_at K33 p).1 ≡ j))) (0, omega arith, inl refl) (3, omega arith, inl refl) (6, omega arith, inl refl) (0, omega arith, inr refl) (1, omega arith, inr refl) (2, omega arith, inr refl)
 
 -- a frame of the contracted graph
 module _ (graph small : EdgeGraph) (x y : ℕ) (to : ℕ → ℕ) (c : IsContractedBy graph small x y to) (kind : Kind) (branch size : ℕ → ℕ) (old : ℕ → ℕ → ℕ) (f0 : IsFrame small.n kind branch size old) (old_steps : HasSteps kind size old (λ a b. has_edge small a b ≡ true)) where

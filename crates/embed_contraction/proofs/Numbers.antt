@@ -1,5 +1,6 @@
 -- What is so of the first few numbers, one by one.
 use Rattle.std.proofs.Common.{ℕ, zero, suc, ◌<◌, arith}
+use Rattle.graph6_text.proofs.BitLemmas.{below_six}
 
 pub each_of_one : (P : ℕ → Type 0) → P 0 → (p : ℕ) → p < 1 → P p
 each_of_one P a zero l = a
@@ -21,13 +22,9 @@ pub each_of_five : (P : ℕ → Type 0) → P 0 → P 1 → P 2 → P 3 → P 4 
 each_of_five P a b c d e zero l = a
 each_of_five P a b c d e (suc p) l = each_of_four (λ n. P (suc n)) b c d e p (omega arith)
 
-pub each_of_six : (P : ℕ → Type 0) → P 0 → P 1 → P 2 → P 3 → P 4 → P 5 → (p : ℕ) → p < 6 → P p
-each_of_six P a b c d e f zero l = a
-each_of_six P a b c d e f (suc p) l = each_of_five (λ n. P (suc n)) b c d e f p (omega arith)
-
 pub each_of_seven : (P : ℕ → Type 0) → P 0 → P 1 → P 2 → P 3 → P 4 → P 5 → P 6 → (p : ℕ) → p < 7 → P p
 each_of_seven P a b c d e f g zero l = a
-each_of_seven P a b c d e f g (suc p) l = each_of_six (λ n. P (suc n)) b c d e f g p (omega arith)
+each_of_seven P a b c d e f g (suc p) l = below_six (λ n. P (suc n)) b c d e f g p (omega arith)
 
 pub each_of_eight : (P : ℕ → Type 0) → P 0 → P 1 → P 2 → P 3 → P 4 → P 5 → P 6 → P 7 → (p : ℕ) → p < 8 → P p
 each_of_eight P a b c d e f g h zero l = a

@@ -1,7 +1,9 @@
 -- Parts of a graph without some vertices, and three vertices that part, found by a search.
-use Rattle.std.proofs.Common.{◌≡◌, ◌≢◌, ◌⊎◌, ◌&&◌, ℕ, zero, suc, ◌+◌, ◌<◌, Bool, true, false, not, eqb, List, [], ◌∷◌, length, Contains, refl, sym, ap, ◌∙◌, subst, inl, inr, arith, ◌==◌}
+use Rattle.std.proofs.Common.{◌≡◌, ◌≢◌, ◌⊎◌, ◌&&◌, ℕ, zero, suc, ◌+◌, ◌<◌, Bool, true, not, eqb, List, [], ◌∷◌, length, Contains, refl, sym, ap, ◌∙◌, subst, inl, inr, arith, ◌==◌}
 use Rattle.std.specs.List.{list_any}
 use Rattle.std.proofs.lemmas.Bool.{cases_Bool, cases_eq, true≢false, false≢true, not-true, false_from_ne_true, eq-eqb, ne_eqb}
+use Rattle.std.specs.Cmp.{both_ways}
+use Rattle.std.proofs.Math.Bool.{and-true, and-false}
 use Rattle.classes.specs.Classes.{count_below, same_class}
 use Rattle.classes.proofs.Counting.{count_below_more}
 use Rattle.classes.proofs.Classes.{Together-from, same_class-from}
@@ -24,15 +26,10 @@ all_or_one P Q (suc n) h =
       ]
     ]
 
-both_imply : (a b : Bool) → (a ≡ true → b ≡ true) → (b ≡ true → a ≡ true) → a ≡ b
-both_imply true b h k = sym (h refl)
-both_imply false true h k = k refl
-both_imply false false h k = refl
-
 -- what edges keep is kept all over a component
 pub closed_part : (lists : Lists) → IsSimpleMap lists → (mark : ℕ → Bool) → ((a b : ℕ) → HasDart lists a b → mark a ≡ true → mark b ≡ true) → (s t : ℕ) → s < length lists → t < length lists → SameComponent lists s t → mark s ≡ true → mark t ≡ true
 closed_part lists simple mark closed s t l m same e =
-    let step : (a b : ℕ) → HasDart lists a b → mark a ≡ mark b = λ a b d. both_imply (mark a) (mark b) (closed a b d) (closed b a (simple.both_ways a b d)) in
+    let step : (a b : ℕ) → HasDart lists a b → mark a ≡ mark b = λ a b d. both_ways (mark a) (mark b) (closed a b d) (closed b a (simple.both_ways a b d)) in
     let one = components-marked lists simple mark
     (λ i n. step (dart_of lists i).0 (dart_of lists i).1 (dart_of-number lists simple i n).is_dart ∙ ap (λ d. mark d.0) (sym (dart_of-twin lists simple i n))) s t l m (Together-from (component_classes lists) s t same) in
     sym one ∙ e
@@ -152,12 +149,4 @@ minus p a i = p i && not (eqb i a)
 
 pub count_below-minus : (p : ℕ → Bool) (n a : ℕ) → a < n → p a ≡ true → count_below p n ≡ count_below (minus p a) n + 1
 count_below-minus p n a l t =
-    count_below_more (minus p a) p n a l (ap (λ b. p a && not b) (eq-eqb a a refl) ∙ and_no (p a)) t (λ i m ne. ap (λ b. p i && not b) (ne_eqb i a ne) ∙ and_yes (p i))
-  where
-    and_no : (b : Bool) → (b && false) ≡ false
-    and_no true = refl
-    and_no false = refl
-
-    and_yes : (b : Bool) → (b && true) ≡ b
-    and_yes true = refl
-    and_yes false = refl
+    count_below_more (minus p a) p n a l (ap (λ b. p a && not b) (eq-eqb a a refl) ∙ and-false (p a)) t (λ i m ne. ap (λ b. p i && not b) (ne_eqb i a ne) ∙ and-true (p i))

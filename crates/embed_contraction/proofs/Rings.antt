@@ -6,10 +6,11 @@ use Rattle.map_theory.specs.Maps.{entry_after, place_of}
 use Rattle.map_theory.proofs.DartLemmas.{place_of-get_or, entry_after-place, place_after}
 use Rattle.graph6_text.specs.Graphs.{EdgeGraph, has_edge}
 use Rattle.graph6_text.proofs.EdgeLemmas.{has_edge-turned}
+use Rattle.graph6_text.proofs.BitLemmas.{below_six}
 use Rattle.kuratowski.specs.Witnesses.{pair_at}
 use Rattle.kuratowski.specs.declared.witness.Kind.TheVariants.{K5, K33}
 use Rattle.embed_contraction.specs.Traces.{HasWitness}
-use Rattle.embed_contraction.proofs.Numbers.{each_of_one, each_of_two, each_of_three, each_of_four, each_of_five, each_of_six, each_of_nine, each_of_ten}
+use Rattle.embed_contraction.proofs.Numbers.{each_of_one, each_of_two, each_of_three, each_of_four, each_of_five, each_of_nine, each_of_ten}
 use Rattle.embed_contraction.proofs.Spans.{Span, Span.edge, Span.up, Span.down, IsSound, vertex_on, size_of, IsPlaced, IsPlan, traced}
 use Rattle.embed_contraction.proofs.Traces.{traced_witness}
 use Rattle.std.specs.Prelude.{Bool, false, ◌∷◌, ◌++◌, slice_index_or, AllPairs}
@@ -212,9 +213,9 @@ module _ (graph : EdgeGraph) (ws : List ℕ) (x y : ℕ) (rim : IsRimmed graph w
     plan33 : IsPlan graph n at owner33 K33 branch33 spans33
     unfolding branch33 spans33
     plan33 = record {
-      vertices = each_of_six (λ j. branch33 j < graph.n) rim.x_below (placed.below q (omega arith)) (placed.below s s_n) rim.y_below (placed.below 0 (omega arith)) (placed.below r (omega arith));
+      vertices = below_six (λ j. branch33 j < graph.n) rim.x_below (placed.below q (omega arith)) (placed.below s s_n) rim.y_below (placed.below 0 (omega arith)) (placed.below r (omega arith));
       distinct = λ i j l m.
-          each_of_six (λ j. (i : ℕ) → i < j → branch33 i ≢ branch33 j)
+          below_six (λ j. (i : ℕ) → i < j → branch33 i ≢ branch33 j)
           (λ i l. absurd (omega arith))
           (each_of_one (λ i. branch33 i ≢ at q) (λ e. x_apart q (omega arith) (sym e)))
           (each_of_two (λ i. branch33 i ≢ at s) (λ e. x_apart s s_n (sym e)) (places_apart q s (omega arith) s_n (omega arith)))
@@ -225,7 +226,7 @@ module _ (graph : EdgeGraph) (ws : List ℕ) (x y : ℕ) (rim : IsRimmed graph w
       sound = each_of_nine (λ p. IsSound graph n owner33 p (spans33 p)) rim.hub x_0 x_r (back y q y_q) (pos, omega arith, owner_4) (q_r, omega arith, owner_5) (back y s y_s) (s_n, omega arith, owner_7) (r_s, omega arith, owner_8);
       start = each_of_nine (λ p. vertex_on at (spans33 p) 0 ≡ branch33 (pair_at K33 p).0) refl refl refl refl (ap at (omega arith)) (ap at (omega arith)) refl (ap at (omega arith)) (ap at (omega arith));
       end = each_of_nine (λ p. vertex_on at (spans33 p) (size_of (spans33 p)) ≡ branch33 (pair_at K33 p).1) refl refl refl refl (ap at (omega arith)) (ap at (omega arith)) refl (ap at (omega arith) ∙ placed.closed) (ap at (omega arith));
-      corners = each_of_six (λ j. ((i : ℕ) → i < n → at i ≢ branch33 j) ⊎ ((b : ℕ) × (b < n) × (branch33 j ≡ at b) × (9 ≤ owner33 b)))
+      corners = below_six (λ j. ((i : ℕ) → i < n → at i ≢ branch33 j) ⊎ ((b : ℕ) × (b < n) × (branch33 j ≡ at b) × (9 ≤ owner33 b)))
           (inl x_apart) (inr (q, omega arith, refl, omega (arith, owner_q))) (inr (s, s_n, refl, omega (arith, owner_s))) (inl y_apart) (inr (0, omega arith, refl, omega (arith, owner_0))) (inr (r, omega arith, refl, omega (arith, owner_r)));
     }
 

@@ -3,10 +3,11 @@ use Rattle.std.proofs.Common.{◌≡◌, ◌≢◌, ◌⊎◌, ◌&&◌, ℕ, ze
 use Rattle.std.proofs.lemmas.Bool.{cases_eq, cases_Bool, eq-eqb, ne_eqb, cond-true, cond-false}
 use Rattle.graph6_text.specs.Graphs.{EdgeGraph, has_edge}
 use Rattle.graph6_text.proofs.EdgeLemmas.{has_edge-turned}
+use Rattle.graph6_text.proofs.BitLemmas.{below_six}
 use Rattle.kuratowski.specs.Witnesses.{pair_at}
 use Rattle.kuratowski.specs.declared.witness.Kind.TheVariants.{K5, K33}
 use Rattle.embed_contraction.specs.Traces.{HasWitness}
-use Rattle.embed_contraction.proofs.Numbers.{each_of_six, each_of_nine}
+use Rattle.embed_contraction.proofs.Numbers.{each_of_nine}
 use Rattle.embed_contraction.proofs.Frames.{IsFrame, HasSteps, witness-frame}
 use Rattle.embed_contraction.proofs.BadSteps.{StepsAt}
 use Rattle.embed_contraction.proofs.Links.{link_number, link_ends, link-place, link, link_size, link-long, link-start, link-end, link-no_branch, link-once, link-steps, link-back, link-apart}
@@ -82,7 +83,7 @@ branch_named (suc (suc (suc (suc (suc j))))) = 3
 
 named_again : (j : ℕ) → j < 6 → (branch_named (branch_name j) ≡ j) × (branch_name j < 6)
 unfolding branch_name branch_named
-named_again = each_of_six (λ j. (branch_named (branch_name j) ≡ j) × (branch_name j < 6)) (refl, omega arith) (refl, omega arith) (refl, omega arith) (refl, omega arith) (refl, omega arith) (refl, omega arith)
+named_again = below_six (λ j. (branch_named (branch_name j) ≡ j) × (branch_name j < 6)) (refl, omega arith) (refl, omega arith) (refl, omega arith) (refl, omega arith) (refl, omega arith) (refl, omega arith)
 
 module _ (graph : EdgeGraph) (branch size : ℕ → ℕ) (way : ℕ → ℕ → ℕ) (frame : IsFrame graph.n K5 branch size way) (x y : ℕ) (in_y : y < graph.n) (hub : has_edge graph x y ≡ true) (off : (p i : ℕ) → p < 10 → i ≤ size p → way p i ≢ y) (no_branch : (j : ℕ) → j < 5 → branch j ≢ y) (steps : HasSteps K5 size way (StepsAt graph x y)) (name : ℕ → ℕ) (below : (a : ℕ) → a < 5 → name a < 5) (names_apart : (a b : ℕ) → a < 5 → b < 5 → name a ≡ name b → a ≡ b) (is_x : branch (name 0) ≡ x) where
   abbrev E : ℕ → ℕ → Type 0

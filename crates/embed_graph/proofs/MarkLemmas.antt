@@ -1,7 +1,7 @@
 -- Edges as bits, set one by one, and what follows where they are those of a graph.
-use Rattle.std.proofs.Common.{◌≡◌, ◌≢◌, ℕ, ◌+◌, ◌/◌, ◌%◌, ◌^◌, ◌<◌, ◌≤◌, ◌==◌, ◌||◌, Bool, true, false, true≢false, List, [], ◌∷◌, ◌++◌, length, take, drop, get_or, replicate, set, All, AllPairs, Contains, refl, sym, ap, ◌∙◌, subst, inl, inr, arith, eqb-true, eq-eqb}
+use Rattle.std.proofs.Common.{◌≡◌, ◌≢◌, ℕ, ◌+◌, ◌/◌, ◌%◌, ◌^◌, ◌<◌, ◌≤◌, ◌==◌, ◌||◌, true, false, true≢false, List, [], ◌∷◌, ◌++◌, length, take, drop, get_or, replicate, set, All, AllPairs, Contains, sym, ap, ◌∙◌, subst, inl, inr, arith, eqb-true, eq-eqb}
 use Rattle.std.specs.List.{list_any}
-use Rattle.std.proofs.lemmas.Bool.{cases_eq, cases_lt, or_cases}
+use Rattle.std.proofs.lemmas.Bool.{cases_eq, cases_lt, or_cases, or_left, or_right, false_from_ne_true}
 use Rattle.std.proofs.lemmas.List.{take-append-drop, take_more}
 use Rattle.std.proofs.lemmas.List.Elements.{All-set, Contains-append_left, Contains-append_right, Contains-append_cases}
 use Rattle.map_lists.specs.Lists.{Lists}
@@ -14,14 +14,6 @@ use Rattle.graph6_text.proofs.PairLemmas.{Contains-first, Contains-cases, Contai
 use Rattle.graph6_text.proofs.EdgeLemmas.{AreMarked-begin, AreEdges-edges_of, joined_as_bit, joined_is, has_edge-turned}
 use Rattle.embed_theorem.specs.Expanded.{HasJustEdges}
 use Rattle.embed_graph.specs.Marks.{AreBytes, Adds, Marks}
-
-or_left : (a b : Bool) → a ≡ true → (a || b) ≡ true
-or_left true b e = refl
-or_left false b e = absurd (true≢false (sym e))
-
-or_right : (a b : Bool) → b ≡ true → (a || b) ≡ true
-or_right true b e = refl
-or_right false b e = e
 
 -- the byte of a pair
 pub place_within : (n u v : ℕ) (body : List ℕ) → AreBytes n body → u < v → v < n → pair_place u v / 6 < length body
@@ -86,26 +78,20 @@ Adds-unset v list i old new once within adds unset less =
     let front = take i list in
     let whole = subst (AllPairs ◌≢◌) (sym (take-append-drop (i + 1) list)) once in
     let apart = parts_apart front (u ∷ []) (subst (AllPairs ◌≢◌) (take_more list i 0 within) (AllPairs-left (take (i + 1) list) (drop (i + 1) list) whole)) in
-    not_true (is_set new (pair_place u v)) (λ h. elim (adds.from (pair_place u v) h) [
+    false_from_ne_true (is_set new (pair_place u v)) (λ h. elim (adds.from (pair_place u v) h) [
       | inl o ↦ absurd (true≢false (sym o ∙ unset u less))
       | inr w ↦
           let same = one_pair w.0 v u v w.1 less w.3 in
           absurd (apart u (subst (λ (x : ℕ). Contains front x) same.0 w.2) (Contains-first u []))
-    ]) where
-      not_true : (b : Bool) → b ≢ true → b ≡ false
-      not_true true h = absurd (h refl)
-      not_true false h = refl
+    ])
 
 -- ---- the bits of all vertices
 pub Marks-unset : (lists : Lists) (v : ℕ) (body : List ℕ) → Marks lists v body → (u : ℕ) → u < v → is_set body (pair_place u v) ≡ false
 Marks-unset lists v body marks u less =
-    not_true (is_set body (pair_place u v)) (λ h.
+    false_from_ne_true (is_set body (pair_place u v)) (λ h.
     let w = marks.from (pair_place u v) h in
     let same = one_pair w.0 w.1 u v w.2 less w.5 in
-    omega (arith, w.3, same.1)) where
-      not_true : (b : Bool) → b ≢ true → b ≡ false
-      not_true true h = absurd (h refl)
-      not_true false h = refl
+    omega (arith, w.3, same.1))
 
 pub AreBytes-none : (n : ℕ) → AreBytes n (replicate (body_length n) 63)
 AreBytes-none n = let h = AreMarked-begin n [] in record { long = h.long; bytes = h.bytes }

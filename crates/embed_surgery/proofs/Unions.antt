@@ -54,9 +54,6 @@ count_below-or p q zero = omega arith
 count_below-or p q (suc n) = omega (arith, count_below-or p q n, one_if_or (p n) (q n))
 
 module _ (one other new : Lists) (s1 : IsSimpleMap one) (s2 : IsSimpleMap other) (s' : IsSimpleMap new) (drawn : Dart → Bool) (in_one : (x y : ℕ) → HasDart new x y → drawn (x, y) ≡ true → HasDart one x y) (in_other : (x y : ℕ) → HasDart new x y → drawn (x, y) ≡ false → HasDart other x y) where
-  abbrev k1 : ℕ
-  k1 = dart_count one
-
   -- ---- faces
   abbrev FA : List ℕ
   FA = face_orbits one s1

@@ -1,6 +1,6 @@
 -- The counts of a subdivision in a map of genus zero.
 use Rattle.std.proofs.Common.{◌≡◌, ◌≢◌, ◌&&◌, ◌==◌, ℕ, zero, suc, ◌+◌, ◌-◌, ◌*◌, ◌<◌, ◌≤◌, not, Bool, true, false, List, length, refl, sym, ap, ap₂, ◌∙◌, arith, eqb-true, eq-eqb}
-use Rattle.std.proofs.lemmas.Bool.{true≢false}
+use Rattle.std.proofs.lemmas.Bool.{true≢false, and_from, and_parts, not-true}
 use Rattle.map_lists.specs.Lists.{Lists}
 use Rattle.map_theory.specs.Maps.{Dart, HasDart, IsSimpleMap, IsPlane, dart_number, dart_count, edge_count}
 use Rattle.map_theory.proofs.DartLemmas.{dart_number-lt, dart_number-injective}
@@ -33,18 +33,6 @@ pub record AreCounts (n degree girth : ℕ) : Type 0 where
   pub on_faces : girth * faces ≤ leaving
   pub some : 1 ≤ parts
   pub euler : branches + inner + faces ≡ 2 * parts + edges
-
-pub both_true : (a b : Bool) → a ≡ true → b ≡ true → (a && b) ≡ true
-both_true a b e f = ap₂ ◌&&◌ e f
-
-pub both_parts : (a b : Bool) → (a && b) ≡ true → (a ≡ true) × (b ≡ true)
-both_parts true true e = (refl, refl)
-both_parts true false e = (refl, e)
-both_parts false b e = absurd (true≢false (sym e))
-
-pub not_true : (a : Bool) → not a ≡ true → a ≡ false
-not_true true e = absurd (true≢false (sym e))
-not_true false e = refl
 
 -- of two numbers
 two_picks : ℕ → ℕ → ℕ → ℕ
@@ -144,7 +132,7 @@ module _ (n count degree girth : ℕ) (first second branch size : ℕ → ℕ) (
 
   branch_many : (r : ℕ) → r < k → own_at_branch r ≡ true → HasMany k degree (λ i. (label rotation_orbits i == r) && is_branch (tail i))
   branch_many r l t =
-      let h = both_parts (is_branch (tail r)) (own rotation_orbits r) t in
+      let h = and_parts (is_branch (tail r)) (own rotation_orbits r) t in
       let a : ℕ = index (tail r) in
       let i = index_is (tail r) h.0 in
       let near : ℕ → Way = λ j. pattern.near a j in
@@ -154,7 +142,7 @@ module _ (n count degree girth : ℕ) (first second branch size : ℕ → ℕ) (
       record {
         pick = λ j. step_number (near j) 0;
         within = λ j m. (orbit j m).0;
-        passes = λ j m. both_true (label rotation_orbits (step_number (near j) 0) == r) (is_branch (tail (step_number (near j) 0))) (orbit j m).2 (ap is_branch (orbit j m).1 ∙ h.0);
+        passes = λ j m. and_from (label rotation_orbits (step_number (near j) 0) == r) (is_branch (tail (step_number (near j) 0))) (orbit j m).2 (ap is_branch (orbit j m).1 ∙ h.0);
         apart = λ x y m o e.
             let same = first_same (near x) (near y) (inside x m).0 (inside y o).0 e in
             pattern.near_apart a x y i.0 m o (first_apart n count degree first second branch size at lists simple pattern sub (near x) (near y) (inside x m).0 (inside y o).0 ((inside x m).1 ∙ sym (inside y o).1) same.1);
@@ -163,10 +151,10 @@ module _ (n count degree girth : ℕ) (first second branch size : ℕ → ℕ) (
   -- ---- inner vertices
   inner_many : (r : ℕ) → r < k → own_at_inner r ≡ true → HasMany k 2 (λ i. (label rotation_orbits i == r) && not (is_branch (tail i)))
   inner_many r l t =
-      let h = both_parts (not (is_branch (tail r))) (own rotation_orbits r) t in
+      let h = and_parts (not (is_branch (tail r))) (own rotation_orbits r) t in
       let d = dart_of lists r in
       let s = step_of n count degree first second branch size at lists simple pattern sub d.0 d.1 ((dart_of-number lists simple r l).is_dart) in
-      from_step s.0 s.1 s.2 s.3 (sym s.4) (not_true (is_branch (tail r)) h.0) h.1 h.0
+      from_step s.0 s.1 s.2 s.3 (sym s.4) (not-true (is_branch (tail r)) h.0) h.1 h.0
     where
       from_step : (w : Way) (i : ℕ) → w.0 < count → i < size w.0 → vertex_at w i ≡ tail r → is_branch (tail r) ≡ false → own rotation_orbits r ≡ true → not (is_branch (tail r)) ≡ true → HasMany k 2 (λ i. (label rotation_orbits i == r) && not (is_branch (tail i)))
       from_step w zero m o e none mine is =
@@ -177,8 +165,8 @@ module _ (n count degree girth : ℕ) (first second branch size : ℕ → ℕ) (
           let a = in_orbit r (vertex_at w (suc i)) (vertex_at w (suc (suc i))) l mine on e in
           let b = in_orbit r (vertex_at w (suc i)) (vertex_at w i) l mine home e in
           two_many k (λ i. (label rotation_orbits i == r) && not (is_branch (tail i))) (dart_number lists (vertex_at w (suc i), vertex_at w (suc (suc i)))) (dart_number lists (vertex_at w (suc i), vertex_at w i)) a.0 b.0
-          (both_true (label rotation_orbits (dart_number lists (vertex_at w (suc i), vertex_at w (suc (suc i)))) == r) (not (is_branch (tail (dart_number lists (vertex_at w (suc i), vertex_at w (suc (suc i))))))) a.2 (ap (λ v. not (is_branch v)) a.1 ∙ is))
-          (both_true (label rotation_orbits (dart_number lists (vertex_at w (suc i), vertex_at w i)) == r) (not (is_branch (tail (dart_number lists (vertex_at w (suc i), vertex_at w i))))) b.2 (ap (λ v. not (is_branch v)) b.1 ∙ is))
+          (and_from (label rotation_orbits (dart_number lists (vertex_at w (suc i), vertex_at w (suc (suc i)))) == r) (not (is_branch (tail (dart_number lists (vertex_at w (suc i), vertex_at w (suc (suc i))))))) a.2 (ap (λ v. not (is_branch v)) a.1 ∙ is))
+          (and_from (label rotation_orbits (dart_number lists (vertex_at w (suc i), vertex_at w i)) == r) (not (is_branch (tail (dart_number lists (vertex_at w (suc i), vertex_at w i))))) b.2 (ap (λ v. not (is_branch v)) b.1 ∙ is))
           (λ q.
           let same = dart_number-injective lists (vertex_at w (suc i), vertex_at w (suc (suc i))) (vertex_at w (suc i), vertex_at w i) on home q in
           way_apart n count degree first second branch size at lists simple pattern sub w i (suc (suc i)) m (omega arith) (omega arith) (sym (ap (λ (d : Dart). d.1) same)))
@@ -210,7 +198,7 @@ module _ (n count degree girth : ℕ) (first second branch size : ℕ → ℕ) (
       record {
         pick = λ j. step_number (walk z j).0 0;
         within = λ j m. (first_leaves (walk z j).0 (walk z j).1).0;
-        passes = λ j m. both_true (label face_orbits (step_number (walk z j).0 0) == r) (is_branch (tail (step_number (walk z j).0 0))) (eq-eqb (label face_orbits (step_number (walk z j).0 0)) r (in_face j)) (first_leaves (walk z j).0 (walk z j).1).2;
+        passes = λ j m. and_from (label face_orbits (step_number (walk z j).0 0) == r) (is_branch (tail (step_number (walk z j).0 0))) (eq-eqb (label face_orbits (step_number (walk z j).0 0)) r (in_face j)) (first_leaves (walk z j).0 (walk z j).1).2;
         apart = λ x y m q e.
             let vs = first_same (walk z x).0 (walk z y).0 (walk z x).1 (walk z y).1 e in
             let low = λ (j : ℕ). from_low n count degree first second branch size at lists simple pattern sub (walk z j).0 (walk z j).1 in
@@ -221,9 +209,9 @@ module _ (n count degree girth : ℕ) (first second branch size : ℕ → ℕ) (
   -- ---- all counts
   few_branches : count_below own_at_branch k ≤ n
   few_branches =
-      let into = count_below_into (λ r. index (tail r)) own_at_branch (λ i. true) k n (λ r l t. ((index_is (tail r) (both_parts (is_branch (tail r)) (own rotation_orbits r) t).0).0, refl)) (λ i j l m t s e.
-      let a = both_parts (is_branch (tail i)) (own rotation_orbits i) t in
-      let b = both_parts (is_branch (tail j)) (own rotation_orbits j) s in
+      let into = count_below_into (λ r. index (tail r)) own_at_branch (λ i. true) k n (λ r l t. ((index_is (tail r) (and_parts (is_branch (tail r)) (own rotation_orbits r) t).0).0, refl)) (λ i j l m t s e.
+      let a = and_parts (is_branch (tail i)) (own rotation_orbits i) t in
+      let b = and_parts (is_branch (tail j)) (own rotation_orbits j) s in
       let tails : tail i ≡ tail j = sym (index_is (tail i) a.0).1 ∙ (ap branch e ∙ (index_is (tail j) b.0).1) in
       sym (eqb-true (label rotation_orbits i) i a.1) ∙ (same_orbit lists simple i j l m tails ∙ eqb-true (label rotation_orbits j) j b.1)) in
       omega (arith, count_below_all n)

@@ -1,13 +1,13 @@
 -- K5 and K3,3 are patterns, and how far walks on them go before a branch comes again.
 use Rattle.std.proofs.Common.{◌≡◌, ◌≢◌, ◌⊎◌, ◌&&◌, ◌==◌, ℕ, zero, suc, ◌+◌, ◌-◌, ◌*◌, ◌<◌, ◌≤◌, nat_lt, if◌then◌else◌, not, Bool, true, false, List, [], ◌∷◌, length, refl, sym, ap, ap₂, ◌∙◌, inl, inr, arith, eqb-true}
 use Rattle.std.proofs.Math.ListN.{get_or}
-use Rattle.std.proofs.lemmas.Bool.{cases_eq, cases_order, eqb-false}
+use Rattle.std.proofs.lemmas.Bool.{cases_eq, cases_order, eqb-false, and_parts, not-true}
 use Rattle.std.proofs.lemmas.Bool.Decides.{nat_tests}
 use Rattle.kuratowski.specs.Witnesses.{branch_count, pairs_of, pair_at}
 use Rattle.kuratowski.specs.declared.witness.Kind.{Kind}
 use Rattle.kuratowski.specs.declared.witness.Kind.TheVariants.{K5, K33}
 use Rattle.embed_theorem.proofs.Subdivisions.{Way, from_of, to_of, IsPattern}
-use Rattle.embed_theorem.proofs.Counts.{HasGirth, both_parts, not_true}
+use Rattle.embed_theorem.proofs.Counts.{HasGirth}
 
 -- all numbers below n pass a test, computed
 abbrev all_below : (ℕ → Bool) → ℕ → Bool
@@ -17,7 +17,7 @@ all_below p (suc n) = p n && all_below p n
 all_below-at : (p : ℕ → Bool) (n : ℕ) → all_below p n ≡ true → (i : ℕ) → i < n → p i ≡ true
 all_below-at p zero e i l = absurd (omega arith)
 all_below-at p (suc n) e i l =
-    let h = both_parts (p n) (all_below p n) e in
+    let h = and_parts (p n) (all_below p n) e in
     elim (cases_eq i n) [ inl q ↦ ap p q ∙ h.0 | inr ne ↦ all_below-at p n h.1 i (omega arith) ]
 
 lt_true : (a b : ℕ) → nat_lt a b ≡ true → a < b
@@ -47,7 +47,7 @@ module _ (n count degree : ℕ) (f s : ℕ → ℕ) (near : ℕ → ℕ → Way)
   by_tests two paths nears = record {
     low = λ p l. lt_true (f p) n (ends p l).0;
     low' = λ p l. lt_true (s p) n (ends p l).1;
-    ends = λ p l. eqb-false (f p) (s p) (not_true (f p == s p) (ends p l).2);
+    ends = λ p l. eqb-false (f p) (s p) (not-true (f p == s p) (ends p l).2);
     single = λ w z l m e g. own w l ∙ (ap₂ (λ a b. near a (rank a b)) e g ∙ sym (own z m));
     two = two;
     near = near;
@@ -59,22 +59,22 @@ module _ (n count degree : ℕ) (f s : ℕ → ℕ) (near : ℕ → ℕ → Way)
       path p l = all_below-at (path_test n f s near rank) count paths p l
 
       outer : (p : ℕ) → p < count → ((nat_lt (f p) n && (nat_lt (s p) n && not (f p == s p))) && (((near (f p) (rank (f p) (s p))).0 == p) && (near (f p) (rank (f p) (s p))).1) ≡ true) × ((((near (s p) (rank (s p) (f p))).0 == p) && not (near (s p) (rank (s p) (f p))).1) ≡ true)
-      outer p l = both_parts _ _ (path p l)
+      outer p l = and_parts _ _ (path p l)
 
       inside : (p : ℕ) → p < count → ((nat_lt (f p) n && (nat_lt (s p) n && not (f p == s p))) ≡ true) × ((((near (f p) (rank (f p) (s p))).0 == p) && (near (f p) (rank (f p) (s p))).1) ≡ true)
-      inside p l = both_parts _ _ (outer p l).0
+      inside p l = and_parts _ _ (outer p l).0
 
       ends : (p : ℕ) → p < count → (nat_lt (f p) n ≡ true) × (nat_lt (s p) n ≡ true) × (not (f p == s p) ≡ true)
-      ends p l = let a = both_parts _ _ (inside p l).0 in let b = both_parts _ _ a.1 in (a.0, b.0, b.1)
+      ends p l = let a = and_parts _ _ (inside p l).0 in let b = and_parts _ _ a.1 in (a.0, b.0, b.1)
 
       own : (w : Way) → w.0 < count → w ≡ near (from_of f s w) (rank (from_of f s w) (to_of f s w))
-      own (p, true) l = let h = both_parts _ _ (inside p l).1 in sym (ap₂ (λ x y. let w : Way = (x, y) in w) (eqb-true (near (f p) (rank (f p) (s p))).0 p h.0) h.1)
-      own (p, false) l = let h = both_parts _ _ (outer p l).1 in sym (ap₂ (λ x y. let w : Way = (x, y) in w) (eqb-true (near (s p) (rank (s p) (f p))).0 p h.0) (not_true (near (s p) (rank (s p) (f p))).1 h.1))
+      own (p, true) l = let h = and_parts _ _ (inside p l).1 in sym (ap₂ (λ x y. let w : Way = (x, y) in w) (eqb-true (near (f p) (rank (f p) (s p))).0 p h.0) h.1)
+      own (p, false) l = let h = and_parts _ _ (outer p l).1 in sym (ap₂ (λ x y. let w : Way = (x, y) in w) (eqb-true (near (s p) (rank (s p) (f p))).0 p h.0) (not-true (near (s p) (rank (s p) (f p))).1 h.1))
 
       at : (a j : ℕ) → a < n → j < degree → (nat_lt (near a j).0 count ≡ true) × ((from_of f s (near a j) == a) ≡ true) × ((rank a (to_of f s (near a j)) == j) ≡ true)
       at a j l m =
-          let h = both_parts _ _ (all_below-at (near_test count f s near rank a) degree (all_below-at (λ a. all_below (near_test count f s near rank a) degree) n nears a l) j m) in
-          let g = both_parts _ _ h.1 in
+          let h = and_parts _ _ (all_below-at (near_test count f s near rank a) degree (all_below-at (λ a. all_below (near_test count f s near rank a) degree) n nears a l) j m) in
+          let g = and_parts _ _ h.1 in
           (h.0, g.0, g.1)
 
 -- the ways from each branch of K5, to the others in order
@@ -113,7 +113,7 @@ apart_by_order x g h i j l m e = grind (arith, cases_order)
 
 -- the two parts of K3,3
 sides_apart : (w : Way) → w.0 < 9 → ((from_of (first_of K33) (second_of K33) w < 3) × (3 ≤ to_of (first_of K33) (second_of K33) w)) ⊎ ((3 ≤ from_of (first_of K33) (second_of K33) w) × (to_of (first_of K33) (second_of K33) w < 3))
-sides_apart w l = grind (arith, lt_true, first_of, K33, both_parts, second_of, nat_lt, not, all_below-at, nat_tests, Way, from_of, to_of)
+sides_apart w l = grind (arith, lt_true, first_of, K33, and_parts, second_of, nat_lt, not, all_below-at, nat_tests, Way, from_of, to_of)
 
 module _ (f s : ℕ → ℕ) (count : ℕ) (ends : (w : Way) → w.0 < count → from_of f s w ≢ to_of f s w) (ws : ℕ → Way) (inside : (j : ℕ) → (ws j).0 < count) (on : (j : ℕ) → from_of f s (ws (suc j)) ≡ to_of f s (ws j)) (turns : (j : ℕ) → to_of f s (ws (suc j)) ≢ from_of f s (ws j)) where
   one_step : (i : ℕ) → from_of f s (ws i) ≢ from_of f s (ws (suc i))

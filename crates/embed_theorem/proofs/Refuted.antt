@@ -1,6 +1,7 @@
 -- A witness is a subdivision in the map of the edges on its paths; the counts of that map refute it.
-use Rattle.std.proofs.Common.{◌≡◌, ◌⊎◌, ◌&&◌, ◌||◌, ◌==◌, ℕ, suc, ◌-◌, ◌<◌, Bool, true, false, List, length, refl, sym, ap, ◌∙◌, inl, inr, arith, eqb-true, eq-eqb}
-use Rattle.std.proofs.lemmas.Bool.{cases_order, or_cases, or_left}
+use Rattle.std.proofs.Common.{◌≡◌, ◌⊎◌, ◌&&◌, ◌||◌, ◌==◌, ℕ, suc, ◌-◌, ◌<◌, Bool, true, List, length, refl, sym, ap, ◌∙◌, inl, inr, arith, eqb-true, eq-eqb}
+use Rattle.std.proofs.lemmas.Bool.{cases_order, or_cases, or_left, and_from, and_parts}
+use Rattle.std.proofs.Math.Bool.{or_comm}
 use Rattle.map_lists.specs.Lists.{Lists}
 use Rattle.map_lists.specs.declared.ids.VertexId.{VertexId}
 use Rattle.map_theory.specs.Maps.{IsSimpleMap, IsPlane}
@@ -13,7 +14,7 @@ use Rattle.kuratowski.specs.declared.witness.Kind.TheVariants.{K5, K33}
 use Rattle.embed_theorem.specs.Refuted.{HasEdges, WitnessesRefute}
 use Rattle.embed_theorem.proofs.Tally.{some_below, some_below-gives, some_below-from, some_below-same}
 use Rattle.embed_theorem.proofs.Subdivisions.{IsSubdivision}
-use Rattle.embed_theorem.proofs.Counts.{AreCounts, counts, both_true, both_parts}
+use Rattle.embed_theorem.proofs.Counts.{AreCounts, counts}
 use Rattle.embed_theorem.proofs.Patterns.{first_of, second_of, degree_of, girth_of, pattern_of, girth_is}
 
 module _ (graph : EdgeGraph) (kind : Kind) (branch : List VertexId) (paths : List (List VertexId)) (w : IsWitness graph kind branch paths) (lists : Lists) (simple : IsSimpleMap lists) (has : HasEdges lists graph) where
@@ -38,12 +39,6 @@ module _ (graph : EdgeGraph) (kind : Kind) (branch : List VertexId) (paths : Lis
   unfolding keep
   turned u v = some_below-same (λ p. some_below (λ i. step p i u v) (size p)) (λ p. some_below (λ i. step p i v u) (size p)) count (λ p l.
       some_below-same (λ i. step p i u v) (λ i. step p i v u) (size p) (λ i m. or_comm ((at p i == u) && (at p (suc i) == v)) ((at p i == v) && (at p (suc i) == u))))
-    where
-      or_comm : (a b : Bool) → (a || b) ≡ (b || a)
-      or_comm true true = refl
-      or_comm true false = refl
-      or_comm false true = refl
-      or_comm false false = refl
 
   kept : IsKeptMap lists (with_kept keep lists) keep
   kept = kept_edges lists keep turned simple
@@ -52,11 +47,11 @@ module _ (graph : EdgeGraph) (kind : Kind) (branch : List VertexId) (paths : Lis
   unfolding keep
   keep_step p i l m =
       some_below-from (λ q. some_below (λ j. step q j (at p i) (at p (suc i))) (size q)) count p l (some_below-from (λ j. step p j (at p i) (at p (suc i))) (size p) i m
-      (or_left ((at p i == at p i) && (at p (suc i) == at p (suc i))) ((at p i == at p (suc i)) && (at p (suc i) == at p i)) (both_true (at p i == at p i) (at p (suc i) == at p (suc i)) (eq-eqb (at p i) (at p i) refl) (eq-eqb (at p (suc i)) (at p (suc i)) refl))))
+      (or_left ((at p i == at p i) && (at p (suc i) == at p (suc i))) ((at p i == at p (suc i)) && (at p (suc i) == at p i)) (and_from (at p i == at p i) (at p (suc i) == at p (suc i)) (eq-eqb (at p i) (at p i) refl) (eq-eqb (at p (suc i)) (at p (suc i)) refl))))
 
   kept_is : (x y : ℕ) → keep x y ≡ true → (p : ℕ) × (i : ℕ) × (p < count) × (i < size p) × (((x ≡ at p i) × (y ≡ at p (suc i))) ⊎ ((y ≡ at p i) × (x ≡ at p (suc i))))
   unfolding keep
-  kept_is x y e = grind (arith, some_below-gives, some_below, step, size, count, or_cases, at, both_parts, eqb-true)
+  kept_is x y e = grind (arith, some_below-gives, some_below, step, size, count, or_cases, at, and_parts, eqb-true)
 
   in_paths : (p : ℕ) → p < count → p < length paths
   in_paths p l = let c = w.shape.count in omega arith

@@ -1,7 +1,8 @@
 -- Counting by labels: where each class that passes a test has g numbers, there are g times as many numbers as such classes.
-use Rattle.std.proofs.Common.{◌≡◌, ◌&&◌, ◌||◌, ◌==◌, ℕ, zero, suc, ◌+◌, ◌*◌, ◌<◌, ◌≤◌, nat_lt, not, Bool, true, false, cond, refl, sym, ap, ap₂, ◌∙◌, inl, inr, arith}
+use Rattle.std.proofs.Common.{◌≡◌, ◌&&◌, ◌||◌, ◌==◌, ℕ, zero, suc, ◌*◌, ◌<◌, ◌≤◌, nat_lt, not, Bool, true, false, cond, refl, sym, ap, ap₂, ◌∙◌, inl, inr, arith}
 use Rattle.std.proofs.lemmas.Bool.{cases_Bool, cases_eq, true≢false, or_cases, or_left, or_right}
 use Rattle.std.proofs.lemmas.Bool.Decides.{nat_tests}
+use Rattle.std.specs.Cmp.{second_so}
 use Rattle.classes.specs.Classes.{count_below}
 use Rattle.classes.proofs.Counting.{one_if, count_below_all, count_below_into, count_below_weaker, count_below_same, count_below_split}
 
@@ -35,14 +36,9 @@ tally_below label t p g k (suc s) h =
     let below = count_below_same (λ i. not (label i == s) && below_label label p (suc s) i) (below_label label p s) k (λ i l. other_label (label i) s (p i)) in
     grind (arith, tally_below label t p g k s (λ r l. h r (omega arith)), cases_Bool, count-many, one_if, count_below)
 
-weaker_second : (a b : Bool) → (a && b) ≡ true → b ≡ true
-weaker_second true true e = refl
-weaker_second true false e = e
-weaker_second false b e = absurd (true≢false (sym e))
-
 pub tally : (label : ℕ → ℕ) (t p : ℕ → Bool) (g k : ℕ) → ((r : ℕ) → r < k → t r ≡ true → HasMany k g (λ i. (label i == r) && p i)) → g * count_below t k ≤ count_below p k
 tally label t p g k h =
-    omega (arith, count_below_weaker (below_label label p k) p k (λ i l e. weaker_second (nat_lt (label i) k) (p i) e), tally_below label t p g k k h)
+    omega (arith, count_below_weaker (below_label label p k) p k (λ i l e. second_so (nat_lt (label i) k) (p i) e), tally_below label t p g k k h)
 
 -- ---- a test of some number below n
 abbrev pub some_below : (ℕ → Bool) → ℕ → Bool

@@ -1,6 +1,8 @@
 -- Two sides of a graph: they are glued, at a vertex or along an edge.
-use Rattle.std.proofs.Common.{◌≡◌, ◌≢◌, ◌⊎◌, ◌&&◌, ◌||◌, ℕ, ◌<◌, Bool, true, false, not, List, [], ◌∷◌, length, Contains, refl, sym, ap, ◌∙◌, subst, inl, inr, arith}
+use Rattle.std.proofs.Common.{◌≡◌, ◌≢◌, ◌⊎◌, ◌&&◌, ◌||◌, ℕ, ◌<◌, Bool, true, not, List, [], ◌∷◌, length, Contains, refl, sym, ap, ◌∙◌, subst, inl, inr, arith}
 use Rattle.std.proofs.lemmas.Bool.{cases_Bool, cases_eq, cases_lt, true≢false, and_from, and_parts, not-true, or_cases, or_left}
+use Rattle.std.specs.Cmp.{both_ways}
+use Rattle.std.proofs.Math.Bool.{and_comm, or_comm}
 use Rattle.classes.specs.Classes.{label, same_class}
 use Rattle.classes.proofs.Classes.{Together-from, label_past, label-lt, length-classes}
 use Rattle.map_lists.specs.Lists.{Lists}
@@ -16,17 +18,6 @@ use Rattle.embed_contraction.proofs.Parts.{cases_part, cases_edge, part-chained,
 use Rattle.classes.proofs.Classes.{same_class-from}
 use Rattle.embed_theorem.proofs.Graphs.{Result, IsSided}
 use Rattle.embed_theorem.proofs.Sides.{sides_turned, Smaller, glue_one, glue_two}
-
-both_same : (a b : Bool) → (a ≡ true → b ≡ true) → (b ≡ true → a ≡ true) → a ≡ b
-both_same true b h k = sym (h refl)
-both_same false true h k = k refl
-both_same false false h k = refl
-
-and-turned : (a b : Bool) → (a && b) ≡ (b && a)
-and-turned x0 x1 = grind arith
-
-or-turned : (a b : Bool) → (a || b) ≡ (b || a)
-or-turned x0 x1 = grind arith
 
 -- two numbers of one component that are different are vertices
 joined_below : (lists : Lists) → IsSimpleMap lists → (u v : ℕ) → u ≢ v → SameComponent lists u v → (u < length lists) × (v < length lists)
@@ -53,14 +44,14 @@ cut_side lists A B u v simple s far smaller =
     A1 = with_kept keep1 A
 
     k1 : IsKeptMap A A1 keep1
-    k1 = kept_edges A keep1 (λ a b. and-turned (C a) (C b)) s.simple_A
+    k1 = kept_edges A keep1 (λ a b. and_comm (C a) (C b)) s.simple_A
 
     keep2 : ℕ → ℕ → Bool
     keep2 a b = not (has_dart A1 (a, b))
 
     turned2 : (a b : ℕ) → keep2 a b ≡ keep2 b a
     turned2 a b =
-        ap not (both_same (has_dart A1 (a, b)) (has_dart A1 (b, a)) (λ t. has_dart-is A1 b a (k1.simple.both_ways a b (HasDart-from A1 a b t))) (λ t. has_dart-is A1 a b (k1.simple.both_ways b a (HasDart-from A1 b a t))))
+        ap not (both_ways (has_dart A1 (a, b)) (has_dart A1 (b, a)) (λ t. has_dart-is A1 b a (k1.simple.both_ways a b (HasDart-from A1 a b t))) (λ t. has_dart-is A1 a b (k1.simple.both_ways b a (HasDart-from A1 b a t))))
 
     B1 : Lists
     B1 = with_kept keep2 lists
@@ -164,10 +155,10 @@ separated_sides lists u v s t simple live_s live_t off_s off_t far smaller = sol
     B = with_kept drop lists
 
     kA : IsKeptMap lists A keep
-    kA = kept_edges lists keep (λ a b. or-turned (P a) (P b)) simple
+    kA = kept_edges lists keep (λ a b. or_comm (P a) (P b)) simple
 
     kB : IsKeptMap lists B drop
-    kB = kept_edges lists drop (λ a b. ap not (or-turned (P a) (P b))) simple
+    kB = kept_edges lists drop (λ a b. ap not (or_comm (P a) (P b))) simple
 
     -- an edge of A at a vertex that is not of the part leads into it
     of_part : (a b : ℕ) → HasDart A a b → (P a ≡ true → ⊥) → P b ≡ true

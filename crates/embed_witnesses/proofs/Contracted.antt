@@ -1,20 +1,17 @@
 -- The contracted graph is three-connected where no third vertex separates the others together with the ends of the edge.
-use Rattle.std.proofs.Common.{◌≡◌, ◌≢◌, ◌⊎◌, ◌&&◌, ◌||◌, ℕ, ◌-◌, ◌<◌, ◌≤◌, true, not, nat_lt, nat_eq, eqb, if◌then◌else◌, List, [], ◌∷◌, Contains, refl, sym, ap, ap₂, ◌∙◌, subst, inl, inr, arith}
-use Rattle.std.specs.List.{range_with_len}
+use Rattle.std.proofs.Common.{◌≡◌, ◌≢◌, ◌⊎◌, ℕ, ◌-◌, ◌<◌, ◌≤◌, true, not, nat_lt, nat_eq, eqb, if◌then◌else◌, List, [], ◌∷◌, Contains, refl, sym, ap, ap₂, ◌∙◌, subst, inl, inr, arith}
 use Rattle.std.proofs.lemmas.Bool.{cases_eq, and_from, or_left, or_right, eq-eqb, ne_eqb}
 use Rattle.std.proofs.lemmas.Bool.Decides.{nat_tests}
-use Rattle.std.proofs.lemmas.List.FromFn.{length-range_with_len, get_or-range_with_len, get_or-map-range_with_len}
 use Rattle.classes.specs.Classes.{same_class}
 use Rattle.map_lists.specs.Lists.{Lists}
-use Rattle.map_theory.specs.Maps.{HasDart, IsSimpleMap, component_classes, component_count, list_of, SameComponent}
+use Rattle.map_theory.specs.Maps.{HasDart, IsSimpleMap, component_classes, component_count, SameComponent}
 use Rattle.map_theory.specs.Paths.{JoinsAvoiding}
-use Rattle.map_theory.proofs.EntryLemmas.{Contains-filter, Contains-from_filter}
 use Rattle.plane_laws.proofs.ComponentPaths.{components_are_paths}
 use Rattle.plane_laws.proofs.Completions.{one_component}
 use Rattle.graph6_text.specs.Graphs.{EdgeGraph, IsGraph, has_edge}
 use Rattle.convex_peeling.specs.Polyhedral.{IsThreeConnected}
-use Rattle.conn_parts.specs.GraphLists.{graph_lists, neighbours_below}
-use Rattle.conn_parts.proofs.GraphLemmas.{length-graph_lists, IsSimpleMap-graph_lists}
+use Rattle.conn_parts.specs.GraphLists.{graph_lists}
+use Rattle.conn_parts.proofs.GraphLemmas.{length-graph_lists, IsSimpleMap-graph_lists, dart_edge, edge_dart}
 use Rattle.embed_contraction.specs.Linked.{HasEdge, IsLinkedWithout, without_vertices}
 use Rattle.embed_contraction.proofs.Parts.{closed_part, part-chained, part-itself, rest-simple, rest-length, rest-old, rest-together}
 use Rattle.embed_contraction.specs.Contracted.{before_left, contracted_edge}
@@ -25,20 +22,6 @@ use Rattle.embed_witnesses.proofs.ThreeLinked.{three_linked, in_one, in_two, in_
 
 -- ---- the darts of the lists of a graph
 module _ (graph : EdgeGraph) (is : IsGraph graph) where
-  list_at : (v : ℕ) → v < graph.n → list_of (graph_lists graph) v ≡ neighbours_below graph v graph.n
-  list_at v l = get_or-map-range_with_len (λ x. neighbours_below graph x graph.n) 0 graph.n v v [] l (omega arith)
-
-  pub dart_joined : (v u : ℕ) → HasDart (graph_lists graph) v u → has_edge graph v u ≡ true
-  dart_joined v u d =
-      let m : v < graph.n = omega (arith, length-graph_lists graph is) in
-      (Contains-from_filter (λ x. has_edge graph v x) (range_with_len 0 graph.n) u (subst (λ (xs : List ℕ). Contains xs u) (list_at v m) d.1)).1
-
-  pub joined_dart : (v u : ℕ) → has_edge graph v u ≡ true → HasDart (graph_lists graph) v u
-  joined_dart v u e =
-      let in_n = edge_within graph is.edges v u e in
-      let l = in_n.0 in
-      let in_range : Contains (range_with_len 0 graph.n) u = (u, omega (arith, length-range_with_len 0 graph.n, in_n), get_or-range_with_len 0 graph.n u u in_n.1 ∙ omega arith) in
-      (omega (arith, length-graph_lists graph is), subst (λ (xs : List ℕ). Contains xs u) (sym (list_at v l)) (Contains-filter (λ x. has_edge graph v x) (range_with_len 0 graph.n) u in_range e))
 
 -- ---- numbers that fall
 -- what a vertex becomes
@@ -104,10 +87,10 @@ module _ (graph : EdgeGraph) (is : IsGraph graph) (a b : ℕ) (a_b : a < b) (joi
   step : (p q : ℕ) → HasDart L p q → D p ≢ D q → HasDart S (D p) (D q)
   step p q d ne =
       let l = in_b in
-      let e = dart_joined graph is p q d in
+      let e = dart_edge graph is p q d in
       let in_n = edge_within graph is.edges p q e in
       let of = IsContraction-contraction graph a b (omega arith) in
-      joined_dart small is_small (D p) (D q) (of.edges (D p) (D q) (down-lt a b p graph.n a_b l in_n.0) (down-lt a b q graph.n a_b l in_n.1) ∙ moved p q e ne)
+      edge_dart small is_small (D p) (D q) (of.edges (D p) (D q) (down-lt a b p graph.n a_b l in_n.0) (down-lt a b q graph.n a_b l in_n.1) ∙ moved p q e ne)
 
   -- ws are the vertices that some of the contracted graph stand for
   record Covers (vs ws : List ℕ) : Type 0 where

@@ -9,6 +9,7 @@ use Rattle.std.proofs.lemmas.List.{append_assoc, append-nil, map-id}
 use Rattle.std.proofs.lemmas.List.Elements.{filter-append}
 use Rattle.std.proofs.lemmas.List.FromFn.{map-range_with_len_more}
 use Rattle.std.proofs.lemmas.List.Kept.{AllPairs-filter}
+use Rattle.std.specs.Cmp.{both_ways}
 use Rattle.graph6_text.specs.Graphs.{Edge, EdgeGraph, AreEdges, ComesBefore, has_edge, joins}
 use Rattle.graph6_text.specs.Lines.{pairs, pairs_of}
 use Rattle.graph6_text.proofs.PairLemmas.{All-from_Contains, Contains-filter, Contains-unfilter, pairs-have, pairs-hold, pairs-rising}
@@ -50,15 +51,9 @@ AreEdges-filter n test = record {
 -- and join their ends
 pub joined-filter : (n : ℕ) (test : Edge → Bool) (u v : ℕ) → u < v → v < n → list_any (joins u v) (filter test (pairs n)) ≡ test (u, v)
 joined-filter n test u v l m =
-    same_test (list_any (joins u v) (filter test (pairs n))) (test (u, v))
+    both_ways (list_any (joins u v) (filter test (pairs n))) (test (u, v))
     (λ h. (Contains-unfilter test (pairs n) (u, v) (joined_is n u v (filter test (pairs n)) (AreEdges-filter n test) (omega arith) h).0).1)
     (λ h. joined_by u v (filter test (pairs n)) (Contains-filter test (pairs n) (u, v) (pairs-hold n u v l m) h))
-  where
-    same_test : (a b : Bool) → (a ≡ true → b ≡ true) → (b ≡ true → a ≡ true) → a ≡ b
-    same_test true true f g = refl
-    same_test false false f g = refl
-    same_test true false f g = sym (f refl)
-    same_test false true f g = g refl
 
 -- ---- the edges of the contracted graph
 or_swap : (p x y : Bool) → (p || x || y) ≡ (p || y || x)

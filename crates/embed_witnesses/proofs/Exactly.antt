@@ -1,5 +1,5 @@
 -- A contracted graph that is three-connected shows that no third vertex separates the others together with the ends of the edge.
-use Rattle.std.proofs.Common.{◌≡◌, ◌≢◌, ◌&&◌, ◌||◌, ℕ, ◌<◌, ◌≤◌, true, not, eqb, List, [], ◌∷◌, length, Contains, sym, ap, ◌∙◌, subst, inl, inr, arith}
+use Rattle.std.proofs.Common.{◌≡◌, ◌≢◌, ◌&&◌, ◌||◌, ℕ, ◌<◌, ◌≤◌, true, not, eqb, List, [], ◌∷◌, length, Contains, sym, ap, ◌∙◌, subst, arith}
 use Rattle.std.proofs.lemmas.Bool.{and_parts, or_cases, eqb-true}
 use Rattle.classes.specs.Classes.{same_class}
 use Rattle.map_lists.specs.Lists.{Lists}
@@ -7,7 +7,7 @@ use Rattle.map_theory.specs.Maps.{IsSimpleMap, component_classes}
 use Rattle.graph6_text.specs.Graphs.{EdgeGraph, IsGraph, has_edge}
 use Rattle.convex_peeling.specs.Polyhedral.{IsThreeConnected}
 use Rattle.conn_parts.specs.GraphLists.{graph_lists}
-use Rattle.conn_parts.proofs.GraphLemmas.{length-graph_lists}
+use Rattle.conn_parts.proofs.GraphLemmas.{length-graph_lists, dart_edge, edge_dart}
 use Rattle.embed_contraction.specs.Linked.{HasEdge, IsLinkedWithout, without_vertices}
 use Rattle.embed_contraction.proofs.Parts.{closed_part, part-chained, part-itself, rest-simple, rest-length, rest-old, rest-together}
 use Rattle.embed_contraction.proofs.Growth.{not_two, not_three}
@@ -17,7 +17,7 @@ use Rattle.embed_witnesses.proofs.ContractedLemmas.{IsContraction-contraction, e
 use Rattle.embed_witnesses.specs.Contractible.{ContractedExactly}
 use Rattle.embed_witnesses.proofs.Avoiding.{HasEdge-connected}
 use Rattle.embed_witnesses.proofs.ThreeLinked.{three_linked}
-use Rattle.embed_witnesses.proofs.Contracted.{dart_joined, joined_dart, down, before-down, before-not, before-first, before-apart, down-lt, is_small, contracted_three}
+use Rattle.embed_witnesses.proofs.Contracted.{down, before-down, before-not, before-first, before-apart, down-lt, is_small, contracted_three}
 
 module _ (graph : EdgeGraph) (is : IsGraph graph) (a b : ℕ) (a_b : a < b) (joined : has_edge graph a b ≡ true) (five : 5 ≤ graph.n) (three : IsThreeConnected (graph_lists (contraction graph a b))) where
   abbrev L : Lists
@@ -74,10 +74,10 @@ module _ (graph : EdgeGraph) (is : IsGraph graph) (a b : ℕ) (a_b : a < b) (joi
       subst (λ x. same_class (component_classes G) s x ≡ true) (same_number t ot)
       (closed_part (without_vertices vs S) (rest-simple S three.simple vs) (λ z. same_class (component_classes G) s (to z)) (λ p q d h.
       let o = rest-old S three.simple vs p q d in
-      let dart = joined_dart graph is (to p) (to q) (was p q (λ e. o.1 (0, omega arith, sym e)) (λ e. o.2 (0, omega arith, sym e)) (dart_joined small is' p q o.0)) in
+      let dart = edge_dart graph is (to p) (to q) (was p q (λ e. o.1 (0, omega arith, sym e)) (λ e. o.2 (0, omega arith, sym e)) (dart_edge small is' p q o.0)) in
       part-chained G s (to p) (to q) h (rest-together L simple ws (to p) (to q) dart (off_to p o.1) (off_to q o.2)))
       (D s) (D t) (omega arith) (omega arith) same (subst (λ x. same_class (component_classes G) s x ≡ true) (sym (same_number s os)) (part-itself G s)))
 
 -- THE LAW: exactly where no third vertex parts
 pub contracted_exactly : ContractedExactly
-contracted_exactly graph a b is five three a_b joined = grind (arith, small, joined_dart, linked_back, length-graph_lists, contracted_three)
+contracted_exactly graph a b is five three a_b joined = grind (arith, small, edge_dart, linked_back, length-graph_lists, contracted_three)

@@ -5,12 +5,12 @@ use Rattle.graph6_text.specs.Graphs.{EdgeGraph, IsGraph}
 use Rattle.graph6_text.proofs.EdgeLemmas.{has_edge-turned}
 use Rattle.convex_peeling.specs.Polyhedral.{IsThreeConnected}
 use Rattle.conn_parts.specs.GraphLists.{graph_lists}
-use Rattle.conn_parts.proofs.GraphLemmas.{length-graph_lists}
+use Rattle.conn_parts.proofs.GraphLemmas.{dart_edge}
 use Rattle.embed_contraction.proofs.Growth.{contractible_edge}
 use Rattle.embed_witnesses.specs.Contractible.{IsContractibleEdge}
 use Rattle.embed_witnesses.proofs.Avoiding.{HasEdge-connected, linked-fewer}
 use Rattle.embed_witnesses.proofs.ThreeLinked.{three_linked, in_three}
-use Rattle.embed_witnesses.proofs.Contracted.{dart_joined, contracted_three}
+use Rattle.embed_witnesses.proofs.Contracted.{contracted_three}
 
 -- THE LAW: a three-connected graph with at least five vertices has such an edge
 pub some_contractible : (graph : EdgeGraph) → IsGraph graph → 5 ≤ graph.n → IsThreeConnected (graph_lists graph) → (a : ℕ) × (b : ℕ) × IsContractibleEdge graph a b
@@ -20,7 +20,7 @@ some_contractible graph is five three =
     let c = contractible_edge L 0 edge.0 three.simple (three_linked L three) edge.1 in
     let x = c.0 in
     let y = c.1 in
-    let e = dart_joined graph is x y c.2.edge in
+    let e = dart_edge graph is x y c.2.edge in
     elim (cases_order x y) [
       | inl same ↦ absurd (three.simple.no_loop x y c.2.edge (sym same))
       | inr r ↦ elim r [

@@ -16,6 +16,7 @@ use Rattle.embed_witnesses.specs.ContractedEdges.{contraction}
 use Rattle.embed_witnesses.proofs.ContractedLemmas.{edge_within, IsContraction-contraction}
 use Rattle.embed_witnesses.specs.Kept.{IsKept, PlainOrKept}
 use Rattle.embed_witnesses.proofs.Shortened.{size', way', frame', gone_off, gone_branch, cases_step}
+use Rattle.embed_witnesses.proofs.Contracted.{before-first}
 
 -- ---- numbers in the contracted graph: s, of the two ends, gets the number of the lesser, and g, the other, one that no vertex has
 abbrev number : ℕ → ℕ → ℕ → ℕ → ℕ → ℕ → ℕ
@@ -39,9 +40,6 @@ number-end n a b s g ab ends = elim ends [ inl h ↦ let x = h.0 in let y = h.1 
 
 number-back : (n a b s g v : ℕ) → a < b → b < n → AreEnds a b s g → v < n → v ≢ g → v ≢ s → before_left b (number n a b s g v) ≡ v
 number-back n a b s g v ab bn ends l ng ns = elim ends [ inl h ↦ let x = h.0 in let y = h.1 in grind (arith, nat_tests) | inr h ↦ let x = h.0 in let y = h.1 in grind (arith, nat_tests) ]
-
-before-lesser : (a b : ℕ) → a < b → before_left b a ≡ a
-before-lesser a b l = grind (arith, nat_tests)
 
 -- ---- edges
 one_of_three : (p q r : Bool) → p ≡ true → (p || q || r) ≡ true
@@ -87,7 +85,7 @@ module _ (graph : EdgeGraph) (known : IsGraph graph) (a b : ℕ) (order : a < b)
       (elim (cases_eq x s) [
         | inl at_x ↦
             let u : to x ≡ a = ap to at_x ∙ number-end graph.n a b s g order ends in
-            let bu : before_left b (to x) ≡ a = ap (before_left b) u ∙ before-lesser a b order in
+            let bu : before_left b (to x) ≡ a = ap (before_left b) u ∙ before-first a b order in
             let bv : before_left b (to y) ≡ y = number-back graph.n a b s g y order bound ends ly gy (λ q. ne (at_x ∙ sym q)) in
             let near : E s y ⊎ E g y = elim e [ inl d ↦ inl (subst (λ z. E z y) at_x d) | inr r ↦ elim r [ inl h ↦ inr h.1 | inr h ↦ absurd (ne (at_x ∙ sym h.0)) ] ] in
             elim (of_two y near) [
@@ -99,7 +97,7 @@ module _ (graph : EdgeGraph) (known : IsGraph graph) (a b : ℕ) (order : a < b)
             elim (cases_eq y s) [
               | inl at_y ↦
                   let v : to y ≡ a = ap to at_y ∙ number-end graph.n a b s g order ends in
-                  let bv : before_left b (to y) ≡ a = ap (before_left b) v ∙ before-lesser a b order in
+                  let bv : before_left b (to y) ≡ a = ap (before_left b) v ∙ before-first a b order in
                   let near : E s x ⊎ E g x = elim e [ inl d ↦ inl (turn x s (subst (λ z. E x z) at_y d)) | inr r ↦ elim r [ inl h ↦ absurd (off_x h.0) | inr h ↦ inr h.1 ] ] in
                   elim (of_two x near) [
                     | inl d ↦ one_of_three (first (to x) (to y)) (second (to x) (to y)) (third (to x) (to y)) (ap (λ z. has_edge graph z (before_left b (to y))) bu ∙ (ap (has_edge graph x) bv ∙ turn a x d))

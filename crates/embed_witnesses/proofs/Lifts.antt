@@ -1,18 +1,18 @@
 -- One of the changes is right: the law of lifted witnesses, by its constructions.
-use Rattle.std.proofs.Common.{◌≡◌, ◌≢◌, ℕ, zero, suc, ◌+◌, ◌-◌, ◌*◌, ◌/◌, ◌<◌, ◌≤◌, Bool, true, false, cond, eqb, ltb, List, [], length, refl, sym, ap, ap₂, ◌∙◌, subst, inl, inr, arith}
+use Rattle.std.proofs.Common.{◌≡◌, ◌≢◌, ℕ, zero, suc, ◌+◌, ◌-◌, ◌*◌, ◌<◌, ◌≤◌, Bool, true, false, cond, eqb, ltb, List, [], length, refl, sym, ap, ap₂, ◌∙◌, subst, inl, inr, arith}
 use Rattle.std.proofs.lemmas.Bool.{ne_eqb, cond-false}
 use Rattle.std.proofs.lemmas.List.FromFn.{length-map-range_with_len, get_or-map-range_with_len}
-use Rattle.std.proofs.Math.Nat.{div-add-mod, mod-lt}
 use Rattle.map_lists.specs.declared.ids.VertexId.{VertexId}
 use Rattle.graph6_text.specs.Graphs.{EdgeGraph, has_edge}
 use Rattle.graph6_text.proofs.EdgeLemmas.{has_edge-turned}
+use Rattle.graph6_text.proofs.BitLemmas.{below_six}
 use Rattle.kuratowski.specs.Witnesses.{branch_count, vertex_at, path_at, IsWitness}
 use Rattle.kuratowski.specs.declared.witness.Kind.{Kind}
 use Rattle.kuratowski.specs.declared.witness.Kind.TheVariants.{K5, K33}
 use Rattle.kuratowski.specs.declared.witness.Witness.{Witness}
 use Rattle.embed_contraction.specs.Traces.{path_count}
 use Rattle.embed_contraction.proofs.Spans.{IsTraced}
-use Rattle.embed_contraction.proofs.Numbers.{each_of_five, each_of_six, each_of_nine}
+use Rattle.embed_contraction.proofs.Numbers.{each_of_five, each_of_nine}
 use Rattle.embed_contraction.proofs.Traces.{length-vertices_of, vertex_at-vertices_of, witness_by}
 use Rattle.embed_contraction.specs.Contracted.{IsEdgeOf}
 use Rattle.embed_contraction.proofs.Frames.{IsFrame, HasSteps, traced-frame, frame-witness, exchanged}
@@ -246,7 +246,7 @@ module _ (graph : EdgeGraph) (a b : ℕ) (edge : IsEdgeOf graph a b) (branch : L
 
     branch_same : (j : ℕ) → j < 6 → split_branch cut branch j ≡ branch3 j
     unfolding branch33 branch_name vertex_named
-    branch_same = each_of_six (λ j. split_branch cut branch j ≡ branch3 j) refl refl refl refl refl refl
+    branch_same = below_six (λ j. split_branch cut branch j ≡ branch3 j) refl refl refl refl refl refl
 
     count : (k l : ℕ) → S5 (link_between (N k) (N l)) ≡ S5 (link_number (N k) (N l))
     count k l = ap S5 (link-is (N k) (N l))

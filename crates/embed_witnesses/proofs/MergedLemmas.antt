@@ -1,5 +1,5 @@
 -- Edges of a graph with the ends of an edge merged, and numbers as they were.
-use Rattle.std.proofs.Common.{◌≡◌, ◌≢◌, ◌&&◌, ◌||◌, ◌-◌, ◌<◌, ◌≤◌, not, eqb, Bool, true, ℕ, List, map, sym, ap, ap₂, ◌∙◌, subst, inl, inr, arith, eq-eqb, ne_eqb}
+use Rattle.std.proofs.Common.{◌≡◌, ◌≢◌, ◌&&◌, ◌||◌, ◌-◌, ◌<◌, ◌≤◌, not, eqb, Bool, true, ℕ, List, map, sym, ap₂, ◌∙◌, subst, inl, inr, arith, eq-eqb, ne_eqb}
 use Rattle.std.specs.List.{range_with_len}
 use Rattle.std.proofs.lemmas.Bool.{cases_lt, and_from, and_parts, or_cases, or_left, or_right, eqb-true, eqb-false, not-true}
 use Rattle.std.proofs.lemmas.Bool.Decides.{nat_tests}
@@ -15,6 +15,7 @@ use Rattle.kuratowski.specs.declared.witness.Witness.{Witness}
 use Rattle.embed_witnesses.specs.Renamed.{named, renamed_list, IsRenamed, KeepsEdges}
 use Rattle.embed_witnesses.proofs.RenamedLemmas.{renamed_witness}
 use Rattle.embed_witnesses.specs.Merged.{merged_edge, merged, old_number, MergedIsContracted}
+use Rattle.embed_witnesses.proofs.Contracted.{before-not, before-first}
 
 -- ---- numbers as they were
 abbrev pub table : ℕ → ℕ → List ℕ
@@ -86,15 +87,9 @@ merged_is_contracted graph a b = record {
       grind (arith, or_cases, has_edge, and_parts, not, eqb, eqb-true);
 }
 
-before-not : (b v : ℕ) → before_left b v ≢ b
-before-not b v e = grind (arith, nat_tests)
-
-before-low : (b v : ℕ) → v < b → before_left b v ≡ v
-before-low b v l = grind (arith, nat_tests)
-
 -- an edge of the contracted graph is one of the merged
 kept : (graph : EdgeGraph) (a b u v : ℕ) → a < b → contracted_edge graph a b u v ≡ true → merged_edge graph a b (before_left b u) (before_left b v) ≡ true
-kept graph a b u v a_b t = grind (arith, before_left, has_edge, eqb, before-low, and_from, not, ne_eqb, before-not, or_cases, and_parts, or_right, eq-eqb)
+kept graph a b u v a_b t = grind (arith, before_left, has_edge, eqb, before-first, and_from, not, ne_eqb, before-not, or_cases, and_parts, or_right, eq-eqb)
 
 -- THE LAW: old numbers keep the edges
 pub keeps_edges : (graph : EdgeGraph) (a b : ℕ) → IsGraph graph → a < b → has_edge graph a b ≡ true → KeepsEdges (contraction graph a b) (merged graph a b) (named (table graph.n b))

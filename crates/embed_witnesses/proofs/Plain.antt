@@ -8,12 +8,13 @@ use Rattle.std.proofs.lemmas.List.FromFn.{length-map-range_with_len, get_or-map-
 use Rattle.map_lists.specs.declared.ids.VertexId.{VertexId}
 use Rattle.graph6_text.specs.Graphs.{EdgeGraph, has_edge}
 use Rattle.graph6_text.proofs.EdgeLemmas.{has_edge-turned}
+use Rattle.graph6_text.proofs.BitLemmas.{below_six}
 use Rattle.kuratowski.specs.Witnesses.{branch_count, pair_at, vertex_at, path_at, IsInnerPlace, IsWitness}
 use Rattle.kuratowski.specs.declared.witness.Kind.{Kind}
 use Rattle.kuratowski.specs.declared.witness.Kind.TheVariants.{K5, K33}
 use Rattle.kuratowski.specs.declared.witness.Witness.{Witness}
 use Rattle.embed_contraction.specs.Traces.{path_count}
-use Rattle.embed_contraction.proofs.Numbers.{each_of_one, each_of_two, each_of_three, each_of_four, each_of_five, each_of_six}
+use Rattle.embed_contraction.proofs.Numbers.{each_of_one, each_of_two, each_of_three, each_of_four, each_of_five}
 use Rattle.embed_contraction.proofs.Traces.{length-vertices_of, vertex_at-vertices_of, pairs_within}
 use Rattle.embed_contraction.proofs.Lifted.{on_path}
 use Rattle.embed_witnesses.specs.Kept.{IsPlain}
@@ -99,7 +100,7 @@ pair_path K5 i k l m e =
     (each_of_four (λ i. HasPath K5 i 4) (3, omega arith, refl) (6, omega arith, refl) (8, omega arith, refl) (9, omega arith, refl)) k m i l
 pair_path K33 i k l m e =
     let s = sides i k e in
-    each_of_six (λ k. 3 ≤ k → (i : ℕ) → i < 3 → HasPath K33 i k)
+    below_six (λ k. 3 ≤ k → (i : ℕ) → i < 3 → HasPath K33 i k)
     (λ l. absurd (omega arith))
     (λ l. absurd (omega arith))
     (λ l. absurd (omega arith))

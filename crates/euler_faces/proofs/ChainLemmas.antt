@@ -8,12 +8,12 @@ use Rattle.map_theory.specs.Maps.{Dart, HasDart, twin_dart, face_step, follows}
 use Rattle.map_theory.proofs.DartLemmas.{HasDart-follows}
 use Rattle.half_edges.specs.Map.{Map, IsLive, IsHalfMap, dart_at, id_bound}
 use Rattle.euler_faces.specs.Numbers.{mark_at}
-use Rattle.euler_faces.proofs.SearchLemmas.{unmarked_below-set}
+use Rattle.euler_faces.proofs.SearchLemmas.{unmarked_below-set, set-here}
 use Rattle.euler_faces.proofs.NumberLemmas.{live_from}
 use Rattle.euler_faces.specs.Chains.{GoesOn, along, over, ReachesBy, Reaches}
 use Rattle.euler_faces.specs.declared.face_chains.FaceSide.{FaceSide}
 use Rattle.euler_faces.specs.ChainSearch.{place, IsMet, Tells, Meets, before, now, work, GoesFrom, AreReached, IsChaining}
-use Rattle.euler_faces.proofs.SideMarks.{mark-same, mark-other, place_same, place_live, live_after, not_in_none, some_pair, dart_in}
+use Rattle.euler_faces.proofs.SideMarks.{mark-other, place_same, place_live, live_after, not_in_none, some_pair, dart_in}
 
 -- what has been marked stays so
 pub met_stays : (met : List Bool) (sides : List FaceSide) (side : FaceSide) (met' : List Bool) (sides' : List FaceSide) → Meets met sides side met' sides' → (i : ℕ) → mark_at met i ≡ true → mark_at met' i ≡ true
@@ -30,7 +30,7 @@ met_long met sides side met' sides' (now a e f) = ap (λ (m : List Bool). length
 -- the side is met now
 pub met_now : (met : List Bool) (sides : List FaceSide) (side : FaceSide) (met' : List Bool) (sides' : List FaceSide) → Meets met sides side met' sides' → place side.dart.0 side.odd < length met → IsMet met' side.dart.0 side.odd
 met_now met sides side met' sides' (before a e f) l = ap (λ met. mark_at met (place side.dart.0 side.odd)) e ∙ a
-met_now met sides side met' sides' (now a e f) l = ap (λ met. mark_at met (place side.dart.0 side.odd)) e ∙ mark-same met (place side.dart.0 side.odd) l
+met_now met sides side met' sides' (now a e f) l = ap (λ met. mark_at met (place side.dart.0 side.odd)) e ∙ set-here met (place side.dart.0 side.odd) l
 
 -- there is no more to do
 pub met_work : (met : List Bool) (sides : List FaceSide) (side : FaceSide) (met' : List Bool) (sides' : List FaceSide) → Meets met sides side met' sides' → place side.dart.0 side.odd < length met → work met' sides' ≤ work met sides

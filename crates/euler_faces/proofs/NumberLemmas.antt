@@ -104,27 +104,21 @@ place_after-zero n k l e = grind (arith, nat_tests)
 place_after-inside : (n k : ℕ) → k + 1 < n → place_after n k ≡ k + 1
 place_after-inside n k l = grind (arith, nat_tests)
 
-place_after-end : (n k : ℕ) → n ≤ k + 1 → place_after n k ≡ 0
-place_after-end n k l = grind (arith, nat_tests)
-
 module _ (map : Map) (h : IsHalfMap map) (d e first v : ℕ) (live : IsLive map d) (step : dart_at map e ≡ option_map (next_dart map.lists) (dart_at map d)) (u : ℕ) (is : dart_at map d ≡ Some (v, u)) (begins : dart_at map first ≡ Some (v, get_or (list_of map.lists v) 0 0)) where
-  next-to : dart_at map e ≡ Some (v, follows map.lists v u)
-  next-to = step ∙ ap (option_map (next_dart map.lists)) is
+  -- the clockwise next dart is from the same vertex
+  pub next-dart : dart_at map e ≡ Some (v, follows map.lists v u)
+  next-dart = step ∙ ap (option_map (next_dart map.lists)) is
 
   next-place : place_of (follows map.lists v u) (list_of map.lists v) ≡ place_after (length (list_of map.lists v)) (place_of u (list_of map.lists v))
   next-place =
       let has = h.is_dart d v u is in
       place_of-entry_after u (list_of map.lists v) (h.simple.no_repeat v has.0) has.1
 
-  -- the clockwise next dart is from the same vertex
-  pub next-dart : dart_at map e ≡ Some (v, follows map.lists v u)
-  next-dart = next-to
-
   -- where the round is back at the first dart, the last dart has been met
   pub next-back : e ≡ first → number_at map d + 1 ≡ darts_before map.lists (v + 1)
   next-back back =
       let has = h.is_dart d v u is in
-      let same : Some (v, follows map.lists v u) ≡ Some (v, get_or (list_of map.lists v) 0 0) = sym next-to ∙ ap (dart_at map) back ∙ begins in
+      let same : Some (v, follows map.lists v u) ≡ Some (v, get_or (list_of map.lists v) 0 0) = sym next-dart ∙ ap (dart_at map) back ∙ begins in
       let heads : follows map.lists v u ≡ get_or (list_of map.lists v) 0 0 = ap (λ (o : Option Dart). (unwrap_or o (0, 0)).1) same in
       let within = place_of-lt-length u (list_of map.lists v) has.1 in
       let zero_place : place_of (get_or (list_of map.lists v) 0 0) (list_of map.lists v) ≡ 0 = place_of-get_or (list_of map.lists v) 0 0 (h.simple.no_repeat v has.0) (omega arith) in
@@ -134,7 +128,7 @@ module _ (map : Map) (h : IsHalfMap map) (d e first v : ℕ) (live : IsLive map 
 
   -- else the next dart has the next number
   pub next-number : e ≢ first → number_at map e ≡ number_at map d + 1
-  next-number other = grind (arith, place_of-lt-length, list_of, cases_lt, place_of, length, next-place, place_after-inside, number_at-is, follows, next-to, Some, entry_after-place)
+  next-number other = grind (arith, place_of-lt-length, list_of, cases_lt, place_of, length, next-place, place_after-inside, number_at-is, follows, next-dart, Some, entry_after-place)
 
 -- a step of a round: the next dart is one of the vertex too, and the darts before it are those before this one and itself
 module _ (map : Map) (h : IsHalfMap map) (d e first v : ℕ) (dart : (u : ℕ) × (dart_at map d ≡ Some (v, u))) (step : dart_at map e ≡ option_map (next_dart map.lists) (dart_at map d)) (begins : dart_at map first ≡ Some (v, get_or (list_of map.lists v) 0 0)) where

@@ -4,6 +4,7 @@ use Rattle.std.proofs.lemmas.List.{get_or_default, get_or-map, map-set, length-m
 use Rattle.std.proofs.Math.Seq.{take-nil}
 use Rattle.std.proofs.lemmas.Bool.{cases_Bool, cases_eq, eq-eqb, or_left, or_right, false≢true, false_from_ne_true, ne_eqb, ltb-false}
 use Rattle.std.specs.List.{All}
+use Rattle.std.specs.Cmp.{both_ways}
 use Rattle.classes.specs.Classes.{count_below, label, same_class}
 use Rattle.map_lists.specs.Lists.{Lists}
 use Rattle.map_lists.specs.Cuts.{cut, AreCuts}
@@ -40,11 +41,6 @@ components-step lists v u simple has =
     let n = length-darts lists in
     let l = dart_number-lt lists v u has in
     rw (get_or-dart_number lists v u (0, 0) has) at (classes-holds (length lists) (darts lists) (components-below lists simple) (dart_number lists (v, u)) (0, 0) (omega arith))
-
-bool_same : (a b : Bool) → (a ≡ true → b ≡ true) → (b ≡ true → a ≡ true) → a ≡ b
-bool_same true b to from = sym (to refl)
-bool_same false true to from = from refl
-bool_same false false to from = refl
 
 -- where no vertex is unmarked, each is marked
 pub all_marked : (marked : List Bool) (n u : ℕ) → unmarked_below marked n ≡ 0 → u < n → n ≤ length marked → mark_at marked u ≡ true
@@ -184,7 +180,7 @@ search-all lists old marked queue next filled start simple h none l on i m =
       | inr other ↦ elim other [ inl none ↦ absurd none | inr done ↦ done ]
     ] in
     let one : All (λ p. mark_at marked p.0 ≡ mark_at marked p.1) (darts lists) = All-darts lists (λ p. mark_at marked p.0 ≡ mark_at marked p.1) simple (λ v u has.
-    bool_same (mark_at marked v) (mark_at marked u) (λ t. all v has.0 t u has) (λ t. all u (simple.in_range v u has) t v (simple.both_ways v u has))) in
+    both_ways (mark_at marked v) (mark_at marked u) (λ t. all v has.0 t u has) (λ t. all u (simple.in_range v u has) t v (simple.both_ways v u has))) in
     elim (cases_Bool (mark_at old i)) [
       | inl t ↦ h.stays i m t ∙ sym (or_left (mark_at old i) (same_class (component_classes lists) start i) t)
       | inr t ↦ elim (cases_Bool (same_class (component_classes lists) start i)) [

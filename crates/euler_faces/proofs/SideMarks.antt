@@ -1,13 +1,10 @@
 -- Marks of sides.
-use Rattle.std.proofs.Common.{◌≡◌, ◌≢◌, ◌*◌, ◌<◌, ℕ, Bool, true, false, List, [], ◌∷◌, length, set, Contains, rules, Option, Some, None, IsSome, option_map, unwrap_or, refl, ap, ◌∙◌, arith, get_or-set_same, get_or-set_other}
+use Rattle.std.proofs.Common.{◌≡◌, ◌≢◌, ◌*◌, ◌<◌, ℕ, Bool, true, false, List, [], length, set, Contains, rules, Option, Some, None, IsSome, option_map, unwrap_or, refl, ap, ◌∙◌, arith, get_or-set_other}
 use Rattle.half_edges.specs.Map.{Map, IsLive, IsHalfMap, dart_at, id_bound}
 use Rattle.map_theory.specs.Maps.{Dart}
 use Rattle.euler_faces.specs.Numbers.{mark_at}
 use Rattle.euler_faces.proofs.NumberLemmas.{live-lt, live_from, some_of}
 use Rattle.euler_faces.specs.ChainSearch.{place}
-
-pub mark-same : (met : List Bool) (i : ℕ) → i < length met → mark_at (set met i true) i ≡ true
-mark-same met i l = get_or-set_same met i true false l
 
 pub mark-other : (met : List Bool) (i j : ℕ) → j ≢ i → mark_at (set met i true) j ≡ mark_at met j
 mark-other met i j ne = get_or-set_other met i j true false ne
@@ -50,7 +47,3 @@ some_pair a b = Some (a, b)
 
 abbrev pub dart_in : Option Dart → Dart
 dart_in o = unwrap_or o (0, 0)
-
-pub none_left : {X : Type 0} (xs : List X) → length xs ≡ 0 → xs ≡ []
-none_left [] e = refl
-none_left (x ∷ xs) e = absurd (omega (arith, e))

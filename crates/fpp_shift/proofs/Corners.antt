@@ -1,9 +1,8 @@
 -- The grid, the three corners, and the face of the base.
-use Rattle.std.proofs.Common.{◌≡◌, ℕ, zero, suc, ◌+◌, ◌-◌, ◌*◌, ◌<◌, ◌≤◌, pos, neg_ℤ, ◌<ℤ◌, refl, ap, ◌∙◌, arith}
+use Rattle.std.proofs.Common.{◌≡◌, ℕ, zero, suc, ◌+◌, ◌-◌, ◌*◌, ◌<◌, ◌≤◌, pos, neg_ℤ, ◌<ℤ◌, ap, ◌∙◌, arith}
 use Rattle.std.proofs.lemmas.Int.{ints}
-use Rattle.pg_plane.specs.declared.grid_points.Point.{Point}
 use Rattle.pg_plane.specs.Geometry.{area}
-use Rattle.pg_plane.proofs.Ring.{ring, sums}
+use Rattle.pg_plane.proofs.Crossing.{area_back}
 use Rattle.contour_runs.specs.Runs.{Step, Stage, stage_after, IsStep, IsRun}
 use Rattle.contour_runs.specs.Laws.{IsStage}
 use Rattle.contour_runs.proofs.Stages.{IsStage-run, IsRun-less, count-stage_after}
@@ -42,12 +41,6 @@ cornered steps (suc n) m run e l w =
     let less = IsRun-less steps n (suc n) (omega arith) run in
     let t = top_corner (stage_after steps n) (steps n) (shift_points steps n) (IsStage-run steps n less) (IsShift-run steps n less) (run n (omega arith)) w (m - 1) (omega arith) in
     record { first = (h.first_x, h.first_y); second = (omega arith, h.second_y); top = (t.0 ∙ omega arith, t.1 ∙ omega arith) }
-
-pub first_three : (steps : ℕ → Step) → IsRun steps 1 → IsCornered (shift_points steps 1) 3
-first_three steps run = cornered steps 1 3 run refl (omega arith) (omega (arith, run 0 (omega arith)))
-
-area_back : (a b c : Point) → area b a c ≡ neg_ℤ (area a b c)
-area_back a b c = simp ring (omega (arith, sums))
 
 cornered_base : (at : Places) (m : ℕ) → 3 ≤ m → IsCornered at m → area (point_of at 1) (point_of at 0) (point_of at (m - 1)) <ℤ pos 0
 cornered_base at m l c = grind (arith, IsOpened, opened_new, opened_area, area_back, point_of, area, neg_ℤ, pos, ints)

@@ -1,5 +1,6 @@
 -- The ends of rows, by darts.
 use Rattle.std.proofs.Common.{Bool, IsTrue, ◌↔◌, ◌≡◌, ℕ, ◌+◌, ◌-◌, ◌<◌, ◌≤◌, ◌⊎◌, List, length, get_or, Option, Some, option_map, unwrap_or, sym, ap, ◌∙◌, subst, inl, inr, arith, AllPairs, ◌≢◌, Contains}
+use Rattle.plane_drawings.proofs.FreshLemmas.{head-is}
 use Rattle.std.proofs.lemmas.List.Elements.{Contains-get_or}
 use Rattle.std.proofs.lemmas.List.{get_or_default}
 use Rattle.map_lists.specs.Lists.{Lists}
@@ -13,10 +14,6 @@ use Rattle.std.proofs.lemmas.Bool.{cases_lt}
 use Rattle.canon_order.specs.Orders.{IsRankOf}
 use Rattle.std.proofs.lemmas.Bool.Decides.{nat_tests}
 
--- what a call of `head` answers for the dart to u
-pub head-is : (map : Map) (d v u r : ℕ) → dart_at map d ≡ Some (v, u) → option_map (λ (e : Dart). e.1) (dart_at map d) ≡ Some r → u ≡ r
-head-is map d v u r is e = cc
-
 -- a dart leads to a vertex
 pub head-within : (map : Map) (d r : ℕ) → IsHalfMap map → IsLive map d → option_map (λ (e : Dart). e.1) (dart_at map d) ≡ Some r → r < length map.lists
 head-within map d r known live e =
@@ -26,10 +23,6 @@ head-within map d r known live e =
 -- the dart before another
 before-is : (map : Map) (d e v u : ℕ) → IsLive map e → option_map (next_dart map.lists) (dart_at map e) ≡ dart_at map d → dart_at map d ≡ Some (v, u) → (w : ℕ) × (dart_at map e ≡ Some (v, w)) × (follows map.lists v w ≡ u)
 before-is map d e v u live step is = grind (arith, some_of, dart_at, Some, next_dart, option_map, Option, Dart, unwrap_or, follows)
-
--- the dart after that to an entry before the last
-pub next-is : (map : Map) (d e v k : ℕ) → IsHalfMap map → v < length map.lists → k + 1 < length (list_of map.lists v) → dart_at map d ≡ Some (v, get_or (list_of map.lists v) k 0) → dart_at map e ≡ option_map (next_dart map.lists) (dart_at map d) → dart_at map e ≡ Some (v, get_or (list_of map.lists v) (k + 1) 0)
-next-is map d e v k known vertex l is step = step ∙ ap (option_map (next_dart map.lists)) is ∙ ap (λ (u : ℕ). Some (v, u)) (entry_after-next (list_of map.lists v) k (known.simple.no_repeat v vertex) l)
 
 module _ (lists : Lists) (simple : IsSimpleMap lists) (ranks : List ℕ) (k v u r b : ℕ) (dart : HasDart lists v u) (rank : r ≡ get_or ranks u 0) where
   -- where a row begins, by the ranks of a neighbour and the next

@@ -4,6 +4,7 @@ use Rattle.std.proofs.lemmas.List.{get_or_append_left, get_or-take, take_more_se
 use Rattle.std.proofs.lemmas.Int.{ints}
 use Rattle.std.proofs.lemmas.Bool.{cases_lt}
 use Rattle.std.proofs.Math.Seq.{get_or-append_seam}
+use Rattle.std.proofs.lemmas.Option.{same_Some}
 use Rattle.classes.proofs.Counting.{count_below_all, count_below_into}
 use Rattle.fpp_shift.specs.declared.offset_trees.tree_nodes.Node.{Node}
 use Rattle.fpp_shift.specs.Nodes.{node_at, LeadsTo}
@@ -186,7 +187,7 @@ module _ (nodes : List Node) (root : ℕ) (tree : IsTree nodes root) (met : List
       | inl old ↦ elim (m.linked w old) [ inl e ↦ inl e | inr l ↦ inr (linked-longer nodes met u (h + 1) w (linked-later nodes met h w l)) ]
       | inr e ↦ inr (linked-longer nodes met u (h + 1) w (linked-here nodes met h v (Some u) next w (ap Some (sym e))))
     ];
-    closed = λ w l. elim (linked-before w l) [ inl old ↦ met-old met u w (m.closed w old) | inr e ↦ subst (IsMet (met ++ u ∷ [])) (some_alike e) (met-new met u) ];
+    closed = λ w l. elim (linked-before w l) [ inl old ↦ met-old met u w (m.closed w old) | inr e ↦ subst (IsMet (met ++ u ∷ [])) (same_Some _ _ e) (met-new met u) ];
     added = λ us w is way. elim (met-cases met u w is) [
       | inl old ↦ ap (λ (p : Point). p.x) (others w (λ e. fresh (subst (IsMet met) e old))) ∙ m.added us w old way
       | inr e ↦ subst (λ (z : ℕ). IsWay nodes root us z → sum_at sums' z ≡ sum_x nodes (root ∷ us)) (sym e) (u-added us) way
@@ -199,9 +200,6 @@ module _ (nodes : List Node) (root : ℕ) (tree : IsTree nodes root) (met : List
     where
       n : length (met ++ u ∷ []) ≡ length met + 1
       n = length-append met (u ∷ [])
-
-      some_alike : {a b : ℕ} → Some a ≡ Some b → a ≡ b
-      some_alike e = cc
 
       -- the entry at the end is u, and no other
       apart : (i j : ℕ) → (i < length met) ⊎ (length met ≤ i) → (j < length met) ⊎ (length met ≤ j) → i < length met + 1 → j < length met + 1 → get_or (met ++ u ∷ []) i 0 ≡ get_or (met ++ u ∷ []) j 0 → i ≡ j

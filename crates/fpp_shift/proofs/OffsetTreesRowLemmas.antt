@@ -1,6 +1,7 @@
 -- Rows along right links, number by number.
 use Rattle.std.proofs.Common.{◌≡◌, ◌≢◌, ℕ, suc, ◌<◌, List, length, Some, ℤ, ◌+ℤ◌, sym, ap, ap₂, ◌∙◌, inl, inr, arith}
 use Rattle.std.proofs.lemmas.Bool.{cases_eq}
+use Rattle.std.proofs.lemmas.Option.{same_Some}
 use Rattle.fpp_shift.specs.declared.offset_trees.tree_nodes.Node.{Node}
 use Rattle.fpp_shift.specs.Nodes.{node_at, right_of}
 use Rattle.fpp_shift.specs.OffsetTreesRows.{IsRow, far}
@@ -17,10 +18,7 @@ module _ (nodes : List Node) (row : ℕ → ℕ) (m p q : ℕ) (is : IsRow nodes
 
   -- the link leads to the next of the row
   pub next-is : (next : ℕ) → right_of nodes at ≡ Some next → next ≡ row (suc i)
-  next-is next e = some_alike (sym e ∙ at-link)
-    where
-      some_alike : {a b : ℕ} → Some a ≡ Some b → a ≡ b
-      some_alike e = cc
+  next-is next e = same_Some _ _ (sym e ∙ at-link)
 
   -- and that is the end just where it is q
   pub at-end : row (suc i) ≡ q → m ≡ suc i

@@ -19,11 +19,7 @@ use Rattle.fpp_shift.specs.Grown.{Links, links_of, IsFrom, IsOffsetTree}
 use Rattle.fpp_shift.specs.Trees.{IsTreeOf}
 use Rattle.fpp_shift.specs.ShiftTreesLaws.{AddsUp}
 use Rattle.fpp_shift.proofs.LinkLemmas.{IsRight, IsUnder, IsToTop, IsToEnd, left-link, right-link, under-first, under-next, child-once, child-placed, left-apart, first-from, right-from, reaches-all}
-
--- a way goes on by a link
-way-more : (nodes : List Node) (r : ℕ) (us : List ℕ) (v u : ℕ) → IsWay nodes r us v → LeadsTo nodes v u → IsWay nodes r (us ++ u ∷ []) u
-way-more nodes r [] v u way leads = (subst (λ (z : ℕ). LeadsTo nodes z u) (sym way) leads, refl)
-way-more nodes r (w ∷ us) v u way leads = (way.0, way-more nodes w us v u way.1 leads)
+use Rattle.fpp_shift.proofs.MetLemmas.{way-more}
 
 within-small : (k : ℕ) → k < 1048577 → IsWithin (pos 1048576) (pos k)
 within-small k l = record { least = omega (arith, ints); most = omega (arith, ints) }

@@ -1,8 +1,9 @@
 -- Bits of bytes, and the places of pairs.
-use Rattle.std.proofs.Common.{◌≡◌, ◌≢◌, ℕ, zero, suc, ◌+◌, ◌-◌, ◌*◌, ◌/◌, ◌%◌, ◌^◌, ◌<◌, ◌≤◌, ◌==◌, ◌||◌, Bool, true, false, List, length, refl, sym, ap, ap₂, ◌∙◌, inl, inr, arith, eq-eqb, ne_eqb, get_or-set_same, get_or-set_other}
+use Rattle.std.proofs.Common.{◌≡◌, ◌≢◌, ℕ, zero, suc, ◌+◌, ◌-◌, ◌*◌, ◌/◌, ◌%◌, ◌^◌, ◌<◌, ◌≤◌, ◌==◌, ◌||◌, false, List, length, refl, sym, ap, ap₂, ◌∙◌, inl, inr, arith, eq-eqb, ne_eqb, get_or-set_same, get_or-set_other}
 use Rattle.std.proofs.Math.ListN.{get_or, set}
 use Rattle.std.proofs.lemmas.Bool.{eqb-false, cases_eq, cases_lt, or_right}
 use Rattle.std.proofs.lemmas.Bool.Decides.{nat_tests}
+use Rattle.std.proofs.Math.Bool.{or-false}
 use Rattle.graph6_text.specs.Lines.{pair_place, pair_count, body_length, has_bit, is_set, IsLineByte}
 
 -- what holds of the numbers below six, one by one
@@ -55,12 +56,8 @@ bits-with_bit b k range l e j m =
           ∙ sym (or_right (bit_value b j == 1) (j == k) (eq-eqb j k q))
       | inr n ↦
           ap (λ v. v == 1) (other_bits b range k l j m (unset_value b k e) n)
-          ∙ (or_none (bit_value b j == 1) ∙ ap (λ v. (bit_value b j == 1) || v) (sym (ne_eqb j k n)))
+          ∙ (sym (or-false (bit_value b j == 1)) ∙ ap (λ v. (bit_value b j == 1) || v) (sym (ne_eqb j k n)))
     ]
-  where
-    or_none : (v : Bool) → v ≡ (v || false)
-    or_none true = refl
-    or_none false = refl
 
 -- a byte is known by its bits
 pub byte_by_bits : (a b : ℕ) → IsLineByte a → IsLineByte b → ((k : ℕ) → k < 6 → has_bit a k ≡ has_bit b k) → a ≡ b
@@ -105,12 +102,8 @@ is_set-set body place byte l h p =
       | inr n ↦
           let at : get_or (set body (place / 6) byte) (p / 6) 0 ≡ get_or body (p / 6) 0 = get_or-set_other body (place / 6) (p / 6) byte 0 n in
           let other : (p == place) ≡ false = ne_eqb p place (λ q. n (ap (λ i. i / 6) q)) in
-          ap (λ b. has_bit b (p % 6)) at ∙ (or_none (has_bit (get_or body (p / 6) 0) (p % 6)) ∙ ap (λ v. has_bit (get_or body (p / 6) 0) (p % 6) || v) (sym other))
+          ap (λ b. has_bit b (p % 6)) at ∙ (sym (or-false (has_bit (get_or body (p / 6) 0) (p % 6))) ∙ ap (λ v. has_bit (get_or body (p / 6) 0) (p % 6) || v) (sym other))
     ]
-  where
-    or_none : (v : Bool) → v ≡ (v || false)
-    or_none true = refl
-    or_none false = refl
 
 -- ---- places of pairs
 -- one vertex more

@@ -8,18 +8,13 @@ use Rattle.std.proofs.lemmas.List.{get_or-map, get_or_past, length-map, length-r
 use Rattle.std.proofs.lemmas.List.Elements.{All-contains}
 use Rattle.std.proofs.lemmas.List.Kept.{AllPairs-filter}
 use Rattle.std.proofs.lemmas.List.Folds.{list_any_more}
+use Rattle.std.specs.Cmp.{both_ways}
+use Rattle.std.proofs.Math.Bool.{or_comm}
 use Rattle.map_lists.specs.declared.items.Ends.{Ends}
 use Rattle.graph6_text.specs.Graphs.{Edge, EdgeGraph, AreEdges, ComesBefore, joins, has_edge, edge_of}
 use Rattle.graph6_text.specs.Lines.{pair_place, body_length, has_bit, is_set, IsLineByte, IsBody, pairs, edges_of}
 use Rattle.graph6_text.proofs.BitLemmas.{below_six, pair_place-lt, one_pair}
 use Rattle.graph6_text.proofs.PairLemmas.{Contains-first, Contains-later, Contains-cases, Contains-none, All-from_Contains, Contains-filter, Contains-unfilter, any-from, any-gives, any-none, rising_same, before_strict, before_apart, pairs-have, pairs-hold, pairs-rising}
-
--- two tests that pass together are one
-same_test : (a b : Bool) → (a ≡ true → b ≡ true) → (b ≡ true → a ≡ true) → a ≡ b
-same_test true true f g = refl
-same_test false false f g = refl
-same_test true false f g = sym (f refl)
-same_test false true f g = g refl
 
 -- ---- joining
 pub joins-own : (e : Edge) → joins e.0 e.1 e ≡ true
@@ -36,12 +31,6 @@ joins-ends u v e h = elim (or_cases ((e.0 == u) && (e.1 == v)) ((e.0 == v) && (e
 
 pub joins-turned : (u v : ℕ) (e : Edge) → joins u v e ≡ joins v u e
 joins-turned u v e = or_comm ((e.0 == u) && (e.1 == v)) ((e.0 == v) && (e.1 == u))
-  where
-    or_comm : (a b : Bool) → (a || b) ≡ (b || a)
-    or_comm true true = refl
-    or_comm true false = refl
-    or_comm false true = refl
-    or_comm false false = refl
 
 -- u and v are joined as v and u are
 pub any-turned : (u v : ℕ) (es : List Edge) → list_any (joins u v) es ≡ list_any (joins v u) es
@@ -78,7 +67,7 @@ pub joined_as_bit : (n : ℕ) (body : List ℕ) (u v : ℕ) → u < v → v < n 
 unfolding edges_of
 joined_as_bit n body u v l m =
     let p : Edge → Bool = λ x. is_set body (pair_place x.0 x.1) in
-    same_test (list_any (joins u v) (edges_of n body)) (is_set body (pair_place u v))
+    both_ways (list_any (joins u v) (edges_of n body)) (is_set body (pair_place u v))
     (λ h. (Contains-unfilter p (pairs n) (u, v) (joined_is n u v (edges_of n body) (AreEdges-edges_of n body) (omega arith) h).0).1)
     (λ h. joined_by u v (edges_of n body) (Contains-filter p (pairs n) (u, v) (pairs-hold n u v l m) h))
 
@@ -175,7 +164,7 @@ AreMarked-done n body edges i marked l are =
         bytes = marked.bytes;
         padding = λ p m. bits p ∙ any-none (λ (e : Ends). pair_place e.a.0 e.b.0 == p) edges (λ e h. let o = ends e h in let b = pair_place-lt e.a.0 e.b.0 n o.0 o.1 in ne_eqb (pair_place e.a.0 e.b.0) p (omega arith));
       },
-      edges_by_bits n body (map edge_of edges) are (λ u v o m. bits (pair_place u v) ∙ same_test (list_any (λ (e : Ends). pair_place e.a.0 e.b.0 == pair_place u v) edges) (list_any (joins u v) (map edge_of edges))
+      edges_by_bits n body (map edge_of edges) are (λ u v o m. bits (pair_place u v) ∙ both_ways (list_any (λ (e : Ends). pair_place e.a.0 e.b.0 == pair_place u v) edges) (list_any (joins u v) (map edge_of edges))
           (λ h.
           let r = any-gives (λ (e : Ends). pair_place e.a.0 e.b.0 == pair_place u v) edges h in
           let e = r.0 in

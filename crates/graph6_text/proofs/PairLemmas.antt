@@ -16,12 +16,9 @@ module _ {X : Type 0} where
   pub Contains-later : (x : X) (xs : List X) (y : X) → Contains xs y → Contains (x ∷ xs) y
   Contains-later x xs y h = (suc h.0, omega (arith, h.1), h.2)
 
-  cases_at : (x : X) (xs : List X) (y : X) → Contains (x ∷ xs) y → (x ≡ y) ⊎ Contains xs y
-  cases_at x xs y (zero, l, e) = inl e
-  cases_at x xs y (suc k, l, e) = inr (k, omega (arith, l), e)
-
   pub Contains-cases : (x : X) (xs : List X) (y : X) → Contains (x ∷ xs) y → (x ≡ y) ⊎ Contains xs y
-  Contains-cases x xs y h = cases_at x xs y h
+  Contains-cases x xs y (zero, l, e) = inl e
+  Contains-cases x xs y (suc k, l, e) = inr (k, omega (arith, l), e)
 
   pub Contains-none : (y : X) → Contains [] y → ⊥
   Contains-none y h = omega (arith, h.1)

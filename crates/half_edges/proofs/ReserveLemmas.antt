@@ -1,5 +1,5 @@
 -- More free edges in an arena.
-use Rattle.std.proofs.Common.{ℕ, suc, ◌+◌, ◌<◌, ◌≤◌, ◌≡◌, ◌≢◌, false, cond, List, [], ◌∷◌, ◌++◌, length, Some, None, refl, sym, ap, ◌∙◌, subst, inl, inr, arith}
+use Rattle.std.proofs.Common.{ℕ, suc, ◌+◌, ◌<◌, ◌≤◌, ◌≡◌, ◌≢◌, false, cond, List, [], ◌∷◌, ◌++◌, length, Some, None, sym, ap, ◌∙◌, subst, inl, inr, arith}
 use Rattle.std.proofs.lemmas.List.{get_or_append_left, get_or_push, get_or_past, length_push}
 use Rattle.std.proofs.lemmas.Bool.{cases_lt, cases_eq}
 use Rattle.half_edges.specs.Arena.{no_record, record_at, twin_of, prev_of, tail_of, live_of, head_of, dart_in, dart_of_record, arena_lists, IsLinked, IsPaired, AreFree, IsArena}
@@ -68,8 +68,8 @@ module _ (old mid : List DartRecord) (free spare more : ℕ) (h : IsFreer old mi
   }
 
 module _ (old : List DartRecord) (vertices : List VertexRecord) (edges free spare : ℕ) (a : IsArena (arena_lists old vertices) old vertices edges free spare) (new : List DartRecord) (free_now more : ℕ) (f : IsFreer old new free_now spare more) where
-  dart_same : (z : ℕ) → dart_in new z ≡ dart_in old z
-  dart_same z =
+  pub dart_reserved : (z : ℕ) → dart_in new z ≡ dart_in old z
+  dart_reserved z =
       elim (cases_lt z (length old)) [
         | inl l ↦
             ap (λ r. dart_of_record new r) (f.kept z l)
@@ -81,7 +81,7 @@ module _ (old : List DartRecord) (vertices : List VertexRecord) (edges free spar
 
   linked_new : IsLinked (dart_in new) (arena_lists old vertices) new vertices
   linked_new =
-      IsLinked-same (dart_in old) (dart_in new) _ new vertices dart_same
+      IsLinked-same (dart_in old) (dart_in new) _ new vertices dart_reserved
       (IsLinked-frame (dart_in old) _ old new vertices (λ z v u e. f.kept z (live-lt old z (IsDartAt-from old z v u e).live)) a.linked)
 
   pub lists_reserved : arena_lists new vertices ≡ arena_lists old vertices
@@ -91,6 +91,3 @@ module _ (old : List DartRecord) (vertices : List VertexRecord) (edges free spar
   arena_reserved room =
       subst (λ ls. IsArena ls new vertices edges free_now (spare + more)) (sym lists_reserved)
       (record { linked = linked_new; simple = a.simple; few_vertices = a.few_vertices; paired = f.paired; edges_are = a.edges_are; count = omega (arith, f.count, a.count); room = room; threaded = f.threaded })
-
-  pub dart_reserved : (z : ℕ) → dart_in new z ≡ dart_in old z
-  dart_reserved z = dart_same z

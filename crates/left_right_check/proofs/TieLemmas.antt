@@ -9,6 +9,7 @@ use Rattle.left_right_laws.proofs.Forks.{plane_is_left_right}
 use Rattle.embed_theorem.specs.Expanded.{HasJustEdges}
 use Rattle.left_right_check.specs.Ties.{IsJoined, IsForestOf, ReturnsBy, turned, AreTied, HasNoMap}
 use Rattle.std.specs.Prelude.{◌+◌}
+use Rattle.std.proofs.Math.Bool.{not-not}
 
 -- by tables of parents and depths, a vertex is a root, or is adjacent to its parent and deeper by one
 abbrev pub IsPlaced : EdgeGraph → List ℕ → List ℕ → ℕ → Type 0
@@ -48,18 +49,14 @@ alike_by_fork graph parents depths v e f t w s z l h apart one other low above a
     let at = sides v e f apart in
     (at.1 t w l h one low).0 above ∙ sym ((at.1 s z l h other low).0 above')
 
-not_not : (b : Bool) → not (not b) ≡ b
-not_not true = refl
-not_not false = refl
-
 pub opposite_by_fork : (graph : EdgeGraph) (parents depths : List ℕ) (v e f t w s z l h k g : ℕ) → e ≢ f → ReturnsBy graph parents depths v e t w → ReturnsBy graph parents depths v f s z → ReturnsBy graph parents depths v e k g → ReturnsBy graph parents depths v f l h → slice_index depths h < slice_index depths w → slice_index depths g < slice_index depths z → AreTied graph parents depths true t w s z
 opposite_by_fork graph parents depths v e f t w s z l h k g apart one other low low' above above' left sides =
     let at = sides v e f apart in
-    (at.1 t w l h one low').0 above ∙ (sym (not_not at.0) ∙ ap not (sym ((at.1 k g s z low other).1 above')))
+    (at.1 t w l h one low').0 above ∙ (sym (not-not at.0) ∙ ap not (sym ((at.1 k g s z low other).1 above')))
 
 -- ---- chains of them
 turned_turned : (a b side : Bool) → turned a (turned b side) ≡ turned (turned b a) side
-turned_turned true true side = not_not side
+turned_turned true true side = not-not side
 turned_turned true false side = refl
 turned_turned false true side = refl
 turned_turned false false side = refl
@@ -70,7 +67,7 @@ AreTied-more graph parents depths a b t w s z l h one two left sides = one left 
 
 -- turned round
 pub AreTied-sym : (graph : EdgeGraph) (parents depths : List ℕ) (turn : Bool) (t w s z : ℕ) → AreTied graph parents depths turn t w s z → AreTied graph parents depths turn s z t w
-AreTied-sym graph parents depths true t w s z tied left sides = sym (not_not (left s z)) ∙ ap not (sym (tied left sides))
+AreTied-sym graph parents depths true t w s z tied left sides = sym (not-not (left s z)) ∙ ap not (sym (tied left sides))
 AreTied-sym graph parents depths false t w s z tied left sides = sym (tied left sides)
 
 -- ---- no map

@@ -2,7 +2,7 @@
 use Rattle.std.proofs.Common.{◌≡◌, ◌≢◌, ℕ, zero, suc, ◌+◌, ◌-◌, ◌*◌, ◌<◌, ◌≤◌, Bool, true, false, cond, not, ltb, eqb, List, length, refl, sym, ap, ◌∙◌, subst, inl, inr, arith, eq-eqb, ne_eqb}
 use Rattle.std.specs.Prelude.{◌&&◌}
 use Rattle.std.proofs.Math.Bool.{and-true}
-use Rattle.std.proofs.lemmas.Bool.{cases_Bool, cases_lt, cases_eq, cond-true, cond-false, lt-ltb, and_from, and_right}
+use Rattle.std.proofs.lemmas.Bool.{cases_Bool, cases_lt, cases_eq, cond-true, cond-false, lt-ltb, and_from, and_right, false≢true}
 use Rattle.classes.specs.Classes.{count_below, label, merge, class_count}
 use Rattle.classes.proofs.Counting.{count_below_more, count_below_all}
 use Rattle.classes.proofs.Classes.{Together, IsLabels, cases_Together, length-merge, IsLabels-merge, merge-keeps, merge-same, merge-within, class_count-merge_apart}
@@ -107,14 +107,11 @@ module _ (lists : Lists) (along : ℕ → ℕ → Bool) (at : ℕ → Dart) (pla
           size = h.size;
           keeps = h.keeps;
           holds = λ i k s. elim (cases_eq i l) [
-            | inl e ↦ absurd (differ (sym (ap test e ∙ t) ∙ s))
+            | inl e ↦ absurd (false≢true (sym (ap test e ∙ t) ∙ s))
             | inr ne ↦ h.holds i (omega arith) s
           ];
           enough = omega (arith, h.enough, ap (λ c. count_below test l + cond c 1 0) t);
         }
-      where
-        differ : false ≡ true → ⊥
-        differ e = cc
 
     joined_is : (l : ℕ) → l ≤ n → IsJoined l (joined l)
     unfolding joined

@@ -2,16 +2,10 @@
 use Rattle.std.proofs.Common.{◌≡◌, ℕ, suc, ◌+◌, ◌-◌, ◌<◌, ◌≤◌, Bool, true, false, not, eqb, List, [], ◌∷◌, ◌++◌, length, get_or, take, drop, refl, sym, ap, ap₂, ◌∙◌, arith}
 use Rattle.std.specs.Bool.{beq}
 use Rattle.std.proofs.lemmas.Bool.{cond-true, true≢false}
-use Rattle.std.proofs.lemmas.List.{append_assoc, get_or-drop, length-drop, take_rest}
-use Rattle.std.proofs.Math.Seq.{drop-cons, take-suc}
+use Rattle.std.proofs.lemmas.List.{append_assoc, get_or-drop, length-drop, take_rest, drop_more}
+use Rattle.std.proofs.Math.Seq.{take-suc}
 use Rattle.map_theory.specs.Maps.{Dart}
 use Rattle.left_right_lists.specs.Blocks.{lead, trail, uppers, lefts, rights, IsRun}
-
--- an edge, and those after it
-parted : (ds : List Dart) (i : ℕ) (z : Dart) → i < length ds → drop i ds ≡ get_or ds i z ∷ drop (i + 1) ds
-parted ds i z l =
-    let e : suc i ≡ i + 1 = omega arith in
-    drop-cons ds i z l ∙ ap (λ j. get_or ds i z ∷ drop j ds) e
 
 -- a test that is as it should be
 pub same_true : (a ends : Bool) → not (beq a ends) ≡ false → ends ≡ true → a ≡ true
@@ -39,7 +33,7 @@ run_more p ds from i z l t h =
     let k : from + (i - from) ≡ i = omega (arith, after) in
     let at : get_or (drop from ds) (i - from) z ≡ d = get_or-drop from ds (i - from) z ∙ ap (λ j. get_or ds j z) k in
     let step : take (i + 1 - from) (drop from ds) ≡ take (i - from) (drop from ds) ++ d ∷ [] = ap (λ j. take j (drop from ds)) (sym e) ∙ (take-suc (drop from ds) (i - from) z (omega (arith, after, l, long)) ∙ ap (λ y. take (i - from) (drop from ds) ++ y ∷ []) at) in
-    let rest = parted ds i z l in
+    let rest = drop_more ds i z l in
     record {
       after = omega (arith, after);
       led = h.led ∙ (ap (λ xs. take (i - from) (drop from ds) ++ lead p xs) rest ∙ (ap (λ xs. take (i - from) (drop from ds) ++ xs) (cond-true {A = List Dart} (p d) (d ∷ lead p (drop (i + 1) ds)) [] t) ∙ (sym (append_assoc (take (i - from) (drop from ds)) (d ∷ []) (lead p (drop (i + 1) ds))) ∙ ap (λ xs. xs ++ lead p (drop (i + 1) ds)) (sym step))));

@@ -1,6 +1,6 @@
 -- Depth-first forests by a search: depths, and that of two neighbours one is above the other.
 use Rattle.std.proofs.Common.{◌≡◌, ◌≢◌, ℕ, zero, suc, ◌+◌, ◌<◌, true, List, length, get_or, set, refl, sym, ap, ◌∙◌, subst, inl, inr, arith, slice_index, length-set}
-use Rattle.std.proofs.lemmas.Bool.{cases_eq, cases_lt}
+use Rattle.std.proofs.lemmas.Bool.{cases_eq, cases_lt, false_from_ne_true}
 use Rattle.std.proofs.lemmas.List.{get_or_past, get_or-set_same, get_or-set_other}
 use Rattle.map_lists.specs.Lists.{Lists}
 use Rattle.graph_search.specs.Forests.{Holds, IsForest, IsForestOf}
@@ -12,7 +12,6 @@ use Rattle.conn_parts.proofs.GraphLemmas.{length-graph_lists, dart_edge, edge_da
 use Rattle.left_right_laws.specs.Forests.{IsAbove}
 use Rattle.left_right_maps.specs.Graphs.{IsDepthFirst}
 use Rattle.left_right_maps.proofs.Lines.{above_over, parent_above}
-use Rattle.left_right_maps.proofs.Forests.{not_so}
 use Rattle.left_right_lists.specs.Depths.{IsDepthBy, AreDepths}
 
 module _ (lists : Lists) (order number last parents depths : List ℕ) (all : IsForestOf lists order number last parents) where
@@ -121,7 +120,7 @@ module _ (graph : EdgeGraph) (known : IsGraph graph) (order number last parents 
       record {
         in_range = ranges;
         both_ways = turned;
-        no_loop = λ v. not_so (has_edge graph v v) (λ t. (let l = ranges v v t in (IsSimpleMap-graph_lists graph known (omega arith)).no_loop v v (edge_dart graph known v v t) refl));
+        no_loop = λ v. false_from_ne_true (has_edge graph v v) (λ t. (let l = ranges v v t in (IsSimpleMap-graph_lists graph known (omega arith)).no_loop v v (edge_dart graph known v v t) refl));
         forest = record {
           edges = λ v some. (let l = deep_in v some in let m = parent_in v some in turned (P v) v (dart_edge graph known (P v) v (f.adjacent v (omega arith) (omega arith))));
           deeper = deeper;

@@ -147,19 +147,16 @@ module _ (depth : ℕ → ℕ) (left : ℕ → ℕ → Bool) (v : ℕ) where
   middle_off ds d c e = true≢false (sym (lead_all ends_off (trail ends_at ds) d c) ∙ ap not (eq-eqb d.1 v e))
 
   -- what is left begins with one that does not end at v
-  trail_begins : (ds : List Dart) → AllPairs (MayPrecede depth left) ds → ((d : Dart) → Contains ds d → Ends d) → (d : Dart) → Contains (rights ds) d → d.1 ≡ v
-  trail_begins [] pairs ends d c = absurd (none_in_none d (subst (λ z. Contains z d) (ap (trail ends_off) (trail_none ends_at) ∙ trail_none ends_off) c))
-  trail_begins (x ∷ ds) pairs ends d c =
+  pub rights_end : (ds : List Dart) → AllPairs (MayPrecede depth left) ds → ((d : Dart) → Contains ds d → Ends d) → (d : Dart) → Contains (rights ds) d → d.1 ≡ v
+  rights_end [] pairs ends d c = absurd (none_in_none d (subst (λ z. Contains z d) (ap (trail ends_off) (trail_none ends_at) ∙ trail_none ends_off) c))
+  rights_end (x ∷ ds) pairs ends d c =
       elim (cases_Bool (ends_at x)) [
-        | inl t ↦ trail_begins ds (pairs_tail (MayPrecede depth left) x ds pairs) (λ z c'. ends z (there x z ds c')) d (subst (λ z. Contains (trail ends_off z) d) (trail_true ends_at x ds t) c)
+        | inl t ↦ rights_end ds (pairs_tail (MayPrecede depth left) x ds pairs) (λ z c'. ends z (there x z ds c')) d (subst (λ z. Contains (trail ends_off z) d) (trail_true ends_at x ds t) c)
         | inr f ↦
             let off : ends_off x ≡ true = ap not f in
             let low : depth x.1 < depth v = elim (ends x (here x ds)) [ inl e ↦ absurd (true≢false (sym (eq-eqb x.1 v e) ∙ f)) | inr less ↦ less ] in
             behind_low x ds low pairs (λ z c'. ends z (there x z ds c')) d (subst (λ z. Contains z d) (ap (trail ends_off) (trail_false ends_at x ds f) ∙ trail_true ends_off x ds off) c)
       ]
-
-  pub rights_end : (ds : List Dart) → AllPairs (MayPrecede depth left) ds → ((d : Dart) → Contains ds d → Ends d) → (d : Dart) → Contains (rights ds) d → d.1 ≡ v
-  rights_end = trail_begins
 
 -- the numbers below n that pass a test
 module _ (p : ℕ → Bool) where

@@ -1,7 +1,8 @@
 -- A graph with a forest of several trees: with edges from one root to the others it is connected, and without them its map is one of the graph.
 use Rattle.std.proofs.Common.{◌≡◌, ◌≢◌, ◌⊎◌, ℕ, zero, suc, ◌+◌, ◌-◌, ◌<◌, ◌≤◌, Bool, true, false, cond, not, eqb, ltb, refl, sym, ap, ap₂, ◌∙◌, subst, inl, inr, arith, eqb-true, eq-eqb}
 use Rattle.std.specs.Prelude.{◌&&◌, ◌||◌}
-use Rattle.std.proofs.lemmas.Bool.{cases_Bool, cases_lt, cases_eq, cond-true, cond-false, true≢false, and_parts, and_from, or_cases, or_left, or_right, lt-ltb, ltb-true, ne_eqb}
+use Rattle.std.proofs.lemmas.Bool.{cases_Bool, cases_lt, cases_eq, cond-true, cond-false, true≢false, and_parts, and_from, or_cases, or_left, or_right, lt-ltb, ltb-true, ne_eqb, false_from_ne_true}
+use Rattle.std.specs.Cmp.{both_ways as same_bits}
 use Rattle.map_lists.specs.Lists.{Lists}
 use Rattle.map_theory.specs.Maps.{HasDart}
 use Rattle.plane_laws.specs.Kept.{with_kept}
@@ -15,14 +16,6 @@ use Rattle.left_right_maps.specs.Trees.{IsDepthFirstTree}
 use Rattle.left_right_maps.specs.RootedMaps.{is_child, in_tree}
 use Rattle.left_right_maps.proofs.Lines.{child_is, is_child_from, up_last, above_same, up_depth}
 use Rattle.left_right_maps.proofs.Whole.{map_of_edges}
-
-same_bits : (b c : Bool) → (b ≡ true → c ≡ true) → (c ≡ true → b ≡ true) → b ≡ c
-same_bits true c there back = sym (there refl)
-same_bits false true there back = back refl
-same_bits false false there back = refl
-
-pub not_so : (b : Bool) → ¬ (b ≡ true) → b ≡ false
-not_so b h = elim (cases_Bool b) [ inl t ↦ absurd (h t) | inr f ↦ f ]
 
 -- the root above a vertex
 root_above : (n : ℕ) (edge : ℕ → ℕ → Bool) (parent depth : ℕ → ℕ) → IsDepthFirst n edge parent depth → (k v : ℕ) → depth v ≡ k → v < n → (r : ℕ) × ((r < n) × (depth r ≡ 0))
@@ -83,7 +76,7 @@ module _ (n : ℕ) (edge : ℕ → ℕ → Bool) (parent depth : ℕ → ℕ) (r
   other_same u v lu lv e = ap₂ (λ b c. b && not (eqb c r)) (lt-ltb u n lu ∙ sym (lt-ltb v n lv)) e
 
   pub other_r : other r ≡ false
-  other_r = not_so (other r) (λ t. (other_so r t).1 (top_root r r_depth))
+  other_r = false_from_ne_true (other r) (λ t. (other_so r t).1 (top_root r r_depth))
 
   pub lone_so : (v : ℕ) → lone v ≡ true → (depth v ≡ 0) × (other v ≡ true)
   lone_so v t = let both = and_parts (eqb (depth v) 0) (other v) t in (eqb-true (depth v) 0 both.0, both.1)
@@ -135,7 +128,7 @@ module _ (n : ℕ) (edge : ℕ → ℕ → Bool) (parent depth : ℕ → ℕ) (r
   parent_lone v t = cond-true {A = ℕ} (lone v) r (parent v) t
 
   not_lone : (v : ℕ) → 0 < depth v → lone v ≡ false
-  not_lone v deep = not_so (lone v) (λ t. let e = (lone_so v t).0 in omega arith)
+  not_lone v deep = false_from_ne_true (lone v) (λ t. let e = (lone_so v t).0 in omega arith)
 
   pub parent_same : (v : ℕ) → 0 < depth v → parent' v ≡ parent v
   unfolding parent'
@@ -208,7 +201,7 @@ module _ (n : ℕ) (edge : ℕ → ℕ → Bool) (parent depth : ℕ → ℕ) (r
           | inl h ↦ edge_old v u (g.both_ways u v h)
           | inr h ↦ elim h [ inl k ↦ subst (λ z. edge' v z ≡ true) (sym k.0) (edge_up v k.1) | inr k ↦ subst (λ z. edge' z u ≡ true) (sym k.0) (edge_down u k.1) ]
         ];
-        no_loop = λ v. not_so (edge' v v) (λ t. elim (edge_cases v v t) [
+        no_loop = λ v. false_from_ne_true (edge' v v) (λ t. elim (edge_cases v v t) [
           | inl h ↦ true≢false (sym h ∙ g.no_loop v)
           | inr h ↦ grind (arith, true≢false, lone_so, other, other_r)
         ]);

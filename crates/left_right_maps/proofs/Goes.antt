@@ -32,16 +32,13 @@ module _ {X : Type 0} (f : X → X) where
 
   -- where no two lead to one, and the first does not come again, none does
   module _ (x : X) (xs : List X) (y : X) (goes : Goes f x (x ∷ xs) y) (once : ¬ Contains xs x) (apart : (a b : X) → Contains (x ∷ xs) a → Contains (x ∷ xs) b → f a ≡ f b → a ≡ b) where
-    distinct_at : (i j : ℕ) (d : X) → i < j → j < length (x ∷ xs) → get_or (x ∷ xs) i d ≢ get_or (x ∷ xs) j d
-    distinct_at i zero d l m e = absurd (omega arith)
-    distinct_at zero (suc j) d l m e = once (subst (Contains xs) (sym e) (Contains-get_or xs j d (omega arith)))
-    distinct_at (suc i) (suc j) d l m e =
+    pub distinct_goes : AllPairs ◌≢◌ (x ∷ xs)
+    distinct_goes i zero d l m e = absurd (omega arith)
+    distinct_goes zero (suc j) d l m e = once (subst (Contains xs) (sym e) (Contains-get_or xs j d (omega arith)))
+    distinct_goes (suc i) (suc j) d l m e =
         let a = goes_next x (x ∷ xs) y d i goes (omega arith) in
         let b = goes_next x (x ∷ xs) y d j goes (omega arith) in
-        distinct_at i j d (omega arith) (omega arith) (apart (get_or (x ∷ xs) i d) (get_or (x ∷ xs) j d) (Contains-get_or (x ∷ xs) i d (omega arith)) (Contains-get_or (x ∷ xs) j d (omega arith)) (a ∙ (e ∙ sym b)))
-
-    pub distinct_goes : AllPairs ◌≢◌ (x ∷ xs)
-    distinct_goes = distinct_at
+        distinct_goes i j d (omega arith) (omega arith) (apart (get_or (x ∷ xs) i d) (get_or (x ∷ xs) j d) (Contains-get_or (x ∷ xs) i d (omega arith)) (Contains-get_or (x ∷ xs) j d (omega arith)) (a ∙ (e ∙ sym b)))
 
 -- ---- the entries of a list in turn
 module _ (us : List ℕ) (distinct : AllPairs ◌≢◌ us) where

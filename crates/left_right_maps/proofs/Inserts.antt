@@ -1,5 +1,5 @@
 -- An element put into a list in order, where the order need not be transitive.
-use Rattle.std.proofs.Common.{◌≡◌, ◌⊎◌, ℕ, zero, suc, ◌<◌, List, [], ◌∷◌, ◌++◌, length, get_or, AllPairs, Contains, refl, sym, ap, ◌∙◌, subst, inl, inr, arith}
+use Rattle.std.proofs.Common.{◌≡◌, ◌⊎◌, zero, suc, List, [], ◌∷◌, ◌++◌, get_or, AllPairs, Contains, refl, sym, ap, ◌∙◌, subst, inl, inr, arith}
 use Rattle.std.proofs.lemmas.List.Elements.{Contains-get_or, Contains-append_cases, Contains-append_left, Contains-append_right}
 
 pub none_in_none : {X : Type 0} (x : X) → ¬ Contains [] x
@@ -11,12 +11,9 @@ here x xs = (0, omega arith, refl)
 pub there : {X : Type 0} (x y : X) (xs : List X) → Contains xs y → Contains (x ∷ xs) y
 there x y xs c = (suc c.0, omega (arith, c.1), c.2)
 
-there_at : {X : Type 0} (x y : X) (xs : List X) (k : ℕ) → k < length (x ∷ xs) → get_or (x ∷ xs) k y ≡ y → (x ≡ y) ⊎ Contains xs y
-there_at x y xs zero l e = inl e
-there_at x y xs (suc k) l e = inr (k, omega (arith, l), e)
-
 pub here_or_there : {X : Type 0} (x y : X) (xs : List X) → Contains (x ∷ xs) y → (x ≡ y) ⊎ Contains xs y
-here_or_there x y xs c = there_at x y xs c.0 c.1 c.2
+here_or_there x y xs (zero, l, e) = inl e
+here_or_there x y xs (suc k, l, e) = inr (k, omega (arith, l), e)
 
 module _ {X : Type 0} (R : X → X → Type 0) where
   pub pairs_none : AllPairs R []

@@ -151,9 +151,6 @@ module _ (depth : ℕ → ℕ) (left : ℕ → ℕ → Bool) where
         (λ y z c c' r s. ((λ e. apart y c (sym e)), over y z u r.1 s (pairs_head Lower u us low z (old.holds z c')).1 (two y c))))
 
 module _ (joined : ℕ → ℕ → Bool) (parent depth : ℕ → ℕ) (left : ℕ → ℕ → Bool) (v : ℕ) (us : List ℕ) (returns : ℕ → List Dart) (sides : IsLeftRight (IsEdge joined) parent depth left) (are : (u : ℕ) (d : Dart) → Contains us u → Contains (returns u) d → IsReturn (IsEdge joined) parent depth v u d.0 d.1) where
-  not_true : (b : Bool) → b ≡ true → b ≡ not true → ⊥
-  not_true b t f = true≢false (sym t ∙ f)
-
   either : (e f : ℕ) → Contains us e → Contains us f → e ≢ f → Before depth left returns e f ⊎ Before depth left returns f e
   either e f ce cf apart =
       let fork = sides v e f apart in

@@ -1,7 +1,7 @@
 -- Statements that are wrong, though near those of the laws.
-use Rattle.std.proofs.Common.{◌≡◌, ◌≢◌, ℕ, zero, suc, ◌+◌, ◌-◌, ◌<◌, ◌≤◌, Bool, true, false, not, eqb, ltb, List, [], ◌∷◌, ◌++◌, get_or, AllPairs, Contains, refl, sym, ap, ◌∙◌, subst, inl, inr, arith, eq-eqb, ne_eqb}
+use Rattle.std.proofs.Common.{◌≡◌, ◌≢◌, ℕ, ◌+◌, ◌-◌, ◌<◌, ◌≤◌, Bool, true, false, not, eqb, ltb, List, [], ◌∷◌, get_or, AllPairs, Contains, refl, sym, ap, ◌∙◌, inl, inr, arith, eq-eqb, ne_eqb}
 use Rattle.std.specs.Prelude.{◌&&◌, ◌↔◌}
-use Rattle.std.proofs.lemmas.Bool.{cases_lt, and_parts, and_from, ltb-true, true≢false}
+use Rattle.std.proofs.lemmas.Bool.{cases_lt, and_parts, and_from, ltb-true, true≢false, false_from_ne_true}
 use Rattle.std.proofs.lemmas.List.{get_or_default}
 use Rattle.map_lists.specs.Lists.{Lists}
 use Rattle.classes.specs.Classes.{merge}
@@ -15,7 +15,6 @@ use Rattle.left_right_maps.specs.RootedMaps.{is_child, joined, tour_at, IsRooted
 use Rattle.left_right_maps.specs.Graphs.{IsMapOfEdges}
 use Rattle.left_right_maps.proofs.Inserts.{none_in_none, here, there, here_or_there, pairs_none, pairs_more}
 use Rattle.left_right_maps.proofs.Lines.{above_same}
-use Rattle.left_right_maps.proofs.Forests.{not_so}
 
 -- no bit is the other one
 no_fixed_bit : (b : Bool) → b ≡ not b → ⊥
@@ -140,7 +139,7 @@ no_map_of_five lists m =
 -- the law of partitions for a forest that is not depth-first
 any_forest : ((n : ℕ) (joined : ℕ → ℕ → Bool) (parent depth : ℕ → ℕ) (left : ℕ → ℕ → Bool) → 0 < n → ((u v : ℕ) → joined u v ≡ true → u < n) → ((u v : ℕ) → joined u v ≡ true → joined v u ≡ true) → ((v : ℕ) → joined v v ≡ false) → IsForest (IsEdge joined) parent depth → IsLeftRight (IsEdge joined) parent depth left → (lists : Lists) × IsMapOfEdges n joined lists) → ⊥
 any_forest wrong =
-    let found = wrong 5 joined_five star_parent star_depth (λ t w. true) (omega arith) (λ u v t. (five_so u v t).0) five_back (λ v. not_so (joined_five v v) (λ t. (five_so v v t).1.1 refl)) star_forest (λ v e f apart. (true, λ t w s z one two. absurd (star_returns v e t w one))) in
+    let found = wrong 5 joined_five star_parent star_depth (λ t w. true) (omega arith) (λ u v t. (five_so u v t).0) five_back (λ v. false_from_ne_true (joined_five v v) (λ t. (five_so v v t).1.1 refl)) star_forest (λ v e f apart. (true, λ t w s z one two. absurd (star_returns v e t w one))) in
     no_map_of_five found.0 found.1
 
 -- ---- K4 in a map of genus one, on a line from 0 to 3: the edge between 3 and 1 crosses that between 2 and 0

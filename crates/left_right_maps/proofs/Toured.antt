@@ -1,8 +1,7 @@
 -- The word of the root, dart by dart: it goes as the tour does, and holds each dart once.
-use Rattle.std.proofs.Common.{◌≡◌, ◌≢◌, ℕ, zero, suc, ◌+◌, ◌<◌, ◌≤◌, Bool, true, false, not, eqb, List, [], ◌∷◌, ◌++◌, length, get_or, Contains, refl, sym, ap, ap₂, ◌∙◌, subst, inl, inr, arith, eqb-true, eq-eqb, ne_eqb, length-append}
-use Rattle.std.specs.Prelude.{◌||◌}
+use Rattle.std.proofs.Common.{◌≡◌, ◌≢◌, ℕ, zero, suc, ◌+◌, ◌<◌, ◌≤◌, Bool, true, false, not, eqb, List, [], ◌∷◌, ◌++◌, length, get_or, Contains, sym, ap, ◌∙◌, subst, inl, inr, arith, eqb-true, eq-eqb, ne_eqb, length-append}
 use Rattle.std.proofs.Math.ListN.{get_or-append}
-use Rattle.std.proofs.lemmas.Bool.{cases_Bool, cases_lt, cases_eq, cond-true, cond-false, true≢false, and_parts, and_from, or_left, or_right}
+use Rattle.std.proofs.lemmas.Bool.{cases_Bool, cases_lt, cases_eq, cond-true, cond-false, true≢false, and_parts, and_from, or_left, or_right, or_from}
 use Rattle.std.proofs.lemmas.List.{get_or-append-add}
 use Rattle.std.proofs.lemmas.List.Elements.{Contains-append_cases, Contains-append_left, Contains-append_right}
 use Rattle.map_lists.specs.Lists.{Lists}
@@ -29,9 +28,6 @@ joined_parts f (w ∷ us) x c =
       | inl h ↦ (w, (here w us, h))
       | inr h ↦ (let rest = joined_parts f us x h in (rest.0, (there w rest.0 us rest.1.0, rest.1.1)))
     ]
-
-or_off : (b c : Bool) → b ≡ false → c ≡ false → (b || c) ≡ false
-or_off b c e f = ap₂ (λ b c. b || c) e f
 
 -- every number below n has a depth below some bound
 pub bound_of : (depth : ℕ → ℕ) (n : ℕ) → (most : ℕ) × ((v : ℕ) → v < n → depth v < most)
@@ -122,7 +118,7 @@ module _ (lists : Lists) (parent depth : ℕ → ℕ) (root : ℕ) (entries : �
 
   step_past : (v u : ℕ) → child v u ≡ false → child u v ≡ false → step (v, u) ≡ (v, follows lists v u)
   step_past v u e f =
-      cond-false {A = Dart} (along v u) (face_step lists (v, u)) (v, follows lists v u) (or_off (child v u) (child u v) e f)
+      cond-false {A = Dart} (along v u) (face_step lists (v, u)) (v, follows lists v u) (or_from (child v u) (child u v) e f)
 
   pub around_down : (v u : ℕ) → child v u ≡ true → around v u ≡ (v, u) ∷ (words u ++ (u, v) ∷ [])
   around_down v u t = cond-true {A = List Dart} (child v u) ((v, u) ∷ (words u ++ (u, v) ∷ [])) ((v, u) ∷ []) t

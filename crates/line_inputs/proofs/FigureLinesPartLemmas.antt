@@ -61,11 +61,6 @@ closes-line consumed figures number pending line begun after part n within none 
     ∙ ap (λ (b : ℕ). consumed ++ (take n part ++ b ∷ [])) (sym ten) ∙ ap (λ (x : List ℕ). consumed ++ x) (sym (take_more part n 0 within)) in
     subst (λ (x : List ℕ). Closes x figures number after) e (closes front figures number line begun here short after (makes (drop here.at front) here.first here.plain here.stands))
 
--- no bytes
-pub none-of_length : (bytes : List ℕ) → length bytes ≡ 0 → bytes ≡ []
-none-of_length [] none = refl
-none-of_length (b ∷ bytes) none = absurd (omega arith)
-
 -- a line whose end is the whole of it, or is put behind its front
 pub joined : (alone : Bool) (old end new line : List ℕ) → (alone ≡ true → old ≡ []) → new ≡ (if alone then old else old ++ end) → line ≡ (if alone then end else new) → line ≡ old ++ end
 joined true old end new line none made is = is ∙ sym (ap (λ (x : List ℕ). x ++ end) (none refl))

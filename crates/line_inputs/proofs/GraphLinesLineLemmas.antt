@@ -1,7 +1,7 @@
 -- What bytes without a byte 10, and a byte 10 behind them, do to what has been read.
 use Rattle.std.proofs.Common.{◌≡◌, ◌≢◌, ℕ, ◌+◌, ◌-◌, ◌<◌, ◌≤◌, Bool, true, false, List, [], ◌∷◌, ◌++◌, length, take, drop, refl, sym, ap, ◌∙◌, subst, arith, inl, append_assoc, length-append}
 use Rattle.std.proofs.lemmas.List.{drop-append-le}
-use Rattle.std.proofs.lemmas.List.Elements.{All-nil, All-append, All-drop}
+use Rattle.std.proofs.lemmas.List.Elements.{All-append, All-drop}
 use Rattle.std.proofs.Math.Seq.{take-append-add}
 use Rattle.std.specs.Prelude.{Some}
 use Rattle.record_runs.specs.Texts.{input_limit}
@@ -19,6 +19,7 @@ use Rattle.line_inputs.specs.declared.graph_lines.ending.Ending.TheVariants.{Wel
 use Rattle.line_inputs.specs.declared.graph_lines.open_line.Judged.{Judged}
 use Rattle.line_inputs.specs.declared.graph_lines.open_line.Judged.TheVariants.{Header, Graph, Bad}
 use Rattle.line_inputs.proofs.HeaderLemmas.{header-of-line, header-within, settled-line, settled-more}
+use Rattle.line_inputs.proofs.FigureLinesLineLemmas.{IsPlain-none}
 
 -- a line more
 AreLines-push : (lines : List (List ℕ)) (graphs : List EdgeGraph) (line : List ℕ) (g : EdgeGraph) → AreLines lines graphs → IsPlain line → IsLine line g → AreLines (lines ++ line ∷ []) (graphs ++ g ∷ [])
@@ -83,15 +84,11 @@ settled-closed : (first : Bool) (consumed : List ℕ) (graphs : List EdgeGraph) 
 settled-closed true consumed graphs line plain other (same, none) = rw same (settled-line line plain (other refl))
 settled-closed false consumed graphs line plain other (settled, has) = settled-more consumed (10 ∷ []) settled
 
--- nothing is open
-pub plain-none : IsPlain []
-plain-none = All-nil (λ b. b ≢ 10)
-
 -- the line of a graph is closed
 pub closes-graph : (consumed : List ℕ) (graphs : List EdgeGraph) (number : ℕ) (first : Bool) (line : List ℕ) (g : EdgeGraph) → Progress consumed graphs number first line → (first ≡ true → line ≢ graph_header) → IsLine (behind_header first line) g → Closes (consumed ++ 10 ∷ []) graphs number (Graph g)
 closes-graph consumed graphs number first line g p other is = record {
   counted = let c = p.counted in let l = length-append graphs (g ∷ []) in omega arith;
-  plain = plain-none;
+  plain = IsPlain-none;
   stands = (
     settled-closed first consumed graphs line p.plain other p.stands,
     HasLines-push (lines_in (consumed ++ 10 ∷ [])) graphs (behind_header first line) [] g (closed-text first consumed graphs line [] p.plain other p.stands) (behind-plain first line p.plain) is,

@@ -1,6 +1,6 @@
 -- Darts and their numbers, and the face step as a permutation of them.
 use Rattle.std.proofs.Common.{ℕ, zero, suc, ◌+◌, ◌-◌, ◌<◌, ◌≤◌, ◌≡◌, ◌≢◌, cond, eqb, List, [], ◌∷◌, ◌++◌, length, get_or, AllPairs, Contains, sym, refl, ap, ◌∙◌, subst, inl, inr, ap₂, ltb, lt-ltb, le-ltb, arith, eq-eqb, ne_eqb, add-one}
-use Rattle.std.proofs.lemmas.List.{append-nil, append_assoc, length-append, length-map, get_or_append_left, get_or-append-add, get_or-map, get_or_default, get_or_past}
+use Rattle.std.proofs.lemmas.List.{length-append, length-map, get_or_append_left, get_or-append-add, get_or-map, get_or_default, get_or_past}
 use Rattle.std.proofs.lemmas.List.Sums.{sum_by-cons}
 use Rattle.std.proofs.lemmas.Bool.Decides.{nat_tests}
 use Rattle.std.proofs.lemmas.Bool.{cases_lt, cases_eq, cond-true, cond-false}
@@ -303,18 +303,6 @@ place_of-is x us k l e before =
 
 pub not-Contains-from : (x : ℕ) (us : List ℕ) → ((i : ℕ) → i < length us → get_or us i 0 ≢ x) → ¬ Contains us x
 not-Contains-from x us h c = h c.0 c.1 (get_or_default us c.0 0 x c.1 ∙ c.2)
-
--- the darts of one more list
-
-darts_since-push : (from : ℕ) (lists : Lists) (us : List ℕ) → darts_since from (lists ++ us ∷ []) ≡ darts_since from lists ++ darts_from (from + length lists) us
-darts_since-push from [] us =
-    let e : from ≡ from + 0 = omega arith in
-    append-nil (darts_from from us) ∙ ap (λ n. darts_from n us) e
-darts_since-push from (ws ∷ lists) us =
-    let e : from + 1 + length lists ≡ from + suc (length lists) = omega arith in
-    ap (λ ds. darts_from from ws ++ ds) (darts_since-push (from + 1) lists us)
-    ∙ sym (append_assoc (darts_from from ws) (darts_since (from + 1) lists) (darts_from (from + 1 + length lists) us))
-    ∙ ap (λ n. darts_from from ws ++ darts_since (from + 1) lists ++ darts_from n us) e
 
 -- each number below the count of darts has a dart of the lists
 pub HasDart-darts : (lists : Lists) (i : ℕ) (d : Dart) → i < dart_count lists → HasDart lists (get_or (darts lists) i d).0 (get_or (darts lists) i d).1

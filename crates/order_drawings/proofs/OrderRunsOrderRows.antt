@@ -128,9 +128,6 @@ module _ (lists : Lists) (base : Dart) (at ranks : List ℕ) (triangulation : Is
     is_later : (u : ℕ) → u < length lists → stands_in us u ≡ false → k + 2 ≤ get_or ranks u 0
     is_later u m f = elim (cases_lt (get_or ranks u 0) (k + 2)) [ inl r ↦ absurd (true≢false (sym (stands_earlier u m r) ∙ f)) | inr r ↦ r ]
 
-    v_in : v < length lists
-    v_in = order.vertices (k + 2) 0 l
-
     v_kept : stands_in us v ≡ true
     v_kept =
         let len = length-take-le (suc (k + 2)) at (omega arith) in

@@ -21,7 +21,7 @@ turns_back d e l l' = let back = cross_back d e in omega (arith, sums)
 pub clock_apart : (d e : Point) → IsClockBefore d e → ¬ IsClockBefore e d
 clock_apart d e b b' = grind (arith, turns_back)
 
-zero_product : (a b : ℤ) → b ≡ pos 0 → a *ℤ b ≡ pos 0
+pub zero_product : (a b : ℤ) → b ≡ pos 0 → a *ℤ b ≡ pos 0
 zero_product a b e = let n = mul_neg a (pos 0) in ap (λ z. a *ℤ z) e ∙ omega (arith, sums)
 
 -- in the upper half a turn to the right after a turn to the right is one

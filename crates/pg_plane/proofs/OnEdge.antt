@@ -15,6 +15,7 @@ use Rattle.pg_plane.proofs.Near.{scaled, moved, less, cross_less, cross_less_two
 use Rattle.pg_plane.proofs.Crossing.{area_back, some_area, near_right, twin_place, twin_head, flat_first, flat_ends, flat_last}
 use Rattle.pg_plane.proofs.Round.{turn_place, turn_head, turn_tail}
 use Rattle.pg_plane.proofs.Tilted.{vertices_apart}
+use Rattle.pg_plane.proofs.Segments.{IsBetween-back}
 
 -- how far v is from t, against how far s is
 between_end : (s t v : ℤ) → IsBetween s t v → (pos 0 ≤ℤ ((t -ℤ v) *ℤ (t -ℤ s))) × (((t -ℤ v) *ℤ (t -ℤ s)) ≤ℤ pos 0 → v ≡ t)
@@ -42,9 +43,6 @@ along_positive p a b bx by apart =
     let y = between_end a.y b.y p.y by in
     by_lt_z (pos 0) (along p a b) (λ l. l)
     (λ l. absurd (apart (same_point p b (x.1 (let x0 = x.0 in let y0 = y.0 in omega (arith, sums))) (y.1 (let x0 = x.0 in let y0 = y.0 in omega (arith, sums))))))
-
-swapped : (s t v : ℤ) → IsBetween s t v → IsBetween t s v
-swapped s t v b = elim b [ inl h ↦ inr h | inr h ↦ inl h ]
 
 -- two vectors from a point on a line to others on it, by how far these are
 weighed_x : (g h : Point) → ((h.x *ℤ (h.x -ℤ g.x)) +ℤ (h.y *ℤ (h.y -ℤ g.y))) *ℤ g.x +ℤ ((g.x *ℤ (g.x -ℤ h.x)) +ℤ (g.y *ℤ (g.y -ℤ h.y))) *ℤ h.x ≡ (h.y -ℤ g.y) *ℤ cross g h
@@ -227,7 +225,7 @@ module _ (k : ℕ) (twin step : ℕ → ℕ) (at : ℕ → Point) (base : ℕ) (
 
     pt : pos 0 <ℤ t
     unfolding t
-    pt = along_positive (at m) (at (step i)) (at i) (swapped _ _ _ on.between_x) (swapped _ _ _ on.between_y) off_tail
+    pt = along_positive (at m) (at (step i)) (at i) (IsBetween-back _ _ _ on.between_x) (IsBetween-back _ _ _ on.between_y) off_tail
 
     weighed_place : moved (scaled s (at i)) (scaled t (at (step i))) ≡ scaled (s +ℤ t) (at m)
     unfolding s t

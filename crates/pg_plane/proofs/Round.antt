@@ -2,7 +2,7 @@
 use Rattle.std.proofs.Common.{◌≡◌, ℕ, zero, suc, ◌<◌, ◌⊎◌, Bool, true, false, not, ◌&&◌, cond, eqb, ltb, ℤ, pos, ◌-ℤ◌, ◌<ℤ◌, refl, sym, ap, ap₂, subst, ◌∙◌, inl, inr, arith, eq-eqb, eqb-true}
 use Rattle.std.specs.Bool.{beq}
 use Rattle.std.proofs.lemmas.Int.{ints, by_lt_z}
-use Rattle.std.proofs.lemmas.Bool.{cases_Bool, true≢false, and_parts, cases_lt}
+use Rattle.std.proofs.lemmas.Bool.{cases_Bool, true≢false, and_parts, cases_lt, not-true}
 use Rattle.std.proofs.Math.Bool.{and-false, and-true}
 use lib.Signed.{lt_z}
 use borrow.Author.Differences.{true_is_lt, false_is_lt}
@@ -12,7 +12,7 @@ use Rattle.classes.proofs.Orbits.{IsPermuting, marks_back}
 use Rattle.pg_plane.specs.Faced.{in_base, IsFaced, IsTailed, turn}
 use Rattle.pg_plane.proofs.Near.{NoneLevel}
 use Rattle.pg_plane.proofs.Ring.{sums, ring, product_signs}
-use Rattle.pg_plane.proofs.Identities.{cross_back, heights}
+use Rattle.pg_plane.proofs.Identities.{heights}
 use Rattle.classes.proofs.Counting.{one_if}
 use Rattle.pg_plane.proofs.Clash.{up, side, meets, there_at, back_at, inside_is, within_is, IsMetAsHeld, one_holds, base_area}
 use Rattle.pg_plane.proofs.Crossing.{some_area, twin_place, twin_head, flat_first, flat_ends}
@@ -68,10 +68,6 @@ corner_back : (p q r : Point) → area p q r <ℤ pos 0 → (there_at p p q r �
 corner_back p q r negative =
     (rw (meets_from p q, meets_to p r, meets_right p q r negative) (omega arith), rw (meets_to p q, meets_from p r, meets_left p r q (omega (arith, ints))) (omega arith))
 
-not_true : (x : Bool) → not x ≡ true → x ≡ false
-not_true true h = sym h
-not_true false h = refl
-
 beq_same : (x y : Bool) → beq x y ≡ true → x ≡ y
 beq_same true true h = refl
 beq_same false false h = refl
@@ -121,7 +117,7 @@ module _ (k : ℕ) (twin step : ℕ → ℕ) (at : ℕ → Point) (base : ℕ) (
     outer = λ e.
         let c = corner_back (at i) (at (step i)) (at (step (step i))) (base_area k twin step at base d (at i) i e) in
         let h' : not (not (up (at i) (at (step (step i)))) && up (at i) (at (step i))) ≡ true = rw (e, next_up i l) at h in
-        within_is k twin step at base d (at i) i ∙ rw (e, c.0, c.1) (one_more _ ∙ not_true _ h');
+        within_is k twin step at base d (at i) i ∙ rw (e, c.0, c.1) (one_more _ ∙ not-true _ h');
   }
 
   -- two darts that hold at one place are one
@@ -163,8 +159,8 @@ module _ (k : ℕ) (twin step : ℕ → ℕ) (at : ℕ → Point) (base : ℕ) (
           let back = marks_back (turn twin step) k turns is_down
           (λ j lj m. let parts = and_parts (eqb (tail j) w) (not (head_up j)) m in
           let tj = eqb-true (tail j) w parts.0 in
-          rw (eq-eqb (tail (turn twin step j)) w (turn_tail tail r j lj ∙ tj), stays_down j lj tj (not_true (head_up j) parts.1)) refl) i l marked in
-          not_true (head_up i) (and_parts (eqb (tail i) w) (not (head_up i)) back).1
+          rw (eq-eqb (tail (turn twin step j)) w (turn_tail tail r j lj ∙ tj), stays_down j lj tj (not-true (head_up j) parts.1)) refl) i l marked in
+          not-true (head_up i) (and_parts (eqb (tail i) w) (not (head_up i)) back).1
 
       same_up : (i : ℕ) → i < k → tail i ≡ w → head_up (turn twin step i) ≡ head_up i
       same_up i l t =

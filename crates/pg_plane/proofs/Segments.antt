@@ -6,7 +6,7 @@ use Rattle.pg_plane.specs.Geometry.{area, IsBetween, IsOnSegment, AreOpposite, D
 use Rattle.pg_plane.proofs.Crossing.{area_back}
 
 -- what is between two numbers is between them the other way about
-IsBetween-back : (s t v : ℤ) → IsBetween s t v → IsBetween t s v
+pub IsBetween-back : (s t v : ℤ) → IsBetween s t v → IsBetween t s v
 IsBetween-back s t v h = ⊎_elim (λ l. inr l) (λ r. inl r) h
 
 -- a point of a segment is one of the segment the other way about

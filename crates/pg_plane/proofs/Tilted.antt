@@ -8,11 +8,11 @@ use Rattle.pg_plane.specs.declared.grid_points.Point.{Point}
 use Rattle.pg_plane.specs.Geometry.{vector, cross, area, IsFirstHalf, IsClockBefore}
 use Rattle.pg_plane.specs.Faced.{in_base, IsFaced, IsTailed, turn}
 use Rattle.pg_plane.proofs.Ring.{sums, ring, product_positive, product_signs}
-use Rattle.pg_plane.proofs.Identities.{cross_back}
 use Rattle.pg_plane.proofs.Clash.{base_area, up}
 use Rattle.pg_plane.proofs.Near.{same_point, NoneLevel}
 use Rattle.pg_plane.proofs.Crossing.{some_area, flat_first}
 use Rattle.pg_plane.proofs.Round.{holds, holds_is, holds_once, holds_some, places_apart, turn_place, turn_head}
+use Rattle.pg_plane.proofs.ClockOrder.{zero_product}
 
 -- turned by half, and tilted by one in n
 abbrev pub tilted : ℤ → Point → Point
@@ -47,18 +47,15 @@ bound_below f (suc k) =
 steep : (n : ℕ) (v : Point) → unsigned_abs v.x < n → (pos 0 <ℤ v.y → (v.x -ℤ (pos n *ℤ v.y)) <ℤ pos 0) × (v.y <ℤ pos 0 → pos 0 <ℤ (v.x -ℤ (pos n *ℤ v.y)))
 steep n v l = grind (arith, pos, mul-le, ints, negsuc)
 
-zero_times : (n y : ℤ) → y ≡ pos 0 → n *ℤ y ≡ pos 0
-zero_times n y e = rw e (omega (arith, ints))
-
 -- the half of a direction, by its height once tilted
 half_of : (n : ℕ) (v : Point) → unsigned_abs v.x < n → (v.x ≡ pos 0 → v.y ≡ pos 0 → ⊥) → (pos 0 <ℤ (v.x -ℤ (pos n *ℤ v.y)) → ¬ IsFirstHalf v) × ((v.x -ℤ (pos n *ℤ v.y)) ≤ℤ pos 0 → IsFirstHalf v)
 half_of n v l some =
     let s = steep n v l in (
-      λ h f. ⊎_elim (λ a. let c = s.0 a in omega (arith, ints)) (λ a. let z = zero_times (pos n) v.y a.0 in let b = a.1 in omega (arith, ints)) f,
+      λ h f. ⊎_elim (λ a. let c = s.0 a in omega (arith, ints)) (λ a. let z = zero_product (pos n) v.y a.0 in let b = a.1 in omega (arith, ints)) f,
       λ h. by_lt_z (pos 0) v.y (λ a. inl a)
           (λ a. by_lt_z v.y (pos 0) (λ b. let c = s.1 b in absurd (omega (arith, ints)))
           (λ b. let e : v.y ≡ pos 0 = omega (arith, ints) in
-          inr (e, by_lt_z v.x (pos 0) (λ c. c) (λ c. absurd (some (omega (arith, zero_times (pos n) v.y e, ints)) e))))),
+          inr (e, by_lt_z v.x (pos 0) (λ c. c) (λ c. absurd (some (omega (arith, zero_product (pos n) v.y e, ints)) e))))),
     )
 
 -- which of two directions comes first, by halves and the turn between them
@@ -101,7 +98,7 @@ module _ (k : ℕ) (twin step : ℕ → ℕ) (at : ℕ → Point) (base : ℕ) (
       let s = steep n v (short i l) in
       by_lt_z (pos 0) v.y (λ a. let c = s.0 a in omega (arith, ints))
       (λ a. by_lt_z v.y (pos 0) (λ b. let c = s.1 b in omega (arith, ints))
-      (λ b. let y : v.y ≡ pos 0 = omega (arith, ints) in let z = zero_times (pos n) v.y y in some_way i l (omega (arith, ints)) y))
+      (λ b. let y : v.y ≡ pos 0 = omega (arith, ints) in let z = zero_product (pos n) v.y y in some_way i l (omega (arith, ints)) y))
 
   -- vertices stand apart
   pub vertices_apart : (i j : ℕ) → i < k → j < k → at i ≡ at j → tail i ≡ tail j

@@ -1,8 +1,8 @@
 -- Words that are not UTF-8.
 use Rattle.std.proofs.Common.{◌≡◌, ◌<◌, ◌≤◌, ℕ, suc, List, [], ◌∷◌, ◌++◌, length, drop, get_or, refl, sym, arith, subst, IsUtf8, Contains}
-use Rattle.std.proofs.lemmas.Grind.{common_steps}
 use Rattle.std.proofs.Math.Seq.{drop-cons}
 use Rattle.std.proofs.lemmas.List.Elements.{Contains-append_right}
+use Rattle.std.proofs.lemmas.List.{drop_all}
 use Rattle.pigale_c.specs.Words.{words_from, words_in, HasNoText}
 
 -- the word so far is one of a text's where a space or the end comes
@@ -20,11 +20,8 @@ no_text_before_space text done word k within space kept no_text =
     (subst (λ (b : ℕ). Contains (words_from word (b ∷ drop (suc k) text)) word) (sym space) (first_word word (words_from [] (drop (suc k) text)))))
     no_text
 
-none_left : (text : List ℕ) (k : ℕ) → length text ≤ k → drop k text ≡ []
-none_left text k past = grind (arith, common_steps)
-
 pub no_text_at_end : (text : List ℕ) (done : List (List ℕ)) (word : List ℕ) (k : ℕ) → length text ≤ k → done ++ words_from word (drop k text) ≡ words_in text → ¬ IsUtf8 word → HasNoText (words_in text)
 no_text_at_end text done word k past kept no_text =
     no_text_in text done word (drop k text) kept
-    (subst (λ (bytes : List ℕ). Contains (words_from word bytes) word) (sym (none_left text k past)) (first_word word []))
+    (subst (λ (bytes : List ℕ). Contains (words_from word bytes) word) (sym (drop_all k text past)) (first_word word []))
     no_text

@@ -1,10 +1,11 @@
 -- Which words are those of a job.
 use Rattle.std.proofs.lemmas.Option.{none-some}
-use Rattle.std.proofs.Common.{eqb-true, ◌+◌, ◌*◌, ◌-◌, ◌≡◌, ◌∙◌, ◌⊎◌, ◌&&◌, ◌||◌, not, ℕ, Bool, Option, Some, None, List, [], ◌∷◌, true, false, true≢false, refl, ap, ap₂, cond, sym, subst, inl, inr, is_some, codes}
+use Rattle.std.proofs.Common.{eqb-true, ◌+◌, ◌*◌, ◌-◌, ◌≡◌, ◌∙◌, ◌&&◌, ◌||◌, not, ℕ, Bool, Option, Some, None, List, [], ◌∷◌, true, false, true≢false, refl, ap, ap₂, cond, sym, subst, inl, inr, is_some, codes}
 use Rattle.std.specs.Prelude.{unwrap_or, option_and_then, option_map, count_by, bytes_eq, if◌then◌else◌, ◌==◌}
 use Rattle.std.specs.List.{list_all}
 use Rattle.std.specs.Map.{lookup}
 use Rattle.std.proofs.lemmas.Slice.Eq.{bytes_eq-Decides}
+use Rattle.std.proofs.lemmas.Bool.{or_parts, not-true}
 use Rattle.clap.specs.Walk.{Text, plain_word}
 use Rattle.pigale_words.specs.Words.{Given, given_in, has_option, Takes, Takes.no_option, Takes.a_form, Takes.two_numbers, jobs, taken_by, job_with, number_given, gen_of, job_given, job_named, job_of, has_number, form_of}
 use Rattle.pigale_words.specs.Spelling.{NamesForm, NamesNumbers, Fits, IsNamed, JobWords, Spell, Spell.nothing, Spell.hyphens, Spell.behind, Spell.job_word}
@@ -61,27 +62,15 @@ stays : (k : Which) (options : List (Text × Text)) (g end : Given) → Adds opt
 stays k [] g end same e = subst (IsGiven k) same e
 stays k (o ∷ os) g end (j, is, _, _, adds) e = stays k os (put j o.1 g) end adds (put_keeps k j o.1 g e)
 
-or_left : (a b : Bool) → (a || b) ≡ false → (a ≡ false) × (b ≡ false)
-or_left true b e = absurd (true≢false e)
-or_left false b e = (refl, e)
-
 not_given : (k : Which) (g : Given) → IsGiven k g → is_some (get k g) ≡ false → ⊥
 not_given k g e f = true≢false (sym e ∙ f)
-
-pub and_left : (a b : Bool) → (a && b) ≡ true → a ≡ true
-and_left true b e = refl
-and_left false b e = e
-
-pub and_right : (a b : Bool) → (a && b) ≡ true → b ≡ true
-and_right true b e = e
-and_right false b e = absurd (true≢false (sym e))
 
 -- no option is given
 no_options : (options : List (Text × Text)) (g end : Given) → Adds options g end → has_option end ≡ false → options ≡ []
 no_options [] g end adds none = refl
 no_options (o ∷ os) g end (k, is, _, _, adds) none =
-    let one = or_left _ _ none in
-    let two = or_left _ _ one.1 in
+    let one = or_parts _ _ none in
+    let two = or_parts _ _ one.1 in
     absurd (go k is (stays k os (put k o.1 g) end adds (put_gives k o.1 g)) one.0 two.0 two.1)
   where
     go : (j : Which) → is_job j ≡ false → IsGiven j end → is_some end.form ≡ false → is_some end.size ≡ false → is_some end.number ≡ false → ⊥
@@ -105,16 +94,16 @@ one_form : (options : List (Text × Text)) (word : Text) (end : Given) (form : F
 one_form [] word end form adds none is = subst (λ f. NamesForm f []) (ap (λ o. unwrap_or o form) (ap (λ (h : Given). form_of h.form) adds ∙ is)) (inl refl)
 one_form (o ∷ os) word end form (the_job, is_option, _, _, adds) none is = absurd (true≢false is_option)
 one_form (o ∷ os) word end form (the_size, _, _, _, adds) none is =
-    absurd (not_given the_size end (stays the_size os _ end adds refl) (or_left _ _ none).0)
+    absurd (not_given the_size end (stays the_size os _ end adds refl) (or_parts _ _ none).0)
 one_form (o ∷ os) word end form (the_number, _, _, _, adds) none is =
-    absurd (not_given the_number end (stays the_number os _ end adds refl) (or_left _ _ none).1)
+    absurd (not_given the_number end (stays the_number os _ end adds refl) (or_parts _ _ none).1)
 one_form (o ∷ []) word end form (the_form, _, named, _, adds) none is = form_named o.1 form o.0 named (ap (λ (h : Given). form_of h.form) adds ∙ is)
 one_form (o ∷ u ∷ os) word end form (the_form, _, named, _, (the_job, is_option, _, _, adds)) none is = absurd (true≢false is_option)
 one_form (o ∷ u ∷ os) word end form (the_form, _, named, _, (the_form, _, _, again, adds)) none is = absurd (none-some _ (sym again))
 one_form (o ∷ u ∷ os) word end form (the_form, _, named, _, (the_size, _, _, _, adds)) none is =
-    absurd (not_given the_size end (stays the_size os _ end adds refl) (or_left _ _ none).0)
+    absurd (not_given the_size end (stays the_size os _ end adds refl) (or_parts _ _ none).0)
 one_form (o ∷ u ∷ os) word end form (the_form, _, named, _, (the_number, _, _, _, adds)) none is =
-    absurd (not_given the_number end (stays the_number os _ end adds refl) (or_left _ _ none).1)
+    absurd (not_given the_number end (stays the_number os _ end adds refl) (or_parts _ _ none).1)
 
 -- a third option beside a size and a number is a form
 never_third : (k : Which) (v : Text) (os : List (Text × Text)) (g end : Given) → is_job k ≡ false → get k g ≡ None → IsGiven the_size g → IsGiven the_number g → Adds os (put k v g) end
@@ -189,10 +178,6 @@ found_is test word takes (row ∷ rows) all e = go (bytes_eq word row.0) (test r
     go true true is passes all same later = ap₂ (λ w t. test (w, t)) ((bytes_eq-Decides word row.0).0 is) (sym (ap (λ o. unwrap_or o takes) same)) ∙ passes
     go false true is passes all same later = later all same
 
-pub not_true : (b : Bool) → not b ≡ true → b ≡ false
-not_true false e = refl
-not_true true e = absurd (true≢false (sym e))
-
 -- The words of the jobs differ.
 words_differ : list_all (λ (row : Text × Takes). count_by (λ (other : Text × Takes). bytes_eq row.0 other.0) jobs == 1) jobs ≡ true
 words_differ = refl
@@ -204,7 +189,7 @@ begins_plain (b ∷ rest) = not (b == 45)
 
 plain_by : (word : Text) → begins_plain word ≡ true → Plain word
 plain_by [] e = absurd (true≢false (sym e))
-plain_by (b ∷ rest) e = plain_first b rest (not_true (b == 45) e)
+plain_by (b ∷ rest) e = plain_first b rest (not-true (b == 45) e)
 
 word_plain : (word : Text) (takes : Takes) → taken_by word ≡ Some takes → Plain word
 word_plain word takes is = plain_by word (found_is (λ row. begins_plain row.0) word takes jobs refl is)

@@ -2,7 +2,9 @@
 use Rattle.std.proofs.Common.{◌≡◌, refl, ℕ, ◌≤◌, Bool, Option, Some, None, true, false, true≢false, not, ◌||◌, sym, subst, arith}
 use Rattle.std.proofs.lemmas.Bool.Decides.{nat_tests}
 use Rattle.std.proofs.lemmas.Option.{none-some}
-use Rattle.std.specs.Prelude.{List, option_and_then, if◌then◌else◌}
+use Rattle.std.specs.Prelude.{List, option_and_then}
+use Rattle.std.specs.Cmp.{first_so, second_so}
+use Rattle.std.proofs.lemmas.Bool.{not-true}
 use Rattle.clap.specs.Walk.{Text}
 use Rattle.decimals.specs.Numbers.{canonical, decimal_from}
 use Rattle.pigale_words.specs.Numbers.{within, number_in}
@@ -12,7 +14,7 @@ use Rattle.pigale_words.specs.Jobs.{HasSize}
 use Rattle.pigale_words.specs.declared.job.Job.{Job}
 use Rattle.pigale_words.specs.declared.job.Job.TheVariants.{Gen}
 use Rattle.pigale_words.specs.declared.output_form.Form.TheVariants as forms
-use Rattle.pigale_words.proofs.JobWords.{job_words-law, found_is, only, not_true, and_left, and_right}
+use Rattle.pigale_words.proofs.JobWords.{job_words-law, found_is, only}
 
 within-range : (least most n m : ℕ) → within least most n ≡ Some m → (least ≤ m) × (m ≤ most)
 within-range least most n m is = (grind (arith, nat_tests), grind (arith, nat_tests))
@@ -37,8 +39,8 @@ named-sized job word options (takes, is, fits) = go takes fits (found_is (only i
         lacks : (b : Bool) → (not b || false) ≡ true → b ≡ false
         lacks false e = refl
         lacks true e = absurd (true≢false (sym e))
-    go (a_form other) (forms.Text, same, names) one = subst HasSize (sym same) (other-sized (other forms.Text) (not_true _ (and_left _ _ one)))
-    go (a_form other) (forms.Svg, same, names) one = subst HasSize (sym same) (other-sized (other forms.Svg) (not_true _ (and_right _ _ one)))
+    go (a_form other) (forms.Text, same, names) one = subst HasSize (sym same) (other-sized (other forms.Text) (not-true _ (first_so _ _ one)))
+    go (a_form other) (forms.Svg, same, names) one = subst HasSize (sym same) (other-sized (other forms.Svg) (not-true _ (second_so _ _ one)))
     go two_numbers (size, number, same, (s, n, size_is, _, _)) one =
         let range = number_in-range 3 4095 s size size_is in
         subst HasSize (sym same) (range.0, omega (arith, range.1))

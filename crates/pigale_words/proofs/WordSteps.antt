@@ -1,8 +1,9 @@
 -- What one word does in clap's walk, by whether it is `--` and what it is as an option: equations that serve both directions.
-use Rattle.std.proofs.Common.{◌≡◌, ◌∙◌, ◌&&◌, ◌||◌, ℕ, Bool, Option, Some, None, List, [], ◌∷◌, true, false, true≢false, refl, ap, sym, codes, length}
+use Rattle.std.proofs.Common.{◌≡◌, ◌∙◌, ◌||◌, ℕ, Bool, Option, Some, None, List, [], ◌∷◌, true, false, true≢false, refl, ap, sym, codes, length}
 use Rattle.std.specs.Prelude.{zero, suc, slice_get, bytes_eq, if◌then◌else◌}
 use Rattle.std.specs.Option.{option_map_or}
 use Rattle.std.specs.Str.{chars}
+use Rattle.std.proofs.Math.Bool.{and-false}
 use Rattle.clap.specs.Lexer.{long_of, short_of}
 use Rattle.clap.specs.Walk.{Held, Row, Step, Text, Waiting, Walk, after_flag, after_step, arg_by_index, bundle_met, bundle_step, idle, is_pending, long_or_other, option, pushed, Outcome, plain, plain_word, positional, settled, settled_rows, short_or_plain, to_positional, trailing, used, value, walked}
 use Rattle.clap.specs.Kinds.{Kinds, or_else}
@@ -131,10 +132,6 @@ module _ (waiting : Waiting) (rows : List Row) (pending : Option (Text × List T
           )
 
 -- what waits for a text takes it
-and_false : (a : Bool) → (a && false) ≡ false
-and_false true = refl
-and_false false = refl
-
 pub waiting_takes : (rows : List Row) (k : Which) (met : Bool) (word : Text) → plain_walk (option (name k)) (waiting_at rows k met).held (place met) word ≡ idle_at rows (text_of k word) met
 waiting_takes rows the_job met word = refl
 waiting_takes rows the_form met word = refl
@@ -149,11 +146,11 @@ waiting_faults rows the_number = refl
 
 -- where nothing waits the word is the job's
 pub first_fault : (h : Held) → step_fault shape 1 h value ≡ settle_fault rules false h
-first_fault h = ap (λ b. if b then [] else settle_fault rules false h) (and_false (is_pending (rule the_job) h.pending))
+first_fault h = ap (λ b. if b then [] else settle_fault rules false h) (and-false (is_pending (rule the_job) h.pending))
 
 pub first_takes : (trails : Bool) (rows : List Row) (p : Held_text) (word : Text)
     → to_positional rules (arg_by_index rules 1) word (record { held = held rows p; waiting = idle; position = 1; is_trailing = trails; stopped = None }) (held rows p)
     ≡ record { held = held (settled_rows rules (pend p) rows) (text_of the_job word); waiting = idle; position = 2; is_trailing = trails || false; stopped = None }
 first_takes trails rows p word =
     ap (λ b. record { held = pushed (codes "job") word (if b then held rows p else settled rules (held rows p)); waiting = idle; position = 2; is_trailing = trails || false; stopped = None })
-    (and_false (is_pending (rule the_job) (pend p)))
+    (and-false (is_pending (rule the_job) (pend p)))

@@ -1,6 +1,6 @@
 -- The places where the closed lists end, and one list or one entry more.
 use Rattle.std.proofs.Common.{◌≡◌, ℕ, zero, suc, ◌-◌, ◌<◌, ◌≤◌, List, [], ◌∷◌, ◌++◌, length, take, drop, slice_range, refl, sym, ap, ap₂, ◌∙◌, arith}
-use Rattle.std.proofs.lemmas.List.{length-append, length-drop, drop-append-le, take-append-le, take_rest}
+use Rattle.std.proofs.lemmas.List.{length-append, length-drop, drop-append-le, take-append-le, take_rest, nil_from_length}
 use Rattle.map_lists.specs.Cuts.{cut, AreCuts}
 use Rattle.planar_code.specs.Open.{last_end, AreWithin, Collects}
 
@@ -47,11 +47,7 @@ cut-close ends entries = cut-close-from 0 ends entries
 -- and the next one is empty
 pub last-close : (ends entries : List ℕ) → drop (last_end 0 (ends ++ length entries ∷ [])) entries ≡ []
 last-close ends entries =
-    ap (λ (n : ℕ). drop n entries) (last_end-push 0 ends (length entries)) ∙ none (drop (length entries) entries) (omega (arith, length-drop (length entries) entries))
-  where
-    none : (xs : List ℕ) → length xs ≡ 0 → xs ≡ []
-    none [] e = refl
-    none (x ∷ xs) e = absurd (omega (arith, e))
+    ap (λ (n : ℕ). drop n entries) (last_end-push 0 ends (length entries)) ∙ nil_from_length (drop (length entries) entries) (omega (arith, length-drop (length entries) entries))
 
 -- where no entry is left open the closed lists are all entries
 all-cuts-from : (from : ℕ) (ends : List ℕ) (total : ℕ) → AreWithin from ends total → last_end from ends ≡ total → AreCuts from ends total

@@ -1,5 +1,5 @@
 -- How a reading comes about byte by byte: what a byte does to the progress, and what the bytes then read as.
-use Rattle.std.proofs.Common.{◌≡◌, ℕ, zero, suc, ◌+◌, ◌-◌, ◌<◌, ◌≤◌, Bool, true, false, List, [], ◌∷◌, ◌++◌, length, get_or, take, drop, refl, sym, ap, ◌∙◌, inl, inr, arith, append_assoc}
+use Rattle.std.proofs.Common.{◌≡◌, ℕ, suc, ◌+◌, ◌-◌, ◌<◌, ◌≤◌, Bool, true, false, List, [], ◌∷◌, ◌++◌, length, get_or, take, drop, refl, sym, ap, ◌∙◌, inl, inr, arith, append_assoc}
 use Rattle.std.proofs.lemmas.List.{append-nil, length-append, take-append-le, take_all, take_at, take-append-drop}
 use Rattle.std.proofs.Math.Seq.{take-append-add}
 use Rattle.std.proofs.lemmas.Bool.{cases_lt}
@@ -113,9 +113,9 @@ front-is_header : (may : Bool) (consumed bytes : List ℕ) (records : List Lists
 front-is_header true consumed bytes records front is = header_of-none consumed is.3 ∙ sym is.0
 front-is_header false consumed bytes records front is = ap header_of (sym (append-nil consumed)) ∙ is []
 
--- what was consumed, at its length
-consumed-length : (consumed : List ℕ) (records : List Lists) (state : State) → (p : Progress consumed records state) → length consumed ≡ state.start + length state.pending
-consumed-length consumed records state p =
+-- how many bytes were consumed
+pub Progress-length : (consumed : List ℕ) (records : List Lists) (state : State) → (p : Progress consumed records state) → length consumed ≡ state.start + length state.pending
+Progress-length consumed records state p =
     ap length p.parts ∙ length-append p.front (p.bytes ++ state.pending) ∙ (let e = length-append p.bytes state.pending in let s = p.start in omega arith)
 
 -- a reading, where the header is known
@@ -133,14 +133,14 @@ reading-from input records ending front bytes rest is parts are within ends = re
 pub Progress-well : (consumed : List ℕ) (records : List Lists) (state : State) → Progress consumed records state → state.pending ≡ [] → length consumed ≤ input_limit → IsReading consumed records well
 Progress-well consumed records state p none within =
     reading-from consumed records well p.front p.bytes state.pending (front-is_header state.header_may_come consumed p.bytes records p.front p.front_is) p.parts p.are
-    (let l = consumed-length consumed records state p in let s = p.start in omega arith)
+    (let l = Progress-length consumed records state p in let s = p.start in omega arith)
     (within, none)
 
 -- With bytes pending they end in a record.
 pub Progress-in_record : (consumed : List ℕ) (records : List Lists) (state : State) → Progress consumed records state → 0 < length state.pending → length consumed ≤ input_limit → IsReading consumed records (end_in_record state.start)
 Progress-in_record consumed records state p some within =
     reading-from consumed records (end_in_record state.start) p.front p.bytes state.pending (front-is_header state.header_may_come consumed p.bytes records p.front p.front_is) p.parts p.are
-    (let l = consumed-length consumed records state p in let s = p.start in omega arith)
+    (let l = Progress-length consumed records state p in let s = p.start in omega arith)
     (p.start, within, some, p.no_bad_count, p.no_record)
 
 header_of-first_zero : (xs : List ℕ) → get_or xs 0 1 ≡ 0 → header_of xs ≡ []
@@ -173,7 +173,7 @@ take-long xs ys n le =
 -- A bad count ends the reading, whatever follows.
 pub Progress-bad : (consumed : List ℕ) (records : List Lists) (state : State) (b : ℕ) (rest : List ℕ) → Progress consumed records state → IsTrue (is_bad_count (with_byte state b)) → length consumed < input_limit → IsReading (consumed ++ b ∷ rest) records (bad_count state.start)
 Progress-bad consumed records state b rest p bad within =
-    let l = consumed-length consumed records state p in
+    let l = Progress-length consumed records state p in
     let three = bad_count-parts (with_byte state b) bad in
     let pushed = length-append state.pending (b ∷ []) in
     reading-from (consumed ++ b ∷ rest) records (bad_count state.start) p.front p.bytes (state.pending ++ b ∷ rest)
@@ -194,7 +194,7 @@ front-long false consumed bytes records front rest is long = is rest
 -- Past the limit the input is too long.
 pub Progress-too_long : (consumed : List ℕ) (records : List Lists) (state : State) (b : ℕ) (rest : List ℕ) → Progress consumed records state → length consumed ≡ input_limit → IsReading (consumed ++ b ∷ rest) records too_long
 Progress-too_long consumed records state b rest p full =
-    let l = consumed-length consumed records state p in
+    let l = Progress-length consumed records state p in
     let window : take (input_limit - (length p.front + length p.bytes)) (state.pending ++ b ∷ rest) ≡ state.pending = take_at state.pending (b ∷ rest) (input_limit - (length p.front + length p.bytes)) (omega arith) in
     reading-from (consumed ++ b ∷ rest) records too_long p.front p.bytes (state.pending ++ b ∷ rest)
     (front-long state.header_may_come consumed p.bytes records p.front (b ∷ rest) p.front_is (omega arith))
@@ -231,7 +231,3 @@ begins-by false consumed bytes pending records front tail parts are is few = rec
 -- The bytes begin with the records so far, however they go on.
 pub Progress-begins : (consumed : List ℕ) (records : List Lists) (state : State) (tail : List ℕ) → Progress consumed records state → length consumed ≤ input_limit → BeginsWith (consumed ++ tail) records
 Progress-begins consumed records state tail p few = begins-by state.header_may_come consumed p.bytes state.pending records p.front tail p.parts p.are p.front_is few
-
--- how many bytes were consumed
-pub Progress-length : (consumed : List ℕ) (records : List Lists) (state : State) → Progress consumed records state → length consumed ≡ state.start + length state.pending
-Progress-length consumed records state p = consumed-length consumed records state p

@@ -1,7 +1,8 @@
 -- The lists without the edges of some loose vertices: the lines of a sweep over them, and the drawing that it finds plane.
-use Rattle.std.proofs.Common.{◌≡◌, ◌↔◌, ◌&&◌, ℕ, ◌<◌, Bool, true, false, not, List, [], length, get_or, refl, sym, ap, subst, ◌∙◌}
+use Rattle.std.proofs.Common.{◌≡◌, ◌↔◌, ℕ, ◌<◌, not, List, [], length, get_or, refl, sym, ap, subst, ◌∙◌}
 use Rattle.std.specs.List.{filter, All, Contains}
 use Rattle.std.specs.List.Sorted.{IsPermutation}
+use Rattle.std.proofs.Math.Bool.{and_comm}
 use Rattle.map_lists.specs.Lists.{Lists}
 use Rattle.map_theory.specs.Maps.{IsSimpleMap, list_of}
 use Rattle.plane_laws.specs.Kept.{IsKeptMap}
@@ -17,15 +18,9 @@ use Rattle.plane_drawings.specs.SweepCheckLines.{is_among, is_firm, firm_lists, 
 use Rattle.plane_drawings.proofs.LineLemmas.{sorted_whole, sorted_lines}
 use Rattle.plane_drawings.proofs.TopLemmas.{plane_from_sweep}
 
-and-turned : (a b : Bool) → (a && b) ≡ (b && a)
-and-turned true true = refl
-and-turned true false = refl
-and-turned false true = refl
-and-turned false false = refl
-
 -- a map without the edges of its loose vertices
 pub firm_map : (loose : List ℕ) (lists : Lists) → IsSimpleMap lists → IsKeptMap lists (firm_lists loose lists) (is_firm loose)
-firm_map loose lists simple = kept_edges lists (is_firm loose) (λ v u. and-turned (not (is_among loose v)) (not (is_among loose u))) simple
+firm_map loose lists simple = kept_edges lists (is_firm loose) (λ v u. and_comm (not (is_among loose v)) (not (is_among loose u))) simple
 
 pub length-firm : (loose : List ℕ) (lists : Lists) → length (firm_lists loose lists) ≡ length lists
 length-firm loose lists = length-with_kept (is_firm loose) lists

@@ -53,9 +53,6 @@ module _ (f g : ℕ → ℕ) (k m x y : ℕ) (double : k ≡ m + m) (w : IsPermu
 
 -- Let x and y lie in one orbit of f, and z and w in another; let x and z, and y and w, lead to the same two faces. Cut both pairs: then neither's images are in one class.
 module _ (f g : ℕ → ℕ) (k m x y z w : ℕ) (double : k ≡ m + m) (p : IsPermuting f k) (v : IsPairing g k) (lx : x < k) (ly : y < k) (lz : z < k) (lw : w < k) (x_y : x ≢ y) (z_w : z ≢ w) (one : Together (orbits_of f k) x y) (two : Together (orbits_of f k) z w) (far : Together (orbits_of f k) x z → ⊥) (plane : Balances f g k m 0) (first : Together (orbits_of (after f g) k) (g x) (g z)) (second : Together (orbits_of (after f g) k) (g y) (g w)) (faces : Together (orbits_of (after f g) k) (g x) (g y) → ⊥) where
-  f1 : ℕ → ℕ
-  f1 = exchange f x y
-
   p1 : IsPermuting (exchange f x y) k
   p1 = IsPermuting-exchange f k x y lx ly p
 

@@ -3,7 +3,7 @@ use Rattle.std.proofs.Common.{◌≡◌, ◌≢◌, ◌⊎◌, ◌||◌, ℕ, ze
 use Rattle.std.proofs.lemmas.Bool.{cases_Bool, cases_eq, eqb-true, eq-eqb, or_left, or_right, or_cases, false_from_ne_true, true≢false}
 use Rattle.classes.specs.Classes.{count_below, label, class_count}
 use Rattle.classes.proofs.Counting.{one_if, count_below_none}
-use Rattle.classes.proofs.Orbits.{length-orbits_of, orbits_of-marked, count_below-images}
+use Rattle.classes.proofs.Orbits.{orbits_of-marked, count_below-images}
 use Rattle.map_lists.specs.Lists.{Lists}
 use Rattle.map_theory.specs.Maps.{Dart, HasDart, IsSimpleMap, IsPlane, face_step, dart_number, dart_count, edge_count, vertex_count, component_count}
 use Rattle.map_theory.proofs.DartLemmas.{dart_number-lt, dart_number-injective, HasDart-face_step}
@@ -89,13 +89,6 @@ module _ (lists : Lists) (simple : IsSimpleMap lists) where
       let m2 = w.within (step j) m1 in
       sym (own_same lists simple j (step (step (step j))) t t' (turn lists simple j m ∙ (turn lists simple (step j) m1 ∙ turn lists simple (step (step j)) m2))) in
       grind (arith, cases_Bool, step, one_if)
-    where
-      one_if_is : (b : Bool) → one_if b ≡ 1 → b ≡ true
-      one_if_is true e = refl
-      one_if_is false e = absurd (omega arith)
-
-      one_if_same : (b c : Bool) → b ≡ true → one_if b ≡ one_if c → c ≡ true
-      one_if_same b c t e = one_if_is c (omega (arith, e, ap one_if t))
 
   -- Where three steps lead back from each dart, one of a dart and the next two is the least of its face.
   met_counts : ((i : ℕ) → i < k → step (step (step i)) ≡ i) → k ≤ 3 * class_count (P lists simple)

@@ -125,8 +125,9 @@ module _ (lists : Lists) (kept : ℕ → Bool) (s t : ℕ) (ws : List ℕ) (peel
   three_of (a ∷ b ∷ c ∷ []) n e e' = (b, ap₂ (λ x y. x ∷ b ∷ y ∷ []) e e')
   three_of (a ∷ b ∷ c ∷ d ∷ us) n e e' = absurd (omega arith)
 
-  three_here : (x : ℕ) × (ws ≡ s ∷ x ∷ t ∷ []) × IsFaceOfThree lists x s t × ((u : ℕ) → u < length lists → kept u ≡ true → Contains ws u)
-  three_here =
+  -- Where three vertices are left they are the two of the base and one more, all on the outer cycle, and a face of the whole map on the other side of the base.
+  pub three_left : (x : ℕ) × (ws ≡ s ∷ x ∷ t ∷ []) × IsFaceOfThree lists x s t × ((u : ℕ) → u < length lists → kept u ≡ true → Contains ws u)
+  three_left =
       let found = three_of ws counts.0 cM.first cM.last in
       let x = found.0 in
       let e = found.1 in
@@ -156,7 +157,3 @@ module _ (lists : Lists) (kept : ℕ → Bool) (s t : ℕ) (ws : List ℕ) (peel
         },
         counts.1,
       )
-
--- Where three vertices are left they are the two of the base and one more, all on the outer cycle, and a face of the whole map on the other side of the base.
-pub three_left : (lists : Lists) (kept : ℕ → Bool) (s t : ℕ) (ws : List ℕ) → IsPeeled lists kept s t ws → count_below kept (length lists) ≡ 3 → (x : ℕ) × (ws ≡ s ∷ x ∷ t ∷ []) × IsFaceOfThree lists x s t × ((u : ℕ) → u < length lists → kept u ≡ true → Contains ws u)
-three_left lists kept s t ws peeled three = three_here lists kept s t ws peeled three

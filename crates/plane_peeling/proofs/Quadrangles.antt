@@ -304,12 +304,9 @@ module _ (lists : Lists) (kept : ℕ → Bool) (s d p t : ℕ) (connected : comp
                 ];
           }
 
-  quadrangle_here : (ws2 : List ℕ) × IsPeeled lists (kept_but (kept_but kept d) p) s t ws2 × IsOpenOutside lists (kept_but (kept_but kept d) p) t ws2
-  quadrangle_here =
+  -- A connected near triangulation with a quadrangle as its outer cycle and at least one vertex inside, in which no triangle separates: without the two vertices that are not of the base it is peeled, and open outside.
+  pub quadrangle_opened : (ws2 : List ℕ) × IsPeeled lists (kept_but (kept_but kept d) p) s t ws2 × IsOpenOutside lists (kept_but (kept_but kept d) p) t ws2
+  quadrangle_opened =
       let off = off_d_is off_d.0.0 off_d.0.1 off_d.0.2 off_d.0.3 off_d.0.4 off_d.0.5 in
       let two = (off_p off_d.0.2 off off_d.1).0 in
       (two.0 ++ (two.1 ∷ two.2 ++ two.3 ∷ two.4), two.5.left, opened off_d.0.2 off two.0 two.1 two.2 two.3 two.4 two.5)
-
--- A connected near triangulation with a quadrangle as its outer cycle and at least one vertex inside, in which no triangle separates: without the two vertices that are not of the base it is peeled, and open outside.
-pub quadrangle_opened : (lists : Lists) (kept : ℕ → Bool) (s d p t : ℕ) → component_count lists ≡ 1 → 4 < length lists → IsNearTriangulation lists s t (s ∷ d ∷ p ∷ t ∷ []) → HasNoSeparatingTriangle lists → ((v : ℕ) → v < length lists → kept v ≡ true) → (ws : List ℕ) × IsPeeled lists (kept_but (kept_but kept d) p) s t ws × IsOpenOutside lists (kept_but (kept_but kept d) p) t ws
-quadrangle_opened lists kept s d p t connected large near none all = quadrangle_here lists kept s d p t connected large near none all

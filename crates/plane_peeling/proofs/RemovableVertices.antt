@@ -148,8 +148,9 @@ module _ (lists : Lists) (s t : ℕ) (ws : List ℕ) (simple : IsSimpleMap lists
           },
         )
 
-  pub stretch : (front : List ℕ) × (u : ℕ) × (between : List ℕ) × (w : ℕ) × (back : List ℕ) × IsRemovableStretch lists s t ws front u between w back
-  stretch =
+  -- And a chord, or else the base, cuts off a stretch of such vertices.
+  pub some_removable_stretch : (front : List ℕ) × (u : ℕ) × (between : List ℕ) × (w : ℕ) × (back : List ℕ) × IsRemovableStretch lists s t ws front u between w back
+  some_removable_stretch =
       let last = last_on lists s t ws simple cycle in
       let found = outer_leaf_law R step t sR ((restricted-map lists (on lists s t ws simple plane cycle) simple).plane plane) (outer_face lists s t ws simple plane cycle) (cycle_dart lists s t ws simple plane cycle t last) in
       let u = found.0 in
@@ -168,10 +169,6 @@ module _ (lists : Lists) (s t : ℕ) (ws : List ℕ) (simple : IsSimpleMap lists
       AllPairs-left (u ∷ parts.0 ++ w ∷ []) parts.1 (subst (λ l. AllPairs ◌≢◌ (u ∷ l)) (parts.2 ∙ sym (append_assoc parts.0 (w ∷ []) parts.1)) ring_distinct) in
       let is = stretch_here u w found.2 parts.0 (Leads-join step u parts.0 to_w.0 (w ∷ []) w to_w.1 ((to_w.2.0, refl))) row_distinct in
       (is.0, u, parts.0, w, is.1, is.2)
-
--- And a chord, or else the base, cuts off a stretch of such vertices.
-pub some_removable_stretch : (lists : Lists) (s t : ℕ) (ws : List ℕ) → IsSimpleMap lists → IsPlane lists → IsOuterCycle lists s t ws → (front : List ℕ) × (u : ℕ) × (between : List ℕ) × (w : ℕ) × (back : List ℕ) × IsRemovableStretch lists s t ws front u between w back
-some_removable_stretch lists s t ws simple plane cycle = stretch lists s t ws simple plane cycle
 
 pub some_removable : SomeRemovable
 some_removable lists s t ws simple plane cycle =

@@ -2,6 +2,7 @@
 use Rattle.std.proofs.Common.{◌≡◌, ◌≢◌, ◌⊎◌, ◌&&◌, ℕ, ◌+◌, ◌<◌, Bool, true, false, not, eqb, List, length, Contains, refl, sym, ap, ◌∙◌, subst, inl, inr, eq-eqb, ne_eqb, ◌==◌}
 use Rattle.std.specs.List.{filter, list_any}
 use Rattle.std.proofs.lemmas.Bool.{cases_Bool, and_from, and_parts, and_right, true≢false, not-true}
+use Rattle.std.proofs.Math.Bool.{and_comm}
 use Rattle.classes.specs.Classes.{count_below}
 use Rattle.classes.proofs.Counting.{count_below_more}
 use Rattle.map_lists.specs.Lists.{Lists}
@@ -25,13 +26,7 @@ abbrev pub both : (ℕ → Bool) → ℕ → ℕ → Bool
 both kept v u = kept v && kept u
 
 both-turned : (kept : ℕ → Bool) (v u : ℕ) → both kept v u ≡ both kept u v
-both-turned kept v u = turned (kept v) (kept u)
-  where
-    turned : (a b : Bool) → (a && b) ≡ (b && a)
-    turned true true = refl
-    turned true false = refl
-    turned false true = refl
-    turned false false = refl
+both-turned kept v u = and_comm (kept v) (kept u)
 
 pub restricted-map : (lists : Lists) (kept : ℕ → Bool) → IsSimpleMap lists → IsKeptMap lists (restricted kept lists) (both kept)
 restricted-map lists kept simple = kept_edges lists (both kept) (both-turned kept) simple

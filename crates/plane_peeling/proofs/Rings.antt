@@ -6,7 +6,6 @@ use Rattle.map_theory.proofs.EntryLemmas.{Contains-here, Contains-there, Contain
 use Rattle.map_theory.proofs.DartLemmas.{place_of-get_or, place_of-lt-length, get_or-place_of, place_of-entry_after, Contains-entry_after, two_entries, place_after}
 use Rattle.std.proofs.lemmas.Bool.{cases_eq}
 use Rattle.std.proofs.lemmas.List.Elements.{Contains-append_left, Contains-append_right}
-use Rattle.std.proofs.lemmas.Bool.Decides.{nat_tests}
 
 -- next leads from x along the list to t
 abbrev pub Leads : (ℕ → ℕ) → ℕ → List ℕ → ℕ → Type 0
@@ -202,9 +201,6 @@ only_two us x y z distinct has there back c =
     let at : (w : ℕ) → Contains us w → place_of z us ≡ place_of w us → z ≡ w = λ w c' e.
     sym (get_or-place_of z us 0 in_z) ∙ (ap (λ n. get_or us n 0) e ∙ get_or-place_of w us 0 (place_of-lt-length w us c')) in
     grind (arith, cases_eq, place_of, place_of-lt-length, two_entries, place_after, length, place_of-entry_after)
-  where
-    fixed : (n i j : ℕ) → i < n → j < n → j ≢ i → place_after n i ≡ i → ⊥
-    fixed n i j l m ne e = grind (arith, nat_tests)
 
 -- what each step of a way keeps is one all along it
 pub Leads-marked : {X : Type 0} (mark : ℕ → X) (next : ℕ → ℕ) (x : ℕ) (l : List ℕ) (t : ℕ) → ((z : ℕ) → Contains (x ∷ l) z → mark (next z) ≡ mark z) → Leads next x l t → (z : ℕ) → Contains (x ∷ l) z → mark z ≡ mark x

@@ -2,7 +2,7 @@
 use Rattle.std.proofs.Common.{◌≡◌, ◌≢◌, ◌⊎◌, ◌||◌, ℕ, suc, ◌+◌, ◌-◌, ◌<◌, ◌≤◌, Bool, true, false, not, List, [], ◌∷◌, ◌++◌, length, get_or, AllPairs, Contains, refl, sym, ap, ap₂, ◌∙◌, subst, inl, inr, arith, ◌==◌}
 use Rattle.std.specs.List.{list_any}
 use Rattle.std.proofs.lemmas.Bool.{cases_Bool, cases_lt, or_cases, or_left, or_right, true≢false, not-true}
-use Rattle.std.proofs.lemmas.List.{length-append}
+use Rattle.std.proofs.lemmas.List.{length-append, nil_from_length}
 use Rattle.std.proofs.lemmas.List.Elements.{Contains-append_left, Contains-append_right, Contains-get_or}
 use Rattle.classes.specs.Classes.{count_below}
 use Rattle.map_lists.specs.Lists.{Lists}
@@ -182,13 +182,9 @@ module _ (lists : Lists) (kept : ℕ → Bool) (s t : ℕ) (ws : List ℕ) (v : 
           | inr l ↦ omega arith
           | inl none ↦
               let size : length ws ≡ length front + (3 + length back) = ap length was ∙ omega (arith, length-append front (p ∷ v ∷ q ∷ back)) in
-              let few = all_on_cycle lists kept s t ws whole connected peeled (closed (empty front (omega arith)) (empty mid (omega arith)) (empty back (omega arith))) in
+              let few = all_on_cycle lists kept s t ws whole connected peeled (closed (nil_from_length front (omega arith)) (nil_from_length mid (omega arith)) (nil_from_length back (omega arith))) in
               absurd (omega arith)
         ]
-      where
-        empty : (l : List ℕ) → length l ≡ 0 → l ≡ []
-        empty [] e = refl
-        empty (a ∷ l) e = absurd (omega arith)
 
   -- all put together
   step_here : component_count lists ≡ 1 → 3 < count_below kept (length lists) → (front : List ℕ) × (p : ℕ) × (mid : List ℕ) × (q : ℕ) × (back : List ℕ) × IsTakenOff lists kept s t ws v front p mid q back

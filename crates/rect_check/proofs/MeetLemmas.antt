@@ -21,9 +21,6 @@ near-far false n fig u v m = m.right
 near-far true n fig u v m = let l = m.left in omega (arith, ints)
 
 module _ (back : Bool) (n : ℕ) (fig : RectFigure) (rects : (v : ℕ) → v < n → IsRect n fig v) (order : List ℕ) (i : ℕ) (old new : List ℕ) (before : DoReach back n fig order i old) where
-  at : ℕ → ℕ
-  at j = get_or order j 0
-
   -- the rows of one vertex more reach to its end
   pub DoReach-more : ((y : ℕ) → HasRow fig.y1 fig.y2 (get_or order i 0) y → far_at back n fig (get_or order i 0) ≤ℤ pos (get_or new y 0)) → ((y : ℕ) → get_or old y 0 ≤ get_or new y 0) → DoReach back n fig order (i + 1) new
   DoReach-more inside grown j y l has = elim (cases_lt j i) [

@@ -1,6 +1,6 @@
 -- The tables of a run tell how its edges stand at their ends.
-use Rattle.std.proofs.Common.{◌≡◌, ◌≢◌, ℕ, suc, ◌+◌, ◌-◌, ◌<◌, ◌≤◌, Bool, true, false, cond, eqb, ltb, leb, List, length, get_or, refl, sym, ap, ◌∙◌, subst, inl, inr, arith, eq-eqb, ne_eqb}
-use Rattle.std.proofs.lemmas.Bool.{cases_eq, cases_lt, cond-true, cond-false, or_left, or_right, or_from, le-leb, lt-leb, lt-ltb, le-ltb}
+use Rattle.std.proofs.Common.{◌≡◌, ◌≢◌, ℕ, suc, ◌+◌, ◌-◌, ◌<◌, ◌≤◌, Bool, true, false, cond, eqb, ltb, List, length, get_or, refl, sym, ap, ◌∙◌, subst, inl, inr, arith, eq-eqb, ne_eqb}
+use Rattle.std.proofs.lemmas.Bool.{cases_eq, cases_lt, cond-true, cond-false, or_left, or_right, or_from, lt-ltb, le-ltb}
 use Rattle.map_lists.specs.Lists.{Lists}
 use Rattle.map_theory.specs.Maps.{list_of}
 use Rattle.contour_runs.specs.Runs.{Step, Stage, stage_after, IsStep, IsCovered}
@@ -17,16 +17,8 @@ use Rattle.rect_dual.proofs.Turns.{turn_within}
 use Rattle.rect_runs.specs.Ends.{IsEndAt, AreFrameEnds, other_end}
 use Rattle.rect_runs.proofs.RectEndsEnds.{ends_agree}
 use Rattle.rect_runs.proofs.RectEndsFrame.{frame_ends}
+use Rattle.rect_runs.proofs.Corners.{older-left, older-below}
 use Rattle.rect_dual.specs.EdgeLabelsTables.{StandsLeft, AreFirsts, AreLefts, is_run, end_at}
-
--- the end at the vertex that was there before
-older-left : (c j : ℕ) → j ≤ c → at_older c j ≡ run_out
-unfolding at_older
-older-left c j l = cond-true (leb j c) run_out rise_out (le-leb j c l)
-
-older-below : (c j : ℕ) → c < j → at_older c j ≡ rise_out
-unfolding at_older
-older-below c j l = cond-false (leb j c) run_out rise_out (lt-leb j c l)
 
 -- the other end of an edge that leaves
 other-leaving : (b : Bool) → other_end (cond b run_out rise_out) ≡ cond b run_in rise_in

@@ -16,7 +16,7 @@ use Rattle.rect_runs.specs.Rounds.{IsOnceRound}
 use Rattle.rect_runs.proofs.RectEndsEnds.{one_end, ends_agree}
 use Rattle.rect_runs.proofs.RectEndsFrame.{frame_ends}
 use Rattle.rect_orders.specs.Labellings.{IsFrameEdge, AreEndsOf, LabelsOfOrder}
-use Rattle.rect_orders.proofs.Around.{N, size, rect, short_run, same_name, top, at_rank, around_at}
+use Rattle.rect_orders.proofs.Around.{N, size, rect, short_run, top, at_rank, around_at}
 
 module _ (lists : Lists) (s d p t : ℕ) (at ranks : List ℕ) (steps : ℕ → Step) (end : ℕ → ℕ → End) (h : IsRectMap lists s d p t) (order : IsRectOrder lists s d p t at) (rank : IsRankOf ranks at) (run : IsOrderRun (closed lists s d p t) (t, s) at order.canonical.cycle steps) (ends : AreEndsOf lists s d p t at steps end) where
   abbrev at' : ℕ → ℕ
@@ -33,9 +33,6 @@ module _ (lists : Lists) (s d p t : ℕ) (at ranks : List ℕ) (steps : ℕ → 
 
   rank_of : (u : ℕ) → u < length lists → (get_or ranks u 0 < length at) × (at' (get_or ranks u 0) ≡ u)
   rank_of u l = at_rank lists s d p t at ranks steps end h order rank run ends u l
-
-  apart : (i j : ℕ) → i < length at → j < length at → at' i ≡ at' j → i ≡ j
-  apart i j l m e = same_name lists s d p t at ranks steps end h order rank run ends i j l m e
 
   next : N lists s d p t at ranks steps end h order rank run ends ≡ suc n
   next = let z = here in let m = z.1 in omega arith

@@ -54,19 +54,19 @@ later-rise : (b : Bool) → b ≡ false → at_later b ≡ rise_out
 unfolding at_later
 later-rise b e = cond-false b run_in rise_out e
 
-older-left : (c j : ℕ) → j ≤ c → at_older c j ≡ run_out
+pub older-left : (c j : ℕ) → j ≤ c → at_older c j ≡ run_out
 unfolding at_older
 older-left c j l = cond-true (leb j c) run_out rise_out (le-leb j c l)
 
-older-below : (c j : ℕ) → c < j → at_older c j ≡ rise_out
+pub older-below : (c j : ℕ) → c < j → at_older c j ≡ rise_out
 unfolding at_older
 older-below c j l = cond-false (leb j c) run_out rise_out (lt-leb j c l)
 
-new-left : (c j : ℕ) → j ≤ c → at_new c j ≡ run_in
+pub new-left : (c j : ℕ) → j ≤ c → at_new c j ≡ run_in
 unfolding at_new
 new-left c j l = cond-true (leb j c) run_in rise_in (le-leb j c l)
 
-new-below : (c j : ℕ) → c < j → at_new c j ≡ rise_in
+pub new-below : (c j : ℕ) → c < j → at_new c j ≡ rise_in
 unfolding at_new
 new-below c j l = cond-false (leb j c) run_in rise_in (lt-leb j c l)
 

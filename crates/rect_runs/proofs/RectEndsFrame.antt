@@ -1,32 +1,16 @@
 -- The ends of edges at the frame.
-use Rattle.std.proofs.Common.{◌≡◌, ◌≢◌, ℕ, suc, ◌+◌, ◌<◌, ◌≤◌, leb, sym, ap, ◌∙◌, inl, inr, arith}
-use Rattle.std.proofs.lemmas.Bool.{cases_eq, cond-true, cond-false, le-leb, lt-leb}
+use Rattle.std.proofs.Common.{◌≡◌, ◌≢◌, ℕ, suc, ◌+◌, ◌<◌, ◌≤◌, inl, inr, arith}
+use Rattle.std.proofs.lemmas.Bool.{cases_eq}
 use Rattle.contour_runs.specs.Runs.{Step, stage_after}
 use Rattle.contour_runs.specs.Laws.{IsStage}
 use Rattle.contour_runs.proofs.Stages.{IsStage-run, IsRun-less, count-stage_after}
 use Rattle.rect_runs.specs.Numbers.{turn_of}
-use Rattle.rect_runs.specs.Corners.{End, run_in, rise_out, run_out, rise_in, at_older, at_new}
+use Rattle.rect_runs.specs.Corners.{End, run_in, rise_out, run_out, rise_in}
 use Rattle.rect_runs.specs.Later.{StandsOver}
 use Rattle.rect_runs.specs.Boxes.{IsRectRun}
-use Rattle.rect_runs.proofs.Corners.{IsFrameLabelling}
+use Rattle.rect_runs.proofs.Corners.{IsFrameLabelling, older-left, older-below, new-left, new-below}
 use Rattle.rect_runs.proofs.RectBoxesFrame.{labelling}
 use Rattle.rect_runs.specs.Ends.{IsEndAt, FrameEnds}
-
-pub older-left : (c j : ℕ) → j ≤ c → at_older c j ≡ run_out
-unfolding at_older
-older-left c j l = cond-true (leb j c) run_out rise_out (le-leb j c l)
-
-pub older-below : (c j : ℕ) → c < j → at_older c j ≡ rise_out
-unfolding at_older
-older-below c j l = cond-false (leb j c) run_out rise_out (lt-leb j c l)
-
-pub new-left : (c j : ℕ) → j ≤ c → at_new c j ≡ run_in
-unfolding at_new
-new-left c j l = cond-true (leb j c) run_in rise_in (le-leb j c l)
-
-pub new-below : (c j : ℕ) → c < j → at_new c j ≡ rise_in
-unfolding at_new
-new-below c j l = cond-false (leb j c) run_in rise_in (lt-leb j c l)
 
 module _ (steps : ℕ → Step) (n : ℕ) (h : IsRectRun steps n) where
   frame : IsFrameLabelling steps n

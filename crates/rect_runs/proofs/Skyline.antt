@@ -149,9 +149,6 @@ module _ (steps : ℕ → Step) (n : ℕ) (b : Boxes) (width top : ℕ) (h : IsL
     wide_z : b.left (k + 2) < b.right (k + 2)
     wide_z = h.wide (k + 2) (omega arith)
 
-    tall_z : b.low (k + 2) < b.high (k + 2)
-    tall_z = h.tall (k + 2) (omega arith)
-
     -- the vertex at the turn ends above the new one's lower side
     pub over_low : (j : ℕ) → s.first ≤ j → j ≤ c → b.low (k + 2) < b.high (g.vertex j)
     over_low j p q =

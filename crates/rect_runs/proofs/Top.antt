@@ -12,7 +12,6 @@ use Rattle.rect_runs.specs.Boxes.{Boxes, lower_boxes, boxes, grid_width, ceiling
 use Rattle.rect_runs.specs.Later.{StandsOver}
 use Rattle.rect_runs.specs.Corners.{run_in, rise_out, run_out, rise_in}
 use Rattle.rect_runs.specs.Ends.{IsEndAt, EdgesMeet}
-use Rattle.rect_runs.proofs.RectEndsFrame.{older-left, older-below, new-left, new-below}
 use Rattle.rect_runs.specs.RectBoxesLaws.{AreJoined, IsBeside, IsAbove, ShareSide, area_of, AreFilling, IsFramed, IsRunDual}
 use Rattle.rect_runs.proofs.Sides.{right_is, right_within, right_free, high_is, high_within, high_free, high_first}
 use Rattle.rect_runs.proofs.RectBoxesEnds.{last_rise, zeros, labelled-less, closed, grid_bounded}
@@ -22,6 +21,7 @@ use Rattle.rect_runs.proofs.Cells.{cells_at}
 use Rattle.rect_runs.proofs.Contacts.{row, joined_shares, shares_joined}
 use Rattle.rect_runs.proofs.Totals.{total-same}
 use Rattle.rect_runs.proofs.Areas.{AreCovering, area_of-covering, area_of-total, apart_of}
+use Rattle.rect_runs.proofs.Corners.{older-left, older-below, new-left, new-below}
 
 -- u has the same box in both
 record IsSameBox (b d : Boxes) (u : ℕ) : Type 0 where

@@ -19,9 +19,6 @@ use Rattle.wood_laws.proofs.Ways.{root_or_inner}
 use Rattle.schnyder_grid.specs.Arcs.{HasParent, IsArc, IsArcPut, AreArcs, AreWoodArcs}
 
 module _ (wood : Parents) (e : ℕ) where
-  none : {x : ℕ} → Contains [] x → ⊥
-  none c = let l = c.1 in omega arith
-
   -- one entry more
   pub AreArcs-more : (list row row' : List ℕ) (k r : ℕ) → k < length list → get_or list k 0 ≡ r → AreArcs wood e (take k list) row → IsArcPut wood e r row row' → AreArcs wood e (take (k + 1) list) row'
   AreArcs-more list row row' k r l here h put =

@@ -32,9 +32,6 @@ module _ (lists : Lists) (adjacency : IsAdjacency lists) (order number last pare
   abbrev t : ℕ
   t = get_or order 1 0
 
-  abbrev place : ℕ → ℕ
-  place v = get_or from v 0
-
   permuting : IsPermuting (λ v. get_or from v 0) (length lists)
   permuting = IsPermuting-places lists _ _ _ _ _ _ _ w.whole _ _ _ _ p.placing
 

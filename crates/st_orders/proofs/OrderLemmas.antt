@@ -1,6 +1,6 @@
 -- The places that vertices have in the end are an st-order.
-use Rattle.std.proofs.Common.{◌≡◌, ◌≢◌, ℕ, zero, suc, ◌<◌, ◌≤◌, Bool, true, false, not, length, refl, sym, ap, ◌∙◌, subst, inl, inr, arith}
-use Rattle.std.proofs.lemmas.Bool.{cases_eq, cases_lt}
+use Rattle.std.proofs.Common.{◌≡◌, ◌≢◌, ℕ, zero, suc, ◌<◌, ◌≤◌, Bool, true, false, not, length, sym, ap, ◌∙◌, subst, inl, inr, arith}
+use Rattle.std.proofs.lemmas.Bool.{cases_eq, cases_lt, not-true, not-false}
 use Rattle.map_lists.specs.Lists.{Lists}
 use Rattle.map_theory.specs.Maps.{HasDart}
 use Rattle.graph_search.specs.Forests.{IsAdjacency, Holds}
@@ -135,8 +135,8 @@ module _ (lists : Lists) (adjacency : IsAdjacency lists) (order number last pare
           | inl e ↦ (
             far.w,
             subst (λ z. HasDart lists z far.w) (sym e) far.dart,
-            λ is_set. subst (λ z. from z < from v) far.child (stands_before v far.c l far.c_in q_in within_c (not_true (side far.c) (sym opposite ∙ is_set))),
-            λ is_clear. subst (λ z. from v < from z) far.child (stands_after v far.c l far.c_in q_in within_c (not_false (side far.c) (sym opposite ∙ is_clear))),
+            λ is_set. subst (λ z. from z < from v) far.child (stands_before v far.c l far.c_in q_in within_c (not-true (side far.c) (sym opposite ∙ is_set))),
+            λ is_clear. subst (λ z. from v < from z) far.child (stands_after v far.c l far.c_in q_in within_c (not-false (side far.c) (sym opposite ∙ is_clear))),
           )
           | inr held ↦
               let d = child_towards lists order number last parent f v far.x l far.dart.0 held in
@@ -162,14 +162,6 @@ module _ (lists : Lists) (adjacency : IsAdjacency lists) (order number last pare
                 λ is_clear. subst (λ z. from z < from d.c) d.child (by.1 (alike ∙ is_clear)),
               )
         ]
-      where
-        not_true : (b : Bool) → not b ≡ true → b ≡ false
-        not_true true e = absurd (cc)
-        not_true false e = refl
-
-        not_false : (b : Bool) → not b ≡ false → b ≡ true
-        not_false true e = refl
-        not_false false e = absurd (cc)
 
     -- s stands before all others, and t after all others
     pub s_before : (a : ℕ) → a < length lists → a ≢ s → from s < from a

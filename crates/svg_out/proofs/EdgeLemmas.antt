@@ -1,27 +1,23 @@
 -- Later neighbours are what a sort gives, and edges are made vertex by vertex.
-use Rattle.std.proofs.Common.{◌≡◌, ◌≢◌, ◌&&◌, ◌==◌, ◌+◌, ◌<◌, ◌≤◌, ℕ, zero, suc, Bool, true, false, true≢false, List, [], ◌∷◌, ◌++◌, length, take, get_or, nat_lt, cond, eqb, AllPairs, Contains, All, IsPermutation, refl, sym, ap, ap₂, ◌∙◌, subst, inl, inr, arith, add-one, append-nil, IsSorted, lt-ltb, ltb-true}
+use Rattle.std.proofs.Common.{◌≡◌, ◌≢◌, ◌&&◌, ◌==◌, ◌+◌, ◌<◌, ◌≤◌, ℕ, zero, suc, List, [], ◌∷◌, ◌++◌, length, take, get_or, nat_lt, cond, eqb, AllPairs, Contains, All, IsPermutation, refl, sym, ap, ap₂, ◌∙◌, subst, inl, inr, arith, add-one, append-nil, IsSorted, lt-ltb, ltb-true, map-id}
 use Rattle.std.specs.List.{filter, flat_map, list_any, range_with_len}
 use Rattle.std.specs.Ordering.{nat_cmp}
 use Rattle.std.proofs.lemmas.Grind.{flat_map-append}
 use Rattle.std.proofs.lemmas.List.{take_more}
-use Rattle.std.proofs.lemmas.List.FromFn.{length-range_with_len, get_or-range_with_len}
+use Rattle.std.proofs.lemmas.List.FromFn.{length-range_with_len, get_or-range_with_len, map-range_with_len_more}
 use Rattle.std.proofs.lemmas.List.Elements.{All-append, All-nil, All-map, All-contains_itself, All-weaker, filter-append}
 use Rattle.std.proofs.lemmas.List.Sorted.{IsNonDecreasingBy-from_sort, Contains-permutation, IsPermutation-sym, sum_by-IsPermutation}
 use Rattle.std.proofs.lemmas.List.Kept.{AllPairs-filter}
+use Rattle.std.proofs.lemmas.Bool.{and_parts, and_from}
 use Rattle.map_lists.specs.Lists.{Lists}
 use Rattle.map_theory.specs.Maps.{Dart, IsSimpleMap, list_of, darts_from}
 use Rattle.map_theory.proofs.EntryLemmas.{Contains-here, Contains-there, Contains-cons_cases, AllPairs-from_counts, count_of-le-one, Contains-from_filter, Contains-filter, Contains-from_list_any, list_any-from_Contains}
 use Rattle.svg_out.specs.Edges.{vertices, later_neighbours, edges, AreBelow}
 
 -- one number more
-
-range-suc : (a n : ℕ) → range_with_len a (suc n) ≡ range_with_len a n ++ (a + n) ∷ []
-range-suc a zero = ap (λ (x : ℕ). x ∷ []) (omega arith)
-range-suc a (suc n) =
-    ap (λ (xs : List ℕ). a ∷ xs) (range-suc (a + 1) n ∙ ap (λ (x : ℕ). range_with_len (a + 1) n ++ x ∷ []) (omega arith))
-
 pub range-more : (n : ℕ) → range_with_len 0 (n + 1) ≡ range_with_len 0 n ++ n ∷ []
-range-more n = ap (λ (k : ℕ). range_with_len 0 k) (add-one n) ∙ range-suc 0 n ∙ ap (λ (x : ℕ). range_with_len 0 n ++ x ∷ []) (omega arith)
+range-more n =
+    sym (map-id (range_with_len 0 (n + 1))) ∙ (map-range_with_len_more (λ x. x) 0 n n (omega arith) ∙ ap (λ xs. xs ++ n ∷ []) (map-id (range_with_len 0 n)))
 
 -- the numbers of a range are those below its end
 pub Contains-range : (n u : ℕ) → u < n → Contains (range_with_len 0 n) u
@@ -89,27 +85,19 @@ rising-sorted us row distinct moved sorted =
     let up = IsNonDecreasingBy-from_sort (λ (x : ℕ). x) row sorted in
     λ i j d l h. omega (arith, apart i j d l h, up i j d (omega arith) h)
 
-both_parts : (a b : Bool) → (a && b) ≡ true → (a ≡ true) × (b ≡ true)
-both_parts true b e = (refl, e)
-both_parts false b e = absurd (true≢false (sym e))
-
-both_hold : (a b : Bool) → a ≡ true → b ≡ true → (a && b) ≡ true
-both_hold true b t e = e
-both_hold false b t e = t
-
 -- an entry of the later neighbours is a later neighbour
 pub Contains-from_later : (lists : Lists) (v u : ℕ) → Contains (later_neighbours lists v) u → (v < u) × (u < length lists) × Contains (list_of lists v) u
 unfolding later_neighbours
 Contains-from_later lists v u c =
     let h = Contains-from_filter _ (vertices lists) u c in
-    let parts = both_parts (nat_lt v u) (list_any (λ w. w == u) (list_of lists v)) h.1 in
+    let parts = and_parts (nat_lt v u) (list_any (λ w. w == u) (list_of lists v)) h.1 in
     (ltb-true v u parts.0, Contains-from_range (length lists) u h.0, Contains-from_list_any u (list_of lists v) parts.1)
 
 pub Contains-later : (lists : Lists) (v u : ℕ) → v < u → u < length lists → Contains (list_of lists v) u → Contains (later_neighbours lists v) u
 unfolding later_neighbours
 Contains-later lists v u l h c =
     Contains-filter (λ x. nat_lt v x && list_any (λ w. w == x) (list_of lists v)) (vertices lists) u (Contains-range (length lists) u h)
-    (both_hold (nat_lt v u) (list_any (λ w. w == u) (list_of lists v)) (lt-ltb v u l) (list_any-from_Contains u (list_of lists v) c))
+    (and_from (nat_lt v u) (list_any (λ w. w == u) (list_of lists v)) (lt-ltb v u l) (list_any-from_Contains u (list_of lists v) c))
 
 later_rises : (lists : Lists) (v : ℕ) → AllPairs (λ (a b : ℕ). a < b) (later_neighbours lists v)
 unfolding later_neighbours

@@ -7,10 +7,10 @@ use Rattle.map_theory.specs.Maps.{HasDart, IsPlane, component_count, list_of}
 use Rattle.plane_peeling.proofs.Counted.{marks_everywhere}
 use Rattle.pg_plane.specs.declared.figures.BarFigure.{BarFigure}
 use Rattle.half_edges.specs.Map.{Map, dart_at, first_dart}
+use Rattle.half_edges.proofs.LinkLemmas.{tails_same}
 use Rattle.conn_parts.specs.BiconnectedMaps.{IsBiconnectedMap}
 use Rattle.st_orders.specs.StOrders.{IsStOrder}
 use Rattle.bipolar.specs.Numbered.{IsStOf}
-use Rattle.bipolar.proofs.Darts.{one_dart}
 use Rattle.visibility.specs.Bars.{AreBarsFor}
 use Rattle.visibility.specs.Figures.{IsBarFigure}
 
@@ -44,7 +44,7 @@ IsStOf-first map d lists rank same biconnected is order =
       plane = subst IsPlane (sym same) biconnected.plane;
       connected = subst (λ (ls : Lists). component_count ls ≡ 1) (sym same) biconnected.connected;
       order = λ s t e.
-          let one = one_dart (dart_at map d) 0 (slice_index (list_of map.lists 0) 0) s t is e in
+          let one = tails_same 0 (slice_index (list_of map.lists 0) 0) s t (dart_at map d) is e in
           (along.0, subst (λ x. IsStOrder map.lists s x along.0 rank) one.1 (subst (λ x. IsStOrder map.lists x (slice_index (list_of map.lists 0) 0) along.0 rank) one.0 along.1));
     }
 

@@ -2,6 +2,7 @@
 use Rattle.std.proofs.Common.{◌≡◌, ◌≢◌, ◌⊎◌, ℕ, zero, suc, ◌+◌, ◌-◌, ◌<◌, Bool, true, false, eqb, List, length, get_or, refl, sym, ap, ap₂, ◌∙◌, subst, inl, inr, arith, true≢false, eq-eqb, ne_eqb, pos}
 use Rattle.std.proofs.lemmas.Bool.{cases_eq, cases_Bool}
 use Rattle.std.proofs.lemmas.Bool.Decides.{nat_tests}
+use Rattle.std.specs.Cmp.{both_ways}
 use Rattle.classes.specs.Classes.{count_below}
 use Rattle.classes.proofs.Counting.{one_if, count_below_more, count_below_none}
 use Rattle.classes.proofs.Orbits.{IsPermuting, count_below-images}
@@ -25,9 +26,6 @@ use Rattle.wood_runs.proofs.Counts.{counts_run, counts_all}
 use Rattle.wood_runs.proofs.Regions.{side_off_path, side_in_region, region_side}
 use Rattle.wood_laws.specs.WoodRegionsLaws.{IsCoordinate, AreCoordinates}
 use Rattle.wood_laws.proofs.RegionLemmas.{name_in, rank_inner, root_name, parent_of, parent_name, parent_small, parent_inside, path_to, region_shade, shade_region}
-
-bool_same : (x y : Bool) → (x ≡ true → y ≡ true) → (y ≡ true → x ≡ true) → x ≡ y
-bool_same x y h k = elim (cases_Bool x) [ inl e ↦ e ∙ sym (h e) | inr e ↦ elim (cases_Bool y) [ inl f ↦ k f ∙ sym f | inr f ↦ e ∙ sym f ] ]
 
 -- a test that passes where just one of two others does
 count_apart : (t p q : ℕ → Bool) (n : ℕ) → ((i : ℕ) → i < n → t i ≡ true → (p i ≡ true) ⊎ (q i ≡ true)) → ((i : ℕ) → i < n → p i ≡ true → t i ≡ true) → ((i : ℕ) → i < n → q i ≡ true → t i ≡ true) → ((i : ℕ) → i < n → p i ≡ true → q i ≡ false) → count_below t n ≡ count_below p n + count_below q n
@@ -81,7 +79,7 @@ module _ (lists : Lists) (base : Dart) (at : List ℕ) (steps : ℕ → Step) (p
         ]
       ] in
       let own = (on k (omega arith)).1 (inl refl) in
-      let more = count_below_more (paths steps n c u) (paths steps n c k) (n + 2) k l off own (λ w m ne. bool_same (paths steps n c u w) (paths steps n c k w) (λ x. (on w (omega arith)).1 (inr x)) (λ x. elim ((on w (omega arith)).0 x) [ inl e ↦ absurd (ne e) | inr y ↦ y ])) in
+      let more = count_below_more (paths steps n c u) (paths steps n c k) (n + 2) k l off own (λ w m ne. both_ways (paths steps n c u w) (paths steps n c k w) (λ x. (on w (omega arith)).1 (inr x)) (λ x. elim ((on w (omega arith)).0 x) [ inl e ↦ absurd (ne e) | inr y ↦ y ])) in
       omega (arith, more, path_count d c u (parent_small lists base at steps parent triangulation order run parents c k i) leads')
     where
       root_off : (c : Colour) → k ≡ root_at n c → ¬ IsInside n k

@@ -133,9 +133,6 @@ module _ (lists : Lists) (base : Dart) (parent : Colour → ℕ → ℕ) (at : L
         let e : suc m ≡ j = omega arith in
         let right = subst (λ j. Either lists base parent triangulation has wood (out two) (into three) v (row j)) e (right_end m (omega arith) (omega arith)) in
         grind (arith, left_end, one_end, row, out, one, two)
-      where
-        different : out one ≢ out two
-        different e = cc
 
     -- a dart to it or from it is no dart of the base's face
     not_base : (x : ℕ) → ¬ IsDartOfThree base.0 base.1 (follows lists base.1 base.0) x v

@@ -101,9 +101,6 @@ module _ (g : Stage) (s : Step) (new : ℕ) (front : ℕ → ℕ) (shade : ℕ �
   abbrev r : ℕ
   r = s.last - 1
 
-  r_is : suc r ≡ s.last
-  r_is = let o = step.order in omega arith
-
   -- what lies before an edge under the new vertex has shade 3 for it
   under_three : (j : ℕ) → s.first ≤ j → j < s.last → shade' g.count (front j) ≡ 3
   under_three j a b = grind (arith, wp, wp_is, wq, wq_is, sees_three)

@@ -1,9 +1,10 @@
 use Rattle.std.proofs.Common.{subst, sym, ◌∙◌}
+use Rattle.std.proofs.lemmas.Option.{same_Some}
 use Rattle.map_theory.specs.Maps.{Dart}
 use Rattle.augment_tri.specs.Growing.{IsCovered}
 use Rattle.augment_tri.proofs.EarCover.{filled_from_covered}
 use Rattle.augment_tri.proofs.Growth.{IsGrown-itself, IsGrown-chained}
-use Rattle.augment_tri.proofs.NearEars.{one_dart, live_dart}
+use Rattle.augment_tri.proofs.NearEars.{live_dart}
 use Rattle.augment_tri.proofs.face_filling.fill_face.Goals as goal
 
 pub loop-at-init : goal.loop-at-init
@@ -12,7 +13,7 @@ loop-at-init c = record {
   grown = IsGrown-itself c.args.map.now;
   live = c.requires.live;
   covered = λ first k a b at_d covered v u at.
-      subst (λ (y : Dart). IsCovered first k c.args.map.now.lists y.0 y.1) (one_dart (a, b) (v, u) (sym at_d ∙ at)) covered;
+      subst (λ (y : Dart). IsCovered first k c.args.map.now.lists y.0 y.1) (same_Some (a, b) (v, u) (sym at_d ∙ at)) covered;
 }
 
 pub loop-at-preserved : goal.loop-at-preserved

@@ -1,8 +1,9 @@
 use Rattle.std.proofs.Common.{arith, sym, ◌∙◌, ap, subst, ◌∷◌, [], refl, Contains}
 use Rattle.std.proofs.lemmas.List.Elements.{Contains-push, Contains-append_left}
+use Rattle.std.proofs.lemmas.List.{nil_from_length}
 use Rattle.euler_faces.specs.declared.face_chains.FaceSide.{FaceSide}
 use Rattle.euler_faces.specs.ChainSearch.{IsChaining, Meets, work}
-use Rattle.euler_faces.proofs.SideMarks.{some_dart, none_left}
+use Rattle.euler_faces.proofs.SideMarks.{some_dart}
 use Rattle.euler_faces.proofs.ChainLemmas.{starts, live_first, live_on, work_less, work_taken, goes_from, finished, met_long}
 use Rattle.euler_faces.proofs.face_chains.mark_reached.Goals as goal
 
@@ -51,4 +52,4 @@ loop-side-preserved g c =
 pub returns : goal.returns
 returns g c = λ base counts start tells.
     let map = c.args.map.now in
-    finished map c.facts.ensures base counts c.loop-side.met c.loop-side.sides.items (c.facts.ensures.is_dart c.args.start.0 base.0 base.1 start) (none_left c.loop-side.sides.items (omega (arith, c.in_default.ensures.cases))) (c.loop-side.invariant.search base counts start tells)
+    finished map c.facts.ensures base counts c.loop-side.met c.loop-side.sides.items (c.facts.ensures.is_dart c.args.start.0 base.0 base.1 start) (nil_from_length c.loop-side.sides.items (omega (arith, c.in_default.ensures.cases))) (c.loop-side.invariant.search base counts start tells)

@@ -1,12 +1,13 @@
 use Rattle.std.proofs.Common.{arith}
+use Rattle.euler_faces.proofs.SideMarks.{some_dart}
 use Rattle.half_edges.specs.Map.{dart_at}
-use Rattle.bipolar.proofs.Darts.{live_dart, tail_is, head_is, ranks_compared}
+use Rattle.bipolar.proofs.Darts.{tail_is, head_is, ranks_compared}
 use Rattle.bipolar.proofs.dual_orders.dual_arcs.DirectedMap.goes_up.Goals as goal
 
 pub get-requires : goal.get-requires
 get-requires c =
     let map = c.args.self.now.map.now in
-    let x = live_dart (dart_at map c.args.d.0) c.requires in
+    let x = some_dart (dart_at map c.args.d.0) c.requires in
     let t = tail_is (dart_at map c.args.d.0) x.0 x.1 c.tail.result.0 x.2 c.tail.ensures in
     let has = c.facts.ensures.is_dart c.args.d.0 x.0 x.1 x.2 in
     omega (arith, has.0, t, c.args.self.now.ranks)
@@ -14,7 +15,7 @@ get-requires c =
 pub get-requires-2 : goal.get-requires-2
 get-requires-2 c =
     let map = c.args.self.now.map.now in
-    let x = live_dart (dart_at map c.args.d.0) c.requires in
+    let x = some_dart (dart_at map c.args.d.0) c.requires in
     let h = head_is (dart_at map c.args.d.0) x.0 x.1 c.head.result.0 x.2 c.head.ensures in
     let has = c.facts.ensures.is_dart c.args.d.0 x.0 x.1 x.2 in
     let back = c.facts.ensures.simple.in_range x.0 x.1 has in

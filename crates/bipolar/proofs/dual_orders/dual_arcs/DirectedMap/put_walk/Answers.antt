@@ -7,8 +7,8 @@ use Rattle.map_theory.specs.Maps.{twin_dart}
 use Rattle.half_edges.specs.Map.{Map, IsLive, dart_at}
 use Rattle.euler_faces.proofs.NumberLemmas.{live_from}
 use Rattle.euler_faces.specs.FaceWalks.{AreFaces, ids_of, walk_at}
+use Rattle.euler_faces.proofs.SideMarks.{some_dart}
 use Rattle.bipolar.specs.FaceArcs.{InWalk, IsPutRight, ArePutRight}
-use Rattle.bipolar.proofs.Darts.{live_dart}
 use Rattle.bipolar.proofs.CutRows.{ArePutRight-more}
 use Rattle.bipolar.proofs.dual_orders.dual_arcs.DirectedMap.put_walk.Goals as goal
 
@@ -30,7 +30,7 @@ module _ (map : Map) (walks : List (List ℕ)) (faces : AreFaces map walks) (f :
   live = subst (IsLive map) (ap (λ (ids : List ℕ). get_or ids k 0) (sym same) ∙ id_at ds k k_in) ((faces.each f f_in).live k (omega (arith, k_in, long ds, ap length same)))
 
   ends : (u : ℕ) × (v : ℕ) × (dart_at map id ≡ Some (u, v))
-  ends = live_dart (dart_at map id) live
+  ends = some_dart (dart_at map id) live
 
   -- its twin is of a face
   twin_face : (back : ℕ) → dart_at map back ≡ option_map twin_dart (dart_at map id) → (g : ℕ) × (g < length walks) × Contains (walk_at walks g) back

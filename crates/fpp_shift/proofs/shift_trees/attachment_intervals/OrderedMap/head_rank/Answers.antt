@@ -1,6 +1,7 @@
 use Rattle.std.proofs.Common.{get_or, sym, ap, ◌∙◌, arith}
+use Rattle.plane_drawings.proofs.FreshLemmas.{head-is}
 use Rattle.std.proofs.lemmas.Option.{get_or_from_slice_get}
-use Rattle.fpp_shift.proofs.DartLemmas.{head-is, head-within}
+use Rattle.fpp_shift.proofs.DartLemmas.{head-within}
 use Rattle.fpp_shift.proofs.shift_trees.attachment_intervals.OrderedMap.head_rank.Goals as goal
 
 pub get-requires : goal.get-requires

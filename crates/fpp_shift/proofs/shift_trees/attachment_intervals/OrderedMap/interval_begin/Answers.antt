@@ -1,10 +1,11 @@
 use Rattle.std.proofs.Common.{ℕ, get_or, sym, ap, ◌∙◌, subst, arith, below_more, option_map}
+use Rattle.plane_drawings.proofs.FreshLemmas.{head-is, next-is}
 use Rattle.std.proofs.lemmas.Bool.{true≢false}
 use Rattle.map_theory.specs.Maps.{list_of, follows}
 use Rattle.half_edges.specs.Map.{dart_at, next_dart}
 use Rattle.euler_faces.proofs.NumberLemmas.{live_from}
 use Rattle.fpp_shift.specs.ShiftTreesRows.{BeginsRow}
-use Rattle.fpp_shift.proofs.DartLemmas.{BeginsRow-tested, head-is, next-is, not-none}
+use Rattle.fpp_shift.proofs.DartLemmas.{BeginsRow-tested, not-none}
 use Rattle.fpp_shift.proofs.shift_trees.attachment_intervals.OrderedMap.interval_begin.Goals as goal
 
 pub head_rank-rank_after-requires : goal.head_rank-rank_after-requires

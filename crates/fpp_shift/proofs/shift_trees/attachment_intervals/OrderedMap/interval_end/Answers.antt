@@ -1,8 +1,9 @@
 use Rattle.std.proofs.Common.{ℕ, get_or, sym, ◌∙◌, subst, arith, below_more}
+use Rattle.plane_drawings.proofs.FreshLemmas.{head-is, next-is}
 use Rattle.std.proofs.lemmas.Bool.{true≢false}
 use Rattle.map_theory.specs.Maps.{list_of}
 use Rattle.fpp_shift.specs.ShiftTreesRows.{EndsRow}
-use Rattle.fpp_shift.proofs.DartLemmas.{EndsRow-tested, head-is, next-is, not-none}
+use Rattle.fpp_shift.proofs.DartLemmas.{EndsRow-tested, not-none}
 use Rattle.fpp_shift.proofs.shift_trees.attachment_intervals.OrderedMap.interval_end.Goals as goal
 
 pub loop-preserved : goal.loop-preserved
