@@ -66,7 +66,8 @@ struct Peaks<'a> {
 }
 
 impl Peaks<'_> {
-    // Returns a column up to which no edge of the columns from `k` on reaches above `h`.
+    // Returns a column after `k`, up to which no edge of the columns from `k` on reaches above height `h`, or `k` if
+    // that one's does. It passes whole blocks and superblocks up to that of `right`.
     fn passed_to(&self, h: u16, k: usize, right: usize) -> usize
         requires k { k < 4294967296 }
         requires right { right < 4294967296 }
@@ -88,8 +89,8 @@ impl Peaks<'_> {
 }
 
 impl Bar<'_> {
-    // Raises the peaks at the column of the edge of dart `d`, where it leads up from this vertex. Returns false where a
-    // table has no entry for it.
+    // Raises `peaks`, `blocks` and `superblocks` at the column of the edge of dart `d`, if it leads up from this
+    // vertex. Returns false if a table has no entry for it.
     fn begin_if_up(
         &self,
         peaks: &mut [i32],
@@ -118,7 +119,8 @@ impl Bar<'_> {
         raise(peaks, k, y) && raise(blocks, k / 16, y) && raise(superblocks, k / 256, y)
     }
 
-    // Raises the peaks at the columns of this vertex's upward edges. Returns false where a table has no entry for one.
+    // Raises `peaks`, `blocks` and `superblocks` at the columns of this vertex's upward edges. Returns false if a table
+    // has no entry for one.
     fn begin_edges(&self, peaks: &mut [i32], blocks: &mut [i32], superblocks: &mut [i32]) -> bool
         requires reach { HasReach self.now.drawing.map.now.lists self.now.drawing.fig.now (IsBegun self.now.drawing.map.now.lists self.now.drawing.fig.now self.now.h self.now.v.0 0) peaks.old blocks.old superblocks.old }
         ensures { OnTrue result (HasReach self.now.drawing.map.now.lists self.now.drawing.fig.now (IsBegun self.now.drawing.map.now.lists self.now.drawing.fig.now self.now.h self.now.v.0 (length (list_of self.now.drawing.map.now.lists self.now.v.0))) peaks.new blocks.new superblocks.new) }
@@ -140,8 +142,8 @@ impl Bar<'_> {
         }
     }
 
-    // Says whether this bar is in the way of no edge, by the peaks of the columns that it holds. Then it adds its own
-    // upward edges to the peaks; false is returned too where a table is too short.
+    // Says whether this bar is in the way of no edge, by the peaks of the columns that it holds. If so, it raises
+    // `peaks`, `blocks` and `superblocks` at its own upward edges. Returns false too where a table is too short.
     fn meets(&self, peaks: &mut [i32], blocks: &mut [i32], superblocks: &mut [i32]) -> bool
         requires swept { IsSwept self.now.drawing.map.now.lists self.now.drawing.fig.now self.now.h peaks.old blocks.old superblocks.old }
         ensures { OnTrue result (IsSwept self.now.drawing.map.now.lists self.now.drawing.fig.now (self.now.h + 1) peaks.new blocks.new superblocks.new) }
@@ -167,7 +169,8 @@ impl Bar<'_> {
 
 impl OrderedBars<'_> {
     // Says whether a sweep over the bars in this order shows that none is in the way of an edge. The tables `peaks`,
-    // `blocks` and `superblocks` are 0 at first; they have an entry for each column, 16 columns and 256 columns.
+    // `blocks` and `superblocks` are 0 at first, and overwritten; they have an entry for each column, 16 columns and
+    // 256 columns.
     pub(crate) fn passes_all(
         &self,
         peaks: &mut [i32],

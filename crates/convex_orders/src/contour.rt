@@ -53,8 +53,7 @@ impl Contour {
         }
     }
 
-    /// Moves the current position back by one vertex, before which there has to be one. It fails only when out of
-    /// memory.
+    /// Moves the current position back by one vertex; there has to be one before it. It fails only when out of memory.
     pub(crate) fn step_back(&mut self) -> Result<(), AllocError>
         requires { 0 < length self.old.left.items }
         ensures same { IfOk result (λ _. vertices_of self.new ≡ vertices_of self.old) }
@@ -68,7 +67,7 @@ impl Contour {
         Ok(())
     }
 
-    // Moves the current position on by one vertex.
+    // Moves the current position forward by one vertex; there has to be one after it. It fails only when out of memory.
     fn step_on(&mut self) -> Result<(), AllocError>
         requires { 0 < length self.old.right.items }
         ensures same { IfOk result (λ _. vertices_of self.new ≡ vertices_of self.old) }
@@ -82,7 +81,7 @@ impl Contour {
         Ok(())
     }
 
-    /// Moves the current position so that `count` vertices stand before it.
+    /// Moves the current position so that `count` vertices are before it. It fails only when out of memory.
     pub(crate) fn move_to(&mut self, count: usize) -> Result<(), AllocError>
         requires { count ≤ length self.old.left.items + length self.old.right.items }
         ensures same { IfOk result (λ _. vertices_of self.new ≡ vertices_of self.old) }

@@ -78,8 +78,8 @@ impl ContourCounts {
         Ok(())
     }
 
-    /// Adds or subtracts, by `way`, an interval of the contour: the faces round the vertices strictly within it, and
-    /// those of all its edges.
+    /// Adds or subtracts, by `way`, the interval `stretch` of the contour: the faces round the vertices strictly within
+    /// it, and those inside of all its edges.
     pub(crate) fn move_part(&mut self, way: Way, stretch: &ContourInterval<'_>)
         requires size { HaveSize self.old stretch.now.tables.now.faces.count }
         requires can { CanMoveAll stretch.now.tables.now.lists stretch.now.tables.now.faces.own stretch.now.tables.now.faces.count way stretch.now.ws.now stretch.now.first stretch.now.last self.old }

@@ -19,7 +19,8 @@ pub(crate) struct ContourFaces {
     pub(crate) outer: Vec<u32>,
 }
 
-// Returns the first index from `from` on at which the face of `own` is unmarked and that of `other` marked, if any.
+// Returns the first index from `from` on of an edge whose face in `own` is unmarked and whose face in `other` is
+// marked, if any. `own` and `other` number the two faces at each edge of a vertex, and `marks` marks faces.
 fn rim_from(own: &[u32], other: &[u32], marks: &[bool], from: usize) -> Option<usize>
     requires rows { AreRowsBelow own.now other.now (length marks.now) }
     ensures { MatchOption result ((k : ℕ) → from ≤ k → ¬ IsRimAt own.now other.now marks.now k) (λ k. IsRimAt own.now other.now marks.now k) }
@@ -32,7 +33,7 @@ fn rim_from(own: &[u32], other: &[u32], marks: &[bool], from: usize) -> Option<u
     None
 }
 
-// Returns an index, sought first from `from` on, where the face of `own` is unmarked and that of `other` marked; or 0.
+// Like [`rim_from`], but goes on from the front of the list where it finds none. There has to be such an edge.
 fn rim_near(own: &[u32], other: &[u32], marks: &[bool], from: usize) -> usize
     requires { HasRim own.now other.now marks.now }
     ensures { IsRimAt own.now other.now marks.now result }
@@ -66,8 +67,9 @@ impl ContourFaces {
         Ok(())
     }
 
-    // Finds the contour edge that leaves vertex `x`, notes the faces on its two sides, and returns its other end. The
-    // search begins where that edge was last seen in the list: at a hub it goes on in one direction.
+    // Finds the contour edge of `map` that leaves vertex `x`, notes its index and the faces on its two sides, and
+    // returns its other end. The search begins where that edge was last seen in the list: at a hub it goes on in one
+    // direction.
     fn see(&mut self, map: &Marked<'_>, x: u16) -> u16
         requires size { AreRims self.old (length map.now.tables.now.lists) }
         requires some { (y : ℕ) × IsRimIn map.now.tables.now.lists map.now.tables.now.faces.own map.now.tables.now.faces.other map.now.marks.now x y }
@@ -85,6 +87,7 @@ impl ContourFaces {
     }
 
     /// Appends to `left` the vertices along the contour of `map`, from the last one of `left` on up to vertex `stop`.
+    /// Notes the faces on both sides of each edge on the way.
     pub(crate) fn trace(
         &mut self,
         left: &mut Vec<u16>,

@@ -16,7 +16,8 @@ fn push_unless(row: &mut Vec<u16>, test: bool, x: u16) -> Result<(), AllocError>
     Ok(())
 }
 
-/// Fills `row` with the cuts of an interval, as offsets from its first vertex.
+/// Fills `row` with the cuts of the interval `stretch`, as offsets from its first vertex: both ends, and where the face
+/// outside changes. `outer` has by vertex the face outside of the edge to the next. It fails only when out of memory.
 pub(crate) fn put_cuts(
     row: &mut Vec<u16>,
     outer: &[u32],

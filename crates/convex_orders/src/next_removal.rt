@@ -61,7 +61,8 @@ impl Choice<'_> {
             && is_open(own, other, marks)
     }
 
-    // Moves back along `contour` to a vertex that may be removed, and says whether there is one.
+    // Moves the current position of `contour` back until the vertex before it may be removed, and says whether it found
+    // one. It does not try the first vertex. It fails only when out of memory.
     fn seek(&self, contour: &mut Contour) -> Result<bool, AllocError>
         requires some { 0 < length contour.old.left.items }
         requires behind { 0 < length contour.old.right.items }
@@ -82,7 +83,8 @@ impl Choice<'_> {
         Ok(false)
     }
 
-    /// Moves back along `contour` to a removable vertex, if there is one: from the current position, or else the end.
+    /// Moves the current position of `contour` back until the vertex before it may be removed, and begins again at the
+    /// end where that finds none. There has to be one. It fails only when out of memory.
     pub(crate) fn find(&self, contour: &mut Contour) -> Result<(), AllocError>
         requires vertices { AreWithin (vertices_of contour.old) (length self.now.map.tables.now.lists) }
         requires removable { (j : ℕ) × IsRemovablePlace self.now.map.tables.now.faces.own self.now.map.tables.now.faces.other self.now.map.marks.now self.now.counts.now.places.items self.now.counts.now.edges.items (vertices_of contour.old) j }

@@ -162,7 +162,8 @@ impl RowTables {
         Ok(())
     }
 
-    // Makes the next removal: chooses a vertex, unmarks its faces, and appends the row.
+    // Makes the next removal: chooses a vertex, unmarks its faces, traces the new contour and appends the row. It fails
+    // only when out of memory.
     fn round(&mut self, tables: &Tables) -> Result<(), AllocError>
         requires kept { IsKept tables.now self.old }
         requires stands { (bound : ℕ) × StandsBy tables.now self.old bound }
@@ -201,6 +202,7 @@ impl RowTables {
     }
 
     // Makes one removal after another, to the last one, which removes all other vertices of the contour over the base.
+    // It fails only when out of memory.
     fn peel(&mut self, tables: &Tables) -> Result<(), AllocError>
         requires kept { IsKept tables.now self.old }
         requires stands { StandsBy tables.now self.old (suc (dart_count tables.now.lists)) }
@@ -220,7 +222,7 @@ impl RowTables {
         Ok(())
     }
 
-    // Removes the face of the base alone, traces its contour, and counts it.
+    // Removes the face of the base alone, traces its contour, and counts it. It fails only when out of memory.
     fn first_contour(&mut self, tables: &Tables) -> Result<(), AllocError>
         requires blank { IsBlank tables.now self.old }
         ensures kept { IfOk result (λ _. IsKept tables.now self.new) }

@@ -19,7 +19,7 @@ pub(crate) struct ContourEdges<'a> {
     ghost numbered: { ∥ AreInner tables.now.lists tables.now.faces.own (vertices_of contour.now) inner.now ∥₁ },
 }
 
-/// Takes from `marks` the marks of the faces whose numbers `row` lists, since these faces are no longer left.
+/// Clears in `marks` the marks of the faces whose numbers `row` lists: they are removed.
 pub(crate) fn clear_faces(marks: &mut [bool], row: &[u32])
     requires within { (k : ℕ) → k < length row.now → slice_index row.now k < length marks.old }
     ensures long { length marks.new ≡ length marks.old }
@@ -30,7 +30,7 @@ pub(crate) fn clear_faces(marks: &mut [bool], row: &[u32])
     }
 }
 
-// Takes from `marks` the mark of the face with number `f`, since it is no longer left.
+// Clears in `marks` the mark of the face with number `f`: it is removed.
 fn clear_face(marks: &mut [bool], f: u32)
     requires within { f < length marks.old }
     ensures { marks.new ≡ slice_set marks.old f false }
@@ -67,8 +67,8 @@ impl ContourEdges<'_> {
         j >= 2 && self.is_same(j - 2)
     }
 
-    // Takes from `marks` the faces that are removed with the vertex before the current position: one face, where that
-    // covers an interval there, or else all faces at the vertex.
+    // Clears in `marks` the faces that are removed with the vertex before the current position. That is one face, if it
+    // is inside of the two contour edges after the vertex or of the two before it; else all faces at the vertex.
     fn take_at(&self, marks: &mut [bool])
         requires place { (j : ℕ) → suc j ≡ length self.now.contour.now.left.items → CanGo self.now.tables.now marks.old (vertices_of self.now.contour.now) j }
         ensures long { length marks.new ≡ length marks.old }
@@ -94,7 +94,8 @@ impl ContourEdges<'_> {
         marks[self.number(i) as usize]
     }
 
-    // Returns the index at which the edges without marked faces end, from the vertex before the current position on.
+    // Returns the index at which the removed interval ends. All contour edges from the vertex before the current
+    // position up to there have an unmarked face inside.
     fn end_of(&self, marks: &[bool]) -> usize
         requires long { length marks.now ≡ self.now.tables.now.faces.count }
         ensures { (first end j : ℕ) → suc j ≡ length self.now.contour.now.left.items → first ≤ j → j ≤ end → IsGoneRun (number_at self.now.inner.now (vertices_of self.now.contour.now)) marks.now (length (vertices_of self.now.contour.now)) first end → result ≡ end }
@@ -109,7 +110,8 @@ impl ContourEdges<'_> {
         last
     }
 
-    // Returns the index where the edges without marked faces begin, from the vertex before the current position back.
+    // Returns the index at which the removed interval begins. All contour edges from there up to the vertex before the
+    // current position have an unmarked face inside.
     fn first_of(&self, marks: &[bool]) -> usize
         requires long { length marks.now ≡ self.now.tables.now.faces.count }
         ensures { (first end j : ℕ) → suc j ≡ length self.now.contour.now.left.items → first ≤ j → j ≤ end → IsGoneRun (number_at self.now.inner.now (vertices_of self.now.contour.now)) marks.now (length (vertices_of self.now.contour.now)) first end → result ≡ first }
@@ -124,8 +126,8 @@ impl ContourEdges<'_> {
         0
     }
 
-    /// Takes from `marks` the faces that are removed with the vertex before the current position. Returns the first and
-    /// the last index of the contour interval along which they stood.
+    /// Clears in `marks` the faces that are removed with the vertex before the current position. Returns the first and
+    /// the last index of the contour interval along which they were.
     pub(crate) fn take_run(&self, marks: &mut [bool]) -> (usize, usize)
         requires place { (j : ℕ) → suc j ≡ length self.now.contour.now.left.items → CanGo self.now.tables.now marks.old (vertices_of self.now.contour.now) j }
         ensures long { length marks.new ≡ length marks.old }

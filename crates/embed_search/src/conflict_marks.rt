@@ -66,17 +66,19 @@ impl ConflictMarks {
         }
     }
 
-    // Marks the return edge that leads to the lowpoint of `dart`.
+    // Marks the return edge that leads to the lowpoint of `dart`, with its tree path.
     fn mark_lowest(&mut self, test: &LeftRightTest, dart: u32) {
         self.mark(test, test.search.lowpt_edge.get(dart));
     }
 
-    // Marks the return edge to the lowpoint of the dart of `vertex` on the branch from which `edge` returns.
+    // Marks the return edge that leads to the lowpoint of the dart of `vertex` along which `edge` returns, with its
+    // tree path.
     fn mark_branch(&mut self, test: &LeftRightTest, edge: u32, vertex: u32) {
         self.mark_lowest(test, branch_of(&test.links, &test.search, edge, vertex));
     }
 
-    // Marks the return edges that make the ties of the test's ring, the cycle of constraints on sides.
+    // Marks the return edges that make the ties of the test's ring, the cycle of constraints on sides, with their tree
+    // paths.
     fn mark_ties(&mut self, test: &LeftRightTest) {
         let ties = &test.search.ties;
         let mut edge = test.ring.other;
@@ -101,7 +103,7 @@ impl ConflictMarks {
         }
     }
 
-    // Marks the return edges that bind the ends of the test's ring to one side.
+    // Marks the return edges that bind the ends of the test's ring to one side, with their tree paths.
     fn mark_bound(&mut self, test: &LeftRightTest) {
         let search = &test.search;
         let vertex = search.failed;

@@ -63,7 +63,7 @@ impl Kernel {
         NONE
     }
 
-    // Returns how many edges merge with others, if an edge at `vertex` is removed.
+    // Returns how many edges merge with others at `vertex`, if one of its edges is removed: 1 at degree three, else 0.
     #[inline(always)]
     fn smoothed_at(&self, vertex: u32) -> u32 {
         if self.degree.get(vertex) == 3 { 1 } else { 0 }
@@ -76,7 +76,7 @@ impl Kernel {
         minus(self.edges.count, plus(1, plus(one, other)))
     }
 
-    /// Removes the edge `out` from the kernel, and reduces what is left.
+    /// Removes the edge `out` from the kernel, and reduces what is left, as `keep_marked` does. It overwrites `links`.
     pub fn drop(&mut self, links: &mut Links, out: u32) {
         for edge in 0..self.edges.count {
             self.marks.set(edge, IN_PART);
@@ -85,7 +85,8 @@ impl Kernel {
         self.keep_marked(links);
     }
 
-    /// Makes the marked edges of a graph the kernel's edges, and takes their ends from the graph's darts in `links`.
+    /// Makes the marked ones of a graph's `edges` the kernel's, by `marks`. It writes their ends, taken from the
+    /// graph's darts in `links`, to `edges` too.
     pub fn load(&mut self, edges: &mut Edges, links: &Links, marks: &ByEdge) {
         self.edges.vertices = edges.vertices;
         self.edges.count = 0;
@@ -110,8 +111,9 @@ impl Kernel {
         }
     }
 
-    /// Chains the kernel's edges except `out` in `links`, for the next search. That tries the last one's marked return
-    /// edges first, and last the tree edges with marked return edges from the lower end and to the upper end.
+    /// Chains the kernel's edges except `out` in `links`, for the next search. That search first tries the edges that
+    /// the last one marked as return edges. Last it tries tree edges at whose upper end a marked return edge ends, and
+    /// at whose lower end one begins.
     pub fn chain_without(&self, links: &mut Links, out: u32) {
         links.begin_chains(self.edges.vertices);
         links.darts = twice(self.edges.count);
@@ -140,7 +142,8 @@ impl Kernel {
         }
     }
 
-    // Joins the paths of all edges merged into `edge`: two rings become one where their successors are exchanged.
+    // Joins the paths of all edges merged into `edge` to one, and adds their marks to those of `edge`. Two rings become
+    // one where their successors are exchanged.
     fn join_merged(&mut self, edge: u32) {
         let mut other = self.merged.get(edge);
         for _ in 0..self.edges.count {
@@ -160,7 +163,8 @@ impl Kernel {
         }
     }
 
-    // Numbers the vertices that have darts anew, and keeps only the edges that are left.
+    // Numbers the vertices that have darts in `links` anew, in rising order. Keeps only the edges that are left, with
+    // their ends in `links`.
     fn renumber(&mut self, links: &Links) {
         let mut vertices = 0u32;
         for vertex in 0..links.vertices {
@@ -187,7 +191,8 @@ impl Kernel {
         }
     }
 
-    /// Keeps only the marked edges, and replaces each path by one edge.
+    /// Keeps only the marked edges. Removes those with an end of degree one and paths beside an edge, and replaces each
+    /// other path by one edge. It overwrites `links`, and numbers the vertices anew.
     pub fn keep_marked(&mut self, links: &mut Links) {
         links.begin(&self.edges);
         for edge in 0..self.edges.count {
@@ -207,7 +212,7 @@ impl Kernel {
         self.renumber(links);
     }
 
-    // Pushes `vertex` on the stack, if it has one or two darts.
+    // Pushes `vertex` on the stack of vertices to reduce, if it has one or two darts in `links`.
     #[inline(always)]
     fn await_few(&mut self, links: &Links, vertex: u32) {
         let degree = links.degree.get(vertex);
@@ -217,7 +222,8 @@ impl Kernel {
         }
     }
 
-    // Removes the edge of `dart`, which leaves `vertex`.
+    // Removes the edge of `dart`, which leaves `vertex`, from `links`. Pushes its other end on the stack, if one or two
+    // darts are left there.
     fn drop_edge(&mut self, links: &mut Links, dart: u32, vertex: u32) {
         let head = links.head.get(dart);
         links.take_out(dart, vertex);
@@ -226,7 +232,8 @@ impl Kernel {
         self.await_few(links, head);
     }
 
-    // Merges the two edges of `vertex` into one, or removes both where their other ends are adjacent.
+    // Merges the two edges of `vertex` in `links` into one with the number of the first. Removes both where their other
+    // ends are adjacent, so that no edges become parallel.
     fn smooth(&mut self, links: &mut Links, vertex: u32) {
         let one = links.first.get(vertex);
         let other = links.next.get(one);
@@ -248,7 +255,8 @@ impl Kernel {
         self.merged.set(other >> 1, after);
     }
 
-    // Removes edges at vertices of degree one, merges those at degree two, and removes parallel ones, until none stay.
+    // Reduces the graph of `links` until no vertex has degree one or two: removes edges at vertices of degree one, and
+    // merges the two at a vertex of degree two.
     fn reduce(&mut self, links: &mut Links) {
         self.waiting = 0;
         for vertex in 0..links.vertices {

@@ -45,7 +45,8 @@ impl Tables {
         self.test.begin(&mut self.edges, graph);
     }
 
-    // Reduces the links, after a conflict of the test, to edges that are a subdivision of K5 or K3,3.
+    // Replaces the links of the test, which has met a conflict, by those of the edges of a subdivision of K5 or K3,3.
+    // That it is one is not checked.
     fn shrink(&mut self) {
         self.marks.mark_conflict(&self.test);
         self.kernel

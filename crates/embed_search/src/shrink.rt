@@ -13,7 +13,8 @@ const FEW_EDGES: u32 = 12;
 // How many roots are tried beside the first.
 const MOST_ROOTS: u32 = 2;
 
-// Tests the kernel without edge `out`, or whole. If nonplanar, keeps only the edges that show it, and returns true.
+// Tests `kernel` without the edge `out`, or whole if `out` is NONE. If nonplanar, keeps in it only the edges that show
+// it, and returns true. It overwrites `test` and `marks`.
 fn fails_without(
     kernel: &mut Kernel,
     test: &mut LeftRightTest,
@@ -30,8 +31,8 @@ fn fails_without(
     true
 }
 
-// Removes the edge `out` from the kernel if the rest is nonplanar, and says whether it did. A rest of fewer than nine
-// paths is planar; one of nine that is nonplanar is K3,3, which needs them all.
+// Removes the edge `out` from `kernel` if the rest is nonplanar, and says whether it did. A rest of fewer than nine
+// paths is planar; one of nine that is nonplanar is K3,3, which needs them all. It overwrites `test` and `marks`.
 fn is_left_out(
     kernel: &mut Kernel,
     test: &mut LeftRightTest,
@@ -54,7 +55,9 @@ fn is_left_out(
     fails_without(kernel, test, marks, out)
 }
 
-// Tests the whole kernel while that makes it smaller, from another root where it does not.
+// Tests `kernel` whole, and keeps the edges that show the conflict, as long as that makes it smaller. Where it does
+// not, `MOST_ROOTS` other roots are tried. Fewer than `FEW_EDGES` edges stay as they are. It overwrites `test` and
+// `marks`.
 fn narrow(kernel: &mut Kernel, test: &mut LeftRightTest, marks: &mut ConflictMarks) {
     let mut roots = 0u32;
     for _ in 0..MOST_TESTS {
@@ -72,7 +75,7 @@ fn narrow(kernel: &mut Kernel, test: &mut LeftRightTest, marks: &mut ConflictMar
     }
 }
 
-/// Removes from the nonplanar kernel all edges that are not needed for its nonplanarity.
+/// Removes from `kernel`, which is nonplanar, all edges that are not needed for that. It overwrites `test` and `marks`.
 pub fn shrink(kernel: &mut Kernel, test: &mut LeftRightTest, marks: &mut ConflictMarks) {
     narrow(kernel, test, marks);
     for _ in 0..MOST_TESTS {

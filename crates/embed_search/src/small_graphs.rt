@@ -20,7 +20,7 @@ fn bit(vertex: u32) -> u32 {
     BITS[vertex as usize % 8]
 }
 
-// Says whether there is a K3,3, by the neighbours `near` as bits: all of one side are neighbours of all of the other.
+// Says whether a graph of at most six vertices contains K3,3. `near` has for each vertex its neighbours, as bits.
 fn has_k33(near: &[u32; 8]) -> bool {
     for place in 0..SIDES.len() {
         let side = SIDES[place];
@@ -39,7 +39,8 @@ fn has_k33(near: &[u32; 8]) -> bool {
     false
 }
 
-// Says whether there is a K5, or one with one edge subdivided, by the neighbours `near` as bits.
+// Says whether a graph of at most six vertices contains K5, or K5 with one edge subdivided. `near` has for each vertex
+// its neighbours, as bits.
 fn has_k5(near: &[u32; 8]) -> bool {
     for vertex in 0..MOST_VERTICES {
         let others = ALL ^ bit(vertex);

@@ -50,7 +50,7 @@ impl Branches {
         self.places.set(vertex, place);
     }
 
-    // Makes the vertices of degree above two the branch vertices, in rising order.
+    // Replaces the branch vertices by the vertices of `links` with a degree above two, in rising order.
     fn take(&mut self, links: &Links) {
         self.count = 0;
         for vertex in 0..links.vertices {
@@ -61,7 +61,8 @@ impl Branches {
         }
     }
 
-    // Returns for each branch index from `from` on the first dart of a path to it from index `place`, or `NONE`.
+    // Returns an array by branch index: from index `from` on the first dart of a path there from the branch vertex at
+    // `place`, or `NONE`. A path goes on over vertices of degree two.
     fn darts_from(&self, links: &Links, place: u32, from: u32) -> [u32; 8] {
         let mut found = [NONE; 8];
         let vertex = self.vertices.get(place);
@@ -85,7 +86,8 @@ impl Branches {
         found
     }
 
-    // Takes the six branch vertices of `others` sorted by sides of K3,3: first those that no path joins to the first.
+    // Replaces the branch vertices by the six of `others`, sorted by sides of K3,3: first those that no path of `links`
+    // joins to the first one.
     fn take_in_parts(&mut self, links: &Links, others: &Branches) {
         self.count = 6;
         let darts = others.darts_from(links, 0, 0);
@@ -154,7 +156,7 @@ impl Ways {
         }
     }
 
-    // Appends the path that begins with `dart`.
+    // Appends the path that begins with `dart` and goes on over vertices of degree two to a branch vertex.
     fn follow(&mut self, links: &Links, dart: u32) {
         self.push(links.tail(dart));
         let mut dart = dart;
@@ -170,7 +172,8 @@ impl Ways {
         self.paths = plus(self.paths, 1);
     }
 
-    // Makes these the paths of a `kind` between `branches`, in its order of pairs. Says whether all are there.
+    // Replaces the paths by those of `links` between `branches`, one for each pair that a subdivision of `kind` joins,
+    // in order. Returns false where one is missing.
     fn take(&mut self, links: &Links, branches: &Branches, kind: Kind) -> bool {
         self.count = 0;
         self.paths = 0;
@@ -233,7 +236,8 @@ impl Tracer {
         self.spent = Some(witness);
     }
 
-    // Returns a witness of `kind`, to be filled, in kept memory if there is some, else with room for the paths.
+    // Returns a witness of `kind`, to be overwritten: the kept one, or else a new one with room for the paths. It fails
+    // only when out of memory.
     fn take_spent(
         &mut self,
         alloc: Global,
@@ -261,7 +265,7 @@ impl Tracer {
         }
     }
 
-    /// Returns the witness that the linked edges are, or None where they are no subdivision of K5 or K3,3. It fails
+    /// Returns the witness that the edges of `links` are, or None where they are no subdivision of K5 or K3,3. It fails
     /// only when out of memory.
     pub fn traced(&mut self, alloc: Global, links: &Links) -> Result<Option<Witness>, AllocError> {
         self.branches.take(links);
@@ -280,7 +284,8 @@ impl Tracer {
     }
 }
 
-// Returns the witness with these branches, of the kind and in the memory of `spent`, or None where a path is missing.
+// Returns the witness with these `branches` and the paths of `links` between them, of the kind and in the memory of
+// `spent`. Returns None where a path is missing. `ways` is working room. It fails only when out of memory.
 fn filled(
     links: &Links,
     ways: &mut Ways,

@@ -38,7 +38,7 @@ pub enum Columns {
     NoMemory,
 }
 
-// Returns the numbers that `words` are.
+// Returns the numbers that `words` are, 0 for a word that is none. It fails only when out of memory.
 fn integers(alloc: Global, words: &[Word]) -> Result<Ints, AllocError>
     ensures { IfOk result (λ list. list ≡ map integer_of words.now) }
 {
@@ -49,7 +49,8 @@ fn integers(alloc: Global, words: &[Word]) -> Result<Ints, AllocError>
     Ok(list)
 }
 
-// Returns the numbers of `line`, that of the columns, where they are plainly written, with no words kept; else None.
+// Returns the numbers of `line`, that of the columns, if they are plainly written, without keeping words; else None. It
+// fails only when out of memory.
 fn plain_columns(alloc: Global, line: &[u8]) -> Result<Option<Ints>, AllocError>
     ensures { IfOk result (λ found. IfSome found (λ list. IsColumnsLine (words_of line.now) × ColumnsInRange (words_of line.now) × (list ≡ columns_of (words_of line.now)))) }
 {
@@ -108,7 +109,7 @@ pub fn draft_rects(made: Draft) -> Figure
     }
 }
 
-// Returns the vertices with the numbers of `list`.
+// Returns the ids of the vertices in `list`. It fails only when out of memory.
 fn ids_of(alloc: Global, list: &[u16]) -> Result<Vec<VertexId>, AllocError>
     ensures { IfOk result (λ v. v.items ≡ ids list.now) }
 {

@@ -39,8 +39,8 @@ fn part(line: &[u8], i: usize) -> &[u8]
     }
 }
 
-// Judges what stands after the job's word in the first line of a figure of this kind: the number of vertices, or for a
-// witness the graph's line.
+// Judges what is after the job's word in the first `line` of a figure of this `kind`, cut into `words`. That is the
+// number of vertices, or for a witness the graph6 line. It fails only when out of memory.
 fn tail_worth(alloc: Global, kind: Kind, line: &[u8], words: &[Word]) -> Result<Judged, AllocError>
     requires { words.now ≡ words_of line.now }
     ensures { IfOk result (Judges (IsTail (Some kind) line.now) (TailInRange (Some kind) line.now)) }
@@ -58,7 +58,8 @@ fn tail_worth(alloc: Global, kind: Kind, line: &[u8], words: &[Word]) -> Result<
     }
 }
 
-// Judges a first line by its `words` and the verdict `tail` on what stands after the job's word.
+// Judges the first line of a figure of this `kind` by its `words` and the verdict `tail` on what is after the job's
+// word.
 fn front_of(kind: Kind, words: &[Word], tail: Judged) -> Front
     ensures { (line : List ℕ) → words.now ≡ words_of line → kind_of words.now ≡ Some kind
         → Judges (IsTail (Some kind) line) (TailInRange (Some kind) line) tail → IsFrontBy line result }
@@ -82,7 +83,7 @@ fn front_of(kind: Kind, words: &[Word], tail: Judged) -> Front
 // The most words that the first line of a figure has.
 const MOST_WORDS: usize = 5;
 
-// Returns the words of `line`, or None where they are more than a first line has.
+// Returns the words of `line`, or None if there are more than a first line has. It fails only when out of memory.
 fn few_words(alloc: Global, line: &[u8]) -> Result<Option<Vec<Word>>, AllocError>
     ensures { IfOk result (λ found. MatchOption found (5 < length (words_of line.now)) (λ v. v.items ≡ words_of line.now)) }
 {

@@ -214,7 +214,8 @@ fn is_vertex_line(kind: Kind, place: usize, words: &[Word]) -> bool
             .all(|word| is_natural_word(*word))
 }
 
-// Says whether the numbers of a line with a due shape are within their ranges.
+// Says whether the numbers among `words` are within their ranges, where these have the shape of a line of a figure of
+// `kind`.
 fn is_vertex_line_in_range(kind: Kind, words: &[Word]) -> bool
     ensures { IsTrue result ↔ RowInRange kind words.now }
 {
@@ -253,7 +254,8 @@ pub fn is_count_in_range(words: &[Word]) -> bool
     1 <= size_of(word(words, 3)) && size_of(word(words, 3)) <= u32::from(MOST_VERTICES)
 }
 
-// Returns the verdict on a line: by whether it has the due `shape`, and whether its numbers are in `range`.
+// Returns the verdict on a line: `Bad` unless it has the due `shape`, else `Limit` unless its numbers are in `range`,
+// else `Good`.
 pub fn worth(shape: bool, range: bool) -> Judged
     ensures { result ≡ (if shape then (if range then Judged.Good else Judged.Limit) else Judged.Bad) }
 {

@@ -54,7 +54,7 @@ pub enum Word {
 /// Stands for all numbers beyond the ranges.
 pub const FAR: u64 = 100_000_000;
 
-// Returns the number that the bytes of `word` are, if they are one.
+// Returns the number that `word` is in decimal, without sign or leading zeros, or `FAR` where that is less; else None.
 fn number(word: &[u8]) -> Option<u32>
     ensures { result ≡ number_of word.now }
 {
@@ -67,7 +67,7 @@ fn number(word: &[u8]) -> Option<u32>
     }
 }
 
-// Returns the signed number that the bytes of `word` are, if they are one.
+// Returns the number that `word` is in decimal, with or without a minus, or None. `-0` is no number.
 fn signed_number(word: &[u8]) -> Option<Signed>
     ensures { result ≡ signed_of word.now }
 {
@@ -90,7 +90,7 @@ fn signed_number(word: &[u8]) -> Option<Signed>
     }
 }
 
-// Reads the bytes of `word` as a signed number, or one before a colon, or else as `Other`.
+// Converts the bytes `word` to a signed number, to one before a colon, or else to `Other`.
 fn numeral(word: &[u8]) -> Word
     ensures { result ≡ numeral_word (signed_of word.now) (closing_of word.now) }
 {
@@ -152,7 +152,7 @@ fn word_of_name(bytes: &[u8]) -> Word
     }
 }
 
-// Says whether `word` begins with a byte below all letters of names, as numbers do.
+// Says whether `word` begins with a byte below `K`, as all numbers do and no name does.
 fn is_low(word: &[u8]) -> bool
     ensures { result ≡ (nat_lt 0 (length word.now) && nat_lt (slice_index word.now 0) 75) }
 {
@@ -162,7 +162,7 @@ fn is_low(word: &[u8]) -> bool
     }
 }
 
-// Reads the bytes of `word`. The words within the lines of vertices are tested first.
+// Converts the bytes `word` to the `Word` that they are. The names within the lines of vertices are tested first.
 fn read_word(word: &[u8]) -> Word
     ensures { result ≡ word_meant word.now }
 {

@@ -11,8 +11,8 @@ use map_lists::ItemLists;
 use pg_plane::Ints;
 use std::alloc::AllocError;
 
-// Returns the vertex number that begins at index `at`, where it is plainly written. That it does not begin with 0 is
-// tested first, so that it needs no other test for that.
+// Returns the vertex number that begins at index `at` of `line`, from 1 to 65535, if it is plainly written; else None.
+// That it does not begin with 0 is tested first, so that it needs no other test for that.
 #[inline(always)]
 fn vertex_at(line: &[u8], at: usize) -> Option<Digits>
     ensures { IfSome result (IsVertexAt line.now at) }
@@ -26,8 +26,7 @@ fn vertex_at(line: &[u8], at: usize) -> Option<Digits>
     }
 }
 
-// Returns the vertex number that begins at index `at`, where a space follows at most four digits. It takes fewer
-// instructions than `vertex_at`.
+// Like [`vertex_at`], but only if a space follows at most four digits. It takes fewer instructions.
 #[inline(always)]
 fn short_vertex_at(line: &[u8], at: usize) -> Option<Digits>
     ensures { IfSome result (IsVertexAt line.now at) }
@@ -41,7 +40,7 @@ fn short_vertex_at(line: &[u8], at: usize) -> Option<Digits>
     }
 }
 
-// Converts a vertex number from 1 to a vertex from 0.
+// Converts `number`, which counts vertices from 1, to the vertex, which counts from 0.
 fn vertex(number: u32) -> u16
     requires least { 1 ≤ number }
     requires most { number ≤ 65535 }
@@ -75,7 +74,7 @@ pub fn push_plain(line: &[u8], start: usize, lists: &mut ItemLists<u16>) -> Resu
     Ok(false)
 }
 
-// Returns the coordinate that begins at index `at`, where it is plainly written.
+// Returns the coordinate that begins at index `at` of `line`, if it is plainly written and in range; else None.
 #[inline(always)]
 fn coordinate_at(line: &[u8], at: usize) -> Option<Digits>
     ensures { IfSome result (IsCoordinateAt line.now at) }
@@ -86,7 +85,8 @@ fn coordinate_at(line: &[u8], at: usize) -> Option<Digits>
     }
 }
 
-/// Returns the coordinate that begins at index `at`, where a space follows at most four digits.
+/// Returns the coordinate that begins at index `at` of `line`, if it has at most four digits and a space follows; else
+/// None.
 #[inline(always)]
 pub fn short_coordinate_at(line: &[u8], at: usize) -> Option<Digits>
     ensures { IfSome result (IsCoordinateAt line.now at) }
@@ -97,7 +97,7 @@ pub fn short_coordinate_at(line: &[u8], at: usize) -> Option<Digits>
     }
 }
 
-// Converts a number to a coordinate.
+// Converts `number` to a coordinate.
 fn coordinate(number: u32) -> i32
     requires { number ≤ 1048576 }
     ensures { result ≡ pos number }
@@ -105,8 +105,8 @@ fn coordinate(number: u32) -> i32
     number as i32
 }
 
-/// Appends to `list` the numbers that stand in `line` from index `start` on, and says whether all words there are
-/// coordinates, plainly written.
+/// Appends to `list` the numbers in `line` from index `start` on, and says whether all words there are coordinates,
+/// plainly written. If not, it appends those before the first other word.
 pub fn push_coordinates(line: &[u8], start: usize, list: &mut Ints) -> Result<bool, AllocError>
     ensures { IfOk result (λ good. OnTrue good (All (λ w. IsCoordinateWord w) (words_left line.now start)
         × (list.new ≡ list.old ++ map integer_of (words_left line.now start)))) }

@@ -78,7 +78,7 @@ pub(crate) struct Heading<'a> {
     pub ghost short: { length word.now ≤ 8 },
 }
 
-// Returns how many bytes the first line and the lines of the vertices take at most.
+// Returns how many bytes the first line and the vertex lines of a figure with these `lists` take at most.
 fn room_of<R: Numbered>(lists: &Rotations) -> Result<usize, AllocError>
     ensures { IfOk result (λ room. room ≡ 60 + 6 * sum_by length lists.now + fronts_room R.longest (length lists.now)) }
 {
@@ -130,7 +130,7 @@ pub fn print_figure(
     }
 }
 
-// Returns how many bytes the text of a visibility drawing takes at most.
+// Returns how many bytes the text of a visibility drawing with these `lists` and `columns` takes at most.
 fn bars_room(lists: &Rotations, columns: &Ints) -> Result<usize, AllocError>
     ensures { IfOk result (λ room. room ≡ 60 + 6 * sum_by length lists.now + fronts_room 62 (length lists.now) + (12 * length columns.now + 8)) }
 {
@@ -175,7 +175,8 @@ impl Printer {
         }
     }
 
-    // Makes room for a text of `room` bytes, and keeps the texts of most numbers of a drawing of `n` vertices.
+    // Lengthens `self.bytes` to at least `room` bytes, with any content. Extends the table of number texts up to n +
+    // 512, or 2n where that is less, for a drawing of `n` vertices. It fails only when out of memory.
     fn prepare(&mut self, n: usize, room: usize) -> Result<(), AllocError>
         ensures { OnOk result (room ≤ length self.new.bytes.items) }
     {
@@ -187,7 +188,7 @@ impl Printer {
         Ok(())
     }
 
-    // Appends the first line and the lines of the vertices of `figure` to `out`.
+    // Appends the first line and the vertex lines of `figure` to `out`. When memory runs out `out` is unchanged.
     fn print_lines<R: Numbered>(
         &mut self,
         heading: &Heading<'_>,

@@ -142,7 +142,8 @@ impl VertexLine<'_> {
         true
     }
 
-    // Reads the front of a straight-line drawing's line like `any_front`, with no loop, which takes fewer instructions.
+    // Reads the front of a straight-line drawing's line into `front` like `any_front`, with no loop, which takes fewer
+    // instructions.
     #[inline(always)]
     fn grid_front(&self, front: &mut LineFront) -> bool
         ensures { IsFrontOf [] self.now.place self.now.line.now front.old → IsTrue result → IsFrontOf grid_pieces self.now.place self.now.line.now front.new }
@@ -153,7 +154,7 @@ impl VertexLine<'_> {
             && self.with_piece(front, 3, Piece::Last)
     }
 
-    // Reads the front of a line of a visibility drawing like `any_front`, with no loop.
+    // Reads the front of a visibility drawing's line into `front` like `any_front`, with no loop.
     #[inline(always)]
     fn bar_front(&self, front: &mut LineFront) -> bool
         ensures { IsFrontOf [] self.now.place self.now.line.now front.old → IsTrue result → IsFrontOf bar_pieces self.now.place self.now.line.now front.new }

@@ -130,7 +130,8 @@ impl Values for LineFront {
     }
 }
 
-// Appends to `draft` the numbers that stand before the vertices of a line of a figure of this kind.
+// Appends to `draft` the numbers before the vertices, which `values` has, of a line of a figure of this `kind`. It
+// fails only when out of memory.
 #[inline(always)]
 fn push_values<V: Values>(kind: Kind, values: &V, draft: &mut Draft) -> Result<(), AllocError>
     requires { (i : ℕ) → i < 7 → V.Has values.now i }
@@ -154,7 +155,7 @@ fn push_values<V: Values>(kind: Kind, values: &V, draft: &mut Draft) -> Result<(
     Ok(())
 }
 
-// Returns the point that the numbers of a vertex line give.
+// Returns the point that the numbers `values` of a line of a straight-line drawing give.
 #[inline(always)]
 fn point<V: Values>(values: &V) -> Point
     requires { V.Has values.now 2 × V.Has values.now 3 }
@@ -166,7 +167,8 @@ fn point<V: Values>(values: &V) -> Point
     }
 }
 
-// Appends to `draft` the list and the numbers that the `words` of a line give.
+// Appends to `draft` the list and the numbers that the `words` of a good line of a figure of this `kind` give. It fails
+// only when out of memory.
 fn push_row(kind: Kind, words: &Vec<Word>, draft: &mut Draft) -> Result<(), AllocError>
     requires { RowInRange kind words.now.items }
     ensures { OnOk result (draft.new ≡ with_row kind draft.old words.now.items) }
@@ -176,8 +178,9 @@ fn push_row(kind: Kind, words: &Vec<Word>, draft: &mut Draft) -> Result<(), Allo
 }
 
 impl VertexLine<'_> {
-    // Appends to `draft` what this line gives, by the words of its front, and says whether it is found good. Its
-    // neighbours must be plainly written, and are not kept as words. Else the draft is as it was.
+    // Appends to `draft` what this line gives, and says whether it is found good. The words of its front are kept in
+    // `found`; its neighbours have to be plainly written, and are not kept as words. If not good, the draft is as it
+    // was.
     fn push_by_words(&self, found: &mut Vec<Word>, draft: &mut Draft) -> Result<bool, AllocError>
         ensures good { IfOk result (λ good. OnTrue good (IsRow self.now.kind self.now.place (words_of self.now.line.now)
             × RowInRange self.now.kind (words_of self.now.line.now)
@@ -196,8 +199,9 @@ impl VertexLine<'_> {
         Ok(true)
     }
 
-    /// Appends to `draft` what this line gives, where it is found good at sight, and says whether it is. Where it is
-    /// not, the draft is as it was, and the line may still be good. No words are kept of plainly written numbers.
+    /// Appends to `draft` what this line gives, if it is found good at sight, and says whether it is. If not, the draft
+    /// is as it was, and the line may still be good. `found` is room for the words of a front that is not plainly
+    /// written.
     #[inline(always)]
     pub fn quick(&self, found: &mut Vec<Word>, draft: &mut Draft) -> Result<bool, AllocError>
         ensures good { IfOk result (λ good. OnTrue good (IsRow self.now.kind self.now.place (words_of self.now.line.now)

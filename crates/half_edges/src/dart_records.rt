@@ -31,7 +31,8 @@ impl DartSlot for DartRecord {
 
     ghost IsInLine = { IsInLine };
 
-    // Returns the record of the live dart at index `place`, linked in line between the darts before and after it.
+    // Returns the record of a live dart at index `place`, whose previous and next dart are those at the indices before
+    // and after it.
     fn new(tail: u16, twin: u32, place: u32) -> DartRecord {
         DartRecord {
             twin,
@@ -82,7 +83,8 @@ pub(crate) fn dart_to(darts: &[DartRecord], first: u32, degree: u16, head: u16) 
     None
 }
 
-// Links the first and the last of the darts `start..end`, which stand in line, to form a cycle round their vertex.
+// Links the first and the last of the `darts` from index `start` up to `end`, which stand in line, so that they form a
+// cycle round their vertex.
 fn close_round(darts: &mut [DartRecord], start: u32, end: u32)
     requires order { start ≤ end }
     requires within { end ≤ length darts.old }
@@ -96,8 +98,8 @@ fn close_round(darts: &mut [DartRecord], start: u32, end: u32)
     }
 }
 
-// Links the darts of each vertex to a cycle, and makes `vertices` their records. `ends[v]` is the index after the
-// last dart of vertex `v`. It fails only when out of memory.
+// Links `darts` to a cycle for each vertex, and makes `vertices` their records. `ends[v]` is the index after the last
+// dart of vertex `v`. It fails only when out of memory.
 fn close_rounds(
     ends: &[usize],
     darts: &mut [DartRecord],
@@ -126,7 +128,7 @@ fn close_rounds(
     Ok(())
 }
 
-// Links the darts of `lists`, in line and with known tails and twins, to cycles round their vertices, and makes
+// Links `darts`, those of `lists` in line, with known tails and twins, to cycles round their vertices, and makes
 // `vertices` the vertex records. It fails only when out of memory.
 pub(crate) fn link_darts(
     lists: &Rotations,
@@ -142,8 +144,8 @@ pub(crate) fn link_darts(
     Ok(())
 }
 
-// Links the dart `d`, now live and with this `tail`, between the darts `before` and `after`. Both are `d` itself
-// where it is the only one.
+// Links the dart `d` of `darts`, now live and with this `tail`, between the darts `before` and `after`. Both are `d`
+// itself where it is the only one.
 pub(crate) fn splice(darts: &mut [DartRecord], d: u32, before: u32, after: u32, tail: u16)
     requires d_in { d < length darts.old }
     requires before_in { before < length darts.old }
@@ -164,7 +166,7 @@ pub(crate) fn splice(darts: &mut [DartRecord], d: u32, before: u32, after: u32, 
     darts[after as usize].prev = d;
 }
 
-// Unlinks the dart `d` from between the previous and the next dart round its tail. It is no longer live.
+// Unlinks the dart `d` of `darts` from between the previous and the next dart round its tail. It is no longer live.
 pub(crate) fn unsplice(darts: &mut [DartRecord], d: u32)
     requires d_in { d < length darts.old }
     requires prev_in { prev_of darts.old d < length darts.old }
@@ -177,7 +179,8 @@ pub(crate) fn unsplice(darts: &mut [DartRecord], d: u32)
     darts[d as usize].live = false;
 }
 
-// Puts the edge of `d` and `twin` at the front of the free edges' list, which begins at `free` and has `spare` edges.
+// Puts the edge of `d` and `twin` at the front of the list of free edges in `darts`. That list begins at the dart
+// `free` and has `spare` edges.
 pub(crate) fn thread(darts: &mut [DartRecord], d: u32, twin: u32, free: u32, spare: u32)
     requires d_in { d < length darts.old }
     requires twin_in { twin < length darts.old }

@@ -124,7 +124,8 @@ fn first_without(first: u32, d: u32, next: u32) -> u32
     if first == d { next } else { first }
 }
 
-// Unlinks the dart `d` from its tail, and lowers that vertex's degree.
+// Unlinks the dart `d` of `darts` from its tail, and updates the degree and the first dart of that vertex in
+// `vertices`.
 fn take_out(darts: &mut [DartRecord], vertices: &mut [VertexRecord], d: u32)
     requires d_in { d < length darts.old }
     requires prev_in { prev_of darts.old d < length darts.old }
@@ -142,7 +143,8 @@ fn take_out(darts: &mut [DartRecord], vertices: &mut [VertexRecord], d: u32)
     };
 }
 
-// Removes the edge of the dart `d`, puts it at the front of the free edges, and returns its ends.
+// Removes the edge of the dart `d` from `darts` and `vertices`, and returns its ends. The edge comes to the front of
+// the list of free edges, which begins at the dart `free` and has `spare` edges.
 fn take_edge(
     darts: &mut [DartRecord],
     vertices: &mut [VertexRecord],
@@ -165,7 +167,7 @@ fn take_edge(
     ends
 }
 
-// Links the dart `d` in at `corner`, and raises that vertex's degree.
+// Links the dart `d` of `darts` in at `corner`, and raises the degree of that vertex in `vertices`.
 #[inline(always)]
 fn put_dart(darts: &mut [DartRecord], vertices: &mut [VertexRecord], d: u32, corner: Corner)
     requires d_in { d < length darts.old }
@@ -188,8 +190,8 @@ fn put_dart(darts: &mut [DartRecord], vertices: &mut [VertexRecord], d: u32, cor
     }
 }
 
-// Links the two darts of the first free edge, `d` and its twin, in at the corners `at_u` and `at_v`. Only the
-// contract needs `spare`.
+// Links the two darts of the first free edge in `darts`, `d` and its twin, in at the corners `at_u` and `at_v`, with
+// their records in `vertices`. Only the contract needs `spare`.
 #[inline(always)]
 fn put_edge(
     darts: &mut [DartRecord],
@@ -221,7 +223,8 @@ fn first_free_behind(darts: &[DartRecord], free: u32, spare: u32) -> u32
     darts[free as usize].next
 }
 
-// Appends the records of `more` free edges, puts these before the `spare` free ones, and returns a dart of the first.
+// Appends the records of `more` free edges to `darts`, in front of the list of free edges, which begins at the dart
+// `free` and has `spare` edges. Returns the dart at which it then begins.
 fn push_free(darts: &mut Vec<DartRecord>, free: u32, spare: u32, more: u32) -> u32
     requires room { vec_len darts.old + 2 * more ≤ vec_capacity darts.old }
     requires few { vec_len darts.old + 2 * more ≤ 67108864 }

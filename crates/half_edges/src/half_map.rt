@@ -88,7 +88,7 @@ impl MapMemory {
         })
     }
 
-    /// Takes over the memory of `map`, which is no longer needed.
+    /// Keeps the memory of the half-edge map `map`, which is no longer needed, for the next one that is made.
     pub fn keep(&mut self, map: HalfMap) {
         self.darts = map.darts;
         self.vertices = map.vertices;
@@ -138,7 +138,7 @@ impl MapMaker {
         Ok(map)
     }
 
-    /// Takes over the memory of `map`, which is no longer needed.
+    /// Keeps the memory of the half-edge map `map`, which is no longer needed, for the next one that is made.
     pub fn keep(&mut self, map: HalfMap) {
         self.memory.keep(map);
     }

@@ -85,8 +85,8 @@ impl<'a> RootedForest<'a> {
         after_steps(self.parents, edge.from, low - high - 1) == end
     }
 
-    /// Says whether an edge returns from `vertex` by the vertex's edge to `end`. Then the way up from `vertex` leads to
-    /// its upper end, and the way down to its lower end begins with that edge.
+    /// Says whether `edge` returns from `vertex` by the vertex's edge to `end`. Then the way up from `vertex` leads to
+    /// the upper end of `edge`, and the way down to its lower end begins with that edge to `end`.
     pub(crate) fn returns_by(&self, vertex: u16, end: u16, edge: ReturnEdge) -> bool
         ensures { IsTrue result → ReturnsBy self.now.graph.now self.now.parents.now self.now.depths.now vertex end edge.from edge.to }
     {

@@ -5,7 +5,8 @@ ghost use Rattle.left_right_lists.specs.Blocks.{IsRun, uppers as uppers_of, left
 use map_lists::ItemLists;
 use std::alloc::{AllocError, Global};
 
-// Returns the first index from `from` on whose return edge does not end at `v` if `ends` is set, or does if it is not.
+// Returns where the interval of `ds` from index `from` on ends in which all return edges end at `v`, if `ends` is set,
+// or none does, if it is not.
 fn run_end(ds: &[(u16, u16)], from: usize, v: u16, ends: bool) -> usize
     requires { from ≤ length ds.now }
     ensures after { from ≤ result }
@@ -31,7 +32,8 @@ fn push_lower_ends(list: &mut Vec<u16>, ds: &[(u16, u16)]) -> Result<(), AllocEr
     Ok(())
 }
 
-/// Appends to `list` the entries at `v` for child `u`: the ends of those `ds` that return to `v`, on both sides of `u`.
+/// Appends to `list` the entries at `v` for its child `u`. Before `u` and after it are the lower ends of those return
+/// edges at the front and at the back of `ds` that end at `v`, both reversed.
 pub(crate) fn push_block(
     list: &mut Vec<u16>,
     ds: &[(u16, u16)],

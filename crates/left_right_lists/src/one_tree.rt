@@ -1,4 +1,4 @@
-//! A forest grown into one tree: the roots of its other trees become children of one root.
+//! A forest of a graph joined into one tree: the roots of its other trees become children of one root.
 ghost use Rattle.std.specs.Prelude.{◌≡◌, ◌<◌, ℕ, slice_index, IfOk};
 ghost use Rattle.left_right_lists.specs.Trees.{IsTabled, is_other as is_in_other, grown_depth, grown_parent};
 
@@ -15,7 +15,7 @@ pub(crate) struct OneTree<'a> {
 }
 
 impl<'a> OneTree<'a> {
-    // Says whether `v` is in another tree of the forest than `root`.
+    // Says whether the root of `v` in the forest is another than `self.root`, so that it becomes a child of that one.
     fn is_other(&self, v: u16) -> bool
         ensures { result ≡ is_in_other self.now.parents.now self.now.depths.now self.now.root v }
     {
@@ -23,7 +23,7 @@ impl<'a> OneTree<'a> {
         top != self.root
     }
 
-    // Returns the depth of `v` once the other roots are children of `root`.
+    // Returns the depth of `v` in the one tree, where the other roots are children of `self.root`.
     fn depth(&self, v: u16) -> u16
         ensures { result ≡ grown_depth self.now.parents.now self.now.depths.now self.now.root v }
     {
@@ -31,7 +31,7 @@ impl<'a> OneTree<'a> {
         if self.is_other(v) { depth + 1 } else { depth }
     }
 
-    // Returns the parent of `v` once the other roots are children of `root`.
+    // Returns the parent of `v` in the one tree, where the other roots are children of `self.root`.
     fn parent(&self, v: u16) -> u16
         ensures { result ≡ grown_parent self.now.parents.now self.now.depths.now self.now.root v }
     {
@@ -42,7 +42,7 @@ impl<'a> OneTree<'a> {
         }
     }
 
-    /// Returns the depths of `n` vertices in the tree to which the forest is grown. It fails only when out of memory.
+    /// Returns the depths in the one tree of the vertices below `n`. It fails only when out of memory.
     pub(crate) fn all_depths(&self, alloc: Global, n: u16) -> Result<Vec<u16>, AllocError>
         ensures { IfOk result (λ table. IsTabled (grown_depth self.now.parents.now self.now.depths.now self.now.root) table.items n) }
     {
@@ -53,7 +53,7 @@ impl<'a> OneTree<'a> {
         Ok(table)
     }
 
-    /// Returns the parents of `n` vertices in the tree to which the forest is grown. Fails only when out of memory.
+    /// Returns the parents in the one tree of the vertices below `n`. It fails only when out of memory.
     pub(crate) fn all_parents(&self, alloc: Global, n: u16) -> Result<Vec<u16>, AllocError>
         ensures { IfOk result (λ table. IsTabled (grown_parent self.now.parents.now self.now.depths.now self.now.root) table.items n) }
     {

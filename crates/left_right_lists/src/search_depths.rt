@@ -8,7 +8,8 @@ use left_right_check::entry;
 use map_lists::Rotations;
 use std::alloc::{AllocError, Global};
 
-/// Returns the depths of a search's vertices: one more than the parent's, or 0 for none. Fails only when out of memory.
+/// Returns the depth of each vertex in `forest`, a search of `lists`: one more than its parent's, or 0 for a root. It
+/// fails only when out of memory.
 pub(crate) fn depths_of(
     alloc: Global,
     lists: &Rotations,

@@ -6,8 +6,8 @@ ghost use Rattle.left_right_lists.specs.Groups.{Demand, IsPlaced, Fits, AreMerge
 use left_right_check::turned;
 use std::alloc::{AllocError, Global};
 
-/// Returns entry 256 t + w of `groups` for the return edge `d` from t up to w: the number of its group, and whether it
-/// is on the side opposite to the group's. For an entry past the table it returns `(0, false)`.
+/// Returns the entry of `groups` for the return edge `d` from t up to w, at index 256 t + w. That is the number of its
+/// group, and whether it is on the side opposite to the group's; past the table it is `(0, false)`.
 pub(crate) fn group(groups: &[(u32, bool)], d: (u16, u16)) -> (u32, bool)
     ensures { result ≡ group_of groups.now d }
 {
@@ -20,7 +20,7 @@ pub(crate) fn group(groups: &[(u32, bool)], d: (u16, u16)) -> (u32, bool)
 }
 
 // Merges the groups of the edges `a` and `b` in `groups`, so that both edges are on one side, or on different ones if
-// `turn` is set. Returns false where they are in one group already, and not so.
+// `turn` is set. Returns false, and changes nothing, where one group already has them otherwise.
 fn tie(groups: &mut [(u32, bool)], a: (u16, u16), b: (u16, u16), turn: bool) -> bool
     requires long { length groups.old ≡ 65536 }
     requires one { IsPlaced a }
@@ -45,7 +45,7 @@ fn tie(groups: &mut [(u32, bool)], a: (u16, u16), b: (u16, u16), turn: bool) -> 
 }
 
 /// Merges the groups of all edges of `demands` in `groups`, each on the side that its flag says. Returns false where
-/// that contradicts their groups.
+/// that contradicts `groups`, in which some may have been merged by then.
 pub(crate) fn tie_all(groups: &mut [(u32, bool)], demands: &[((u16, u16), bool)]) -> bool
     requires long { length groups.old ≡ 65536 }
     requires placed { (d : Demand) → Contains demands.now d → IsPlaced d.0 }

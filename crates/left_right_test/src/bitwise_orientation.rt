@@ -113,8 +113,8 @@ impl Few {
         }
     }
 
-    // Reads the edges from one vertex to lesser ones, given as bits: the last bit of `row` is that of the vertex
-    // before it. It fills the neighbour sets and, in `links`, the heads of the darts.
+    // Reads the edges from the vertex of `at` to lesser ones, given as the bits of `row`, of which the lowest is for
+    // the vertex just before it. Fills in the neighbour sets of both ends and, in `links`, the heads of the darts.
     #[inline(always)]
     fn take_row(&mut self, links: &mut Links, at: Pairs, row: u32) {
         let before = minus(at.vertex, 1);
@@ -168,7 +168,7 @@ impl Few {
         darts / 2
     }
 
-    // Returns the set of the heights of `vertices`, a set of vertices on the path to the search.
+    // Returns the heights of `vertices`, a set of vertices on the path from the root to the search, as a set.
     #[inline(always)]
     fn heights(search: &Search, vertices: u32) -> u32 {
         let mut rest = vertices;
@@ -180,7 +180,8 @@ impl Few {
         heights
     }
 
-    // Chains the return edges from `vertex` to ancestors at `heights`, by rising height, as the darts that leave it.
+    // Chains in `search` the return edges from `vertex` to ancestors at `heights`, by rising height, as the darts that
+    // leave it.
     #[inline(always)]
     fn chain_returns(&self, search: &mut Search, vertex: u32, heights: u32) {
         let mut rest = heights;
@@ -201,7 +202,9 @@ impl Few {
         search.leaving.set(vertex, first);
     }
 
-    // Goes from `at` to its unreached neighbour `head`. `above` is the set of `head`'s neighbours that are ancestors.
+    // Moves the search from `at` to its unreached neighbour `head`, and returns the position there. Saves `at` in
+    // `self` by its height. In `search` it sets the parent and height of `head`, and chains the return edges from it.
+    // They lead to `above`, the set of its neighbours that are proper ancestors of the vertex of `at`.
     #[inline(always)]
     fn go_down(&mut self, search: &mut Search, at: Stand, head: u32, above: u32) -> Stand {
         let height = plus(at.height, 1);
@@ -220,7 +223,9 @@ impl Few {
         }
     }
 
-    // Goes back from `at` to its parent: the dart between, its lowpoint known, is put in order there.
+    // Moves the search from `at` back to its parent, and returns the position there, with the heights to which edges
+    // return joined. In `search` it sets the lowpoint of the dart between, and inserts it by nesting depth among those
+    // that leave the parent.
     #[inline(always)]
     fn go_up(&self, search: &mut Search, at: Stand) -> Stand {
         let height = minus(at.height, 1);
@@ -246,7 +251,8 @@ impl Few {
         }
     }
 
-    // Orients the tree of `root`. Returns the set of those `fresh` vertices that were not reached.
+    // Orients the edges of the component of `root` in `search`, by a depth-first search. `fresh` is the set of
+    // unreached vertices; returns those that are still unreached.
     fn orient_from(&mut self, search: &mut Search, root: u32, fresh: u32) -> u32 {
         let mut fresh = fresh ^ bit_of(root);
         // the set of vertices on the path to the search
@@ -279,8 +285,8 @@ impl Few {
         fresh
     }
 
-    /// Orients all edges as `orient_all` does from the first vertex on. Where that goes along a list from its last edge
-    /// to its first one, this takes the neighbours from the greatest to the least.
+    /// Orients all edges in `search`, like `orientation::orient_all` from the first vertex on. Where that goes along a
+    /// list from the last edge read to the first, this takes the neighbours from the greatest to the least.
     pub fn orient_all(&mut self, links: &Links, search: &mut Search) {
         search.root_count = 0;
         let mut fresh = minus(bit_of(links.vertices), 1);

@@ -153,7 +153,7 @@ impl Search {
         }
     }
 
-    // Pops the conflict pairs of `dart`. Returns the interval of its return edges that reach higher than the lowpoint
+    // Pops the conflict pairs of `dart`. Returns the interval of its return edges that return higher than the lowpoint
     // of the dart `parent`, if all are on one side. Returns None, and records it, where they need both sides.
     fn return_edges_of(&mut self, dart: u32, parent: u32) -> Option<Interval> {
         let mut right = EMPTY;
@@ -179,8 +179,9 @@ impl Search {
         Some(right)
     }
 
-    // Pushes one pair: on its right `right`, what returns along `dart`, and on its left all intervals that conflict
-    // with `dart`, which it pops. Returns false, and records it, where one pair conflicts on both sides.
+    // Pops all conflict pairs that conflict with `dart`, and pushes one pair instead. On its left are their conflicting
+    // intervals, on its right `right`, which returns along `dart`, and their other intervals. Returns false, and
+    // records it, where both intervals of a pair conflict.
     fn merge_conflicts(&mut self, right: Interval, dart: u32) -> bool {
         let low = self.lowpt.get(dart);
         let mut pair = ConflictPair { left: EMPTY, right };
@@ -209,8 +210,8 @@ impl Search {
         true
     }
 
-    // Merges `right`, the return edges along `dart`, with those along earlier darts of its vertex on the stack.
-    // Returns false where that is a conflict.
+    // Merges `right`, the return edges along `dart`, with those along earlier darts of its vertex on the stack. Returns
+    // false, and records it, where that is a conflict.
     #[inline(always)]
     fn merge_return_edges(&mut self, right: Interval, dart: u32) -> bool {
         if self.top_conflicts(self.lowpt.get(dart)) {
@@ -232,7 +233,8 @@ impl Search {
         fits
     }
 
-    // Puts return edge `dart` of `vertex` and what conflicts with it on the stack. Returns false if no sides fit them.
+    // Puts the return edge `dart` of `vertex` on the stack, merged with what conflicts with it. Returns false, and
+    // records it, where no sides fit them.
     #[inline(always)]
     fn take_edge(&mut self, dart: u32, vertex: u32) -> bool {
         let parent = self.parent.get(vertex);
@@ -255,8 +257,9 @@ impl Search {
         self.settled(fits, dart, vertex)
     }
 
-    // Integrates the return edges of a dart of a vertex along which the search came back: the side of the dart is that
-    // of the highest of them. Says whether they can be put on sides with earlier ones.
+    // Integrates the return edges along the tree dart `dart` of `vertex`, by which the search came back. The dart's
+    // side becomes relative to that of the highest of them. Returns false, and records it, where they conflict with
+    // those of earlier darts.
     #[inline(always)]
     fn integrate(&mut self, dart: u32, vertex: u32) -> bool {
         if self.lowpt.get(dart) >= self.height.get(vertex) {
@@ -337,8 +340,8 @@ fn leads_to(links: &Links, interval: Interval, vertex: u32) -> bool {
     !interval.is_empty() && links.head.get(interval.high) == vertex
 }
 
-// Runs the testing phase over the depth-first tree with root `root`, behind the orientation phase. It changes the
-// tables of `search`, and returns false where a conflict shows, which they hold then.
+// Runs the testing phase over the depth-first tree of `root`, after the orientation phase. Returns false at a conflict,
+// which the tables of `search` then hold.
 fn agrees_from(links: &Links, search: &mut Search, root: u32) -> bool {
     search.top = 0;
     let mut vertex = root;
@@ -372,8 +375,8 @@ fn agrees_from(links: &Links, search: &mut Search, root: u32) -> bool {
     false
 }
 
-/// Runs the testing phase: says whether the return edges can be put on two sides without a conflict. Else `search`
-/// holds where the conflict showed.
+/// Runs the testing phase in `search`: says whether the return edges can be put on two sides without a conflict. If
+/// not, `search` holds where the conflict showed.
 pub fn agrees(links: &Links, search: &mut Search) -> bool {
     search.ties.count = 0;
     for place in 0..search.root_count {

@@ -43,7 +43,7 @@ impl Forest {
     }
 }
 
-// Converts a number of 32 bits to a vertex by its last 16 bits.
+// Converts `number` to a vertex by its last 16 bits.
 #[inline(always)]
 fn vertex(number: u32) -> u16 {
     (number & 0xffff) as u16

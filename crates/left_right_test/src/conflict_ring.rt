@@ -69,7 +69,7 @@ impl OddRing {
     }
 
     // Searches along ties from `start` for the nearest return edge that the conflict binds, on the other side than
-    // `start`. Returns it, or NONE. It requires that none is reached yet.
+    // `start`. Returns it, or NONE. No return edge may be marked as reached before.
     fn nearest(&mut self, links: &Links, search: &Search, start: u32) -> u32 {
         self.reached = 0;
         self.reach(start, NONE, 0);

@@ -9,8 +9,8 @@ use crate::settled_sides::settle_leaving;
 use map_lists::Rotations;
 use std::alloc::AllocError;
 
-/// Where the twins of return edges stand: next to the dart along which the search came back by them, on its left or
-/// right. Also the rotation lists that are being made.
+/// The rotation lists being made, and where the twins of return edges go in them: left or right of the tree dart
+/// towards the tail of the return edge.
 #[derive(Drop)]
 pub struct Places {
     // for each vertex on the way to the search the first return edge whose twin is left of the way's dart out of it
@@ -41,7 +41,8 @@ impl Places {
         }
     }
 
-    // Puts the twin of the return edge `dart`, which leads to `head`, on the left or right of the tree dart there.
+    // Puts the return edge `dart` at the front of a chain of twins at `head`, to which it leads. That is left or right
+    // of the tree dart there, by its settled side in `search`.
     #[inline(always)]
     fn place_twin(&mut self, search: &Search, head: u32, dart: u32) {
         if search.side.get(dart) == 0 {
@@ -75,7 +76,8 @@ impl Places {
         place
     }
 
-    // Goes from `vertex` to its child `head`, whose first entry is `vertex`. Returns the next entry's index there.
+    // Moves from `vertex` to its child `head`: empties the chains of twins at `vertex`, and makes `vertex` the first
+    // entry of `head`. Returns the index of the next entry there.
     #[inline(always)]
     fn go_down(&mut self, vertex: u32, head: u32) -> u32 {
         self.left.set(vertex, NONE);
@@ -84,8 +86,8 @@ impl Places {
         self.put(start, vertex)
     }
 
-    // Goes back from `vertex` to its parent `above`, and writes it there between the twins on its left and right.
-    // Returns the index of the next entry there.
+    // Moves from `vertex` back to its parent `above`: writes there the tails of its left twins, `vertex`, and the tails
+    // of its right twins. Returns the index of the next entry there.
     #[inline(always)]
     fn go_up(&mut self, links: &Links, vertex: u32, above: u32) -> u32 {
         let left = self.left.get(above);
@@ -96,7 +98,9 @@ impl Places {
         self.put_tails(links, place, right)
     }
 
-    // Writes the lists of all vertices in the tree of `root`, and settles the sides of their darts.
+    // Writes the rotation lists of all vertices in the depth-first tree of `root` to `self.entries`, from the indices
+    // in `self.place` on, which become their ends. Settles the sides of their darts in `search`, and chains them in the
+    // order of rotation. Orientation and testing have to be done.
     fn list_from(&mut self, links: &Links, search: &mut Search, root: u32) {
         let mut vertex = root;
         let mut place = self.place.get(root);
@@ -129,7 +133,8 @@ impl Places {
         self.place.set(root, place);
     }
 
-    /// Settles the sides of all edges, and makes all lists. Each list has as many places as its vertex has darts.
+    /// Settles the sides of all edges in `search`, and writes the rotation lists of all vertices of `links`, which the
+    /// tests passed. The list of a vertex has as many entries as its degree.
     pub fn list_all(&mut self, links: &Links, search: &mut Search) {
         self.count = 0;
         for vertex in 0..links.vertices {
@@ -159,8 +164,9 @@ impl Places {
     }
 }
 
-/// Returns the end indices of `n` lists of `total` entries, as the table `told` has them, in the memory of `spent`.
-/// The last one is `total`. An end out of order is moved to the one before it. It fails only when out of memory.
+/// Returns the end indices of `n` lists of `total` entries, as the table `told` has them, in the memory of `spent`. The
+/// last one is `total`. An end below the one before it is raised to that one, and one above `total` is lowered to it.
+/// It fails only when out of memory.
 pub fn ends_of(
     told: &ByVertex,
     spent: Vec<usize>,

@@ -66,8 +66,8 @@ impl Edges {
         links.darts = twice(place.count);
     }
 
-    /// Reads the edges of a graph as bits. Says whether it has few vertices, and no more edges than a plane map; else
-    /// they are to be read as lists.
+    /// Reads the edges of `graph` into `few` as bits, and into the darts of `links`. Returns false if it has too many
+    /// vertices, or more edges than a plane map has: then they are to be read as lists, by `read`.
     pub fn read_few(&mut self, graph: &Graph, links: &mut Links, few: &mut Few) -> bool {
         if u32::from(graph.n()) > FEW {
             return false;

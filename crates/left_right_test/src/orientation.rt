@@ -27,7 +27,7 @@ const ABOVE: Stand = Stand {
 };
 
 impl Stand {
-    // Returns the position with these two lowpoints of the dart to its vertex.
+    // Returns the position with the lowpoints `low` and `second` of the dart to its vertex.
     #[inline(always)]
     fn with(self, low: u32, second: u32) -> Stand {
         Stand {
@@ -52,7 +52,8 @@ impl Stand {
     }
 }
 
-// Goes along `dart` from `at` to `head`, which was not reached, and writes down the lowpoints found so far.
+// Moves the search from `at` along `dart` to its unreached head `head`, and returns the position there. In `search` it
+// saves the lowpoints of `at`, and sets the parent and height of `head`.
 #[inline(always)]
 fn go_down(search: &mut Search, at: Stand, dart: u32, head: u32) -> Stand {
     let height = plus(at.height, 1);
@@ -70,7 +71,8 @@ fn go_down(search: &mut Search, at: Stand, dart: u32, head: u32) -> Stand {
     }
 }
 
-// Goes back from `at` to its parent: the lowpoints of the dart between are known, and the dart is put in order there.
+// Moves the search from `at` back to its parent, and returns the position there, with its lowpoints updated. In
+// `search` it sets the lowpoint of the dart between, and inserts it by nesting depth among those that leave the parent.
 #[inline(always)]
 fn go_up(links: &Links, search: &mut Search, at: Stand) -> Stand {
     let vertex = links.tail(at.parent);
@@ -89,7 +91,7 @@ fn go_up(links: &Links, search: &mut Search, at: Stand) -> Stand {
     above.with_returns(at.low, at.second)
 }
 
-// Orients all edges of the component of `root`, if it was not reached and has darts.
+// Orients all edges of the component of `root` in `search`. Does nothing if `root` was reached or has no darts.
 fn orient_from(links: &Links, search: &mut Search, root: u32) {
     let mut dart = links.first.get(root);
     if search.is_reached(root) || dart == NONE {
@@ -122,7 +124,8 @@ fn orient_from(links: &Links, search: &mut Search, root: u32) {
     }
 }
 
-/// Orients all edges, records roots in rising order, and sorts the darts leaving each vertex by rising nesting depth.
+/// Orients all edges in `search`, beginning at `search.root`. Records the roots in rising order, and sorts the darts
+/// that leave each vertex by rising nesting depth.
 pub fn orient_all(links: &Links, search: &mut Search) {
     search.height.fill(links.vertices, NONE);
     search.root_count = 0;

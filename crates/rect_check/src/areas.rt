@@ -20,7 +20,7 @@ fn product(u: i32, v: i32) -> i64
     i64::from(u) * i64::from(v)
 }
 
-// Returns `q` less `p`. Only the contract needs `n`.
+// Returns `q` less `p`, the length of an interval within 0 to n - 2. Only the contract needs `n`.
 fn distance(n: u16, p: i32, q: i32) -> i32
     requires { IsSpan n p q }
     ensures value { result ≡ q -ℤ p }

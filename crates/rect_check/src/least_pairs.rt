@@ -35,8 +35,8 @@ impl Rects<'_> {
         None
     }
 
-    // Returns the least vertex after `u` with which the contact is wrong: one of contact and edge is missing. It
-    // requires that a vertex without a mark is adjacent to all that share a side with it.
+    // Returns the least vertex after `u` whose contact with `u` is wrong: they share a side or are adjacent, but not
+    // both. `marks` has to mark both of any two that share a side and are not adjacent.
     fn first_wrong_at(&self, marks: &[bool], u: VertexId) -> Option<VertexId>
         requires vertex { u.0 < length self.now.map.now.lists }
         requires marks { length marks.now ≡ length self.now.map.now.lists }
@@ -57,7 +57,8 @@ impl Rects<'_> {
         None
     }
 
-    // Returns the least two vertices with just one of contact and edge. All pairs are tried only of marked vertices.
+    // Returns the least two vertices that share a side or are adjacent, but not both. `marks` is that of
+    // `first_wrong_at`: all pairs are tried only of marked vertices.
     pub(crate) fn first_wrong(&self, marks: &[bool]) -> Option<(VertexId, VertexId)>
         requires marks { length marks.now ≡ length self.now.map.now.lists }
         requires joined { AllJoined self.now.map.now.lists marks.now self.now.fig.now }

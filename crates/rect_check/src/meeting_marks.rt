@@ -1,6 +1,6 @@
-//! Marks on the rectangles whose interiors meet others, by a pass from the left and one from the right. A pass over
-//! all of them keeps for each row how far those so far reach along it, and marks each that begins before that; a pass
-//! back marks the others of such pairs.
+//! Marks on the rectangles whose interiors meet others, by a pass from the left and one from the right. The first keeps
+//! for each row how far the rectangles so far reach along it, and marks each that begins before that. The pass back
+//! marks the others of such pairs.
 ghost use Rattle.std.specs.Prelude.{◌≡◌, ◌+◌, ◌<◌, ◌≤◌, ◌||◌, ◌≤ℤ◌, ◌<ℤ◌, ◌-ℤ◌, ℕ, length, slice_index, pos, IsTrue, MatchOption, All};
 ghost use Rattle.vertex_rounds.specs.Least.{IsLeastPair};
 ghost use Rattle.rect_check.specs.Faults.{RectsMeet};
@@ -13,7 +13,7 @@ use crate::sweep::{fill_rows, natural};
 use crate::sweep_order::{fill_vertices, sort_vertices};
 use half_edges::VertexId;
 
-// Converts a coordinate from 0 to `n` to its distance from 0. Only the contract needs `n`.
+// Returns the distance of the coordinate `z`, from 0 to `n`, from 0. Only the contract needs `n`.
 fn from_front(n: u16, z: i32) -> u16
     requires low { pos 0 ≤ℤ z }
     requires high { z ≤ℤ pos n }
@@ -22,7 +22,7 @@ fn from_front(n: u16, z: i32) -> u16
     z as u16
 }
 
-// Returns the distance of the coordinate `z` from `n`.
+// Returns the distance of the coordinate `z`, from 0 to `n`, from `n`: a pass from the right measures from there.
 fn from_behind(n: u16, z: i32) -> u16
     requires low { pos 0 ≤ℤ z }
     requires high { z ≤ℤ pos n }
@@ -47,7 +47,8 @@ struct Pass<'a> {
 }
 
 impl Pass<'_> {
-    // Returns where the rectangle of `v` begins. On the way back it returns how far that rectangle's end is before n.
+    // Returns the distance at which the rectangle of `v` begins for this pass: of its left side from 0, or on the way
+    // back of its right side from n.
     fn near(&self, v: VertexId) -> u16
         requires vertex { v.0 < length self.now.rects.map.now.lists }
         ensures { pos result ≡ near_at self.now.back (length self.now.rects.map.now.lists) self.now.rects.fig.now v.0 }
@@ -59,8 +60,8 @@ impl Pass<'_> {
         }
     }
 
-    // Returns where the rectangle of `v` ends. On the way back it returns how far that rectangle's beginning is before
-    // n.
+    // Returns the distance at which the rectangle of `v` ends for this pass: of its right side from 0, or on the way
+    // back of its left side from n.
     fn far(&self, v: VertexId) -> u16
         requires vertex { v.0 < length self.now.rects.map.now.lists }
         ensures { pos result ≡ far_at self.now.back (length self.now.rects.map.now.lists) self.now.rects.fig.now v.0 }
@@ -73,7 +74,7 @@ impl Pass<'_> {
     }
 
     // Marks `v` in `marks`, if its rectangle begins before the end of an earlier one in a row that both have. `table`
-    // has for each row how far the earlier ones reach. Its rows under `v` are raised to the end of that rectangle.
+    // has for each row how far the earlier ones reach, and is raised in the rows of `v` to where its rectangle ends.
     fn mark_next(&self, table: &mut [u16], marks: &mut [bool], v: VertexId)
         requires vertex { v.0 < length self.now.rects.map.now.lists }
         requires table { length table.old ≡ length self.now.rects.map.now.lists }
@@ -99,8 +100,8 @@ impl Pass<'_> {
         }
     }
 
-    // Marks each vertex of `order` in `marks` whose rectangle meets one before it. `table` has for each row how far
-    // the earlier ones reach.
+    // Marks each vertex of `order` in `marks` whose rectangle meets one before it. `table` has for each row how far the
+    // earlier ones reach, and is raised in passing.
     fn mark_later(&self, order: &[u16], table: &mut [u16], marks: &mut [bool])
         requires vertices { All (λ v. v < length self.now.rects.map.now.lists) order.now }
         requires table { length table.old ≡ length self.now.rects.map.now.lists }

@@ -50,7 +50,8 @@ fn is_large(map: &HalfMap, four: OuterFour, d: DartId) -> bool
     !is_triangle(map, d) && !is_frame_dart(four, map.tail(d), map.head(d))
 }
 
-// Returns the ends of the least dart whose face is neither the outer one, walked over `four`, nor a triangle.
+// Returns the ends, tail first, of the least dart whose face is neither the outer one, walked over `four`, nor a
+// triangle.
 pub(crate) fn first_large(map: &HalfMap, four: OuterFour) -> Option<(VertexId, VertexId)>
     requires { IsFrame map.now.lists four.top.0 four.right.0 four.bottom.0 }
     ensures { MatchOption result (HasTriangles map.now.lists)

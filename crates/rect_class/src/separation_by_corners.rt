@@ -12,7 +12,7 @@ use half_edges::{Rotations, VertexId};
 use rect_check::OuterFour;
 use std::alloc::{AllocError, Global};
 
-// Sets the mark of each vertex in the list `us` to `stamp`.
+// Sets the mark in `marks` of each vertex of the list `us` to `stamp`.
 fn stamp_all(marks: &mut Vec<u16>, us: &[u16], stamp: u16)
     requires { All (λ u. u < length marks.old.items) us.now }
     ensures length { length marks.new.items ≡ length marks.old.items }
@@ -40,7 +40,7 @@ struct Star<'a> {
 }
 
 impl Star<'_> {
-    // Says whether `u` comes before the vertex by its degree, or by its number where they have one degree.
+    // Says whether the vertex `v` comes after `u` in the order by degree and then by number.
     fn comes_after(&self, u: u16) -> bool
         requires { u < length self.now.lists.now }
         ensures { IsTrue result ↔ ComesBefore self.now.degrees.now u self.now.v }
@@ -65,7 +65,8 @@ impl Star<'_> {
         true
     }
 
-    // Says whether entry `k` of `v`'s list comes after `v`, or is next to each common neighbour of both in that list.
+    // Says whether entry `k` of the list of `v` comes after `v` in that order, or stands next to each common neighbour
+    // of both in that list.
     fn is_closed_over(&self, k: usize) -> bool
         requires { k < length (list_of self.now.lists.now self.now.v) }
         ensures { OnTrue result (ComesBefore self.now.degrees.now (slice_index (list_of self.now.lists.now self.now.v) k) self.now.v

@@ -1,5 +1,5 @@
-//! For each vertex its neighbours of no lower degree: a short list in a plane map, by which adjacency is soon tested.
-//! In a plane map such a row is short, also at a hub, so that two vertices are soon seen to be adjacent or not.
+//! For each vertex its neighbours of no lower degree. In a plane map that list is short, also at a hub, so that it soon
+//! shows whether two vertices are adjacent.
 ghost use Rattle.std.specs.Prelude.{◌≡◌, ◌<◌, ◌↔◌, ◌++◌, length, IsTrue, IfOk, Contains, All};
 ghost use Rattle.std.specs.List.{filter};
 ghost use Rattle.map_theory.specs.Maps.{HasDart, IsSimpleMap, list_of};
@@ -60,7 +60,7 @@ pub(crate) struct Upper<'a> {
 }
 
 impl Upper<'_> {
-    // Says whether two vertices are adjacent, by the list of the one of lower degree.
+    // Says whether `u` and `v` are adjacent, by the list of the one of lower degree.
     pub(crate) fn are_adjacent(&self, u: VertexId, v: VertexId) -> bool
         requires u { u.0 < length self.now.map.now.lists }
         requires v { v.0 < length self.now.map.now.lists }

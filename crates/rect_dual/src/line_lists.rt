@@ -7,7 +7,7 @@ ghost use Rattle.rect_dual.specs.Lines.{AreLines, AreWalked};
 
 use std::alloc::{AllocError, Global};
 
-/// Puts box `z`, the next one, on the line of box `u`.
+/// Puts box `z`, the next one, on the line of box `u`: `lines` has the line of each box.
 pub fn put_level(lines: &mut [u16], u: u16, z: u16)
     requires u { u < length lines.old }
     requires z { z < length lines.old }
@@ -18,7 +18,8 @@ pub fn put_level(lines: &mut [u16], u: u16, z: u16)
     lines[z as usize] = lines[u as usize];
 }
 
-/// Puts box `z`, the next one, on a new line directly after that of box `u`.
+/// Puts box `z`, the next one, on a new line `z` directly after that of box `u`. `lines` has the line of each box, and
+/// `next` the line after each line.
 pub fn put_own(lines: &mut [u16], next: &mut [u16], u: u16, z: u16)
     requires u { u < length lines.old }
     requires z { z < length lines.old }

@@ -18,9 +18,9 @@ pub(crate) fn put_side(sides: &mut [u32], piece: &[u16], side: u32)
     }
 }
 
-/// Fills in the right and the upper side of each box, by rank, where at first all reach to the end of the grid. The
-/// vertices of a row up to its turn end where the new box begins, by `numbers`, and those after it below the new box.
-/// The time is linear in the rows.
+/// Fills in the right and the upper side of each box, by rank, in `right` and `high`, where at first all reach to the
+/// end of the grid. The vertices of a row up to its turn end where the new box begins, by `numbers`, and those after it
+/// below the new box. The time is linear in the rows.
 pub(crate) fn fill_sides(
     right: &mut [u32],
     high: &mut [u32],

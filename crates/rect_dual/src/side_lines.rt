@@ -33,7 +33,7 @@ fn leading(links: &[u16], leads: &[bool], start: u16) -> u16
     v
 }
 
-// Marks the vertex `z` as leading, and `u` as leading no more where it is `at`, the vertex at the turn.
+// Marks the vertex `z` in `leads` as leading, and `u` as leading no more where it is `at`, the vertex at the turn.
 fn mark(leads: &mut [bool], at: u16, u: u16, z: u16)
     requires u { u < length leads.old }
     requires z { z < length leads.old }
@@ -104,7 +104,8 @@ impl SideLines {
         })
     }
 
-    // Puts vertex `z` on `at`'s line, or, if `own`, on a new line after that of the first leading vertex from `at` on.
+    // Puts the side of vertex `z` on the line of `at`, or if `own` is set on a new line after that of the first leading
+    // vertex from `at` on.
     fn put_line(&mut self, at: u16, own: bool, z: u16)
         requires at { at < vec_len self.old.lines }
         requires z { z < vec_len self.old.lines }
@@ -123,7 +124,7 @@ impl SideLines {
         }
     }
 
-    // Puts the vertex `z` on over a row, at its `seat`, with a line of its own if `own` is set.
+    // Adds the vertex `z` over a row, at its `seat`, with a line of its own if `own` is set.
     fn put_over(&mut self, seat: Seat, own: bool, z: u16)
         requires at { seat.at < vec_len self.old.lines }
         requires near { seat.near < vec_len self.old.lines }
@@ -140,7 +141,7 @@ impl SideLines {
         self.links[near as usize] = z;
     }
 
-    // Puts the next vertex on over row `k`.
+    // Adds the next vertex over row `k` of `turned`, with its line, and updates which vertices lead.
     fn put(&mut self, turned: &TurnedRows<'_>, k: usize)
         requires row { k < length turned.now.rows.now }
         requires size { vec_len self.old.lines ≡ length turned.now.rows.now + 2 }

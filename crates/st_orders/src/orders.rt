@@ -22,7 +22,7 @@ pub struct StOrder {
     pub rank: Counts,
 }
 
-// Inverts a numbering: writes each vertex `v` to `at[from[v]]`.
+// Inverts the numbering `from` into `at`: writes each vertex `v` to `at[from[v]]`.
 fn put_all(from: &[u16], at: &mut [u16])
     requires few { length from.now < 4096 }
     requires long { length at.old ≡ length from.now }
@@ -35,7 +35,7 @@ fn put_all(from: &[u16], at: &mut [u16])
     }
 }
 
-// Copies numbers into a list of counts. It fails only when out of memory.
+// Copies `numbers` into a list of counts. It fails only when out of memory.
 fn counts_of(alloc: Global, numbers: &[u16]) -> Result<Counts, AllocError>
     ensures { IfOk result (λ counts. counts ≡ numbers.now) }
 {
@@ -46,7 +46,7 @@ fn counts_of(alloc: Global, numbers: &[u16]) -> Result<Counts, AllocError>
     Ok(counts)
 }
 
-// Copies numbers into a list of vertices. It fails only when out of memory.
+// Copies `numbers` into a list of vertices. It fails only when out of memory.
 fn vertices_of(alloc: Global, numbers: &[u16]) -> Result<VertexList, AllocError>
     ensures { IfOk result (λ vertices. map (λ v. v.0) vertices ≡ numbers.now) }
 {
@@ -106,7 +106,7 @@ fn list_order(alloc: Global, lists: &Rotations, s: u16, t: u16) -> Result<StOrde
     })
 }
 
-/// Like [`fill_places`], but returns the places alone, in memory of their own.
+/// Like [`fill_places`], but returns the places alone, in memory of their own: entry v is the place of vertex v.
 pub fn st_ranks(
     alloc: Global,
     lists: &Rotations,

@@ -39,7 +39,8 @@ struct Share {
     ghost other: { parent ≢ vertex },
 }
 
-// Moves the places of `share` from the range of its parent to that of its vertex.
+// Takes `share.size` places off the range of the parent, at its lower or its upper end, for the range of the vertex of
+// `share`. `from` and `to` have by vertex where the ranges begin and end.
 fn take_places(from: &mut [u16], to: &mut [u16], share: Share)
     requires froms { length from.old ≡ length to.old }
     requires vertex_in { share.vertex < length from.old }
@@ -83,7 +84,9 @@ impl Ranges {
         Ok(())
     }
 
-    // Gives the vertex with search number `next` its range, across its parent from the vertex at its low point.
+    // Gives the vertex with search number `next` its range from that of its parent: a place for each vertex of its
+    // subtree. It is on the other side of the parent than the vertex at its low point. All earlier vertices have
+    // ranges.
     fn place_next(&mut self, search: &LowSearch<'_>, next: u16)
         requires whole { IsWholeBy search.now.lists.now search.now.forest.now search.now.low.now }
         requires placed { ArePlacedBelow search.now.lists.now search.now.forest.now search.now.low.now self.old next }
@@ -106,7 +109,8 @@ impl Ranges {
         self.recent[above as usize] = below;
     }
 
-    // Gives all vertices their places: s has the first, t all others, from which each further vertex takes its own.
+    // Gives all vertices of `search` their places, in `self.from`: s has the first, t all others, from which each
+    // further vertex takes its own.
     pub(crate) fn place_all(&mut self, search: &LowSearch<'_>)
         requires whole { IsWholeBy search.now.lists.now search.now.forest.now search.now.low.now }
         requires tables { AreTables search.now.lists.now self.old.from.items self.old.to.items self.old.recent.items }

@@ -81,8 +81,8 @@ fn push_dots(out: &mut Vec<u8>, points: &Points, height: i32) -> Result<(), Allo
     Ok(())
 }
 
-/// Appends a straight-line drawing of a simple map as SVG, with a point for each vertex. When memory runs out the
-/// bytes are unchanged.
+/// Appends a straight-line drawing of a simple map as SVG to `out`, with a point for each vertex. When memory runs out
+/// `out` is unchanged.
 pub fn svg_grid(
     alloc: Global,
     lists: &Rotations,

@@ -42,7 +42,7 @@ pub(crate) fn down(height: i32, y: i32) -> i64
     10 * (i64::from(height) - i64::from(y))
 }
 
-/// Returns the distance in the picture from the coordinate `p` of a figure to `q`: ten times as large.
+/// Returns the signed length in the picture from the coordinate `p` of a figure to `q`: ten times `q - p`.
 pub(crate) fn extent(p: i32, q: i32) -> i64
     ensures { result ≡ the_extent p q }
 {

@@ -59,7 +59,8 @@ fn greatest(row: &[u32]) -> u32
     greatest
 }
 
-// Returns for each vertex the least column of its edges, where `rows` has them. Fails only when out of memory.
+// Returns for each vertex `v` the least column in its list of `rows`, those of its edges, which is not empty. It fails
+// only when out of memory.
 pub(crate) fn left_ends(alloc: Global, rows: &ItemLists<u32>) -> Result<Ints, AllocError>
     requires some { (v : ℕ) → v < length rows.now → 0 < length (arcs_of rows.now v) }
     requires low { (v i : ℕ) → slice_index (arcs_of rows.now v) i < 2 ^ 31 }
@@ -72,7 +73,8 @@ pub(crate) fn left_ends(alloc: Global, rows: &ItemLists<u32>) -> Result<Ints, Al
     Ok(ends)
 }
 
-// Returns for each vertex the greatest column of its edges, where `rows` has them. Fails only when out of memory.
+// Returns for each vertex `v` the greatest column in its list of `rows`, those of its edges, which is not empty. It
+// fails only when out of memory.
 pub(crate) fn right_ends(alloc: Global, rows: &ItemLists<u32>) -> Result<Ints, AllocError>
     requires some { (v : ℕ) → v < length rows.now → 0 < length (arcs_of rows.now v) }
     requires low { (v i : ℕ) → slice_index (arcs_of rows.now v) i < 2 ^ 31 }

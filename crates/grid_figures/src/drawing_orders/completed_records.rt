@@ -100,8 +100,8 @@ impl Tools {
         Ok(true)
     }
 
-    // Completes `map`, which has these `lists`, genus zero and at least three vertices and whose components are known,
-    // and orders it. Returns whether edges were added.
+    // Completes `map`, which has these `lists`, genus zero and at least three vertices and whose components are known.
+    // Orders it in `self.peeler`, and returns whether edges were added.
     #[inline(always)]
     fn order_map(&mut self, map: &mut HalfMap, lists: &Rotations) -> Result<bool, AllocError>
         requires lists { map.old.lists ≡ lists.now }
@@ -121,8 +121,8 @@ impl Tools {
         Ok(made)
     }
 
-    // Completes the map of a record and orders it, or returns the first condition that the record breaks. Returns
-    // whether edges were added, and then `self.lists` are those of the completion.
+    // Completes the map of the record `input` and orders it in `self.peeler`, or returns the first condition that it
+    // breaks. Returns whether edges were added; `self.lists` are then those of the completion.
     #[inline(always)]
     pub(crate) fn order_record(&mut self, input: &Record<'_>) -> Result<bool, Unserved>
         ensures order { IfOk result (λ made. IsOrdered input.now.lists.now (lists_by made self.new.lists input.now.lists.now) self.new.peeler.order) }
@@ -135,8 +135,7 @@ impl Tools {
         Ok(made)
     }
 
-    // Completes the map of `lists` and orders it, or returns the first condition that they break. Returns the map, and
-    // whether edges were added, and then `self.lists` are those of the completion.
+    // Like [`Tools::order_record`], but takes the `lists` of the record and returns the completed map too.
     fn ordered_map(&mut self, lists: &Rotations) -> Result<(HalfMap, bool), Unserved>
         requires some_list { 0 < length lists.now }
         ensures order { IfOk result (λ p. IsOrdered lists.now p.0.lists self.new.peeler.order) }
@@ -150,14 +149,14 @@ impl Tools {
     }
 }
 
-// Returns the `lists` that were made for a completion, where edges were put in, or else those of the record, `own`.
+// Returns the `lists` of a completion if it was `made`, which is where edges were added; else the record's, `own`.
 pub(crate) fn made_or<'a>(made: bool, lists: &'a Rotations, own: &'a Rotations) -> &'a Rotations
     ensures { result.now ≡ lists_by made lists.now own.now }
 {
     if made { lists } else { own }
 }
 
-// Returns the `lists` that were made for a completion, where edges were put in.
+// Returns the `lists` of a completion if it was `made`, which is where edges were added; else None.
 fn some_if(made: bool, lists: Rotations) -> Option<Rotations>
     ensures { result ≡ (if made then Some lists else None) }
 {

@@ -13,8 +13,8 @@ use euler_faces::Counter;
 use refusals::Unserved;
 use std::alloc::{AllocError, Global};
 
-/// Says whether the lists of `input` are a triangulation, or returns the first condition that they break. Of lists with
-/// more or fewer entries it answers no at once.
+/// Says whether the lists of `input` are a triangulation, or returns the first condition that they break, by the tables
+/// of `counter`. Of lists with more or fewer entries it answers no at once.
 pub(crate) fn is_triangulated(counter: &mut Counter, input: &Record<'_>) -> Result<bool, Unserved>
     ensures triangulation { IfOk result (λ found. OnTrue found (IsTriangulation input.now.lists.now)) }
     ensures served { IfOk result (λ found. OnTrue found (first_refusal 3 input.now.lists.now ≡ None)) }

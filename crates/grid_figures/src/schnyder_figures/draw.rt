@@ -17,7 +17,8 @@ use pg_plane::GridFigure;
 use refusals::Unserved;
 use std::alloc::{AllocError, Global};
 
-// Draws the triangulation with these `lists` by its canonical `order`.
+// Draws the triangulation of these `lists` by its canonical `order`, by Schnyder's coordinates, in the memory of
+// `woods`. It fails only when out of memory.
 fn order_figure(
     woods: &mut WoodDrawer,
     lists: &Rotations,
@@ -31,7 +32,8 @@ fn order_figure(
     Ok(figure)
 }
 
-// Draws a record that is a triangulation.
+// Orders the record `input`, a triangulation, in `tools`, and draws it by that order in the memory of `woods`. It fails
+// only when out of memory.
 fn full_figure(
     tools: &mut Tools,
     woods: &mut WoodDrawer,
@@ -46,8 +48,8 @@ fn full_figure(
     Ok(figure)
 }
 
-// Draws a record: from its own lists where it is a triangulation, and else by a completion of its map. The tables may
-// have served other records before.
+// Draws the record `input`, or returns the first condition that it breaks. A triangulation is drawn from its own lists,
+// any other map from a completion. `tools` and `woods` are overwritten, whatever they served before.
 pub(crate) fn drawn_record(
     tools: &mut Tools,
     woods: &mut WoodDrawer,

@@ -1,10 +1,10 @@
 //! Schnyder's coordinates of all vertices, kept as differences (drops and rises) from others and added up at the end.
 //!
-//! A vertex of the contour has as its drop and its rise how far coordinate one falls and coordinate two rises
-//! to it from the one before it. One that has gone under another has as its rise how far it stands above that
-//! in coordinate two, and as its drop how far it stands in coordinate one below where the first neighbour of
-//! that one stood, which the span of that one tells. So a step changes the differences of the vertices that it
-//! covers and of the last of its row alone.
+//! For a vertex on the contour, its drop and its rise are how far coordinate one falls and coordinate two rises to it
+//! from the one before it. A vertex that has left the contour is covered by a later one, w. Its rise is then how far it
+//! is above w in coordinate two. Its drop is how far it is in coordinate one below where w's first neighbour was when w
+//! was added. The span of w is how far w itself was below that. So a step changes only the entries of the new vertex,
+//! of those that it covers and of the last one in its row.
 
 ghost use Rattle.std.specs.Prelude.{◌≡◌, ◌≢◌, ◌<◌, ◌+◌, ◌^◌, ℕ, List, length, slice_index, All, AllPairs, IfOk};
 ghost use Rattle.contour_runs.specs.Runs.{Step, Stage, after};
@@ -18,8 +18,8 @@ use order_drawings::order_tables::points_at;
 use pg_plane::Points;
 use std::alloc::AllocError;
 
-// Makes `v` cover the vertices of `row`, and returns the sum of their drops. Each one gets as its drop the sum up to it
-// plus 1, and so as its rise.
+// Lets `v` cover the vertices of `row`, in this order, and returns the sum of their drops. In `drops` the entry of each
+// becomes the sum of the entries up to it, plus 1, and likewise in `rises`; in `covers` it becomes `v`.
 fn pass(drops: &mut [u32], rises: &mut [u32], covers: &mut [u16], row: &[u16], v: u16) -> u32
     requires drops { All (λ u. u < length drops.old) row.now }
     requires rises { All (λ u. u < length rises.old) row.now }
@@ -44,7 +44,8 @@ fn pass(drops: &mut [u32], rises: &mut [u32], covers: &mut [u16], row: &[u16], v
     far
 }
 
-// Adds vertex `v` over `row`, an interval of the contour: all of it but its first and last vertex go under `v`.
+// Adds vertex `v` over `row`, an interval of the contour: all of it but its first and last vertex go under `v`. Changes
+// `drops`, `rises`, `spans` and `covers` at most at `v` and at all vertices of `row` but the first.
 fn put_over(
     drops: &mut [u32],
     rises: &mut [u32],
@@ -67,7 +68,8 @@ fn put_over(
     drops[q as usize] = 1;
 }
 
-// Replaces the differences in `drops` and `rises` by coordinates one and two, from the last vertex down.
+// Replaces the differences in `drops` and `rises` by coordinates one and two, from the last vertex down, by `spans` and
+// `covers`. It requires that the contour has only the first two vertices and the last.
 fn add_up(drops: &mut [u32], rises: &mut [u32], spans: &[u32], covers: &[u16])
     requires tables { AreTables (length drops.old) drops.old rises.old spans.now covers.now }
     requires last { (g : Stage) × (at : Coordinates) × AreLastGaps g at drops.old rises.old spans.now covers.now }
@@ -88,9 +90,9 @@ fn add_up(drops: &mut [u32], rises: &mut [u32], spans: &[u32], covers: &[u16])
     }
 }
 
-/// Returns the points of a construction sequence, by its `rows`, for vertices of these `ranks`, in the memory of
-/// `spent`. The first three tables have zeros. The vertices from the third on are added over the rows, and then the
-/// differences are added up.
+/// Returns the points by Schnyder's coordinates over a construction sequence with these `rows`, for vertices of these
+/// `ranks`, in the memory of `spent`. The tables `drops`, `rises` and `spans` have zeros at first. They and `covers`
+/// are overwritten. It fails only when out of memory.
 pub(crate) fn wood_points(
     spent: Points,
     drops: &mut [u32],

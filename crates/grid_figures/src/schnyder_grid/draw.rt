@@ -40,7 +40,7 @@ impl WoodDrawer {
         }
     }
 
-    // Resets the tables to zeros for `n` vertices.
+    // Makes the tables of gaps zeros for `n` vertices, and that of covers `n` long. It fails only when out of memory.
     fn clear(&mut self, n: usize) -> Result<(), AllocError>
         requires { n < 4096 }
         ensures gaps { OnOk result (self.new.gaps.items ≡ replicate (3 * n) 0) }
@@ -52,7 +52,8 @@ impl WoodDrawer {
         Ok(())
     }
 
-    // Returns the points of a construction sequence, by its `rows`, for vertices of these `ranks`.
+    // Returns the points by Schnyder's coordinates over a construction sequence with these `rows`, for vertices of
+    // these `ranks`. It overwrites the tables, and fails only when out of memory.
     fn points(&mut self, rows: &Rotations, ranks: &Counts) -> Result<Points, AllocError>
         requires few { length ranks.now < 4096 }
         requires rows { length rows.now + 2 ≡ length ranks.now }

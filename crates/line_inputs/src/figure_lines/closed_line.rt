@@ -40,8 +40,8 @@ pub enum After {
     Bad(Ending),
 }
 
-// Completes a figure whose vertex lines, or lines of branches and paths, have all been read. Bars are then still due
-// their line of columns. It fails only when out of memory.
+// Completes the figure of `rows`, begun on line `first`: its vertex lines, or lines of branches and paths, have all
+// been read. A visibility drawing goes on, as its line of columns is still due. It fails only when out of memory.
 fn all_drawn(alloc: Global, first: u32, rows: Rows) -> Result<After, AllocError>
     requires some { 0 < length rows.draft.lists }
     requires few { length rows.draft.lists < 4096 }
@@ -76,7 +76,8 @@ fn all_drawn(alloc: Global, first: u32, rows: Rows) -> Result<After, AllocError>
     }
 }
 
-// Continues a figure after one more line: more are due, or `all_drawn` completes it. Fails only when out of memory.
+// Returns what the figure `held`, begun on line `first`, is after one more of its lines: it goes on while others are
+// due, and else `all_drawn` completes it. It fails only when out of memory.
 #[inline(always)]
 fn grown(alloc: Global, first: u32, held: Held<Rows>) -> Result<After, AllocError>
     requires some { 0 < held.n }
@@ -117,7 +118,8 @@ impl ClosedLine<'_> {
         }
     }
 
-    // Judges the line as the next vertex, or branches and paths, of the figure `rows`. Fails only when out of memory.
+    // Judges the line as the next vertex line, or line of branches or a path, of the figure `rows`, begun on line
+    // `first`. `found` is room for its words, which it overwrites. It fails only when out of memory.
     #[inline(always)]
     fn after_row(
         &self,
@@ -168,8 +170,9 @@ impl ClosedLine<'_> {
         }
     }
 
-    /// Judges the line, given the figure `before` that had begun. `found` is room for its words, and keeps its memory
-    /// for the next line. It fails only when out of memory.
+    /// Judges the line as the next of an input of figures, where `before` is the figure that has begun, or None.
+    /// Returns the figure that goes on, the whole figure, or the bad ending. `found` is room for the line's words,
+    /// which it overwrites. It fails only when out of memory.
     #[inline(always)]
     pub fn after(&self, found: &mut Vec<Word>, before: Option<Begun>) -> Result<After, AllocError>
         ensures whole { IfOk result IsWhole }

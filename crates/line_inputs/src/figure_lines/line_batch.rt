@@ -50,7 +50,7 @@ fn no_step(rows: SomeRows) -> LineStep
 }
 
 // Reads the line at the front of `part` into `rows`, if it is whole, passes the quick test, and is not the last one
-// due. It fails only when out of memory.
+// due. Otherwise it reads nothing. `found` is room for its words. It fails only when out of memory.
 #[inline(always)]
 fn with_line(found: &mut Vec<Word>, rows: SomeRows, part: &[u8]) -> Result<LineStep, AllocError>
     ensures within { IfOk result (λ step. step.bytes ≤ length part.now) }
@@ -92,7 +92,8 @@ fn run_to(first: u32, rows: SomeRows, bytes: usize, lines: usize) -> Run
     }
 }
 
-// Reads lines from the front of `part` into `rows` by `with_line`, while it takes one. Fails only when out of memory.
+// Reads lines from the front of `part` into `rows`, of the figure begun on line `first`, while `with_line` takes one.
+// `found` is room for words, which it overwrites. It fails only when out of memory.
 fn rows_run(
     found: &mut Vec<Word>,
     first: u32,

@@ -25,7 +25,8 @@ pub enum Line {
 
 /// Reads whole vertex lines of a figure from the front of `part`. Where there are none, it reads the rest of the open
 /// line and judges it, or all where no line ends. A line that stands whole in `part` is judged there. `pending` holds
-/// the open line's bytes, `before` the figure begun, `line` its number. It fails only when out of memory.
+/// the open line's bytes, `before` the figure begun, `line` its number, and `found` is room for words. It fails only
+/// when out of memory.
 pub fn take_part(
     alloc: Global,
     found: &mut Vec<Word>,

@@ -44,8 +44,8 @@ impl Rows {
         }
     }
 
-    // Judges `line` as the next one due, and keeps its content if it is good. Returns None when out of memory.
-    // `found` is room for its words.
+    // Judges `line` as the next one due, and appends its content to the draft if it is good. Returns None when out of
+    // memory. `found` is room for its words.
     fn row(&mut self, found: &mut Vec<Word>, line: &[u8]) -> Option<Judged>
         requires { length self.old.draft.lists < self.old.n }
         ensures judged { IfSome result (λ judged. Judges (IsRow (head_kind self.old.head) (length self.old.draft.lists + 1) (words_of line.now))
@@ -68,8 +68,8 @@ impl Rows {
         self.draft.lists.len() + 1 < n
     }
 
-    // Keeps the content of `line`, the next one due, if a quick test finds it good, and says whether it does. It
-    // fails only when out of memory.
+    // Appends the content of `line`, the next one due, to the draft if a quick test finds it good, and says whether it
+    // does. `found` is room for its words. It fails only when out of memory.
     #[inline(always)]
     fn quick(&mut self, found: &mut Vec<Word>, line: &[u8]) -> Result<bool, AllocError>
         requires { length self.old.draft.lists < self.old.n }
@@ -87,8 +87,8 @@ impl Rows {
 }
 
 impl Held<Rows> {
-    /// Judges `line` as the next one due, and keeps its content if it is good. Returns None when out of memory.
-    /// `found` is room for its words.
+    /// Judges `line` as the next one due, and appends its content to the draft if it is good. Returns None when out of
+    /// memory. `found` is room for its words.
     pub fn row(&mut self, found: &mut Vec<Word>, line: &[u8]) -> Option<Judged>
         requires { length self.old.draft.lists < self.old.n }
         ensures judged { IfSome result (λ judged. Judges (IsRow (head_kind self.old.head) (length self.old.draft.lists + 1) (words_of line.now))
@@ -99,8 +99,8 @@ impl Held<Rows> {
         self.inside.row(found, line)
     }
 
-    /// Keeps the content of `line`, the next one due, if a quick test finds it good, and says whether it does. It
-    /// fails only when out of memory.
+    /// Appends the content of `line`, the next one due, to the draft if a quick test finds it good, and says whether it
+    /// does. `found` is room for its words. It fails only when out of memory.
     #[inline(always)]
     pub fn quick(&mut self, found: &mut Vec<Word>, line: &[u8]) -> Result<bool, AllocError>
         requires { length self.old.draft.lists < self.old.n }

@@ -88,8 +88,9 @@ fn judged_line(spent: Graph, line: &[u8], at: OpenLine) -> Result<Judged, AllocE
     }
 }
 
-/// Reads from `part` the rest of the open line, which is then judged, or all where no line ends. A line that stands
-/// whole in `part` is judged there. A graph is made in the memory of `spent`. It fails only when out of memory.
+/// Reads from `part` the rest of the open line, whose first bytes `pending` holds, and judges it; or appends all to
+/// `pending` where no line ends. A line that stands whole in `part` is judged there. A graph is made in the memory of
+/// `spent`. It fails only when out of memory.
 pub fn take_line(
     spent: Graph,
     pending: &mut Vec<u8>,

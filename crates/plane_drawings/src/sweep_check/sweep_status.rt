@@ -28,7 +28,7 @@ pub(crate) struct AtVertex<'a> {
     pub(crate) ghost lines: { All (IsLine (length places.now)) fresh.now },
 }
 
-// Returns the first index from `begin` on whose line does not end at the vertex of rank `v`.
+// Returns the first index of `status` from `begin` on whose line does not end at the vertex of rank `v`, or its length.
 fn run_end(status: &[Line], begin: usize, v: u16) -> usize
     requires { begin ≤ length status.now }
     ensures order { begin ≤ result }
@@ -43,7 +43,7 @@ fn run_end(status: &[Line], begin: usize, v: u16) -> usize
     status.len()
 }
 
-// Moves the gap so that it begins at index `place`, and returns where it ends then.
+// Moves `gap` in `status`, by copying lines over it, so that it begins at index `place`. Returns where it ends then.
 fn move_gap(status: &mut [Line], gap: Gap, place: usize) -> usize
     requires order { gap.begin ≤ gap.end }
     requires within { gap.end ≤ length status.old }
@@ -144,8 +144,9 @@ impl AtVertex<'_> {
         false
     }
 
-    // Replaces the lines that end at the vertex by those that begin there, where the gap follows the lines below it.
-    // Returns the new gap, or None on a failed test or no room. `suspects` then may have the ends of lines at fault.
+    // Replaces in `status` the lines that end at the vertex by those that begin there, where `gap` follows the lines
+    // below it. Returns the new gap, or None on a failed test or no room. `suspects` then may have the ends of lines at
+    // fault.
     fn pass(&self, status: &mut [Line], gap: Gap, suspects: &mut [u16; 4]) -> Option<Gap>
         requires order { gap.begin ≤ gap.end }
         requires within { gap.end ≤ length status.old }
@@ -181,7 +182,7 @@ impl AtVertex<'_> {
         }
     }
 
-    // Moves the gap to the vertex, and then replaces lines as `pass` does.
+    // Moves `gap` in `status` to the vertex, and then replaces lines, or fills `suspects`, as `pass` does.
     pub(crate) fn step(&self, status: &mut [Line], gap: Gap, suspects: &mut [u16; 4]) -> Option<Gap>
         requires order { gap.begin ≤ gap.end }
         requires within { gap.end ≤ length status.old }

@@ -43,11 +43,12 @@ fn framed(alloc: Global, map: &HalfMap, frame: Frame) -> Result<Labelling, Alloc
     Ok(Labelling { labels })
 }
 
-/// Returns an edge labelling of a map of the class of the job `rect`, whose outer face is that of the base dart. Each
-/// edge off that face is horizontal (a run) or vertical (a rise), with a direction. Clockwise round each vertex inside
-/// stand entering runs, leaving rises, leaving runs and entering rises, at least one of each. The outer face is walked
-/// along four vertices, from the one that the base dart leaves. Runs alone leave the first, rises alone enter the
-/// second, runs alone enter the third, and rises alone leave the fourth.
+/// Returns a regular edge labelling (transversal structure) of a map of the class of the job `rect`, whose outer face
+/// is that of the base dart. Each edge off that face is horizontal (a run) or vertical (a rise), with a direction.
+/// Clockwise round each inner vertex come entering runs, leaving rises, leaving runs and entering rises, at least one
+/// of each. The outer face is walked along four vertices, from the one that the base dart leaves. Of their inner edges
+/// those at the first are leaving runs, at the second entering rises, at the third entering runs, and at the fourth
+/// leaving rises.
 ///
 /// It fails only when out of memory, and the map stays as it is. The time is linear in the map: two tables over the
 /// vertices, from the rows and turns of a rectangular order, tell the label of each dart.
