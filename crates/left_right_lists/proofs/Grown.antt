@@ -18,7 +18,7 @@ use Rattle.left_right_maps.specs.Trees.{IsDepthFirstTree}
 use Rattle.left_right_maps.proofs.Forests.{other, lone, depth', parent', edge', depth_is, parent_is, edge_by_tree, tree, sides', parted, kept_map, below_so, parent_lone, parent_same, lone_so, other_r}
 use Rattle.embed_theorem.specs.Expanded.{IsMapOf}
 use Rattle.left_right_lists.specs.Depths.{AreDepths}
-use Rattle.left_right_lists.specs.Trees.{IsTabled, is_other, grown_depth, grown_parent, joined, AreOfTree}
+use Rattle.left_right_lists.specs.Trees.{IsTabled, is_in_other_tree, grown_depth, grown_parent, joined, AreOfTree}
 use Rattle.left_right_lists.proofs.Searched.{depth_first, first_root, rising}
 
 map_of_edges : (graph : EdgeGraph) (lists : Lists) → IsMapOf lists graph → IsMapOfEdges graph.n (has_edge graph) lists
@@ -60,11 +60,11 @@ module _ (graph : EdgeGraph) (known : IsGraph graph) (order number last parents 
   abbrev Edge : ℕ → ℕ → Bool
   Edge = edge' graph.n E P D r r_so.0 r_so.1 g
 
-  in_graph : (v : ℕ) → v < graph.n → Other v ≡ is_other parents depths r v
-  in_graph v l = ap (λ b. b && is_other parents depths r v) (lt-ltb v graph.n l)
+  in_graph : (v : ℕ) → v < graph.n → Other v ≡ is_in_other_tree parents depths r v
+  in_graph v l = ap (λ b. b && is_in_other_tree parents depths r v) (lt-ltb v graph.n l)
 
   past : (v : ℕ) → graph.n ≤ v → Other v ≡ false
-  past v l = ap (λ b. b && is_other parents depths r v) (le-ltb v graph.n l)
+  past v l = ap (λ b. b && is_in_other_tree parents depths r v) (le-ltb v graph.n l)
 
   tables : (length depths ≡ graph.n) × (length parents ≡ graph.n)
   tables = let a = deep.long in let b = all.parents in let c = length-graph_lists graph known in (omega arith, omega arith)
@@ -95,7 +95,7 @@ module _ (graph : EdgeGraph) (known : IsGraph graph) (order number last parents 
   rises v deep' =
       let c = length-graph_lists graph known in
       elim (below_so graph.n E P D r r_so.0 r_so.1 g v deep') [
-        | inl t ↦ grind (arith, lone_so, r_so, ltb-true, and_parts, ltb, is_other, slice_index, cases_eq, true≢false, Other, other_r, parent_lone)
+        | inl t ↦ grind (arith, lone_so, r_so, ltb-true, and_parts, ltb, is_in_other_tree, slice_index, cases_eq, true≢false, Other, other_r, parent_lone)
         | inr d ↦
             let up_one = rising graph known order number last parents depths all deep v d in
             omega (arith, ap (slice_index number) (parent_same graph.n E P D r r_so.0 r_so.1 g v d))

@@ -17,17 +17,17 @@ pub record IsTabled (f : ℕ → ℕ) (table : List ℕ) (n : ℕ) : Type 0 wher
   pub at : (v : ℕ) → v < n → slice_index table v ≡ f v
 
 -- whether a vertex of a forest is in another tree than a root
-abbrev pub is_other : List ℕ → List ℕ → ℕ → ℕ → Bool
-is_other parents depths root v = not (eqb (up (slice_index parents) (slice_index depths v) v) root)
+abbrev pub is_in_other_tree : List ℕ → List ℕ → ℕ → ℕ → Bool
+is_in_other_tree parents depths root v = not (eqb (up (slice_index parents) (slice_index depths v) v) root)
 
 -- the depth of a vertex in the tree made of a forest, in which the roots of the other trees become children of the root
 abbrev pub grown_depth : List ℕ → List ℕ → ℕ → ℕ → ℕ
-grown_depth parents depths root v = slice_index depths v + cond (is_other parents depths root v) 1 0
+grown_depth parents depths root v = slice_index depths v + cond (is_in_other_tree parents depths root v) 1 0
 
 -- the parent of a vertex in that tree
 abbrev pub grown_parent : List ℕ → List ℕ → ℕ → ℕ → ℕ
 grown_parent parents depths root v =
-    cond (eqb (slice_index depths v) 0 && is_other parents depths root v) root (slice_index parents v)
+    cond (eqb (slice_index depths v) 0 && is_in_other_tree parents depths root v) root (slice_index parents v)
 
 -- an edge of a graph or of a tree joins u and v
 abbrev pub joined : EdgeGraph → List ℕ → List ℕ → ℕ → ℕ → Bool

@@ -2,7 +2,7 @@
 ghost use Rattle.std.specs.Prelude.{◌<◌, IfOk};
 ghost use Rattle.left_right_lists.specs.Trees.{IsTreeOf};
 
-use crate::one_tree::OneTree;
+use crate::joined_forest::JoinedForest;
 use crate::search_depths::depths_of;
 use conn_parts::graph_cuts::graph_lists;
 use graph_search::search_forests::search_forest;
@@ -35,7 +35,7 @@ pub fn tree_of(alloc: Global, graph: &Graph) -> Result<Tree, AllocError>
     let forest = search_forest(alloc, &lists)?;
     let depths = depths_of(alloc, &lists, &forest)?;
     let root = entry(&forest.order, 0);
-    let one = OneTree {
+    let one = JoinedForest {
         parents: &forest.parent,
         depths: &depths,
         root,

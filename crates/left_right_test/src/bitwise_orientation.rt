@@ -206,7 +206,7 @@ impl Few {
     // `self` by its height. In `search` it sets the parent and height of `head`, and chains the return edges from it.
     // They lead to `above`, the set of its neighbours that are proper ancestors of the vertex of `at`.
     #[inline(always)]
-    fn go_down(&mut self, search: &mut Search, at: Stand, head: u32, above: u32) -> Stand {
+    fn descend_to(&mut self, search: &mut Search, at: Stand, head: u32, above: u32) -> Stand {
         let height = plus(at.height, 1);
         let dart = dart_between(at.vertex, head);
         self.way.set(at.height, at.vertex);
@@ -227,7 +227,7 @@ impl Few {
     // return joined. In `search` it sets the lowpoint of the dart between, and inserts it by nesting depth among those
     // that leave the parent.
     #[inline(always)]
-    fn go_up(&self, search: &mut Search, at: Stand) -> Stand {
+    fn return_to_parent(&self, search: &mut Search, at: Stand) -> Stand {
         let height = minus(at.height, 1);
         let vertex = self.way.get(height);
         let returns = at.returns & minus(bit_of(height), 1);
@@ -273,13 +273,13 @@ impl Few {
                 fresh = fresh ^ bit_of(head);
                 let above = self.near.get(head) & way;
                 way = way | bit_of(at.vertex);
-                at = self.go_down(search, at, head, above);
+                at = self.descend_to(search, at, head, above);
                 continue;
             }
             if at.parent == NONE {
                 break;
             }
-            at = self.go_up(search, at);
+            at = self.return_to_parent(search, at);
             way = way ^ bit_of(at.vertex);
         }
         fresh

@@ -79,7 +79,7 @@ impl Places {
     // Moves from `vertex` to its child `head`: empties the chains of twins at `vertex`, and makes `vertex` the first
     // entry of `head`. Returns the index of the next entry there.
     #[inline(always)]
-    fn go_down(&mut self, vertex: u32, head: u32) -> u32 {
+    fn descend_to(&mut self, vertex: u32, head: u32) -> u32 {
         self.left.set(vertex, NONE);
         self.right.set(vertex, NONE);
         let start = self.place.get(head);
@@ -89,7 +89,7 @@ impl Places {
     // Moves from `vertex` back to its parent `above`: writes there the tails of its left twins, `vertex`, and the tails
     // of its right twins. Returns the index of the next entry there.
     #[inline(always)]
-    fn go_up(&mut self, links: &Links, vertex: u32, above: u32) -> u32 {
+    fn return_to_parent(&mut self, links: &Links, vertex: u32, above: u32) -> u32 {
         let left = self.left.get(above);
         let right = self.right.get(above);
         let start = self.place.get(above);
@@ -101,7 +101,7 @@ impl Places {
     // Writes the rotation lists of all vertices in the depth-first tree of `root` to `self.entries`, from the indices
     // in `self.place` on, which become their ends. Settles the sides of their darts in `search`, and chains them in the
     // order of rotation. Orientation and testing have to be done.
-    fn list_from(&mut self, links: &Links, search: &mut Search, root: u32) {
+    fn write_tree_lists(&mut self, links: &Links, search: &mut Search, root: u32) {
         let mut vertex = root;
         let mut place = self.place.get(root);
         let mut dart = settle_leaving(search, root);
@@ -113,7 +113,7 @@ impl Places {
                 }
                 let above = links.tail(parent);
                 self.place.set(vertex, place);
-                place = self.go_up(links, vertex, above);
+                place = self.return_to_parent(links, vertex, above);
                 vertex = above;
                 dart = search.chain.get(parent);
                 continue;
@@ -121,7 +121,7 @@ impl Places {
             let head = links.head.get(dart);
             if search.parent.get(head) == dart {
                 self.place.set(vertex, place);
-                place = self.go_down(vertex, head);
+                place = self.descend_to(vertex, head);
                 vertex = head;
                 dart = settle_leaving(search, head);
             } else {
@@ -135,7 +135,7 @@ impl Places {
 
     /// Settles the sides of all edges in `search`, and writes the rotation lists of all vertices of `links`, which the
     /// tests passed. The list of a vertex has as many entries as its degree.
-    pub fn list_all(&mut self, links: &Links, search: &mut Search) {
+    pub fn write_all_lists(&mut self, links: &Links, search: &mut Search) {
         self.count = 0;
         for vertex in 0..links.vertices {
             self.place.set(vertex, self.count);
@@ -143,7 +143,7 @@ impl Places {
         }
         for place in 0..search.root_count {
             let root = search.roots.get(place);
-            self.list_from(links, search, root);
+            self.write_tree_lists(links, search, root);
         }
     }
 

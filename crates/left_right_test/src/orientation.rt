@@ -55,7 +55,7 @@ impl Stand {
 // Moves the search from `at` along `dart` to its unreached head `head`, and returns the position there. In `search` it
 // saves the lowpoints of `at`, and sets the parent and height of `head`.
 #[inline(always)]
-fn go_down(search: &mut Search, at: Stand, dart: u32, head: u32) -> Stand {
+fn descend_to(search: &mut Search, at: Stand, dart: u32, head: u32) -> Stand {
     let height = plus(at.height, 1);
     search.lowpt.set(at.parent, at.low);
     search.lowpt2.set(at.parent, at.second);
@@ -74,7 +74,7 @@ fn go_down(search: &mut Search, at: Stand, dart: u32, head: u32) -> Stand {
 // Moves the search from `at` back to its parent, and returns the position there, with its lowpoints updated. In
 // `search` it sets the lowpoint of the dart between, and inserts it by nesting depth among those that leave the parent.
 #[inline(always)]
-fn go_up(links: &Links, search: &mut Search, at: Stand) -> Stand {
+fn return_to_parent(links: &Links, search: &mut Search, at: Stand) -> Stand {
     let vertex = links.tail(at.parent);
     let height = minus(at.height, 1);
     let chordal = if at.second < height { 1 } else { 0 };
@@ -97,20 +97,20 @@ fn orient_from(links: &Links, search: &mut Search, root: u32) {
     if search.is_reached(root) || dart == NONE {
         return;
     }
-    let mut at = go_down(search, ABOVE, NONE, root);
+    let mut at = descend_to(search, ABOVE, NONE, root);
     for _ in 0..steps(links.vertices, links.darts) {
         if dart == NONE {
             if at.parent == NONE {
                 return;
             }
             dart = links.next.get(at.parent);
-            at = go_up(links, search, at);
+            at = return_to_parent(links, search, at);
             continue;
         }
         let head = links.head.get(dart);
         let low = search.height.get(head);
         if low == NONE {
-            at = go_down(search, at, dart, head);
+            at = descend_to(search, at, dart, head);
             dart = links.first.get(head);
             continue;
         }

@@ -104,7 +104,7 @@ impl LeftRightTest {
         requires { n < 4096 }
         ensures { IfOk result (λ lists. length lists ≡ n) }
     {
-        self.places.list_all(&self.links, &mut self.search);
+        self.places.write_all_lists(&self.links, &mut self.search);
         self.places.lists(spent, n)
     }
 }

@@ -20,7 +20,13 @@ use std::alloc::AllocError;
 
 // Lets `v` cover the vertices of `row`, in this order, and returns the sum of their drops. In `drops` the entry of each
 // becomes the sum of the entries up to it, plus 1, and likewise in `rises`; in `covers` it becomes `v`.
-fn pass(drops: &mut [u32], rises: &mut [u32], covers: &mut [u16], row: &[u16], v: u16) -> u32
+fn cover_interval(
+    drops: &mut [u32],
+    rises: &mut [u32],
+    covers: &mut [u16],
+    row: &[u16],
+    v: u16,
+) -> u32
     requires drops { All (λ u. u < length drops.old) row.now }
     requires rises { All (λ u. u < length rises.old) row.now }
     requires covers { All (λ u. u < length covers.old) row.now }
@@ -61,7 +67,7 @@ fn put_over(
         → AreGaps (after g s) (coordinates_after g s at) drops.new rises.new spans.new covers.new }
 {
     let q = row[row.len() - 1];
-    let span = pass(drops, rises, covers, &row[1..], v);
+    let span = cover_interval(drops, rises, covers, &row[1..], v);
     drops[v as usize] = span;
     rises[v as usize] = 0;
     spans[v as usize] = span;

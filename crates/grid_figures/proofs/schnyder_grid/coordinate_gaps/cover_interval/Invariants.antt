@@ -1,6 +1,6 @@
 use Rattle.std.proofs.Common.{◌≡◌, take}
 use Rattle.grid_figures.specs.Gaps.{ArePassed, AreCovered, gap_sum}
-use Rattle.grid_figures.proofs.schnyder_grid.coordinate_gaps.pass.Given as goal
+use Rattle.grid_figures.proofs.schnyder_grid.coordinate_gaps.cover_interval.Given as goal
 
 abbrev pub invariant-loop-u : goal.invariant-loop-u
 invariant-loop-u l = record {

@@ -1,7 +1,7 @@
 use Rattle.std.proofs.Common.{◌≡◌, ◌+◌, ℕ, suc, slice_index, slice_set, take, sym, ap, ◌∙◌, subst, arith}
 use Rattle.grid_figures.specs.Gaps.{ArePassed, AreCovered, gap_sum}
 use Rattle.grid_figures.proofs.Passes.{ArePassed-more, AreCovered-more, gap_sum-next, gap_sum-le}
-use Rattle.grid_figures.proofs.schnyder_grid.coordinate_gaps.pass.Goals as goal
+use Rattle.grid_figures.proofs.schnyder_grid.coordinate_gaps.cover_interval.Goals as goal
 
 pub overflow_add-far : goal.overflow_add-far
 overflow_add-far c =
