@@ -26,7 +26,7 @@ pub fn mark(marks: &mut [bool], counts: &mut [u16], lists: &Rotations, v: u16)
     raise(counts, lists.list(v as usize));
 }
 
-/// Names three vertices of a map, no two of which are the same.
+/// Names three distinct vertices of a map.
 #[derive(Clone, Copy)]
 pub struct Three<'a> {
     /// The lists of the map.
@@ -82,8 +82,8 @@ impl AtVertex<'_> {
         ensures { IsSimpleMap self.now.lists.now }
     {}
 
-    // Marks the vertex in `marked`, which has no mark there. Counts it in `near`, and pushes it and its marked
-    // neighbours on `stack` where they have two marked neighbours.
+    // Marks the vertex in `marked`, where it has no mark, and adds one in `near` for each of its neighbours. Pushes it
+    // and its marked neighbours on `stack` where they have two marked neighbours. It fails only when out of memory.
     #[inline(always)]
     fn mark_new(
         &self,
@@ -103,7 +103,8 @@ impl AtVertex<'_> {
         raise_noting(near, stack, marked, self.lists.list(self.v as usize))
     }
 
-    // Marks the vertex as `mark_new` does, if it is neither taken off nor marked.
+    // Marks the vertex in `marked`, and updates `near` and `stack`, as `mark_new` does. It changes nothing if the
+    // vertex was taken off or is marked. It fails only when out of memory.
     #[inline(always)]
     fn mark_left(
         &self,
@@ -123,7 +124,7 @@ impl AtVertex<'_> {
         }
     }
 
-    /// Takes the vertex off the outer cycle: clears its mark in `marked` and marks its neighbours that are left.
+    /// Takes the vertex off the outer cycle: clears its mark in `marked` and marks its neighbours that are not `gone`.
     /// `near`, the number of marked neighbours of each vertex, is updated. Marked vertices whose number becomes two are
     /// pushed on `stack`. It fails only when out of memory.
     #[inline(always)]

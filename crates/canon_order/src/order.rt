@@ -76,7 +76,7 @@ pub fn reversed_order(alloc: Global, taken: &[u16]) -> Result<Order, AllocError>
 /// entry of the largest one so far.
 #[derive(Drop)]
 pub struct Peeler {
-    // for each vertex whether it is on the outer cycle, and behind that whether it was taken off
+    // for each vertex whether it is on the outer cycle, and after these n entries whether it was taken off
     marks: Vec<bool>,
     near: Vec<u16>,
     stack: Vec<u16>,

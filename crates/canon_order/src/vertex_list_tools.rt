@@ -127,7 +127,7 @@ pub(crate) fn resized<T: Copy>(table: Vec<T>, n: usize, item: T) -> Result<Vec<T
     Ok(table)
 }
 
-// Writes into `ranks` the inverse of `at`: for each vertex its index in the order, as `Order::rank` has it.
+// Writes to `ranks` the inverse of `at`: for each vertex its index in the order.
 fn write_places(ranks: &mut [u32], at: &[VertexId])
     requires count { length ranks.old ≡ length at.now }
     requires few { length at.now < 4096 }

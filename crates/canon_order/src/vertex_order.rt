@@ -11,7 +11,7 @@ use std::alloc::{AllocError, Global};
 pub struct Order {
     /// The vertices, one after another, all of them once.
     pub at: VertexList,
-    /// For each vertex, by its number, its place in `at`, from 0.
+    /// For each vertex, by its number, its index in `at`, from 0.
     pub rank: Counts,
     pub ghost ranked: { IsRankOf rank (map (λ v. v.0) at) },
 }

@@ -130,7 +130,7 @@ impl CountedMaker {
         Ok(map)
     }
 
-    /// Keeps the memory of a map that is done with.
+    /// Keeps the memory of `map`, which is no longer needed, for the next one.
     pub fn keep_map(&mut self, map: HalfMap) {
         self.maps.keep(map);
     }

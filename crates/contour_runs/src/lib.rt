@@ -27,7 +27,7 @@ pub fn lists_are_run()
 {}
 
 /// States the law that a run of insertions is a run that makes faces of any size. There each step joins its vertex to
-/// all places from the first to the last: it has the same stages, and the same faces.
+/// all places from the first to the last. Both runs have equal stages and equal faces.
 pub fn run_of_fans()
     ensures { RunOfFans }
 {}

@@ -11,7 +11,7 @@ pub fn spread_area()
     ensures { SpreadArea }
 {}
 
-/// States the law that vertices of one place keep their differences: so what has gone under a vertex moves with it.
+/// States the law that vertices under one place of the contour keep their differences: they move with the vertex there.
 pub fn differences_kept()
     ensures { DifferencesKept }
 {}

@@ -11,7 +11,7 @@ use std::alloc::{AllocError, Global};
 /// The faces on both sides of the contour, by face number, one entry for each vertex.
 #[derive(Drop)]
 pub(crate) struct ContourFaces {
-    /// Where the dart along the contour was in the list of the vertex; whatever this holds, all answers are the same.
+    /// The index of the dart along the contour in the list of the vertex, as a hint on which no answer rests.
     pub(crate) hints: Vec<u16>,
     /// The number of the face inside of the edge to the next vertex.
     pub(crate) inner: Vec<u32>,

@@ -8,7 +8,7 @@ use half_edges::{Ends, VertexId};
 pub enum Verdict {
     /// The vertex lies outside the grid.
     OutOfGrid(VertexId),
-    /// The two vertices, the lesser first, stand at one place.
+    /// The two vertices, the lesser first, have equal points.
     SamePlace(VertexId, VertexId),
     /// The vertex lies on the edge, of which it is no end.
     OnEdge(VertexId, Ends),

@@ -1,4 +1,4 @@
-//! The points of the vertices: whether they lie in the grid, and whether two are the same.
+//! The points of the vertices: whether they lie in the grid, and whether two are equal.
 ghost use Rattle.std.specs.Prelude.{◌≡◌, ◌<◌, ◌↔◌, length, IsTrue, MatchOption};
 ghost use Rattle.pg_plane.specs.Range.{IsInRange};
 ghost use Rattle.plane_drawings.specs.Drawing.{place, IsInGrid};
@@ -67,7 +67,7 @@ impl PointDrawing<'_> {
         None
     }
 
-    // Returns the least two vertices that have the same point.
+    // Returns the least two vertices that have equal points.
     pub(crate) fn first_shared(&self) -> Option<(VertexId, VertexId)>
         ensures { MatchOption result (NoneShareAPlace self.now.map.now.lists self.now.points.now)
             (λ p. IsLeastPair (ShareAPlace self.now.map.now.lists self.now.points.now) p.0.0 p.1.0) }

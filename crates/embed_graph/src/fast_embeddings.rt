@@ -52,8 +52,8 @@ pub enum Tested {
     NoMap,
 }
 
-// Runs the left-right test on `graph` and checks the lists that it returns. Where they are not accepted, the slow test
-// by sides of edges decides.
+// Runs the left-right test on `graph`, whose state stays in `tables`, and checks the lists that it returns. Where they
+// are not accepted, `map_of_graph`, the slow test by sides of edges, decides. It fails only when out of memory.
 pub(crate) fn test_graph(
     alloc: Global,
     tables: &mut Tables,
@@ -65,7 +65,7 @@ pub(crate) fn test_graph(
     match tables.planar_lists(alloc, graph)? {
         Some(lists) => match checked_map(alloc, graph, lists)? {
             Some(map) => Ok(Tested::Map(map)),
-            // no graph is known for which this comes
+            // no graph is known for which this happens
             None => match map_of_graph(alloc, graph)? {
                 Some(map) => Ok(Tested::Map(map)),
                 None => Ok(Tested::NoMap),
@@ -75,7 +75,8 @@ pub(crate) fn test_graph(
     }
 }
 
-// Returns the witness that `tables` find after the test refused `graph`, if the witness check accepts it.
+// Returns the witness that `tables` find after the test refused `graph`, if the witness check accepts it. The search
+// overwrites the state of the test. It fails only when out of memory.
 pub(crate) fn found_witness(
     alloc: Global,
     tables: &mut Tables,
@@ -95,7 +96,8 @@ pub(crate) fn found_witness(
     }
 }
 
-// Returns a witness of `graph`, which the test refused: the one that its search finds, or else one by contracted edges.
+// Returns a witness of `graph`, which the test refused: the one that the search in `tables` finds, or else one by
+// contracted edges. It fails only when out of memory.
 pub(crate) fn refuted(
     alloc: Global,
     tables: &mut Tables,
@@ -108,7 +110,7 @@ pub(crate) fn refuted(
     let _n = graph.n();
     match found_witness(alloc, tables, graph)? {
         Some(witness) => Ok(witness),
-        // no graph is known for which this comes
+        // no graph is known for which this happens
         None => contracted_witness(alloc, graph),
     }
 }
@@ -116,10 +118,10 @@ pub(crate) fn refuted(
 /// Returns a simple map of genus zero with exactly the edges of `graph`, which has at least three vertices, or a
 /// witness that there is none. It fails only when out of memory.
 ///
-/// The map is that of the left-right test, whose lists are checked, and whose no is right. A witness is one of the
-/// first 3n - 5 edges of the graph's line, where it has more. Where the search for it finds none that is accepted,
-/// edges are contracted as long as the test refuses the graph. The test is not proved to find each map: where its lists
-/// are not accepted, the answer is that of `map_of_graph`. No graph is known for which either comes.
+/// The left-right test makes the map; its lists are checked, and it is proved right where it finds none. A witness is
+/// one of the first 3n - 5 edges of the graph's line, where it has more. Where the search for it finds none that is
+/// accepted, edges are contracted as long as the test refuses the graph. The test is not proved to find each map: where
+/// its lists are not accepted, `map_of_graph` gives the answer. No graph is known for which either happens.
 pub fn embed(alloc: Global, graph: &Graph) -> Result<Embedding, AllocError>
     requires { 3 ≤ graph.now.n }
     ensures { IfOk result (IsEmbedding graph.now) }

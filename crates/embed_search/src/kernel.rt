@@ -76,7 +76,7 @@ impl Kernel {
         minus(self.edges.count, plus(1, plus(one, other)))
     }
 
-    /// Removes the edge `out` from the kernel, and reduces what is left, as `keep_marked` does. It overwrites `links`.
+    /// Removes the edge `out` from the kernel, and reduces the others as `keep_marked` does. It overwrites `links`.
     pub fn drop(&mut self, links: &mut Links, out: u32) {
         for edge in 0..self.edges.count {
             self.marks.set(edge, IN_PART);

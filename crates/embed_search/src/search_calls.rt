@@ -22,7 +22,7 @@ pub struct Tables {
     marks: ConflictMarks,
     kernel: Kernel,
     tracer: Tracer,
-    // lists that are done with
+    // lists whose memory the next ones use
     spent: Option<Rotations>,
 }
 
@@ -102,12 +102,12 @@ impl Tables {
         self.test.lists(spent, n)
     }
 
-    /// Keeps the memory of lists that are done with, for those of the next graph.
+    /// Keeps the memory of `lists`, which are no longer needed, for those of the next graph.
     pub fn keep_lists(&mut self, lists: Rotations) {
         self.spent = Some(lists);
     }
 
-    /// Keeps the memory of a witness that is done with, for the next one.
+    /// Keeps the memory of `witness`, which is no longer needed, for the next one.
     pub fn keep_witness(&mut self, witness: Witness) {
         self.tracer.keep(witness);
     }

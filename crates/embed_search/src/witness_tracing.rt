@@ -24,9 +24,9 @@ fn dart_on(links: &Links, dart: u32) -> u32 {
 // The branch vertices of a subdivision, at which paths meet.
 #[derive(Drop)]
 struct Branches {
-    // by place
+    // the vertices, by index
     vertices: ByVertex,
-    // for each of them its place
+    // for each of them its index
     places: ByVertex,
     // how many there are
     count: u32,
@@ -121,7 +121,7 @@ struct Ways {
     // the vertices of all of them
     cells: [VertexId; 512],
     count: usize,
-    // for each path the place behind its last vertex
+    // for each path the index after its last vertex
     ends: ByVertex,
     // how many paths there are
     paths: u32,
@@ -209,7 +209,7 @@ impl Ways {
     }
 }
 
-/// The tables by which witnesses are traced, and the memory of one that is done with.
+/// The tables by which witnesses are traced, and the memory of one that is no longer needed.
 #[derive(Drop)]
 pub struct Tracer {
     branches: Branches,
@@ -231,7 +231,7 @@ impl Tracer {
         }
     }
 
-    /// Keeps the memory of `witness`, which is done with.
+    /// Keeps the memory of `witness`, which is no longer needed, for the next one.
     pub fn keep(&mut self, witness: Witness) {
         self.spent = Some(witness);
     }
@@ -285,7 +285,7 @@ impl Tracer {
 }
 
 // Returns the witness with these `branches` and the paths of `links` between them, of the kind and in the memory of
-// `spent`. Returns None where a path is missing. `ways` is working room. It fails only when out of memory.
+// `spent`. Returns None where a path is missing. `ways` is scratch space. It fails only when out of memory.
 fn filled(
     links: &Links,
     ways: &mut Ways,

@@ -48,8 +48,9 @@ impl StoredMap<'_> {
         filled
     }
 
-    // Gives `number` to the component of `start`, which has none, in `numbers`. Those numbered so far are numbered
-    // whole, and their vertices are the `filled` first entries of the queue. Returns the new number of entries.
+    // Sets to `number` the entries in `numbers` of the component of `start`, which is not numbered yet. Appends its
+    // vertices to the first `filled` entries of `queue`: the vertices numbered so far, of whole components. Returns how
+    // many entries there are then.
     fn number_component(
         &self,
         start: u16,

@@ -103,7 +103,7 @@ pub fn faces(alloc: Global, map: &HalfMap) -> Result<Faces, AllocError>
 {
     let ids = 2 * (map.m() as usize + map.spare() as usize);
     let mut of = vec![in alloc; NO_FACE; ids]?;
-    // a connected map of genus zero has just so many faces
+    // by Euler's formula, the number of faces of a connected map of genus zero
     let faces = (map.m() as usize + 2).saturating_sub(map.n() as usize);
     let mut walks = Vec::with_capacity(alloc, faces)?;
     let walking = Walking { alloc, map };

@@ -1,6 +1,6 @@
 //! Faults of a text of figures, as the type `TextFault`: a bad line by its number.
 
-/// A bad place of a text, by the number of a line.
+/// A fault of a text, with the number of a line, from 1.
 #[derive(Clone, Copy, PartialEq, Eq)]
 pub enum TextFault {
     /// This closed line does not have the shape due there, or this line stands outside a figure and is not closed.

@@ -25,7 +25,7 @@ pub enum Figure {
         job: GridJob,
         /// The neighbours of each vertex in clockwise order.
         lists: Rotations,
-        /// The place of each vertex.
+        /// The point of each vertex.
         points: Points,
     },
     /// A visibility drawing.

@@ -87,7 +87,7 @@ impl Numerals {
     }
 }
 
-/// The texts of the numbers from 0 on, lent for some writes. A loop copies them, so that their place is read once.
+/// The texts of the numbers from 0 on, lent for some writes. A loop copies them, so that their address is read once.
 #[derive(Clone, Copy)]
 pub struct Texts<'a> {
     texts: &'a [Numeral],

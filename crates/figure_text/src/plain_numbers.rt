@@ -49,8 +49,8 @@ fn vertex(number: u32) -> u16
     (number - 1) as u16
 }
 
-/// Appends to `lists` the list of the vertices that stand in `line` from index `start` on. Returns false, with the
-/// lists as before, where some word there is not a plainly written number of a vertex.
+/// Appends to `lists` the list of the vertices that stand in `line` from index `start` on. Returns false, and leaves
+/// `lists` unchanged, where some word there is not a plainly written number of a vertex.
 pub fn push_plain(line: &[u8], start: usize, lists: &mut ItemLists<u16>) -> Result<bool, AllocError>
     ensures good { IfOk result (λ good. OnTrue good (All (λ w. IsNeighbour w) (words_left line.now start)
         × (lists.new ≡ lists.old ++ map vertex_of (words_left line.now start) ∷ []))) }

@@ -81,6 +81,7 @@ impl Numbered for Points {
         49
     }
 
+    // Writes "V at X Y:" into `bytes`, where V is the vertex, from 1, and X and Y are the coordinates of its point.
     #[inline(always)]
     fn write_front(&self, line: &PrintedLine<'_>, bytes: &mut [u8], end: usize) -> usize {
         let texts = line.texts;
@@ -111,6 +112,7 @@ impl Numbered for BarFigure {
         62
     }
 
+    // Writes "V y Y x A B:" into `bytes`: V is the vertex, from 1, whose bar goes from A to B at height Y.
     #[inline(always)]
     fn write_front(&self, line: &PrintedLine<'_>, bytes: &mut [u8], end: usize) -> usize {
         let texts = line.texts;
@@ -144,6 +146,7 @@ impl Numbered for RectFigure {
         74
     }
 
+    // Writes "V x A B y C D:" into `bytes`: V is the vertex, from 1, whose box goes from A to B and from C to D.
     #[inline(always)]
     fn write_front(&self, line: &PrintedLine<'_>, bytes: &mut [u8], end: usize) -> usize {
         let texts = line.texts;

@@ -101,13 +101,13 @@ impl Shifter {
         Ok(points)
     }
 
-    /// Keeps the memory of `figure`, which is done with.
+    /// Keeps the memory of `figure`, which is no longer needed, for the next one.
     pub fn keep(&mut self, figure: GridFigure) {
         self.sums.keep(figure.points);
     }
 
-    /// Draws the triangulation with these lists as [`shift_draw`] does. When memory runs out the shifter serves as
-    /// before.
+    /// Draws the triangulation with these `lists` as [`shift_draw`] does. When memory runs out the shifter can be used
+    /// again.
     pub fn list_draw(&mut self, lists: &Rotations, order: &Order) -> Result<GridFigure, AllocError>
         requires triangulation { IsTriangulation lists.now }
         requires order { (base : Dart) × IsCanonicalOrder lists.now base (vertices_of order.now) }

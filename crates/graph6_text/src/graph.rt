@@ -15,7 +15,7 @@ use std::marker::Model;
 pub struct Graph {
     // the number of vertices
     vertices: u16,
-    // the bytes of its line behind the number of vertices
+    // the bytes of its line after the number of vertices
     body: Vec<u8>,
 }
 

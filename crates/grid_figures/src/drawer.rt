@@ -33,8 +33,8 @@ impl Drawer {
         }
     }
 
-    /// Returns the figure of a record with these `lists` by the shift method, as `shift_figure` has it. After
-    /// `NoMemory` the drawer serves as before.
+    /// Returns the figure that the call `shift_figure` returns for `lists`, by the shift method. After `NoMemory` the
+    /// drawer can be used again.
     pub fn shift_figure(&mut self, lists: &Rotations) -> Result<GridFigure, Unserved>
         requires some_list { 0 < length lists.now }
         ensures figure { IfOk result (IsShiftFigure lists.now) }
@@ -45,13 +45,13 @@ impl Drawer {
         shift_figures::drawn_record(&mut self.tools, &mut self.shifter, &Record { lists })
     }
 
-    /// Keeps the memory of `figure`, by the shift method, which is done with.
+    /// Keeps the memory of `figure`, by the shift method and no longer needed, for the next one.
     pub fn keep_shift(&mut self, figure: GridFigure) {
         self.shifter.keep(figure);
     }
 
-    /// Returns the figure of a record with these `lists` by Schnyder's coordinates, as `schnyder_figure` has it. After
-    /// `NoMemory` the drawer serves as before.
+    /// Returns the figure that the call `schnyder_figure` returns for `lists`, by Schnyder's coordinates. After
+    /// `NoMemory` the drawer can be used again.
     pub fn schnyder_figure(&mut self, lists: &Rotations) -> Result<GridFigure, Unserved>
         requires some_list { 0 < length lists.now }
         ensures figure { IfOk result (IsSchnyderFigure lists.now) }
@@ -62,7 +62,7 @@ impl Drawer {
         schnyder_figures::drawn_record(&mut self.tools, &mut self.woods, &Record { lists })
     }
 
-    /// Keeps the memory of `figure`, by Schnyder's coordinates, which is done with.
+    /// Keeps the memory of `figure`, by Schnyder's coordinates and no longer needed, for the next one.
     pub fn keep_schnyder(&mut self, figure: GridFigure) {
         self.woods.keep(figure);
     }

@@ -118,7 +118,7 @@ impl MapMaker {
     }
 
     /// Returns the half-edge map of `lists`, or their first fault, like [`HalfMap::from_rotations`], but in the memory
-    /// of maps that `keep` took over. After `NoMemory` the maker can be used as before.
+    /// of maps that `keep` took over. After `NoMemory` the maker can be used again.
     pub fn from_rotations(&mut self, lists: &Rotations) -> Result<HalfMap, MapFault>
         requires some_list { 0 < length lists.now }
         ensures lists { IfOk result (λ map. map.lists ≡ lists.now) }
@@ -293,7 +293,7 @@ impl HalfMap {
         Ok(lists)
     }
 
-    /// Returns the lists, as `rotations` has them, in the memory of `spent`, lists that are no longer needed.
+    /// Returns the rotation lists, like `rotations`, but in the memory of `spent`, lists that are no longer needed.
     #[inline(always)]
     pub fn read_into(&self, spent: Rotations) -> Result<Rotations, AllocError>
         ensures { IfOk result (λ lists. lists ≡ self.now.lists) }

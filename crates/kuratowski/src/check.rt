@@ -18,7 +18,7 @@ pub enum WitnessVerdict {
     BadShape,
     /// This branch is no vertex, or an earlier branch.
     BadBranch(usize),
-    /// In this path, no edge joins the vertices at this place and the next.
+    /// In this path, no edge joins the vertices at this index and the next.
     NotEdge(usize, usize),
     /// This vertex is inner in the first path, and inner in the second too; where the two are one path,
     /// it is a branch, or stands twice in it.

@@ -13,7 +13,7 @@ use map_lists::{PathList, VertexId, VertexList};
 pub struct SharedVertex {
     /// The path in which it is inner.
     pub first: usize,
-    /// The other path, or the same.
+    /// The other path, or this path again.
     pub second: usize,
     /// The vertex.
     pub vertex: u16,

@@ -34,7 +34,7 @@ impl Kind {
         }
     }
 
-    /// Returns the places of the two branches that path number `p`, counted from 0, joins.
+    /// Returns the indices of the two branches that path number `p`, counted from 0, joins.
     // Inlined into a loop over `p` it makes the kit's clang crash.
     #[inline(never)]
     pub fn pair_at(self, p: usize) -> (usize, usize)

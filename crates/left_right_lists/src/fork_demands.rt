@@ -55,7 +55,7 @@ struct Forks<'a> {
 }
 
 impl<'a> Forks<'a> {
-    // Returns the return edges of `v` by its edge to `next`, as `is_return` has them. It fails only when out of memory.
+    // Returns the return edges of `v` by its edge to `next`, found by `is_return`. It fails only when out of memory.
     fn returns_by(&self, v: u16, next: u16) -> Result<Vec<(u16, u16)>, AllocError>
         requires { IsUpward self.now.graph.now self.now.up.now }
         ensures { IfOk result (λ found. (d : Dart) → Contains found.items d ↔ Returns self.now.graph.now self.now.up.now.tree.parents.items self.now.up.now.tree.depths.items v next d) }

@@ -20,7 +20,7 @@ pub(crate) fn group(groups: &[(u32, bool)], d: (u16, u16)) -> (u32, bool)
 }
 
 // Merges the groups of the edges `a` and `b` in `groups`, so that both edges are on one side, or on different ones if
-// `turn` is set. Returns false, and changes nothing, where one group already has them otherwise.
+// `turn` is set. Returns false, and changes nothing, where both are in one group that contradicts this.
 fn tie(groups: &mut [(u32, bool)], a: (u16, u16), b: (u16, u16), turn: bool) -> bool
     requires long { length groups.old ≡ 65536 }
     requires one { IsPlaced a }

@@ -1,5 +1,5 @@
 //! The orientation phase (first search) in a graph of at most 27 vertices, with neighbours as bits of a number. An
-//! edge's number is the place of its pair in the graph's line, by which the edges come in the order of `Edges::read`.
+//! edge's number is the index of its pair in the graph's line, by which the edges come in the order of `Edges::read`.
 use crate::dart_lists::Links;
 use crate::fixed_tables::{NONE, minus, plus, twice};
 use crate::search_tables::Search;

@@ -164,7 +164,7 @@ impl Places {
     }
 }
 
-/// Returns the end indices of `n` lists of `total` entries, as the table `told` has them, in the memory of `spent`. The
+/// Returns the end indices of `n` lists of `total` entries, read from the table `told`, in the memory of `spent`. The
 /// last one is `total`. An end below the one before it is raised to that one, and one above `total` is lowered to it.
 /// It fails only when out of memory.
 pub fn ends_of(

@@ -1,7 +1,7 @@
 //! Tables of fixed length by vertex, edge or dart, which take any index modulo their length, and wrapping sums.
 //!
-//! A graph has at most 255 vertices, and of its edges at most 760 are looked at, so that all places are apart. What a
-//! row has of an earlier graph stays in it, so that no more is written than what a graph needs.
+//! A graph has at most 255 vertices, and at most 760 of its edges are read, so that their indices stay distinct.
+//! Entries of an earlier graph stay in the tables, so that no more is written than what a graph needs.
 ghost use Rattle.std.specs.Prelude.{◌<◌};
 
 /// Sentinel for no vertex, dart or edge. No real one has its slot in a table.

@@ -14,7 +14,7 @@ pub struct Tie {
     pub turn: u32,
 }
 
-/// Ties in the order in which they were found. No two of them say the same, even by others.
+/// Ties in the order in which they were found. None of them follows from others.
 #[derive(Drop)]
 pub struct Ties {
     /// How many there are.

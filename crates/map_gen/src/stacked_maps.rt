@@ -50,8 +50,8 @@ fn triangle(alloc: Global, n: u16) -> Result<Rotations, AllocError>
     Ok(Rotations::from_lists(lists))
 }
 
-// Joins the isolated vertex `k` to the three vertices of `face`. Returns the three faces into which that is split:
-// those of its first, second and third dart.
+// Joins the isolated vertex `k` of `map` by three new edges to the vertices of `face`. Returns the three faces into
+// which that is split: those of its first, second and third dart.
 fn put_vertex(map: &mut HalfMap, k: VertexId, face: FaceDarts) -> (FaceDarts, FaceDarts, FaceDarts)
     requires spare { 3 ≤ map.old.spare }
     requires vertex { k.0 < length map.old.lists }

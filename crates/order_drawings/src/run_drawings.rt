@@ -15,7 +15,7 @@ pub fn counterclockwise_run_draws()
     plane_drawings::drawings::counterclockwise_is_plane();
 }
 
-/// Points given for the places of a canonical order are points of the vertices: there is a list of these.
+/// States the law that points given by index in a canonical order make a list of points by vertex.
 pub fn points_of_order()
     ensures { PointsOfOrder }
 {}

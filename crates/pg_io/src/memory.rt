@@ -49,7 +49,7 @@ impl Source for MemSource {
 
     ghost faults = { λ source. source.faults };
 
-    /// Fails exactly where the number of this call stands in `failing`; `buf` is then as before. Otherwise it gives as
+    /// Fails exactly where the number of this call stands in `failing`; `buf` is then unchanged. Otherwise it gives as
     /// many bytes as the least of `most`, the length of `buf` and the number of bytes left.
     fn read(&mut self, buf: &mut [u8]) -> Result<usize, ReadFailed>
         requires { 0 < length buf.old }

@@ -19,9 +19,9 @@ pub trait Source {
     ghost faults: { Self → ℕ };
 
     /// Writes the next bytes to the front of `buf`, which must not be empty, and returns how many. `Ok(0)` is the end
-    /// of input. Where the bytes left are told, it comes exactly where there are none, and the rest of `buf` is as
-    /// before. A read fails only where the count of faults rose, and has then taken nothing; what it leaves in `buf`
-    /// is not promised. After `Ok` the count is as before.
+    /// of input. Where the bytes left are told, it comes exactly where there are none, and the rest of `buf` is
+    /// unchanged. A read fails only where the count of faults rose, and has then taken nothing; what it leaves in `buf`
+    /// is not promised. After `Ok` the count is unchanged.
     fn read(&mut self, buf: &mut [u8]) -> Result<usize, ReadFailed>
         requires { 0 < length buf.old }
         ensures within { IfOk result (λ k. k ≤ length buf.old) }
@@ -41,9 +41,9 @@ pub trait Sink {
     /// How often it has failed. A number at 2^64 - 1 stays there.
     ghost faults: { Self → ℕ };
 
-    /// Appends some first bytes of `piece`, which must not be empty, and returns how many: at least one, and the
-    /// count of faults is as before. A write fails only where that count rose; where the bytes written are told, it
-    /// has then appended nothing.
+    /// Appends some first bytes of `piece`, which must not be empty, and returns how many: at least one. The count of
+    /// faults is then unchanged. A write fails only where that count rose; where the bytes written are told, it has
+    /// then appended nothing.
     fn write(&mut self, piece: &[u8]) -> Result<usize, WriteFailed>
         requires { 0 < length piece.now }
         ensures within { IfOk result (λ k. (0 < k) × (k ≤ length piece.now)) }

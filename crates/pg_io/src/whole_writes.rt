@@ -4,8 +4,8 @@ ghost use Rattle.pg_io.specs.Io.{Grows, GrowsByPrefix, HasRisen};
 
 use super::traits::{Sink, WriteFailed};
 
-/// Writes all of `bytes`, in as many writes as the sink needs. On `Ok` all of them were appended, in order, and the
-/// sink's count of faults is as before. It fails only where that count rose, and has then appended some first bytes
+/// Writes all of `bytes` to `sink`, in as many writes as that needs. On `Ok` all of them were appended, in order, and
+/// the sink's count of faults is unchanged. It fails only where that count rose, and has then appended some first bytes
 /// of `bytes`. It takes no memory beyond what the sink does.
 pub fn put_all<K: Sink>(sink: &mut K, bytes: &[u8]) -> Result<(), WriteFailed>
     ensures ok { OnOk result (Grows (K.written sink.old) (K.written sink.new) bytes.now) }

@@ -1,4 +1,4 @@
-//! The least pair of indices at which a list of images has the same number.
+//! The least pair of indices at which a list of images has equal numbers.
 ghost use Rattle.std.specs.Prelude.{◌≡◌, ◌≢◌, ◌<◌, ◌^◌, length, All, AllPairs, IfOk, MatchOption};
 ghost use Rattle.pg_perm.specs.Repeat.{IsFirstRepeat};
 
@@ -13,7 +13,7 @@ pub fn first_repeat(alloc: Global, images: &[u32]) -> Result<Option<(u32, u32)>,
         (λ pair. IsFirstRepeat images.now pair.0 pair.1)) }
 {
     let none = images.len() as u32;
-    // For each number the least place so far at which it stands, or `none`.
+    // For each number the least index so far at which it stands, or `none`.
     let mut place = vec![in alloc; none; images.len()]?;
     let mut found = None;
     for i in (0..images.len()).rev() {

@@ -66,7 +66,8 @@ impl RecordJob<GraphReader> for EmbedJob {
 
     ghost answers = { embed_answers };
 
-    // Appends a graph's block: map and drawing, a witness, or the line that refuses it. Returns whether it was served.
+    // Appends to `out` the block of `given`, graph `number`: map and drawing, a witness, or the line that refuses it.
+    // Returns whether it was served. It fails only when out of memory.
     fn answer(
         &mut self,
         number: u32,

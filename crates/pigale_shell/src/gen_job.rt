@@ -128,8 +128,8 @@ fn text(alloc: Global, size: u16, number: u32) -> Result<Vec<u8>, AllocError>
     Ok(text)
 }
 
-/// Writes what the job `gen` answers: the block of the map that is made of `size` vertices from `number`, and
-/// the last line. It reads nothing, so a count of failed reads stays as it is.
+/// Writes the answer of the job `gen` to `out`: the block of the map that is made of `size` vertices from `number`, and
+/// the last line. It reads nothing. Returns `Done`, `WriteFault` or `NoMemory`.
 pub fn run_made<K: Sink>(alloc: Global, size: u16, number: u32, out: &mut K) -> RunEnd
     requires some { 3 ≤ size }
     requires few { size < 4096 }

@@ -25,7 +25,7 @@ pub enum Ending {
     TooLong,
 }
 
-// Appends a space and a number.
+// Appends a space and the decimal digits of `number` to `out`. It fails only when out of memory.
 pub(crate) fn push_number(out: &mut Vec<u8>, number: u64) -> Result<(), AllocError>
     ensures { OnOk result (out.new.items ≡ out.old.items ++ 32 ∷ decimal number) }
 {
@@ -64,7 +64,7 @@ fn push_named(out: &mut Vec<u8>, name: &[u8], given: u64) -> Result<(), AllocErr
     push_number(out, given)
 }
 
-// Appends a name and the number of a vertex, which is printed from 1.
+// Appends `name`, a space and the number of vertex `v`, which is printed from 1, to `out`.
 fn push_vertex(out: &mut Vec<u8>, name: &[u8], v: u16) -> Result<(), AllocError>
     ensures { OnOk result (out.new.items ≡ out.old.items ++ (name.now ++ 32 ∷ decimal (v + 1))) }
 {

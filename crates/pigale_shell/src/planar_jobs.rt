@@ -124,7 +124,8 @@ impl<M: Method> RecordJob<PlanarReader> for PlanarJob<M> {
 
     ghost answers = { λ form. planar_answers M.says form };
 
-    // Appends the block of a record by the job's method, and returns whether it was served.
+    // Appends to `out` the block of `given`, record `number`, by the method of the job. Returns whether it was served.
+    // It fails only when out of memory.
     fn answer(
         &mut self,
         number: u32,

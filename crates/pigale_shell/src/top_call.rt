@@ -25,8 +25,8 @@ fn named_kind(alloc: Global, words: &[String]) -> Result<JobKind, WordFault>
     Ok(JobKind::of(job))
 }
 
-/// Runs the words after the program's name: the job that they name, over the records of the source,
-/// or the line `stop BadWords` where they name none.
+/// Runs the job that `words` name, the words after the program's name, over the records of `src`. Writes its text to
+/// `out`, or the line `stop BadWords` where they name no job.
 ///
 /// A job that makes its record has the empty input, whatever the source holds, and does not touch it. The clauses on
 /// the bytes of source and sink hold where contracts see these. Only `NoMemory` may come without a proved cause.

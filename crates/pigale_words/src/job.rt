@@ -11,7 +11,7 @@ pub enum Job {
     Count,
     /// Draws each map of genus zero with at least three vertices by the shift method.
     Shift(Form),
-    /// Draws the same maps by Schnyder's coordinates.
+    /// Draws each map of genus zero with at least three vertices by Schnyder's coordinates.
     Schnyder(Form),
     /// Draws each connected map of genus zero without cut vertex by bars that see each other.
     Bars(Form),
@@ -20,7 +20,7 @@ pub enum Job {
     /// Tiles a rectangle by a rectangle for each vertex, for maps with a quadrangle outside and triangles inside, where
     /// no triangle of edges separates.
     Rect(Form),
-    /// Makes the map of so many vertices from a number, and draws it. It reads nothing.
+    /// Makes a map with this number of vertices from the second number, and draws it. It reads nothing.
     Gen(u16, u32),
     /// Checks each figure of a text.
     Verify,
@@ -37,7 +37,7 @@ pub enum Status {
     SomeRefused,
     /// The words are those of no job.
     BadWords,
-    /// The input has a bad place, which the last line names.
+    /// The input ends badly, in the way that the last line names.
     BadInput,
     /// A read failed.
     ReadFault,

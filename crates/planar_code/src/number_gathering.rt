@@ -48,7 +48,8 @@ fn behind_last_zero(piece: &[u8]) -> usize
     0
 }
 
-// Does the loops of `gather_narrow`. Before the last 0 no end of the piece is tested, and after it no list is closed.
+// Does the loops of `gather_narrow`, which append to `gathered`. Before the last 0 of `piece` its end is not tested,
+// and after it no list is closed.
 #[inline(always)]
 fn narrow_numbers(gathered: &mut OpenLists, count: usize, piece: &[u8]) -> usize
     requires { CanGather 0 (Narrow count) count gathered.old piece.now }
@@ -114,7 +115,7 @@ fn pairs_to_last_zero(piece: &[u8]) -> usize
     0
 }
 
-// Does the loops of `gather_wide`, like those of `narrow_numbers`.
+// Does the loops of `gather_wide`, which append to `gathered`, like those of `narrow_numbers`.
 #[inline(always)]
 fn wide_numbers(gathered: &mut OpenLists, count: usize, piece: &[u8]) -> usize
     requires { CanGather 1 (Wide count) count gathered.old piece.now }

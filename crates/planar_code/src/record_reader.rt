@@ -30,11 +30,11 @@ pub enum Fed {
 pub enum Taken {
     /// All bytes of the piece joined them, and no record ended.
     More,
-    /// A record ended with so many bytes of the piece, at least 1. The bytes behind them were not taken.
+    /// A record ended with this number of bytes of the piece, at least 1. The bytes after them were not taken.
     Ended(usize),
-    /// With so many bytes of the piece, at least 1, they are three bytes, the first 0 and the others
-    /// no number from 1 to 4095. The second number is the offset of the first of them. The last of
-    /// those bytes was not taken.
+    /// A record has a bad count. The first number is how many bytes of the piece show it, at least 1; the last of them
+    /// was not taken. With them the pending bytes are three: the first is 0, and the others are no number from 1 to
+    /// 4095. The second number is the offset of the first of the three.
     Bad(usize, usize),
 }
 
@@ -113,7 +113,7 @@ fn answer(place: &mut Place, scanned: Scanned) -> Taken
     }
 }
 
-/// Reads one byte, which may end the header, and moves `place`.
+/// Reads `byte` with `scanner`, and moves `place`. If it ends the header, `scanner` is cleared.
 fn take_byte(scanner: &mut Scanner, place: &mut Place, byte: u8) -> Taken
     requires { CanRead scanner.old place.old (byte ∷ []) }
     ensures takes { Takes (state_of scanner.old place.old) (byte ∷ []) result (state_of scanner.new place.new) }
@@ -137,7 +137,7 @@ fn take_byte(scanner: &mut Scanner, place: &mut Place, byte: u8) -> Taken
     }
 }
 
-/// Reads a piece, for which there must be room, up to the end of a record or a bad count, and moves `place`.
+/// Reads `piece` with `scanner`, which must have room for it, up to the end of a record or a bad count. Moves `place`.
 fn take_piece(scanner: &mut Scanner, place: &mut Place, piece: &[u8]) -> Taken
     requires { CanRead scanner.old place.old piece.now }
     ensures takes { Takes (state_of scanner.old place.old) piece.now result (state_of scanner.new place.new) }

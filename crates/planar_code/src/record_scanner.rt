@@ -16,11 +16,11 @@ use std::mem;
 /// The outcome of scanning a piece, with the number of its bytes that were looked at.
 #[derive(Clone, Copy)]
 pub enum Scanned {
-    /// So many join them, and they are no record and no bad count.
+    /// This many bytes join the bytes before; together they are no record and no bad count.
     More(usize),
-    /// With so many they are a record, whose lists are lent.
+    /// With this many the bytes before are a record, whose lists are lent.
     Ended(usize),
-    /// With so many they are a bad count, and all but the last of those join them.
+    /// With this many the bytes before are a bad count, and all but the last join them.
     Bad(usize),
 }
 
@@ -29,20 +29,20 @@ pub enum Scanned {
 pub enum Phase {
     /// Before the first byte.
     Start,
-    /// Behind a first byte 0.
+    /// After a first byte 0.
     WideStart,
-    /// Behind that and the high byte of the count.
+    /// After a first byte 0 and this high byte of the count.
     WideHigh(u8),
-    /// Among the lists of a narrow record, behind a number.
+    /// Among the lists of a narrow record with this count, after a number.
     Narrow(u8),
-    /// Among the lists of a wide record, behind a number.
+    /// Among the lists of a wide record with this count, after a number.
     Wide(u16),
-    /// Among the lists of a wide record, behind the high byte of a number.
+    /// Among the lists of a wide record with this count, after the high byte of a number, which is kept.
     WideHalf(u16, u8),
 }
 
-/// Scans numbers of a narrow record of `count` lists. Returns the next phase and the outcome. The lists of a record
-/// that ends are moved to `lent`.
+/// Appends numbers of a narrow record of `count` lists from `piece` to `gathered`. If the record ends, its lists are
+/// moved to `lent`. Returns the next phase and the outcome.
 fn take_narrow(
     gathered: &mut OpenLists,
     lent: &mut Rotations,
@@ -60,8 +60,8 @@ fn take_narrow(
     }
 }
 
-/// Scans numbers of a wide record of `count` lists, from the first byte of one. Returns the next phase and the
-/// outcome. The lists of a record that ends are moved to `lent`.
+/// Appends numbers of a wide record to `gathered`, and moves its lists to `lent`, like [`take_narrow`]. `piece` begins
+/// with the first byte of a number; a single byte is kept in the phase.
 fn take_wide(
     gathered: &mut OpenLists,
     lent: &mut Rotations,
@@ -82,8 +82,8 @@ fn take_wide(
     }
 }
 
-/// Scans as many bytes of `piece` as one phase takes. Returns the next phase and the outcome. The lists of a record
-/// that ends are moved to `lent`.
+/// Scans as many bytes of `piece` as `phase` takes, and appends their numbers to `gathered`. If the record ends, its
+/// lists are moved to `lent`. Returns the next phase and the outcome.
 fn advance(
     phase: Phase,
     gathered: &mut OpenLists,

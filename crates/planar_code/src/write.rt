@@ -7,7 +7,8 @@ ghost use Rattle.planar_code.specs.Write.{spelled, entry_limit, first_bytes, rec
 use map_lists::Rotations;
 use std::alloc::AllocError;
 
-// Appends `number` in two bytes if `wide` is set, else in one. When memory runs out the bytes before are as they were.
+// Appends `number` to `out`, in two bytes if `wide` is set, else in one. It fails only when out of memory, and may then
+// have appended the first of two.
 fn write_number(wide: bool, number: u16, out: &mut Vec<u8>) -> Result<(), AllocError>
     requires { number ≤ entry_limit wide }
     ensures ok { OnOk result (out.new.items ≡ out.old.items ++ spelled wide number) }
@@ -23,7 +24,8 @@ fn write_number(wide: bool, number: u16, out: &mut Vec<u8>) -> Result<(), AllocE
     }
 }
 
-// Appends the byte 0 with which a wide record begins, if `wide` is set.
+// Appends to `out` the byte 0 with which a wide record begins, if `wide` is set. When memory runs out `out` is
+// unchanged.
 fn write_first(wide: bool, out: &mut Vec<u8>) -> Result<(), AllocError>
     ensures ok { OnOk result (out.new.items ≡ out.old.items ++ first_bytes wide) }
     ensures err { OnErr result (out.new.items ≡ out.old.items) }
@@ -36,7 +38,7 @@ fn write_first(wide: bool, out: &mut Vec<u8>) -> Result<(), AllocError>
     }
 }
 
-// Appends the record of `lists`. When memory runs out a part of it may stay.
+// Appends the record of `lists` to `out`. It fails only when out of memory, and may then have appended a part of it.
 fn write_whole(lists: &Rotations, out: &mut Vec<u8>) -> Result<(), AllocError>
     requires few { length lists.now ≤ most_lists }
     requires below { AreBelow (entry_limit (is_wide lists.now)) lists.now }

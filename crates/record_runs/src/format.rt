@@ -19,7 +19,7 @@ pub enum Taken<End> {
 
 /// A reader of the records of one input, piece by piece.
 ///
-/// It stands before the first byte at first. After a bad place, and when memory runs out, it is not asked again.
+/// It stands before the first byte at first. After a bad ending, and when memory runs out, it is not called again.
 pub trait Format: Drop {
     /// A record.
     type Record;

@@ -15,7 +15,7 @@ pub trait Job<F: Format> {
     /// The texts that a job of this kind writes.
     ghost answers: { Self.Kind → Answers F.Record F.End };
 
-    /// Appends record `number`'s block to `out`, and says whether it was served. If memory runs out `out` is as before.
+    /// Appends record `number`'s block to `out`, and says whether it was served. If memory runs out `out` is unchanged.
     fn answer(
         &mut self,
         number: u32,

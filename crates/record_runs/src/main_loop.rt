@@ -19,7 +19,7 @@ pub enum RunEnd {
     Done,
     /// The input ended well, and some record was refused.
     SomeRefused,
-    /// The input has a bad place, which the last line names.
+    /// The input ends badly, in the way that the last line names.
     BadInput,
     /// A read failed.
     ReadFault,
@@ -60,7 +60,7 @@ pub enum Failure {
     NoMemory,
 }
 
-// Writes the last line of a run whose input ended by `end`.
+// Writes to `out` the last line of `run`, whose input ended by `end`. Fails when a write fails or memory runs out.
 fn write_last<F: Format, J: Job<F>, K: Sink>(
     alloc: Global,
     run: &Run<F>,
@@ -95,7 +95,7 @@ fn failed(failure: Failure) -> RunEnd
 
 ghost use Rattle.record_runs.specs.Run.{end_of};
 
-// Writes the last line at the end of the input, and returns how the run ended.
+// Writes the last line of `run` to `out`, at the end of the input. Returns how the run ended.
 fn finish<F: Format, J: Job<F>, K: Sink>(
     alloc: Global,
     run: &Run<F>,
@@ -124,8 +124,8 @@ fn finish<F: Format, J: Job<F>, K: Sink>(
     }
 }
 
-// Consumes the bytes `piece` of one read, and writes the blocks of the records that end in them. Returns an error
-// where the run has ended. `text` is room for the blocks.
+// Consumes `piece`, the bytes of one read: updates `run`, and writes to `out` the blocks that `job` makes of the
+// records that end in it. `text` is scratch space for the blocks. Returns as an error how the run has ended, if it has.
 fn consume<F: Format, J: Job<F>, K: Sink>(
     alloc: Global,
     run: &mut Run<F>,
@@ -160,7 +160,8 @@ fn consume<F: Format, J: Job<F>, K: Sink>(
     }
 }
 
-// Reads once, and consumes the bytes. Returns an error, how the run has ended, at the end of the input or at a fault.
+// Reads once from `src` into `buffer`, and passes the bytes to `consume` with `run`, `job`, `text` and `out`. Returns
+// as an error how the run has ended: at the end of the input, which writes the last line, or at a fault.
 fn read_once<F: Format, J: Job<F>, S: Source, K: Sink>(
     alloc: Global,
     run: &mut Run<F>,
@@ -191,8 +192,8 @@ fn read_once<F: Format, J: Job<F>, S: Source, K: Sink>(
     }
 }
 
-/// Runs a job over the records of a source, to the end of its input or to what stops it. The reader
-/// must stand before the first byte.
+/// Runs `job` over the records of `src`, to the end of its input or to what stops it, and writes its text to `out`.
+/// `reader` must be at the first byte. Returns how the run ended.
 ///
 /// It reads into a buffer of 4096 bytes, and asks for no byte beyond the one after the limit. The
 /// blocks of the records that end within one read are written together, before the next read. Of the

@@ -8,7 +8,7 @@ use super::format::{Format, Taken};
 use super::job::Job;
 use super::main_loop::{Run, Stop};
 
-// Adds one to the number of records, and where the record was not `served` to that of refusals.
+// Adds one to `run.records`, and also to `run.refused` where the record was not `served`.
 fn count_record<F: Format>(run: &mut Run<F>, served: bool)
     requires few_records { run.old.records < 2 ^ 32 - 1 }
     requires few_refused { run.old.refused ≤ run.old.records }
@@ -20,8 +20,9 @@ fn count_record<F: Format>(run: &mut Run<F>, served: bool)
     }
 }
 
-// Consumes some of `piece`, to the end of a record at most, and appends the record's block to `text`. Returns the
-// number of bytes consumed, or why the run stops.
+// Consumes some of `piece` with `run.reader`, to the end of a record at most, and updates the counts of `run`. If a
+// record ends, appends the block that `job` makes of it to `text`. Returns the number of bytes consumed, or why the run
+// stops.
 fn take_record<F: Format, J: Job<F>>(
     run: &mut Run<F>,
     job: &mut J,
@@ -59,7 +60,8 @@ fn take_record<F: Format, J: Job<F>>(
     }
 }
 
-// Consumes all of `piece`, which is within the limit, and appends the blocks of its records to `text`.
+// Consumes all of `piece`, which is within the limit, by `take_record`: updates `run`, and appends the blocks that
+// `job` makes to `text`. Returns why the run stops, if it does.
 fn take_within<F: Format, J: Job<F>>(
     run: &mut Run<F>,
     job: &mut J,
@@ -87,8 +89,8 @@ fn take_within<F: Format, J: Job<F>>(
     Ok(())
 }
 
-/// Consumes `piece`, as far as the limit on the input allows, and appends the blocks of its records to `text`.
-/// Returns why the run stops in it, if it does.
+/// Consumes `piece`, as far as the limit on the input allows, and updates `run`. Appends to `text` the blocks that
+/// `job` makes of its records. Returns why the run stops in it, if it does.
 pub fn take_piece<F: Format, J: Job<F>>(
     run: &mut Run<F>,
     job: &mut J,

@@ -24,7 +24,7 @@ impl Rects<'_> {
         if fitting { None } else { self.first_meet() }
     }
 
-    // Returns the first of three faults: two rectangles that meet, a gap, or a wrong contact. `marks` is working room,
+    // Returns the first of three faults: two rectangles that meet, a gap, or a wrong contact. `marks` is scratch space,
     // a flag for each vertex.
     fn first_of_pairs_in(&self, marks: &mut [bool]) -> Option<RectVerdict>
         requires marks { length marks.old ≡ length self.now.map.now.lists }

@@ -119,7 +119,7 @@ impl Pass<'_> {
 }
 
 impl Rects<'_> {
-    // Returns the least two rectangles whose interiors meet. `order`, `table` and `marks` are working room, an entry
+    // Returns the least two rectangles whose interiors meet. `order`, `table` and `marks` are scratch space, an entry
     // for each vertex.
     fn first_meet_in(
         &self,

@@ -77,7 +77,7 @@ impl FrameFinder {
     ///
     /// A connected map of genus zero with 3n - 7 edges whose outer face is a quadrangle has only triangles besides.
     /// Where no edge joins two vertices of the outer face across it, the corners may show that no triangle of edges
-    /// separates. After running out of memory the finder can be used as before. The time is linear in the entries.
+    /// separates. After running out of memory the finder can be used again. The time is linear in the entries.
     pub fn frame(&mut self, lists: &Rotations) -> Result<Option<OuterFour>, AllocError>
         requires some_list { 0 < length lists.now }
         ensures { IfOk result (λ found. MatchOption found ⊤ (λ f. IsRectMap lists.now × IsFrame lists.now f.top.0 f.right.0 f.bottom.0)) }

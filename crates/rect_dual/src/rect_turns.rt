@@ -52,7 +52,7 @@ pub fn row_turns(alloc: Global, rows: &Rotations) -> Result<RowTurns, AllocError
     requires run { (steps : ℕ → Step) × AreRows steps rows.now }
     ensures { IfOk result (λ turns. (steps : ℕ → Step) → AreRows steps rows.now → AreTurns steps (length rows.now) turns.place.items turns.run.items) }
 {
-    // For each vertex of the contour whether the edge behind it is a run: at first none is.
+    // For each vertex of the contour whether the edge after it is horizontal: at first none is.
     let mut runs = vec![in alloc; false; rows.len() + 2]?;
     let mut place = Vec::new(alloc);
     let mut run = Vec::new(alloc);

@@ -4,7 +4,7 @@ use map_lists::VertexId;
 use simple_maps::MapFault;
 use std::alloc::AllocError;
 
-/// A condition that a record breaks. They stand in the order in which they are looked at, and each job has some of
+/// A condition that a record breaks. They stand in the order in which they are tested, and each job has some of
 /// them. Vertices are numbered from 0, and the least are named.
 #[derive(Clone, Copy, PartialEq, Eq)]
 pub enum Refusal {
@@ -16,7 +16,7 @@ pub enum Refusal {
     Repeated(u16, u16),
     /// The first vertex's list holds the second, whose list does not hold the first.
     OneSided(u16, u16),
-    /// The map or the graph has only so many vertices.
+    /// The map or the graph has only this number of vertices, too few for the job.
     Small(u16),
     /// The map has this genus, which is above zero.
     Genus(u32),

@@ -12,8 +12,9 @@ use canon_order::Order;
 use half_edges::Rotations;
 use std::alloc::{AllocError, Global};
 
-// Writes to the tables the parents of each rank in colours one, two and three. A vertex put on has the ends of its
-// row as parents, and is the parent of all between them.
+// Writes to `firsts`, `lasts` and `covers`, filled with zeros before, the parent of each rank in colours one, two and
+// three. Rank k + 2 has the first and the last of list k of `rows` as parents in colours one and two. It is the parent
+// in colour three of all between them.
 pub(crate) fn find_parents(
     firsts: &mut [u16],
     lasts: &mut [u16],

@@ -1,6 +1,6 @@
 //! The twins of the darts of at most 64 vertices, found in one pass over the lists by a cell for each two vertices.
 //!
-//! A dart to a greater vertex leaves its place in the cell of its ends, where the dart back finds it. What a cell says
+//! A dart to a greater vertex leaves its index in the cell of its ends, where the dart back finds it. What a cell says
 //! is tried before it is taken, so cells may hold anything before. Where it fails the pass gives up, as that by threads
 //! does.
 ghost use Rattle.std.specs.Prelude.{◌≡◌, ◌+◌, ◌*◌, ◌<◌, ◌≤◌, ℕ, length, slice_index};
@@ -40,9 +40,9 @@ struct PairedList<'a> {
 }
 
 impl PairedList<'_> {
-    // Writes the twins of the darts from `v` to lesser vertices, which their `cells` name, and leaves those to greater
-    // ones in their cells. It puts `v` into `tails` for each. Returns false where a dart back is missing: then the
-    // lists have a fault.
+    // Pairs the darts from `v` to lesser vertices with the darts back that `cells` name, in both entries of `twins`.
+    // Writes the darts to greater vertices to their cells, with `NO_PLACE` in `twins`. Sets the entries of all in
+    // `tails` to `v`. Returns false where a dart back is missing: then the lists have a fault.
     #[inline(always)]
     fn pair(&self, tails: &mut [u16], twins: &mut [u32], cells: &mut [u32]) -> bool
         requires tails { length tails.old ≡ length self.now.entries.now }
@@ -80,7 +80,7 @@ impl PairedList<'_> {
 }
 
 // Says whether the pass finds `lists` of at most 64 vertices to be a simple map, and then writes the `tails` and
-// `twins` of their darts. What `cells` has before does not matter.
+// `twins` of their darts. `cells` is scratch space, with 64 entries for each vertex, and may hold anything before.
 #[inline(never)]
 pub(crate) fn pairs_twins(
     lists: &Rotations,

@@ -31,7 +31,7 @@ fn has_long_list(lists: &Rotations) -> bool {
     false
 }
 
-// Makes `threads` at least `count` entries long, and leaves those that it has. It fails only when out of memory.
+// Makes `threads` at least `count` entries long, and keeps the entries before. It fails only when out of memory.
 fn grow(threads: &mut Vec<u32>, count: usize) -> Result<(), AllocError>
     ensures { OnOk result (count ≤ length threads.new.items) }
 {
@@ -42,7 +42,8 @@ fn grow(threads: &mut Vec<u32>, count: usize) -> Result<(), AllocError>
 }
 
 // Says whether one pass finds `lists` to be a simple map, and then writes the `tails` and `twins` of their darts. It is
-// the pass by cells for few vertices, and that by threads for more. It fails only when out of memory.
+// the pass by cells for few vertices, and that by threads for more. `threads` is scratch space, which may grow. It
+// fails only when out of memory.
 #[inline(always)]
 fn passes(
     lists: &Rotations,
@@ -67,9 +68,9 @@ fn passes(
 
 /// Makes `tails` and `twins` those of the darts of `lists`, which are from 1 to 4095, or returns their first fault.
 ///
-/// The vectors may hold anything before; they are kept by a caller who has many maps, so that their
-/// memory serves for all. The time is linear in the entries. A simple map takes no other memory than that
-/// of the three: six bytes for each dart, and one number for each vertex.
+/// `threads` is scratch space. The vectors may hold anything before: a caller who has many maps keeps them to use their
+/// memory again. The time is linear in the entries. A simple map takes no other memory than that of the three: six
+/// bytes for each dart, and one number for each vertex.
 pub fn fill_twins(
     alloc: Global,
     lists: &Rotations,

@@ -75,8 +75,9 @@ struct ListPart<'a> {
 }
 
 impl ListPart<'_> {
-    // Links each dart of the list to the newest one before it with the same head, in `twins`, and writes its tail.
-    // Returns false where the list holds a number twice, or `v`.
+    // Links each dart of the list, in `twins`, to the one before it with its head, which `newest` has for each vertex
+    // and then gets the dart. Sets its entry in `tails` to `v`. Returns false where the list holds a number twice, or
+    // `v`.
     #[inline(always)]
     fn thread(&self, tails: &mut [u16], twins: &mut [u32], newest: &mut [u32]) -> bool
         requires tails { length tails.old ≡ length self.now.entries.now }
@@ -103,8 +104,8 @@ impl ListPart<'_> {
         true
     }
 
-    // Writes the twins of the darts to `v` from earlier lists, and those of their twins in this list. It goes along
-    // their thread, and stops where that leads to no twin.
+    // Pairs in `twins` the darts to `v` from earlier lists with the darts back in this list. It goes along their
+    // thread, and stops where that leads to no twin.
     #[inline(always)]
     fn pair(&self, tails: &[u16], twins: &mut [u32], newest: &[u32])
         requires tails { length tails.now ≡ length self.now.entries.now }
@@ -144,7 +145,8 @@ fn unthread(newest: &mut [u32])
     }
 }
 
-// Says whether the pass finds lists to be a simple map, and then writes the `tails` and `twins` of their darts.
+// Says whether the pass finds `lists` to be a simple map, and then writes the `tails` and `twins` of their darts.
+// `newest`, with an entry for each vertex, is scratch space.
 #[inline(never)]
 pub(crate) fn finds_twins(
     lists: &Rotations,

@@ -18,7 +18,7 @@ use std::alloc::{AllocError, Global};
 pub struct StOrder {
     /// The vertices, one after another, all of them once.
     pub at: VertexList,
-    /// For each vertex, by its number, its place in `at`, from 0.
+    /// For each vertex, by its number, its index in `at`, from 0.
     pub rank: Counts,
 }
 

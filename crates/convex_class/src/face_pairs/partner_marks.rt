@@ -18,7 +18,7 @@ fn mark(marks: &mut [u16], u: u16, w: u16, best: u16) -> u16
     if again && w < best { w } else { best }
 }
 
-/// A vertex of which the walks of its faces are gone over, for the greater vertices that two of them pass.
+/// A vertex whose face boundaries are searched for greater vertices that two of them pass.
 #[derive(Clone, Copy)]
 pub(crate) struct PartnerSearch<'a> {
     pub(crate) uncut: UncutMap<'a>,
@@ -44,8 +44,8 @@ impl PartnerSearch<'_> {
         }
     }
 
-    // Marks by this vertex what `walk`, that of the face of one of its darts, passes. Returns the least of `best` and
-    // the vertices that were marked so already.
+    // Sets to this vertex, in `marks`, the entries of the greater vertices on `walk`, the boundary of one of its faces,
+    // as `mark_tail` does for each dart. Returns the least of `best` and those that this vertex had marked already.
     pub(crate) fn mark_walk(&self, walk: &[DartId], marks: &mut [u16], mut best: u16) -> u16
         requires walk { IsFaceWalk self.now.uncut.map.now (ids_of walk.now) }
         requires marks { length marks.old ≡ length self.now.uncut.map.now.lists }

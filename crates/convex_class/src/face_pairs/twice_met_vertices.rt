@@ -17,7 +17,7 @@ pub(crate) struct Star<'a> {
     ghost darts: { IsRing uncut.map.now u (ids_of ring.now) },
 }
 
-// The dart from a vertex `u` to its neighbour `a`, whose face is gone over.
+// The dart from a vertex `u` to its neighbour `a`, whose face is searched.
 #[derive(Clone, Copy)]
 struct FaceOf<'a> {
     uncut: UncutMap<'a>,
@@ -26,8 +26,8 @@ struct FaceOf<'a> {
 }
 
 impl FaceOf<'_> {
-    // Marks by u the tails of the darts of `walk`, except u, a and those whose dart leads to u. The answer is the least
-    // of `best`, u, and those that had the mark.
+    // Sets to `u`, in `marks`, the entries of the tails of the darts of `walk`, except `u`, `a` and tails of darts to
+    // `u`. Returns the least of `best` and, where some of them had that mark already, of those and `u`.
     fn mark_passed(&self, walk: &[DartId], marks: &mut [u16], mut best: u16) -> u16
         requires walk { IsFaceWalk self.now.uncut.map.now (ids_of walk.now) }
         requires marks { length marks.old ≡ length self.now.uncut.map.now.lists }
@@ -51,8 +51,8 @@ impl FaceOf<'_> {
 }
 
 impl Star<'_> {
-    // Marks by this vertex the vertices of its faces with no more darts than it has. Returns the least of `best`, this
-    // vertex and those that had the mark already.
+    // Calls `mark_passed` for each face of this vertex with no more darts than it has: it marks the face's vertices in
+    // `marks`. Returns the least of `best` and, where some had that mark already, of those and this vertex.
     fn mark_faces(&self, marks: &mut [u16], mut best: u16) -> u16
         requires marks { length marks.old ≡ length self.now.uncut.map.now.lists }
         ensures { AreStamped self.now.u (length self.now.ring.now) (λ i. IsOff self.now.uncut.map.now self.now.uncut.faces.now (length self.now.ring.now) self.now.u (slice_index (ids_of self.now.ring.now) i)) marks.old best marks.new result }
@@ -70,8 +70,9 @@ impl Star<'_> {
         best
     }
 
-    // Returns the least of `best`, this vertex and each other that two of its faces pass, not along an edge from it.
-    // Only faces with no more darts than this vertex are gone over; its neighbours are marked first.
+    // Looks for vertices that two faces of this vertex pass, other than along an edge from it. Returns the least of
+    // `best` and, where it finds some, of those and this vertex. It searches only faces with no more darts than this
+    // vertex has. The entries in `marks` of its neighbours and of the vertices on those faces are set to this vertex.
     pub(crate) fn least(&self, marks: &mut [u16], best: u16) -> u16
         requires marks { length marks.old ≡ length self.now.uncut.map.now.lists }
         ensures lower { result ≤ best }

@@ -132,7 +132,7 @@ fn is_full(lists: &Rotations) -> bool
     lists.len() >= 4 && lists.total() == 6 * lists.len() - 12
 }
 
-// Says whether `lists`, with components `parts` and so many `faces`, are connected with a triangulation's face count.
+// Says whether `lists` are connected, by their components `parts`, and `faces` is the face count of a triangulation.
 fn has_all(parts: &Parts, faces: u32, lists: &Rotations) -> bool
     ensures connected { IsTrue result → parts.now.count ≡ 1 }
     ensures faces { IsTrue result → faces + 4 ≡ 2 * length lists.now }
@@ -207,7 +207,7 @@ impl ConvexDrawer {
         }
     }
 
-    /// Returns the figure that `convex_figure` has for these `lists`. After `NoMemory` the drawer serves as before.
+    /// Returns the figure that `convex_figure` returns for `lists`. After `NoMemory` the drawer can be used again.
     pub fn figure(&mut self, lists: &Rotations) -> Result<GridFigure, Unserved>
         requires some_list { 0 < length lists.now }
         ensures figure { IfOk result (IsConvexFigure lists.now) }

@@ -84,8 +84,8 @@ pub fn count_points_again(
 
 /// Returns the points of the vertices of `run` by counts of faces over it. Its faces' turns are read off the counts.
 ///
-/// It fails only when out of memory. The time is linear in the entries of the rows. A step gives how far what it covers
-/// stands from what takes its place, and these differences are added up in the end.
+/// It fails only when out of memory. The time is linear in the entries of the rows. A step writes how far each vertex
+/// that it covers stands from one that stays, and these differences are added up in the end.
 ///
 /// Source: Felsner, Convex drawings of planar graphs and the order dimension of 3-polytopes, 2001.
 pub fn count_points(alloc: Global, run: &FaceRun<'_>) -> Result<Points, AllocError>

@@ -1,8 +1,8 @@
 //! Spots: coordinates by counts of faces, each kept as a difference from another vertex, while steps cover vertices.
 //!
-//! A vertex of the contour names the one before it, and keeps how far coordinate one falls and coordinate two
-//! rises from there. One that has gone under another names the vertex whose place it took, and keeps how far it
-//! stands above that in both. So a step changes what is kept of its row and of its new vertices alone.
+//! A vertex of the contour names the one before it, and keeps how far coordinate one falls and coordinate two rises
+//! from there. A covered vertex names an end of the interval or the first vertex over it, and keeps how far it stands
+//! above that in both. So a step changes only the spots of its interval and of its new vertices.
 
 ghost use Rattle.std.specs.Prelude.{◌≡◌, ◌<◌, ◌≤◌, ◌+◌, ◌==◌, ◌&&◌, nat_lt, if◌then◌else◌, ℕ, List, length, slice_index, All, AllPairs, ◌≢◌};
 ghost use Rattle.contour_runs.specs.FaceRuns.{Step, stage_after, faces_made};
@@ -110,8 +110,9 @@ struct CoveredRow<'a> {
 }
 
 impl CoveredRow<'_> {
-    // Makes the spots of the vertices strictly within the interval refer to its ends or to `z`, the first new vertex.
-    // Coordinate one falls by `fall` along it; returns how far coordinate two rises up to the last of them.
+    // Rewrites the entries of `spots` of the vertices strictly within the interval: they refer to its ends or to the
+    // first new vertex, `z`. Coordinate one falls by `fall` along it. Returns how far coordinate two rises up to the
+    // last of them.
     #[inline(always)]
     fn settle(&self, spots: &mut [Spot], z: u16, fall: u32) -> u32
         requires put { (w : Setting) × (news : List ℕ) × IsPut w spots.old self.now.row.now self.now.cuts.now news × (w.name w.stage.count ≡ z) × (fall + w.at.one (w.stage.vertex w.step.last) ≡ w.at.one (w.stage.vertex w.step.first)) }
@@ -140,7 +141,7 @@ impl CoveredRow<'_> {
     }
 }
 
-// Makes the spot of each new vertex but the first refer to the one before it, with no difference.
+// Sets the entry in `spots` of each vertex of `news` but the first: it refers to the one before it, with differences 0.
 fn link(spots: &mut [Spot], news: &[u16])
     requires some { 0 < length news.now }
     requires within { All (λ u. u < length spots.old) news.now }
@@ -156,7 +157,8 @@ fn link(spots: &mut [Spot], news: &[u16])
     }
 }
 
-// Adds the vertices `news` over `row`, a contour interval with `cuts`, by writing the spots of new and covered ones.
+// Adds the vertices `news` over `row`, a contour interval with `cuts`. Writes the entries of `spots` of the new
+// vertices and of those of `row` but its first.
 fn put_over(spots: &mut [Spot], row: &[u16], cuts: &[u16], news: &[u16])
     requires put { (w : Setting) × IsPut w spots.old row.now cuts.now news.now }
     ensures { (w : Setting) → IsPut w spots.old row.now cuts.now news.now → IsWritten w spots.old spots.new }

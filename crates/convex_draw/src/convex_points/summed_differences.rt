@@ -38,8 +38,8 @@ fn walk(spots: &mut [Spot], s: u16, faces: u32, width: usize)
     };
 }
 
-// Replaces the differences in `spots` by coordinates, for each vertex strictly within `row`. It adds those of the
-// vertex that took its place.
+// Replaces the differences in `spots` by coordinates, for each vertex strictly within `row`. It adds the coordinates of
+// the vertex to which they refer.
 fn add_row(spots: &mut [Spot], row: &[u16])
     requires free { IsFree row.now spots.old }
     ensures { AreAdded row.now (length row.now - 1) spots.old spots.new }

@@ -32,7 +32,7 @@ pub(crate) struct WoodVertex<'a> {
 }
 
 impl WoodVertex<'_> {
-    // Flips the marks of the edges along `axis` from this vertex to the root of the axis.
+    // Flips in `marked`, by dart, both darts of each edge from this vertex along `axis` to the root of the axis.
     pub(crate) fn pass_axis(&self, marked: &mut [bool], axis: Axis)
         requires wood { (base : Dart) × IsWoodIn self.now.map.now base self.now.wood.now }
         requires vertex { self.now.v.0 < length self.now.map.now.lists }
@@ -64,7 +64,7 @@ pub(crate) struct OuterCorner<'a> {
 }
 
 impl OuterCorner<'_> {
-    // Flips the marks of the outer edges from the head of the base to the tail of the dart before the base.
+    // Flips in `marked` both darts of each outer edge from the head of `base` to the tail of `before`.
     fn pass_rest(&self, marked: &mut [bool])
         requires plane { IsPlane self.now.map.now.lists }
         requires three { IsThreeConnected self.now.map.now.lists }
@@ -86,8 +86,8 @@ impl OuterCorner<'_> {
         unreachable!()
     }
 
-    // Flips the marks of the outer edges from the root of the axis before `axis` to that of the one after it. The root
-    // of `axis` itself is not passed.
+    // Flips in `marked` both darts of each outer edge from the root of the axis before `axis` to that of the one after
+    // it. The root of `axis` itself is not passed.
     pub(crate) fn pass_outer(&self, marked: &mut [bool], axis: Axis)
         requires plane { IsPlane self.now.map.now.lists }
         requires three { IsThreeConnected self.now.map.now.lists }

@@ -65,8 +65,8 @@ fn count_with(
 /// Returns how many faces lie inside a closed walk of the connected `map` of genus zero. The face of `base` is outside.
 ///
 /// A face lies inside where a chain of faces from the base's face to it steps over the walk an odd number of times.
-/// Each face of a chain shares an edge with the next. An edge that the walk passes twice counts twice. Whatever chain
-/// is taken, the answer is the same.
+/// Each face of a chain shares an edge with the next. An edge that the walk passes twice counts twice. The answer does
+/// not depend on the chain.
 ///
 /// `marked` has a mark for each id of a dart whose edge the walk passes an odd number of times.
 ///

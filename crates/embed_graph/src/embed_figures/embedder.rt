@@ -87,7 +87,7 @@ impl Embedder {
     }
 
     /// Returns a map of `graph`, which has at least three vertices, with its drawing in the grid n - 2 by n - 2, or
-    /// else a witness. It fails only when out of memory, and the embedder then serves as before.
+    /// else a witness. It fails only when out of memory; the embedder can then be used again.
     pub fn figure(&mut self, graph: &Graph) -> Result<EmbedFigure, AllocError>
         requires { 3 ≤ graph.now.n }
         ensures { IfOk result (IsEmbedFigure graph.now) }
@@ -105,7 +105,7 @@ impl Embedder {
         }
     }
 
-    /// Keeps the memory of `figure`, which is done with.
+    /// Keeps the memory of `figure`, which is no longer needed, for the next one.
     pub fn keep(&mut self, figure: EmbedFigure) {
         match figure {
             EmbedFigure::Drawn(lists, drawing) => {

@@ -11,7 +11,7 @@ pub(crate) struct Mending {
     pub b: u16,
     /// The number of the path; past the last one nothing is put in.
     pub path: usize,
-    /// The place behind which it is put in.
+    /// The index in the path after which it is put in.
     pub place: usize,
 }
 
@@ -20,7 +20,7 @@ pub(crate) struct Mending {
 pub(crate) struct Splitting {
     /// The branch that is split.
     pub a: u16,
-    /// The vertex that takes its place in two of the four paths.
+    /// The vertex that replaces it in two of the four paths.
     pub b: u16,
     /// The five branches in another order, as digits: the one that is split, two whose paths stay at it, and two
     /// whose paths end at the other vertex.

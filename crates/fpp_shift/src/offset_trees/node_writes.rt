@@ -7,7 +7,7 @@ use map_lists::VertexId;
 use pg_io::Steps;
 use std::sync::ledger::Ledger;
 
-// Sets the offset of vertex `u`.
+// Sets the offset of vertex `u` in `tree` to `x`, and adds two to `steps`.
 pub(crate) fn set_x<L: Ledger>(tree: &mut Offsets<L>, u: u16, x: i32, steps: &mut Steps<L>)
     requires { u < length tree.old }
     ensures set { SetsX tree.old tree.new u x }
@@ -18,7 +18,7 @@ pub(crate) fn set_x<L: Ledger>(tree: &mut Offsets<L>, u: u16, x: i32, steps: &mu
     tree.put(VertexId(u), node, steps);
 }
 
-// Sets the right link of vertex `u`.
+// Sets the right link of vertex `u` in `tree` to `link`, and adds two to `steps`.
 pub(crate) fn set_right<L: Ledger>(
     tree: &mut Offsets<L>,
     u: u16,

@@ -40,7 +40,7 @@ fn point_of(points: &[Point], v: u16) -> Point
     points[v as usize]
 }
 
-// Sets the point of `v`.
+// Sets entry `v` of `points` to `point`.
 fn put_point(points: &mut [Point], v: u16, point: Point)
     requires { v < length points.old }
     ensures { points.new ≡ slice_set points.old v point }
@@ -58,8 +58,8 @@ fn own_point(node: Node) -> Point
     }
 }
 
-// Follows one link of `v`, where `filled` vertices were met. If it leads to a vertex, that is met too, and its point is
-// found. It answers how many are met then.
+// Follows `link`, one of the links of `v`; the first `filled` entries of `met` are the vertices met so far. If it leads
+// to a vertex, appends that to them, writes its point to `points` and adds one to `steps`. Returns their new number.
 fn follow<L: Ledger>(
     tree: &Offsets<L>,
     met: &mut [u16],
@@ -95,8 +95,9 @@ fn follow<L: Ledger>(
     }
 }
 
-// Finds the points of a tree, in tables that may hold anything. The root is met first, and then what the links of each
-// vertex lead to, in the order in which the vertices are met.
+// Writes to `points` the point of each vertex of `tree`, which has this `root`. Fills `met` with the vertices in the
+// order in which they are met: the root, and then for each of them the vertices to which its links lead. Both tables
+// may hold anything before. Adds at most 8 for each vertex to `steps`.
 fn find_points<L: Ledger>(
     tree: &Offsets<L>,
     root: VertexId,
@@ -144,7 +145,8 @@ impl SumMemory {
         }
     }
 
-    // Returns the points to which `tree` adds up, in the memory kept.
+    // Returns the points to which `tree` adds up from `root`, in the memory of `self.spent`, which is left empty.
+    // `self.met` is overwritten. Adds at most 8 for each node to `steps`. It fails only when out of memory.
     pub(crate) fn sum_offsets<L: Ledger>(
         &mut self,
         tree: &Offsets<L>,
@@ -163,7 +165,7 @@ impl SumMemory {
         Ok(Points::from_vec(points))
     }
 
-    // Keeps the memory of `points`, which are done with.
+    // Moves `points`, no longer needed, to `self.spent`, so that the next call uses their memory.
     pub(crate) fn keep(&mut self, points: Points) {
         self.spent = points;
     }
@@ -173,7 +175,7 @@ impl SumMemory {
 /// on the path of links from `root` to it, both included.
 ///
 /// The links lead from the root to each vertex, and to each other vertex by just one link; each such sum is from -2^20
-/// to 2^20. The tree is used at most 8 times as often as it has nodes.
+/// to 2^20. Adds at most 8 for each node to `steps`.
 ///
 /// It fails only when out of memory.
 pub fn sum_offsets<L: Ledger>(

@@ -22,7 +22,7 @@ fn wider(width: i32, offset: i32) -> i32
     width + offset
 }
 
-// Returns the vertex to which the right link of vertex `at` leads.
+// Returns the vertex to which the right link of vertex `at` leads, and adds one to `steps`.
 fn to_right<L: Ledger>(tree: &Offsets<L>, at: u16, steps: &mut Steps<L>) -> u16
     requires at { at < length tree.now }
     requires link { (u : ℕ) × (right_of tree.now at ≡ Some u) }
@@ -36,7 +36,7 @@ fn to_right<L: Ledger>(tree: &Offsets<L>, at: u16, steps: &mut Steps<L>) -> u16
     }
 }
 
-// Returns the offset of vertex `at`.
+// Returns the offset of vertex `at`, and adds one to `steps`.
 fn offset_of<L: Ledger>(tree: &Offsets<L>, at: u16, steps: &mut Steps<L>) -> i32
     requires { at < length tree.now }
     ensures offset { result ≡ (node_at tree.now at).x }
@@ -46,7 +46,8 @@ fn offset_of<L: Ledger>(tree: &Offsets<L>, at: u16, steps: &mut Steps<L>) -> i32
     node.x
 }
 
-// Follows right links from `p` to `q`. Returns how far `q` stands to the right of `p`, and the vertex before `q`.
+// Follows right links from `p` to `q`, and adds at most two for each to `steps`. Returns how far `q` stands to the
+// right of `p`, and the vertex before `q`.
 pub(crate) fn walk<L: Ledger>(tree: &Offsets<L>, p: u16, q: u16, steps: &mut Steps<L>) -> (i32, u16)
     requires { (row : ℕ → ℕ) × (m : ℕ) × IsRow tree.now row m p q }
     ensures width { (row : ℕ → ℕ) (m : ℕ) → IsRow tree.now row m p q → result.0 ≡ far tree.now row m }
@@ -89,7 +90,8 @@ fn top(apart: i32, y_p: i32, y_q: i32) -> (i32, i32, i32)
 }
 
 // Hangs the nodes strictly within an interval on the new vertex over them, which stands `x` to the right of the
-// interval's first vertex. `row` has this one and the last vertex but one. Returns the first of the nodes, if any.
+// interval's first vertex. `row` has this one and the last vertex but one. In `tree` it rewrites the first node's
+// offset and clears the last one's right link. Adds at most 6 to `steps`. Returns the first of the nodes, if any.
 fn cover<L: Ledger>(
     tree: &mut Offsets<L>,
     row: (u16, u16),
@@ -125,7 +127,7 @@ fn from_top(offset: i32, x: i32) -> i32
     offset + 1 - x
 }
 
-// Returns the height of vertex `at`.
+// Returns the height of vertex `at`, and adds one to `steps`.
 fn height_of<L: Ledger>(tree: &Offsets<L>, at: u16, steps: &mut Steps<L>) -> i32
     requires { at < length tree.now }
     ensures height { result ≡ (node_at tree.now at).y }
@@ -147,7 +149,7 @@ fn node_with(place: (i32, i32), links: (Option<VertexId>, Option<VertexId>)) -> 
     }
 }
 
-// Sets the node of vertex `v`.
+// Sets the node of vertex `v` in `tree` to `node`, and adds one to `steps`.
 fn set_node<L: Ledger>(tree: &mut Offsets<L>, v: u16, node: Node, steps: &mut Steps<L>)
     requires { v < length tree.old }
     ensures set { SetsNode tree.old tree.new v node }
@@ -156,9 +158,9 @@ fn set_node<L: Ledger>(tree: &mut Offsets<L>, v: u16, node: Node, steps: &mut St
     tree.put(VertexId(v), node, steps);
 }
 
-/// Adds vertex `v` over the interval of the contour between the vertices `ends`, where the nodes are the tree of a
-/// construction sequence before that step. Five nodes change at most; the tree is used 14 times at most, and twice for
-/// each vertex that follows the first one up to the last. It takes no memory.
+/// Adds vertex `v` to `tree`, over the interval of the contour between the vertices `ends`. The nodes are the tree of a
+/// construction sequence before that step, and at most five of them change. Adds to `steps` at most 14, and two for
+/// each vertex of the interval after its first. It takes no memory.
 pub fn put_over<L: Ledger>(
     tree: &mut Offsets<L>,
     v: VertexId,
@@ -184,8 +186,8 @@ pub fn put_over<L: Ledger>(
     set_node(tree, v.0, node_with((x, y), (first, Some(q))), steps);
 }
 
-/// Sets the nodes of `s` and `t` to the tree of a construction sequence before its first step: both are zeros, and `s`
-/// leads to `t`. The tree is used twice. It takes no memory.
+/// Sets the nodes of `s` and `t` in `tree` to those before the first step of a construction sequence: zeros, and a
+/// right link from `s` to `t`. Adds two to `steps`. It takes no memory.
 pub fn begin_tree<L: Ledger>(tree: &mut Offsets<L>, s: VertexId, t: VertexId, steps: &mut Steps<L>)
     requires s { s.0 < length tree.old }
     requires t { t.0 < length tree.old }

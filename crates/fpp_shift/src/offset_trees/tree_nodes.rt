@@ -23,7 +23,7 @@ pub struct Node {
 
 /// A node for each vertex. Contracts see the list of nodes.
 ///
-/// Each use of a node counts a step of the ledger `L`, which is the tree's from the first on: no other count serves it.
+/// Each use of a node counts a step of the ledger `L`, which the tree has from the first on: no other ledger counts it.
 #[derive(Drop)]
 pub struct Offsets<L: Ledger> {
     nodes: Vec<Node>,
@@ -85,7 +85,7 @@ impl<L: Ledger> Offsets<L> {
         self.nodes.len() as u16
     }
 
-    /// Returns the node of `v`, and counts one step. It takes no memory.
+    /// Returns the node of `v`, and adds one to `steps`. It takes no memory.
     pub fn get(&self, v: VertexId, steps: &mut Steps<L>) -> Node
         requires { v.0 < length self.now }
         ensures node { result ≡ node_at self.now v.0 }
@@ -96,7 +96,7 @@ impl<L: Ledger> Offsets<L> {
         node
     }
 
-    /// Sets the node of `v` and keeps all others, and counts one step. It takes no memory.
+    /// Sets the node of `v` to `node`, keeps all others, and adds one to `steps`. It takes no memory.
     pub fn put(&mut self, v: VertexId, node: Node, steps: &mut Steps<L>)
         requires { v.0 < length self.old }
         ensures set { self.new ≡ slice_set self.old v.0 node }

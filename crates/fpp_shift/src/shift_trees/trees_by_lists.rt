@@ -46,7 +46,8 @@ fn interval_in(row: &RankedList<'_>, s: u16, t: u16) -> (u16, u16)
     (list[end - 1], list[again])
 }
 
-/// Makes `tree` the tree of offsets of the canonical `order` of a triangulation, by its `lists`.
+/// Makes `tree` the tree of offsets of the canonical `order` of a triangulation, by its `lists`, whatever its nodes
+/// were. Adds at most 24 for each vertex to `steps`.
 pub(crate) fn list_tree<L: Ledger>(
     lists: &Rotations,
     order: &Order,

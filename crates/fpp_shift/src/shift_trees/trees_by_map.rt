@@ -16,7 +16,7 @@ use std::sync::ledger::Ledger;
 /// Makes `tree` the tree of offsets of the canonical `order` of the triangulation `tri`, whatever its nodes were. Its
 /// links lead from the first vertex of the order to each other one, and it adds up to the points of the shift method.
 ///
-/// At most 24 uses of the tree are made for each vertex. It takes no memory and refuses nothing.
+/// Each use of the tree adds one to `steps`: at most 24 for each vertex. It takes no memory and refuses nothing.
 ///
 /// The map and the order stay as they are. The time is linear in the entries of the map. One round of a vertex finds
 /// where the interval of the contour under it begins and ends, and the tree is gone along between.

@@ -138,7 +138,7 @@ impl PathTables {
     }
 }
 
-/// Returns for each vertex the length of the longest path from `base` to it, as [`PathTables::find`] has it.
+/// Returns for each vertex the length of the longest path from `base` to it, like [`PathTables::find`].
 pub fn longest_paths(
     alloc: Global,
     arcs: &ItemLists<u32>,

@@ -15,7 +15,7 @@ use std::mem;
 pub struct Forest {
     /// The vertices in the order in which they were seen.
     pub order: Vec<u16>,
-    /// For each vertex its place in that order, from 0.
+    /// For each vertex its index in that order, from 0.
     pub number: Vec<u16>,
     /// For each vertex the number of vertices seen by the time when all its neighbours were.
     pub last: Vec<u16>,
@@ -60,7 +60,8 @@ pub fn size<T: Copy>(table: &mut Vec<T>, item: T, n: usize) -> Result<(), AllocE
     Ok(())
 }
 
-// Resets the tables of a search: all vertices are unseen and open, with no low point found and no list entry read.
+// Resets the tables of a search, with an entry for each of n vertices. `number` and `low` get n, for vertices unseen
+// and without a low point. `last` and `cursor` get 0, for open vertices of whose lists no entry was read.
 fn unsee(number: &mut [u16], last: &mut [u16], low: &mut [u16], cursor: &mut [usize])
     requires few { length number.old < 4096 }
     requires lasts { length last.old ≡ length number.old }

@@ -14,7 +14,7 @@ pub(crate) fn lesser(one: u16, other: u16) -> u16
     if one < other { one } else { other }
 }
 
-// Lowers the low point of `v` to `least`, where it is greater and `v` is a vertex.
+// Lowers entry `v` of `low` to `least`, if it is greater. It changes nothing if `v` is out of range.
 pub(crate) fn lower(low: &mut [u16], v: u16, least: u16)
     ensures { IsLowered low.old low.new v least }
 {

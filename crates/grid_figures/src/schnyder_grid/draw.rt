@@ -21,7 +21,7 @@ use std::mem;
 #[derive(Drop)]
 pub struct WoodDrawer {
     alloc: Global,
-    // the drops of all vertices, their rises behind these, and then their spans
+    // the drops of all vertices, then the rises of all, and then their spans
     gaps: Vec<u32>,
     covers: Vec<u16>,
     rows: Rotations,
@@ -70,13 +70,13 @@ impl WoodDrawer {
         Ok(points)
     }
 
-    /// Keeps the memory of `figure`, which is done with.
+    /// Keeps the memory of `figure`, which is no longer needed, for the next one.
     pub fn keep(&mut self, figure: GridFigure) {
         self.spent = figure.points;
     }
 
-    /// Draws the triangulation with these lists as [`wood_draw`] does. When memory runs out the drawer serves as
-    /// before.
+    /// Draws the triangulation with these `lists` as [`wood_draw`] does. When memory runs out the drawer can be used
+    /// again.
     pub fn list_draw(&mut self, lists: &Rotations, order: &Order) -> Result<GridFigure, AllocError>
         requires triangulation { IsTriangulation lists.now }
         requires order { (base : Dart) × IsCanonicalOrder lists.now base (vertices_of order.now) }

@@ -26,7 +26,7 @@ pub struct Run {
 pub enum Front {
     /// Some were taken.
     Lines(Run),
-    /// None was, and this has begun as before.
+    /// None was, and this is the figure that had begun, if any.
     NoLine(Option<Begun>),
 }
 

@@ -17,7 +17,7 @@ use std::alloc::{AllocError, Global};
 pub enum Line {
     /// It is open still, and the whole part joined it.
     Open(Option<Begun>),
-    /// It was closed by so many bytes of the part.
+    /// It was closed by this many bytes of the part.
     Closed(usize, After),
     /// Whole lines were taken.
     Ran(Run),

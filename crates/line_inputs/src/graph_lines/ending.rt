@@ -3,7 +3,7 @@
 /// How an input of graph6 lines ends.
 #[derive(Clone, Copy, PartialEq, Eq)]
 pub enum Ending {
-    /// Behind a closed line, or with nothing.
+    /// After a closed line, or in an empty input.
     Well,
     /// At a line that is that of no graph, or is not closed.
     BadLine(u32),

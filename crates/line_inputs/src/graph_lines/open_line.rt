@@ -38,7 +38,7 @@ pub struct OpenLine {
 pub enum Line {
     /// It is open still, and the whole part joined it.
     Open,
-    /// It was closed by so many bytes of the part.
+    /// It was closed by this many bytes of the part.
     Closed(usize, Judged),
 }
 

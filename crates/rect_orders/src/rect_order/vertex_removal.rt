@@ -29,8 +29,9 @@ impl Closed<'_> {
         ensures { IsSimpleMap self.now.lists.now }
     {}
 
-    // Takes the vertex `v` off the outer cycle, and puts its remaining neighbours on it, with all marks and counts.
-    // It fails only when out of memory.
+    // Takes the vertex `v` off the outer cycle: marks it in `gone`, and adds one in `away` for each of its neighbours.
+    // In `marked` clears its mark, and marks its neighbours that are not in `gone`. `near` counts marked neighbours;
+    // marked vertices that come to have two are pushed on `stack`. It fails only when out of memory.
     fn take_off(
         &self,
         marked: &mut [bool],
@@ -57,8 +58,9 @@ impl Closed<'_> {
         Ok(())
     }
 
-    // Takes all vertices off, and appends them to `taken` from the last to the first. After the top and the right one
-    // come others until three are left, and then those. It fails only when out of memory.
+    // Takes all vertices but three off by `take_off`, from the last of the order to the first. `taken` has the top and
+    // the right one before; appends to it the others in that order, and then the three. Before, `marked` and `gone`
+    // have no marks, `near` and `away` have zeros, and `stack` is empty. It fails only when out of memory.
     fn take_all(
         &self,
         marked: &mut [bool],
