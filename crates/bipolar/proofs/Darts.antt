@@ -55,7 +55,7 @@ module _ (map : Map) (walks : List (List ℕ)) (rank ids : List ℕ) where
             elim (Contains-push_cases (take k ids) d x (subst (λ z. Contains z x) grown c)) [
               | inl c' ↦ (let f = w.to x a b c' e up' in (f.0, kept f.0 f.1, f.2))
               | inr same ↦
-                  let is = tails_same u v a b (dart_at map d) dart (ap (dart_at map) same ∙ e) in
+                  let is = tails_same u a v b (dart_at map d) dart (ap (dart_at map) same ∙ e) in
                   let new = put.up (omega (arith, up', ap (λ z. get_or rank z 0) is.0, ap (λ z. get_or rank z 0) is.1)) in
                   (new.0, subst (λ z. Contains z new.0) (sym new.1) (Contains-push row new.0), subst (λ z. InWalk map walks new.0 z a) is.1 (subst (λ z. InWalk map walks new.0 v z) is.0 new.2))
             ];

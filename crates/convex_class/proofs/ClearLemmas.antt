@@ -8,7 +8,6 @@ use Rattle.map_theory.specs.Maps.{Dart, HasDart, face_step, list_of, twin_dart}
 use Rattle.half_edges.specs.Map.{Map, IsHalfMap, IsLive, dart_at}
 use Rattle.euler_faces.specs.FaceWalks.{walk_at, ids_of, IsFaceWalk, AreFaces}
 use Rattle.euler_faces.proofs.NumberLemmas.{live_from}
-use Rattle.euler_faces.proofs.FaceWalkLemmas.{length-ids_of}
 use Rattle.vertex_rounds.specs.Rounds.{dart_of}
 use Rattle.vertex_rounds.proofs.DartIds.{dart_of-live}
 use Rattle.vertex_rounds.proofs.LeastLemmas.{place_in}
@@ -16,7 +15,7 @@ use Rattle.convex_class.specs.Stamps.{IsStamped, AreStamped}
 use Rattle.convex_class.specs.declared.face_pairs.face_meetings.Meeting.{Meeting}
 use Rattle.convex_class.specs.Meetings.{IsHere, IsMet}
 use Rattle.convex_class.specs.Clear.{IsRing, IsNumber, IsOffAt, IsOff, IsClearVertex, IsAcross, IsSide, IsCorner, IsOffPlace, MeetsAt, IsClearFace, after_place}
-use Rattle.convex_class.proofs.WalkMarks.{get_or-ids}
+use Rattle.convex_class.proofs.WalkMarks.{get_or-ids, length-ids}
 use Rattle.convex_class.proofs.StampLemmas.{IsStamped-none, IsStamped-fewer, AreStamped-more}
 use Rattle.convex_class.proofs.MeetingLemmas.{IsMet-none, IsMet-fewer, IsMet-more, IsMet-both, IsMet-apart}
 
@@ -29,7 +28,7 @@ tail_is o v w z is e = ap (λ (x : Option ℕ). unwrap_or x 0) (sym (ap (option_
 
 -- what holds of each id holds of each dart of a row
 pub each_dart : (ds : List DartId) (P : ℕ → Type 0) → ((i : ℕ) → i < length (ids_of ds) → P (get_or (ids_of ds) i 0)) → (i : ℕ) → i < length ds → P (get_or ds i (record { 0 = 0 })).0
-each_dart ds P all i l = let long = length-ids_of ds in subst P (get_or-ids ds i l) (all i (omega arith))
+each_dart ds P all i l = let long = length-ids ds in subst P (get_or-ids ds i l) (all i (omega arith))
 
 -- what is marked at each place of a row is marked for each of its entries
 pub stamped_each : (x k : ℕ) (ids : List ℕ) (Z : ℕ → ℕ → Type 0) (old : List ℕ) (best : ℕ) (new : List ℕ) (result : ℕ) → k ≡ length ids → AreStamped x k (λ i. Z (get_or ids i 0)) old best new result → IsStamped x (λ z. (d : ℕ) × Contains ids d × Z d z) old best new result
@@ -39,7 +38,7 @@ stamped_each x k ids Z old best new result whole s =
 
 -- the darts of a row of u
 pub ring_dart : (map : Map) (u : ℕ) (ds : List DartId) → IsRing map u (ids_of ds) → (i : ℕ) → i < length ds → dart_at map (get_or ds i (record { 0 = 0 })).0 ≡ Some (u, get_or (list_of map.lists u) i 0)
-ring_dart map u ds r i l = ap (dart_at map) (sym (get_or-ids ds i l)) ∙ r.each i (omega (arith, length-ids_of ds))
+ring_dart map u ds r i l = ap (dart_at map) (sym (get_or-ids ds i l)) ∙ r.each i (omega (arith, length-ids ds))
 
 pub ring_live : (map : Map) (u : ℕ) (ds : List DartId) → IsRing map u (ids_of ds) → (i : ℕ) → i < length ds → IsLive map (get_or ds i (record { 0 = 0 })).0
 ring_live map u ds r i l = live_from (dart_at map (get_or ds i (record { 0 = 0 })).0) (u, get_or (list_of map.lists u) i 0) (ring_dart map u ds r i l)
@@ -55,7 +54,7 @@ after_live map walk w i l =
     live_from (dart_at map (after_place walk i)) (face_step map.lists (dart_of map d)) (w.steps i l ∙ ap (option_map (face_step map.lists)) (dart_of-live map d (w.live i l)))
 
 pub behind_live : (map : Map) (walks : List (List ℕ)) → AreFaces map walks → (f : ℕ) → f < length walks → (ds : List DartId) → ids_of ds ≡ walk_at walks f → (i : ℕ) → i < length ds → (e : ℕ) → e ≡ after_place (ids_of ds) i → IsLive map e
-behind_live map walks faces f l ds is i m e behind = subst (λ d. IsLive map d) (sym behind) (after_live map (ids_of ds) (subst (λ (w : List ℕ). IsFaceWalk map w) (sym is) (faces.each f l)) i (omega (arith, length-ids_of ds, m)))
+behind_live map walks faces f l ds is i m e behind = subst (λ d. IsLive map d) (sym behind) (after_live map (ids_of ds) (subst (λ (w : List ℕ). IsFaceWalk map w) (sym is) (faces.each f l)) i (omega (arith, length-ids ds, m)))
 
 -- the tail of a live dart is a vertex
 pub tail_below : (map : Map) → IsHalfMap map → (d v : ℕ) → IsLive map d → option_map (λ (e : Dart). e.0) (dart_at map d) ≡ Some v → v < length map.lists
@@ -185,7 +184,7 @@ off_place map walks f i e ds old best new result is l behind s =
     let d = (get_or ds i (record { 0 = 0 })).0 in
     subst (λ x. IsMet f (IsCorner map walks (length w) f (get_or w i 0) x) old best new result) (behind ∙ ap (λ (xs : List ℕ). after_place xs i) is)
     (subst (λ x. IsMet f (IsCorner map walks (length w) f x e) old best new result) (sym (get_or-ids ds i l) ∙ ap (λ (xs : List ℕ). get_or xs i 0) is)
-    (subst (λ x. IsMet f (IsCorner map walks x f d e) old best new result) (sym (length-ids_of ds) ∙ ap (λ (xs : List ℕ). length xs) is) s))
+    (subst (λ x. IsMet f (IsCorner map walks x f d e) old best new result) (sym (length-ids ds) ∙ ap (λ (xs : List ℕ). length xs) is) s))
 
 -- The dart at place p of a row stands in face z, by the number that the call names. What is noted are faces other than f, x and y.
 module _ (map : Map) (walks : List (List ℕ)) (faces : AreFaces map walks) (ds : List DartId) (place : Meeting) (x y p z : ℕ) (l : p < length ds) (is : IsNumber walks (get_or ds p (record { 0 = 0 })).0 z) where

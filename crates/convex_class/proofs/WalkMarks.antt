@@ -1,7 +1,7 @@
 -- Marks that a walk along a face sets, dart by dart.
 use Rattle.std.proofs.Common.{◌≡◌, ◌≢◌, ◌⊎◌, ℕ, ◌+◌, ◌<◌, ◌≤◌, List, length, get_or, Contains, Some, sym, ap, ◌∙◌, subst, inl, inr, arith, length-set}
 use Rattle.std.proofs.lemmas.Bool.{cases_eq, cases_lt}
-use Rattle.std.proofs.lemmas.List.{get_or_default, get_or-map}
+use Rattle.std.proofs.lemmas.List.{get_or_default, get_or-map, length-map}
 use Rattle.std.proofs.lemmas.List.Elements.{Contains-get_or}
 use Rattle.classes.proofs.Classes.{same_class-from, Together-from}
 use Rattle.map_theory.specs.Maps.{Dart, HasDart, list_of, face_classes}
@@ -22,6 +22,9 @@ use Rattle.convex_class.proofs.MarkLemmas.{Alike, AreMarks-alike, AreMarks-more,
 
 pub get_or-ids : (ds : List DartId) (i : ℕ) → i < length ds → get_or (ids_of ds) i 0 ≡ (get_or ds i (record { 0 = 0 })).0
 get_or-ids ds i l = get_or-map (λ (d : DartId). d.0) ds i (record { 0 = 0 }) 0 l
+
+pub length-ids : (ds : List DartId) → length (ids_of ds) ≡ length ds
+length-ids ds = length-map {B = ℕ} ds (λ (d : DartId). d.0)
 
 -- the dart of an id leads from the greater vertex x to another than u
 abbrev pub Passes : Map → ℕ → ℕ → ℕ → Type 0

@@ -10,15 +10,13 @@ use Rattle.contour_runs.proofs.FaceRunsPlaces.{order, cut-last, vertex_after-low
 use Rattle.convex_counts.specs.Counts.{face_counts}
 use Rattle.convex_counts.proofs.Kept.{AreOnFirst, AreOnSecond, IsThirdFirst}
 use Rattle.convex_counts.specs.FacePointsLaws.{IsWholeRun}
-use Rattle.convex_counts.proofs.Apart.{find_face}
-use Rattle.convex_counts.proofs.FacePointsSides.{on_first, on_second, second_third, third_first}
+use Rattle.convex_counts.proofs.Apart.{find_face, new_apart}
+use Rattle.convex_counts.proofs.FacePointsSides.{on_first, on_second, second_third, third_first, on_third}
 use Rattle.convex_counts.specs.declared.face_woods.axis.Axis.{Axis}
 use Rattle.convex_counts.specs.declared.face_woods.axis.Axis.TheVariants.{One, Two, Three}
 use Rattle.convex_counts.specs.Rising.{IsRising, IsRootRank, IsRunEdge, along, back, over}
 use Rattle.convex_counts.proofs.Ends.{two_at_first, one_at_last}
 use Rattle.convex_counts.proofs.DartKinds.{AreApart, base_apart, right_pair, left_pair}
-use Rattle.convex_counts.proofs.Apart.{new_apart}
-use Rattle.convex_counts.proofs.FacePointsSides.{on_third}
 
 -- the step in which a vertex is new
 pub new_step : (steps : ℕ → Step) (n v : ℕ) → 2 ≤ v → v < (stage_after steps n).count → (k : ℕ) × (k < n) × ((stage_after steps k).count ≤ v) × (v < (stage_after steps k).count + (steps k).vertices)

@@ -7,10 +7,9 @@ use Rattle.contour_runs.specs.Runs.{Stage}
 use Rattle.contour_runs.specs.Laws.{IsStage}
 use Rattle.contour_runs.specs.Wood.{Coordinates, point_of}
 use Rattle.contour_runs.specs.FaceRuns.{Step, stage_after, IsStep, IsDartOf}
-use Rattle.contour_runs.proofs.FaceRunsFaces.{face_length, face_vertex}
+use Rattle.contour_runs.proofs.FaceRunsFaces.{face_length, face_vertex, one_place}
 use Rattle.contour_runs.proofs.FaceRunsPlaces.{cut-next, cut-last}
 use Rattle.contour_runs.proofs.FaceRunsStages.{IsStage-run, IsRun-less}
-use Rattle.contour_runs.proofs.FaceRunsFaces.{one_place}
 use Rattle.convex_counts.specs.Counts.{face_counts, IsTurnedRun}
 use Rattle.convex_counts.proofs.Convex.{faces_convex}
 

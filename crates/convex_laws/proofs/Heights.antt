@@ -1,11 +1,10 @@
 -- No face goes up along one axis all the way round.
 use Rattle.std.proofs.Common.{◌≡◌, ℕ, zero, suc, ◌+◌, ◌-◌, ◌<◌, ◌≤◌, refl, sym, ◌∙◌, arith}
 use Rattle.map_lists.specs.Lists.{Lists}
-use Rattle.map_theory.specs.Maps.{HasDart, follows}
+use Rattle.map_theory.specs.Maps.{HasDart, follows, IsSimpleMap}
 use Rattle.map_theory.specs.Paths.{SameFace}
 use Rattle.map_theory.proofs.DartLemmas.{HasDart-face_step}
 use Rattle.contour_runs.specs.Wood.{Coordinates}
-use Rattle.map_theory.specs.Maps.{IsSimpleMap}
 use Rattle.convex_peeling.specs.Contours.{face_of}
 use Rattle.convex_peeling.proofs.Faces.{SameFace-labels, face_of-step}
 use Rattle.convex_counts.specs.declared.face_woods.axis.Axis.{Axis}

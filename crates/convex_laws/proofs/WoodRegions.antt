@@ -2,8 +2,7 @@
 use Rattle.std.proofs.Common.{◌≡◌, ◌≢◌, ◌⊎◌, ℕ, zero, suc, ◌+◌, ◌-◌, ◌<◌, ◌≤◌, pos, Bool, true, false, not, ◌&&◌, eqb, List, length, refl, sym, ap, ap₂, ◌∙◌, subst, inl, inr, arith}
 use Rattle.std.proofs.lemmas.Bool.{cases_lt, cases_eq, lt-ltb, eq-eqb, ne_eqb, and_from}
 use Rattle.std.proofs.Math.Bool.{and_comm}
-use Rattle.classes.specs.Classes.{count_below, same_class}
-use Rattle.classes.specs.Classes.{label as label_in}
+use Rattle.classes.specs.Classes.{count_below, same_class, label as label_in}
 use Rattle.classes.proofs.Counting.{one_if, count_below_same, count_below_into, count_below_not, count_below_split}
 use Rattle.classes.proofs.Classes.{IsLabels, label-lt}
 use Rattle.classes.proofs.Orbits.{length-orbits, IsLabels-orbits}

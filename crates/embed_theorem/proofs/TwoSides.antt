@@ -4,7 +4,7 @@ use Rattle.std.proofs.lemmas.Bool.{cases_Bool, cases_eq, cases_lt, true≢false,
 use Rattle.std.specs.Cmp.{both_ways}
 use Rattle.std.proofs.Math.Bool.{and_comm, or_comm}
 use Rattle.classes.specs.Classes.{label, same_class}
-use Rattle.classes.proofs.Classes.{Together-from, label_past, label-lt, length-classes}
+use Rattle.classes.proofs.Classes.{Together-from, label_past, label-lt, length-classes, same_class-from}
 use Rattle.map_lists.specs.Lists.{Lists}
 use Rattle.map_theory.specs.Maps.{HasDart, IsSimpleMap, darts, component_classes, SameComponent}
 use Rattle.map_theory.proofs.DartPermutations.{IsLabels-components, edge_together}
@@ -15,7 +15,6 @@ use Rattle.plane_peeling.proofs.RestrictedMaps.{cases_Contains}
 use Rattle.embed_surgery.proofs.UnionLists.{has_dart, has_dart-is, HasDart-from}
 use Rattle.embed_contraction.specs.Linked.{HasEdge, without_vertices, outside}
 use Rattle.embed_contraction.proofs.Parts.{cases_part, cases_edge, part-chained, part-itself, rest-together, outside-is, outside-from}
-use Rattle.classes.proofs.Classes.{same_class-from}
 use Rattle.embed_theorem.proofs.Graphs.{Result, IsSided}
 use Rattle.embed_theorem.proofs.Sides.{sides_turned, Smaller, glue_one, glue_two}
 

@@ -20,9 +20,6 @@ use Rattle.embed_witnesses.proofs.ContractedLemmas.{AreEdges-filter, IsContracti
 use Rattle.embed_witnesses.proofs.Avoiding.{path_ends, path-from_part, HasEdge-connected, linked_without_none}
 use Rattle.embed_witnesses.proofs.ThreeLinked.{three_linked, in_one, in_two, in_three}
 
--- ---- the darts of the lists of a graph
-module _ (graph : EdgeGraph) (is : IsGraph graph) where
-
 -- ---- numbers that fall
 -- what a vertex becomes
 abbrev pub down : ℕ → ℕ → ℕ → ℕ

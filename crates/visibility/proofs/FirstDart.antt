@@ -44,7 +44,7 @@ IsStOf-first map d lists rank same biconnected is order =
       plane = subst IsPlane (sym same) biconnected.plane;
       connected = subst (λ (ls : Lists). component_count ls ≡ 1) (sym same) biconnected.connected;
       order = λ s t e.
-          let one = tails_same 0 (slice_index (list_of map.lists 0) 0) s t (dart_at map d) is e in
+          let one = tails_same 0 s (slice_index (list_of map.lists 0) 0) t (dart_at map d) is e in
           (along.0, subst (λ x. IsStOrder map.lists s x along.0 rank) one.1 (subst (λ x. IsStOrder map.lists x (slice_index (list_of map.lists 0) 0) along.0 rank) one.0 along.1));
     }
 

@@ -2,8 +2,7 @@
 use Rattle.std.proofs.Common.{◌≡◌, ◌≢◌, ◌⊎◌, ℕ, zero, suc, ◌+◌, ◌*◌, ◌<◌, ◌≤◌, true, cond, eqb, List, [], ◌∷◌, length, Contains, AllPairs, refl, sym, ap, ◌∙◌, subst, inl, inr, arith, eq-eqb, ne_eqb}
 use Rattle.std.proofs.lemmas.Bool.{cases_eq, cases_lt}
 use Rattle.map_lists.specs.Lists.{Lists}
-use Rattle.map_theory.specs.Maps.{Dart, HasDart, list_of}
-use Rattle.map_theory.specs.Maps.{darts_before}
+use Rattle.map_theory.specs.Maps.{Dart, HasDart, list_of, darts_before}
 use Rattle.map_theory.proofs.DartLemmas.{HasDart-follows, darts_before_none, darts_before_more, darts_before_all}
 use Rattle.map_theory.proofs.DartCounts.{sum_below, sum_below-add, sum_below-same, sum_below-zero, sum_below-count_of, dart_count-edge_count}
 use Rattle.map_theory.proofs.EntryLemmas.{count_of, count_of-cons, count_of-le-one, one-le-count_of, Contains-from_count_of, AllPairs-from_counts}

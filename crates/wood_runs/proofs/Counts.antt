@@ -7,9 +7,8 @@ use Rattle.contour_runs.specs.Runs.{Step, Stage, stage_after, IsRun}
 use Rattle.contour_runs.proofs.Stages.{IsStage-run, IsRun-less, count-stage_after}
 use Rattle.contour_runs.specs.Wood.{coordinates}
 use Rattle.contour_runs.proofs.Steps.{one_gain-low, one_gain-high, two_gain-low, two_gain-high, one_after-older, two_after-older, one_after-new, two_after-new}
-use Rattle.wood_runs.proofs.Sides.{sides}
+use Rattle.wood_runs.proofs.Sides.{sides, paths}
 use Rattle.wood_runs.specs.Fronts.{fronts, shades, IsOn}
-use Rattle.wood_runs.proofs.Sides.{paths}
 use Rattle.wood_runs.proofs.Steps.{side_after-older, side_after-one, side_after-two, side_after-self}
 use Rattle.wood_runs.proofs.Shades.{IsShaded-run, wp_is, wq_is}
 use Rattle.wood_runs.proofs.Nested.{IsNested-run}

@@ -1,5 +1,4 @@
-use Rattle.std.proofs.Common.{◌≡◌, Bool}
-use Rattle.std.proofs.Common.{subst}
+use Rattle.std.proofs.Common.{◌≡◌, Bool, subst}
 use Rattle.wood_laws.proofs.WoodLemmas.{ranked}
 use Rattle.wood_laws.specs.Regions.{Reaches}
 use Rattle.wood_laws.proofs.RegionLemmas.{met_all, known_all}

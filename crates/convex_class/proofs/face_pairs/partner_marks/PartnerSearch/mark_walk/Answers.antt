@@ -1,9 +1,8 @@
 use Rattle.std.proofs.Common.{◌≡◌, ◌<◌, length, get_or, Some, subst, arith}
 use Rattle.half_edges.specs.Map.{IsLive, dart_at}
 use Rattle.euler_faces.specs.FaceWalks.{ids_of}
-use Rattle.euler_faces.proofs.FaceWalkLemmas.{length-ids_of}
 use Rattle.vertex_rounds.proofs.RoundLemmas.{place_at}
-use Rattle.convex_class.proofs.WalkMarks.{AreMarksUnderWay, AreMarksUnderWay-none, AreMarksUnderWay-step, AreMarksUnderWay-whole, IsUnused-step, get_or-ids}
+use Rattle.convex_class.proofs.WalkMarks.{AreMarksUnderWay, AreMarksUnderWay-none, AreMarksUnderWay-step, AreMarksUnderWay-whole, IsUnused-step, get_or-ids, length-ids}
 use Rattle.vertex_rounds.specs.Rounds.{dart_of}
 use Rattle.vertex_rounds.proofs.DartIds.{dart_of-live}
 use Rattle.convex_class.proofs.face_pairs.partner_marks.PartnerSearch.mark_walk.Goals as goal
@@ -17,7 +16,7 @@ loop-d-init c =
 
 pub mark_tail-best-requires-clause-live : goal.mark_tail-best-requires-clause-live
 mark_tail-best-requires-clause-live c =
-    let long = length-ids_of c.args.walk.now in
+    let long = length-ids c.args.walk.now in
     let at = get_or-ids c.args.walk.now c.loop-d.d-index c.loop-d-test.true in
     subst (IsLive c.args.self.now.uncut.map.now) at (c.requires.walk.live c.loop-d.d-index (omega arith))
 
@@ -27,7 +26,7 @@ loop-d-preserved c =
     let u = c.args.self.now.u.0 in
     let ids = ids_of c.args.walk.now in
     let p = c.loop-d.d-index in
-    let long = length-ids_of c.args.walk.now in
+    let long = length-ids c.args.walk.now in
     let within : p < length ids = omega arith in
     let at = get_or-ids c.args.walk.now p c.loop-d-test.true in
     let x = dart_of map (get_or ids p 0) in
@@ -45,7 +44,7 @@ pub returns-clause-marked : goal.returns-clause-marked
 returns-clause-marked c = λ d leaves on m.
     let map = c.args.self.now.uncut.map.now in
     let ids = ids_of c.args.walk.now in
-    let long = length-ids_of c.args.walk.now in
+    let long = length-ids c.args.walk.now in
     let all : c.loop-d.d-index ≡ length ids = omega arith in
     AreMarksUnderWay-whole map c.facts.ensures.known c.facts.ensures.uncut c.args.self.now.u.0 ids c.requires.walk d leaves on c.loop-d.marks c.loop-d.best
     (subst (λ p. AreMarksUnderWay map c.args.self.now.u.0 ids (place_at map c.args.self.now.u.0 d) p c.loop-d.marks c.loop-d.best) all (c.loop-d.invariant.marked d leaves on m))

@@ -2,12 +2,12 @@ use Rattle.std.proofs.Common.{◌≡◌, ◌≢◌, ℕ, ◌<◌, length, get_or
 use Rattle.vertex_rounds.proofs.LeastLemmas.{place_in}
 use Rattle.half_edges.specs.Map.{IsLive}
 use Rattle.euler_faces.specs.FaceWalks.{ids_of}
-use Rattle.euler_faces.proofs.FaceWalkLemmas.{length-ids_of}
 use Rattle.convex_class.specs.Clear.{IsNumber}
 use Rattle.convex_class.proofs.MeetingLemmas.{IsMet-fewer}
 use Rattle.convex_class.proofs.ClearLemmas.{each_dart, met_none, met_one}
 use Rattle.convex_class.proofs.face_pairs.twice_met_faces.FaceVertex.meet_round.Goals as goal
 use Rattle.convex_class.proofs.face_pairs.twice_met_faces.FaceVertex.meet_round.Goals.{then-z-x-via-then-z-x, then-z-x-via-else-z-x+then-z-y}
+use Rattle.convex_class.proofs.WalkMarks.{length-ids}
 
 pub of_dart-z-requires : goal.of_dart-z-requires
 of_dart-z-requires c = c.facts.ensures.faces.all _ (each_dart c.args.ring.now (IsLive c.args.self.now.uncut.map.now) c.requires.ring c.loop-c.c-index c.loop-c-test.true)
@@ -31,7 +31,7 @@ returns c =
     let x = c.args.self.now.x in
     let y = c.args.self.now.y in
     let ids = ids_of c.args.ring.now in
-    let long = length-ids_of c.args.ring.now in
+    let long = length-ids c.args.ring.now in
     let whole : c.loop-c.c-index ≡ length ids = omega arith in
     IsMet-fewer f c.args.met.now c.args.best c.loop-c.met c.loop-c.best
     (λ z t h. (i : ℕ) × (i < c.loop-c.c-index) × (IsNumber walks (get_or ids i 0) z × (z ≢ f) × (z ≢ x) × (z ≢ y) × (t ≡ place.tail) × (h ≡ place.head)))

@@ -1,10 +1,9 @@
 use Rattle.std.proofs.Common.{◌≡◌, ℕ, ◌<◌, length, get_or, sym, subst, arith}
 use Rattle.half_edges.specs.Map.{dart_at}
 use Rattle.euler_faces.specs.FaceWalks.{ids_of}
-use Rattle.euler_faces.proofs.FaceWalkLemmas.{length-ids_of}
 use Rattle.convex_class.specs.Clear.{IsSide}
 use Rattle.convex_class.specs.Meetings.{IsHere, IsMet}
-use Rattle.convex_class.proofs.WalkMarks.{get_or-ids}
+use Rattle.convex_class.proofs.WalkMarks.{get_or-ids, length-ids}
 use Rattle.convex_class.proofs.MeetingLemmas.{IsMet-fewer, IsMet-more}
 use Rattle.convex_class.proofs.ClearLemmas.{head_is, tail_is, walk_live, clear_face}
 use Rattle.convex_class.proofs.face_pairs.twice_met_faces.WalkedFace.least.Goals as goal
@@ -49,7 +48,7 @@ returns-clause-clear c =
     let walks = c.args.self.now.uncut.faces.now in
     let f = c.args.self.now.f in
     let ids = ids_of c.args.self.now.walk.now in
-    let long = length-ids_of c.args.self.now.walk.now in
+    let long = length-ids c.args.self.now.walk.now in
     let whole : c.loop-d.d-index ≡ length ids = omega arith in
     let sides = subst (λ k. IsMet f (λ z x y. (i : ℕ) × (i < k) × IsSide map walks (get_or ids i 0) z x y) c.args.met.now c.args.best c.loop-d.met c.loop-d.best) whole c.loop-d.invariant in
     clear_face map walks f ids c.args.met.now c.args.best c.loop-d.met c.loop-d.best c.meet_corners.new.met c.in_ok-least.least c.args.self.now.walked sides c.in_ok-least.ensures

@@ -1,9 +1,9 @@
 use Rattle.std.proofs.Common.{◌≡◌, ◌≢◌, ◌<◌, ℕ, List, length, get_or, Contains, sym, ap, subst, arith}
 use Rattle.map_lists.specs.declared.ids.DartId.{DartId}
 use Rattle.euler_faces.specs.FaceWalks.{ids_of, walk_at}
-use Rattle.euler_faces.proofs.FaceWalkLemmas.{length-ids_of}
 use Rattle.convex_class.specs.Clear.{IsRing, IsNumber, IsCorner, IsOffPlace}
 use Rattle.convex_class.specs.Meetings.{IsMet}
+use Rattle.convex_class.proofs.WalkMarks.{length-ids}
 use Rattle.convex_class.proofs.MeetingLemmas.{IsMet-none, IsMet-fewer, IsMet-more}
 use Rattle.convex_class.proofs.ClearLemmas.{off_in_ring, off_place, corner_below, large_corner, walk_live, behind_live}
 use Rattle.convex_class.proofs.face_pairs.twice_met_faces.WalkedFace.meet_corners.Goals as goal
@@ -51,7 +51,7 @@ loop-i-preserved c =
 
 pub returns : goal.returns
 returns c =
-    let size = length-ids_of c.args.self.now.walk.now in
+    let size = length-ids c.args.self.now.walk.now in
     let same = ap (λ (w : List ℕ). length w) c.args.self.now.walked in
     let whole : c.loop-i.i ≡ length (walk_at c.args.self.now.uncut.faces.now c.args.self.now.f) = omega arith in
     subst (λ k. IsMet c.args.self.now.f (λ z x y. (i : ℕ) × (i < k) × IsOffPlace c.args.self.now.uncut.map.now c.args.self.now.uncut.faces.now c.args.self.now.f i z x y) c.args.met.now c.args.best c.loop-i.met c.loop-i.best) whole c.loop-i.invariant

@@ -1,8 +1,8 @@
 use Rattle.std.proofs.Common.{◌≡◌, length, inl, inr, arith}
 use Rattle.half_edges.specs.Map.{IsLive}
 use Rattle.euler_faces.specs.FaceWalks.{ids_of}
-use Rattle.euler_faces.proofs.FaceWalkLemmas.{length-ids_of}
 use Rattle.convex_class.specs.Clear.{IsOffAt}
+use Rattle.convex_class.proofs.WalkMarks.{length-ids}
 use Rattle.convex_class.proofs.ClearLemmas.{each_dart, tail_below, stamped_each, marked_none, marked_one}
 use Rattle.convex_class.proofs.face_pairs.twice_met_vertices.FaceOf.mark_passed.Goals as goal
 use Rattle.convex_class.proofs.face_pairs.twice_met_vertices.FaceOf.mark_passed.Goals.{then-z-u-via-then-z-u, then-z-u-via-else-z-u+then-z-a}
@@ -32,6 +32,6 @@ loop-d-preserved c = marked_one c.args.self.now.uncut.map.now c.args.self.now.u 
 pub returns : goal.returns
 returns c =
     let ids = ids_of c.args.walk.now in
-    let long = length-ids_of c.args.walk.now in
+    let long = length-ids c.args.walk.now in
     let whole : c.loop-d.d-index ≡ length ids = omega arith in
     stamped_each c.args.self.now.u c.loop-d.d-index ids (λ d. IsOffAt c.args.self.now.uncut.map.now c.args.self.now.u c.args.self.now.a d) c.args.marks.now c.args.best c.loop-d.marks c.loop-d.best whole c.loop-d.invariant

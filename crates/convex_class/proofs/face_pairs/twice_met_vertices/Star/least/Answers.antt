@@ -1,9 +1,9 @@
 use Rattle.std.proofs.Common.{◌≡◌, ◌<◌, ℕ, length, get_or, sym, subst, ◌∙◌, arith}
 use Rattle.map_theory.specs.Maps.{HasDart, list_of}
 use Rattle.euler_faces.specs.FaceWalks.{ids_of}
-use Rattle.euler_faces.proofs.FaceWalkLemmas.{length-ids_of}
 use Rattle.convex_class.specs.Clear.{IsOff}
 use Rattle.convex_class.specs.Stamps.{AreStamped}
+use Rattle.convex_class.proofs.WalkMarks.{length-ids}
 use Rattle.convex_class.proofs.ClearLemmas.{head_is, ring_dart, ring_live, heads_more, heads_all, clear_vertex}
 use Rattle.convex_class.proofs.face_pairs.twice_met_vertices.Star.least.Goals as goal
 
@@ -44,7 +44,7 @@ returns-clause-clear c =
     let mid = c.loop-d.marks in
     let now = c.mark_faces.new.marks in
     let least = c.mark_faces.result in
-    let long = length-ids_of c.args.self.now.ring.now in
+    let long = length-ids c.args.self.now.ring.now in
     let size = c.args.self.now.darts.long in
     let whole : c.loop-d.d-index ≡ length us = omega arith in
     let heads : (z : ℕ) → HasDart map.lists u z → get_or mid z 0 ≡ u = λ z has. heads_all u c.loop-d.d-index us mid whole c.loop-d.invariant z has.1 in

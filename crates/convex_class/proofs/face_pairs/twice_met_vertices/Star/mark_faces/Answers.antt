@@ -1,9 +1,8 @@
 use Rattle.std.proofs.Common.{◌≡◌, ℕ, List, length, get_or, Contains, sym, ap, subst, arith}
 use Rattle.euler_faces.specs.FaceWalks.{ids_of}
-use Rattle.euler_faces.proofs.FaceWalkLemmas.{length-ids_of}
 use Rattle.convex_class.specs.Clear.{IsOff, IsOffAt}
 use Rattle.convex_class.specs.Stamps.{IsStamped, AreStamped}
-use Rattle.convex_class.proofs.WalkMarks.{get_or-ids}
+use Rattle.convex_class.proofs.WalkMarks.{get_or-ids, length-ids}
 use Rattle.convex_class.proofs.StampLemmas.{IsStamped-none, IsStamped-fewer, AreStamped-more}
 use Rattle.convex_class.proofs.ClearLemmas.{off_in_walk, ring_live}
 use Rattle.convex_class.proofs.face_pairs.twice_met_vertices.Star.mark_faces.Goals as goal
@@ -30,7 +29,7 @@ loop-d-preserved-then-walk-ring c =
     (λ z h.
     let o = off_in_walk map c.facts.ensures.known walks c.facts.ensures.faces most u c.head-a.result.0 d c.of_dart.result.0 z c.head-a.ensures (c.of_dart.ensures.face, c.of_dart.ensures.stands) h in
     let short = o.0 in
-    let long = length-ids_of c.walk-walk.result.now in
+    let long = length-ids c.walk-walk.result.now in
     let size = ap (λ (l : List ℕ). length l) c.walk-walk.ensures.walk in
     let more = c.if-walk-ring.true in
     omega arith) in
