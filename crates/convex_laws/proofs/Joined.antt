@@ -1,5 +1,5 @@
 -- The middles of a run's faces are middles of the darts' faces.
-use Rattle.std.proofs.Common.{◌≡◌, ◌≢◌, ℕ, zero, suc, ◌+◌, ◌-◌, ◌<◌, ◌≤◌, ltb, if◌then◌else◌, pos, ◌<ℤ◌, sym, ap, ap₂, subst, ◌∙◌, inl, inr, arith}
+use Rattle.std.proofs.Common.{◌≡◌, ◌≢◌, ℕ, zero, suc, ◌+◌, ◌-◌, ◌*◌, ◌<◌, ◌≤◌, ltb, if◌then◌else◌, ℤ, pos, ◌+ℤ◌, ◌<ℤ◌, refl, sym, ap, ap₂, subst, ◌∙◌, inl, inr, arith}
 use Rattle.std.proofs.lemmas.Bool.{cond-true, cond-false, lt-ltb, le-ltb}
 use Rattle.std.proofs.lemmas.Int.{ints}
 use Rattle.pg_plane.specs.declared.grid_points.Point.{Point}
@@ -21,6 +21,7 @@ use Rattle.convex_laws.specs.FaceDrawings.{IsBaseDart, IsRunDart}
 -- k darts, each of which leaves the vertex `tail` of the run and is on the face of that number: the twin is the dart the other way, the step goes on along the face on the left, and `back` the other way; one dart alone is the base.
 pub record AreDartsOf (steps : ℕ → Step) (n k : ℕ) (twin step back tail face : ℕ → ℕ) (base : ℕ) : Type 0 where
   pub twins : IsPermuting twin k
+  pub steps_on : IsPermuting step k
   pub twice : (i : ℕ) → i < k → twin (twin i) ≡ i
   pub back_in : (i : ℕ) → i < k → back i < k
   pub step_back : (i : ℕ) → i < k → step (back i) ≡ i

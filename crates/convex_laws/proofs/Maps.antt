@@ -22,7 +22,7 @@ use Rattle.convex_laws.specs.Middles.{IsPlaneRound}
 use Rattle.convex_laws.specs.FaceDrawings.{IsRunDart}
 use Rattle.convex_laws.proofs.Joined.{face_counts_draw, AreDartsOf}
 use Rattle.convex_laws.specs.ConvexDrawings.{IsRunMap, AreCountPoints, IsConvexDrawing, ConvexRunDraws, grid_point}
-use Rattle.convex_laws.proofs.Rounds.{step, back, twins_in, back_in, step_back, head_tail, has_dart, dart_of-step, number, number_in, number_dart, number_tail, number_head, is_plane, rotations_kept}
+use Rattle.convex_laws.proofs.Rounds.{step, back, steps, twins_in, back_in, step_back, head_tail, has_dart, dart_of-step, number, number_in, number_dart, number_tail, number_head, is_plane, rotations_kept}
 use Rattle.convex_laws.proofs.FaceNumbers.{made-less}
 
 -- the number of a face tells its step
@@ -40,6 +40,7 @@ module _ (lists : Lists) (base : Dart) (s : ℕ → Step) (n : ℕ) (rank : ℕ 
   darts : AreDartsOf s n (dart_count lists) (twin lists) (step lists m.simple) (back lists m.simple) (λ i. rank (tail_of lists i)) face_of (number lists m.simple base.0 base.1)
   darts = record {
     twins = IsPermuting-pairing (twin lists) (dart_count lists) (IsPairing-twin lists m.simple);
+    steps_on = steps lists m.simple;
     twice = λ i l. (IsPairing-twin lists m.simple).back i l;
     back_in = back_in lists m.simple;
     step_back = step_back lists m.simple;

@@ -368,7 +368,7 @@ module _ (steps : ℕ → Step) (n : ℕ) (whole : IsWholeRun steps n) (some : 0
               two = h.two;
               three = λ v. third_test steps m c_at v;
               ways = h.ways;
-              third = ways_done steps n whole some m x y c_at (over_done steps n whole some m j i lm li lo hi gone);
+              third = ways_done steps n whole some m x y c_at (over_done steps n whole some m j i lm li lo hi gone gone_back);
               outer_one = false;
               outer_two = false;
               outer_three = kind.0;
@@ -409,7 +409,7 @@ module _ (steps : ℕ → Step) (n : ℕ) (whole : IsWholeRun steps n) (some : 0
         two = none;
         three = λ v. third_test steps m c v;
         ways = ways_middle steps n whole some m (suc i) lm (omega arith) li;
-        third = ways_done steps n whole some m x y c (middle_done steps n whole some m i lm li gone);
+        third = ways_done steps n whole some m x y c (middle_done steps n whole some m i lm li gone gone_back);
         outer_one = false;
         outer_two = false;
         outer_three = false;

@@ -8,7 +8,7 @@ use Rattle.contour_runs.specs.FaceRunsLaws.{GoesAlong}
 use Rattle.convex_counts.specs.Counts.{face_counts, two_gain, IsTurned}
 use Rattle.convex_counts.specs.Contours.{IsFalling}
 use Rattle.convex_counts.specs.FacePointsLaws.{IsWholeRun}
-use Rattle.contour_runs.proofs.FaceRunsPlaces.{cut-le, cut-first, cut-last}
+use Rattle.contour_runs.proofs.FaceRunsPlaces.{cut-lt, cut-le, cut-first, cut-last}
 use Rattle.contour_runs.proofs.FaceRunsStages.{IsRun-less, count-le}
 use Rattle.convex_counts.proofs.Steps.{IsFalling-run}
 use Rattle.convex_counts.proofs.Gains.{gain-first, gain-second}
@@ -107,7 +107,10 @@ module _ (steps : ℕ → Step) (n : ℕ) (whole : IsWholeRun steps n) (some : 0
     pub outside : (p : ℕ) → (p ≤ (steps m).first) ⊎ ((steps m).last ≤ p) → c p ≡ false
     pub clear_x : (v : ℕ) → v < (st m).count → IsOff (st m) v → v ≢ x
     pub clear_y : (v : ℕ) → v < (st m).count → IsOff (st m) v → v ≢ y
+    pub small_x : x < (st (suc m)).count
+    pub small_y : y < (st (suc m)).count
     pub gone : (l p : ℕ) → m < l → l ≤ n → ¬ GoesAlong (st l) x y p
+    pub gone_back : (l p : ℕ) → m < l → l ≤ n → ¬ GoesAlong (st l) y x p
     pub here : (p u : ℕ) → (steps m).first < p → p < (steps m).last → LeadsFrom steps n whole some m p u → c p ≡ flipped (is_edge ((st m).vertex p, u) x y) (third_test steps m c u)
 
   module _ (m x y : ℕ) (c : ℕ → Bool) (d : IsDone m x y c) where
@@ -252,15 +255,18 @@ module _ (steps : ℕ → Step) (n : ℕ) (whole : IsWholeRun steps n) (some : 0
         (ap (λ z. flipped z (leb p t)) same ∙ (flipped_self (leb p t) ∙ sym (third-new steps n run m lm over_test over_outside u (omega arith))))
         (no_edge v u x y (λ ev eu. omega arith) (λ ev eu. omega arith))
 
-    pub over_done : ((l p : ℕ) → m < l → l ≤ n → ¬ GoesAlong (st l) x y p) → IsDone m x y over_test
-    over_done gone =
+    pub over_done : ((l p : ℕ) → m < l → l ≤ n → ¬ GoesAlong (st l) x y p) → ((l p : ℕ) → m < l → l ≤ n → ¬ GoesAlong (st l) y x p) → IsDone m x y over_test
+    over_done gone gone_back =
         let bd = bounds in
         record {
           earlier = lm;
           outside = over_outside;
           clear_x = λ v l off e. off j (omega arith) (sym e);
           clear_y = λ v l off e. off (suc j) bd.0 (sym e);
+          small_x = omega arith;
+          small_y = omega arith;
           gone = gone;
+          gone_back = gone_back;
           here = over_here;
         }
 
@@ -345,14 +351,17 @@ module _ (steps : ℕ → Step) (n : ℕ) (whole : IsWholeRun steps n) (some : 0
               (no_edge v u mx my (λ ev eu. let k = places m p ((steps m).cut (suc i)) (omega arith) (omega arith) wx ev in omega arith) (λ ev eu. omega arith))
         ]
 
-    pub middle_done : ((l p : ℕ) → m < l → l ≤ n → ¬ GoesAlong (st l) mx my p) → IsDone m mx my middle_test
-    middle_done gone =
+    pub middle_done : ((l p : ℕ) → m < l → l ≤ n → ¬ GoesAlong (st l) mx my p) → ((l p : ℕ) → m < l → l ≤ n → ¬ GoesAlong (st l) my mx p) → IsDone m mx my middle_test
+    middle_done gone gone_back =
         record {
           earlier = lm;
           outside = middle_outside;
           clear_x = λ v l off e. off ((steps m).cut (suc i)) middle_bounds.0 (sym e);
           clear_y = λ v l off e. omega arith;
+          small_x = omega (arith, middle_bounds.1);
+          small_y = omega (arith, (run m lm).some_vertex);
           gone = gone;
+          gone_back = gone_back;
           here = middle_here;
         }
 

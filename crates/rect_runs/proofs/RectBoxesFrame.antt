@@ -1,5 +1,5 @@
 -- The labels of a run that ends in a frame.
-use Rattle.std.proofs.Common.{◌≡◌, ◌⊎◌, ℕ, zero, suc, ◌+◌, ◌-◌, ◌<◌, ◌≤◌, sym, ap, ◌∙◌, inl, inr, arith}
+use Rattle.std.proofs.Common.{◌≡◌, ◌⊎◌, ℕ, zero, suc, ◌+◌, ◌-◌, ◌<◌, ◌≤◌, refl, sym, ap, ◌∙◌, inl, inr, arith}
 use Rattle.std.proofs.lemmas.Bool.{cases_eq, cases_lt, both_ways}
 use Rattle.contour_runs.specs.Runs.{Step, stage_after}
 use Rattle.contour_runs.specs.Laws.{IsStage}
@@ -44,6 +44,7 @@ module _ (steps : ℕ → Step) (n : ℕ) (h : IsRectRun steps n) where
       let first = h.top_first in
       let last = h.top_last in
       record {
+        entering = λ k l. let t = turn-step steps k (suc n) h.labelled l in (t.low, t.high);
         inner = inner_leaves;
         right = λ k e. (turn-step steps k (suc n) h.labelled (omega arith)).last (last_turn steps n h k e);
         top = grind (arith, cases_lt, turn_of, both_ways, closed);

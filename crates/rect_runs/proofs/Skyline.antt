@@ -28,7 +28,9 @@ pub record IsLaid (steps : ℕ → Step) (n : ℕ) (b : Boxes) (width top : ℕ)
   pub within : (v : ℕ) → v < n + 2 → (b.right v ≤ width) × (b.high v ≤ top)
   pub zeros : (b.left 0 ≡ 0) × (b.left 1 ≡ 0) × (b.low 1 ≡ 0)
   pub closed : (i : ℕ) → suc (suc i) < (stage_after steps n).width → labels steps n i ≡ true
+  pub last_rise : (i : ℕ) → suc (suc i) ≡ (stage_after steps n).width → labels steps n i ≡ false
   pub right_end : (i : ℕ) → i < (stage_after steps n).width → (stage_after steps n).width ≤ suc (suc i) → b.right ((stage_after steps n).vertex i) ≡ width
+  pub high_end : (i : ℕ) → suc i < (stage_after steps n).width → b.high ((stage_after steps n).vertex i) ≡ top
 
 -- Along a contour right sides do not fall and upper sides do not rise, and two neighbours are beside one another, or one upon the other.
 pub record IsStair (steps : ℕ → Step) (b : Boxes) (k : ℕ) : Type 0 where

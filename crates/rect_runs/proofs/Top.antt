@@ -90,7 +90,9 @@ module _ (steps : ℕ → Step) (n : ℕ) (h : IsRectRun steps n) where
     within = λ v l. ((right_within steps n labelled at put width few_x n v (omega arith) l).1, (high_within steps n labelled at put top few_y n v (omega arith) l).1);
     zeros = zeros steps n labelled;
     closed = closed steps n h;
+    last_rise = λ i e. last_rise steps n i labelled.run e;
     right_end = λ i l m. right_free steps n labelled at put width few_x i l (elim (cases_eq (suc i) g.width) [ inl e ↦ inr e | inr ne ↦ inl (last_rise steps n i labelled.run (omega arith)) ]);
+    high_end = high_end;
   }
 
   -- the boxes below are the same
