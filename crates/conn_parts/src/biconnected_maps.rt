@@ -7,7 +7,7 @@ mod biconnected;
 
 pub use biconnected::{SearchedMap, biconnected_map, searched_map};
 
-/// States the law that a biconnected map breaks no condition.
+/// States the law that the lists of a biconnected map break none of the conditions by which `biconnected_map` refuses.
 pub fn biconnected_break_nothing()
     ensures { BiconnectedBreakNothing }
 {

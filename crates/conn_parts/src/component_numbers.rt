@@ -43,7 +43,7 @@ impl Parts {
         self.count
     }
 
-    /// Returns the number of the component of `v`.
+    /// Returns the number of the component of `v`, a vertex of the map that was numbered.
     pub fn of(&self, v: VertexId) -> u16
         requires { v.0 < length self.now.numbers }
         ensures { result ≡ slice_index self.now.numbers v.0 }

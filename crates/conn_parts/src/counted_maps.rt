@@ -81,7 +81,7 @@ impl CountedMaker {
         Ok(CountedMap { map, parts, count })
     }
 
-    // Returns the map with these `lists`, and leaves its components in `parts` and the twins of its darts in `twins`.
+    // Returns the map with these `lists` or their first fault; fills `parts` (components) and `twins` (of its darts).
     #[inline(always)]
     fn half_map(&mut self, lists: &Rotations) -> Result<HalfMap, MapFault>
         requires some_list { 0 < length lists.now }
@@ -178,7 +178,8 @@ pub fn plane_count(
     Ok(count)
 }
 
-// Refuses lists with more entries than a plane map has, by their fault or their counts: no map is made of them.
+// Refuses lists with more entries than a plane map has, by their first fault or their counts, without making a map.
+// `Ok` promises nothing of the lists.
 fn refuse_dense(alloc: Global, lists: &Rotations, least: u16) -> Result<(), Unserved>
     requires some_list { 0 < length lists.now }
     ensures { IfErr result (IfRefused (λ refusal. first_refusal least lists.now ≡ Some refusal)) }

@@ -14,8 +14,8 @@ pub fn lifted_contraction()
     ensures { LiftedContraction }
 {}
 
-/// States the law that a witness that uses an edge which the graph lacks gives one of the graph. A path must join the
-/// ends of the edge over vertices that the witness does not meet.
+/// States the law that a witness of a graph gives one of each graph with all its edges but maybe one. A path of the
+/// second must join the ends of that edge over vertices without edges in the first.
 pub fn routed_witness()
     ensures { RoutedWitness }
 {}

@@ -11,7 +11,7 @@ use map_lists::Rotations;
 use std::alloc::{AllocError, Global};
 use std::mem;
 
-// Sets the unset bit of the edge from `u` to `v` in `body`, the bits of `n` vertices, where `u` is the lesser.
+// Sets in `body`, the graph6 bytes of `n` vertices, the unset bit of the edge from `u` to `v`, if `u` is the lesser.
 fn set_pair(body: &mut [u8], n: u16, u: u16, v: u16)
     requires vertex { v < n }
     requires bytes { AreBytes n body.old }
@@ -25,7 +25,7 @@ fn set_pair(body: &mut [u8], n: u16, u: u16, v: u16)
     }
 }
 
-// Sets in `body` the bits of the edges from `v` to the lesser vertices of `list`, where each stands once.
+// Sets in `body` the bits, unset before, of the edges from `v` to the lesser vertices of `list`, each there once.
 fn set_list(body: &mut [u8], n: u16, v: u16, list: &[u16])
     requires vertex { v < n }
     requires bytes { AreBytes n body.old }
@@ -39,7 +39,7 @@ fn set_list(body: &mut [u8], n: u16, v: u16, list: &[u16])
     }
 }
 
-// Sets in `body` the bits of all edges of a simple map of `n` vertices, given by its `lists`.
+// Sets in `body`, in which no bit is set, the bits of all edges of a simple map of `n` vertices, given by its `lists`.
 fn set_lists(body: &mut [u8], n: u16, lists: &Rotations)
     requires simple { IsSimpleMap lists.now }
     requires vertices { length lists.now ≡ n }
@@ -51,7 +51,7 @@ fn set_lists(body: &mut [u8], n: u16, lists: &Rotations)
     }
 }
 
-// Returns the edges of a simple map of `n` vertices as bits, in the memory of `spent`.
+// Returns the edges of a simple map of `n` vertices, at most 255, as graph6 bytes, in the memory of `spent`.
 fn bits_of_lists(spent: Vec<u8>, lists: &Rotations, n: u16) -> Result<Vec<u8>, AllocError>
     requires simple { IsSimpleMap lists.now }
     requires few { n ≤ 255 }
@@ -81,7 +81,8 @@ impl EdgeTest {
         }
     }
 
-    /// Says whether a simple map, given as `lists`, has just the edges of `graph`. It fails only when out of memory.
+    /// Says whether a simple map, given as `lists`, has just the edges of `graph`, on as many vertices; only a yes is
+    /// promised. It fails only when out of memory.
     pub fn has_edges(&mut self, graph: &Graph, lists: &Rotations) -> Result<bool, AllocError>
         requires simple { IsSimpleMap lists.now }
         requires vertices { length lists.now ≡ graph.now.n }

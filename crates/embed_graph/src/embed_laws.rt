@@ -10,8 +10,8 @@ pub fn some_embed_figure()
     grid_figures::schnyder_figures::some_schnyder_figure();
 }
 
-/// States the law that a graph with at least three vertices has a map that is drawn exactly where it has no witness. It
-/// is never answered by both.
+/// States the law that a graph with at least three vertices has a drawn map exactly where it has no witness. So no
+/// graph has both.
 pub fn drawn_exactly()
     ensures { DrawnExactly }
 {

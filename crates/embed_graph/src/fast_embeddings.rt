@@ -19,7 +19,8 @@ use map_lists::Rotations;
 use refusals::Unserved;
 use std::alloc::{AllocError, Global};
 
-// Returns `lists`, if they are those of a map of genus zero of `graph`.
+// Returns `lists`, one for each of the at least three vertices of `graph`, if they are found to be those of a map of
+// genus zero of it. None promises nothing. It fails only when out of memory.
 fn checked_map(
     alloc: Global,
     graph: &Graph,
@@ -52,8 +53,8 @@ pub enum Tested {
     NoMap,
 }
 
-// Runs the left-right test on `graph`, whose state stays in `tables`, and checks the lists that it returns. Where they
-// are not accepted, `map_of_graph`, the slow test by sides of edges, decides. It fails only when out of memory.
+// Runs the left-right test on `graph`, of at least three vertices, in `tables`, which keep its state, and checks its
+// lists. Where they are not accepted, `map_of_graph`, the slow test by sides, decides. Fails only when out of memory.
 pub(crate) fn test_graph(
     alloc: Global,
     tables: &mut Tables,
@@ -75,8 +76,8 @@ pub(crate) fn test_graph(
     }
 }
 
-// Returns the witness that `tables` find after the test refused `graph`, if the witness check accepts it. The search
-// overwrites the state of the test. It fails only when out of memory.
+// Returns the witness that `tables` find after the test refused `graph`, if the witness check accepts it, else None.
+// The search overwrites the state of the test. It fails only when out of memory.
 pub(crate) fn found_witness(
     alloc: Global,
     tables: &mut Tables,
@@ -96,8 +97,8 @@ pub(crate) fn found_witness(
     }
 }
 
-// Returns a witness of `graph`, which the test refused: the one that the search in `tables` finds, or else one by
-// contracted edges. It fails only when out of memory.
+// Returns a witness of `graph`, which has at least three vertices and no map. It is the one that the search in `tables`
+// finds after the test, or else one by contracted edges. It fails only when out of memory.
 pub(crate) fn refuted(
     alloc: Global,
     tables: &mut Tables,

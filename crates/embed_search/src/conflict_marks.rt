@@ -13,7 +13,8 @@ const BEGINS_BELOW: u32 = 4;
 // The mark of a return edge of the nonplanar part.
 const RETURNS: u32 = 9;
 
-/// Returns in which of three passes, from 0 to 2, `Kernel::chain_without` chains an edge with the marks `mark`.
+/// Returns in which pass `Kernel::chain_without` chains an edge with the marks `mark`: 2 for a return edge, 0 for a
+/// tree edge with both added marks, else 1.
 pub fn turn_of(mark: u32) -> u32 {
     if mark & RETURNS == RETURNS {
         2
@@ -103,7 +104,7 @@ impl ConflictMarks {
         }
     }
 
-    // Marks the return edges that bind the ends of the test's ring to one side, with their tree paths.
+    // Marks the return edges that force the ends of the test's ring (of ties) to one side, with their tree paths.
     fn mark_bound(&mut self, test: &LeftRightTest) {
         let search = &test.search;
         let vertex = search.failed;

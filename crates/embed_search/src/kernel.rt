@@ -48,12 +48,12 @@ impl Kernel {
         }
     }
 
-    /// Says whether the kernel, of vertices of degree three and more, is K5 or K3,3 if it is nonplanar.
+    /// Says whether a nonplanar kernel in which all degrees are three or more is K5 or K3,3, by its counts alone.
     pub fn is_least(&self) -> bool {
         self.edges.count == 9 || self.edges.vertices == 5 && self.edges.count == 10
     }
 
-    /// Returns the first edge that is not known to be needed, or `NONE`.
+    /// Returns the first edge that is not known to be needed to keep the kernel nonplanar, or `NONE`.
     pub fn first_loose(&self) -> u32 {
         for edge in 0..self.edges.count {
             if self.needed.get(edge) == 0 {
@@ -63,13 +63,14 @@ impl Kernel {
         NONE
     }
 
-    // Returns how many edges merge with others at `vertex`, if one of its edges is removed: 1 at degree three, else 0.
+    // Returns how many edges merge with others at `vertex` once one of its edges is removed: 1 at degree three, else 0.
     #[inline(always)]
     fn smoothed_at(&self, vertex: u32) -> u32 {
         if self.degree.get(vertex) == 3 { 1 } else { 0 }
     }
 
-    /// Returns the number of edges without `edge` once paths are merged, if no two of these join the same vertices.
+    /// Returns how many edges the kernel has once `edge` is removed and paths through degree two are merged, if no two
+    /// merged paths join the same vertices.
     pub fn paths_without(&self, edge: u32) -> u32 {
         let one = self.smoothed_at(self.edges.one.get(edge));
         let other = self.smoothed_at(self.edges.other.get(edge));
@@ -85,8 +86,8 @@ impl Kernel {
         self.keep_marked(links);
     }
 
-    /// Makes the marked ones of a graph's `edges` the kernel's, by `marks`. It writes their ends, taken from the
-    /// graph's darts in `links`, to `edges` too.
+    /// Replaces the kernel's edges by those of a graph's `edges` whose entry in `marks` is not 0. Their ends, taken
+    /// from the graph's darts in `links`, are written to `edges` too.
     pub fn load(&mut self, edges: &mut Edges, links: &Links, marks: &ByEdge) {
         self.edges.vertices = edges.vertices;
         self.edges.count = 0;
@@ -104,16 +105,16 @@ impl Kernel {
         }
     }
 
-    /// Sets the marks of the kernel's edges to those in `marks`.
+    /// Sets the mark of each kernel edge to its entry in `marks`, which is 0 outside the nonplanar part.
     pub fn mark(&mut self, marks: &ByEdge) {
         for edge in 0..self.edges.count {
             self.marks.set(edge, marks.get(edge));
         }
     }
 
-    /// Chains the kernel's edges except `out` in `links`, for the next search. That search first tries the edges that
-    /// the last one marked as return edges. Last it tries tree edges at whose upper end a marked return edge ends, and
-    /// at whose lower end one begins.
+    /// Chains the kernel's edges except `out` (or all, for `NONE`) in `links`, for the next search. That search first
+    /// tries the edges that the last one marked as return edges. Last it tries tree edges at whose upper end a marked
+    /// return edge ends, and at whose lower end one begins.
     pub fn chain_without(&self, links: &mut Links, out: u32) {
         links.begin_chains(self.edges.vertices);
         links.darts = twice(self.edges.count);
@@ -126,7 +127,7 @@ impl Kernel {
         }
     }
 
-    /// Links in `links` all edges of the graph that are on paths of the kernel.
+    /// Replaces the lists of `links` by the darts of all graph `edges` on paths of the kernel, linked forwards only.
     pub fn link_paths(&self, links: &mut Links, edges: &Edges) {
         links.begin(edges);
         for path in 0..self.edges.count {
@@ -142,8 +143,8 @@ impl Kernel {
         }
     }
 
-    // Joins the paths of all edges merged into `edge` to one, and adds their marks to those of `edge`. Two rings become
-    // one where their successors are exchanged.
+    // Joins the paths of all edges merged into `edge` to one, and adds their marks to those of `edge`. Two rings
+    // (cyclic lists of the edges of a path) become one where their successors are exchanged.
     fn join_merged(&mut self, edge: u32) {
         let mut other = self.merged.get(edge);
         for _ in 0..self.edges.count {
@@ -163,8 +164,8 @@ impl Kernel {
         }
     }
 
-    // Numbers the vertices that have darts in `links` anew, in rising order. Keeps only the edges that are left, with
-    // their ends in `links`.
+    // Numbers the vertices that have darts in `links` anew, in rising order. Keeps only the edges flagged in `left`,
+    // with their ends in `links`.
     fn renumber(&mut self, links: &Links) {
         let mut vertices = 0u32;
         for vertex in 0..links.vertices {
@@ -191,8 +192,8 @@ impl Kernel {
         }
     }
 
-    /// Keeps only the marked edges. Removes those with an end of degree one and paths beside an edge, and replaces each
-    /// other path by one edge. It overwrites `links`, and numbers the vertices anew.
+    /// Keeps only edges whose mark is not 0. Removes those with an end of degree one and paths parallel to an edge, and
+    /// replaces each other path by one edge. It overwrites `links`, and numbers the vertices anew.
     pub fn keep_marked(&mut self, links: &mut Links) {
         links.begin(&self.edges);
         for edge in 0..self.edges.count {

@@ -13,8 +13,8 @@ const FEW_EDGES: u32 = 12;
 // How many roots are tried beside the first.
 const MOST_ROOTS: u32 = 2;
 
-// Tests `kernel` without the edge `out`, or whole if `out` is NONE. If nonplanar, keeps in it only the edges that show
-// it, and returns true. It overwrites `test` and `marks`.
+// Tests `kernel` without the edge `out`, or whole if `out` is NONE. If the test fails, keeps in it only the edges that
+// show the conflict and returns true, else false. It overwrites `test` and `marks`.
 fn fails_without(
     kernel: &mut Kernel,
     test: &mut LeftRightTest,
@@ -75,7 +75,7 @@ fn narrow(kernel: &mut Kernel, test: &mut LeftRightTest, marks: &mut ConflictMar
     }
 }
 
-/// Removes from `kernel`, which is nonplanar, all edges that are not needed for that. It overwrites `test` and `marks`.
+/// Removes edges from `kernel`, which is nonplanar, till all are needed to keep it so. Overwrites `test` and `marks`.
 pub fn shrink(kernel: &mut Kernel, test: &mut LeftRightTest, marks: &mut ConflictMarks) {
     narrow(kernel, test, marks);
     for _ in 0..MOST_TESTS {

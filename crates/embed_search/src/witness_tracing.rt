@@ -61,8 +61,8 @@ impl Branches {
         }
     }
 
-    // Returns an array by branch index: from index `from` on the first dart of a path there from the branch vertex at
-    // `place`, or `NONE`. A path goes on over vertices of degree two.
+    // Returns for each branch index from `from` on the first dart of a path to that branch vertex from the one at
+    // `place`. All other entries are `NONE`. A path goes on over vertices of degree two.
     fn darts_from(&self, links: &Links, place: u32, from: u32) -> [u32; 8] {
         let mut found = [NONE; 8];
         let vertex = self.vertices.get(place);
@@ -105,7 +105,7 @@ impl Branches {
         }
     }
 
-    // Returns the branch vertices as a list, in the memory of `spent`.
+    // Returns the branch vertices as a list, in the memory of `spent`. It fails only when out of memory.
     fn list(&self, spent: VertexList) -> Result<VertexList, AllocError> {
         let mut list = spent.emptied(self.count as usize)?;
         for place in 0..self.count {
@@ -198,7 +198,7 @@ impl Ways {
         true
     }
 
-    // Returns the paths as a list, in the memory of `spent`.
+    // Returns the paths as a list, in the memory of `spent`. It fails only when out of memory.
     fn list(&self, spent: PathList) -> Result<PathList, AllocError> {
         let (mut entries, spent_ends) = spent.into_parts();
         entries.clear();
@@ -265,8 +265,8 @@ impl Tracer {
         }
     }
 
-    /// Returns the witness that the edges of `links` are, or None where they are no subdivision of K5 or K3,3. It fails
-    /// only when out of memory.
+    /// Returns the witness that the edges of `links` seem to be, not checked. Returns None unless there are five or six
+    /// branch vertices and no path is missing. It fails only when out of memory.
     pub fn traced(&mut self, alloc: Global, links: &Links) -> Result<Option<Witness>, AllocError> {
         self.branches.take(links);
         match self.branches.count {

@@ -7,7 +7,7 @@ use graph6_text::Graph;
 // The ten bits of the edges of K5 as the two bytes of a graph6 line, six bits a byte.
 const ALL: [u8; 2] = [126, 123];
 
-/// Says whether `graph` is the complete graph on five vertices.
+/// Says whether `graph` is K5, the complete graph on five vertices; a yes is proved to mean no map of genus zero.
 pub fn is_k5(graph: &Graph) -> bool
     ensures { IsTrue result → HasNoMap graph.now }
 {

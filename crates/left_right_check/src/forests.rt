@@ -34,8 +34,8 @@ pub fn after_steps(parents: &[u16], vertex: u16, steps: u16) -> u16
     v
 }
 
-/// Says whether tables of parents and depths, by vertex, are those of a rooted forest of a graph. Then each vertex is a
-/// root, or is one step below its parent, to which an edge joins it.
+/// Says whether `parents` and `depths`, with an entry for each vertex, are those of a rooted forest of `graph`; only a
+/// yes is promised. Each vertex has depth 0, or an edge joins it to its parent, which is one step less deep.
 #[tactic(auto, using(crate::proofs::TieLemmas::forest_by_places, crate::proofs::TieLemmas::placed_past))]
 pub fn is_forest(graph: &Graph, parents: &[u16], depths: &[u16]) -> bool
     ensures { IsTrue result → IsForestOf graph.now parents.now depths.now }
@@ -69,7 +69,8 @@ pub struct RootedForest<'a> {
 }
 
 impl<'a> RootedForest<'a> {
-    // Says whether the path from `vertex` down to `edge`'s lower end, then along it, begins with the edge to `end`.
+    // Says whether the path from `vertex` down to the lower end of `edge`, then along it, begins with the edge from
+    // `vertex` to `end`. Only a yes is promised.
     #[tactic(auto, using(crate::proofs::TieLemmas::branch_at))]
     fn begins_with(&self, vertex: u16, end: u16, edge: ReturnEdge) -> bool
         ensures { IsTrue result → IsAbove (slice_index self.now.parents.now) (slice_index self.now.depths.now) vertex edge.from × IsBranch (slice_index self.now.parents.now) (slice_index self.now.depths.now) vertex end edge.from edge.to }
@@ -85,8 +86,8 @@ impl<'a> RootedForest<'a> {
         after_steps(self.parents, edge.from, low - high - 1) == end
     }
 
-    /// Says whether `edge` returns from `vertex` by the vertex's edge to `end`. Then the way up from `vertex` leads to
-    /// the upper end of `edge`, and the way down to its lower end begins with that edge to `end`.
+    /// Says whether `edge` returns from `vertex` by the vertex's edge to `end`; only a yes is promised. The way up from
+    /// `vertex` leads to the upper end of `edge`, and the way down to its lower end begins with that edge to `end`.
     pub(crate) fn returns_by(&self, vertex: u16, end: u16, edge: ReturnEdge) -> bool
         ensures { IsTrue result → ReturnsBy self.now.graph.now self.now.parents.now self.now.depths.now vertex end edge.from edge.to }
     {

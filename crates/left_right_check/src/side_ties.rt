@@ -39,8 +39,8 @@ impl<'a> RootedForest<'a> {
         entry(self.depths, edge.to) < entry(self.depths, other.to)
     }
 
-    /// Says whether `fork` ties the return edges of `pair` to one side. Then both return by its first edge, and end
-    /// below the end of `lowest`, which returns by its second edge.
+    /// Says whether `fork` forces the return edges of `pair` to one side; only a yes is promised. Then both return by
+    /// its first edge, and end below the end of `lowest`, which returns by its second edge.
     pub fn are_alike(&self, fork: Fork, pair: Pair, lowest: ReturnEdge) -> bool
         ensures { IsTrue result → AreTied self.now.graph.now self.now.parents.now self.now.depths.now false pair.one.from pair.one.to pair.other.from pair.other.to }
     {
@@ -62,8 +62,9 @@ impl<'a> RootedForest<'a> {
         self.ends_above(lowest, pair.other)
     }
 
-    /// Says whether `fork` ties the return edges of `pair` to different sides. Then one returns by its first edge, and
-    /// the other by its second. Each ends below the end of a return edge by the other edge, which `lowest` names.
+    /// Says whether `fork` forces the return edges of `pair` to different sides; only a yes is promised. Then one
+    /// returns by its first edge, the other by its second. Each ends below the end of an edge by the other one, named
+    /// by `lowest`.
     pub fn are_opposite(&self, fork: Fork, pair: Pair, lowest: Pair) -> bool
         ensures { IsTrue result → AreTied self.now.graph.now self.now.parents.now self.now.depths.now true pair.one.from pair.one.to pair.other.from pair.other.to }
     {

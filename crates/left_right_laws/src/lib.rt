@@ -12,8 +12,8 @@ pub fn three_ways()
     ensures { ThreeWays }
 {}
 
-/// States the law that at a fork of a map of genus zero the order of the two edges tells the side of return edges. It
-/// is the side of the tree path on which an edge by the one arrives, if some edge by the other ends above its end.
+/// States the law of order at a fork of edges e and f in a map of genus zero. An edge that returns by e, to below the
+/// end of one by f, follows the tree path there exactly where e follows f. Both rotations begin at the parent.
 pub fn fork_order()
     ensures { ForkOrder }
 {}
@@ -23,8 +23,8 @@ pub fn plane_is_left_right()
     ensures { PlaneIsLeftRight }
 {}
 
-/// States the law that a connected map has genus zero exactly where, in a tour along a spanning tree, its other edges
-/// are nested.
+/// States the law that a connected map with edges has genus zero exactly where, in a tour along a spanning tree, no two
+/// of its other edges cross.
 pub fn plane_by_nesting()
     ensures { PlaneByNesting }
 {}

@@ -52,7 +52,7 @@ impl<'a> TreeVertex<'a> {
         Ok(rows)
     }
 
-    /// Lists for each child `u` its block of entries at this vertex, as [`push_block`] makes it, and for any other `u`
+    /// Lists for each child `u` its block (the entries at this vertex that [`push_block`] makes), and for any other `u`
     /// the entry `u` alone. It fails only when out of memory.
     pub(crate) fn blocks(&self, alloc: Global) -> Result<ItemLists<u16>, AllocError>
         ensures { IfOk result (λ rows. AreValues (block_at self.now.rooted.graph.now.n self.now.rooted.tree.now self.now.opens.now self.now.v) [] rows self.now.rooted.graph.now.n) }
@@ -75,9 +75,9 @@ impl<'a> TreeVertex<'a> {
         Ok(rows)
     }
 
-    /// Returns the other ends of this vertex's edges to children and of its return edges, in an order in which each
-    /// edge may precede all later ones. `sides` has the sides of return edges, as `sides_of` returns them, and
-    /// `returned` is what [`TreeVertex::returned`] lists. It fails only when out of memory.
+    /// Returns the other ends of this vertex's edges to children and of its return edges. In their order each edge may
+    /// precede all later ones; there has to be such an order. `sides` has the sides of return edges, as `sides_of`
+    /// returns them, and `returned` is what [`TreeVertex::returned`] lists. It fails only when out of memory.
     pub(crate) fn order(
         &self,
         alloc: Global,

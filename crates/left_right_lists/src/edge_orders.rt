@@ -82,8 +82,8 @@ impl<'a> Choice<'a> {
         None
     }
 
-    /// Returns the vertices flagged in `free`, in an order in which the edge to each may precede all later ones. There
-    /// has to be such an order. It clears the flags. It fails only when out of memory.
+    /// Returns the vertices flagged in `free` (a flag for each vertex), in an order in which the edge to each may
+    /// precede all later ones. There has to be such an order. It clears the flags. It fails only when out of memory.
     pub(crate) fn order_of(&self, alloc: Global, free: &mut [bool]) -> Result<Vec<u16>, AllocError>
         requires free { length free.old ≡ self.now.n }
         requires order { (us : List ℕ) × IsOrderOf self.now.depths.now self.now.sides.now self.now.returns.now free.old us }

@@ -5,8 +5,8 @@ ghost use Rattle.left_right_lists.specs.Blocks.{IsRun, uppers as uppers_of, left
 use map_lists::ItemLists;
 use std::alloc::{AllocError, Global};
 
-// Returns where the interval of `ds` from index `from` on ends in which all return edges end at `v`, if `ends` is set,
-// or none does, if it is not.
+// Returns the first index of `ds` from `from` on at which the return edge does not end at `v`, if `ends` is set, or
+// does, if it is not. Returns the length where there is none.
 fn run_end(ds: &[(u16, u16)], from: usize, v: u16, ends: bool) -> usize
     requires { from ≤ length ds.now }
     ensures after { from ≤ result }
@@ -32,8 +32,8 @@ fn push_lower_ends(list: &mut Vec<u16>, ds: &[(u16, u16)]) -> Result<(), AllocEr
     Ok(())
 }
 
-/// Appends to `list` the entries at `v` for its child `u`. Before `u` and after it are the lower ends of those return
-/// edges at the front and at the back of `ds` that end at `v`, both reversed.
+/// Appends to `list` the entries at `v` for its child `u`, from whose subtree the edges `ds` return. Before `u` and
+/// after it are the lower ends of those at the front and at the back of `ds` that end at `v`, both reversed.
 pub(crate) fn push_block(
     list: &mut Vec<u16>,
     ds: &[(u16, u16)],

@@ -73,8 +73,8 @@ impl<'a> Forks<'a> {
         Ok(found)
     }
 
-    // Merges `groups` as the forks of the edge from `v` to `e` with other edges of `v` demand. Returns false where
-    // these contradict `groups`. It fails only when out of memory.
+    // Merges the entries of `groups`, a table for `group`, as the forks of the edge from `v` to `e` with other edges of
+    // `v` demand. Returns false at a contradiction, with some merged. It fails only when out of memory.
     fn meet_edge(&self, groups: &mut [(u32, bool)], v: u16, e: u16) -> Result<bool, AllocError>
         requires up { IsUpward self.now.graph.now self.now.up.now }
         requires long { length groups.old ≡ 65536 }

@@ -19,8 +19,8 @@ pub(crate) fn group(groups: &[(u32, bool)], d: (u16, u16)) -> (u32, bool)
     }
 }
 
-// Merges the groups of the edges `a` and `b` in `groups`, so that both edges are on one side, or on different ones if
-// `turn` is set. Returns false, and changes nothing, where both are in one group that contradicts this.
+// Merges the groups of the edges `a` and `b` in `groups` (65536 entries), so that both are on one side, or on different
+// ones if `turn` is set. Returns false, and changes nothing, where both are in one group that contradicts this.
 fn tie(groups: &mut [(u32, bool)], a: (u16, u16), b: (u16, u16), turn: bool) -> bool
     requires long { length groups.old ≡ 65536 }
     requires one { IsPlaced a }
@@ -44,8 +44,8 @@ fn tie(groups: &mut [(u32, bool)], a: (u16, u16), b: (u16, u16), turn: bool) -> 
     true
 }
 
-/// Merges the groups of all edges of `demands` in `groups`, each on the side that its flag says. Returns false where
-/// that contradicts `groups`, in which some may have been merged by then.
+/// Merges the groups of all edges of `demands` in `groups`, so that those with a set flag are on the side opposite to
+/// the others. Returns false where that contradicts `groups`, in which some may have been merged by then.
 pub(crate) fn tie_all(groups: &mut [(u32, bool)], demands: &[((u16, u16), bool)]) -> bool
     requires long { length groups.old ≡ 65536 }
     requires placed { (d : Demand) → Contains demands.now d → IsPlaced d.0 }
@@ -63,7 +63,7 @@ pub(crate) fn tie_all(groups: &mut [(u32, bool)], demands: &[((u16, u16), bool)]
     true
 }
 
-/// Returns a table in which each edge is a group of its own. It fails only when out of memory.
+/// Returns a table of 65536 entries in which each edge is a group of its own. It fails only when out of memory.
 pub(crate) fn single_groups(alloc: Global) -> Result<Vec<(u32, bool)>, AllocError>
     ensures long { IfOk result (λ groups. length groups.items ≡ 65536) }
     ensures fits { IfOk result (λ groups. (left : ℕ → ℕ → Bool) → Fits left groups.items) }

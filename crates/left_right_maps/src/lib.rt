@@ -13,20 +13,20 @@ pub fn fork_is_ordered()
     ensures { ForkIsOrdered }
 {}
 
-/// States the law that the darts of a map with a rooted spanning tree, listed from the root, are a tour along the tree,
-/// each met once.
+/// States the law that the darts of a map with edges and a rooted spanning tree, listed from the root, are a tour along
+/// the tree, each met once.
 pub fn tree_has_tour()
     ensures { TreeHasTour }
 {}
 
-/// States the law that a map with a rooted spanning tree has genus zero where no two other edges cross as pairs in the
-/// tour along the tree.
+/// States the law that a map with edges and a rooted spanning tree has genus zero where no two other edges cross as
+/// pairs in the tour along the tree.
 pub fn balanced_is_plane()
     ensures { BalancedIsPlane }
 {}
 
-/// States the law that a graph with a depth-first forest has a map of genus zero exactly if its return edges have a
-/// left-right partition.
+/// States the law that a graph with a vertex and a depth-first forest has a map of genus zero exactly if its return
+/// edges have a left-right partition.
 pub fn planar_by_left_right()
     ensures { PlanarByLeftRight }
 {}

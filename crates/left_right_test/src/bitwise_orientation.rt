@@ -132,7 +132,8 @@ impl Few {
         self.near.set(at.vertex, near);
     }
 
-    /// Reads the edges of `graph`, of few vertices, into neighbour sets and darts of `links`. Returns the edge count.
+    /// Reads the edges of `graph`, of at most `FEW` vertices, into neighbour sets and into `links`: heads, degrees and
+    /// counts, but no lists. Returns the edge count.
     pub fn read(&mut self, graph: &Graph, links: &mut Links) -> u32 {
         self.near = Bits::new();
         let mut held = 0u32;
@@ -168,7 +169,7 @@ impl Few {
         darts / 2
     }
 
-    // Returns the heights of `vertices`, a set of vertices on the path from the root to the search, as a set.
+    // Returns the heights of `vertices`, a set of vertices on the path from the root to the search, as bits.
     #[inline(always)]
     fn heights(search: &Search, vertices: u32) -> u32 {
         let mut rest = vertices;
@@ -180,8 +181,8 @@ impl Few {
         heights
     }
 
-    // Chains in `search` the return edges from `vertex` to ancestors at `heights`, by rising height, as the darts that
-    // leave it.
+    // Chains in `search` the return edges from `vertex` to ancestors at `heights` (bit h for height h), by rising
+    // height, as the darts that leave it.
     #[inline(always)]
     fn chain_returns(&self, search: &mut Search, vertex: u32, heights: u32) {
         let mut rest = heights;
@@ -285,8 +286,8 @@ impl Few {
         fresh
     }
 
-    /// Orients all edges in `search`, like `orientation::orient_all` from the first vertex on. Where that goes along a
-    /// list from the last edge read to the first, this takes the neighbours from the greatest to the least.
+    /// Orients all edges in `search`, like `orientation::orient_all` from vertex 0 on. Both take the neighbours of a
+    /// vertex from the greatest to the least; there, a list begins with the last edge read.
     pub fn orient_all(&mut self, links: &Links, search: &mut Search) {
         search.root_count = 0;
         let mut fresh = minus(bit_of(links.vertices), 1);

@@ -86,7 +86,7 @@ impl Search {
         self.pair(self.top)
     }
 
-    // Says whether the highest edge of `interval` returns higher than `low`, the lowpoint of a dart being integrated.
+    // Says whether `interval` has an edge that ends at a height (steps from the root) above `low`, a dart's lowpoint.
     #[inline(always)]
     fn conflicts(&self, interval: Interval, low: u32) -> bool {
         !interval.is_empty() && self.lowpt.get(interval.high) > low
@@ -130,14 +130,14 @@ impl Search {
         }
     }
 
-    // Records the return edges at which a conflict shows: `one` can be on neither side, and `meeting` is the edge
-    // that it meets, or NONE.
+    // Records in `self` the return edges at which a conflict shows: `one` can be on neither side. `meeting` is the
+    // highest edge along the failing dart if `one` is along an earlier dart, and NONE if `one` is along that dart too.
     fn note_odd(&mut self, one: u32, meeting: u32) {
         self.odd = one;
         self.meeting = meeting;
     }
 
-    // Joins two intervals on one side: the lowest edge of `above` becomes relative to the highest of `below`.
+    // Returns two intervals joined on one side: the lowest edge of `above` becomes relative to the highest of `below`.
     #[inline(always)]
     fn joined_intervals(&mut self, above: Interval, below: Interval) -> Interval {
         if above.is_empty() {
@@ -153,8 +153,9 @@ impl Search {
         }
     }
 
-    // Pops the conflict pairs of `dart`. Returns the interval of its return edges that return higher than the lowpoint
-    // of the dart `parent`, if all are on one side. Returns None, and records it, where they need both sides.
+    // Pops the conflict pairs above the stack bottom of `dart`. Returns the interval of their edges that end at a
+    // height above the lowpoint of `parent`, the dart to its tail, if all are on one side. Returns None, and records an
+    // edge by `note_odd`, where they need both sides.
     fn return_edges_of(&mut self, dart: u32, parent: u32) -> Option<Interval> {
         let mut right = EMPTY;
         let bottom = self.stack_bottom.get(dart);
@@ -179,9 +180,9 @@ impl Search {
         Some(right)
     }
 
-    // Pops all conflict pairs that conflict with `dart`, and pushes one pair instead. On its left are their conflicting
-    // intervals, on its right `right`, which returns along `dart`, and their other intervals. Returns false, and
-    // records it, where both intervals of a pair conflict.
+    // Pops all conflict pairs with an edge that ends at a height above the lowpoint of `dart`, and pushes one pair
+    // instead. On its left are their conflicting intervals, on its right `right`, the edges along `dart`, and their
+    // other intervals. Returns false, and records the edges with `note_odd`, where both intervals of a pair conflict.
     fn merge_conflicts(&mut self, right: Interval, dart: u32) -> bool {
         let low = self.lowpt.get(dart);
         let mut pair = ConflictPair { left: EMPTY, right };
@@ -211,7 +212,7 @@ impl Search {
     }
 
     // Merges `right`, the return edges along `dart`, with those along earlier darts of its vertex on the stack. Returns
-    // false, and records it, where that is a conflict.
+    // false, and records the edges with `note_odd`, where no sides fit them all.
     #[inline(always)]
     fn merge_return_edges(&mut self, right: Interval, dart: u32) -> bool {
         if self.top_conflicts(self.lowpt.get(dart)) {
@@ -234,7 +235,7 @@ impl Search {
     }
 
     // Puts the return edge `dart` of `vertex` on the stack, merged with what conflicts with it. Returns false, and
-    // records it, where no sides fit them.
+    // records the conflict in `self`, where no sides fit them.
     #[inline(always)]
     fn take_edge(&mut self, dart: u32, vertex: u32) -> bool {
         let parent = self.parent.get(vertex);
@@ -257,9 +258,9 @@ impl Search {
         self.settled(fits, dart, vertex)
     }
 
-    // Integrates the return edges along the tree dart `dart` of `vertex`, by which the search came back. The dart's
-    // side becomes relative to that of the highest of them. Returns false, and records it, where they conflict with
-    // those of earlier darts.
+    // Merges the return edges along the tree dart `dart` of `vertex`, by which the search came back, into the stack.
+    // The side of `dart` becomes relative to that of the highest of them. Returns false, and records the conflict in
+    // `self`, where they and those of earlier darts fit no sides.
     #[inline(always)]
     fn integrate(&mut self, dart: u32, vertex: u32) -> bool {
         if self.lowpt.get(dart) >= self.height.get(vertex) {
@@ -285,8 +286,8 @@ impl Search {
         self.settled(fits, dart, vertex)
     }
 
-    // Returns `interval` without its highest return edges that lead to `vertex`. Where none is left, its lowest edge
-    // is set to the other side than the edge `other`.
+    // Returns `interval` without its highest return edges that lead to `vertex`. Where none is left, the lowest edge is
+    // set in `self` to the side opposite to the edge `other`, and an empty interval is returned.
     fn trimmed(&mut self, links: &Links, interval: Interval, other: u32, vertex: u32) -> Interval {
         if interval.is_empty() {
             return interval;

@@ -1,4 +1,4 @@
-//! The proof that a conflict is one of the graph: a rooted forest and a ring of ties. All of it is checked.
+//! Checks that a conflict shows a graph nonplanar: by a rooted forest and a ring of ties between return edges.
 ghost use Rattle.std.specs.Prelude.{true, false, IfSome, IsTrue};
 ghost use Rattle.left_right_check.specs.Ties.{AreTied, HasNoMap};
 
@@ -29,7 +29,7 @@ impl Forest {
         }
     }
 
-    /// Reads the forest of `search` into the tables.
+    /// Overwrites the tables by the forest of `search`. A root gets depth 0, and its parent entry stays as it was.
     pub fn read(&mut self, links: &Links, search: &Search) {
         for vertex in 0..links.vertices {
             let dart = search.parent.get(vertex);
@@ -68,7 +68,7 @@ impl<'a> Conflict<'a> {
         }
     }
 
-    // Returns the fork of the darts `one` and `other` of a vertex.
+    // Returns the fork (a vertex with two of its edges) of the darts `one` and `other`, which leave the same vertex.
     fn fork(&self, one: u32, other: u32) -> Fork {
         Fork {
             vertex: vertex(self.links.tail(one)),
@@ -82,8 +82,8 @@ impl<'a> Conflict<'a> {
         self.return_edge(self.search.lowpt_edge.get(dart))
     }
 
-    // Says whether the fork of the two `darts` of a vertex ties the return edges of `pair` to one side. Both must
-    // return by the first dart, and end below the lowpoint of the second.
+    // Says whether the fork of the two `darts` of a vertex forces the return edges of `pair` to one side; only a yes is
+    // promised. Both must return by the first dart, and end below the lowpoint of the second.
     fn are_alike(&self, pair: Pair, darts: (u32, u32)) -> bool
         ensures { IsTrue result → AreTied self.now.forest.graph.now self.now.forest.parents.now self.now.forest.depths.now false pair.one.from pair.one.to pair.other.from pair.other.to }
     {
@@ -92,7 +92,8 @@ impl<'a> Conflict<'a> {
         self.forest.are_alike(at, pair, low)
     }
 
-    // Says whether the fork of the two `darts` of a vertex ties the return edges of `pair` to different sides.
+    // Says whether the fork of the two `darts` of a vertex forces the return edges of `pair` to different sides; only a
+    // yes is promised. Each must return by its own dart, in this order, and end below the lowpoint of the other dart.
     fn are_opposite(&self, pair: Pair, darts: (u32, u32)) -> bool
         ensures { IsTrue result → AreTied self.now.forest.graph.now self.now.forest.parents.now self.now.forest.depths.now true pair.one.from pair.one.to pair.other.from pair.other.to }
     {
@@ -104,8 +105,8 @@ impl<'a> Conflict<'a> {
         self.forest.are_opposite(at, pair, low)
     }
 
-    // Says whether the forest ties the two return edges of `pair` as tie number `tie` says: to different sides if
-    // `turn` is set, else to one.
+    // Says whether the forest forces the return edges of `pair`, those of tie number `tie` in its order, to different
+    // sides if `turn` is set, else to one. Only a yes is promised.
     fn is_tie(&self, pair: Pair, tie: u32, turn: bool) -> bool
         ensures { IsTrue result → AreTied self.now.forest.graph.now self.now.forest.parents.now self.now.forest.depths.now turn pair.one.from pair.one.to pair.other.from pair.other.to }
     {
@@ -121,8 +122,8 @@ impl<'a> Conflict<'a> {
         }
     }
 
-    // Says whether the forest ties two successive return edges of the ring, `edges`, by the tie with the end `end`.
-    // They are tied to different sides if `turn` is set, else to one.
+    // Says whether the forest forces two successive return edges of the ring, `edges`, to different sides if `turn` is
+    // set, else to one. Only a yes is promised. Their tie has the end `end`: number 2k or 2k + 1 for tie k.
     fn is_step(&self, edges: (ReturnEdge, ReturnEdge), end: u32, turn: bool) -> bool
         ensures { IsTrue result → AreTied self.now.forest.graph.now self.now.forest.parents.now self.now.forest.depths.now turn edges.0.from edges.0.to edges.1.from edges.1.to }
     {
@@ -141,7 +142,8 @@ impl<'a> Conflict<'a> {
         }
     }
 
-    // Returns the first return edge of the ring, if each is tied to the next up to `found`, its end on the other side.
+    // Follows the ring of ties (pairs forced to one side or to different ones) from its last return edge, `found`, to
+    // its first. Returns the first if each tie holds and together they force it opposite to `found`, else None.
     fn start_of_ring(&self, found: ReturnEdge) -> Option<ReturnEdge>
         ensures { IfSome result (λ start. AreTied self.now.forest.graph.now self.now.forest.parents.now self.now.forest.depths.now true found.from found.to start.from start.to) }
     {
@@ -165,8 +167,9 @@ impl<'a> Conflict<'a> {
         if side { Some(at) } else { None }
     }
 
-    // Says whether the conflict ties the return edges of `pair` to one side. Either one fork does so, or a third edge
-    // does: it returns by the dart of the conflict, and is tied to the side opposite to each of them.
+    // Says whether the conflict at `search.failed` and its dart `failed_dart` forces the ends of the ring, the return
+    // edges of `pair`, to one side; only a yes is promised. Either one fork does it, or a third return edge
+    // (`search.meeting`) is forced opposite to each of them.
     fn are_bound(&self, pair: Pair) -> bool
         ensures { IsTrue result → AreTied self.now.forest.graph.now self.now.forest.parents.now self.now.forest.depths.now false pair.one.from pair.one.to pair.other.from pair.other.to }
     {
@@ -202,8 +205,8 @@ impl<'a> Conflict<'a> {
 }
 
 impl LeftRightTest {
-    // Says whether the conflict shows that `graph` has no map of genus zero, in the forest that was read. Then the
-    // return edges of the ring would have to be both on one side and on different ones.
+    // Says whether the conflict, in the forest that `Forest::read` filled in, shows that `graph` has no map of genus
+    // zero. Only a yes is promised: the two ends of the ring are then forced both to one side and to different ones.
     fn is_refuted(&self, graph: &Graph) -> bool
         ensures { IsTrue result → HasNoMap graph.now }
     {
@@ -234,8 +237,8 @@ impl LeftRightTest {
         }
     }
 
-    /// Says whether the conflict that the search met shows that `graph` has no map of genus zero. It reads the forest
-    /// of the search into the tables.
+    /// Says whether the conflict that the search met shows that `graph` has no map of genus zero; only a yes is
+    /// promised. It overwrites `self.forest` by the forest of the search.
     pub fn is_shown(&mut self, graph: &Graph) -> bool
         ensures { IsTrue result → HasNoMap graph.now }
     {

@@ -68,8 +68,8 @@ impl OddRing {
         }
     }
 
-    // Searches along ties from `start` for the nearest return edge that the conflict binds, on the other side than
-    // `start`. Returns it, or NONE. No return edge may be marked as reached before.
+    // Searches breadth-first along ties from the return edge `start` for one on the other side whose end has a height
+    // between `self.low` and `self.high`. Returns it, or NONE. No return edge may be marked as reached before.
     fn nearest(&mut self, links: &Links, search: &Search, start: u32) -> u32 {
         self.reached = 0;
         self.reach(start, NONE, 0);
@@ -96,8 +96,8 @@ impl OddRing {
         NONE
     }
 
-    /// Finds the ring of ties that shows the conflict of `search`: from `one` to `other`, which is on the other side
-    /// though the conflict binds both to one side.
+    /// Sets `self` to the ring of ties (see `Tie`) that shows the conflict of `search`. It leads from `one` to `other`,
+    /// which is on the other side though the conflict forces both to one side.
     pub fn find(&mut self, links: &Links, search: &Search) {
         self.first.fill(links.darts / 2, NONE);
         self.side.fill(links.darts / 2, UNSEEN);
@@ -122,7 +122,8 @@ impl OddRing {
     }
 }
 
-/// Returns the dart of `vertex` along which the return edge `edge` returns.
+/// Returns the dart of `vertex` along which the return edge `edge` returns: the first on the tree path from `vertex`
+/// down to the edge, or the edge itself.
 pub fn branch_of(links: &Links, search: &Search, edge: u32, vertex: u32) -> u32 {
     let mut dart = edge;
     for _ in 0..links.vertices {
@@ -135,13 +136,13 @@ pub fn branch_of(links: &Links, search: &Search, edge: u32, vertex: u32) -> u32 
     dart
 }
 
-/// Returns the return edge from which the tie end `end` leads.
+/// Returns the return edge from which the tie end `end` leads: `one` of tie k if `end` is 2k, `other` if it is 2k + 1.
 #[inline(always)]
 pub fn near_edge(ties: &Ties, end: u32) -> u32 {
     far_edge(ties, end ^ 1)
 }
 
-// Returns the return edge to which the tie end `end` leads.
+// Returns the return edge to which the tie end `end` leads: `other` of tie k if `end` is 2k, `one` if it is 2k + 1.
 #[inline(always)]
 fn far_edge(ties: &Ties, end: u32) -> u32 {
     if end & 1 == 0 {

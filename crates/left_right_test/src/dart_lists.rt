@@ -83,7 +83,7 @@ impl Links {
         self.chain(edge, edges.one.get(edge), edges.other.get(edge));
     }
 
-    // Puts both darts of the edge between `a` and `b` at the fronts of their lists, linked forwards only.
+    // Puts both darts of edge number `edge`, between `a` and `b`, at the fronts of their lists, linked forwards only.
     #[inline(always)]
     fn chain(&mut self, edge: u32, a: u32, b: u32) {
         self.chain_first(twice(edge), a, b);
@@ -96,7 +96,7 @@ impl Links {
         self.degree.set(vertex, plus(self.degree.get(vertex), 1));
     }
 
-    /// Puts both darts of the edge between `a` and `b` first in their lists, linked forwards only, and counts them.
+    /// Puts both darts of edge `edge`, from `a` to `b`, first in their lists, linked forwards only, and counts them.
     #[inline(always)]
     pub fn chain_next(&mut self, edge: u32, a: u32, b: u32) {
         self.chain(edge, a, b);
@@ -133,7 +133,7 @@ impl Links {
         self.prev.set(after, before);
     }
 
-    /// Removes `dart` from the list of `vertex`, whose degree falls by one.
+    /// Removes `dart` from the list of `vertex`, which is linked both ways. The degree of `vertex` falls by one.
     pub fn take_out(&mut self, dart: u32, vertex: u32) {
         let before = self.prev.get(dart);
         let after = self.next.get(dart);

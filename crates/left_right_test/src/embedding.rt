@@ -41,8 +41,8 @@ impl Places {
         }
     }
 
-    // Puts the return edge `dart` at the front of a chain of twins at `head`, to which it leads. That is left or right
-    // of the tree dart there, by its settled side in `search`.
+    // Puts the return edge `dart` at the front of a chain of twins at its head `head`. The chain is that left or right
+    // of the tree dart there, by the settled side of `dart` in `search`.
     #[inline(always)]
     fn place_twin(&mut self, search: &Search, head: u32, dart: u32) {
         if search.side.get(dart) == 0 {
@@ -77,7 +77,7 @@ impl Places {
     }
 
     // Moves from `vertex` to its child `head`: empties the chains of twins at `vertex`, and makes `vertex` the first
-    // entry of `head`. Returns the index of the next entry there.
+    // entry of `head`. Returns the index of the next entry of `head`.
     #[inline(always)]
     fn descend_to(&mut self, vertex: u32, head: u32) -> u32 {
         self.left.set(vertex, NONE);
@@ -86,8 +86,8 @@ impl Places {
         self.put(start, vertex)
     }
 
-    // Moves from `vertex` back to its parent `above`: writes there the tails of its left twins, `vertex`, and the tails
-    // of its right twins. Returns the index of the next entry there.
+    // Moves from `vertex` back to its parent `above`: writes to the list of `above` the tails of its left twins,
+    // `vertex`, and the tails of its right twins. Returns the index of the next entry of `above`.
     #[inline(always)]
     fn return_to_parent(&mut self, links: &Links, vertex: u32, above: u32) -> u32 {
         let left = self.left.get(above);

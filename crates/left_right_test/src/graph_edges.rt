@@ -40,8 +40,8 @@ impl Edges {
         self.count = plus(self.count, 1);
     }
 
-    /// Counts the edges of `graph` and chains them in `links`, by the greater end and then by the lesser. Of edges
-    /// too many for a plane map it reads the first ones, one too many. Their ends are left to `take_ends`.
+    /// Counts the edges of `graph` and chains them in `links`, by the greater end and then by the lesser. If there are
+    /// more than a plane map can have, it stops one above that number. Their ends are left to `take_ends`.
     pub fn read(&mut self, graph: &Graph, links: &mut Links) {
         self.vertices = u32::from(graph.n());
         links.begin_chains(self.vertices);
@@ -103,7 +103,8 @@ struct Place {
     count: u32,
 }
 
-// Chains the edges of a byte's six `bits` in `links`, until there are `enough` edges. Returns the last one's position.
+// Chains in `links` the edges that the six `bits` of a byte at `place` stand for, until there are `enough` edges.
+// Returns the position of the last one, with the new count.
 #[inline(always)]
 fn chain_byte(links: &mut Links, bits: u32, place: Place, enough: u32) -> Place {
     let mut bits = bits;

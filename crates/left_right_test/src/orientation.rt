@@ -53,7 +53,7 @@ impl Stand {
 }
 
 // Moves the search from `at` along `dart` to its unreached head `head`, and returns the position there. In `search` it
-// saves the lowpoints of `at`, and sets the parent and height of `head`.
+// saves the lowpoints of `at`, and sets the parent, the height and an empty chain of leaving darts for `head`.
 #[inline(always)]
 fn descend_to(search: &mut Search, at: Stand, dart: u32, head: u32) -> Stand {
     let height = plus(at.height, 1);

@@ -62,7 +62,8 @@ impl LeftRightTest {
         self.search.failed != NONE
     }
 
-    /// Says whether the edges are planar, by a search from vertex 0 on. If not, `search` and `ring` hold the conflict.
+    /// Says whether the edges that `begin` read pass the test, by a search from vertex 0 on; no answer is promised. If
+    /// not, `search` and `ring` hold the conflict.
     pub fn passes_all(&mut self) -> bool {
         self.search.root = 0;
         if self.is_few {
@@ -73,7 +74,7 @@ impl LeftRightTest {
         self.agrees()
     }
 
-    /// Says whether the edges are planar, searching from `search.root`. If not, `search` and `ring` hold the conflict.
+    /// Says whether the edges in `links` pass the test, searching from `search.root`, with answers like `passes_all`.
     pub fn passes(&mut self) -> bool {
         orient_all(&self.links, &mut self.search);
         self.agrees()
@@ -88,8 +89,8 @@ impl LeftRightTest {
         false
     }
 
-    /// Says whether the test shows that `graph`, which was read by `begin`, is not planar. If not, `lists` returns
-    /// lists, which may be those of no map.
+    /// Says whether the test shows that `graph`, which was read by `begin`, is not planar; only a yes is promised.
+    /// After a no, `lists` returns lists, which may be those of no map.
     pub fn refuses(&mut self, graph: &Graph) -> bool
         ensures { IsTrue result → HasNoMap graph.now }
     {
@@ -99,7 +100,8 @@ impl LeftRightTest {
         !self.passes_all() && self.is_shown(graph)
     }
 
-    /// Returns rotation lists of the passed edges, on `n` vertices, in `spent`'s memory. Fails only when out of memory.
+    /// Returns `n` rotation lists of the edges that the test passed, in the memory of `spent`; they may be those of no
+    /// map. It fails only when out of memory.
     pub fn lists(&mut self, spent: Rotations, n: u16) -> Result<Rotations, AllocError>
         requires { n < 4096 }
         ensures { IfOk result (λ lists. length lists ≡ n) }

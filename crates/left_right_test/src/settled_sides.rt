@@ -2,8 +2,8 @@
 use crate::fixed_tables::{MANY_DARTS, NONE};
 use crate::search_tables::Search;
 
-// Settles in `search` the sides of `dart` and of all darts on the chain to which it is relative. Returns its side, 0
-// right or 1 left.
+// Settles (makes absolute) in `search` the sides of `dart` and of all darts on the chain to which it is relative.
+// Returns the side of `dart`: 0 right, 1 left.
 fn settle_all_of(search: &mut Search, dart: u32) -> u32 {
     let mut whole = search.side.get(dart);
     let mut next = search.reference.get(dart);
@@ -30,8 +30,8 @@ fn settle_all_of(search: &mut Search, dart: u32) -> u32 {
     whole
 }
 
-// Settles the side of `dart` in `search`, at once where it is relative to a settled one, and returns it: 0 right, 1
-// left.
+// Settles (makes absolute) the side of `dart` in `search`, in one step where it is relative to a settled one. Returns
+// it: 0 right, 1 left.
 #[inline(always)]
 fn settle(search: &mut Search, dart: u32) -> u32 {
     let next = search.reference.get(dart);
@@ -48,8 +48,8 @@ fn settle(search: &mut Search, dart: u32) -> u32 {
     side
 }
 
-/// Settles in `search` the sides of the darts that leave `vertex`, and chains them in the order of rotation. Those on
-/// the left come from the deepest on, then those on the right by rising depth. Returns the first, or NONE.
+/// Settles (makes absolute) in `search` the sides of the darts that leave `vertex`, and chains them in the order of
+/// rotation. Left ones come by falling nesting depth, then right ones by rising depth. Returns the first, or NONE.
 #[inline(always)]
 pub fn settle_leaving(search: &mut Search, vertex: u32) -> u32 {
     let mut first = search.leaving.get(vertex);

@@ -24,7 +24,7 @@ pub struct SearchedMap {
     pub low: Vec<u16>,
 }
 
-// Searches `lists` from vertex 0, along the first dart of its list.
+// Returns the forest of a depth-first search of a simple map's `lists` from vertex 0, along the first dart of its list.
 fn first_search(alloc: Global, lists: &Rotations) -> Result<Forest, AllocError>
     requires simple { IsSimpleMap lists.now }
     requires some { 0 < length lists.now }

@@ -8,8 +8,8 @@ use graph6_text::Graph;
 use left_right_lists::map_of_graph;
 use std::alloc::{AllocError, Global};
 
-/// Returns a simple map of genus zero with exactly the edges of `graph`, or a Kuratowski witness that there is none. It
-/// fails only when out of memory.
+/// Returns a simple map of genus zero with exactly the edges of `graph`, which has a vertex, or a Kuratowski witness
+/// that there is none. It fails only when out of memory.
 ///
 /// The map is made by the sides of edges that return along a depth-first tree, and the witness by contracted edges. No
 /// fast search is asked for the map, so it is not fast; it takes polynomial time.

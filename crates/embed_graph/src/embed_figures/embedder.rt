@@ -43,7 +43,7 @@ impl Embedder {
         }
     }
 
-    // Draws `map`, which is a map of `graph`, by Schnyder's coordinates.
+    // Returns `map`, a map of `graph`, which has at least three vertices, with its drawing by Schnyder's coordinates.
     fn drawn_map(&mut self, graph: &Graph, map: Rotations) -> Result<EmbedFigure, AllocError>
         requires some { 3 ≤ graph.now.n }
         requires map { IsMapOf map graph.now }
@@ -59,8 +59,8 @@ impl Embedder {
         }
     }
 
-    // Returns the figure or witness that the fast searches find for `graph`, if it is right. Lists with the graph's
-    // edges are drawn as a map of genus zero.
+    // Returns the drawn map or witness that the fast searches find for `graph`, of at least three vertices, if it
+    // passes the checks. None promises nothing. Lists with the graph's edges are drawn as a map of genus zero.
     fn found_figure(&mut self, graph: &Graph) -> Result<Option<EmbedFigure>, AllocError>
         requires { 3 ≤ graph.now.n }
         ensures { IfOk result (λ found. IfSome found (IsEmbedFigure graph.now)) }

@@ -30,7 +30,7 @@ struct Contracting<'a> {
 }
 
 impl<'a> Contracting<'a> {
-    // Returns the edges of the contracted graph, which has `n` vertices.
+    // Returns the edges of the contracted graph, which has `n` vertices. It fails only when out of memory.
     fn edges(&self, alloc: Global, n: u16) -> Result<Vec<Ends>, AllocError>
         requires { n ≤ 255 }
         ensures { IfOk result (λ edges. map edge_of edges.items ≡ contracted_among self.now.graph.now self.now.e.a.0 self.now.e.b.0 (pairs n)) }
@@ -59,8 +59,8 @@ impl<'a> Contracting<'a> {
         Ok(())
     }
 
-    // Says whether an edge joins `u` and `v` in the contracted graph. It joins the vertices that they stand for, or the
-    // greater end in place of the lesser.
+    // Says whether an edge joins `u` and `v` in the contracted graph. Then an edge of `graph` joins their old vertices,
+    // or joins them with the greater end of `e` in place of the lesser.
     fn is_edge(&self, u: u16, v: u16) -> bool
         requires first { u < 256 }
         requires second { v < 256 }

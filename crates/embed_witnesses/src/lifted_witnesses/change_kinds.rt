@@ -27,7 +27,7 @@ pub(crate) struct Splitting {
     pub order: u32,
 }
 
-// A change of a witness.
+// A change of a witness: an end of an edge put into a path, or K5 split into K3,3.
 #[derive(Clone, Copy)]
 pub(crate) enum Change {
     Mended(Mending),

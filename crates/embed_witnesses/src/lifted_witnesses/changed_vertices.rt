@@ -59,7 +59,7 @@ fn exchanged_number(a: u16, b: u16, v: u16) -> u16
     }
 }
 
-// Returns the vertex that stands for `v` in a mended witness: `v`, or the other end where the ends are exchanged.
+// Returns the vertex for `v` in the witness mended by `m`: `v`, or the other end where the ends are exchanged.
 fn moved(m: Mending, v: u16) -> u16
     ensures { result ≡ moved_number m v }
 {
@@ -77,7 +77,7 @@ fn put_in(m: Mending) -> u16
     if m.exchange { m.a } else { m.b }
 }
 
-// Returns the number of steps of path `p` in a mended witness.
+// Returns the number of steps of path `p` in the witness mended by `m`, whose old paths are `paths`.
 fn mended_count(m: Mending, paths: &PathList, p: usize) -> usize
     ensures { result ≡ mended_steps m paths.now p }
 {
@@ -88,7 +88,7 @@ fn mended_count(m: Mending, paths: &PathList, p: usize) -> usize
     }
 }
 
-// Returns the vertex at index `i` of the path into which a mending puts an end of the edge.
+// Returns the vertex at index `i` of path `m.path`, into which `m` puts an end of the edge; `paths` are the old ones.
 fn longer(m: Mending, paths: &PathList, i: usize) -> u16
     ensures { result ≡ longer_vertex m paths.now i }
 {
@@ -103,7 +103,7 @@ fn longer(m: Mending, paths: &PathList, i: usize) -> u16
     }
 }
 
-// Returns the vertex at index `i` of path `p` in a mended witness.
+// Returns the vertex at index `i` of path `p` in the witness mended by `m`, whose old paths are `paths`.
 fn mended_place(m: Mending, paths: &PathList, p: usize, i: usize) -> u16
     ensures { result ≡ mended_vertex m paths.now p i }
 {
@@ -132,7 +132,7 @@ fn named_branch(order: u32, k: usize) -> u32
     }
 }
 
-// Returns the index in the order of K5's branches of the branch at which path `p` of K3,3 begins.
+// Returns the digit (as in `named_branch`) that names the K5 branch at which path `p` of K3,3 begins: 0, 3 or 4.
 fn first_name(p: usize) -> usize
     ensures { result ≡ name_of_first p }
 {
@@ -169,7 +169,7 @@ fn link_between(a: u32, b: u32) -> u32
     }
 }
 
-// Returns the number of the path of K5 that becomes path `p` of K3,3.
+// Returns the number of the K5 path that becomes path `p`, not 0, of K3,3; `order` lists the K5 branches as digits.
 fn link_of(order: u32, p: usize) -> usize
     ensures { result ≡ link_number order p }
 {
@@ -197,7 +197,7 @@ fn ended(t: Splitting, p: usize, v: u16) -> u16
     if p % 3 == 0 && v == t.a { t.b } else { v }
 }
 
-// Returns the number of steps of path `p` in a split witness.
+// Returns the number of steps of path `p` in the witness split by `t`, whose old paths are `paths`.
 fn split_count(t: Splitting, paths: &PathList, p: usize) -> usize
     ensures value { result ≡ split_steps t paths.now p }
     ensures few { result < 18446744073709551615 }
@@ -209,7 +209,7 @@ fn split_count(t: Splitting, paths: &PathList, p: usize) -> usize
     }
 }
 
-// Returns the vertex at index `i` of path `p` in a split witness.
+// Returns the vertex at index `i` of path `p` in the witness split by `t`, whose old paths are `paths`.
 fn split_place(t: Splitting, paths: &PathList, p: usize, i: usize) -> u16
     ensures { result ≡ split_vertex t paths.now p i }
 {
@@ -220,7 +220,7 @@ fn split_place(t: Splitting, paths: &PathList, p: usize, i: usize) -> u16
     }
 }
 
-// Returns the index in the order of K5's branches of branch `j` of K3,3.
+// Returns the digit (as in `named_branch`) that names the K5 branch which becomes branch `j` of K3,3.
 fn name_of_branch(j: usize) -> usize
     ensures { result ≡ (if j == 0 then 0 else if nat_lt j 3 then j + 2 else j - 3) }
 {
@@ -233,7 +233,7 @@ fn name_of_branch(j: usize) -> usize
     }
 }
 
-// Returns branch vertex `j` of a split witness.
+// Returns branch vertex `j` of the witness split by `t`, whose old branch vertices are `branch`.
 fn split_branch(t: Splitting, branch: &VertexList, j: usize) -> u16
     ensures { result ≡ split_branch_vertex t branch.now j }
 {

@@ -10,8 +10,8 @@ use kuratowski::Witness;
 use std::alloc::AllocError;
 
 impl Lifting<'_> {
-    /// Returns the witness with an end of the edge put into one of its steps, or into none, if it is one of the graph
-    /// then. Where `exchange` holds the two ends are exchanged first. It fails only when out of memory.
+    /// Tries the old witness with an end of the edge put into each step, or into none; if `exchange` is set, the ends
+    /// are exchanged first. Returns the first that is a witness of the graph, or None. Fails only when out of memory.
     pub(crate) fn mended(&self, exchange: bool) -> Result<Option<Witness>, AllocError>
         ensures { IfOk result (λ found. MatchOption found ((path place : ℕ) → path < 11 → place ≤ steps_of self.now.old.now.paths path → ¬ IsRight self.now.graph.now self.now.old.now (Change.Mended (record { exchange = exchange; a = self.now.e.a.0; b = self.now.e.b.0; path = path; place = place }))) (λ w. IsWitness self.now.graph.now w.kind w.branch w.paths)) }
     {

@@ -9,8 +9,8 @@ use kuratowski::Witness;
 use std::alloc::AllocError;
 
 impl Lifting<'_> {
-    /// Returns the witness, if one of K5, split so that the greater end of the edge takes over two paths of the lesser.
-    /// It is returned only if it is one of the graph then. It fails only when out of memory.
+    /// Tries all splits of the old witness of K5 in which the greater end of the edge takes over two paths of the
+    /// lesser. Returns the first that is a witness of the graph, or None if none is. It fails only when out of memory.
     pub(crate) fn split(&self) -> Result<Option<Witness>, AllocError>
         ensures { IfOk result (λ found. MatchOption found ((order : ℕ) → order < 3125 → ¬ IsRight self.now.graph.now self.now.old.now (Change.Split (record { a = self.now.e.a.0; b = self.now.e.b.0; order = order }))) (λ w. IsWitness self.now.graph.now w.kind w.branch w.paths)) }
     {

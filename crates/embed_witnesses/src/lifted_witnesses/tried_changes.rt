@@ -20,7 +20,7 @@ pub(crate) struct Lifting<'a> {
 }
 
 impl Lifting<'_> {
-    /// Returns the witness with `change` made if it is one of the graph then, else None. Fails only when out of memory.
+    /// Returns `old` with `change` made if it is a witness of the graph then, else None. Fails only when out of memory.
     pub(crate) fn tried(&self, change: Change) -> Result<Option<Witness>, AllocError>
         ensures { IfOk result (λ found. MatchOption found (¬ IsRight self.now.graph.now self.now.old.now change) (λ w. IsWitness self.now.graph.now w.kind w.branch w.paths)) }
     {

@@ -29,7 +29,7 @@ pub fn on_old_numbers(
     renamed(alloc, small, &table)
 }
 
-// Returns a table of `n` vertices' old numbers: for each number but the last the one before `b` left, for the last `b`.
+// Returns for each of `n` vertices its number before `b` left and later numbers fell by one; the last vertex gets `b`.
 fn old_numbers(alloc: Global, n: u16, b: u16) -> Result<Vec<u16>, AllocError>
     requires { n ≤ 255 }
     ensures { IfOk result (λ table. table.items ≡ map (number_before n b) (range_with_len 0 n)) }

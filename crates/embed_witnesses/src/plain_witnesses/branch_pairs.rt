@@ -4,7 +4,7 @@ ghost use Rattle.embed_witnesses.specs.Plain.{chosen_at as vertex_chosen, is_pai
 
 use kuratowski::Kind;
 
-/// Says whether branch `i` and the later one `k` are to be joined in a witness of this kind.
+/// Says whether a witness of `kind` joins branch `i` to the later one `k`: always in K5, and in K3,3 across the sides.
 pub(crate) fn is_pair(kind: Kind, i: usize, k: usize) -> bool
     ensures { result ≡ is_pair_of kind i k }
 {

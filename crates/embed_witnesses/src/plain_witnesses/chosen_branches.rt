@@ -39,7 +39,7 @@ pub(crate) fn as_witness(
     }
 }
 
-// Appends path `p` to `paths`: the edge between its two branches.
+// Appends to `paths` path number `p` of `kind`: the edge between the vertices `chosen` for its two branches.
 fn push_path(paths: &mut PathList, kind: Kind, chosen: &[u16], p: usize) -> Result<(), AllocError>
     requires { p < length (pairs_of kind) }
     ensures { OnOk result (paths.new ≡ paths.old ++ path_of kind chosen.now p ∷ []) }

@@ -39,7 +39,7 @@ pub fn plain_witness(alloc: Global, graph: &Graph) -> Result<Option<Witness>, Al
     begun(&three, &[])
 }
 
-// Returns the vertices of `graph` that have edges.
+// Returns the vertices of `graph` that have edges, in rising order. It fails only when out of memory.
 fn live_vertices(alloc: Global, graph: &Graph) -> Result<Vec<u16>, AllocError>
     ensures { IfOk result (λ live. HasLive graph.now live.items) }
 {
@@ -73,7 +73,8 @@ struct PlainSearch<'a> {
     live: &'a [u16],
 }
 
-// Returns a witness whose first branches are those in `chosen`, or None where there is none.
+// Returns a witness of `search.graph` of kind `search.kind` with single edges as paths and `chosen` as its first
+// branches, or None if there is none. `chosen` is no longer than their number. It fails only when out of memory.
 #[cycle(choices)]
 fn begun(search: &PlainSearch<'_>, chosen: &[u16]) -> Result<Option<Witness>, AllocError>
     requires live { HasLive search.now.graph.now search.now.live.now }
@@ -92,8 +93,8 @@ fn begun(search: &PlainSearch<'_>, chosen: &[u16]) -> Result<Option<Witness>, Al
     Ok(None)
 }
 
-// Returns a witness whose first branches are those in `chosen` and then `v`, or None where there is none. There is none
-// where an edge from `v` to a chosen branch that it is joined to is missing.
+// Like `begun`, but returns a witness whose first branches are those in `chosen` and then `v`. It returns None at once
+// where the graph lacks an edge from `v` to a chosen branch that the kind joins to it.
 #[cycle(choices)]
 fn continued(
     search: &PlainSearch<'_>,

@@ -40,7 +40,7 @@ impl Searched<'_> {
         false
     }
 
-    // Says whether no vertex is separated from others by its parent, so that there is no cut vertex.
+    // Says whether no parent separates a child from other vertices. Only a yes is promised: there is no cut vertex.
     fn no_child_apart(&self) -> bool
         ensures { IsTrue result → (v u : ℕ) → v < length self.now.number.now → slice_index self.now.number.now v ≤ slice_index self.now.low.now u → ¬ IsSeparatedIn self.now.number.now self.now.parent.now self.now.low.now v u }
     {
@@ -72,8 +72,8 @@ impl Searched<'_> {
     }
 }
 
-/// Says whether no vertex of `lists`, in which adjacency goes both ways, is a cut vertex, by a search `forest` and
-/// its low points `low`. It looks once at each vertex.
+/// Says whether no vertex of `lists`, in which adjacency goes both ways, is a cut vertex; only a yes is promised.
+/// `forest` is a search of the lists, with low points `low`. It looks once at each vertex.
 pub fn is_uncut(lists: &Rotations, forest: &Forest, low: &[u16]) -> bool
     requires adjacency { IsAdjacency lists.now }
     requires forest { IsForestOf lists.now forest.now.order.items forest.now.number.items forest.now.last.items forest.now.parent.items }

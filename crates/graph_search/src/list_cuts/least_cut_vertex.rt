@@ -8,7 +8,7 @@ use crate::search_forests::{Forest, Searched, low_points, search_forest};
 use map_lists::Rotations;
 use std::alloc::{AllocError, Global};
 
-// Returns the first index from `from` on at which `flags` is set.
+// Returns the first index from `from` on at which `flags` is set, or None if there is none.
 pub(crate) fn first_set(flags: &[bool], from: usize) -> Option<usize>
     requires { length flags.now < 4096 }
     ensures none { MatchOption result ((i : ℕ) → from ≤ i → i < length flags.now → slice_index_or flags.now i false ≡ false) (λ i. (i < length flags.now) × (from ≤ i) × (slice_index_or flags.now i false ≡ true) × ((k : ℕ) → from ≤ k → k < i → slice_index_or flags.now k false ≡ false)) }
@@ -21,8 +21,8 @@ pub(crate) fn first_set(flags: &[bool], from: usize) -> Option<usize>
     None
 }
 
-/// Returns the least cut vertex of lists in which adjacency goes both ways, by a search of them and its low points;
-/// None exactly where there is none.
+/// Returns the least cut vertex of `lists`, in which adjacency goes both ways, by a search `forest` of them and its low
+/// points `low`; None exactly where there is none.
 pub fn searched_cut_vertex(lists: &Rotations, forest: &Forest, low: &[u16]) -> Option<u16>
     requires adjacency { IsAdjacency lists.now }
     requires forest { IsForestOf lists.now forest.now.order.items forest.now.number.items forest.now.last.items forest.now.parent.items }

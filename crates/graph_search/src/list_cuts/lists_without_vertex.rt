@@ -14,7 +14,7 @@ fn append_other(rest: &mut ItemLists<u16>, w: u16, u: u16) -> Result<(), AllocEr
     if w == u { Ok(()) } else { rest.append(w) }
 }
 
-// Appends to `rest` the list of vertex `v` without the entry `u`. The list of `u` itself becomes empty.
+// Appends to `rest` the `list` of vertex `v` without the entry `u`, or an empty list if `v` is `u`.
 fn push_without(rest: &mut ItemLists<u16>, list: &[u16], v: u16, u: u16) -> Result<(), AllocError>
     ensures { IfOk result (λ _. rest.new ≡ rest.old ++ list_without u v list.now ∷ []) }
 {

@@ -21,7 +21,8 @@ fn raise(number: &mut [u32], e: u32, r: u32)
 }
 
 // Uses all arcs: first those from `base`, then those from each vertex without an unused incoming arc. It fills
-// `number` with the longest path lengths, counts `waiting` down, and appends the vertices to `queue`.
+// `number`, all 0, with the longest path lengths, and counts `waiting`, the arcs into each vertex, down. It appends the
+// vertices to `queue`, which holds `base`. Every directed cycle passes through `base`.
 fn visit_all(
     arcs: &ItemLists<u32>,
     base: u32,
@@ -60,7 +61,7 @@ fn visit_all(
     Ok(())
 }
 
-// Adds to the entry of each vertex in `counts` the number of arcs into it.
+// Adds to the entry of each vertex in `counts`, which is 0, the number of arcs into it.
 fn count_arcs(counts: &mut [usize], arcs: &ItemLists<u32>)
     requires size { length counts.old ≡ length arcs.now }
     requires within { (e r : ℕ) → HasArc arcs.now e r → r < length arcs.now }
@@ -105,7 +106,7 @@ pub struct PathTables {
 }
 
 impl PathTables {
-    /// Tables of no graph. They take no memory.
+    /// Returns tables of no graph. They take no memory.
     pub fn new(alloc: Global) -> PathTables {
         PathTables {
             number: Vec::new(alloc),
@@ -114,8 +115,9 @@ impl PathTables {
         }
     }
 
-    /// Finds for each vertex the length of the longest path from the base to it, without the arcs that lead to the
-    /// base. It fails only when out of memory. The time is linear in the vertices and arcs, and so is the memory.
+    /// Finds for each vertex the length of the longest path from `base` to it; `arcs` has for each vertex the heads of
+    /// its arcs. Arcs to `base` do not count; without them no cycle may be left, and each other vertex must have an
+    /// incoming arc. It fails only when out of memory. Time and memory are linear in the vertices and arcs.
     pub fn find(
         &mut self,
         alloc: Global,

@@ -23,7 +23,7 @@ pub struct Forest {
     pub parent: Vec<u16>,
 }
 
-/// Returns the forest of lists in which adjacency goes both ways. It fails only when out of memory.
+/// Returns the depth-first forest of `lists`, in which adjacency goes both ways. It fails only when out of memory.
 pub fn search_forest(alloc: Global, lists: &Rotations) -> Result<Forest, AllocError>
     requires adjacency { IsAdjacency lists.now }
     ensures { IfOk result (λ f. IsForestOf lists.now f.order.items f.number.items f.last.items f.parent.items) }
@@ -93,7 +93,7 @@ pub struct SearchTables {
 }
 
 impl SearchTables {
-    /// Tables of no search. They take no memory.
+    /// Returns tables of no search. They take no memory.
     pub fn new(alloc: Global) -> SearchTables {
         SearchTables {
             forest: Forest::new(alloc),

@@ -24,7 +24,8 @@ pub(crate) fn lower(low: &mut [u16], v: u16, least: u16)
     }
 }
 
-// Fills `low` with the low points, from the vertex seen last to the first. Each lowers that of its parent.
+// Fills `low`, in which all entries are the vertex count, with the low points of the search `forest`, from the vertex
+// seen last to the first. Each lowers that of its parent.
 pub(crate) fn fill_lows(lists: &Rotations, forest: &Forest, low: &mut [u16])
     requires in_range { IsAdjacency lists.now }
     requires forest { IsForestOf lists.now forest.now.order.items forest.now.number.items forest.now.last.items forest.now.parent.items }
@@ -44,7 +45,8 @@ pub(crate) fn fill_lows(lists: &Rotations, forest: &Forest, low: &mut [u16])
     }
 }
 
-/// Returns for each vertex of `lists` its low point in the search `forest`. It fails only when out of memory.
+/// Returns for each vertex of `lists` its low point in the search `forest`: the least search number adjacent to it or
+/// to a descendant. It fails only when out of memory.
 pub fn low_points(alloc: Global, lists: &Rotations, forest: &Forest) -> Result<Vec<u16>, AllocError>
     requires adjacency { IsAdjacency lists.now }
     requires forest { IsForestOf lists.now forest.now.order.items forest.now.number.items forest.now.last.items forest.now.parent.items }

@@ -32,7 +32,7 @@ pub(crate) struct Search<'a> {
 }
 
 impl<'a> Search<'a> {
-    /// Begins a search in which no vertex was seen, in tables that say so.
+    /// Returns a search of `lists` in which no vertex was seen, with `tables` that `SearchTables::clear` has reset.
     #[inline(always)]
     pub(crate) fn begun(lists: &'a Rotations, tables: SearchTables) -> Search<'a>
         requires in_range { (v u : ℕ) → HasDart lists.now v u → u < length lists.now }
@@ -95,7 +95,7 @@ impl<'a> Search<'a> {
         (list.len(), least)
     }
 
-    // Marks `v` as seen from the current vertex, or as a root where there is none, and makes it the current one.
+    // Marks the unseen `v` as seen from the current vertex, its neighbour, or else as a root, and makes it current.
     #[inline(always)]
     pub(crate) fn see(&mut self, v: u16)
         requires vertex { v < length self.old.lists.now }
@@ -132,7 +132,8 @@ impl<'a> Search<'a> {
         self.current = above;
     }
 
-    // Moves the cursor of the current vertex to the next neighbour in its list that was not seen, and returns it.
+    // Moves the cursor of the current vertex on in its `list` to the next unseen neighbour, and lowers its low point.
+    // Returns the index there, or the length of `list` where there is none.
     #[inline(always)]
     fn go_on(&mut self, list: &[u16]) -> usize
         requires vertex { self.old.current < length self.old.lists.now }
