@@ -27,14 +27,14 @@ fn is_between(fig: &BarFigure, a: VertexId, b: VertexId, v: VertexId) -> bool
     (p < z && z < q) || (q < z && z < p)
 }
 
-// Says whether the bar of `v` is in the way of edge `e`, which stands in column `x`.
+// Says whether the bar of `v` is in the way of edge `e` in column `x`: it holds `x` strictly between the ends.
 fn is_struck(fig: &BarFigure, e: Ends, x: i32, v: VertexId) -> bool
     ensures { IsTrue result ↔ IsStruck fig.now e.a.0 e.b.0 x v.0 }
 {
     is_between(fig, e.a, e.b, v) && holds(fig, v, x)
 }
 
-// Returns the least vertex below `n` whose bar is in the way of edge `e`, which stands in column `x`.
+// Returns the least vertex below `n` whose bar is in the way of edge `e`, which stands in column `x`, or `None`.
 fn first_struck(fig: &BarFigure, n: u16, e: Ends, x: i32) -> Option<VertexId>
     ensures { MatchOption result ((v : ℕ) → ¬ IsStruckBelow n fig.now e.a.0 e.b.0 x v)
         (λ v. IsLeast (IsStruckBelow n fig.now e.a.0 e.b.0 x) v.0) }
@@ -71,7 +71,7 @@ impl LesserEnd<'_> {
 }
 
 impl BarDrawing<'_> {
-    // Returns the first edge with a bar in its way; edges marked in `clear` have none.
+    // Returns the first edge with a bar in its way, or `None`. An edge with a mark at a dart in `clear` has none.
     fn first_blocked(&self, clear: &[bool]) -> Option<Ends>
         requires clear { AreClear self.now.map.now self.now.fig.now clear.now }
         ensures { MatchOption result ((a b : ℕ) → ¬ IsBlockedEdge self.now.map.now.lists self.now.fig.now a b)
@@ -96,7 +96,7 @@ impl BarDrawing<'_> {
         None
     }
 
-    // Returns the first edge with a bar in its way, and the least vertex of such a bar. `clear` marks edges with none.
+    // Returns the first edge with a bar in its way and the least such vertex, or `None`. `clear` marks edges with none.
     pub(crate) fn first_through(&self, clear: &[bool]) -> Option<(Ends, VertexId)>
         requires clear { AreClear self.now.map.now self.now.fig.now clear.now }
         ensures { MatchOption result (NoneThrough self.now.map.now.lists self.now.fig.now)

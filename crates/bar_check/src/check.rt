@@ -12,7 +12,7 @@ use half_edges::HalfMap;
 use pg_plane::BarFigure;
 
 impl BarDrawing<'_> {
-    // Returns `Turned` for the least vertex whose list is not in the order of its edges, or `Yes` where there is none.
+    // Returns `Turned` for the least vertex whose list is not in edge order, or `Yes`. No bar may be in an edge's way.
     fn first_of_turns(&self) -> BarVerdict
         requires through { NoneThrough self.now.map.now.lists self.now.fig.now }
         ensures { IsBarVerdict self.now.map.now.lists self.now.fig.now self.now.width result }
@@ -66,8 +66,8 @@ impl OrderedBars<'_> {
         }
     }
 
-    // Returns the first fault of an edge with a bar in its way or of a list. The tables `peaks`, `blocks` and
-    // `superblocks` are room for the quick sweep; only where that does not pass, the exact one follows.
+    // Returns the first fault of an edge with a bar in its way or of a list. `peaks`, `blocks` and `superblocks`, all 0
+    // at first, are scratch space of the quick sweep. Only where that does not pass, the exact one follows.
     fn first_fault(
         &self,
         peaks: &mut [i32],

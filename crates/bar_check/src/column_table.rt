@@ -47,8 +47,8 @@ impl GreaterEnd<'_> {
         }
     }
 
-    // Returns the first edge with a bad column among those met so far, of which it is `found`, and the edge of dart
-    // `d`. `next` has for each vertex the index of its next edge to a greater one.
+    // Returns `found`, the first edge so far with a column outside the width or an end's bar, or that of dart `d`, if
+    // it is such a one and earlier. `next` has for each vertex the index of its next edge to a greater one.
     fn with_next(&self, next: &[u32], found: Option<Ends>, d: DartId) -> Option<Ends>
         requires live { IsLive self.now.bars.map.now d.0 }
         requires tail { (dart_of self.now.bars.map.now d.0).0 ≡ self.now.b.0 }
@@ -73,8 +73,8 @@ impl GreaterEnd<'_> {
         }
     }
 
-    // Writes into `columns` the columns of this vertex's edges to lesser ones, advancing `next`, and returns the first
-    // edge with a bad column. `found` is the first one of lesser vertices.
+    // Writes into `columns` the columns of this vertex's edges to lesser ones, advancing `next`. Returns the first edge
+    // so far with a column outside the width or an end's bar, or `None`. `found` is that of lesser vertices.
     fn put_list(&self, next: &mut [u32], columns: &mut [i32], found: Option<Ends>) -> Option<Ends>
         requires filled { AreFilled self.now.bars.map.now self.now.bars.fig.now self.now.b.0 0 next.old columns.old }
         requires found { IsFirstMetBad self.now.bars.map.now.lists self.now.bars.fig.now self.now.bars.width self.now.b.0 0 found }
@@ -100,8 +100,8 @@ impl GreaterEnd<'_> {
 }
 
 impl Bars<'_> {
-    // Writes the column of each edge into `columns` at both its darts. Returns the first edge whose column leaves the
-    // width or the bar of an end. `next` is room for an edge index for each vertex.
+    // Writes the column of each edge into `columns` at both its darts' ids. Returns the first edge whose column leaves
+    // the width or the bar of an end, or `None`. `next` is scratch space, one entry for each vertex.
     pub(crate) fn fill_columns(&self, next: &mut [u32], columns: &mut [i32]) -> Option<Ends>
         requires vertices { length next.old ≡ length self.now.map.now.lists }
         ensures size { length columns.new ≡ length columns.old }

@@ -18,7 +18,7 @@ pub(crate) struct Bars<'a> {
     ghost bars: { AreBars map.now.lists fig.now width },
 }
 
-/// Such bars with the edges' columns, by dart id as far as the table reaches: each is within the bars of both ends.
+/// Bars with the edges' columns, by dart id as far as the table reaches: each is within the bars of both ends.
 #[derive(Clone, Copy)]
 pub(crate) struct BarDrawing<'a> {
     pub(crate) map: &'a HalfMap,
@@ -40,7 +40,7 @@ pub(crate) struct GreaterEnd<'a> {
     ghost vertex: { b.0 < length bars.map.now.lists },
 }
 
-/// Such a drawing with its vertices in an order, which a sweep compares with that of their heights.
+/// A bar drawing with its vertices in an order, which a sweep compares with that of their heights.
 #[derive(Clone, Copy)]
 pub(crate) struct OrderedBars<'a> {
     pub(crate) drawing: BarDrawing<'a>,
@@ -48,7 +48,7 @@ pub(crate) struct OrderedBars<'a> {
     ghost size: { length order.now ≡ length drawing.map.now.lists },
 }
 
-/// The bar of a vertex in such a drawing, and its height.
+/// The bar of a vertex in a bar drawing, and its height.
 #[derive(Clone, Copy)]
 pub(crate) struct Bar<'a> {
     pub(crate) drawing: BarDrawing<'a>,

@@ -61,7 +61,7 @@ pub(crate) fn natural(z: i32) -> usize
     z as usize
 }
 
-// Says whether `v` is below `n` and has height `h` in `fig`.
+// Says whether `v` is below `n` and has height `h` in `fig`. Only true is promised.
 pub(crate) fn stands_at(fig: &BarFigure, n: u16, h: u16, v: VertexId) -> bool
     ensures { OnTrue result (StandsAt n fig.now h v.0) }
 {
@@ -86,7 +86,8 @@ pub(crate) fn is_clear(map: &HalfMap, clear: &[bool], d: DartId) -> bool
 }
 
 impl Bar<'_> {
-    // Says whether the bar of `u` is below this one and, by `tops`, the highest so far that holds column `x`.
+    // Says whether the bar of `u` is below this one and, by `tops`, the highest so far that holds column `x`. `tops`
+    // has for each column the height of its highest bar plus one, or 0. Only true is promised.
     fn is_seen(&self, tops: &[u16], u: VertexId, x: i32) -> bool
         ensures { OnTrue result (IsSeen self.now.drawing.fig.now self.now.h tops.now x u.0) }
     {
@@ -115,7 +116,7 @@ impl Bar<'_> {
         }
     }
 
-    // Marks in `clear` this vertex's darts whose edges lead down with no bar in their way, by the highest bars `tops`.
+    // Marks in `clear` this vertex's darts that lead down with no bar in the way; `tops` has each column's highest bar.
     fn mark_list(&self, tops: &[u16], clear: &mut [bool])
         requires tops { HasTops (length self.now.drawing.map.now.lists) self.now.drawing.fig.now self.now.h tops.now }
         requires clear { AreClear self.now.drawing.map.now self.now.drawing.fig.now clear.old }

@@ -34,7 +34,7 @@ fn mark(seen: &mut [bool], z: i32)
     seen[z as usize] = true;
 }
 
-// Returns the least vertex whose height in `fig` is out of range or a lesser one's. `seen` has an unset mark for each.
+// Returns the least vertex whose height in `fig` is out of range or a lesser one's, or `None`. `seen` is all false.
 fn first_bad_height_in(map: &HalfMap, fig: &BarFigure, seen: &mut [bool]) -> Option<VertexId>
     requires size { length seen.old ≡ length map.now.lists }
     requires none { (k : ℕ) → slice_index_or seen.old k false ≡ false }
@@ -51,7 +51,7 @@ fn first_bad_height_in(map: &HalfMap, fig: &BarFigure, seen: &mut [bool]) -> Opt
     None
 }
 
-// Returns the least of `n` vertices whose height in `fig` is wrong, with marks on the stack for `MOST` heights.
+// Returns the least of `n` vertices whose height in `fig` is wrong, or `None`. It has `MOST` marks on the stack.
 fn first_bad_height_of<const MOST: usize>(
     map: &HalfMap,
     fig: &BarFigure,
@@ -67,7 +67,7 @@ fn first_bad_height_of<const MOST: usize>(
     first_bad_height_in(map, fig, &mut seen[..n])
 }
 
-// Returns the least vertex whose height in `fig` is not from 0 to n - 1, or is that of a lesser vertex.
+// Returns the least vertex whose height in `fig` is not from 0 to n - 1, or is that of a lesser vertex, or `None`.
 pub(crate) fn first_bad_height(map: &HalfMap, fig: &BarFigure) -> Option<VertexId>
     ensures { MatchOption result (HasHeights map.now.lists fig.now)
         (λ v. IsLeast (HasBadHeight map.now.lists fig.now) v.0) }
@@ -90,7 +90,7 @@ fn is_bar(fig: &BarFigure, width: i32, v: VertexId) -> bool
     0 <= left && left <= right && right <= width
 }
 
-// Returns the least vertex whose bar in `fig` does not go from left to right within the columns 0 to `width`.
+// Returns the least vertex whose bar in `fig` does not go left to right within the columns 0 to `width`, or `None`.
 pub(crate) fn first_bad_bar(map: &HalfMap, fig: &BarFigure, width: i32) -> Option<VertexId>
     ensures { MatchOption result (AreBars map.now.lists fig.now width)
         (λ v. IsLeast (HasBadBar map.now.lists fig.now width) v.0) }

@@ -45,7 +45,7 @@ fn is_earlier(fig: &BarFigure, corner: TwoNeighbours, x: i32, z: i32) -> bool
 }
 
 impl BarDrawing<'_> {
-    // Says whether the edge of dart `d` does not come before that of the next entry of the list.
+    // Says whether the edge of dart `d` does not come before that of the next entry of the list of its tail.
     fn is_break(&self, d: DartId) -> bool
         requires live { IsLive self.now.map.now d.0 }
         ensures { IsTrue result ↔ HoldsAt self.now.map.now (Breaks self.now.map.now.lists self.now.fig.now) d.0 }
@@ -62,7 +62,7 @@ impl BarDrawing<'_> {
         !is_earlier(self.fig, corner, x, z)
     }
 
-    // Returns the least vertex whose list is not in edge order: it has at least two entries and does not go once round.
+    // Returns the least vertex with at least two entries whose list does not go once round in edge order, or `None`.
     pub(crate) fn first_turned(&self) -> Option<VertexId>
         ensures { MatchOption result (KeepsTurns self.now.map.now.lists self.now.fig.now)
             (λ v. IsLeast (IsTurned self.now.map.now.lists self.now.fig.now) v.0) }

@@ -26,7 +26,7 @@ fn greater(a: i32, b: i32) -> i32
     if a < b { b } else { a }
 }
 
-// Raises entry `i` of `table` to at least `y`, and says whether the table has that entry.
+// Raises entry `i` of `table` to at least `y`. Returns false, and changes nothing, if the table has no such entry.
 fn raise(table: &mut [i32], i: usize, y: i32) -> bool
     ensures { OnTrue result (IsRaised i y table.old table.new) }
 {
@@ -38,7 +38,7 @@ fn raise(table: &mut [i32], i: usize, y: i32) -> bool
     }
 }
 
-// Says whether `table` has an entry `i`, and it is not above `h`.
+// Says whether `table` has an entry `i`, and it is not above `h`. Only true is promised.
 fn is_low(table: &[i32], i: usize, h: u16) -> bool
     ensures { OnTrue result (number_at table.now i ≤ℤ pos h) }
 {
@@ -66,8 +66,8 @@ struct Peaks<'a> {
 }
 
 impl Peaks<'_> {
-    // Returns a column after `k`, up to which no edge of the columns from `k` on reaches above height `h`, or `k` if
-    // that one's does. It passes whole blocks and superblocks up to that of `right`.
+    // Returns a column after `k` before which no edge of the columns from `k` on reaches above height `h`, or `k` if
+    // one of column `k` does. It passes whole blocks and superblocks up to that of `right`.
     fn passed_to(&self, h: u16, k: usize, right: usize) -> usize
         requires k { k < 4294967296 }
         requires right { right < 4294967296 }
@@ -89,8 +89,8 @@ impl Peaks<'_> {
 }
 
 impl Bar<'_> {
-    // Raises `peaks`, `blocks` and `superblocks` at the column of the edge of dart `d`, if it leads up from this
-    // vertex. Returns false if a table has no entry for it.
+    // Raises `peaks`, `blocks` and `superblocks`, at the column of the edge of dart `d`, to the height of its head, if
+    // that is above this vertex. Returns false if a table has no entry for it.
     fn begin_if_up(
         &self,
         peaks: &mut [i32],
@@ -119,8 +119,8 @@ impl Bar<'_> {
         raise(peaks, k, y) && raise(blocks, k / 16, y) && raise(superblocks, k / 256, y)
     }
 
-    // Raises `peaks`, `blocks` and `superblocks` at the columns of this vertex's upward edges. Returns false if a table
-    // has no entry for one.
+    // Raises `peaks`, `blocks` and `superblocks`, at the columns of this vertex's upward edges, to the heights of their
+    // upper ends. Returns false if a table has no entry for one.
     fn begin_edges(&self, peaks: &mut [i32], blocks: &mut [i32], superblocks: &mut [i32]) -> bool
         requires reach { HasReach self.now.drawing.map.now.lists self.now.drawing.fig.now (IsBegun self.now.drawing.map.now.lists self.now.drawing.fig.now self.now.h self.now.v.0 0) peaks.old blocks.old superblocks.old }
         ensures { OnTrue result (HasReach self.now.drawing.map.now.lists self.now.drawing.fig.now (IsBegun self.now.drawing.map.now.lists self.now.drawing.fig.now self.now.h self.now.v.0 (length (list_of self.now.drawing.map.now.lists self.now.v.0))) peaks.new blocks.new superblocks.new) }
@@ -142,8 +142,9 @@ impl Bar<'_> {
         }
     }
 
-    // Says whether this bar is in the way of no edge, by the peaks of the columns that it holds. If so, it raises
-    // `peaks`, `blocks` and `superblocks` at its own upward edges. Returns false too where a table is too short.
+    // Says whether this bar is in the way of no edge, by the peaks of the columns that it holds (how high the edges
+    // reach that begin there). If so, it raises `peaks`, `blocks` and `superblocks` at its own upward edges. Returns
+    // false too where a table is too short.
     fn meets(&self, peaks: &mut [i32], blocks: &mut [i32], superblocks: &mut [i32]) -> bool
         requires swept { IsSwept self.now.drawing.map.now.lists self.now.drawing.fig.now self.now.h peaks.old blocks.old superblocks.old }
         ensures { OnTrue result (IsSwept self.now.drawing.map.now.lists self.now.drawing.fig.now (self.now.h + 1) peaks.new blocks.new superblocks.new) }

@@ -57,7 +57,7 @@ impl BasedDrawing<'_> {
         face.0 != outer.0 && self.turns_right(a, b, c)
     }
 
-    // Returns the least three consecutive vertices at which an inner face turns to the right.
+    // Returns the least three consecutive vertices where a face other than the base's turns to the right, or `None`.
     pub(crate) fn first_bent(&self, faces: &Faces) -> Option<(VertexId, VertexId, VertexId)>
         requires faces { AreFaces self.now.map.now faces.now }
         ensures { MatchOption result (NoneBent self.now.map.now.lists self.now.points.now (dart_of self.now.map.now self.now.base.0))

@@ -97,7 +97,7 @@ struct Triangle {
 }
 
 impl Triangle {
-    // Says whether a point lies on one of the three segments between the corners.
+    // Says whether `p` lies on one of the three segments between the corners.
     fn has_on_sides(&self, p: Point) -> bool
         requires { IsInRange p }
         ensures { IsTrue result ↔ IsOnTriangle p self.now.a self.now.b self.now.c }
@@ -137,7 +137,7 @@ fn has_third(points: &[Point], a: Point, b: Point) -> bool
     true
 }
 
-/// Says whether three of the points have an area other than 0, and each point is on a segment between two of these.
+/// Says whether three of `points` have an area other than 0, and each point is on a segment between two of these.
 ///
 /// No coordinate is beyond 2^20 in size. The time is linear in the points, and it takes no memory.
 pub fn has_corners(points: &[Point]) -> bool

@@ -61,7 +61,7 @@ fn are_greater(s: i32, t: i32, bound: i32) -> bool
     bound < s && bound < t
 }
 
-// Says whether `p` and `q` both lie beyond one side of the box `span`.
+// Says whether `p` and `q` both lie beyond one side of the box `span`. Only true is promised.
 fn is_apart(span: BoundingBox, p: PlacedPoint, q: PlacedPoint) -> bool
     ensures { OnTrue result (IsApart span p.point q.point) }
 {
@@ -118,14 +118,15 @@ fn is_not_negative(z: i64) -> bool
     0 <= z
 }
 
-// Says whether no point of the box is to the right of the line from `p` to `q`.
+// Says whether no point of the box is to the right of the line from `p` to `q`. Only true is promised.
 fn is_left_of(extent: Extent, p: PlacedPoint, q: PlacedPoint) -> bool
     ensures { OnTrue result (IsLeftOf extent.span p.point q.point) }
 {
     is_not_negative(area2(p.point, q.point, far_corner(extent, p.point, q.point)))
 }
 
-// Says whether neither the box nor `r` is to the right of the line from `p` to `q`.
+// Says whether neither the box nor `r` is to the right of the line from `p` to `q`. True shows that the segment from
+// `p` to `q` crosses none from `r` to a point of the box; false shows nothing.
 fn is_past(extent: Extent, r: PlacedPoint, p: PlacedPoint, q: PlacedPoint) -> bool
     ensures { OnTrue result (MissesStar extent.span r.point p.point q.point) }
 {
@@ -153,14 +154,14 @@ pub(crate) fn misses_star(extent: Extent, r: PlacedPoint, p: PlacedPoint, q: Pla
     is_past(extent, r, q, p)
 }
 
-// Says whether all points of the box are strictly to the left of the line from `p` to `q`.
+// Says whether all points of the box are strictly to the left of the line from `p` to `q`. Only true is promised.
 fn is_strictly_left_of(extent: Extent, p: PlacedPoint, q: PlacedPoint) -> bool
     ensures { OnTrue result (IsStrictlyLeftOf extent.span p.point q.point) }
 {
     0 < area2(p.point, q.point, far_corner(extent, p.point, q.point))
 }
 
-// Says whether surely no point of the box lies on the segment from `p` to `q`.
+// Says whether a quick test shows that no point of the box lies on the segment from `p` to `q`. False shows nothing.
 pub(crate) fn misses_segment(extent: Extent, p: PlacedPoint, q: PlacedPoint) -> bool
     ensures { OnTrue result ((u : Point) → IsIn extent.span u → ¬ IsOnSegment u p.point q.point) }
 {
@@ -173,7 +174,7 @@ pub(crate) fn misses_segment(extent: Extent, p: PlacedPoint, q: PlacedPoint) -> 
     is_strictly_left_of(extent, q, p)
 }
 
-// Returns a corner of the box: on its left or its right side, at its bottom or its top.
+// Returns a corner of the box: on its right side where `right`, else its left; at its top where `top`, else its bottom.
 fn corner(extent: Extent, right: bool, top: bool) -> PlacedPoint
     ensures x { result.point.x ≡ (if right then extent.span.right else extent.span.left) }
     ensures y { result.point.y ≡ (if top then extent.span.top else extent.span.bottom) }
@@ -194,7 +195,7 @@ fn corner(extent: Extent, right: bool, top: bool) -> PlacedPoint
     }
 }
 
-// Returns the bounding box of two boxes.
+// Returns a box that holds all points of `span` and of `other`.
 pub(crate) fn joined(span: BoundingBox, other: BoundingBox) -> BoundingBox
     requires span { IsBoxInRange span }
     requires other { IsBoxInRange other }
@@ -207,7 +208,7 @@ pub(crate) fn joined(span: BoundingBox, other: BoundingBox) -> BoundingBox
     widened(wide, corner(extent, true, true))
 }
 
-// Says whether the box `other` lies beyond one side of the box `span`.
+// Says whether the box `other` lies beyond one side of the box `span`. Only true is promised.
 fn are_boxes_apart(span: BoundingBox, other: BoundingBox) -> bool
     ensures { OnTrue result ((p q : Point) → IsIn other p → IsIn other q → IsApart span p q) }
 {
@@ -226,8 +227,8 @@ fn are_boxes_apart(span: BoundingBox, other: BoundingBox) -> bool
     false
 }
 
-// Says whether surely no segment in `block` crosses one from `r` into the box, and no point of it lies on such a one.
-// So it is where, seen from `r`, all corners of the block are on one side of the box.
+// Says whether a quick test shows that no segment in `block` crosses one from `r` into the box `extent`, and no point
+// of `block` lies on one. It passes where `r` sees all of `block` on one side of the box. False shows nothing.
 pub(crate) fn misses_block(extent: Extent, r: PlacedPoint, block: Extent) -> bool
     ensures star { OnTrue result ((p q : Point) → IsIn block.span p → IsIn block.span q → MissesStar extent.span r.point p q) }
     ensures fan { OnTrue result ((p : Point) → IsIn block.span p → MissesFan extent.span r.point p) }

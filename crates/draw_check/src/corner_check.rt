@@ -26,8 +26,8 @@ struct Corners<'a> {
 }
 
 impl Corners<'_> {
-    // Says whether the corner at `a` from `c` to `b` opens to the left, or to the right where the face is the outer
-    // one. Of a triangle just the corner at its least vertex is tested; `b` and `c` must be vertices.
+    // Says whether the triangle `a`, `b`, `c` is drawn counterclockwise, or clockwise where `is_outer`. It is true
+    // untested where `a` is not its least vertex, and else false where `b` or `c` is no vertex. False promises nothing.
     #[inline(always)]
     fn is_well(&self, is_outer: bool, a: u16, b: u16, c: u16) -> bool
         requires { a < length self.now.points.now }
@@ -45,7 +45,8 @@ impl Corners<'_> {
             && placed.turns_well(is_outer, VertexId(a), VertexId(b), VertexId(c))
     }
 
-    // Says whether all corners at `v` open to the right side.
+    // Says whether each triangle of `v`, an entry of its list and the entry before, cyclically, passes `is_well`. The
+    // first entry of vertex 0 stands for the outer face. It is false for an empty list; false promises nothing.
     fn is_round_well(&self, v: u16) -> bool
         requires { v < length self.now.lists.now }
         ensures { OnTrue result (IsRoundWell self.now.lists.now self.now.points.now v) }
@@ -63,9 +64,10 @@ impl Corners<'_> {
     }
 }
 
-/// Says whether a drawing of `lists` at `points` is seen to have no fault, in the grid up to `corner`. Where the lists
-/// are a triangulation, `check_points` answers `Yes` then, and so does `check_outer` for the first vertex's first dart.
-/// Of other lists nothing is promised. It takes no memory, and linear time.
+/// Says whether a test of the corners shows that the drawing of `lists` at `points` has no fault, in the grid up to
+/// `corner`. There is one point for each list, and no coordinate is beyond 2^20 in size. Where it is true and the lists
+/// are a triangulation, `check_points` answers `Yes`, and so does `check_outer` for the first vertex's first dart.
+/// False, or true for other lists, promises nothing. It takes no memory, and linear time.
 pub fn is_drawn_well(lists: &Rotations, points: &Points, corner: Point) -> bool
     requires places { HasPlaces lists.now points.now }
     ensures { OnTrue result (IsTriangulation lists.now → IsVerdict lists.now points.now corner.x corner.y NoFault

@@ -27,7 +27,8 @@ fn have_few_edges(map: &HalfMap, loose: &[u16]) -> bool {
 }
 
 impl PointDrawing<'_> {
-    // Returns the first edge with a greater lesser end that crosses the edge from `a` to `b`.
+    // Returns the first later edge that crosses the edge from `a` to `b`, or `None`; `a` is the lesser end. Edges come
+    // in the order of their lesser ends, then of their greater ones.
     fn crossing_of(&self, a: VertexId, b: VertexId) -> Option<Ends>
         requires edge { HasEdge self.now.map.now.lists a.0 b.0 }
         ensures { MatchOption result ((c d : ℕ) → ¬ EdgesCross self.now.map.now.lists self.now.points.now a.0 b.0 c d)
@@ -37,8 +38,8 @@ impl PointDrawing<'_> {
         self.first_met(Probe::Edge(a, b), a.0 + 1)
     }
 
-    // Says whether a later edge crosses that of dart `d`, of which the tail is the lesser end. Without the edges of the
-    // vertices `loose` the drawing is plane.
+    // Says whether the tail of dart `d` is the lesser end of its edge and a later edge crosses this edge. The drawing
+    // must be plane without the edges of the vertices `loose`.
     fn is_dart_crossed(&self, loose: &[u16], d: DartId) -> bool
         requires plane { IsPlaneDrawing (firm_lists loose.now self.now.map.now.lists) self.now.points.now }
         requires live { IsLive self.now.map.now d.0 }
@@ -59,8 +60,8 @@ impl PointDrawing<'_> {
         }
     }
 
-    // Returns the first edge that a later one crosses. Where `loose` is known, the drawing is plane without the edges
-    // of these vertices; where it is not, or they have many edges, the search goes star by star.
+    // Returns the first edge that a later one crosses, or `None`. Where `loose` is given, the drawing must be plane
+    // without the edges of these vertices. Where it is not, or they have many edges, the search goes vertex by vertex.
     fn first_crossed_edge(&self, loose: Option<&[u16]>) -> Option<Ends>
         requires plane { IfSome loose (λ l. IsPlaneDrawing (firm_lists l.now self.now.map.now.lists) self.now.points.now) }
         ensures { MatchOption result ((a b : ℕ) → ¬ IsCrossed self.now.map.now.lists self.now.points.now a b)
@@ -78,8 +79,8 @@ impl PointDrawing<'_> {
         }
     }
 
-    // Returns the first two edges that cross and have no end in common. Where `loose` is known, the drawing is plane
-    // without the edges of these vertices.
+    // Returns the first two edges that cross and have no end in common, or `None`. Where `loose` is given, the drawing
+    // must be plane without the edges of these vertices.
     pub(crate) fn first_crossing(&self, loose: Option<&[u16]>) -> Option<(Ends, Ends)>
         requires plane { IfSome loose (λ l. IsPlaneDrawing (firm_lists l.now self.now.map.now.lists) self.now.points.now) }
         ensures { MatchOption result (NoneCross self.now.map.now.lists self.now.points.now)

@@ -48,8 +48,8 @@ pub fn check(map: &HalfMap, fig: &GridFigure) -> Verdict
 }
 
 impl PointDrawing<'_> {
-    // Returns the first vertex on an edge or else the first two edges that cross, where all vertices have different
-    // points. Where `loose` is known, the drawing is plane without the edges of these vertices.
+    // Returns the first vertex on an edge, or else the first two edges that cross, or `None`. All vertices must have
+    // different points, and the drawing be plane without the edges of `loose` where that is given.
     fn first_meeting(&self, loose: Option<&[u16]>) -> Option<Verdict>
         requires apart { NoneShareAPlace self.now.map.now.lists self.now.points.now }
         requires plane { IfSome loose (λ l. IsPlaneDrawing (firm_lists l.now self.now.map.now.lists) self.now.points.now) }
@@ -66,8 +66,8 @@ impl PointDrawing<'_> {
         }
     }
 
-    // Returns the first two vertices at one point, the first vertex on an edge or the first two edges that cross, in
-    // this order. A sweep that finds the drawing plane, or so without a few vertices' edges, spares trying all pairs.
+    // Returns the first two vertices at one point, else the first vertex on an edge, else the first two edges that
+    // cross, or `None`. A sweep that finds the drawing plane, or so without a few vertices' edges, spares trying pairs.
     fn first_pair(&self) -> Option<Verdict>
         ensures { MatchOption result (NoneShareAPlace self.now.map.now.lists self.now.points.now × NoneOnEdge self.now.map.now.lists self.now.points.now × NoneCross self.now.map.now.lists self.now.points.now)
             (λ verdict. (width height : ℤ) → AllInGrid self.now.map.now.lists self.now.points.now width height → IsVerdict self.now.map.now.lists self.now.points.now width height verdict) }

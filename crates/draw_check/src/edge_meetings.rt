@@ -24,7 +24,7 @@ pub(crate) enum Probe {
 }
 
 impl PointDrawing<'_> {
-    // Says whether `probe` meets the edge from `a` to `b`.
+    // Says whether `probe` is a third vertex on the edge from `a` to `b`, or an edge that crosses it and shares no end.
     pub(crate) fn meets(&self, probe: Probe, a: VertexId, b: VertexId) -> bool
         requires probe { IsProbeBelow (length self.now.points.now) probe }
         requires a { a.0 < length self.now.points.now }
@@ -46,7 +46,7 @@ impl PointDrawing<'_> {
         }
     }
 
-    // Says whether `probe` meets the edge of dart `d`, of which the tail is the lesser end.
+    // Says whether `probe` (a vertex or an edge) meets the edge of dart `d`, and the tail of `d` is its lesser end.
     fn is_met(&self, probe: Probe, d: DartId) -> bool
         requires probe { IsProbeBelow (length self.now.map.now.lists) probe }
         requires live { IsLive self.now.map.now d.0 }
@@ -58,7 +58,8 @@ impl PointDrawing<'_> {
         a.0 < b.0 && self.meets(probe, a, b)
     }
 
-    // Returns the first edge that `probe` meets, of those whose lesser end is at least `from`.
+    // Returns the first edge that `probe` (a vertex or edge) meets, of those with lesser end at least `from`, or
+    // `None`.
     pub(crate) fn first_met(&self, probe: Probe, from: u16) -> Option<Ends>
         requires probe { IsProbeBelow (length self.now.map.now.lists) probe }
         ensures { MatchOption result ((a b : ℕ) → ¬ IsMetFrom self.now.map.now.lists self.now.points.now probe from a b)
@@ -71,7 +72,8 @@ impl PointDrawing<'_> {
         }
     }
 
-    // Returns the least vertex on an edge of which it is no end, with the first such edge. None is below `from`.
+    // Returns the least vertex on an edge of which it is no end, with the first such edge, or `None` where there is
+    // none. The caller knows that no vertex below `from` is one.
     pub(crate) fn first_on_edge(&self, from: u16) -> Option<(VertexId, Ends)>
         requires none { BoundsAll self.now.map.now.lists self.now.points.now from }
         ensures { MatchOption result (NoneOnEdge self.now.map.now.lists self.now.points.now)

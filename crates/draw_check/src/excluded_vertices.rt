@@ -14,7 +14,7 @@ use plane_drawings::sweep_check::is_among;
 use vertex_rounds::least_head;
 
 impl PointDrawing<'_> {
-    // Says whether `probe` meets the edge of dart `d`.
+    // Says whether `probe` (a vertex or an edge) meets the edge of dart `d`, whichever end is the tail.
     fn touches(&self, probe: Probe, d: DartId) -> bool
         requires probe { IsProbeBelow (length self.now.map.now.lists) probe }
         requires live { IsLive self.now.map.now d.0 }
@@ -26,7 +26,8 @@ impl PointDrawing<'_> {
         self.meets(probe, a, b)
     }
 
-    // Says whether a later edge may cross that from `a` to `b`: it ends in `loose`, or meets an edge of a vertex there.
+    // Says whether a later edge may cross the edge from `a` to `b`: this ends in `loose`, or meets an edge of a vertex
+    // of `loose`. Only false is sure. The drawing must be plane without the edges of the vertices `loose`.
     pub(crate) fn may_be_crossed(&self, loose: &[u16], a: VertexId, b: VertexId) -> bool
         requires plane { IsPlaneDrawing (firm_lists loose.now self.now.map.now.lists) self.now.points.now }
         requires edge { HasEdge self.now.map.now.lists a.0 b.0 }

@@ -14,6 +14,7 @@ use std::alloc::{AllocError, Global};
 
 impl PointDrawing<'_> {
     // Adds to the entry of the face of `d` in `sums` twice the signed area of the triangle that `d` makes with (0, 0).
+    // `sums` has one entry for each face and holds the areas of all darts before `d`.
     fn add_dart(&self, faces: &Faces, sums: &mut [i128], d: DartId)
         requires faces { AreFaces self.now.map.now faces.now }
         requires live { IsLive self.now.map.now d.0 }
@@ -28,7 +29,7 @@ impl PointDrawing<'_> {
         sums[face.0 as usize] += i128::from(area);
     }
 
-    // Adds the areas of all darts from `v` to the entries of their faces in `sums`.
+    // Adds the areas of all darts from `v` to the entries of their faces in `sums`, which holds those of lesser tails.
     fn add_vertex(&self, faces: &Faces, sums: &mut [i128], v: VertexId)
         requires faces { AreFaces self.now.map.now faces.now }
         requires vertex { v.0 < length self.now.map.now.lists }
@@ -49,7 +50,7 @@ impl PointDrawing<'_> {
         }
     }
 
-    // Adds the areas of all darts to the entries of their faces in `sums`, which are 0 at first.
+    // Adds the areas of all darts to the entries of their faces in `sums`, one for each face and 0 at first.
     fn add_all(&self, faces: &Faces, sums: &mut [i128])
         requires faces { AreFaces self.now.map.now faces.now }
         requires sums { AreSumsBelow self.now.map.now self.now.points.now faces.now 0 sums.old }

@@ -27,7 +27,8 @@ fn direction(a: PlacedPoint, b: PlacedPoint) -> Point
 }
 
 impl PointDrawing<'_> {
-    // Says whether the direction to the entry after dart `d` is not strictly after that of `d`, clockwise from west.
+    // Says whether the list of the tail of dart `d` breaks after `d`. It does where the direction to the next entry is
+    // not strictly after that of `d`, clockwise from west.
     fn is_break(&self, d: DartId) -> bool
         requires live { IsLive self.now.map.now d.0 }
         ensures { IsTrue result ↔ HoldsAt self.now.map.now (Breaks self.now.map.now.lists self.now.points.now) d.0 }
@@ -39,8 +40,8 @@ impl PointDrawing<'_> {
         !clock_before(direction(v, u), direction(v, w))
     }
 
-    // Returns the least vertex whose neighbours do not stand round it in the order of its list. It has at least two of
-    // them, and their directions do not go clockwise just once round.
+    // Returns the least vertex whose neighbours do not stand round it in the order of its list, or `None`. Such a
+    // vertex has at least two of them, and their directions do not go clockwise just once round.
     pub(crate) fn first_turned(&self) -> Option<VertexId>
         ensures { MatchOption result (KeepsRotations self.now.map.now.lists self.now.points.now)
             (λ v. IsLeast (IsTurned self.now.map.now.lists self.now.points.now) v.0) }

@@ -29,7 +29,7 @@ struct Summed<'a> {
 }
 
 impl Summed<'_> {
-    // Says whether dart `d` lies on another face than the base's, whose area is not positive.
+    // Says whether dart `d` lies on another face than the base dart, and the area of the face of `d` is not positive.
     fn has_low_sum(&self, d: DartId) -> bool
         requires faces { AreFaces self.now.map.now self.now.faces.now }
         requires live { IsLive self.now.map.now d.0 }
@@ -42,8 +42,8 @@ impl Summed<'_> {
     }
 }
 
-/// Returns the verdict of `check_outer` for a connected `map` with these `points`, without counting its components. It
-/// fails only when out of memory.
+/// Returns the verdict of `check_outer` for a connected `map`, without counting its components. `base` is live, and
+/// there is one point for each vertex, with no coordinate beyond 2^20 in size. It fails only when out of memory.
 pub fn check_outer_connected(
     alloc: Global,
     map: &HalfMap,

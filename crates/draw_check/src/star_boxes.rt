@@ -10,7 +10,7 @@ use half_edges::VertexId;
 
 impl PointDrawing<'_> {
     // Returns a box of the vertices from number `begin` on and before `end`, and of their greater neighbours. `heads`
-    // is room for neighbours.
+    // is scratch space of 4095 entries.
     fn block_of(&self, heads: &mut [u16], begin: u16, end: u16) -> BoundingBox
         requires end { end ≤ length self.now.map.now.lists }
         requires room { length heads.old ≡ 4095 }
@@ -27,7 +27,7 @@ impl PointDrawing<'_> {
         span
     }
 
-    // Writes the box of each block of 16 vertices into `blocks`. `heads` is room for neighbours.
+    // Writes to `blocks[k]` a box of vertices 16 k to 16 k + 15 and their greater neighbours. `heads` is scratch space.
     pub(crate) fn fill_blocks(&self, heads: &mut [u16], blocks: &mut [BoundingBox])
         requires room { length heads.old ≡ 4095 }
         requires few { length blocks.old ≤ 256 }

@@ -54,7 +54,7 @@ impl PointDrawing<'_> {
         }
     }
 
-    // Returns the least vertex outside the grid from (0, 0) to `corner`.
+    // Returns the least vertex outside the grid from (0, 0) to `corner`, or `None`.
     pub(crate) fn first_outside(&self, corner: Point) -> Option<VertexId>
         ensures { MatchOption result (AllInGrid self.now.map.now.lists self.now.points.now corner.x corner.y)
             (λ v. IsLeast (LeavesGrid self.now.map.now.lists self.now.points.now corner.x corner.y) v.0) }
@@ -67,7 +67,7 @@ impl PointDrawing<'_> {
         None
     }
 
-    // Returns the least two vertices that have equal points.
+    // Returns the least two vertices that have equal points, the lesser first, or `None`.
     pub(crate) fn first_shared(&self) -> Option<(VertexId, VertexId)>
         ensures { MatchOption result (NoneShareAPlace self.now.map.now.lists self.now.points.now)
             (λ p. IsLeastPair (ShareAPlace self.now.map.now.lists self.now.points.now) p.0.0 p.1.0) }

@@ -107,7 +107,7 @@ impl Counter {
         }
     }
 
-    // Resets the component numbers of `n` vertices, and makes room for all in the queue.
+    // Resets the component numbers of `n` vertices to `UNMET`, and makes room for all in the queue.
     fn clear(&mut self, n: usize) -> Result<(), AllocError>
         ensures marks { OnOk result (length self.new.numbers.items ≡ n) }
         ensures room { OnOk result (n ≤ length self.new.queue.items) }

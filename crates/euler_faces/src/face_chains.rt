@@ -16,7 +16,7 @@ pub(crate) struct FaceSide {
 }
 
 impl FaceSide {
-    // Returns the index of this side's mark.
+    // Returns the index of this side's mark, in a table of two marks for each dart id.
     fn place(self) -> usize
         ensures { result ≡ place self.dart.0 self.odd }
     {
@@ -25,7 +25,7 @@ impl FaceSide {
     }
 }
 
-// Marks `side` in `met` and pushes it on the stack `sides`, where it has no mark.
+// Marks `side`, a dart and a parity, in `met` and pushes it on the stack `sides`, unless it has a mark already.
 fn meet(met: &mut [bool], sides: &mut Vec<FaceSide>, side: FaceSide) -> Result<(), AllocError>
     requires { place side.dart.0 side.odd < length met.old }
     ensures { OnOk result (Meets met.old sides.old.items side met.new sides.new.items) }
@@ -46,8 +46,8 @@ fn turned_where(turn: bool, value: bool) -> bool
     if turn { !value } else { value }
 }
 
-// Continues from `side` along its face and over its edge, which counts where `counts` says so. What is new is marked in
-// `met` and pushed on `sides`.
+// Continues from `side`, a dart and a parity, to the next dart of its face, and to its twin, where `counts` may change
+// the parity. What is new is marked in `met`, two entries for each dart id, and pushed on `sides`.
 fn go_on<F: Fn(DartId) -> bool>(
     map: &HalfMap,
     counts: &F,

@@ -22,8 +22,8 @@ struct Walking<'a> {
 }
 
 impl Walking<'_> {
-    // Appends the walk of the face of `start` to `walks`, if that has no face in `of` yet, and writes its number at its
-    // darts' ids. Where the darts before `start` have their faces, it is the least dart of its own.
+    // Appends the walk of the face of `start` to `walks`, if the face has no number in `of` yet, and writes its number
+    // there at its darts' ids. The darts before `start` have their faces, so that `start` is the first of a new one.
     fn add_dart(
         &self,
         of: &mut [u32],

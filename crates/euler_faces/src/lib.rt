@@ -1,5 +1,5 @@
-//! The Euler count of a map (vertices, edges, faces, components and genus), its components, and its faces as walks. The
-//! faces of a map as walks along the face step, and a search of them by chains of faces.
+//! The Euler count of a map (vertices, edges, faces, components and genus), component numbers, its faces as walks along
+//! the face step, and a search over chains of faces.
 #![tactic(auto)]
 
 mod component_search;

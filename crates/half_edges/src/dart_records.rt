@@ -66,7 +66,7 @@ pub(crate) fn push_heads(entries: &mut Vec<u16>, darts: &[DartRecord], first: u3
     }
 }
 
-// Returns the first dart to `head` among the `degree` darts round a vertex from `first` on.
+// Returns the first dart to `head` of the `degree` in `darts` round a vertex from `first` on, or `None`.
 pub(crate) fn dart_to(darts: &[DartRecord], first: u32, degree: u16, head: u16) -> Option<u32>
     requires { IsWalkable darts.now first degree }
     ensures { MatchOption result ((k : ℕ) → k < degree → ¬ (head_of darts.now (steps darts.now first k) ≡ head))
@@ -83,8 +83,8 @@ pub(crate) fn dart_to(darts: &[DartRecord], first: u32, degree: u16, head: u16) 
     None
 }
 
-// Links the first and the last of the `darts` from index `start` up to `end`, which stand in line, so that they form a
-// cycle round their vertex.
+// Links the first and the last of the `darts` from index `start` up to `end`, so that they form a cycle round their
+// vertex. Each is already linked to its neighbours by index.
 fn close_round(darts: &mut [DartRecord], start: u32, end: u32)
     requires order { start ≤ end }
     requires within { end ≤ length darts.old }
@@ -98,8 +98,8 @@ fn close_round(darts: &mut [DartRecord], start: u32, end: u32)
     }
 }
 
-// Links `darts` to a cycle for each vertex, and makes `vertices` their records. `ends[v]` is the index after the last
-// dart of vertex `v`. It fails only when out of memory.
+// Links `darts`, each linked to its neighbours by index, to a cycle for each vertex, and makes `vertices` their
+// records. `ends[v]` is the index after the last dart of vertex `v`. It fails only when out of memory.
 fn close_rounds(
     ends: &[usize],
     darts: &mut [DartRecord],
@@ -128,8 +128,8 @@ fn close_rounds(
     Ok(())
 }
 
-// Links `darts`, those of `lists` in line, with known tails and twins, to cycles round their vertices, and makes
-// `vertices` the vertex records. It fails only when out of memory.
+// Links `darts` to cycles round their vertices, and makes `vertices` the vertex records. `darts` are those of `lists`,
+// with tails and twins, each linked to the indices before and after it. It fails only when out of memory.
 pub(crate) fn link_darts(
     lists: &Rotations,
     darts: &mut Vec<DartRecord>,

@@ -214,7 +214,7 @@ fn put_edge(
     put_dart(darts, vertices, twin, at_v);
 }
 
-// Returns a dart of the second free edge, where `free` is a dart of the first. Only the contract needs `spare`.
+// Returns a dart of the second free edge in `darts`, where `free` is one of the first. Only the contract needs `spare`.
 fn first_free_behind(darts: &[DartRecord], free: u32, spare: u32) -> u32
     requires threaded { AreFree darts.now free spare }
     requires some { 0 < spare }

@@ -59,8 +59,8 @@ impl MapMemory {
         }
     }
 
-    /// Makes the half-edge map of `lists`, which are a simple map, from the tails and twins of their darts. It fails
-    /// only when out of memory.
+    /// Returns the half-edge map of `lists`, which are a simple map, in this memory. `tails` and `twins` have for each
+    /// dart, in list order, its tail and the index of its twin. It fails only when out of memory.
     #[inline(always)]
     pub fn from_twins(
         &mut self,

@@ -54,7 +54,7 @@ impl HalfMap {
     }
 }
 
-// Returns for each vertex how many vertices before it are kept: its new number. It fails only when out of memory.
+// Returns for each vertex how many vertices before it are set in `keep`: its new number. Fails only when out of memory.
 fn numbers_of(alloc: Global, keep: &[bool]) -> Result<Vec<u16>, AllocError>
     requires { length keep.now < 4096 }
     ensures count { IfOk result (λ numbers. length numbers.items ≡ length keep.now) }
@@ -70,7 +70,7 @@ fn numbers_of(alloc: Global, keep: &[bool]) -> Result<Vec<u16>, AllocError>
     Ok(numbers)
 }
 
-// Returns the entries of `list` that are kept, by their new numbers. It fails only when out of memory.
+// Returns the entries of `list` whose flag in `keep` is set, renumbered by `numbers`. Fails only when out of memory.
 fn kept_entries(
     alloc: Global,
     numbers: &[u16],
@@ -91,7 +91,7 @@ fn kept_entries(
     Ok(kept)
 }
 
-// Returns the lists of the kept vertices, restricted to these and renumbered. It fails only when out of memory.
+// Returns the lists of the vertices set in `keep`, restricted to these and renumbered. Fails only when out of memory.
 fn induced_rotations(
     alloc: Global,
     lists: &Rotations,

@@ -50,8 +50,8 @@ fn triangle(alloc: Global, n: u16) -> Result<Rotations, AllocError>
     Ok(Rotations::from_lists(lists))
 }
 
-// Joins the isolated vertex `k` of `map` by three new edges to the vertices of `face`. Returns the three faces into
-// which that is split: those of its first, second and third dart.
+// Joins the isolated vertex `k` of `map`, which has room for three edges, to the vertices of `face`. Returns the three
+// faces into which that is split: those of its first, second and third dart.
 fn put_vertex(map: &mut HalfMap, k: VertexId, face: FaceDarts) -> (FaceDarts, FaceDarts, FaceDarts)
     requires spare { 3 ≤ map.old.spare }
     requires vertex { k.0 < length map.old.lists }
@@ -89,7 +89,7 @@ fn put_vertex(map: &mut HalfMap, k: VertexId, face: FaceDarts) -> (FaceDarts, Fa
     )
 }
 
-// Returns the darts of the inner face of the first triangle.
+// Returns the darts of the inner face of the first triangle, from 0 to 2 to 1.
 fn inner_face(map: &HalfMap) -> FaceDarts
     requires { IsFaceOf map.now.lists (record { a = 0; b = 2; c = 1 }) }
     ensures { HasDarts map.now result (record { a = 0; b = 2; c = 1 }) }

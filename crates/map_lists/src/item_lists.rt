@@ -69,7 +69,7 @@ impl<T: Copy> ItemLists<T> {
         (self.entries, self.ends)
     }
 
-    /// Appends a copy of a list. After an error nothing has changed.
+    /// Appends a copy of `list`. After an error nothing has changed.
     pub fn push(&mut self, list: &[T]) -> Result<(), AllocError>
         ensures ok { OnOk result (self.new ≡ self.old ++ list.now ∷ []) }
         ensures err { OnErr result (self.new ≡ self.old) }
@@ -174,7 +174,7 @@ fn piece<'a, T: Copy>(entries: &'a [T], ends: &[usize], i: usize) -> &'a [T]
     part(entries, start_of(ends, i), ends[i])
 }
 
-// Returns the index at which list number `i` begins: the end of the list before it.
+// Returns the index at which list number `i` begins: the end in `ends` of the list before it, or 0.
 fn start_of(ends: &[usize], i: usize) -> usize
     requires { i < length ends.now }
     ensures { result ≡ slice_index_or (0 ∷ ends.now) i 0 }
@@ -182,7 +182,7 @@ fn start_of(ends: &[usize], i: usize) -> usize
     if i == 0 { 0 } else { ends[i - 1] }
 }
 
-// Returns the entries `start..end`.
+// Returns the part `start..end` of `entries`.
 fn part<T: Copy>(entries: &[T], start: usize, end: usize) -> &[T]
     requires order { start ≤ end }
     requires within { end ≤ length entries.now }

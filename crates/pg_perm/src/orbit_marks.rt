@@ -3,7 +3,8 @@ ghost use Rattle.std.specs.Prelude.{◌≡◌, ◌<◌, ◌^◌, ◌||◌, ℕ, 
 ghost use Rattle.classes.specs.Classes.{IsPermutationOfBelow, orbits, orbit_count, same_class};
 ghost use Rattle.pg_perm.specs.Marks.{mark, KeepsMarks};
 
-/// Marks the orbit of `start` in `marked`. The marks already set are of whole orbits, and stay.
+/// Marks the orbit of `start` in `marked`, a flag for each number. `images` is a permutation, and the marks already set
+/// are of whole orbits. These stay.
 pub fn mark_orbit(images: &[u32], marked: &mut [bool], start: u32)
     requires bijection { IsPermutationOfBelow images.now }
     requires marks { length marked.old ≡ length images.now }
@@ -19,8 +20,8 @@ pub fn mark_orbit(images: &[u32], marked: &mut [bool], start: u32)
     }
 }
 
-/// Returns the number of orbits of `images`, in linear time. `marked` has an unset mark for each number, and each
-/// orbit is marked when its least number is met.
+/// Returns the number of orbits of the permutation `images`, in linear time. `marked` has an unset mark for each
+/// number, and each orbit is marked when its least number is met.
 pub fn count_orbits(images: &[u32], marked: &mut [bool]) -> u32
     requires bijection { IsPermutationOfBelow images.now }
     requires few { length images.now < 2 ^ 32 }

@@ -5,7 +5,7 @@ ghost use Rattle.pg_perm.specs.Repeat.{IsFirstRepeat};
 use std::alloc::{AllocError, Global};
 
 /// Returns the least pair of indices, by its first and then by its second, at which `images` has the same number, or
-/// None where no number is repeated. The time is linear. It fails only when out of memory.
+/// None. All numbers must be below the length. The time is linear. It fails only when out of memory.
 pub fn first_repeat(alloc: Global, images: &[u32]) -> Result<Option<(u32, u32)>, AllocError>
     requires few { length images.now < 2 ^ 32 }
     requires in_range { All (λ x. x < length images.now) images.now }

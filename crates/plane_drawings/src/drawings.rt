@@ -3,8 +3,8 @@
 
 ghost use Rattle.plane_drawings.specs.DrawingsLaw.{CounterclockwiseIsPlane};
 
-/// Take a map of genus zero with at least three vertices and 3n - 6 edges. A drawing of it is plane and keeps the
-/// rotations if each face is walked counterclockwise, but that of a base dart clockwise.
+/// States the law of drawings of a triangulation: a map of genus zero with n at least three and 3n - 6 edges. They are
+/// plane and keep the rotations if each face is walked counterclockwise, but that of a base dart clockwise.
 pub fn counterclockwise_is_plane()
     ensures { CounterclockwiseIsPlane }
 {}

@@ -7,8 +7,8 @@ pub use line::Line;
 
 mod line;
 
-/// At each point of a sweep the status holds just the lines that reach over that point, in order from the bottom up. No
-/// point before it stands on a line between its ends, and no line that ended before it crosses any.
+/// States the law that at each point of a sweep the status has exactly the lines that reach over the point, bottom up.
+/// No earlier point stands on a line between its ends, and no line that ended before it crosses any.
 pub fn sweep_is_kept()
     ensures { SweepIsKept }
 {}

@@ -10,7 +10,7 @@ ghost use Rattle.plane_laws.specs.Laws.{ComponentsArePaths, EdgeRemoved, BridgeT
 
 pub use edge_insertion::with_edge_after;
 
-/// Two vertices of a simple map are in one of the classes that count its components exactly where a path joins them.
+/// States the law that two vertices of a simple map are in one component's class exactly where a path joins them.
 pub fn components_are_paths()
     ensures { ComponentsArePaths }
 {}

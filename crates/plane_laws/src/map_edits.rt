@@ -63,8 +63,8 @@ pub fn some_ear()
     ensures { SomeEar }
 {}
 
-/// States the law that an ear of a face, cut off by the edge between the vertices before and after, is a triangle, and
-/// all triangles stay.
+/// States the law of an ear of a face, a vertex whose neighbours on the face can be joined. Cut off by the edge that
+/// joins them, it is a triangle, and all triangles stay.
 pub fn ear_cut()
     ensures { EarCut }
 {}

@@ -15,7 +15,7 @@ use half_edges::{HalfMap, VertexId};
 use pg_plane::RectFigure;
 
 impl Rects<'_> {
-    // Returns the least two rectangles whose interiors meet. Where `fitting` says that none do, there is no search.
+    // Returns the least two rectangles whose interiors meet, or `None`. The caller sets `fitting` only where none do.
     fn first_meeting(&self, fitting: bool) -> Option<(VertexId, VertexId)>
         requires fitting { OnTrue fitting (NoneMeet self.now.map.now.lists self.now.fig.now) }
         ensures { MatchOption result (NoneMeet self.now.map.now.lists self.now.fig.now)
@@ -24,8 +24,8 @@ impl Rects<'_> {
         if fitting { None } else { self.first_meet() }
     }
 
-    // Returns the first of three faults: two rectangles that meet, a gap, or a wrong contact. `marks` is scratch space,
-    // a flag for each vertex.
+    // Returns the first of three faults: two rectangles that meet, a gap (the areas do not fill the whole), or a wrong
+    // contact; or `None`. `marks` is scratch space, with a flag for each vertex.
     fn first_of_pairs_in(&self, marks: &mut [bool]) -> Option<RectVerdict>
         requires marks { length marks.old ≡ length self.now.map.now.lists }
         ensures { MatchOption result (NoneMeet self.now.map.now.lists self.now.fig.now × DoFill self.now.map.now.lists self.now.fig.now × HasContacts self.now.map.now.lists self.now.fig.now)
@@ -44,8 +44,8 @@ impl Rects<'_> {
         }
     }
 
-    // Returns what `first_of_pairs_in` does for the map, which has `n` vertices, with an array of `MOST` flags on the
-    // stack.
+    // Returns the first of the three faults, as `first_of_pairs_in` does, or `None`. An array of `MOST` flags, for the
+    // `n` vertices of the map, is on the stack.
     fn first_of_pairs_of<const MOST: usize>(&self, n: usize) -> Option<RectVerdict>
         requires n { n ≡ length self.now.map.now.lists }
         requires most { n ≤ MOST }
@@ -57,7 +57,8 @@ impl Rects<'_> {
         self.first_of_pairs_in(&mut marks[..n])
     }
 
-    // Returns what `first_of_pairs_in` does, with 255 flags on the stack, or 4095 for a larger map.
+    // Returns the first pair that meets, else a gap, else a wrong contact, or `None`. It has 255 or 4095 flags on
+    // stack.
     fn first_of_pairs(&self) -> Option<RectVerdict>
         ensures { MatchOption result (NoneMeet self.now.map.now.lists self.now.fig.now × DoFill self.now.map.now.lists self.now.fig.now × HasContacts self.now.map.now.lists self.now.fig.now)
             (IsRectVerdict self.now.map.now.lists self.now.fig.now) }

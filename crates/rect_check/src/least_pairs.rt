@@ -13,8 +13,8 @@ use crate::shared_sides::{are_adjacent, do_meet, share_side};
 use half_edges::VertexId;
 
 impl Rects<'_> {
-    // Returns the least two rectangles whose interiors meet. It requires a mark for each vertex whose rectangle meets
-    // that of a greater one, and tries only pairs of these.
+    // Returns the least two rectangles whose interiors meet, or `None`. It requires a mark in `marks` for each vertex
+    // whose rectangle meets that of a greater one, and tries only pairs of these.
     pub(crate) fn first_marked_meet(&self, marks: &[bool]) -> Option<(VertexId, VertexId)>
         requires marks { length marks.now ≡ length self.now.map.now.lists }
         requires marked { MeetsAreMarked self.now.map.now.lists self.now.fig.now marks.now }
@@ -35,8 +35,8 @@ impl Rects<'_> {
         None
     }
 
-    // Returns the least vertex after `u` whose contact with `u` is wrong: they share a side or are adjacent, but not
-    // both. `marks` has to mark both of any two that share a side and are not adjacent.
+    // Returns the least vertex after `u` whose contact with `u` is wrong, or `None`: they share a side or are adjacent,
+    // but not both. `marks` has to mark both of any two that share a side and are not adjacent.
     fn first_wrong_at(&self, marks: &[bool], u: VertexId) -> Option<VertexId>
         requires vertex { u.0 < length self.now.map.now.lists }
         requires marks { length marks.now ≡ length self.now.map.now.lists }
@@ -57,8 +57,8 @@ impl Rects<'_> {
         None
     }
 
-    // Returns the least two vertices that share a side or are adjacent, but not both. `marks` is that of
-    // `first_wrong_at`: all pairs are tried only of marked vertices.
+    // Returns the least two vertices that share a side or are adjacent, but not both, or `None`. `marks` has to mark
+    // both of any two that share a side and are not adjacent.
     pub(crate) fn first_wrong(&self, marks: &[bool]) -> Option<(VertexId, VertexId)>
         requires marks { length marks.now ≡ length self.now.map.now.lists }
         requires joined { AllJoined self.now.map.now.lists marks.now self.now.fig.now }

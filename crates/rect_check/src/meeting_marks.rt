@@ -73,8 +73,9 @@ impl Pass<'_> {
         }
     }
 
-    // Marks `v` in `marks`, if its rectangle begins before the end of an earlier one in a row that both have. `table`
-    // has for each row how far the earlier ones reach, and is raised in the rows of `v` to where its rectangle ends.
+    // Marks `v` in `marks`, if its rectangle begins before the end of an earlier one in a row (a unit of height) that
+    // both have. `table` has for each row how far the earlier ones reach, and is raised in the rows of `v` to where its
+    // rectangle ends.
     fn mark_next(&self, table: &mut [u16], marks: &mut [bool], v: VertexId)
         requires vertex { v.0 < length self.now.rects.map.now.lists }
         requires table { length table.old ≡ length self.now.rects.map.now.lists }
@@ -119,8 +120,8 @@ impl Pass<'_> {
 }
 
 impl Rects<'_> {
-    // Returns the least two rectangles whose interiors meet. `order`, `table` and `marks` are scratch space, an entry
-    // for each vertex.
+    // Returns the least two rectangles whose interiors meet, or `None`. `order`, `table` and `marks` are scratch space,
+    // an entry for each vertex.
     fn first_meet_in(
         &self,
         order: &mut [u16],
@@ -147,8 +148,8 @@ impl Rects<'_> {
         self.first_marked_meet(marks)
     }
 
-    // Returns what `first_meet_in` does for the map, which has `n` vertices, with arrays for `MOST` vertices on the
-    // stack.
+    // Returns the least two rectangles whose interiors meet, or `None`. Arrays of `MOST` entries, for the `n` vertices
+    // of the map, are on the stack.
     fn first_meet_of<const MOST: usize>(&self, n: usize) -> Option<(VertexId, VertexId)>
         requires n { n ≡ length self.now.map.now.lists }
         requires most { n ≤ MOST }
@@ -162,7 +163,7 @@ impl Rects<'_> {
         self.first_meet_in(&mut order[..n], &mut table[..n], &mut marks[..n])
     }
 
-    // Returns the least two rectangles whose interiors meet, with as much room as the map needs.
+    // Returns the least two rectangles whose interiors meet, or `None`, with as much room as the map needs.
     pub(crate) fn first_meet(&self) -> Option<(VertexId, VertexId)>
         ensures { MatchOption result (NoneMeet self.now.map.now.lists self.now.fig.now)
             (λ p. IsLeastPair (RectsMeet self.now.map.now.lists self.now.fig.now) p.0.0 p.1.0) }

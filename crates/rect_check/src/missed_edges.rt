@@ -25,8 +25,8 @@ impl Rects<'_> {
         u.0 < v.0 && !share_side(self.fig, u, v)
     }
 
-    // Returns the least vertex after `u` that is adjacent to `u` without sharing a side. It requires that all that
-    // share a side with `u` are adjacent to it.
+    // Returns the least vertex after `u` that is adjacent to `u` without sharing a side, or `None`. It requires that
+    // all that share a side with `u` are adjacent to it.
     pub(crate) fn first_missed_with(&self, u: VertexId) -> Option<VertexId>
         requires vertex { u.0 < length self.now.map.now.lists }
         requires joined { (v : ℕ) → u.0 < v → v < length self.now.map.now.lists → ShareSide self.now.fig.now u.0 v → HasDart self.now.map.now.lists u.0 v }

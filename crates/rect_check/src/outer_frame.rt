@@ -21,8 +21,8 @@ pub struct OuterFour {
     pub bottom: VertexId,
 }
 
-// Says whether a walk over 0, the three vertices of `frame`, `s` and `e` comes back to 0 and the first of these,
-// after four distinct vertices.
+// Says whether a face walk over 0, the vertices of `frame`, `s` and `e` goes round four. Then 0 and those of `frame`
+// are distinct, `s` is 0, and `e` is the top of `frame`.
 fn is_round_of_four(frame: OuterFour, s: VertexId, e: VertexId) -> bool
     ensures { IsTrue result ↔ IsRoundOfFour frame.top.0 frame.right.0 frame.bottom.0 s.0 e.0 }
 {
@@ -30,7 +30,7 @@ fn is_round_of_four(frame: OuterFour, s: VertexId, e: VertexId) -> bool
     s.0 == 0 && e.0 == d && 0 != d && 0 != p && 0 != q && d != p && d != q && p != q
 }
 
-/// Returns the vertices after vertex 0 on the face of its first dart, if four darts walk that face over four vertices.
+/// Returns the vertices after 0 on the face of its first dart, or None unless four darts walk it over four vertices.
 pub fn outer_four(map: &HalfMap) -> Option<OuterFour>
     ensures { MatchOption result (¬ HasFrame map.now.lists) (λ f. IsFrame map.now.lists f.top.0 f.right.0 f.bottom.0) }
 {
@@ -60,7 +60,7 @@ fn is_wide(fig: &RectFigure, v: VertexId) -> bool
     number(&fig.x1, v) == 0 && number(&fig.x2, v) == greatest(&fig.x2)
 }
 
-// Returns the first vertex of the outer face whose rectangle does not lie along its side of the frame.
+// Returns the first of vertex 0 and those of `frame` whose rectangle is not along its side of the frame, or `None`.
 pub(crate) fn first_unframed(fig: &RectFigure, frame: OuterFour) -> Option<VertexId>
     ensures { MatchOption result (IsFramed fig.now 0 frame.top.0 frame.right.0 frame.bottom.0)
         (λ v. IsFirstUnframed fig.now 0 frame.top.0 frame.right.0 frame.bottom.0 v.0) }

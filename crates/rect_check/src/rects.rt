@@ -46,7 +46,7 @@ fn is_rect(n: u16, fig: &RectFigure, v: VertexId) -> bool
     is_span(n, &fig.x1, &fig.x2, v) && is_span(n, &fig.y1, &fig.y2, v)
 }
 
-// Returns the least vertex whose rectangle is empty or not within n - 2 by n - 2.
+// Returns the least vertex whose rectangle is empty or not within n - 2 by n - 2, or `None`.
 pub(crate) fn first_bad_rect(map: &HalfMap, fig: &RectFigure) -> Option<VertexId>
     ensures { MatchOption result (AreRects map.now.lists fig.now)
         (λ v. IsLeast (HasBadRect map.now.lists fig.now) v.0) }

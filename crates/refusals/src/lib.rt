@@ -7,8 +7,8 @@ mod conditions;
 
 pub use conditions::{Refusal, Unserved};
 
-/// Lists of at least one vertex break none of the first six conditions exactly where they are a simple map of genus
-/// zero with as many vertices as are wanted.
+/// States the law that one list or more break none of the first six conditions exactly where they are a simple map of
+/// genus zero with enough vertices.
 pub fn no_refusal_is_plane()
     ensures { NoRefusalIsPlane }
 {

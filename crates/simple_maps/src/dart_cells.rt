@@ -15,7 +15,7 @@ use map_lists::Rotations;
 /// The greatest number of vertices that the table serves, and how many cells it has for each.
 pub(crate) const FEW: usize = 64;
 
-// Returns the index of the cell of vertex `v` and a greater one, `u`.
+// Returns the index of the cell (the table's entry) for vertex `v` and a greater one, `u`.
 #[inline(always)]
 fn cell_of(v: u16, u: u16) -> usize
     requires { v < 64 }
@@ -40,9 +40,10 @@ struct PairedList<'a> {
 }
 
 impl PairedList<'_> {
-    // Pairs the darts from `v` to lesser vertices with the darts back that `cells` name, in both entries of `twins`.
-    // Writes the darts to greater vertices to their cells, with `NO_PLACE` in `twins`. Sets the entries of all in
-    // `tails` to `v`. Returns false where a dart back is missing: then the lists have a fault.
+    // Pairs the darts from `v` to lesser vertices with the darts back, in both entries of `twins`, and sets the entries
+    // of the list in `tails` to `v`. Cell 64 v + u of `cells` has the number of the dart from v to a greater u. Darts
+    // to greater vertices write theirs there, and `NO_PLACE` in `twins`. Returns false where a dart back is missing or
+    // a number is no vertex: then the lists have a fault.
     #[inline(always)]
     fn pair(&self, tails: &mut [u16], twins: &mut [u32], cells: &mut [u32]) -> bool
         requires tails { length tails.old ≡ length self.now.entries.now }

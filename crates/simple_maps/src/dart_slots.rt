@@ -41,9 +41,9 @@ fn grow(threads: &mut Vec<u32>, count: usize) -> Result<(), AllocError>
     Ok(())
 }
 
-// Says whether one pass finds `lists` to be a simple map, and then writes the `tails` and `twins` of their darts. It is
-// the pass by cells for few vertices, and that by threads for more. `threads` is scratch space, which may grow. It
-// fails only when out of memory.
+// Says whether one pass finds `lists` to be a simple map, and then writes the `tails` and `twins` of their darts. For
+// at most 64 vertices it goes by a cell for each two, else by threads (chains of the darts with one head). `threads` is
+// scratch space, which may grow. It fails only when out of memory.
 #[inline(always)]
 fn passes(
     lists: &Rotations,
@@ -94,7 +94,7 @@ pub fn fill_twins(
     searched_twins(alloc, lists, tails, twins)
 }
 
-// Writes to `slots` those of the darts with these tails and twins.
+// Writes to `slots`, one for each dart, the slot made of its tail in `tails` and the number of its twin in `twins`.
 fn write_slots<P: DartSlot>(tails: &[u16], twins: &[u32], slots: &mut [P])
     requires twins { length tails.now ≡ length twins.now }
     requires slots { length slots.old ≡ length twins.now }
@@ -108,7 +108,7 @@ fn write_slots<P: DartSlot>(tails: &[u16], twins: &[u32], slots: &mut [P])
     }
 }
 
-/// Makes `slots` those of the darts of lists that are a simple map, of which the tails and the twins are known.
+/// Makes `slots` those of the darts of `lists`, a simple map, from the `tails` and `twins` of its darts in list order.
 ///
 /// The vector may hold anything before. The time is linear in the entries, and so is the memory.
 pub fn put_slots<P: DartSlot>(

@@ -11,7 +11,7 @@ use crate::one_sided::first_one_sided;
 use map_lists::Rotations;
 use std::alloc::{AllocError, Global};
 
-// Returns the number of the dart from `v` to `u`.
+// Returns the number of the dart from `v` to `u`: the index of its entry among those of all lists.
 fn number_of(lists: &Rotations, v: u16, u: u16) -> u32
     requires simple { IsSimpleMap lists.now }
     requires dart { HasDart lists.now v u }

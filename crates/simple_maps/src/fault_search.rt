@@ -16,7 +16,7 @@ pub(crate) fn lesser(least: Option<u16>, u: u16) -> Option<u16>
     }
 }
 
-// Returns the least number of `list` that is not below `n`.
+// Returns the least number of `list` that is not below `n`, or `None`.
 fn least_beyond(list: &[u16], n: usize) -> Option<u16>
     ensures { result ≡ least_where (nat_le n) list.now }
 {
@@ -29,7 +29,7 @@ fn least_beyond(list: &[u16], n: usize) -> Option<u16>
     least
 }
 
-// Returns the first vertex of `lists` whose list holds a number that is no vertex, with the least such number.
+// Returns the first vertex of `lists` whose list holds a number that is no vertex, with the least such, or `None`.
 pub(crate) fn first_out_of_range(lists: &Rotations) -> Option<(u16, u16)>
     ensures { result ≡ first_from (least_out_of_range (length lists.now)) 0 lists.now }
 {
@@ -48,7 +48,7 @@ pub(crate) fn holds(list: &[u16], u: u16) -> bool
     list.contains(&u)
 }
 
-// Returns the first vertex of `lists` whose list holds itself.
+// Returns the first vertex of `lists` whose list holds itself, or `None`.
 pub(crate) fn first_loop(lists: &Rotations) -> Option<u16>
     ensures { MatchOption result (first_from own_number 0 lists.now ≡ None)
         (λ v. first_from own_number 0 lists.now ≡ Some (v, v)) }
@@ -62,8 +62,8 @@ pub(crate) fn first_loop(lists: &Rotations) -> Option<u16>
     None
 }
 
-// Returns the least number that is in `list` twice. It sets `marks` of each number in `list` to `mark`, which none has
-// before.
+// Returns the least number that is in `list` twice, or `None`. `marks` has an entry for each vertex, below `mark`; that
+// of each number in `list` becomes `mark`.
 fn least_twice(marks: &mut [u16], mark: u16, list: &[u16]) -> Option<u16>
     requires within { All (λ u. u < length marks.old) list.now }
     requires fresh { All (λ m. m < mark) marks.old }
@@ -81,8 +81,8 @@ fn least_twice(marks: &mut [u16], mark: u16, list: &[u16]) -> Option<u16>
     twice
 }
 
-// Returns the first vertex of `lists` whose list holds a number twice, with the least such number. It fails only when
-// out of memory.
+// Returns the first vertex of `lists` whose list holds a number twice, with the least such number, or `None`. It fails
+// only when out of memory.
 pub(crate) fn first_repeated(
     alloc: Global,
     lists: &Rotations,

@@ -31,10 +31,10 @@ pub trait DartSlot: Copy {
 // A number above that of each dart: it stands where a twin is not known.
 pub(crate) const NO_PLACE: u32 = 1 << 24;
 
-// The thread of the entry at index 0: that at index d is d more.
+// The thread (a number that stands for an entry) of the entry at index 0: that of the entry at index d is d more.
 const FIRST_PLACE: u32 = NO_PLACE + 1;
 
-// Returns the index of the entry that the thread `link` stands for, or a number out of range where there is none.
+// Returns the index of the entry for which the thread `link` stands, `FIRST_PLACE` less, or one out of range.
 fn place_named(link: u32) -> usize {
     link.wrapping_sub(FIRST_PLACE) as usize
 }
@@ -50,7 +50,7 @@ fn are_below(entries: &[u16], n: usize) -> bool
     (greatest as usize) < n
 }
 
-// Says whether all darts have a twin.
+// Says whether each entry of `twins` names a dart. Only true is promised.
 pub(crate) fn are_paired(twins: &[u32]) -> bool
     ensures { OnTrue result (All (λ t. t < 16777216) twins.now) }
 {
@@ -75,9 +75,9 @@ struct ListPart<'a> {
 }
 
 impl ListPart<'_> {
-    // Links each dart of the list, in `twins`, to the one before it with its head, which `newest` has for each vertex
-    // and then gets the dart. Sets its entry in `tails` to `v`. Returns false where the list holds a number twice, or
-    // `v`.
+    // Writes for each dart of the list, in `twins`, the thread of the last earlier dart with its head, and makes it the
+    // newest of that head in `newest`. A thread is a number from `NO_PLACE` (none) on, so what is written names no twin
+    // yet. Sets the list's entries in `tails` to `v`. Returns false where the list holds a number twice, or `v`.
     #[inline(always)]
     fn thread(&self, tails: &mut [u16], twins: &mut [u32], newest: &mut [u32]) -> bool
         requires tails { length tails.old ≡ length self.now.entries.now }
@@ -104,8 +104,9 @@ impl ListPart<'_> {
         true
     }
 
-    // Pairs in `twins` the darts to `v` from earlier lists with the darts back in this list. It goes along their
-    // thread, and stops where that leads to no twin.
+    // Pairs in `twins` the darts to `v` from earlier lists with the darts back in this list, which `newest` has by
+    // their heads. It follows their thread from `before`, each dart to the last earlier one, and stops where that leads
+    // to no twin.
     #[inline(always)]
     fn pair(&self, tails: &[u16], twins: &mut [u32], newest: &[u32])
         requires tails { length tails.now ≡ length self.now.entries.now }

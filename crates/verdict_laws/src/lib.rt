@@ -39,19 +39,19 @@ pub fn one_figure_verdict()
     ensures { OneFigureVerdict }
 {}
 
-/// States the law that lists break at most one condition on biconnected maps first.
+/// States the law that at most one condition on biconnected maps is the first that lists break.
 pub fn one_break()
     ensures { OneBreak }
 {}
 
-/// States the law that lists break at most one condition on three-connected maps first.
+/// States the law that at most one condition on three-connected maps is the first that lists break.
 pub fn one_convex_break()
     ensures { OneConvexBreak }
 {
     conn_parts::biconnected_maps::biconnected_break_nothing();
 }
 
-/// States the law that lists break at most one condition on maps with rectangular duals first.
+/// States the law that at most one condition on maps with rectangular duals is the first that lists break.
 pub fn one_rect_break()
     ensures { OneRectBreak }
 {

@@ -9,7 +9,7 @@ ghost use Rattle.vertex_rounds.specs.First.{Passes, Fails, FindsFirst, FindsLeas
 use crate::list_steps::{is_below, later_dart};
 use half_edges::{DartId, HalfMap, VertexId};
 
-// Returns the least of `best` and the head of `d`, if `d` passes the test. Only a dart to a lesser vertex is tested.
+// Returns the head of `d` if it is less than `best`, the least head so far, and `d` passes `test`, and else `best`.
 fn better<F: Fn(DartId) -> bool>(
     map: &HalfMap,
     test: &F,
@@ -31,7 +31,7 @@ fn better<F: Fn(DartId) -> bool>(
     }
 }
 
-// Returns the least neighbour of `v` whose dart passes the test. `first` is the dart to the first entry of its list.
+// Returns the least neighbour of `v` whose dart passes the test, or None. `first` is the first dart of its list.
 fn least_round<F: Fn(DartId) -> bool>(
     map: &HalfMap,
     test: &F,
@@ -54,7 +54,7 @@ fn least_round<F: Fn(DartId) -> bool>(
     }
 }
 
-// Returns the least neighbour of `v` whose dart from `v` passes the test.
+// Returns the least neighbour of `v` whose dart from `v` passes the test, or None where none passes.
 fn least_of<F: Fn(DartId) -> bool>(map: &HalfMap, test: &F, v: VertexId) -> Option<VertexId>
     requires vertex { v.0 < length map.now.lists }
     requires test { (e : TheDart) → IsLive map.now e.0 → F.pre test.now e }

@@ -8,7 +8,7 @@ ghost use Rattle.plane_drawings.specs.PlaneSweepLines.{IsLine, rise, Ends};
 use crate::plane_sweep::Line;
 use pg_plane::{Point, area2};
 
-// Returns the point of the vertex of rank `i` in the order of the sweep.
+// Returns the point of the vertex of rank `i`, its index in sweep order, from `places`, which has the points by rank.
 fn point_at(places: &[Point], i: u16) -> Point
     requires in_range { All IsInRange places.now }
     requires within { i < length places.now }
@@ -18,8 +18,8 @@ fn point_at(places: &[Point], i: u16) -> Point
     places[i as usize]
 }
 
-// Returns twice the area of the triangle of the line and the vertex of rank `w`: positive where the vertex is above
-// the line, zero where it is on it.
+// Returns twice the area of the triangle of the line and the vertex of rank `w`: positive where the vertex is above the
+// line, zero where it is on it. `places` has the points by rank.
 pub(crate) fn rise(places: &[Point], line: Line, w: u16) -> i64
     requires in_range { All IsInRange places.now }
     requires line { IsLine (length places.now) line }
@@ -33,7 +33,7 @@ pub(crate) fn rise(places: &[Point], line: Line, w: u16) -> i64
     )
 }
 
-// Says whether of two lines, `e` below `f`, the one that ends first ends on its side of the other.
+// Says whether of lines `e` below `f` the one that ends first ends on its side of the other. Only true is promised.
 pub(crate) fn end_apart(places: &[Point], e: Line, f: Line) -> bool
     requires in_range { All IsInRange places.now }
     requires e { IsLine (length places.now) e }

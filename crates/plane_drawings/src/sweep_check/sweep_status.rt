@@ -43,7 +43,7 @@ fn run_end(status: &[Line], begin: usize, v: u16) -> usize
     status.len()
 }
 
-// Moves `gap` in `status`, by copying lines over it, so that it begins at index `place`. Returns where it ends then.
+// Moves `gap`, the unused part of `status`, by copying lines over it, to begin at index `place`. Returns its new end.
 fn move_gap(status: &mut [Line], gap: Gap, place: usize) -> usize
     requires order { gap.begin ≤ gap.end }
     requires within { gap.end ≤ length status.old }
@@ -64,8 +64,8 @@ fn move_gap(status: &mut [Line], gap: Gap, place: usize) -> usize
 }
 
 impl AtVertex<'_> {
-    // Returns how many of the lines on both sides of the gap the vertex is above, by a binary search. It requires
-    // that these are the lowest ones.
+    // Returns how many lines of `lower` and then `upper`, from bottom to top, the vertex is above, by a binary search.
+    // The count is right only where those are the lowest ones, which is not required.
     fn count_around(&self, lower: &[Line], upper: &[Line]) -> usize
         requires lower { All (IsLine (length self.now.places.now)) lower.now }
         requires upper { All (IsLine (length self.now.places.now)) upper.now }
@@ -89,7 +89,7 @@ impl AtVertex<'_> {
         begin
     }
 
-    // Says whether the vertex is strictly above the last line before `begin`, if there is one.
+    // Says whether the vertex is strictly above the line of `status` before index `begin`, or there is none.
     fn is_above(&self, status: &[Line], begin: usize) -> bool
         requires lines { All (IsLine (length self.now.places.now)) status.now }
         requires within { begin ≤ length status.now }
@@ -98,7 +98,7 @@ impl AtVertex<'_> {
         begin == 0 || 0 < rise(self.places, status[begin - 1], self.v)
     }
 
-    // Says whether the vertex is strictly below the line at `end`, if there is one.
+    // Says whether the vertex is strictly below the line of `status` at index `end`, or there is none.
     fn is_below(&self, status: &[Line], end: usize) -> bool
         requires lines { All (IsLine (length self.now.places.now)) status.now }
         requires within { end ≤ length status.now }
@@ -107,8 +107,8 @@ impl AtVertex<'_> {
         end == status.len() || rise(self.places, status[end], self.v) < 0
     }
 
-    // Says whether of each two neighbouring lines from index `begin` on the one that ends first ends on its side. If
-    // not, their ends are written to `suspects`.
+    // Says whether of each two neighbouring lines of `status` from index `begin` on the one that ends first ends on its
+    // side of the other. If not, their ends are written to `suspects`.
     fn all_end_apart(&self, status: &[Line], begin: usize, suspects: &mut [u16; 4]) -> bool
         requires lines { All (IsLine (length self.now.places.now)) status.now }
         ensures { OnTrue result ((k : ℕ) (d : Line) → begin ≤ k → k + 1 < length status.now
@@ -144,9 +144,9 @@ impl AtVertex<'_> {
         false
     }
 
-    // Replaces in `status` the lines that end at the vertex by those that begin there, where `gap` follows the lines
-    // below it. Returns the new gap, or None on a failed test or no room. `suspects` then may have the ends of lines at
-    // fault.
+    // Replaces in `status` the lines that end at the vertex by those that begin there. `gap` must stand after the lines
+    // below the vertex. Returns the new gap, or None on a failed test or no room. `suspects` then may have the ends of
+    // lines at fault.
     fn pass(&self, status: &mut [Line], gap: Gap, suspects: &mut [u16; 4]) -> Option<Gap>
         requires order { gap.begin ≤ gap.end }
         requires within { gap.end ≤ length status.old }
@@ -182,7 +182,8 @@ impl AtVertex<'_> {
         }
     }
 
-    // Moves `gap` in `status` to the vertex, and then replaces lines, or fills `suspects`, as `pass` does.
+    // Moves `gap` in `status` to the vertex, and replaces the lines that end there by those that begin there. Returns
+    // the new gap, or None on a failed test or no room; `suspects` then may have the ends of lines at fault.
     pub(crate) fn step(&self, status: &mut [Line], gap: Gap, suspects: &mut [u16; 4]) -> Option<Gap>
         requires order { gap.begin ≤ gap.end }
         requires within { gap.end ≤ length status.old }
