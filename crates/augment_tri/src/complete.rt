@@ -12,8 +12,8 @@ use conn_parts::{Parts, components};
 use half_edges::HalfMap;
 use std::alloc::{AllocError, Global};
 
-/// Returns `map`, of genus zero with at least three vertices, with edges added until there are 3n - 6. Its components
-/// are joined first, and then ears of faces that are no triangles are cut.
+/// Returns `map`, of genus zero with at least three vertices, with edges added until there are 3n - 6. Components are
+/// joined first. Then each face is cut into triangles by ears: edges that join the neighbours of a corner.
 ///
 /// Each old list is the new one without what is new in it, and all old darts keep their ids. When memory
 /// runs out the map is handed back as it was. The time is linear in the vertices and edges: whether two
@@ -38,7 +38,8 @@ pub fn triangulate(alloc: Global, map: HalfMap) -> Result<HalfMap, (HalfMap, All
     }
 }
 
-/// Completes `map` in place as [`triangulate`] does, by its components `parts`. It fails only when out of memory.
+/// Completes `map`, of genus zero with at least three vertices, in place as [`triangulate`] does; `parts` has its
+/// components. It fails only when out of memory, and then leaves `map` as it was.
 #[inline(always)]
 pub fn complete_parts(map: &mut HalfMap, parts: &Parts) -> Result<(), AllocError>
     requires plane { IsPlane map.old.lists }

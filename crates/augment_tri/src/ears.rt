@@ -8,7 +8,7 @@ ghost use Rattle.augment_tri.specs.Growing.{IsCovered, IsCutEar, IsFillable, IsG
 
 use half_edges::{Corner, DartId, HalfMap, VertexId};
 
-// Says whether the face of dart `d` is a triangle: three face steps from `d` lead back to it.
+// Says whether the face of dart `d` of `map` is a triangle: three face steps from `d` lead back to it.
 pub(crate) fn is_triangle(map: &HalfMap, d: DartId) -> bool
     requires { IsLive map.now d.0 }
     ensures { (a b : ℕ) → dart_at map.now d.0 ≡ Some (a, b) → IsTrue result ↔ IsTriangle map.now.lists (a, b) }
@@ -49,8 +49,8 @@ struct FacePath<'a> {
 }
 
 impl FacePath<'_> {
-    // Says whether an edge may join `a` and `c`, given that one may join these or `b` and `x`. It searches the shorter
-    // one of the lists of `b` and `c`.
+    // Returns true only if an edge may join `a` and `c`, and false only if one may join `b` and `x`; one of these must
+    // hold. It searches the shorter one of the lists of `b` and `c`.
     fn is_first(&self) -> bool
         requires { CanJoin self.now.map.now.lists self.now.a.0 self.now.c.0 ⊎ CanJoin self.now.map.now.lists self.now.b.0 self.now.x.0 }
         ensures { MatchBool result (CanJoin self.now.map.now.lists self.now.a.0 self.now.c.0) (CanJoin self.now.map.now.lists self.now.b.0 self.now.x.0) }
@@ -66,7 +66,7 @@ impl FacePath<'_> {
 }
 
 // Returns the first of two consecutive darts of the face of `d` whose outer ends are distinct and not adjacent. An edge
-// can cut this ear off. The dart is `d` or one of the next two. The face must be no triangle.
+// can cut this ear off. The dart is `d` or one of the next two. The face must be no triangle, `map` as `fill` needs it.
 fn ear_near(map: &HalfMap, d: DartId) -> DartId
     requires fillable { IsFillable map.now }
     requires live { IsLive map.now d.0 }
@@ -89,7 +89,7 @@ fn ear_near(map: &HalfMap, d: DartId) -> DartId
     }
 }
 
-// Adds to `map` an edge that cuts off the ear a, b, c that begins at dart `d`. Returns the new dart from a to c.
+// Adds to `map`, which has room, an edge that cuts off the ear a, b, c at dart `d`. Returns the new dart from a to c.
 fn cut_ear(map: &mut HalfMap, d: DartId) -> DartId
     requires spare { 1 ≤ map.old.spare }
     requires live { IsLive map.old d.0 }
@@ -107,15 +107,15 @@ fn cut_ear(map: &mut HalfMap, d: DartId) -> DartId
     map.add_edge(Corner::After(before), Corner::After(back))
 }
 
-// Returns the dart at which to continue with the face of `d` after its ear at dart `ear` was cut by dart `new`.
+// Returns where to continue in the face of `d` after `new` cut off the ear at `ear`: `new` if `ear` is `d`, else `d`.
 fn dart_after_cut(d: DartId, ear: DartId, new: DartId) -> DartId
     ensures { result.0 ≡ (if ear.0 == d.0 then new.0 else d.0) }
 {
     if ear.0 == d.0 { new } else { d }
 }
 
-// Cuts an ear off the face of `d`, which is no triangle, by an edge added to `map`. Returns the dart at which to
-// continue: the new one, where the ear began at `d` itself.
+// Cuts an ear (two consecutive darts whose outer ends an edge may join) off the face of `d`, no triangle. `map` is as
+// `fill` needs it. Returns the dart at which to continue: the new one where the ear began at `d`, or else `d`.
 pub(crate) fn cut_near(map: &mut HalfMap, d: DartId) -> DartId
     requires fillable { IsFillable map.old }
     requires live { IsLive map.old d.0 }

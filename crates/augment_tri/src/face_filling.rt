@@ -7,7 +7,7 @@ ghost use Rattle.augment_tri.specs.Growing.{IsCovered, IsFillable, IsFilled, IsG
 use crate::ears::{cut_near, is_triangle};
 use half_edges::{DartId, HalfMap};
 
-// Cuts ears off the face of dart `d`, by edges added to `map`, until all its parts are triangles.
+// Adds edges to `map`, as `fill` needs it, that cut ears off the face of dart `d` until all its parts are triangles.
 fn fill_face(map: &mut HalfMap, d: DartId)
     requires fillable { IsFillable map.old }
     requires live { IsLive map.old d.0 }
@@ -22,7 +22,8 @@ fn fill_face(map: &mut HalfMap, d: DartId)
     }
 }
 
-// Adds edges to the connected `map`, face by face, until it has 3n - 6 of them and all faces are triangles.
+// Adds edges to `map`, face by face, until it has 3n - 6 of them and all faces are triangles. `map` must be connected,
+// of genus zero, with n at least 3 and room for 3n - 6 edges.
 pub(crate) fn fill(map: &mut HalfMap)
     requires { IsFillable map.old }
     ensures fillable { IsFillable map.new }

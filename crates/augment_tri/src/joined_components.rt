@@ -19,7 +19,7 @@ fn corner_of(map: &HalfMap, v: VertexId) -> Corner
     }
 }
 
-// Adds an edge between `u` and `v`, which are not adjacent, to `map`.
+// Adds an edge between `u` and `v`, which are distinct and not adjacent, to `map`, which has room for it.
 fn join(map: &mut HalfMap, u: VertexId, v: VertexId)
     requires spare { 1 ≤ map.old.spare }
     requires u_in { u.0 < vertex_count map.old.lists }
@@ -36,7 +36,8 @@ fn join(map: &mut HalfMap, u: VertexId, v: VertexId)
     map.add_edge(at_u, at_v);
 }
 
-// Adds to `map` an edge from vertex 0 to the least vertex of each other component; `parts` has the components of `map`.
+// Adds to `map` an edge from vertex 0 to the least vertex of each other component; `parts` has the components. `map`
+// has genus zero, n at least 3 and room for 3n - 6 edges.
 pub(crate) fn join_parts(map: &mut HalfMap, parts: &Parts)
     requires roomy { IsRoomy map.old }
     requires parts { ArePartsOf map.old.lists parts.now }

@@ -11,7 +11,8 @@ use crate::vertex_list_tools::{lower_noting, note, raise, raise_noting};
 use half_edges::Rotations;
 use std::alloc::AllocError;
 
-/// Marks `v` in `marks`, and adds one in `counts` for each of its neighbours, which have one marked neighbour more.
+/// Marks vertex `v`, unmarked so far, of the simple map `lists`. `marks` has each vertex's mark, and `counts` how many
+/// of its neighbours are marked; both are updated.
 pub fn mark(marks: &mut [bool], counts: &mut [u16], lists: &Rotations, v: u16)
     requires simple { IsSimpleMap lists.now }
     requires vertex { v < length lists.now }
@@ -46,8 +47,8 @@ pub struct Three<'a> {
 }
 
 impl Three<'_> {
-    /// Marks the three vertices in `marks`, where none is marked, and counts in `counts` for each vertex how many of
-    /// its neighbours are marked then.
+    /// Marks the three vertices in `marks`, where none is marked, and counts in `counts`, zeros before, how many
+    /// neighbours of each vertex are marked then. The map must be simple.
     #[inline(always)]
     pub fn mark_all(&self, marks: &mut [bool], counts: &mut [u16])
         requires simple { IsSimpleMap self.now.lists.now }
@@ -83,7 +84,7 @@ impl AtVertex<'_> {
     {}
 
     // Marks the vertex in `marked`, where it has no mark, and adds one in `near` for each of its neighbours. Pushes it
-    // and its marked neighbours on `stack` where they have two marked neighbours. It fails only when out of memory.
+    // and its marked neighbours on `stack` where they then have two marked neighbours. Fails only when out of memory.
     #[inline(always)]
     fn mark_new(
         &self,

@@ -15,7 +15,7 @@ impl From<AllocError> for OrderFault {
 
     ghost from_gives = { λ _ fault. fault ≡ NoMemory };
 
-    // Converts a lack of memory.
+    // Converts an allocation error to `NoMemory`.
     fn from(_refused: AllocError) -> OrderFault {
         OrderFault::NoMemory
     }

@@ -16,7 +16,7 @@ use half_edges::{Counts, DartId, HalfMap, Rotations, VertexId, VertexList};
 use std::alloc::{AllocError, Global};
 use std::mem;
 
-// Writes the three vertices that are left last into `at`, as the first three of the order.
+// Writes the vertices left unpeeled, `s`, `t` and `under` of `base`, to the first three entries of `at`, in this order.
 fn put_first(at: &mut [VertexId], base: &Base<'_>)
     requires { 3 ≤ length at.old }
     ensures { map (λ v. v.0) at.new ≡ base.now.s ∷ base.now.t ∷ base.now.under ∷ drop 3 (map (λ v. v.0) at.old) }
@@ -26,8 +26,9 @@ fn put_first(at: &mut [VertexId], base: &Base<'_>)
     at[2] = VertexId(base.under);
 }
 
-// Peels vertices off until three are left, and writes each at its index of the order in `at`, from the last index down.
-// At first `marked` and `gone` have no mark, and `near` and `stack` count and hold nothing.
+// Writes a canonical order for `base` to `at`, one entry for each vertex, from the last down: peels vertices off the
+// outer cycle until three are left. `marked` (on the cycle), `gone` (taken off) and `near` (how many neighbours are on
+// the cycle) have an entry for each vertex, unset at first; `stack` is empty. It fails only when out of memory.
 fn peel(
     marked: &mut [bool],
     near: &mut [u16],
@@ -60,7 +61,7 @@ fn peel(
     Ok(())
 }
 
-/// Returns the order of the vertices `taken`, given from the last one to the first. Fails only when out of memory.
+/// Returns the order of the vertices `taken`, all of them once, the last one first. Fails only when out of memory.
 pub fn reversed_order(alloc: Global, taken: &[u16]) -> Result<Order, AllocError>
     requires few { length taken.now < 4096 }
     requires within { All (λ v. v < length taken.now) taken.now }
@@ -111,7 +112,7 @@ impl Peeler {
         Ok(())
     }
 
-    // Returns the vertices in canonical order for `base`, in the memory of `spent`.
+    // Returns the vertices in canonical order for `base`, in the memory of `spent`. Overwrites the tables, not `order`.
     fn take(&mut self, base: &Base<'_>, spent: VertexList) -> Result<Vec<VertexId>, AllocError>
         ensures { IfOk result (λ at. IsCanonicalOrder base.now.lists.now (base.now.t, base.now.s) (map (λ v. v.0) at.items)) }
     {
@@ -123,7 +124,7 @@ impl Peeler {
         Ok(at)
     }
 
-    // Finds the canonical order of the triangulation of `base`, and leaves it in `order`.
+    // Leaves the canonical order of the triangulation of `base` in `order`. It fails only when out of memory.
     fn peel(&mut self, alloc: Global, base: &Base<'_>) -> Result<(), AllocError>
         ensures order { OnOk result (IsCanonicalOrder base.now.lists.now (base.now.t, base.now.s) (vertices_of self.new.order)) }
     {
@@ -198,15 +199,15 @@ impl Peeler {
 /// Returns a canonical order of the triangulation `tri` for the dart `base`, from t to s. `tri` is a simple map of
 /// genus zero with n >= 3 and m = 3n - 6.
 ///
-/// `at` has all vertices once: s is the first, t the second, and the third vertex of the face on the left
-/// of the base is the last. Each vertex from the third one on is put on the outer cycle of the map of
-/// those before it: its neighbours among these are at least two consecutive vertices of that cycle, which
-/// goes from s to t, and each two of them that follow one another are a face of the whole map with it.
-/// These faces are all but that of the base. `rank` has the index of each vertex in `at`.
+/// `at` has all vertices once: s is the first, t the second, and the third vertex of the face on the left of the base
+/// is the last. Each vertex from the third one on is put on the outer cycle of the map of those before it. Its
+/// neighbours among these are at least two consecutive vertices of that cycle, which goes from s to t. Each two of them
+/// that follow one another are a face of the whole map with it. These faces are all but that of the base. `rank` has
+/// the index of each vertex in `at`.
 ///
 /// It fails only when out of memory. The map stays as it is. The time is linear in the vertices, which are taken off
-/// from the last one on. Each goes onto the outer cycle and off it once, and its neighbours count how many of theirs
-/// are there. One with just two may be taken off.
+/// from the last one on. Each goes onto the outer cycle and off it once. A count of each vertex's neighbours on the
+/// cycle is kept; a vertex of the cycle with just two may be taken off.
 ///
 /// Source: de Fraysseix, Pach, Pollack, How to draw a planar graph on a grid, 1990.
 pub fn canon_order(alloc: Global, tri: &HalfMap, base: DartId) -> Result<Order, OrderFault>

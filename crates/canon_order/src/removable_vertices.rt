@@ -16,7 +16,8 @@ fn is_removable(marked: &[bool], near: &[u16], base: &Base<'_>, v: u16) -> bool
     marked[v as usize] && v != base.t && v != base.s && near[v as usize] == 2
 }
 
-// Drops from `stack` what may not be peeled off, and returns a vertex that may, or `base.t` where there is none.
+// Pops from `stack` until its top is a vertex that may be peeled off, and returns that one. There must be such a
+// vertex, and `stack` has all of them. `marked` and `near` are as in `is_removable`.
 pub(crate) fn removable_vertex(
     marked: &[bool],
     near: &[u16],
@@ -39,8 +40,8 @@ pub(crate) fn removable_vertex(
     base.t
 }
 
-// Marks the three vertices of the base's face in `marked`, counts marked neighbours in `near`, and pushes the third one
-// on `stack`. Just that one may be peeled off.
+// Marks the three vertices of the face on the left of the base in `marked`, and counts each vertex's marked neighbours
+// in `near`. Pushes the third one, which alone may be peeled off, on `stack`. All is unset or empty before.
 pub(crate) fn mark_base(
     marked: &mut [bool],
     near: &mut [u16],

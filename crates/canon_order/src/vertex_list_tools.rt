@@ -7,7 +7,7 @@ ghost use Rattle.canon_order.specs.Ranks.{IsRankOf};
 use half_edges::{Counts, VertexId};
 use std::alloc::{AllocError, Global};
 
-// Adds one in `counts` for each vertex of `entries`.
+// Adds one in `counts`, a count by vertex, for each vertex of `entries`.
 pub(crate) fn raise(counts: &mut [u16], entries: &[u16])
     requires within { All (λ u. u < length counts.old) entries.now }
     requires room { (w : ℕ) → slice_index counts.old w + count_by (λ u. u == w) entries.now < 65536 }
@@ -27,7 +27,7 @@ fn counts_two(counts: &[u16], marked: &[bool], u: u16) -> bool
     counts[u as usize] == 2 && marked[u as usize]
 }
 
-// Pushes `u` on `stack`, if it is marked and its count is two.
+// Pushes `u` on `stack` if it is marked in `marked` and its entry in `counts` is two. Fails only when out of memory.
 pub(crate) fn note(
     counts: &[u16],
     stack: &mut Vec<u16>,
@@ -47,7 +47,7 @@ pub(crate) fn note(
     Ok(())
 }
 
-// Adds one in `counts` for each vertex of `entries`, and pushes on `stack` those that are marked and count two then.
+// Adds one in `counts` for each vertex of `entries`. Pushes on `stack` those marked in `marked` that then count two.
 pub(crate) fn raise_noting(
     counts: &mut [u16],
     stack: &mut Vec<u16>,
@@ -70,7 +70,7 @@ pub(crate) fn raise_noting(
     Ok(())
 }
 
-// Subtracts one in `counts` for each vertex of `entries`, and pushes on `stack` the marked ones that count two then.
+// Subtracts one in `counts` for each vertex of `entries`. Pushes on `stack` those marked that then count two.
 pub(crate) fn lower_noting(
     counts: &mut [u16],
     stack: &mut Vec<u16>,
@@ -93,7 +93,7 @@ pub(crate) fn lower_noting(
     Ok(())
 }
 
-// Returns the entry after `u`, cyclically, in `list`, which has no repeats.
+// Returns the entry after `u`, cyclically, in `list`, which has `u` and no repeats.
 pub(crate) fn entry_behind(list: &[u16], u: u16) -> u16
     requires distinct { AllPairs ◌≢◌ list.now }
     requires some { Contains list.now u }
@@ -127,7 +127,7 @@ pub(crate) fn resized<T: Copy>(table: Vec<T>, n: usize, item: T) -> Result<Vec<T
     Ok(table)
 }
 
-// Writes to `ranks` the inverse of `at`: for each vertex its index in the order.
+// Writes to `ranks` the inverse of `at`, which has all vertices once: for each vertex its index there.
 fn write_places(ranks: &mut [u32], at: &[VertexId])
     requires count { length ranks.old ≡ length at.now }
     requires few { length at.now < 4096 }
@@ -140,7 +140,7 @@ fn write_places(ranks: &mut [u32], at: &[VertexId])
     }
 }
 
-// Returns for each vertex its index in `at`, in the memory of `spent`.
+// Returns for each vertex its index in `at`, which has all of them once, in the memory of `spent`.
 #[inline(always)]
 pub(crate) fn ranks_of(spent: Counts, at: &[VertexId]) -> Result<Counts, AllocError>
     requires few { length at.now < 4096 }
@@ -153,7 +153,7 @@ pub(crate) fn ranks_of(spent: Counts, at: &[VertexId]) -> Result<Counts, AllocEr
     Ok(Counts::from_vec(ranks))
 }
 
-/// Appends three vertices to `taken`. It fails only when out of memory.
+/// Appends `first`, `second` and `third` to `taken`. It fails only when out of memory.
 pub fn push_three(
     taken: &mut Vec<u16>,
     first: u16,

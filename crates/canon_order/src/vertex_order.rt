@@ -25,7 +25,7 @@ impl Order {
         }
     }
 
-    // Returns the order of the vertices `at`, with their ranks in the memory of `spent`.
+    // Returns the order of the vertices `at`, all of them once, with their ranks in the memory of `spent`.
     #[inline(always)]
     pub(crate) fn of(at: Vec<VertexId>, spent: Counts) -> Result<Order, AllocError>
         requires few { length at.items < 4096 }

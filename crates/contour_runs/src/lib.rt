@@ -19,15 +19,15 @@ pub fn face_count()
     ensures { FaceCount }
 {}
 
-/// States the law that lists of vertices are the contours of a run where each grows by one vertex. That stands in place
-/// of what is strictly between two others. The faces of the run are those of each new vertex with two that follow one
-/// another under it. In this form an order of the vertices of a map is a run.
+/// States the law on lists of vertices, each of which has one new vertex in place of all that was strictly between two
+/// vertices of the list before. They are the contours of a run. The faces of the run are those of each new vertex with
+/// two that follow one another under it. In this form an order of the vertices of a map is a run.
 pub fn lists_are_run()
     ensures { ListsAreRun }
 {}
 
 /// States the law that a run of insertions is a run that makes faces of any size. There each step joins its vertex to
-/// all places from the first to the last. Both runs have equal stages and equal faces.
+/// all places of the contour from the first to the last. Both runs have equal stages and equal faces.
 pub fn run_of_fans()
     ensures { RunOfFans }
 {}

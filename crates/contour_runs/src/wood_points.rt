@@ -6,12 +6,13 @@
 ghost use Rattle.contour_runs.specs.WoodPointsLaws.{SpreadArea};
 ghost use Rattle.contour_runs.specs.Gaps.{DifferencesKept};
 
-/// States the law that three vertices that are spread stand counterclockwise.
+/// States the law that vertices a, b and c stand counterclockwise in this case. By coordinates, a is right of b and not
+/// above it, and c is below b and not right of a. The sum of c's two is less than a's and at most b's.
 pub fn spread_area()
     ensures { SpreadArea }
 {}
 
-/// States the law that vertices under one place of the contour keep their differences: they move with the vertex there.
+/// States the law that vertices under one place of the contour keep their differences over a step: all move with it.
 pub fn differences_kept()
     ensures { DifferencesKept }
 {}

@@ -1,5 +1,5 @@
 //! Trees of offsets: a node for each vertex, with its horizontal offset from the node that leads to it. Each use of a
-//! node is counted. Each use of a tree is counted.
+//! node is counted.
 
 ghost use Rattle.fpp_shift.specs.OffsetTreesLaws.{TreeGrows, GrownIsOffsetTree};
 
@@ -13,13 +13,14 @@ pub use summed_points::sum_offsets;
 pub use tree_growth::{begin_tree, put_over};
 pub use tree_nodes::{Node, Offsets};
 
-/// States the law that the tree of a run grows by at most five writes. Where a step of a run writes these nodes, they
-/// are the tree of the run with that step.
+/// States the law that a step of a run (a construction sequence) grows its tree of offsets by at most five writes of
+/// nodes. Once a step's nodes are written, the tree is that of the run with this step.
 pub fn tree_grows()
     ensures { TreeGrows }
 {}
 
-/// States the law that where the last step covers all but the base, the tree is the tree of offsets of the run.
+/// States the law that where the last step of a run covers all but the base, its tree is the tree of offsets of the
+/// run.
 pub fn grown_is_offset_tree()
     ensures { GrownIsOffsetTree }
 {}

@@ -59,7 +59,7 @@ impl Shifter {
         }
     }
 
-    // Returns a tree of `n` nodes, whatever they are, in the memory kept.
+    // Returns a tree of `n` nodes of any content, in the memory of `self.nodes`. It fails only when out of memory.
     fn tree<L: Ledger>(&mut self, n: usize) -> Result<Offsets<L>, AllocError>
         requires { n < 65536 }
         ensures { IfOk result (λ tree. length tree ≡ n) }
@@ -75,8 +75,8 @@ impl Shifter {
         Ok(Offsets::from_nodes(nodes))
     }
 
-    // Returns the points of the shift method for `order`, by the `lists` of the map and its tree of offsets. A new
-    // ledger counts the uses of the tree.
+    // Returns the points of the shift method for the triangulation `lists` and its canonical `order`. `blank` is a
+    // fresh ledger of brand `L` with one part or more, by which uses of the tree of offsets are counted.
     fn points<L: Ledger>(
         &mut self,
         lists: &Rotations,
@@ -106,8 +106,8 @@ impl Shifter {
         self.sums.keep(figure.points);
     }
 
-    /// Draws the triangulation with these `lists` as [`shift_draw`] does. When memory runs out the shifter can be used
-    /// again.
+    /// Draws the triangulation with these `lists` by its canonical `order`, as [`shift_draw`] does. When memory runs
+    /// out the shifter can be used again.
     pub fn list_draw(&mut self, lists: &Rotations, order: &Order) -> Result<GridFigure, AllocError>
         requires triangulation { IsTriangulation lists.now }
         requires order { (base : Dart) × IsCanonicalOrder lists.now base (vertices_of order.now) }

@@ -33,8 +33,8 @@ impl Drawer {
         }
     }
 
-    /// Returns the figure that the call `shift_figure` returns for `lists`, by the shift method. After `NoMemory` the
-    /// drawer can be used again.
+    /// Returns the figure of `lists`, at least one, by the shift method, or a refusal, as the call `shift_figure` does.
+    /// After `NoMemory` the drawer can be used again.
     pub fn shift_figure(&mut self, lists: &Rotations) -> Result<GridFigure, Unserved>
         requires some_list { 0 < length lists.now }
         ensures figure { IfOk result (IsShiftFigure lists.now) }
@@ -50,8 +50,8 @@ impl Drawer {
         self.shifter.keep(figure);
     }
 
-    /// Returns the figure that the call `schnyder_figure` returns for `lists`, by Schnyder's coordinates. After
-    /// `NoMemory` the drawer can be used again.
+    /// Returns the figure of `lists`, at least one, by Schnyder's coordinates, or a refusal, as the call
+    /// `schnyder_figure` does. After `NoMemory` the drawer can be used again.
     pub fn schnyder_figure(&mut self, lists: &Rotations) -> Result<GridFigure, Unserved>
         requires some_list { 0 < length lists.now }
         ensures figure { IfOk result (IsSchnyderFigure lists.now) }

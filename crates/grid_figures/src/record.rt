@@ -3,7 +3,7 @@ ghost use Rattle.std.specs.Prelude.{◌<◌, length};
 
 use half_edges::Rotations;
 
-// Lists that are from 1 to 4095.
+// The lists of a record, one for each vertex: from 1 to 4095 of them.
 #[derive(Clone, Copy)]
 pub(crate) struct Record<'a> {
     pub(crate) lists: &'a Rotations,

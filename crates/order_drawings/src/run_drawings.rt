@@ -4,9 +4,9 @@
 
 ghost use Rattle.order_drawings.specs.RunDrawings.{CounterclockwiseRunDraws, PointsOfOrder};
 
-/// States the law on points for the places of a canonical order of a triangulation. Let each face that its run makes be
-/// counterclockwise, and the face on the other side of the base clockwise. Then they are a plane drawing that keeps the
-/// rotations, with the face of the base outside.
+/// States the law on points for the places of a canonical order of a triangulation. Let each face that its construction
+/// sequence makes be counterclockwise, and the face on the other side of the base clockwise. Then the points are a
+/// plane drawing that keeps the rotations, with the face of the base outside.
 pub fn counterclockwise_run_draws()
     ensures { CounterclockwiseRunDraws }
 {

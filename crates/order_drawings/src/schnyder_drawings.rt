@@ -3,8 +3,8 @@
 
 ghost use Rattle.order_drawings.specs.SchnyderDrawings.{WoodPointsDraw, SomeWoodPoints, SomeSchnyderDrawing};
 
-/// Schnyder's coordinates over a canonical order of a triangulation are a plane drawing in the grid n - 2 by n - 2
-/// that keeps the rotations. The face of the base is outside, and its three vertices stand at the corners.
+/// States the law that Schnyder's coordinates over a canonical order of a triangulation are a plane drawing in a square
+/// grid of side n - 2. It keeps the rotations. The face of the base is outside, its three vertices at the corners.
 pub fn wood_points_draw()
     ensures { WoodPointsDraw }
 {

@@ -32,8 +32,8 @@ fn after_first(alloc: Global, mut all: Args) -> Result<Vec<String>, AllocError>
     }
 }
 
-/// Returns the words of the command line after the program's name, or none where one of them is not UTF-8, since the
-/// words are then bad. It fails only when out of memory.
+/// Returns the words of `args` after the program's name. An error in `args` (a word is not UTF-8) gives no words, which
+/// are then refused as bad. It fails only when out of memory.
 pub fn words_of(alloc: Global, args: io::Result<Args>) -> Result<Vec<String>, AllocError>
     ensures words { IfOk result (λ words. MatchResult args
         (λ all. words.items ≡ drop 1 (into_iter_items all)) (λ _. words.items ≡ [])) }
@@ -52,7 +52,7 @@ pub fn words_of(alloc: Global, args: io::Result<Args>) -> Result<Vec<String>, Al
     }
 }
 
-/// Converts a status to the exit code of the program.
+/// Converts `status` to the exit code of the program.
 pub fn exit_code(status: Status) -> ExitCode
     ensures { exit_status result ≡ status_number status }
 {

@@ -9,7 +9,7 @@ use map_lists::ItemLists;
 use schnyder_wood::{Colour, Wood};
 use std::alloc::{AllocError, Global};
 
-// Says whether `u` is the parent of `v` in `colour`.
+// Says whether `u` is the parent in `wood` of `v` in `colour`.
 fn is_parent(wood: &Wood, colour: Colour, v: u16, u: u16) -> bool
     requires { v < count_in wood.now }
     ensures { IsTrue result ↔ HasParent wood.now (kind colour) v u }
@@ -46,7 +46,7 @@ fn goes_up(wood: &Wood, e: u16, r: u16) -> bool
     is_parent(wood, Colour::Three, e, r) || joins(wood, e, r)
 }
 
-// Says whether `e` comes before its neighbour `r`.
+// Says whether there is an arc from `e` to its neighbour `r`: `comes_down` or `goes_up`. Then `e` comes before `r`.
 fn leads(wood: &Wood, e: u16, r: u16) -> bool
     requires e_in { e < count_in wood.now }
     requires r_in { r < count_in wood.now }
@@ -55,7 +55,7 @@ fn leads(wood: &Wood, e: u16, r: u16) -> bool
     comes_down(wood, e, r) || goes_up(wood, e, r)
 }
 
-// Appends `r` to `row`, if `e` comes before it. It fails only when out of memory.
+// Appends `r` to `row` if there is an arc from `e` to it. It fails only when out of memory.
 fn put_arc(wood: &Wood, e: u16, r: u16, row: &mut Vec<u32>) -> Result<(), AllocError>
     requires e_in { e < count_in wood.now }
     requires r_in { r < count_in wood.now }
@@ -67,7 +67,7 @@ fn put_arc(wood: &Wood, e: u16, r: u16, row: &mut Vec<u32>) -> Result<(), AllocE
     Ok(())
 }
 
-// Appends to `row` those of `list`, the neighbours of `e`, that come after `e`. It fails only when out of memory.
+// Appends to `row`, empty before, the vertices of `list` to which an arc leads from `e`. Fails only when out of memory.
 fn put_row(wood: &Wood, e: u16, list: &[u16], row: &mut Vec<u32>) -> Result<(), AllocError>
     requires e_in { e < count_in wood.now }
     requires within { All (λ r. r < count_in wood.now) list.now }
@@ -80,7 +80,7 @@ fn put_row(wood: &Wood, e: u16, list: &[u16], row: &mut Vec<u32>) -> Result<(), 
     Ok(())
 }
 
-// Returns for each vertex the list of the neighbours that come after it. It fails only when out of memory.
+// Returns for each vertex the list of the neighbours to which an arc leads from it. It fails only when out of memory.
 pub(crate) fn wood_arcs(
     alloc: Global,
     lists: &Rotations,

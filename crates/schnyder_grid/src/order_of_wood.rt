@@ -25,9 +25,9 @@ fn turned(alloc: Global, order: &[u32]) -> Result<Vec<u16>, AllocError>
     Ok(taken)
 }
 
-/// Returns the vertices of a triangulation in an order in which those of `wood` can be put on. Root one is first,
-/// root two second and root three last. Each other vertex comes after its parents of colours one and two and before
-/// that of colour three. It is a canonical order, and the wood is its wood.
+/// Returns a canonical order of the triangulation `tri` whose Schnyder wood is `wood`, a wood of `tri`. Root one is
+/// first, root two second and root three last. Each other vertex comes after its parents of colours one and two and
+/// before that of colour three.
 ///
 /// It fails only when out of memory. The map and the wood stay as they are. The time is linear in the map.
 pub fn wood_order(alloc: Global, tri: &HalfMap, wood: &Wood) -> Result<Order, AllocError>

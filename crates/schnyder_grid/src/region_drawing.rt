@@ -15,8 +15,8 @@ use pg_plane::GridFigure;
 use schnyder_wood::Wood;
 use std::alloc::Global;
 
-/// Returns the drawing of a triangulation, a simple map of genus zero with n >= 3 vertices and 3n - 6 edges, by the
-/// regions of a wood of it.
+/// Returns the drawing of `tri` by the regions of `wood`, a Schnyder wood of it. `tri` is a triangulation: a simple map
+/// of genus zero with n >= 3 vertices and 3n - 6 edges.
 ///
 /// It is plane and keeps the rotations, in the grid n - 2 by n - 2. The coordinate of an inner vertex for a colour is
 /// how many more vertices its region of this colour has than its path of the colour before. Those of colours one and

@@ -1,7 +1,7 @@
 //! Parents in a Schnyder wood, by ranks, found from the rows of a canonical order.
 //!
-//! The first vertex of a row is the parent of colour one of the vertex that is put over it, the last one that of
-//! colour two; and that vertex is the parent of colour three of all between them.
+//! The first vertex of a row (the contour interval under a vertex w) is the parent of w in colour one, the last one in
+//! colour two. All between them have w as their parent in colour three.
 ghost use Rattle.std.specs.Prelude.{◌≡◌, ◌<◌, ◌+◌, ℕ, length, slice_index, All, IfOk};
 ghost use Rattle.contour_runs.specs.Runs.{Step};
 ghost use Rattle.canon_order.specs.Orders.{vertices_of};
@@ -43,7 +43,7 @@ pub(crate) fn find_parents(
     }
 }
 
-// Returns the number of the vertex of rank `k`.
+// Returns the number of the vertex of rank `k` in `order`.
 pub(crate) fn name_of(order: &Order, k: u16) -> u16
     requires { k < length (vertices_of order.now) }
     ensures { result ≡ slice_index (vertices_of order.now) k }
@@ -51,7 +51,7 @@ pub(crate) fn name_of(order: &Order, k: u16) -> u16
     order.at.get(k as usize).0
 }
 
-// Converts a table of ranks by rank to one of vertices by vertex. It fails only when out of memory.
+// Converts `table`, a rank for each rank, to a vertex for each vertex, by `order`. It fails only when out of memory.
 pub(crate) fn named(alloc: Global, table: &[u16], order: &Order) -> Result<Vec<u16>, AllocError>
     requires ranks { All (λ k. k < length table.now) order.now.rank }
     requires within { (k : ℕ) → slice_index table.now k < length (vertices_of order.now) }

@@ -6,7 +6,7 @@ use crate::colour::Colour;
 use crate::woods::Wood;
 use map_lists::VertexId;
 
-/// Returns the number of vertices on the path of `colour` from the inner vertex `v` to the root, both counted.
+/// Returns how many vertices the path of `colour` in `wood` from the inner vertex `v` to the root has, both counted.
 ///
 /// It takes no memory. The time is linear in that number.
 pub fn path_len(wood: &Wood, v: VertexId, colour: Colour) -> u32

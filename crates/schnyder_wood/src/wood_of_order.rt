@@ -25,7 +25,7 @@ struct Tables {
     threes: Vec<u16>,
 }
 
-// Returns the parents of all vertices, from the rows of `order`. It fails only when out of memory.
+// Returns the parents of all vertices, for `rows` as in `find_parents` and `order`. It fails only when out of memory.
 fn parent_tables(alloc: Global, rows: &Rotations, order: &Order) -> Result<Tables, AllocError>
     requires few { length order.now.rank < 4096 }
     requires count { length (vertices_of order.now) ≡ length order.now.rank }
@@ -46,8 +46,8 @@ fn parent_tables(alloc: Global, rows: &Rotations, order: &Order) -> Result<Table
     Ok(Tables { ones, twos, threes })
 }
 
-/// Returns the Schnyder wood of a canonical order of a triangulation: a simple map of genus zero with n >= 3 vertices
-/// and 3n - 6 edges.
+/// Returns the Schnyder wood of the canonical `order` of the triangulation `tri`: a simple map of genus zero with n >=
+/// 3 vertices and 3n - 6 edges.
 ///
 /// The roots of the colours one, two and three are the order's first, second and last vertex. The parents of colours
 /// one and two of a vertex are the first and the last of its earlier neighbours, along the outer cycle at that time.

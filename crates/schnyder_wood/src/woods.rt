@@ -65,7 +65,7 @@ impl Wood {
         v.0 == self.root_one || v.0 == self.root_two || v.0 == self.root_three
     }
 
-    // Returns the entry of `v` in the parent table of `colour`.
+    // Returns the entry of `v` in the parent table of `colour`. It is the parent of `v`, or for a root any vertex.
     pub(crate) fn entry(&self, colour: Colour, v: VertexId) -> VertexId
         requires { v.0 < count_in self.now }
         ensures { result.0 ≡ parent_in self.now (kind colour) v.0 }

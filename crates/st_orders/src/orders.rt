@@ -57,9 +57,9 @@ fn vertices_of(alloc: Global, numbers: &[u16]) -> Result<VertexList, AllocError>
     Ok(vertices)
 }
 
-/// Writes to `ranges.from` the place of each vertex in an st-order for the dart from `s` to `t`, of a connected map
-/// without cut vertices. `forest` is a search from `s` that sees `t` next, and `low` its low points. It fails only
-/// when out of memory. The time is linear.
+/// Writes to `ranges.from` the place of each vertex in an st-order for the dart from `s` to `t` of `lists`, a connected
+/// simple map without cut vertices. `forest` is a search from `s` that sees `t` next. `low` has for each vertex the
+/// search number of its low point. It fails only when out of memory. The time is linear.
 pub fn fill_places(
     ranges: &mut Ranges,
     lists: &Rotations,
@@ -85,7 +85,7 @@ pub fn fill_places(
     Ok(())
 }
 
-// Returns an st-order of `lists` for the dart from `s` to `t`. It fails only when out of memory.
+// Returns an st-order for the dart from `s` to `t` of `lists`, as in `fill_places`. It fails only when out of memory.
 fn list_order(alloc: Global, lists: &Rotations, s: u16, t: u16) -> Result<StOrder, AllocError>
     requires simple { IsSimpleMap lists.now }
     requires connected { component_count lists.now ≡ 1 }
@@ -131,7 +131,7 @@ pub fn st_ranks(
     Ok(rank)
 }
 
-/// Returns an st-order for the dart `st` of a connected map without cut vertices, in linear time. The dart's tail
+/// Returns an st-order for the dart `st` of a connected `map` without cut vertices, in linear time. The dart's tail
 /// stands first, its head last; each other vertex has an earlier and a later neighbour. Fails only when out of memory.
 pub fn st_order(alloc: Global, map: &HalfMap, st: DartId) -> Result<StOrder, AllocError>
     requires connected { component_count map.now.lists ≡ 1 }

@@ -23,7 +23,7 @@ pub struct Ranges {
     pub from: Vec<u16>,
     // for each vertex where its range ends
     to: Vec<u16>,
-    // for each vertex the side of its last child
+    // for each vertex whether its last child so far took its places from below
     recent: Vec<bool>,
 }
 
@@ -39,8 +39,8 @@ struct Share {
     ghost other: { parent ≢ vertex },
 }
 
-// Takes `share.size` places off the range of the parent, at its lower or its upper end, for the range of the vertex of
-// `share`. `from` and `to` have by vertex where the ranges begin and end.
+// Takes `share.size` places off the range of the parent, longer than that, for the range of the vertex of `share`: at
+// its lower end if `share.below`, else at its upper. `from` and `to` have by vertex where ranges begin and end.
 fn take_places(from: &mut [u16], to: &mut [u16], share: Share)
     requires froms { length from.old ≡ length to.old }
     requires vertex_in { share.vertex < length from.old }
@@ -84,9 +84,9 @@ impl Ranges {
         Ok(())
     }
 
-    // Gives the vertex with search number `next` its range from that of its parent: a place for each vertex of its
-    // subtree. It is on the other side of the parent than the vertex at its low point. All earlier vertices have
-    // ranges.
+    // Gives the vertex with number `next`, at least 2, of `search` its range from that of its parent: a place for each
+    // vertex of its subtree. It is on the other side of the parent than the vertex at its low point. All vertices with
+    // lesser numbers have ranges already.
     fn place_next(&mut self, search: &LowSearch<'_>, next: u16)
         requires whole { IsWholeBy search.now.lists.now search.now.forest.now search.now.low.now }
         requires placed { ArePlacedBelow search.now.lists.now search.now.forest.now search.now.low.now self.old next }

@@ -8,7 +8,7 @@ use map_lists::ItemLists;
 use pg_plane::Ints;
 use std::alloc::{AllocError, Global};
 
-// Converts an unsigned number to a coordinate.
+// Converts `number`, below 2^31, to a coordinate.
 pub(crate) fn coordinate(number: u32) -> i32
     requires { number < 2 ^ 31 }
     ensures { result ≡ pos number }
@@ -16,7 +16,7 @@ pub(crate) fn coordinate(number: u32) -> i32
     number as i32
 }
 
-// Returns the lesser of two numbers.
+// Returns the lesser of `a` and `b`.
 pub(crate) fn lesser(a: u32, b: u32) -> u32
     ensures below { result ≤ a }
     ensures below_other { result ≤ b }
@@ -26,7 +26,7 @@ pub(crate) fn lesser(a: u32, b: u32) -> u32
     if a < b { a } else { b }
 }
 
-// Returns the greater of two numbers.
+// Returns the greater of `a` and `b`.
 pub(crate) fn greater(a: u32, b: u32) -> u32
     ensures above { a ≤ result }
     ensures above_other { b ≤ result }
@@ -59,8 +59,8 @@ fn greatest(row: &[u32]) -> u32
     greatest
 }
 
-// Returns for each vertex `v` the least column in its list of `rows`, those of its edges, which is not empty. It fails
-// only when out of memory.
+// Returns for each vertex the left end of its bar: the least number in its list of `rows`, which has the columns of its
+// edges, at least one. It fails only when out of memory.
 pub(crate) fn left_ends(alloc: Global, rows: &ItemLists<u32>) -> Result<Ints, AllocError>
     requires some { (v : ℕ) → v < length rows.now → 0 < length (arcs_of rows.now v) }
     requires low { (v i : ℕ) → slice_index (arcs_of rows.now v) i < 2 ^ 31 }
@@ -73,8 +73,8 @@ pub(crate) fn left_ends(alloc: Global, rows: &ItemLists<u32>) -> Result<Ints, Al
     Ok(ends)
 }
 
-// Returns for each vertex `v` the greatest column in its list of `rows`, those of its edges, which is not empty. It
-// fails only when out of memory.
+// Returns for each vertex the right end of its bar: the greatest number in its list of `rows`, which has the columns of
+// its edges, at least one. It fails only when out of memory.
 pub(crate) fn right_ends(alloc: Global, rows: &ItemLists<u32>) -> Result<Ints, AllocError>
     requires some { (v : ℕ) → v < length rows.now → 0 < length (arcs_of rows.now v) }
     requires low { (v i : ℕ) → slice_index (arcs_of rows.now v) i < 2 ^ 31 }

@@ -14,9 +14,9 @@ use pg_plane::BarFigure;
 use st_orders::{StOrder, st_order};
 use std::alloc::{AllocError, Global};
 
-/// Returns the visibility drawing by the ranks of an st-order of a connected map of genus zero with these `lists`.
-/// Heights are ranks, columns are dual numbers, and each bar reaches from its least to its greatest column. It fails
-/// only when out of memory.
+/// Returns the visibility drawing of the connected `map` of genus zero with these `lists`. `rank` has each vertex's
+/// rank in an st-order for the dart `st`. Heights are ranks, columns are dual numbers, and each bar reaches from its
+/// least to its greatest column. It fails only when out of memory.
 pub fn bars_of_ranks(
     alloc: Global,
     lists: &Rotations,
@@ -39,8 +39,9 @@ pub fn bars_of_ranks(
     Ok(BarFigure { y, x1, x2, column })
 }
 
-/// Returns the visibility drawing by the st-order `order` of a connected map of genus zero. Heights are ranks, columns
-/// are dual numbers, and each bar reaches from its least to its greatest column. Fails only when out of memory.
+/// Returns the visibility drawing by the st-order `order`, for the dart `st`, of a connected `map` of genus zero.
+/// Heights are ranks, columns dual numbers, and bars reach from least to greatest column. Fails only when out of
+/// memory.
 pub fn bars_of_order(
     alloc: Global,
     map: &HalfMap,
@@ -58,7 +59,7 @@ pub fn bars_of_order(
     Ok(figure)
 }
 
-/// Returns a visibility drawing of a connected map of genus zero without cut vertices, by an st-order for the dart
+/// Returns a visibility drawing of a connected `map` of genus zero without cut vertices, by an st-order for the dart
 /// `st`. Its width is one less than the number of faces. It fails only when out of memory.
 pub fn bars(alloc: Global, map: &HalfMap, st: DartId) -> Result<BarFigure, AllocError>
     requires live { IsLive map.now st.0 }

@@ -16,8 +16,8 @@ pub fn some_arranged()
     ensures { SomeArranged }
 {}
 
-/// States the law on a list in which a Schnyder wood's parents stand so, two before each inner vertex and one after.
-/// The wood of this order has exactly these parents.
+/// States the law on a Schnyder wood and a list with each inner vertex after its parents of colours one and two and
+/// before that of colour three. The wood of this order has exactly the same parents.
 pub fn parents_of_arranged()
     ensures { ParentsOfArranged }
 {}

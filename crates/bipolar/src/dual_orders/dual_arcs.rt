@@ -27,7 +27,7 @@ impl DirectedMap<'_> {
         self.rank.get(self.map.tail(d).0 as usize) < self.rank.get(self.map.head(d).0 as usize)
     }
 
-    // Appends to `entries` the right faces of the upward darts on the walk of face `f`.
+    // Appends to `entries` the right faces of the upward darts on the walk (facial cycle) of face `f`.
     fn put_walk(&self, faces: &Faces, f: u32, entries: &mut Vec<u32>) -> Result<(), AllocError>
         requires faces { AreFaces self.now.map.now faces.now }
         requires face { f < length faces.now }
@@ -44,8 +44,8 @@ impl DirectedMap<'_> {
     }
 }
 
-/// Returns for each of `faces` the faces on the right of the upward edges that have it on their left. Edges go upwards
-/// by `rank`, the rank of each vertex. It fails only when out of memory.
+/// Returns for each of the `faces` of `map` the faces on the right of the upward edges that have it on their left.
+/// Edges go upwards by `rank`, the rank of each vertex. It fails only when out of memory.
 pub fn face_arcs(
     alloc: Global,
     map: &HalfMap,

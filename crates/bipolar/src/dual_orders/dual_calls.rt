@@ -19,8 +19,9 @@ use map_lists::ItemLists;
 use st_orders::StOrder;
 use std::alloc::{AllocError, Global};
 
-/// Returns for each vertex the dual numbers of its edges, in the order of its list, by the ranks of an st-order. By its
-/// clause the columns that `edge_columns` makes of them are the dual numbers. It fails only when out of memory.
+/// Returns for each vertex the dual numbers of its edges (longest-path numbers of the faces on their left), in the
+/// order of its list. `rank` has each vertex's rank in an st-order for the dart `st` of `map`, connected and of genus
+/// zero. `edge_columns` puts the numbers into the order of edges. It fails only when out of memory.
 pub fn rank_rows(
     alloc: Global,
     map: &HalfMap,
@@ -45,7 +46,7 @@ pub fn rank_rows(
     Ok(rows)
 }
 
-/// Returns the rows of [`rank_rows`], by the st-order `order` instead of its ranks. Fails only when out of memory.
+/// Like [`rank_rows`], but takes the st-order `order` instead of its ranks. It fails only when out of memory.
 pub fn dual_rows(
     alloc: Global,
     map: &HalfMap,
@@ -62,8 +63,8 @@ pub fn dual_rows(
     Ok(rows)
 }
 
-/// Returns the dual numbers of the st-order `order`, for the dart `st`, of a connected map of genus zero. They come by
-/// the lesser end of the edge and then by its greater. Time and memory are linear. It fails only when out of memory.
+/// Returns the dual number of each edge by the st-order `order`, for the dart `st`, of a connected `map` of genus zero.
+/// Edges are sorted by lesser and then greater end. Time and memory are linear. It fails only when out of memory.
 pub fn dual_numbers(
     alloc: Global,
     map: &HalfMap,

@@ -47,7 +47,7 @@ fn after(ends: &[usize], v: usize, d: usize) -> usize
     }
 }
 
-// Appends `twin`, the number of the twin of `dart`, to `arcs` where `dart`, as tail and head, leads to greater rank.
+// Appends `twin`, the number of the twin of `dart`, to `arcs` where `dart`, as tail and head, leads to greater `rank`.
 fn put_upward(
     rank: &[u16],
     dart: (u16, u16),
@@ -70,7 +70,8 @@ impl RankedDarts<'_> {
         ensures { AreDarts self.now.entries.now self.now.ends.now self.now.twins.now }
     {}
 
-    // Writes the number `f` into `of` at the darts of the face of `start`; appends its upward darts' twins to `arcs`.
+    // Writes the number `f` to `of`, which has for each dart its face's number or `NO_FACE`, at the darts of the face
+    // of `start`. Appends the twins of its upward darts to `arcs`.
     fn walk_face(
         &self,
         of: &mut [u32],
@@ -100,8 +101,8 @@ impl RankedDarts<'_> {
         Ok(())
     }
 
-    // Numbers all faces in `of`, in the order of their least darts. Appends the twins of the upward darts of each to
-    // `arcs`, and where these end to `arc_ends`.
+    // Numbers all faces in `of`, `NO_FACE` for each dart before, in the order of their least darts. Appends the twins
+    // of each face's upward darts to `arcs`, and where they end to `arc_ends`, both empty before.
     fn number_all(
         &self,
         of: &mut [u32],

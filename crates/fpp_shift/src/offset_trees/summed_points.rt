@@ -32,7 +32,7 @@ fn meet(met: &mut [u16], i: usize, v: u16)
     met[i] = v;
 }
 
-// Returns the point of `v`.
+// Returns the entry of vertex `v` in `points`.
 fn point_of(points: &[Point], v: u16) -> Point
     requires { v < length points.now }
     ensures { result ≡ place points.now v }
@@ -58,8 +58,9 @@ fn own_point(node: Node) -> Point
     }
 }
 
-// Follows `link`, one of the links of `v`; the first `filled` entries of `met` are the vertices met so far. If it leads
-// to a vertex, appends that to them, writes its point to `points` and adds one to `steps`. Returns their new number.
+// Follows `link`, one of the links of `v` in `tree`; the first `filled` entries of `met` are the vertices met so far.
+// If it leads to a vertex, appends that to them, writes its point to `points` and adds one to `steps`. Returns the new
+// `filled`.
 fn follow<L: Ledger>(
     tree: &Offsets<L>,
     met: &mut [u16],

@@ -22,7 +22,7 @@ fn wider(width: i32, offset: i32) -> i32
     width + offset
 }
 
-// Returns the vertex to which the right link of vertex `at` leads, and adds one to `steps`.
+// Returns the vertex to which the right link of vertex `at` in `tree`, which it has, leads. Adds one to `steps`.
 fn to_right<L: Ledger>(tree: &Offsets<L>, at: u16, steps: &mut Steps<L>) -> u16
     requires at { at < length tree.now }
     requires link { (u : ℕ) × (right_of tree.now at ≡ Some u) }
@@ -36,7 +36,7 @@ fn to_right<L: Ledger>(tree: &Offsets<L>, at: u16, steps: &mut Steps<L>) -> u16
     }
 }
 
-// Returns the offset of vertex `at`, and adds one to `steps`.
+// Returns the offset of vertex `at` in `tree`, and adds one to `steps`.
 fn offset_of<L: Ledger>(tree: &Offsets<L>, at: u16, steps: &mut Steps<L>) -> i32
     requires { at < length tree.now }
     ensures offset { result ≡ (node_at tree.now at).x }
@@ -46,8 +46,8 @@ fn offset_of<L: Ledger>(tree: &Offsets<L>, at: u16, steps: &mut Steps<L>) -> i32
     node.x
 }
 
-// Follows right links from `p` to `q`, and adds at most two for each to `steps`. Returns how far `q` stands to the
-// right of `p`, and the vertex before `q`.
+// Follows right links of `tree` from `p` to `q`, to which they must lead, and adds at most two for each to `steps`.
+// Returns how far `q` stands to the right of `p`, and the vertex before `q`.
 pub(crate) fn walk<L: Ledger>(tree: &Offsets<L>, p: u16, q: u16, steps: &mut Steps<L>) -> (i32, u16)
     requires { (row : ℕ → ℕ) × (m : ℕ) × IsRow tree.now row m p q }
     ensures width { (row : ℕ → ℕ) (m : ℕ) → IsRow tree.now row m p q → result.0 ≡ far tree.now row m }
@@ -90,8 +90,8 @@ fn top(apart: i32, y_p: i32, y_q: i32) -> (i32, i32, i32)
 }
 
 // Hangs the nodes strictly within an interval on the new vertex over them, which stands `x` to the right of the
-// interval's first vertex. `row` has this one and the last vertex but one. In `tree` it rewrites the first node's
-// offset and clears the last one's right link. Adds at most 6 to `steps`. Returns the first of the nodes, if any.
+// interval's first vertex. `row` is that first vertex and the last but one. In `tree` it rewrites the first node's
+// offset and clears the last one's right link. Adds at most 6 to `steps`. Returns the first of the nodes, or None.
 fn cover<L: Ledger>(
     tree: &mut Offsets<L>,
     row: (u16, u16),
@@ -118,7 +118,7 @@ fn cover<L: Ledger>(
     Some(VertexId(first))
 }
 
-// Returns `offset`, which has grown by one, as measured from the new vertex at offset `x`.
+// Returns `offset`, from an interval's first vertex, plus one, as an offset from the new vertex, which is at `x`.
 fn from_top(offset: i32, x: i32) -> i32
     requires offset { IsWithin (pos 1048576) offset }
     requires x { IsWithin (pos 1048576) x }
@@ -127,7 +127,7 @@ fn from_top(offset: i32, x: i32) -> i32
     offset + 1 - x
 }
 
-// Returns the height of vertex `at`, and adds one to `steps`.
+// Returns the height of vertex `at` in `tree`, and adds one to `steps`.
 fn height_of<L: Ledger>(tree: &Offsets<L>, at: u16, steps: &mut Steps<L>) -> i32
     requires { at < length tree.now }
     ensures height { result ≡ (node_at tree.now at).y }
@@ -137,7 +137,7 @@ fn height_of<L: Ledger>(tree: &Offsets<L>, at: u16, steps: &mut Steps<L>) -> i32
     node.y
 }
 
-// Returns the node with this offset and height, and this left and right link.
+// Returns the node with the offset and height of `place`, and the left and right link of `links`.
 fn node_with(place: (i32, i32), links: (Option<VertexId>, Option<VertexId>)) -> Node
     ensures { result ≡ record { x = place.0; y = place.1; left = links.0; right = links.1 } }
 {

@@ -15,9 +15,9 @@ pub struct Node {
     pub x: i32,
     /// How high it stands.
     pub y: i32,
-    /// The vertex to which the left link leads.
+    /// The vertex to which the left link leads: in a tree of the shift method, the first one that this vertex covers.
     pub left: Option<VertexId>,
-    /// The vertex to which the right link leads.
+    /// The vertex to which the right link leads: there the next on the contour, or the next that is covered with it.
     pub right: Option<VertexId>,
 }
 
@@ -62,7 +62,7 @@ impl<L: Ledger> Offsets<L> {
         })
     }
 
-    // Returns a tree of these `nodes`, whatever they are.
+    // Returns a tree of these `nodes`, one for each vertex, fewer than 65536, of any content.
     pub(crate) fn from_nodes(nodes: Vec<Node>) -> Offsets<L>
         requires few { length nodes.items < 65536 }
         ensures { result ≡ nodes.items }

@@ -7,7 +7,7 @@ ghost use Rattle.fpp_shift.specs.ShiftTreesRows.{BeginsRow, EndsRow, OrderHasRow
 use half_edges::{Counts, DartId, HalfMap, VertexId};
 
 /// States the law that the attachment interval of each vertex of a canonical order, from the third on, begins and ends
-/// at just one neighbour. These are the first and the last vertex of a step of the order's run.
+/// at just one neighbour. These are the first and the last vertex of a step of the construction sequence.
 pub(crate) fn order_has_rows()
     ensures { OrderHasRows }
 {
@@ -22,15 +22,15 @@ pub(crate) struct OrderedMap<'a> {
     pub(crate) ghost ranked: { length ranks.now ≡ length map.now.lists },
 }
 
-// Says whether the attachment interval of a vertex of rank `k` ends at its neighbour of rank `rank`. That is earlier,
-// and it is the end `base` of the base or has a later neighbour `beside` it.
+// Says whether a neighbour of rank `rank` is an end of the attachment interval of a vertex of rank `k`. It is if its
+// rank is below `k`, and is `base` (0 or 1, an end of the base) or has a later neighbour beside it, of rank `beside`.
 fn is_end(rank: u32, beside: u32, k: u32, base: u32) -> bool
     ensures { IsTrue result ↔ ((rank < k) × ((rank ≡ base) ⊎ (k ≤ beside))) }
 {
     rank < k && (rank == base || k <= beside)
 }
 
-// Returns the first dart of `v`, which has neighbours.
+// Returns the first dart of `v` in `map`. It must have neighbours.
 fn some_dart(map: &HalfMap, v: VertexId) -> DartId
     requires vertex { v.0 < length map.now.lists }
     requires some { 0 < length (list_of map.now.lists v.0) }
@@ -52,7 +52,7 @@ impl OrderedMap<'_> {
         self.ranks.get(self.map.head(d).0 as usize)
     }
 
-    /// Returns the neighbour at which the attachment interval of `v`, of rank `k`, begins, by one round of its darts.
+    /// Returns the first earlier neighbour along the contour of `v`, of rank `k`, by one round of the darts of `v`.
     #[inline(always)]
     pub(crate) fn interval_begin(&self, v: VertexId, k: u32) -> VertexId
         requires vertex { v.0 < length self.now.map.now.lists }
@@ -73,7 +73,7 @@ impl OrderedMap<'_> {
         unreachable!()
     }
 
-    /// Returns the neighbour at which the attachment interval of `v`, of rank `k`, ends, by one round of its darts.
+    /// Returns the last earlier neighbour along the contour of `v`, of rank `k`, by one round of the darts of `v`.
     #[inline(always)]
     pub(crate) fn interval_end(&self, v: VertexId, k: u32) -> VertexId
         requires vertex { v.0 < length self.now.map.now.lists }

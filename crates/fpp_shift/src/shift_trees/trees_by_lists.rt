@@ -16,8 +16,8 @@ use order_drawings::order_tables::RankedList;
 use pg_io::Steps;
 use std::sync::ledger::Ledger;
 
-// Returns the first and the last neighbour of the attachment interval of a vertex, from one round of its list. It lies
-// between the later neighbours; where none is later, these are the base's vertices, `s` and `t`.
+// Returns the first and the last vertex of the attachment interval of the vertex whose ranked list is `row`. In its
+// list the interval lies between later neighbours; where none is later it goes from `s` to `t`, the base's ends.
 fn interval_in(row: &RankedList<'_>, s: u16, t: u16) -> (u16, u16)
     requires { 0 < length row.now.list.now }
     ensures begin { (lists : Lists) (v p : ℕ) → IsListOf lists v row.now.list.now → BeginsRow lists row.now.ranks.now row.now.k v p → (slice_index row.now.ranks.now p ≡ 0 → p ≡ s)
@@ -46,8 +46,8 @@ fn interval_in(row: &RankedList<'_>, s: u16, t: u16) -> (u16, u16)
     (list[end - 1], list[again])
 }
 
-/// Makes `tree` the tree of offsets of the canonical `order` of a triangulation, by its `lists`, whatever its nodes
-/// were. Adds at most 24 for each vertex to `steps`.
+/// Makes `tree` the tree of offsets of the canonical `order` of the triangulation `lists`. It has a node for each
+/// vertex, of any content before. Adds at most 24 for each vertex to `steps`.
 pub(crate) fn list_tree<L: Ledger>(
     lists: &Rotations,
     order: &Order,

@@ -18,8 +18,8 @@ use std::sync::ledger::Ledger;
 ///
 /// Each use of the tree adds one to `steps`: at most 24 for each vertex. It takes no memory and refuses nothing.
 ///
-/// The map and the order stay as they are. The time is linear in the entries of the map. One round of a vertex finds
-/// where the interval of the contour under it begins and ends, and the tree is gone along between.
+/// The map and the order stay as they are. The time is linear in the entries of the map. One round of a vertex's darts
+/// finds the ends of the contour interval under it, and right links of the tree lead from one to the other.
 ///
 /// Source: Chrobak, Payne, A linear-time algorithm for drawing a planar graph on a grid, 1995.
 pub fn offset_tree<L: Ledger>(

@@ -41,7 +41,7 @@ pub(crate) struct Tools {
     pub(crate) peeler: Peeler,
 }
 
-// Returns the dart from vertex 0 of a triangulation to its least neighbour.
+// Returns the dart from vertex 0 of the triangulation `tri` to its least neighbour.
 fn least_dart(tri: &HalfMap) -> DartId
     requires triangulation { IsTriangulation tri.now.lists }
     ensures { LeadsToLeast tri.now result.0 }
@@ -54,7 +54,7 @@ fn least_dart(tri: &HalfMap) -> DartId
     unreachable!()
 }
 
-// Returns the base for a drawing of `tri`: the dart `first`, or else that from vertex 0 to its least neighbour.
+// Returns the base dart of the triangulation `tri`: `first`, or for None that from vertex 0 to its least neighbour.
 fn base_dart(tri: &HalfMap, first: Option<DartId>) -> DartId
     requires triangulation { IsTriangulation tri.now.lists }
     ensures given { IfSome first (λ d. result ≡ d) }
@@ -78,8 +78,8 @@ impl Tools {
         }
     }
 
-    // Completes `map`, of genus zero with at least three vertices, whose components are known. Returns whether edges
-    // were added, and then `self.lists` are those of the completion.
+    // Completes `map`, of genus zero with at least three vertices, to a triangulation; `self.maps.parts` has its
+    // components. Darts keep their ids. Returns whether edges were added; if so `self.lists` are the new lists.
     #[inline(always)]
     fn complete_map(&mut self, map: &mut HalfMap) -> Result<bool, AllocError>
         requires plane { IsPlane map.old.lists }
@@ -100,8 +100,8 @@ impl Tools {
         Ok(true)
     }
 
-    // Completes `map`, which has these `lists`, genus zero and at least three vertices and whose components are known.
-    // Orders it in `self.peeler`, and returns whether edges were added.
+    // Completes `map`, whose lists are `lists`, as `complete_map` does and needs. Leaves a canonical order of the
+    // completion in `self.peeler.order`. Returns whether edges were added; if so `self.lists` are its lists.
     #[inline(always)]
     fn order_map(&mut self, map: &mut HalfMap, lists: &Rotations) -> Result<bool, AllocError>
         requires lists { map.old.lists ≡ lists.now }
@@ -121,8 +121,8 @@ impl Tools {
         Ok(made)
     }
 
-    // Completes the map of the record `input` and orders it in `self.peeler`, or returns the first condition that it
-    // breaks. Returns whether edges were added; `self.lists` are then those of the completion.
+    // Completes the map of the record `input` and orders it in `self.peeler.order`, or returns the first condition that
+    // the record breaks. Returns whether edges were added; if so `self.lists` are those of the completion.
     #[inline(always)]
     pub(crate) fn order_record(&mut self, input: &Record<'_>) -> Result<bool, Unserved>
         ensures order { IfOk result (λ made. IsOrdered input.now.lists.now (lists_by made self.new.lists input.now.lists.now) self.new.peeler.order) }
@@ -135,7 +135,7 @@ impl Tools {
         Ok(made)
     }
 
-    // Like [`Tools::order_record`], but takes the `lists` of the record and returns the completed map too.
+    // Like [`Tools::order_record`], but takes the record's `lists`, at least one, and also returns the completed map.
     fn ordered_map(&mut self, lists: &Rotations) -> Result<(HalfMap, bool), Unserved>
         requires some_list { 0 < length lists.now }
         ensures order { IfOk result (λ p. IsOrdered lists.now p.0.lists self.new.peeler.order) }
@@ -149,14 +149,14 @@ impl Tools {
     }
 }
 
-// Returns the `lists` of a completion if it was `made`, which is where edges were added; else the record's, `own`.
+// Returns `lists`, those of a completion, if `made` (edges were added), or else the record's lists, `own`.
 pub(crate) fn made_or<'a>(made: bool, lists: &'a Rotations, own: &'a Rotations) -> &'a Rotations
     ensures { result.now ≡ lists_by made lists.now own.now }
 {
     if made { lists } else { own }
 }
 
-// Returns the `lists` of a completion if it was `made`, which is where edges were added; else None.
+// Returns `lists`, those of a completion, if `made` (edges were added), or else None.
 fn some_if(made: bool, lists: Rotations) -> Option<Rotations>
     ensures { result ≡ (if made then Some lists else None) }
 {
@@ -167,9 +167,9 @@ fn some_if(made: bool, lists: Rotations) -> Option<Rotations>
 /// it. The base of the order goes from vertex 0 to the first of its list, or to its least neighbour in the completion
 /// where the list is empty.
 ///
-/// `Err` names the first condition that the lists break, or says that memory ran out. First come the four faults of a
-/// map, each with the least vertices. Then come fewer than three vertices, and a genus above zero. The time is linear
-/// in the entries.
+/// `Err` names the first condition that the lists break, or says that memory ran out. First come the faults of a map
+/// (an entry out of range, a loop, a repeat, a one-sided edge), each with the least vertices. Then come fewer than
+/// three vertices, and a genus above zero. The time is linear in the entries.
 pub fn drawing_order(alloc: Global, lists: &Rotations) -> Result<DrawingOrder, Unserved>
     requires some_list { 0 < length lists.now }
     ensures order { IfOk result (IsDrawingOrder lists.now) }

@@ -13,8 +13,8 @@ use euler_faces::Counter;
 use refusals::Unserved;
 use std::alloc::{AllocError, Global};
 
-/// Says whether the lists of `input` are a triangulation, or returns the first condition that they break, by the tables
-/// of `counter`. Of lists with more or fewer entries it answers no at once.
+/// Returns true only for a triangulation; false promises nothing, and comes at once unless there are 6n - 12 entries.
+/// `Err` is the first condition that the lists of `input` break, or no memory. `counter` is overwritten.
 pub(crate) fn is_triangulated(counter: &mut Counter, input: &Record<'_>) -> Result<bool, Unserved>
     ensures triangulation { IfOk result (λ found. OnTrue found (IsTriangulation input.now.lists.now)) }
     ensures served { IfOk result (λ found. OnTrue found (first_refusal 3 input.now.lists.now ≡ None)) }
@@ -27,7 +27,7 @@ pub(crate) fn is_triangulated(counter: &mut Counter, input: &Record<'_>) -> Resu
     Ok(count.m.wrapping_add(6) == 3 * count.n)
 }
 
-/// Leaves in `peeler` the canonical order of the triangulation of `input`, for vertex 0's first dart as the base.
+/// Leaves in `peeler.order` a canonical order of the triangulation `input`, with vertex 0's first dart as the base.
 pub(crate) fn order_full(
     alloc: Global,
     peeler: &mut Peeler,

@@ -76,9 +76,9 @@ pub(crate) fn drawn_record(
 /// Vertex 0 stands at (0, n - 2), a vertex at (n - 2, 1) and one at (1, 0). The second is the first of vertex 0's list,
 /// if any. Where the map is connected, the face on the left of vertex 0's first dart is the outer one.
 ///
-/// `Err` names the first condition that the lists break, or says that memory ran out. First come the four faults of a
-/// map, each with the least vertices. Then come fewer than three vertices, and a genus above zero. The time is linear
-/// in the entries.
+/// `Err` names the first condition that the lists break, or says that memory ran out. First come the faults of a map
+/// (an entry out of range, a loop, a repeat, a one-sided edge), each with the least vertices. Then come fewer than
+/// three vertices, and a genus above zero. The time is linear in the entries.
 ///
 /// Source: Schnyder, Embedding planar graphs on the grid, 1990.
 pub fn schnyder_figure(alloc: Global, lists: &Rotations) -> Result<GridFigure, Unserved>

@@ -18,8 +18,9 @@ use order_drawings::order_tables::points_at;
 use pg_plane::Points;
 use std::alloc::AllocError;
 
-// Lets `v` cover the vertices of `row`, in this order, and returns the sum of their drops. In `drops` the entry of each
-// becomes the sum of the entries up to it, plus 1, and likewise in `rises`; in `covers` it becomes `v`.
+// Lets the new vertex `v` cover the distinct vertices of `row`, consecutive on the contour, and returns the sum of
+// their drops (see the head of this file). At each of them `drops` becomes the sum of the drops up to it, plus 1,
+// `rises` likewise, and `covers` becomes `v`. The tables go by vertex.
 fn cover_interval(
     drops: &mut [u32],
     rises: &mut [u32],
@@ -50,8 +51,9 @@ fn cover_interval(
     far
 }
 
-// Adds vertex `v` over `row`, an interval of the contour: all of it but its first and last vertex go under `v`. Changes
-// `drops`, `rises`, `spans` and `covers` at most at `v` and at all vertices of `row` but the first.
+// Adds the next vertex, `v`, over `row`, an interval of the contour: all of it but its first and last vertex go under
+// `v`. Brings `drops`, `rises`, `spans` and `covers` (see this file's head; they go by vertex) from before this step to
+// after it. They change at most at `v` and at all vertices of `row` but the first.
 fn put_over(
     drops: &mut [u32],
     rises: &mut [u32],
@@ -74,8 +76,9 @@ fn put_over(
     drops[q as usize] = 1;
 }
 
-// Replaces the differences in `drops` and `rises` by coordinates one and two, from the last vertex down, by `spans` and
-// `covers`. It requires that the contour has only the first two vertices and the last.
+// Replaces the differences in `drops` and `rises` by coordinates one and two, from the last vertex down. `covers` has
+// for each vertex the later one that covers it, and `spans` the span of each (see the head of this file). The contour
+// must have shrunk to the first two vertices and the last.
 fn add_up(drops: &mut [u32], rises: &mut [u32], spans: &[u32], covers: &[u16])
     requires tables { AreTables (length drops.old) drops.old rises.old spans.now covers.now }
     requires last { (g : Stage) × (at : Coordinates) × AreLastGaps g at drops.old rises.old spans.now covers.now }
@@ -96,9 +99,9 @@ fn add_up(drops: &mut [u32], rises: &mut [u32], spans: &[u32], covers: &[u16])
     }
 }
 
-/// Returns the points by Schnyder's coordinates over a construction sequence with these `rows`, for vertices of these
-/// `ranks`, in the memory of `spent`. The tables `drops`, `rises` and `spans` have zeros at first. They and `covers`
-/// are overwritten. It fails only when out of memory.
+/// Returns Schnyder's coordinates of all vertices, in the memory of `spent`. List k of `rows` is the contour interval
+/// under the vertex of rank k + 2, as ranks; `ranks` has each vertex's rank. `drops`, `rises` and `spans`, zeros at
+/// first, and `covers` have an entry for each vertex and are overwritten. It fails only when out of memory.
 pub(crate) fn wood_points(
     spent: Points,
     drops: &mut [u32],

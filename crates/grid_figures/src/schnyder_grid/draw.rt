@@ -40,7 +40,7 @@ impl WoodDrawer {
         }
     }
 
-    // Makes the tables of gaps zeros for `n` vertices, and that of covers `n` long. It fails only when out of memory.
+    // Sets `self.gaps` to `3 * n` zeros and makes `self.covers` `n` entries long. It fails only when out of memory.
     fn clear(&mut self, n: usize) -> Result<(), AllocError>
         requires { n < 4096 }
         ensures gaps { OnOk result (self.new.gaps.items ≡ replicate (3 * n) 0) }
@@ -52,8 +52,8 @@ impl WoodDrawer {
         Ok(())
     }
 
-    // Returns the points by Schnyder's coordinates over a construction sequence with these `rows`, for vertices of
-    // these `ranks`. It overwrites the tables, and fails only when out of memory.
+    // Returns Schnyder's coordinates of all vertices. List k of `rows` is the contour interval under the vertex of rank
+    // k + 2, as ranks; `ranks` has each vertex's rank. It overwrites the tables, and fails only when out of memory.
     fn points(&mut self, rows: &Rotations, ranks: &Counts) -> Result<Points, AllocError>
         requires few { length ranks.now < 4096 }
         requires rows { length rows.now + 2 ≡ length ranks.now }
@@ -75,8 +75,8 @@ impl WoodDrawer {
         self.spent = figure.points;
     }
 
-    /// Draws the triangulation with these `lists` as [`wood_draw`] does. When memory runs out the drawer can be used
-    /// again.
+    /// Draws the triangulation with these `lists` by its canonical `order`, as [`wood_draw`] does. When memory runs out
+    /// the drawer can be used again.
     pub fn list_draw(&mut self, lists: &Rotations, order: &Order) -> Result<GridFigure, AllocError>
         requires triangulation { IsTriangulation lists.now }
         requires order { (base : Dart) × IsCanonicalOrder lists.now base (vertices_of order.now) }
@@ -104,9 +104,9 @@ impl WoodDrawer {
 /// It is plane and keeps the rotations, in the grid n - 2 by n - 2. The order's first vertex stands at (n - 2, 1), its
 /// second at (0, n - 2) and its last at (1, 0). Of all faces that of the base alone is drawn clockwise.
 ///
-/// It fails only when out of memory. The map and the order stay as they are. The time is linear in the vertices. A
-/// vertex is put over an interval of the contour, which gives how far what it covers stands from it. These differences
-/// are added up in the end.
+/// It fails only when out of memory. The map and the order stay as they are. The time is linear in the vertices. Each
+/// vertex is put over an interval of the contour, and how far the vertices under it stand from it is kept. These
+/// differences are added up at the end.
 ///
 /// Source: Schnyder, Embedding planar graphs on the grid, 1990.
 pub fn wood_draw(alloc: Global, tri: &HalfMap, order: &Order) -> Result<GridFigure, AllocError>

@@ -28,8 +28,8 @@ fn after(n: usize, i: usize) -> usize
     if i + 1 < n { i + 1 } else { 0 }
 }
 
-// Says whether the row of the vertex of rank `k` ends at an entry of this `rank`, where the entry before it in the
-// list has rank `before`.
+// Says whether a vertex's row (the contour interval under it) ends at an entry of this `rank` in its list. `k` is the
+// rank of the vertex, and `before` that of the entry before.
 fn is_last(rank: u32, before: u32, k: u32) -> bool
     ensures { IsTrue result ↔ ((rank ≡ 1) ⊎ (k ≤ before)) }
 {
@@ -37,7 +37,7 @@ fn is_last(rank: u32, before: u32, k: u32) -> bool
 }
 
 impl RankedList<'_> {
-    // Says whether the row of the vertex begins at index `i` of its list.
+    // Says whether the row (the contour interval under the vertex) begins at index `i` of the vertex's list.
     fn is_first(&self, i: usize) -> bool
         requires { i < length self.now.list.now }
         ensures { IsTrue result ↔ IsFirstPlace self.now.list.now self.now.ranks.now self.now.k i }
@@ -48,7 +48,7 @@ impl RankedList<'_> {
         rank < self.k && (rank == 0 || self.k <= next)
     }
 
-    // Finds the index in the list at which the row begins: before an entry of a later rank, if there is one. Where
+    // Returns the index in the list at which the row begins: before an entry of a later rank, if there is one. Where
     // there is none, the vertex is the last, and each index is tested.
     #[inline(always)]
     fn first_place(&self) -> usize
@@ -99,8 +99,9 @@ impl RankedList<'_> {
     }
 }
 
-// Returns the rows of all vertices from the third of the order on, in the memory of `spent`. `at` is the order, and
-// `ranks` has each vertex's index in it. It fails only when out of memory.
+// Returns the rows (contour intervals under a vertex, as ranks) of the third and later vertices of the order `at`, in
+// the memory of `spent`. `lists` has their neighbours, at least one; `ranks` has indices in `at`. Fails only when out
+// of memory.
 #[inline(always)]
 fn listed_rows(
     spent: Rotations,
@@ -137,8 +138,8 @@ fn listed_rows(
     Ok(Rotations::from_parts(entries, ends))
 }
 
-/// Returns for each vertex of a canonical order, from the third on, its row: the interval of the contour that it
-/// covers. A row names vertices by their ranks, from the first one under the new vertex to the last.
+/// Returns for each vertex of the canonical `order` of the triangulation `tri`, from the third on, its row: the contour
+/// interval under it. A row names vertices by their ranks, from the first one under the new vertex to the last.
 ///
 /// Fails only when out of memory. The map and the order stay as they are. The time is linear in the map's entries.
 pub fn order_rows(alloc: Global, tri: &HalfMap, order: &Order) -> Result<Rotations, AllocError>
@@ -152,7 +153,7 @@ pub fn order_rows(alloc: Global, tri: &HalfMap, order: &Order) -> Result<Rotatio
     Ok(rows)
 }
 
-/// Returns the rows of `order` as [`order_rows`] does, by the `lists` of the map and in the memory of `spent`.
+/// Returns the rows (contour intervals) of `order` as [`order_rows`] does, by the map's `lists`, in memory of `spent`.
 #[inline(always)]
 pub fn rows_into(
     spent: Rotations,

@@ -6,7 +6,7 @@ use half_edges::Counts;
 use pg_plane::{Point, Points};
 use std::alloc::AllocError;
 
-// Converts an unsigned number to a coordinate.
+// Converts `number`, below 2^20, to a coordinate.
 fn coordinate(number: u32) -> i32
     requires { number < 2 ^ 20 }
     ensures { result ≡ pos number }
@@ -27,8 +27,8 @@ fn point_at(xs: &[u32], ys: &[u32], k: usize) -> Point
     }
 }
 
-/// Returns the points of all vertices, in the memory of `spent`: a vertex of rank k has the coordinates `xs[k]` and
-/// `ys[k]`. It fails only when out of memory.
+/// Returns the points of all vertices, in the memory of `spent`: a vertex of rank k, its entry in `ranks`, has the
+/// coordinates `xs[k]` and `ys[k]`, below 2^20. It fails only when out of memory.
 pub fn points_at(
     spent: Points,
     xs: &[u32],

@@ -10,7 +10,7 @@ use crate::{Colour, Wood};
 use map_lists::VertexId;
 use std::alloc::{AllocError, Global};
 
-// Returns the parent of the inner vertex `v` in `colour`.
+// Returns the parent in `wood` of the inner vertex `v` (no root) in `colour`.
 fn parent_of(wood: &Wood, colour: Colour, v: VertexId) -> VertexId
     requires { IsInnerIn wood.now v.0 }
     ensures { result.0 ≡ parent_in wood.now (kind colour) v.0 }
@@ -21,7 +21,8 @@ fn parent_of(wood: &Wood, colour: Colour, v: VertexId) -> VertexId
     }
 }
 
-// Sets `ups[u]`, for each vertex `u` on the path of `colour` from `v` to its root, to the next vertex on it.
+// Sets `ups[u]`, for each vertex `u` but the root on the path of `colour` in `wood` from the inner vertex `v` (no
+// root), to the next vertex on it. Each entry of `ups`, one for each vertex, is its own vertex at first.
 fn note_path(ups: &mut [u16], wood: &Wood, v: VertexId, colour: Colour)
     requires inner { IsInnerIn wood.now v.0 }
     requires count { length ups.old ≡ count_in wood.now }
@@ -64,8 +65,8 @@ fn previous_colour(colour: Colour) -> Colour
     }
 }
 
-// Returns a table of the path of `colour` from `v`: for each vertex on it the next one, and for all others
-// themselves. It fails only when out of memory.
+// Returns a table of the path of `colour` in `wood` from the inner vertex `v`. It has for each vertex on it but the
+// root the next one, and for all others themselves. It fails only when out of memory.
 fn noted_path(
     alloc: Global,
     wood: &Wood,

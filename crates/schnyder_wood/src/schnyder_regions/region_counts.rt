@@ -45,7 +45,8 @@ impl Region<'_> {
         self.path.has_edge(self.map.tail(d).0, self.map.head(d).0)
     }
 
-    // Marks in `inside` the tails of all darts whose face is reached by an odd number of crossings, as `met` says.
+    // Marks in `inside`, by vertex, the tails of all darts d whose face is reached by an odd number of crossings. These
+    // are the darts for which entry 2d + 1 of `met` is set.
     fn mark_tails(&self, met: &[bool], inside: &mut [bool])
         requires marks { length met.now ≡ 2 * id_bound self.now.map.now }
         requires count { length inside.old ≡ length self.now.map.now.lists }
@@ -83,8 +84,8 @@ impl Region<'_> {
         }
     }
 
-    // Returns the number of vertices of the region. `met` and `inside` are unset marks: first whether each face is
-    // reached from the start with an even or odd number of crossings, then the vertices. Fails only when out of memory.
+    // Returns the number of vertices of the region. The marks are unset: two in `met` for each dart id (an even or an
+    // odd number of crossings reaches its face), and one in `inside` for each vertex. Fails only when out of memory.
     fn count(&self, alloc: Global, met: &mut [bool], inside: &mut [bool]) -> Result<u32, AllocError>
         requires marks { length met.old ≡ 2 * id_bound self.now.map.now }
         requires unset { (i : ℕ) → mark_at met.old i ≡ false }
@@ -106,7 +107,7 @@ impl Region<'_> {
     }
 }
 
-// Returns the dart from root two to root one.
+// Returns the dart of `map` from root two to root one of `wood`.
 fn base_dart(map: &HalfMap, wood: &Wood) -> DartId
     requires { HasDart map.now.lists (root_in wood.now two) (root_in wood.now one) }
     ensures { dart_at map.now result.0 ≡ Some (base_in wood.now) }
@@ -124,8 +125,8 @@ fn base_dart(map: &HalfMap, wood: &Wood) -> DartId
 /// vertices on these, and those on the faces inside. A face is inside if a chain of faces from the outer one, each
 /// sharing an edge with the next, comes there over an odd number of these edges.
 ///
-/// It fails only when out of memory. The map and the wood stay as they are. The time is linear in the map: a search
-/// goes over its faces.
+/// `wood` must be a Schnyder wood of `tri`; both stay as they are. It fails only when out of memory. The time is linear
+/// in the map: a search goes over its faces.
 ///
 /// Source: Schnyder, Embedding planar graphs on the grid, 1990.
 pub fn region_count(

@@ -60,7 +60,7 @@ impl Rooted<'_> {
     {}
 }
 
-// Says whether a search has seen all vertices before it ended vertex 0: the map is connected.
+// Returns true only if the search `forest` saw all vertices before it ended vertex 0, so that the map is connected.
 fn sees_all(forest: &Forest) -> bool
     requires some { 0 < length forest.now.last.items }
     ensures { IsTrue result → slice_index forest.now.last.items 0 ≡ length forest.now.last.items }
@@ -68,8 +68,8 @@ fn sees_all(forest: &Forest) -> bool
     forest.last[0] as usize == forest.last.len()
 }
 
-// Numbers the faces of `map` into `tables`, with arcs from each face to those on the right of its edges by `rank`. It
-// fails only when out of memory.
+// Numbers the faces of `map` into `tables`, with an arc from the left to the right face of each edge, as directed to
+// its end of higher `rank`. It fails only when out of memory.
 fn number_faces_into(
     tables: &mut FaceTables,
     alloc: Global,
@@ -94,7 +94,7 @@ fn number_faces_into(
     Ok(())
 }
 
-// Returns the first number of a table.
+// Returns the first entry of `numbers`, of which there is one.
 fn first_of(numbers: &[u32]) -> u32
     requires { 0 < length numbers.now }
     ensures { result ≡ slice_index numbers.now 0 }
@@ -102,7 +102,7 @@ fn first_of(numbers: &[u32]) -> u32
     numbers[0]
 }
 
-// Writes the ranks as heights to `made`.
+// Writes to `made` for each vertex its height, which is its `rank`.
 fn put_heights(made: &mut [i32], rank: &[u16])
     requires { length made.old ≡ length rank.now }
     ensures { made.new ≡ map pos rank.now }
@@ -112,7 +112,7 @@ fn put_heights(made: &mut [i32], rank: &[u16])
     }
 }
 
-// Makes `made` a table of the ranks as heights. It fails only when out of memory.
+// Makes `made` a table of each vertex's height, which is its `rank`. It fails only when out of memory.
 fn fill_heights(made: &mut Vec<i32>, rank: &[u16]) -> Result<(), AllocError>
     ensures { IfOk result (λ _. made.new.items ≡ map pos rank.now) }
 {
@@ -150,8 +150,8 @@ impl DualTables {
         }
     }
 
-    // Draws a connected map without cut vertex by a search of it. It returns `Nothing` where the genus is not zero.
-    // It fails only when out of memory.
+    // Draws a connected `map` without cut vertex by a `search` of it from vertex 0. Returns `Drawn` with the figure, or
+    // `Nothing`, which promises nothing, where the genus is not zero. It fails only when out of memory.
     fn draw(
         &mut self,
         alloc: Global,
@@ -192,8 +192,8 @@ impl DualTables {
         Ok(Found::Drawn(BarFigure { y, x1, x2, column }))
     }
 
-    // Finds the least cut vertex of a connected map by a search of it. It returns `Nothing` where the genus is not
-    // zero. It fails only when out of memory.
+    // Finds the least cut vertex of a connected `map` by a `search` of it from vertex 0. Returns `Cut` with it, or
+    // `Nothing`, which promises nothing, if there is none or the genus is not zero. It fails only when out of memory.
     fn cut(
         &mut self,
         alloc: Global,
@@ -216,8 +216,8 @@ impl DualTables {
         }
     }
 
-    // Finds the answer to a map by a search of it. It returns `Nothing` where the map is not connected or not of
-    // genus zero. It fails only when out of memory.
+    // Finds the answer to `map` by a `search` of it from vertex 0: its figure, or its least cut vertex. Returns
+    // `Nothing`, which promises nothing, if it is not connected or not of genus zero. It fails only when out of memory.
     fn find(
         &mut self,
         alloc: Global,
@@ -247,8 +247,8 @@ impl Tables {
         }
     }
 
-    // Finds the answer to a map by the twins of its darts, by a search from vertex 0 that sees its first neighbour
-    // next. Returns `Nothing` where the map is not connected or not of genus zero. Fails only when out of memory.
+    // Finds the answer to the simple map `lists`, with the `twins` of its darts, as `DualTables::find` does. Returns
+    // `Nothing` also for fewer than three vertices or no neighbour of vertex 0. Fails only when out of memory.
     fn find(&mut self, alloc: Global, lists: &Rotations, twins: &[u32]) -> Result<Found, AllocError>
         requires simple { IsSimpleMap lists.now }
         requires twins { AreTwins (darts lists.now) twins.now (length (darts lists.now)) }
@@ -300,7 +300,7 @@ impl BarDrawer {
         self.tables.dual.spans.x2 = x2.into_vec();
     }
 
-    // Returns a record's figure after the exact search for the first condition that it breaks, or that condition.
+    // Returns the figure of the record `lists`, at least one, by [`bar_figure`], or the first condition that it breaks.
     fn exact_figure(&mut self, lists: &Rotations) -> Result<BarFigure, Unserved>
         requires some_list { 0 < length lists.now }
         ensures figure { IfOk result (IsBarFigure lists.now) }

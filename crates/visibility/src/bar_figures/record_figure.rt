@@ -13,7 +13,7 @@ use refusals::Unserved;
 use st_orders::st_ranks;
 use std::alloc::Global;
 
-// Returns the dart from vertex 0 to its first neighbour, which it has.
+// Returns the dart from vertex 0 to its first neighbour; `map` is biconnected, with three vertices or more.
 fn first_dart(map: &HalfMap) -> DartId
     requires biconnected { IsBiconnectedMap 3 map.now.lists }
     ensures live { IsLive map.now result.0 }
@@ -31,9 +31,9 @@ fn first_dart(map: &HalfMap) -> DartId
 /// The heights are an st-order from vertex 0 to the first of its list, and the columns are its dual numbers. Each bar
 /// reaches from its least column to its greatest.
 ///
-/// `Err` names the first condition that the lists break, or says that memory ran out. First come the four faults of a
-/// map, each with the least vertices. Then come fewer than three vertices, a genus above zero, more than one component,
-/// and a cut vertex, the least. The time is linear in the entries.
+/// `Err` names the first condition that the lists break, or says that memory ran out. First come the faults of a map
+/// (an entry out of range, a loop, a repeat, a one-sided edge), each with the least vertices. Then come fewer than
+/// three vertices, a genus above zero, a second component, and the least cut vertex. The time is linear in the entries.
 ///
 /// Source: Tamassia, Tollis, A unified approach to visibility representations of planar graphs, 1986.
 pub fn bar_figure(alloc: Global, lists: &Rotations) -> Result<BarFigure, Unserved>
