@@ -14,7 +14,7 @@ use half_edges::{DartId, HalfMap, Rotations};
 use pg_plane::{GridFigure, Points};
 use std::alloc::{AllocError, Global};
 
-// Returns the number of faces of `map` without the outer one, which is the side of the grid.
+// Returns the number of faces of `map`, connected and of genus zero, without the outer one: the side of the grid.
 fn side_of(map: &HalfMap) -> u32
     requires plane { IsPlane map.now.lists }
     requires connected { component_count map.now.lists ≡ 1 }
@@ -25,7 +25,7 @@ fn side_of(map: &HalfMap) -> u32
     map.m() - map.n() as u32 + 1
 }
 
-// Returns the figure with these `points` in a grid of width and height `side`.
+// Returns the figure with these `points` in a grid of width and height `side`, below 2^20.
 pub(crate) fn in_square(points: Points, side: u32) -> GridFigure
     requires { side < 1048576 }
     ensures points { result.points ≡ points }

@@ -9,7 +9,8 @@ pub fn convex_run_draws()
     ensures { ConvexRunDraws }
 {}
 
-/// States the law of [`convex_run_draws`] for a run whose turns are read off, if its vertices are touched in time.
+/// States the law of [`convex_run_draws`] for a run whose turns are read off the counts. Each vertex but the last and
+/// the base's has to be an end of a step's interval before it comes strictly under a face or the run ends.
 pub fn touched_run_draws()
     ensures { TouchedRunDraws }
 {}

@@ -9,8 +9,8 @@ pub fn run_of_map()
     ensures { RunOfMap }
 {}
 
-/// States the law that the counts of faces over such a run are a convex plane drawing of the map. It is in the grid m
-/// by m where the map has m faces beside that of the base.
+/// States the law that the counts of faces over a run as in [`run_of_map`] are a convex plane drawing of the map. It is
+/// in the grid m by m where the map has m faces beside that of the base.
 pub fn some_convex_drawing()
     ensures { SomeConvexDrawing }
 {}

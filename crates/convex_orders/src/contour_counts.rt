@@ -20,7 +20,8 @@ pub(crate) struct ContourCounts {
     pub(crate) edges: Vec<u16>,
 }
 
-// Adds or subtracts one in `counts`, by `way`, for each face number of `row`.
+// Adds one to the entry in `counts` of each face number in `row`, or subtracts one where `way` is `Goes`. `counts` has
+// an entry for each face number, and a number that `row` repeats counts each time.
 fn move_row(counts: &mut [u16], way: Way, row: &[u32])
     requires within { All (λ u. u < length counts.old) row.now }
     requires can { (f : ℕ) → f < length counts.old → CanMove way (slice_index counts.old f) (count_by (λ u. u == f) row.now) }
@@ -32,7 +33,8 @@ fn move_row(counts: &mut [u16], way: Way, row: &[u32])
     }
 }
 
-// Adds or subtracts, by `way`, the face numbers that `own` lists round each of the vertices `vs` in `counts`.
+// Adds one in `counts`, by face number, for each face round each vertex of `vs`, or subtracts it where `way` is `Goes`.
+// `own` has for each vertex the list of these numbers.
 fn move_rows(counts: &mut [u16], way: Way, own: &ItemLists<u32>, vs: &[u16])
     requires vertices { (i : ℕ) → i < length vs.now → slice_index vs.now i < length own.now }
     requires below { (v : ℕ) → v < length own.now → All (λ f. f < length counts.old) (list_of own.now v) }
@@ -44,8 +46,8 @@ fn move_rows(counts: &mut [u16], way: Way, own: &ItemLists<u32>, vs: &[u16])
     }
 }
 
-// Adds or subtracts, by `way`, in `counts` the faces inside of the edges between consecutive vertices of `vs`. `inner`
-// has for each vertex the face inside of its edge to the next.
+// Adds one in `counts`, by face number, for the face inside of each edge between consecutive vertices of `vs`, or
+// subtracts it where `way` is `Goes`. `inner` has the number of that face for each vertex and its next edge.
 fn move_edges(counts: &mut [u16], way: Way, inner: &[u32], vs: &[u16])
     requires some { 0 < length vs.now }
     requires vertices { (i : ℕ) → suc i < length vs.now → slice_index vs.now i < length inner.now }
@@ -78,8 +80,8 @@ impl ContourCounts {
         Ok(())
     }
 
-    /// Adds or subtracts, by `way`, the interval `stretch` of the contour: the faces round the vertices strictly within
-    /// it, and those inside of all its edges.
+    /// Adds to the counts what the interval `stretch` of the contour has, or subtracts it where `way` is `Goes`. It has
+    /// the faces round the vertices strictly within it, and those inside of all its edges.
     pub(crate) fn move_part(&mut self, way: Way, stretch: &ContourInterval<'_>)
         requires size { HaveSize self.old stretch.now.tables.now.faces.count }
         requires can { CanMoveAll stretch.now.tables.now.lists stretch.now.tables.now.faces.own stretch.now.tables.now.faces.count way stretch.now.ws.now stretch.now.first stretch.now.last self.old }
@@ -101,7 +103,8 @@ impl ContourCounts {
         move_edges(&mut self.edges, way, inner, part(ws, first, last + 1));
     }
 
-    /// Counts the whole contour `ws`, with no counts yet. `inner` has by vertex the face inside its edge to the next.
+    /// Counts the faces round the vertices of the contour `ws` and inside of its edges, where all counts are zero.
+    /// `inner` has for each vertex the number of the face inside of its edge to the next.
     pub(crate) fn count_all(&mut self, tables: &Tables, inner: &[u32], ws: &[u16])
         requires size { HaveSize self.old tables.now.faces.count }
         requires inner { AreInner tables.now.lists tables.now.faces.own ws.now inner.now }

@@ -19,8 +19,8 @@ pub(crate) struct ContourFaces {
     pub(crate) outer: Vec<u32>,
 }
 
-// Returns the first index from `from` on of an edge whose face in `own` is unmarked and whose face in `other` is
-// marked, if any. `own` and `other` number the two faces at each edge of a vertex, and `marks` marks faces.
+// Returns the first index from `from` on of a contour edge in a vertex's list, if any. The face of that dart, in `own`,
+// has no mark in `marks` (it is removed), and the face of the dart back, in `other`, has one.
 fn rim_from(own: &[u32], other: &[u32], marks: &[bool], from: usize) -> Option<usize>
     requires rows { AreRowsBelow own.now other.now (length marks.now) }
     ensures { MatchOption result ((k : ℕ) → from ≤ k → ¬ IsRimAt own.now other.now marks.now k) (λ k. IsRimAt own.now other.now marks.now k) }
@@ -33,7 +33,7 @@ fn rim_from(own: &[u32], other: &[u32], marks: &[bool], from: usize) -> Option<u
     None
 }
 
-// Like [`rim_from`], but goes on from the front of the list where it finds none. There has to be such an edge.
+// Like [`rim_from`], returns the index of a contour edge, but goes on from the front if it finds none. One exists.
 fn rim_near(own: &[u32], other: &[u32], marks: &[bool], from: usize) -> usize
     requires { HasRim own.now other.now marks.now }
     ensures { IsRimAt own.now other.now marks.now result }
@@ -67,9 +67,8 @@ impl ContourFaces {
         Ok(())
     }
 
-    // Finds the contour edge of `map` that leaves vertex `x`, notes its index and the faces on its two sides, and
-    // returns its other end. The search begins where that edge was last seen in the list: at a hub it goes on in one
-    // direction.
+    // Finds the contour edge of `map` that leaves vertex `x`, which has one. Notes at `x` its index in the list and the
+    // faces on its two sides, and returns its other end. The search begins at the index noted at `x` before.
     fn see(&mut self, map: &Marked<'_>, x: u16) -> u16
         requires size { AreRims self.old (length map.now.tables.now.lists) }
         requires some { (y : ℕ) × IsRimIn map.now.tables.now.lists map.now.tables.now.faces.own map.now.tables.now.faces.other map.now.marks.now x y }
@@ -86,8 +85,8 @@ impl ContourFaces {
         map.tables.lists.list(v)[k]
     }
 
-    /// Appends to `left` the vertices along the contour of `map`, from the last one of `left` on up to vertex `stop`.
-    /// Notes the faces on both sides of each edge on the way.
+    /// Appends to `left` the contour of `map` from after the last vertex of `left` up to vertex `stop`, which comes
+    /// later on it. Notes at each vertex on the way the faces on both sides of the edge to the next.
     pub(crate) fn trace(
         &mut self,
         left: &mut Vec<u16>,

@@ -31,7 +31,7 @@ struct WalkedMap<'a> {
 }
 
 impl WalkedMap<'_> {
-    // Returns the number of the face of dart `d`.
+    // Returns the number of the face of the live dart `d`.
     fn number_of(&self, d: DartId) -> u32
         requires faces { AreFaces self.now.map.now self.now.faces.now }
         requires live { IsLive self.now.map.now d.0 }
@@ -41,7 +41,7 @@ impl WalkedMap<'_> {
         self.faces.of_dart(d).0
     }
 
-    // Appends the face numbers at the edges of `v`: of their darts to `own`, and of the darts back to `other`.
+    // Appends for each dart in the list of `v` the number of its face to `own`, and that of its twin's to `other`.
     fn put_vertex(
         &self,
         v: VertexId,
@@ -71,8 +71,8 @@ impl WalkedMap<'_> {
     }
 }
 
-/// Returns the numbers of the faces of a map, by its `faces`. It fails only when out of memory. The time is linear in
-/// the darts, and so is the memory.
+/// Returns for each list entry of `map` the numbers of the faces of its dart and of the dart back, by the map's
+/// `faces`. It fails only when out of memory. The time and the memory are linear in the darts.
 pub fn numbers_of_faces(
     alloc: Global,
     map: &HalfMap,

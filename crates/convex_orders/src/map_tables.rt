@@ -23,7 +23,7 @@ pub struct Tables {
     pub ghost numbers: { AreFaceNumbers lists faces.own faces.other faces.count },
 }
 
-// Returns the entry of `table` for the dart from `x` to `y`, or 0 where `lists` have no such dart.
+// Returns the entry of `table`, laid out like `lists`, for the dart from `x` to `y`, which the simple map has.
 fn number_in(lists: &Rotations, table: &ItemLists<u32>, x: u16, y: u16) -> u32
     requires simple { IsSimpleMap lists.now }
     requires table { (count : ℕ) × IsTable lists.now table.now count }
@@ -40,8 +40,8 @@ fn number_in(lists: &Rotations, table: &ItemLists<u32>, x: u16, y: u16) -> u32
 }
 
 impl Tables {
-    /// Returns the number of the face of the dart from `x` to `y`. It goes over the shorter one of their two lists: at
-    /// a hub the time is that of its neighbours.
+    /// Returns the number of the face of the dart from `x` to `y`, which exists. It searches the shorter list of the
+    /// two ends, which is fast at a vertex of high degree.
     pub(crate) fn number_of(&self, x: u16, y: u16) -> u32
         requires dart { HasDart self.now.lists x y }
         ensures { result ≡ entry self.now.lists self.now.faces.own x y }

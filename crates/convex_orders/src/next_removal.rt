@@ -10,7 +10,8 @@ use crate::contour_counts::ContourCounts;
 use crate::remaining_faces::Marked;
 use std::alloc::AllocError;
 
-// Says whether some edge of a vertex has no marked face; `own` and `other` number the faces on both sides of each edge.
+// Says whether some edge of a vertex has both faces removed. `own` and `other` number the faces on its two sides, and
+// `marks` says of each face number whether the face is left.
 fn is_open(own: &[u32], other: &[u32], marks: &[bool]) -> bool
     requires rows { AreRowsBelow own.now other.now (length marks.now) }
     ensures { IsTrue result ↔ ((k : ℕ) × IsOpenAt own.now other.now marks.now k) }
@@ -49,7 +50,8 @@ pub(crate) struct Choice<'a> {
 }
 
 impl Choice<'_> {
-    // Says whether vertex `v` of the contour may be removed.
+    // Says whether vertex `v` of the contour may be removed: each remaining face at it meets the contour in one
+    // interval, and some edge at it has both faces removed.
     fn is_removable(&self, v: usize) -> bool
         requires vertex { v < length self.now.map.tables.now.lists }
         ensures { IsTrue result ↔ IsRemovableRow (list_of self.now.map.tables.now.faces.own v) (list_of self.now.map.tables.now.faces.other v) self.now.map.marks.now self.now.counts.now.places.items self.now.counts.now.edges.items }
@@ -61,8 +63,8 @@ impl Choice<'_> {
             && is_open(own, other, marks)
     }
 
-    // Moves the current position of `contour` back until the vertex before it may be removed, and says whether it found
-    // one. It does not try the first vertex. It fails only when out of memory.
+    // Moves the current position of `contour`, between two vertices, back until the vertex before it may be removed,
+    // and returns `true`. It returns `false` if no vertex before the position but the first may be.
     fn seek(&self, contour: &mut Contour) -> Result<bool, AllocError>
         requires some { 0 < length contour.old.left.items }
         requires behind { 0 < length contour.old.right.items }
@@ -84,7 +86,7 @@ impl Choice<'_> {
     }
 
     /// Moves the current position of `contour` back until the vertex before it may be removed, and begins again at the
-    /// end where that finds none. There has to be one. It fails only when out of memory.
+    /// end where that finds none. Some vertex but the first and last may be. It fails only when out of memory.
     pub(crate) fn find(&self, contour: &mut Contour) -> Result<(), AllocError>
         requires vertices { AreWithin (vertices_of contour.old) (length self.now.map.tables.now.lists) }
         requires removable { (j : ℕ) × IsRemovablePlace self.now.map.tables.now.faces.own self.now.map.tables.now.faces.other self.now.map.marks.now self.now.counts.now.places.items self.now.counts.now.edges.items (vertices_of contour.old) j }

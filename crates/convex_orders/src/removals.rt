@@ -85,8 +85,8 @@ impl RowTables {
         Ok(())
     }
 
-    // Removes the vertices strictly between indices `first` and `end` of the contour, uncounts them, and appends them
-    // to the rows of new vertices. Returns the vertex at `end`.
+    // Takes the vertices after index `first` up to `end` off the contour, and subtracts that interval from the counts.
+    // Appends those before `end` as a list of new vertices, and returns the one at `end`.
     fn take_out(&mut self, tables: &Tables, first: usize, end: usize) -> Result<u16, AllocError>
         requires kept { IsKept tables.now self.old }
         requires order { first < end }
@@ -113,7 +113,7 @@ impl RowTables {
         Ok(x)
     }
 
-    // Counts the vertices traced after index `first` of the contour, and appends that interval as a row with its cuts.
+    // Counts the contour interval from index `first` up to the current position, and appends it as a row with its cuts.
     fn put_in(&mut self, tables: &Tables, first: usize) -> Result<(), AllocError>
         requires rims { AreRims self.old.rims (length tables.now.lists) }
         requires inner { AreInner tables.now.lists tables.now.faces.own self.old.contour.left.items self.old.rims.inner.items }
@@ -142,8 +142,8 @@ impl RowTables {
         Ok(())
     }
 
-    // Removes the vertices strictly between indices `first` and `end` of the contour, traces the new contour there, and
-    // appends the row of this removal.
+    // Completes a removal whose faces are unmarked already: takes the vertices strictly between indices `first` and
+    // `end` off the contour, traces the new one there, and appends the row.
     fn advance(&mut self, tables: &Tables, first: usize, end: usize) -> Result<(), AllocError>
         requires kept { IsKept tables.now self.old }
         requires some { SomeOff tables.now.lists tables.now.faces.own self.old.marks.items tables.now.tail tables.now.head (vertices_of self.old.contour) first end }
@@ -162,8 +162,8 @@ impl RowTables {
         Ok(())
     }
 
-    // Makes the next removal: chooses a vertex, unmarks its faces, traces the new contour and appends the row. It fails
-    // only when out of memory.
+    // Makes the next removal, which is not the last: chooses a vertex, unmarks its faces, traces the new contour and
+    // appends the row. It fails only when out of memory.
     fn round(&mut self, tables: &Tables) -> Result<(), AllocError>
         requires kept { IsKept tables.now self.old }
         requires stands { (bound : ℕ) × StandsBy tables.now self.old bound }
@@ -222,7 +222,7 @@ impl RowTables {
         Ok(())
     }
 
-    // Removes the face of the base alone, traces its contour, and counts it. It fails only when out of memory.
+    // Removes the face of the base alone, in blank tables, traces its contour, and counts it.
     fn first_contour(&mut self, tables: &Tables) -> Result<(), AllocError>
         requires blank { IsBlank tables.now self.old }
         ensures kept { IfOk result (λ _. IsKept tables.now self.new) }
@@ -244,7 +244,8 @@ impl RowTables {
         Ok(())
     }
 
-    /// Makes all removals: the base's face, the vertex before the base with all its faces, then one after another.
+    /// Makes all removals, in blank tables: the base's face, the vertex before the base with its faces, and then
+    /// others.
     pub(crate) fn put_all(&mut self, tables: &Tables) -> Result<(), AllocError>
         requires blank { IsBlank tables.now self.old }
         ensures { IfOk result (λ _. AreRowsOfRun tables.now.lists tables.now.tail tables.now.head self.new.rows) }

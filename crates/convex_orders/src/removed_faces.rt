@@ -8,7 +8,7 @@ ghost use Rattle.convex_orders.specs.Tables.{CanGo};
 use crate::contour::Contour;
 use crate::map_tables::Tables;
 
-/// The edges of a contour with a vertex before its place, and the number of the face inside of each.
+/// The edges of a contour with a vertex before its current position, and the number of the face inside of each.
 #[derive(Clone, Copy)]
 pub(crate) struct ContourEdges<'a> {
     pub(crate) tables: &'a Tables,
@@ -58,7 +58,7 @@ impl ContourEdges<'_> {
         self.number(i) == self.number(i + 1)
     }
 
-    // Says whether one face is inside of both contour edges before index `j`.
+    // Says whether there are two contour edges before index `j`, and one face is inside of both.
     fn has_left(&self, j: usize) -> bool
         requires within { j < length (vertices_of self.now.contour.now) }
         ensures yes { IsTrue result → (h : ℕ) × (suc (suc h) ≡ j) × (number_at self.now.inner.now (vertices_of self.now.contour.now) h ≡ number_at self.now.inner.now (vertices_of self.now.contour.now) (suc h)) }
@@ -67,8 +67,8 @@ impl ContourEdges<'_> {
         j >= 2 && self.is_same(j - 2)
     }
 
-    // Clears in `marks` the faces that are removed with the vertex before the current position. That is one face, if it
-    // is inside of the two contour edges after the vertex or of the two before it; else all faces at the vertex.
+    // Clears in `marks` the faces removed with the vertex before the current position, which has to be removable. It is
+    // one face, if that is inside of the two contour edges after the vertex or before it, else all at the vertex.
     fn take_at(&self, marks: &mut [bool])
         requires place { (j : ℕ) → suc j ≡ length self.now.contour.now.left.items → CanGo self.now.tables.now marks.old (vertices_of self.now.contour.now) j }
         ensures long { length marks.new ≡ length marks.old }
@@ -85,7 +85,7 @@ impl ContourEdges<'_> {
         }
     }
 
-    // Says whether the face inside of the contour edge from index `i` on is marked.
+    // Says whether the face inside of the contour edge from index `i` to the next is left, by its entry in `marks`.
     fn is_kept(&self, marks: &[bool], i: usize) -> bool
         requires within { suc i < length (vertices_of self.now.contour.now) }
         requires long { length marks.now ≡ self.now.tables.now.faces.count }
@@ -126,8 +126,8 @@ impl ContourEdges<'_> {
         0
     }
 
-    /// Clears in `marks` the faces that are removed with the vertex before the current position. Returns the first and
-    /// the last index of the contour interval along which they were.
+    /// Clears in `marks` the faces removed with the vertex before the current position, which has to be removable.
+    /// Returns the first and the last index of the contour interval along which those faces were.
     pub(crate) fn take_run(&self, marks: &mut [bool]) -> (usize, usize)
         requires place { (j : ℕ) → suc j ≡ length self.now.contour.now.left.items → CanGo self.now.tables.now marks.old (vertices_of self.now.contour.now) j }
         ensures long { length marks.new ≡ length marks.old }

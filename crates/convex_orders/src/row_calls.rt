@@ -18,7 +18,7 @@ use half_edges::{DartId, HalfMap};
 use map_lists::Rotations;
 use std::alloc::{AllocError, Global};
 
-// Returns a copy of `lists` in the memory of `spent`.
+// Returns a copy of `lists`, in the memory of `spent`, whose own lists are dropped.
 fn copied(spent: Rotations, lists: &Rotations) -> Result<Rotations, AllocError>
     ensures { IfOk result (λ copy. copy ≡ lists.now) }
 {
@@ -31,8 +31,8 @@ fn copied(spent: Rotations, lists: &Rotations) -> Result<Rotations, AllocError>
     Ok(Rotations::from_parts(entries, ends))
 }
 
-/// Returns tables of a map for the dart from `tail` to `head` as its base: its `lists`, copied into the memory of
-/// `spent`, and the numbers of its faces.
+/// Returns the tables of a three-connected map of genus zero, with the dart from `tail` to `head` as its base. They
+/// have a copy of `lists`, in the memory of `spent`, and `faces`, which numbers the faces at each list entry.
 pub fn tables_of(
     spent: Rotations,
     lists: &Rotations,

@@ -12,7 +12,7 @@ pub(crate) fn part(ws: &[u16], start: usize, end: usize) -> &[u16]
     &ws[start..end]
 }
 
-/// Makes `row` hold `count` copies of `item` alone, in the memory that it has.
+/// Replaces the contents of `row` by `count` copies of `item`. It fails only when out of memory.
 pub(crate) fn refill<T: Copy>(row: &mut Vec<T>, item: T, count: usize) -> Result<(), AllocError>
     ensures { IfOk result (λ _. row.new.items ≡ replicate count item) }
 {

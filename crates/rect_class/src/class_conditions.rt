@@ -18,8 +18,8 @@ use std::alloc::{AllocError, Global};
 // The number of vertices on the outer face.
 const OUTER_COUNT: u16 = 4;
 
-// Returns the least separating triangle of `map` as a refusal, or None. `lists` are the lists of `map`, and `four` is
-// its outer face. It fails only when out of memory.
+// Returns the least separating triangle of the biconnected `map` as a refusal, or `None` if there is none. `lists` are
+// those of `map`, and all faces but the outer one, `four`, are triangles.
 fn first_of_triangles(
     alloc: Global,
     map: &HalfMap,
@@ -45,7 +45,7 @@ fn first_of_triangles(
 }
 
 // Returns the first condition that a biconnected map breaks: on the outer face, the other faces, the triangles of
-// edges, and the inner vertices. `lists` are the lists of `map`. It fails only when out of memory.
+// edges, and the inner vertices. `None` says that it breaks none. `lists` are those of `map`.
 fn first_broken(
     alloc: Global,
     map: &HalfMap,

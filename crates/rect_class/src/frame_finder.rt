@@ -12,7 +12,7 @@ use half_edges::{Rotations, VertexId};
 use rect_check::OuterFour;
 use std::alloc::{AllocError, Global};
 
-// Says whether lists have at least five vertices, and as many entries as a map of the class: 3n - 7 edges.
+// Says whether `lists` are at least five, with 3n - 7 edges as in a map of the class. Only a yes is promised.
 fn is_full(lists: &Rotations) -> bool
     ensures large { IsTrue result → 5 ≤ length lists.now }
     ensures full { IsTrue result → sum_by length lists.now + 14 ≡ 6 * length lists.now }
@@ -20,7 +20,7 @@ fn is_full(lists: &Rotations) -> bool
     lists.len() >= 5 && lists.total() == 6 * lists.len() - 14
 }
 
-/// Returns the vertex to which the face of the dart from `u` to `v` goes on, by the list of `v`.
+/// Returns the vertex after `v` on the face of the dart from `u` to `v`, which the simple map `lists` has.
 pub fn next_on_face(lists: &Rotations, u: VertexId, v: VertexId) -> VertexId
     requires simple { IsSimpleMap lists.now }
     requires dart { HasDart lists.now u.0 v.0 }
@@ -33,7 +33,7 @@ pub fn next_on_face(lists: &Rotations, u: VertexId, v: VertexId) -> VertexId
     VertexId(ring.next(u.0))
 }
 
-// Returns the outer face, that of vertex 0's first dart, if it is walked by four darts over four vertices.
+// Returns the outer face, of vertex 0's first dart, if four darts walk it over four vertices; `None` promises nothing.
 fn outer_face(lists: &Rotations) -> Option<OuterFour>
     requires simple { IsSimpleMap lists.now }
     requires some { 0 < length lists.now }

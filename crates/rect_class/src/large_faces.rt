@@ -41,7 +41,7 @@ fn is_triangle(map: &HalfMap, d: DartId) -> bool
     fourth.0 == d.0
 }
 
-// Says whether the face of dart `d` is neither a triangle nor the outer one, which is walked over `four`.
+// Says whether the face of dart `d` is neither a triangle nor the outer one, which is walked from vertex 0 over `four`.
 fn is_large(map: &HalfMap, four: OuterFour, d: DartId) -> bool
     requires { IsLive map.now d.0 }
     ensures { IsTrue result ↔ HoldsAt map.now (IsLargeDart map.now.lists four.top.0 four.right.0 four.bottom.0) d.0 }
@@ -50,8 +50,8 @@ fn is_large(map: &HalfMap, four: OuterFour, d: DartId) -> bool
     !is_triangle(map, d) && !is_frame_dart(four, map.tail(d), map.head(d))
 }
 
-// Returns the ends, tail first, of the least dart whose face is neither the outer one, walked over `four`, nor a
-// triangle.
+// Returns the ends, tail first, of the least dart whose face is neither a triangle nor the outer one, walked from
+// vertex 0 over `four`. `None` says that there is none.
 pub(crate) fn first_large(map: &HalfMap, four: OuterFour) -> Option<(VertexId, VertexId)>
     requires { IsFrame map.now.lists four.top.0 four.right.0 four.bottom.0 }
     ensures { MatchOption result (HasTriangles map.now.lists)

@@ -42,7 +42,7 @@ impl Wings<'_> {
             || (self.right.0 == c.0 && self.edge.is_turned_face(c))
     }
 
-    // Says whether `a`, `b` and `c` rise, are adjacent in pairs, and bound no face.
+    // Says whether `a` < `b` < `c`, the three are adjacent in pairs, and they bound no face.
     fn is_separating(&self, c: VertexId) -> bool
         requires { c.0 < length self.now.edge.near.map.now.lists }
         ensures { IsTrue result ↔ IsSeparating self.now.edge.near.map.now.lists self.now.edge.a.0 self.now.edge.b.0 c.0 }
@@ -103,7 +103,7 @@ impl Edge<'_> {
         map.head(map.next(self.d))
     }
 
-    // Says whether the head of dart `e` forms a separating triangle with `a` and `b`, and is the greatest of the three.
+    // Says whether `a` < `b`, and the head of dart `e` is greater than both and makes a separating triangle with them.
     fn leads_to_third(&self, e: DartId) -> bool
         requires { IsLive self.now.near.map.now e.0 }
         ensures { IsTrue result ↔ IsSeparating self.now.near.map.now.lists self.now.a.0 self.now.b.0 (dart_of self.now.near.map.now e.0).1 }
@@ -129,8 +129,8 @@ impl Edge<'_> {
         }
     }
 
-    // Returns the least vertex that forms a separating triangle with `a` and `b` and is the greatest of the three. It
-    // goes over the shorter list of `a` and `b`.
+    // Returns the least vertex that makes a separating triangle with `a` and `b`, where `a` < `b` and it is greater
+    // than both, or `None` if none does. It goes over the shorter list of `a` and `b`.
     fn least_third(&self) -> Option<VertexId>
         ensures { MatchOption result ((c : ℕ) → ¬ IsSeparating self.now.near.map.now.lists self.now.a.0 self.now.b.0 c)
             (λ c. IsLeast (IsSeparating self.now.near.map.now.lists self.now.a.0 self.now.b.0) c.0) }
@@ -142,7 +142,7 @@ impl Edge<'_> {
 }
 
 impl Upper<'_> {
-    // Says whether the edge of dart `d` is the least one of a separating triangle, with its tail as the lesser end.
+    // Says whether dart `d` goes from the least to the second vertex of a separating triangle.
     fn is_second(&self, d: DartId) -> bool
         requires { IsLive self.now.map.now d.0 }
         ensures { IsTrue result ↔ HoldsAt self.now.map.now (HasThird self.now.map.now.lists) d.0 }
@@ -154,7 +154,8 @@ impl Upper<'_> {
         a.0 < b.0 && Edge { near, d, a, b }.least_third().is_some()
     }
 
-    // Returns the greatest vertex of the least separating triangle whose other vertices are `a` and `b`. There is one.
+    // Returns the least vertex that makes a separating triangle with `a` and `b`, where `a` < `b` and it is greater
+    // than both. There has to be one.
     fn third_between(&self, a: VertexId, b: VertexId) -> VertexId
         requires { HasThird self.now.map.now.lists a.0 b.0 }
         ensures { IsLeast (IsSeparating self.now.map.now.lists a.0 b.0) result.0 }

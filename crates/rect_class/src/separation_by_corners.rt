@@ -12,7 +12,7 @@ use half_edges::{Rotations, VertexId};
 use rect_check::OuterFour;
 use std::alloc::{AllocError, Global};
 
-// Sets the mark in `marks` of each vertex of the list `us` to `stamp`.
+// Sets to `stamp` the entry in `marks`, which has one for each vertex, of each vertex of the list `us`.
 fn stamp_all(marks: &mut Vec<u16>, us: &[u16], stamp: u16)
     requires { All (λ u. u < length marks.old.items) us.now }
     ensures length { length marks.new.items ≡ length marks.old.items }
@@ -50,7 +50,7 @@ impl Star<'_> {
         first < second || (first == second && u < self.v)
     }
 
-    // Says whether each entry of `ws` that is a neighbour of the vertex, by its mark, is `last` or `next`.
+    // Says whether each neighbour of `v` in `ws`, known by its mark, is `last` or `next`. Only a yes is promised.
     fn are_sides(&self, ws: &[u16], last: u16, next: u16) -> bool
         requires { All (λ w. w < length self.now.marks.now) ws.now }
         ensures { OnTrue result ((k : ℕ) → k < length ws.now → IsSide self.now.marks.now (self.now.v + 1) last next (slice_index ws.now k)) }
@@ -65,8 +65,8 @@ impl Star<'_> {
         true
     }
 
-    // Says whether entry `k` of the list of `v` comes after `v` in that order, or stands next to each common neighbour
-    // of both in that list.
+    // Says whether entry `k` of the list of `v` comes after `v` by degree and number, or stands next to each common
+    // neighbour of both in that list. Only a yes is promised.
     fn is_closed_over(&self, k: usize) -> bool
         requires { k < length (list_of self.now.lists.now self.now.v) }
         ensures { OnTrue result (ComesBefore self.now.degrees.now (slice_index (list_of self.now.lists.now self.now.v) k) self.now.v
@@ -82,7 +82,7 @@ impl Star<'_> {
         self.are_sides(self.lists.list(usize::from(u)), last, next)
     }
 
-    // Says whether `is_closed_over` holds for all entries of the vertex's list.
+    // Says whether `is_closed_over` holds for all entries of the list of `v`. Only a yes is promised.
     fn is_closed(&self) -> bool
         ensures { OnTrue result ((k : ℕ) → k < length (list_of self.now.lists.now self.now.v) → ComesBefore self.now.degrees.now (slice_index (list_of self.now.lists.now self.now.v) k) self.now.v
             → IsClosedOver self.now.lists.now self.now.v (slice_index (list_of self.now.lists.now self.now.v) k)) }
@@ -108,8 +108,8 @@ fn all_degrees(alloc: Global, lists: &Rotations) -> Result<Vec<usize>, AllocErro
     Ok(degrees)
 }
 
-// Says whether for each edge the common neighbours of its ends stand next to one end in the list of the other. It
-// fails only when out of memory.
+// Says whether for each edge the common neighbours of its ends stand next to one end in the list of the other. Only a
+// yes is promised. It fails only when out of memory.
 pub(crate) fn are_closed(alloc: Global, lists: &Rotations) -> Result<bool, AllocError>
     requires simple { IsSimpleMap lists.now }
     ensures { IfOk result (λ closed. OnTrue closed (AreClosed lists.now)) }
@@ -140,7 +140,8 @@ pub(crate) fn has_diagonal(lists: &Rotations, four: OuterFour) -> bool
     has_upper(lists, VertexId(0), four.right) || has_upper(lists, four.top, four.bottom)
 }
 
-/// Says whether `lists` of outer face `four` show at once that no triangle of edges separates. `false` leaves it open.
+/// Says whether `lists`, with outer face `four` and triangles inside, show at once that no triangle of edges separates.
+/// `false` leaves it open.
 ///
 /// For each edge it goes over the shorter of two lists, so that its time is linear. It fails only when out of memory.
 pub(crate) fn none_separates(

@@ -18,8 +18,8 @@ pub(crate) struct FramedOrder {
     pub rows: Rotations,
 }
 
-// Returns a rectangular order of the map with the outer vertices `frame`, and its rows. They are rows of the map with
-// an edge added between top and bottom. It fails only when out of memory.
+// Returns a rectangular order of the map `lists`, of the class of `rect` with outer vertices `frame`, and its rows (the
+// contour interval under each vertex). The rows are of the map with an edge added between top and bottom.
 pub(crate) fn framed_order(
     alloc: Global,
     lists: &Rotations,
@@ -40,7 +40,7 @@ pub(crate) fn framed_order(
     Ok(FramedOrder { order, rows })
 }
 
-// Returns a rectangular order, and its rows, of a half-edge map. It fails only when out of memory.
+// Like [`framed_order`], but for a half-edge map of that class. It fails only when out of memory.
 pub(crate) fn map_order(
     alloc: Global,
     map: &HalfMap,

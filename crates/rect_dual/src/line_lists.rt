@@ -37,7 +37,7 @@ pub fn put_own(lines: &mut [u16], next: &mut [u16], u: u16, z: u16)
     lines[z as usize] = z;
 }
 
-// Writes to `numbers` the number of each of `count` lines, from `first` on along `next`.
+// Writes to `numbers`, at the box that names a line, the number of each of `count` lines, from `first` on along `next`.
 fn walk(numbers: &mut [u32], next: &[u16], first: u16, count: usize)
     requires first { first < length next.now }
     requires size { length numbers.old ≡ length next.now }

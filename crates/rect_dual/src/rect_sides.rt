@@ -8,7 +8,7 @@ ghost use Rattle.rect_dual.specs.Sides.{AreTurnPlaces, IsWritten, AreSides};
 use crate::rect_turns::TurnedRows;
 use crate::side_lines::RowNumbers;
 
-/// Sets `sides[v]` to `side` for each vertex `v` of a piece of a row.
+/// Sets `sides[v]` to `side` for each vertex `v` of `piece`, a part of a row.
 pub(crate) fn put_side(sides: &mut [u32], piece: &[u16], side: u32)
     requires { All (λ u. u < length sides.old) piece.now }
     ensures { IsWritten sides.old sides.new piece.now 0 (length piece.now) side }
@@ -19,8 +19,8 @@ pub(crate) fn put_side(sides: &mut [u32], piece: &[u16], side: u32)
 }
 
 /// Fills in the right and the upper side of each box, by rank, in `right` and `high`, where at first all reach to the
-/// end of the grid. The vertices of a row up to its turn end where the new box begins, by `numbers`, and those after it
-/// below the new box. The time is linear in the rows.
+/// end of the grid. The vertices of a row up to its turn (where horizontal edges begin) end where the new box begins,
+/// by `numbers`, and those after it below the new box. The time is linear in the rows.
 pub(crate) fn fill_sides(
     right: &mut [u32],
     high: &mut [u32],

@@ -14,7 +14,7 @@ use std::alloc::{AllocError, Global};
 pub struct RowTurns {
     /// The index of each turn in its row, from 0.
     pub place: Vec<usize>,
-    /// Whether it is a run.
+    /// Whether the edge after it is horizontal (a run).
     pub run: Vec<bool>,
 }
 
@@ -24,7 +24,7 @@ pub(crate) struct TurnedRows<'a> {
     pub(crate) rows: &'a Rotations,
     /// For each row the index of its turn.
     pub(crate) places: &'a [usize],
-    /// Whether it is a run.
+    /// For each row whether the edge after the turn is horizontal.
     pub(crate) runs: &'a [bool],
     ghost places_count: { length places.now ≡ length rows.now },
     ghost runs_count: { length runs.now ≡ length rows.now },
@@ -32,8 +32,8 @@ pub(crate) struct TurnedRows<'a> {
     ghost within: { (k : ℕ) → k < length rows.now → All (λ u. u < length rows.now + 2) (list_of rows.now k) },
 }
 
-// Returns the first index in `row` from which a horizontal edge of the contour leads on, or the last but one where
-// there is none before. `runs` says which edges are horizontal.
+// Returns the first index in `row` from which a horizontal contour edge leads on, or the last but one where there is
+// none before. `runs` says for each vertex whether the edge after it is horizontal.
 fn turn_place(row: &[u16], runs: &[bool]) -> usize
     requires some { 2 ≤ length row.now }
     requires within { All (λ u. u < length runs.now) row.now }
@@ -47,7 +47,9 @@ fn turn_place(row: &[u16], runs: &[bool]) -> usize
     row.len() - 2
 }
 
-/// Returns the turn of each row, in time linear in the rows. It fails only when out of memory.
+/// Returns the turn of each of `rows`, the contour intervals of a construction sequence, in linear time. It is the
+/// index of the first vertex with a horizontal edge after it, or of the last vertex but one. It fails only when out of
+/// memory.
 pub fn row_turns(alloc: Global, rows: &Rotations) -> Result<RowTurns, AllocError>
     requires run { (steps : ℕ → Step) × AreRows steps rows.now }
     ensures { IfOk result (λ turns. (steps : ℕ → Step) → AreRows steps rows.now → AreTurns steps (length rows.now) turns.place.items turns.run.items) }

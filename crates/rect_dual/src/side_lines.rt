@@ -15,7 +15,8 @@ use crate::rect_turns::TurnedRows;
 use crate::side::Side;
 use std::alloc::{AllocError, Global};
 
-// Returns the first vertex that leads, from `start` on along `links`.
+// Returns the first vertex from `start` on along `links` (for each vertex the next) that leads, by its entry in
+// `leads`. It leads if no line of the contour from there on comes after its own.
 fn leading(links: &[u16], leads: &[bool], start: u16) -> u16
     requires size { length leads.now ≡ length links.now }
     requires within { All (λ u. u < length links.now) links.now }
@@ -33,7 +34,8 @@ fn leading(links: &[u16], leads: &[bool], start: u16) -> u16
     v
 }
 
-// Marks the vertex `z` in `leads` as leading, and `u` as leading no more where it is `at`, the vertex at the turn.
+// Marks the new vertex `z` in `leads`: no line of the contour from there on comes after its own. Unmarks `u`, an end of
+// its row, if that is `at`, the vertex at which `z` looked for its line.
 fn mark(leads: &mut [bool], at: u16, u: u16, z: u16)
     requires u { u < length leads.old }
     requires z { z < length leads.old }
@@ -79,8 +81,8 @@ struct SideLines {
 }
 
 impl SideLines {
-    // Returns the lines of the two vertices of the base, one or two of them, with room for `n` vertices. It fails
-    // only when out of memory.
+    // Returns the lines (on which the sides `side` of boxes lie) of the two vertices of the base, one or two of them,
+    // with room for `n` vertices. It fails only when out of memory.
     fn new(alloc: Global, side: Side, n: usize) -> Result<SideLines, AllocError>
         requires base { 2 ≤ n }
         requires few { n < 4098 }
@@ -124,7 +126,8 @@ impl SideLines {
         }
     }
 
-    // Adds the vertex `z` over a row, at its `seat`, with a line of its own if `own` is set.
+    // Adds the vertex `z` over a row, at its `seat` (the row's ends and the vertex at which to look for a line). It
+    // gets a line of its own if `own` is set.
     fn put_over(&mut self, seat: Seat, own: bool, z: u16)
         requires at { seat.at < vec_len self.old.lines }
         requires near { seat.near < vec_len self.old.lines }
@@ -141,7 +144,7 @@ impl SideLines {
         self.links[near as usize] = z;
     }
 
-    // Adds the next vertex over row `k` of `turned`, with its line, and updates which vertices lead.
+    // Adds the vertex `k` + 2 over row `k` of `turned`, with its line, and updates which vertices lead.
     fn put(&mut self, turned: &TurnedRows<'_>, k: usize)
         requires row { k < length turned.now.rows.now }
         requires size { vec_len self.old.lines ≡ length turned.now.rows.now + 2 }
@@ -179,8 +182,8 @@ impl SideLines {
     }
 }
 
-/// Returns for each vertex, by rank, the number of one side of its box. A new vertex with a line of its own looks
-/// along the contour for the nearest one that leads. It fails only when out of memory.
+/// Returns for each vertex, by rank, the number of the given `side` of its box, from the rows and turns `turned`. A new
+/// vertex with a line of its own looks along the contour for the nearest one that leads.
 pub(crate) fn side_numbers(
     alloc: Global,
     side: Side,
@@ -212,7 +215,7 @@ pub(crate) struct RowNumbers {
     pub y: Vec<u32>,
 }
 
-/// Returns the left and the lower side of each box, from the rows and their turns. It fails only when out of memory.
+/// Returns by rank the left and lower sides of all boxes, from rows and turns. It fails only when out of memory.
 pub(crate) fn row_numbers(alloc: Global, turned: &TurnedRows<'_>) -> Result<RowNumbers, AllocError>
     ensures count { IfOk result (λ numbers. length numbers.x.items ≡ length turned.now.rows.now + 2) }
     ensures count_y { IfOk result (λ numbers. length numbers.y.items ≡ length turned.now.rows.now + 2) }

@@ -3,8 +3,8 @@
 
 ghost use Rattle.rect_orders.specs.Corners.{CornersOfMap};
 
-/// Round each inner vertex the next edge clockwise has the label of the one before, or the label that follows it:
-/// runs in, rises out, runs out, rises in.
+/// States the law of corners at an inner vertex: the next edge clockwise has the label of the one before, or the label
+/// that follows it. The labels go runs in, rises out, runs out, rises in.
 pub fn corners_of_map()
     ensures { CornersOfMap }
 {}

@@ -9,8 +9,9 @@ pub fn labels_of_order()
     ensures { LabelsOfOrder }
 {}
 
-/// States the law that the boxes of a rectangular order come of an edge labelling. Along each run the right side of the
-/// one is the left side of the other. Along each rise the upper side of the one is the lower side of the other.
+/// States the law that the boxes of a rectangular order come of an edge labelling. Along a run (horizontal edge) the
+/// right side of one is the left side of the other. Along a rise (vertical) the upper side of one is the other's lower
+/// side.
 pub fn boxes_by_labelling()
     ensures { BoxesByLabelling }
 {}

@@ -9,14 +9,14 @@ pub mod rect_ends;
 ghost use Rattle.rect_runs.specs.Corners.{CornersFollow};
 ghost use Rattle.rect_runs.specs.Later.{TwoLaterSort};
 
-/// Let each covered vertex be under an earlier step too, and so have two later neighbours. Then no horizontal contour
-/// edge comes before a vertical one under any step. In this form an order of a map gives the other laws' premise.
+/// States the law that no horizontal contour edge comes before a vertical one under any step, if each covered vertex
+/// has two later neighbours, being under an earlier step too. So an order of a map gives the other laws' premise.
 pub fn two_later_sort()
     ensures { TwoLaterSort }
 {}
 
-/// At each corner of each face that a step makes the second edge has the label of the first, or the next one
-/// clockwise. The order is runs in, rises out, runs out, rises in.
+/// States the law that at each corner of each face that a step makes the second edge has the label of the first, or the
+/// next one clockwise. The order is runs in, rises out, runs out, rises in.
 pub fn corners_follow()
     ensures { CornersFollow }
 {}

@@ -4,8 +4,8 @@
 ghost use Rattle.rect_runs.specs.Ends.{CornersOfFaces, OneEnd, EndsAgree, FrameEnds, EdgesMeet};
 ghost use Rattle.rect_runs.specs.Rounds.{OnceRound};
 
-/// At each corner of a face that a step makes, except at the base, the second edge has the label of the first, or the
-/// next label clockwise.
+/// States the law of the corners of a face that a step makes, except at the base. At each corner the second edge has
+/// the label of the first, or the next label clockwise.
 pub fn corners_of_faces()
     ensures { CornersOfFaces }
 {}
@@ -22,19 +22,19 @@ pub fn ends_agree()
 {}
 
 /// States the law that the four outer vertices have edges with one label each, apart from edges between them. Runs
-/// leave the first, rises leave the second, runs enter the last but one, and rises enter the last.
+/// (horizontal) leave the first, rises (vertical) the second, runs enter the last but one, and rises the last.
 pub fn frame_ends()
     ensures { FrameEnds }
 {}
 
-/// States the law that the boxes of neighbours meet at their edge. Along a run the one ends on the right where the
-/// other begins, and along a rise it ends above where the other begins.
+/// States the law that the boxes of neighbours meet at their edge. Along a run (horizontal) the one ends on the right
+/// where the other begins, and along a rise (vertical) it ends above where the other begins.
 pub fn edges_meet()
     ensures { EdgesMeet }
 {}
 
-/// Labels round a vertex, each of which may follow the one before, come once round if they pass only once from
-/// entering runs to leaving rises.
+/// States the law that labels round a vertex, each of which may follow the one before, come once round if they pass
+/// only once from entering runs to leaving rises.
 pub fn once_round()
     ensures { OnceRound }
 {}

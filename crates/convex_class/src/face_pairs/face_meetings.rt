@@ -21,8 +21,9 @@ fn least_of_two(best: u16, x: u16, y: u16) -> u16
     if x == y { best } else { best.min(x).min(y) }
 }
 
-// Notes in `met` that face `z` meets the face of `place` there, if it did not before. Otherwise it returns the least of
-// `best` and the vertices of one meeting that are not on the other.
+// Notes in `met` (one entry for each face) that face `z` meets the face of `place` there, if it did not yet, and
+// returns `best`. If it did, returns the least of `best` and of ends of both meetings: the tail of one and the head of
+// the other, where these differ.
 pub(crate) fn meet(met: &mut [Meeting], z: u32, place: Meeting, best: u16) -> u16
     requires { z < length met.old }
     ensures { IsMet place.face (IsHere place z) met.old best met.new result }

@@ -13,8 +13,8 @@ use half_edges::{FaceId, HalfMap, VertexId};
 use std::alloc::{AllocError, Global};
 
 impl UncutMap<'_> {
-    // Returns the least vertex greater than `u` with which `u` is a separating pair, or the number of vertices. `marks`
-    // has no mark of `u` at first; `u` may have no neighbours.
+    // Returns the least vertex greater than `u` with which `u` is a separating pair, or the number of vertices if none
+    // is. `marks` has an entry for each vertex, none of them `u` at first.
     fn partner(&self, u: VertexId, marks: &mut [u16]) -> u16
         requires vertex { u.0 < length self.now.map.now.lists }
         requires marks { length marks.old ≡ length self.now.map.now.lists }
@@ -41,7 +41,8 @@ impl UncutMap<'_> {
         }
     }
 
-    // Returns the least separating pair, where none has a vertex before `from`. No mark in `marks` is a vertex yet.
+    // Returns the least separating pair, or `None` where there is none; no pair has a vertex before `from`. `marks` has
+    // an entry for each vertex, and none of them names a vertex yet.
     fn first_pair(&self, from: u16, marks: &mut [u16]) -> Option<(VertexId, VertexId)>
         requires from { (u v : ℕ) → IsSeparatingPair self.now.map.now.lists u v → from ≤ u }
         requires marks { length marks.old ≡ length self.now.map.now.lists }
@@ -59,7 +60,7 @@ impl UncutMap<'_> {
     }
 }
 
-// Says whether no face of `faces` has over three darts: then a plane map without cut vertex has no separating pair.
+// Says whether no face has over three darts (only a yes is promised): then an uncut plane map has no separating pair.
 fn has_short_faces(faces: &Faces) -> bool
     ensures { IsTrue result → (f : ℕ) → f < length faces.now → length (walk_at faces.now f) ≤ 3 }
 {
@@ -73,7 +74,7 @@ fn has_short_faces(faces: &Faces) -> bool
 }
 
 /// Returns the least separating pair of `map`, by its first vertex and then by its second, or None exactly where there
-/// is none. `map` has genus zero and no cut vertices, and `faces` are its faces. The faces are those of the map.
+/// is none. `map` has genus zero and no cut vertices, and `faces` are its faces.
 ///
 /// It fails only when out of memory. The memory is linear in the vertices and the darts, and so is the time for a
 /// connected map of at least four vertices. Elsewhere the time is the sum of the lengths of faces over the darts:

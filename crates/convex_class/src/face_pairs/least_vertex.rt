@@ -11,8 +11,8 @@ use half_edges::{DartId, FaceId, VertexId};
 use std::alloc::{AllocError, Global};
 
 impl UncutMap<'_> {
-    // Returns the least vertex that some vertex finds by its own short faces, or the number of vertices. `ring` is
-    // memory for the darts of a vertex, and `marks` for its marks.
+    // Returns the least vertex that [`Star::least`] finds from some vertex, or the number of vertices. `ring` is memory
+    // for a vertex's darts; `marks` has an entry for each vertex.
     fn least_at_vertices(
         &self,
         ring: &mut Vec<DartId>,
@@ -35,8 +35,8 @@ impl UncutMap<'_> {
         Ok(best)
     }
 
-    // Returns the least of `best` and the vertices that some face finds by its short vertices. `ring` is memory for the
-    // darts of a vertex, and `met` for where faces meet.
+    // Returns the least of `best` and the vertices that [`WalkedFace::least`] finds from some face. `ring` is memory
+    // for a vertex's darts; `met` has an entry for each face: where it met the current face first.
     fn least_at_faces(
         &self,
         ring: &mut Vec<DartId>,
@@ -59,9 +59,9 @@ impl UncutMap<'_> {
         Ok(best)
     }
 
-    // Returns a vertex before which none is in a separating pair. It is the least of two vertices with two faces in
-    // common, but along an edge, or else the number of vertices. Each vertex looks at the faces that have no more
-    // darts, and each face at the vertices, so that the time is linear.
+    // Returns a lower bound of the vertices in separating pairs. It is the least vertex with two faces in common with
+    // another, not those of an edge between both, or else the number of vertices. Each vertex looks at the faces that
+    // have no more darts, and each face at the vertices, so that the time is linear.
     pub(crate) fn least_paired(&self, alloc: Global) -> Result<u16, AllocError>
         ensures { IfOk result (λ least. (u v : ℕ) → IsSeparatingPair self.now.map.now.lists u v → least ≤ u) }
     {

@@ -8,7 +8,7 @@ ghost use Rattle.convex_class.specs.Passing.{AreMarksOf, IsUnused, IsMarked};
 use crate::face_pairs::uncut_map::UncutMap;
 use half_edges::{DartId, VertexId};
 
-// Sets `w`'s mark in `marks` to `u`. Returns the lesser of `best` and `w` if the mark was `u` already, else `best`.
+// Sets the entry of `w` in `marks` to `u`. Returns the lesser of `best` and `w` if `u` was there before, else `best`.
 fn mark(marks: &mut [u16], u: u16, w: u16, best: u16) -> u16
     requires { w < length marks.old }
     ensures { IsMarked u w marks.old best marks.new result }
@@ -26,8 +26,8 @@ pub(crate) struct PartnerSearch<'a> {
 }
 
 impl PartnerSearch<'_> {
-    // Marks the tail of dart `d` by this vertex in `marks`, where it is greater than this vertex and `d` does not lead
-    // to that. Returns the lesser of `best` and a tail that was marked so already.
+    // Sets to this vertex `u`, in `marks`, the entry of the tail of dart `d`, if the tail is greater than `u` and the
+    // head is not `u`. Returns the lesser of `best` and the tail if its entry was `u` already, else `best`.
     fn mark_tail(&self, d: DartId, marks: &mut [u16], best: u16) -> u16
         requires live { IsLive self.now.uncut.map.now d.0 }
         requires marks { length marks.old ≡ length self.now.uncut.map.now.lists }
@@ -44,8 +44,8 @@ impl PartnerSearch<'_> {
         }
     }
 
-    // Sets to this vertex, in `marks`, the entries of the greater vertices on `walk`, the boundary of one of its faces,
-    // as `mark_tail` does for each dart. Returns the least of `best` and those that this vertex had marked already.
+    // Calls `mark_tail` for each dart of `walk`, a face of this vertex `u`: sets the entries in `marks` of the greater
+    // vertices on it to `u`. Returns the least of `best` and of those whose entry was `u` already.
     pub(crate) fn mark_walk(&self, walk: &[DartId], marks: &mut [u16], mut best: u16) -> u16
         requires walk { IsFaceWalk self.now.uncut.map.now (ids_of walk.now) }
         requires marks { length marks.old ≡ length self.now.uncut.map.now.lists }

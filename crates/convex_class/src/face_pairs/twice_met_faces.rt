@@ -29,7 +29,7 @@ struct FaceVertex<'a> {
     y: u32,
 }
 
-// Returns the dart of the cyclic `walk` after index `i`.
+// Returns the dart after index `i` in `walk`, cyclically.
 fn behind(walk: &[DartId], i: usize) -> DartId
     requires { i < length walk.now }
     ensures { result.0 ≡ after_place (ids_of walk.now) i }
@@ -56,8 +56,8 @@ impl UncutMap<'_> {
 }
 
 impl FaceVertex<'_> {
-    // Notes in `met` that the faces of the darts of `ring` meet the face of the spot there. That face and those across
-    // its darts are left out. Returns the least of `best` and the vertices of second meetings.
+    // Notes in `met`, by face, that the faces of the darts of `ring` meet the face of `place` there, except that face,
+    // `x` and `y`. Returns the least of `best` and the vertices of second meetings.
     fn meet_round(&self, ring: &[DartId], met: &mut [Meeting], mut best: u16) -> u16
         requires ring { (i : ℕ) → i < length (ids_of ring.now) → IsLive self.now.uncut.map.now (slice_index (ids_of ring.now) i) }
         requires met { length met.old ≡ length self.now.uncut.faces.now }
@@ -115,7 +115,7 @@ impl WalkedFace<'_> {
 
     // Returns the least of `best` and the vertices of this face at which another face meets it twice: across its darts,
     // or at vertices with no more darts than it. The vertex between two darts with one face across counts for neither.
-    // `ring` is memory for the darts of a vertex, and `met` tells where each face met this one first.
+    // `ring` is memory for a vertex's darts, and `met` has an entry for each face: where it met this one first.
     pub(crate) fn least(
         &self,
         ring: &mut Vec<DartId>,

@@ -26,8 +26,8 @@ struct FaceOf<'a> {
 }
 
 impl FaceOf<'_> {
-    // Sets to `u`, in `marks`, the entries of the tails of the darts of `walk`, except `u`, `a` and tails of darts to
-    // `u`. Returns the least of `best` and, where some of them had that mark already, of those and `u`.
+    // Sets to `u`, in `marks`, the entries of the tails of the darts of face `walk`, except `u`, `a` and tails of darts
+    // to `u`. Returns the least of `best` and, where some had that mark already, of those and `u`.
     fn mark_passed(&self, walk: &[DartId], marks: &mut [u16], mut best: u16) -> u16
         requires walk { IsFaceWalk self.now.uncut.map.now (ids_of walk.now) }
         requires marks { length marks.old ≡ length self.now.uncut.map.now.lists }
@@ -51,8 +51,8 @@ impl FaceOf<'_> {
 }
 
 impl Star<'_> {
-    // Calls `mark_passed` for each face of this vertex with no more darts than it has: it marks the face's vertices in
-    // `marks`. Returns the least of `best` and, where some had that mark already, of those and this vertex.
+    // Calls `mark_passed` for each face at this vertex `u` with at most as many darts as `u` has: it sets the face's
+    // vertices in `marks` to `u`. Returns the least of `best` and, where some had that mark already, of those and `u`.
     fn mark_faces(&self, marks: &mut [u16], mut best: u16) -> u16
         requires marks { length marks.old ≡ length self.now.uncut.map.now.lists }
         ensures { AreStamped self.now.u (length self.now.ring.now) (λ i. IsOff self.now.uncut.map.now self.now.uncut.faces.now (length self.now.ring.now) self.now.u (slice_index (ids_of self.now.ring.now) i)) marks.old best marks.new result }

@@ -15,7 +15,7 @@ use pg_plane::GridFigure;
 use refusals::Unserved;
 use std::alloc::{AllocError, Global};
 
-// Returns the dart from vertex 0 to the first of its list.
+// Returns the dart from vertex 0 of the three-connected `map` to the first of its list.
 fn first_dart(map: &HalfMap) -> DartId
     requires three { IsThreeConnected map.now.lists }
     ensures live { IsLive map.now result.0 }

@@ -63,8 +63,8 @@ fn count_of(lists: &Rotations) -> u16
     lists.len() as u16
 }
 
-// Returns the figure of a three-connected map of genus zero over the dart from vertex 0 to `t`. `spent` has the numbers
-// of its faces; the tables are returned too.
+// Returns the figure of a three-connected map of genus zero over its base, the dart from vertex 0 to `t`, first of its
+// list. `spent` has the numbers of the map's faces; the tables are returned too, for the next record.
 fn run_again(
     alloc: Global,
     lists: &Rotations,
@@ -124,7 +124,7 @@ fn run_again(
     Ok((figure, tables))
 }
 
-// Says whether `lists` have as many entries as those of a triangulation with four vertices or more.
+// Says whether `lists` are at least four and have as many entries as a triangulation's. Only a yes is promised.
 fn is_full(lists: &Rotations) -> bool
     ensures some { IsTrue result → 4 ≤ length lists.now }
     ensures full { IsTrue result → sum_by length lists.now + 12 ≡ 6 * length lists.now }
@@ -132,7 +132,7 @@ fn is_full(lists: &Rotations) -> bool
     lists.len() >= 4 && lists.total() == 6 * lists.len() - 12
 }
 
-// Says whether `lists` are connected, by their components `parts`, and `faces` is the face count of a triangulation.
+// Says whether the components `parts` are one, and `faces` is a triangulation's face count. Only a yes is promised.
 fn has_all(parts: &Parts, faces: u32, lists: &Rotations) -> bool
     ensures connected { IsTrue result → parts.now.count ≡ 1 }
     ensures faces { IsTrue result → faces + 4 ≡ 2 * length lists.now }
@@ -140,8 +140,8 @@ fn has_all(parts: &Parts, faces: u32, lists: &Rotations) -> bool
     parts.count() == 1 && faces as usize + 4 == 2 * lists.len()
 }
 
-// Returns the figure of a record with as many entries as a triangulation, by the twins of its darts, or None where it
-// is no triangulation. The tables are returned too.
+// Returns the figure of a simple map with as many entries as a triangulation, or `None`, with no promise, where it is
+// none. `twins` has for each dart the index of its twin. The tables are returned too, for the next record.
 fn drawn(
     alloc: Global,
     lists: &Rotations,
@@ -207,7 +207,8 @@ impl ConvexDrawer {
         }
     }
 
-    /// Returns the figure that `convex_figure` returns for `lists`. After `NoMemory` the drawer can be used again.
+    /// Like `convex_figure`, returns the figure of the record `lists` or the condition that it breaks. After `NoMemory`
+    /// the drawer can be used again.
     pub fn figure(&mut self, lists: &Rotations) -> Result<GridFigure, Unserved>
         requires some_list { 0 < length lists.now }
         ensures figure { IfOk result (IsConvexFigure lists.now) }

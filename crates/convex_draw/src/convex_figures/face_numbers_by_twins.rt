@@ -36,7 +36,7 @@ impl NumberTables {
     }
 }
 
-// Returns for each dart the entry of `of` at its twin, in the memory of `spent`.
+// Returns for each dart the entry of `of` at its twin, whose index is in `twins`, in the memory of `spent`.
 fn at_twins(spent: Vec<u32>, of: &[u32], twins: &[u32]) -> Result<Vec<u32>, AllocError>
     requires within { (i : ℕ) → i < length twins.now → slice_index twins.now i < length of.now }
     ensures { IfOk result (λ made. made.items ≡ map (λ t. slice_index of.now t) twins.now) }
@@ -60,8 +60,8 @@ fn ends_of(spent: Vec<usize>, lists: &Rotations) -> Result<Vec<usize>, AllocErro
     Ok(made)
 }
 
-/// Returns the numbers of the faces of the map with these `lists`, by the `twins` of its darts, in the memory of
-/// `tables`. It fails only when out of memory.
+/// Returns the numbers of the faces of the simple map with these `lists`, in the memory of `tables`. `twins` has for
+/// each dart the index of its twin. It fails only when out of memory.
 pub(crate) fn numbers_again(
     tables: NumberTables,
     lists: &Rotations,

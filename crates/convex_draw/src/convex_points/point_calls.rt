@@ -12,7 +12,7 @@ use crate::convex_points::summed_differences::find_counts;
 use pg_plane::{Point, Points};
 use std::alloc::{AllocError, Global};
 
-/// Converts `number` to a coordinate.
+/// Converts `number`, below 2^20, to a coordinate.
 pub(crate) fn coordinate(number: u32) -> i32
     requires { number < 1048576 }
     ensures { result ≡ pos number }
@@ -20,7 +20,7 @@ pub(crate) fn coordinate(number: u32) -> i32
     number as i32
 }
 
-// Returns the coordinates one and two in `spots` as the points of all vertices.
+// Returns a point for each vertex: the coordinates one and two of its entry in `spots`, each below 2^20.
 fn points_of(alloc: Global, spots: &[Spot]) -> Result<Points, AllocError>
     requires small { (u : ℕ) → u < length spots.now → ((spot_of spots.now u).one < 1048576) × ((spot_of spots.now u).two < 1048576) }
     ensures { IfOk result (λ points. ArePlaced spots.now (length spots.now) points) }
@@ -35,7 +35,7 @@ fn points_of(alloc: Global, spots: &[Spot]) -> Result<Points, AllocError>
     Ok(points)
 }
 
-// Returns the points of `run`; `spots` is room with an entry for each vertex.
+// Returns the points of the sequence `run`. `spots` has an entry for each vertex, which may hold anything before.
 fn run_points(alloc: Global, spots: &mut [Spot], run: &FaceRun<'_>) -> Result<Points, AllocError>
     requires small { length spots.old < 65536 }
     requires run { (steps : ℕ → Step) × (at : ℕ → ℕ) × IsListedRun steps at run.now.rows.now run.now.d.0 run.now.s.0 (length spots.old) run.now.faces }
@@ -46,7 +46,7 @@ fn run_points(alloc: Global, spots: &mut [Spot], run: &FaceRun<'_>) -> Result<Po
     points_of(alloc, spots)
 }
 
-/// Keeps a spot for each vertex while points are found. From run to run it holds memory alone.
+/// Keeps each vertex's spot (relative position) while points are found. From run to run it holds memory alone.
 #[derive(Drop)]
 pub struct SpotTable {
     spots: Vec<Spot>,
@@ -61,7 +61,7 @@ impl SpotTable {
     }
 }
 
-/// Returns the points that [`count_points`] gives, in the memory of the table `spent`, which is returned too.
+/// Like [`count_points`], but in the memory of the table `spent`, which is returned too.
 pub fn count_points_again(
     alloc: Global,
     spent: SpotTable,
@@ -82,7 +82,8 @@ pub fn count_points_again(
     Ok((points, SpotTable { spots }))
 }
 
-/// Returns the points of the vertices of `run` by counts of faces over it. Its faces' turns are read off the counts.
+/// Returns the points of the vertices of `run` by counts of faces over it. A face's turn, where the contour edges under
+/// it stop going left, is read off the counts.
 ///
 /// It fails only when out of memory. The time is linear in the entries of the rows. A step writes how far each vertex
 /// that it covers stands from one that stays, and these differences are added up in the end.

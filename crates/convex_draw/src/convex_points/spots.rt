@@ -20,7 +20,7 @@ pub(crate) struct Spot {
     pub(crate) over: u16,
 }
 
-// Returns how far coordinate one falls along `row`, an interval of the contour.
+// Returns how far coordinate one falls along `row`, an interval of the contour, by its vertices' entries in `spots`.
 fn total_fall(spots: &[Spot], row: &[u16]) -> u32
     requires over { (z : Setting) × IsRowOver z spots.now row.now }
     ensures { (z : Setting) → IsRowOver z spots.now row.now → result + z.at.one (z.stage.vertex z.step.last) ≡ z.at.one (z.stage.vertex z.step.first) }
@@ -43,8 +43,8 @@ struct Cover {
 }
 
 impl Cover {
-    // Returns the spot of a covered vertex that lies `fall` and `rise` from the interval's ends, where `gain` of the
-    // new faces count for coordinate two.
+    // Returns the spot (relative position) of a covered vertex, with coordinate one `fall` above that of the interval's
+    // last vertex, and two `rise` above that of the first. `gain` of the new faces count for coordinate two.
     fn spot(&self, gain: u16, fall: u32, rise: u32) -> Spot
         requires gain { gain ≤ self.now.faces }
         requires small { (fall < 1048576) × (rise < 1048576) }
@@ -80,8 +80,9 @@ fn more_if(test: bool, face: u16) -> u16
     if test { face + 1 } else { face }
 }
 
-// Returns how many new faces turn before the next vertex of the interval, from the number of the current `face` and the
-// last `gain`. An edge that goes `left` and does not end its face adds none.
+// Returns how many new faces turn before a vertex, at their first contour edge that does not go left, or else at their
+// last. `face` is the index of the face over the edge to that vertex. `left` says whether that edge goes left, `at_cut`
+// whether it is the face's last; `gain` is the number at the vertex before.
 fn gain_at(at_cut: bool, left: bool, face: u16, gain: u16) -> u16
     requires { face < 65535 }
     ensures { result ≡ (if at_cut then face + 1 else (if left then gain else face + 1)) }
@@ -157,8 +158,8 @@ fn link(spots: &mut [Spot], news: &[u16])
     }
 }
 
-// Adds the vertices `news` over `row`, a contour interval with `cuts`. Writes the entries of `spots` of the new
-// vertices and of those of `row` but its first.
+// Adds the vertices `news` over `row`, a contour interval whose new faces end at the indices `cuts`. Writes the entries
+// of `spots` of the new vertices and of those of `row` but its first.
 fn put_over(spots: &mut [Spot], row: &[u16], cuts: &[u16], news: &[u16])
     requires put { (w : Setting) × IsPut w spots.old row.now cuts.now news.now }
     ensures { (w : Setting) → IsPut w spots.old row.now cuts.now news.now → IsWritten w spots.old spots.new }
@@ -181,7 +182,7 @@ fn put_over(spots: &mut [Spot], row: &[u16], cuts: &[u16], news: &[u16])
     };
 }
 
-// Adds all vertices to `spots`, step by step, over the base from `s` to `d`. Returns the last contour's vertex count.
+// Writes each vertex's entry in `spots`, by `rows` over the base from `s` to `d`. Returns the last contour's length.
 pub(crate) fn put_all(spots: &mut [Spot], rows: &ConvexRows, d: u16, s: u16) -> usize
     requires run { (steps : ℕ → Step) × (name : ℕ → ℕ) × IsCountRun steps name rows.now (length spots.old) × (name 0 ≡ d) × (name 1 ≡ s) }
     ensures { (steps : ℕ → Step) (name : ℕ → ℕ) → IsCountRun steps name rows.now (length spots.old) → name 0 ≡ d → name 1 ≡ s → AreKept steps name (length rows.now.rows) result spots.new }

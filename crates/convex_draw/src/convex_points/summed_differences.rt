@@ -12,7 +12,8 @@ use crate::convex_points::face_run::FaceRun;
 use crate::convex_points::spots::{Spot, put_all};
 use convex_laws::convex_rows::ConvexRows;
 
-// Replaces the differences in `spots` by coordinates along the last contour, of `width` vertices, from its end `s` on.
+// Replaces the differences in `spots` by coordinates along the last contour, of `width` vertices. It goes from vertex
+// `s`, at (0, `faces`), to the vertex that each entry refers to.
 fn walk(spots: &mut [Spot], s: u16, faces: u32, width: usize)
     requires last { (g : Stage) × (at : Coordinates) × (name : ℕ → ℕ) × IsLast g at name spots.old s faces width }
     ensures { (g : Stage) (at : Coordinates) (name : ℕ → ℕ) → IsLast g at name spots.old s faces width → AreWalked g at name 0 spots.old spots.new }
@@ -38,8 +39,8 @@ fn walk(spots: &mut [Spot], s: u16, faces: u32, width: usize)
     };
 }
 
-// Replaces the differences in `spots` by coordinates, for each vertex strictly within `row`. It adds the coordinates of
-// the vertex to which they refer.
+// Replaces the differences in `spots` by coordinates, for each vertex strictly within the contour interval `row`. It
+// adds the known coordinates of the vertex to which they refer.
 fn add_row(spots: &mut [Spot], row: &[u16])
     requires free { IsFree row.now spots.old }
     ensures { AreAdded row.now (length row.now - 1) spots.old spots.new }
@@ -66,7 +67,7 @@ fn add_all(spots: &mut [Spot], rows: &ConvexRows)
     }
 }
 
-/// Fills `spots` with the coordinates of each vertex of `run`: its counts of faces along axes one and two.
+/// Fills `spots`, one entry for each vertex, with the coordinates by `run`: the counts of faces along axes one and two.
 pub(crate) fn find_counts(spots: &mut [Spot], run: &FaceRun<'_>)
     requires run { (steps : ℕ → Step) × (name : ℕ → ℕ) × IsCountRun steps name run.now.rows.now (length spots.old) × (name 0 ≡ run.now.d.0) × (name 1 ≡ run.now.s.0) × (faces_made steps (length run.now.rows.now.rows) ≡ run.now.faces) }
     ensures { (steps : ℕ → Step) (name : ℕ → ℕ) → IsCountRun steps name run.now.rows.now (length spots.old) → name 0 ≡ run.now.d.0 → name 1 ≡ run.now.s.0 → faces_made steps (length run.now.rows.now.rows) ≡ run.now.faces

@@ -27,7 +27,7 @@ fn axes_beside(axis: Axis) -> (Axis, Axis)
 }
 
 impl WoodVertex<'_> {
-    // Returns the dart from the root of axis `from` to that of `to`.
+    // Returns the dart from the root of axis `from` to that of `to`, which are adjacent.
     fn dart_between(&self, from: Axis, to: Axis) -> DartId
         requires { HasDart self.now.map.now.lists (root_in self.now.wood.now from) (root_in self.now.wood.now to) }
         ensures { dart_at self.now.map.now result.0 ≡ Some (root_in self.now.wood.now from, root_in self.now.wood.now to) }
@@ -39,8 +39,8 @@ impl WoodVertex<'_> {
         }
     }
 
-    // Returns how many faces the region of this vertex for `axis` has. It marks in `marked`, which is unmarked at
-    // first, the edges that the region's boundary passes an odd number of times, and counts the faces inside.
+    // Returns what [`face_region`] returns for this vertex and `axis`. It marks in `marked`, by dart id and all unset
+    // at first, the edges that the region's boundary passes an odd number of times.
     fn count_with(&self, alloc: Global, marked: &mut [bool], axis: Axis) -> Result<u32, AllocError>
         requires plane { IsPlane self.now.map.now.lists }
         requires three { IsThreeConnected self.now.map.now.lists }

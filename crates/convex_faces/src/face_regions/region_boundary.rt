@@ -11,7 +11,7 @@ ghost use Rattle.convex_faces.specs.Passing.{Passes, PassesDart, PassesAxis, Pas
 use crate::wood::{Axis, ConvexWood};
 use half_edges::{DartId, HalfMap, VertexId};
 
-// Flips the marks of both darts of the edge of `d` in `marked`.
+// Flips the marks of both darts of the edge of dart `d` in `marked`, which has a mark for each dart id.
 fn pass(map: &HalfMap, marked: &mut [bool], d: DartId)
     requires live { IsLive map.now d.0 }
     requires marks { length marked.old ≡ id_bound map.now }

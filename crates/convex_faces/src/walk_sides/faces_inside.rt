@@ -14,7 +14,8 @@ use euler_faces::{Faces, faces, mark_reached};
 use half_edges::{DartId, FaceId, HalfMap};
 use std::alloc::{AllocError, Global};
 
-// Says whether face `f` is not the outer one and was reached over an odd number of marked edges, by `met`.
+// Says whether face `f` is not `outer` and was reached over an odd number of marked edges. `met` has two entries for
+// each dart id: whether a search reached it over an even number, and over an odd one.
 fn is_inside(map: &HalfMap, faces: &Faces, met: &[bool], outer: FaceId, f: FaceId) -> bool
     requires faces { AreFaces map.now faces.now }
     requires room { length met.now ≡ 2 * id_bound map.now }
@@ -26,7 +27,7 @@ fn is_inside(map: &HalfMap, faces: &Faces, met: &[bool], outer: FaceId, f: FaceI
     f.0 != outer.0 && met[2 * (first.0 as usize) + 1]
 }
 
-// Returns how many faces lie inside by `met`, the outer one not among them.
+// Returns how many faces but `outer` lie inside, by the marks `met` of a search as `is_inside` reads them.
 fn counted(map: &HalfMap, faces: &Faces, met: &[bool], outer: FaceId) -> u32
     requires faces { AreFaces map.now faces.now }
     requires room { length met.now ≡ 2 * id_bound map.now }
@@ -40,7 +41,7 @@ fn counted(map: &HalfMap, faces: &Faces, met: &[bool], outer: FaceId) -> u32
     count
 }
 
-// Returns how many faces lie inside the walk with marks `marked`. `met` is room for marks of the search from `base`.
+// Returns what [`inside_count`] returns. `met` is room for two marks for each dart id, all unset at first.
 fn count_with(
     alloc: Global,
     map: &HalfMap,
@@ -68,7 +69,7 @@ fn count_with(
 /// Each face of a chain shares an edge with the next. An edge that the walk passes twice counts twice. The answer does
 /// not depend on the chain.
 ///
-/// `marked` has a mark for each id of a dart whose edge the walk passes an odd number of times.
+/// `marked` has an entry for each dart id: whether the walk passes that dart's edge an odd number of times.
 ///
 /// Fails only when out of memory. The map stays as it is. The time is linear in the map: a search goes over its faces.
 pub fn inside_count(

@@ -18,7 +18,8 @@ fn place_at(points: &Points, v: VertexId) -> Point
     points.get(v.0 as usize)
 }
 
-// Writes into `outs` at its tail each dart of `map` that leads along `axis`, by the `points` of the vertices.
+// Writes into `outs`, one entry for each vertex, at its tail the id of each dart of `map` that leads along `axis`.
+// Along such a dart the axis's coordinate alone rises, by the `points` of the vertices.
 fn note_all(map: &HalfMap, points: &Points, axis: Axis, outs: &mut [u32])
     requires points { length points.now ≡ length map.now.lists }
     requires outs { length outs.old ≡ length map.now.lists }
@@ -40,7 +41,7 @@ fn note_all(map: &HalfMap, points: &Points, axis: Axis, outs: &mut [u32])
     }
 }
 
-// Returns for each vertex the dart that leaves it along `axis`, and any number where none does.
+// Returns for each vertex the id of the dart that leaves it along `axis`, by `points`, and any number where none does.
 pub(crate) fn outs_along(
     alloc: Global,
     map: &HalfMap,

@@ -33,7 +33,7 @@ fn sum_stays(p: Point, q: Point) -> bool
     sum_of(p) <= sum_of(q)
 }
 
-// Says whether the coordinate of an axis alone rises from `p` to `q`: x, y, or what both lack of a constant sum.
+// Says whether from `p` to `q` the coordinate of `axis` rises and no other: x, y, or what both lack of a constant sum.
 pub(crate) fn rises(axis: Axis, p: Point, q: Point) -> bool
     ensures { IsTrue result ↔ IsRisingBy axis p q }
 {

@@ -50,7 +50,7 @@ impl ConvexWood {
         }
     }
 
-    // Returns the entry of `v` in the table of `axis`.
+    // Returns the dart of `v` along `axis`, or any number at the root of `axis`.
     fn entry(&self, axis: Axis, v: VertexId) -> DartId
         requires { v.0 < count_in self.now }
         ensures { result.0 ≡ out_in self.now axis v.0 }

@@ -38,7 +38,7 @@ struct Grid {
     ceiling: u32,
 }
 
-// Returns how many of the turns `runs` are at a horizontal edge.
+// Returns how many entries of `runs` are true: the rows whose turn is at a horizontal edge.
 fn run_count(runs: &[bool]) -> u32
     requires few { length runs.now < 4096 }
     ensures count { (steps : ℕ → Step) (places : List ℕ) → AreTurns steps (length runs.now) places runs.now → result ≡ run_turns steps (length runs.now) }
@@ -51,8 +51,8 @@ fn run_count(runs: &[bool]) -> u32
     count
 }
 
-// Returns the right and the upper sides of all boxes but the last, by the numbers of the left and the lower ones. It
-// fails only when out of memory.
+// Returns the right and the upper sides of all boxes but the last, by rank, from `numbers`, the left and lower ones.
+// Sides that no later box bounds are at the ends of `grid`. It fails only when out of memory.
 fn lower_sides(
     alloc: Global,
     turned: &TurnedRows<'_>,
@@ -72,7 +72,7 @@ fn lower_sides(
     Ok(Sides { right, high })
 }
 
-// Returns the boxes over a construction sequence of these `rows`, and the last over all. Fails only when out of memory.
+// Returns the boxes by rank: two of the base, one over each of `rows` (contour intervals), and one over all others.
 pub(crate) fn box_tables(alloc: Global, rows: &Rotations) -> Result<BoxTables, AllocError>
     requires run { (steps : ℕ → Step) × AreRows steps rows.now }
     ensures left { IfOk result (λ tables. length tables.left.items ≡ length rows.now + 3) }

@@ -15,7 +15,7 @@ use pg_plane::{Ints, RectFigure};
 use rect_orders::rect_order::{Frame, frame_of};
 use std::alloc::{AllocError, Global};
 
-// Converts an unsigned number to a coordinate.
+// Converts `number`, below 2^20, to a coordinate.
 fn coordinate(number: u32) -> i32
     requires { number < 2 ^ 20 }
     ensures { result ≡ pos number }
@@ -53,8 +53,8 @@ fn figure_at(alloc: Global, tables: &BoxTables, ranks: &Counts) -> Result<RectFi
     Ok(RectFigure { x1, x2, y1, y2 })
 }
 
-// Returns the rectangular dual of the map with these `lists`, whose outer face has the vertices of `frame`. It fails
-// only when out of memory.
+// Returns the rectangular dual of the map with these `lists`, of the class of `rect`, whose outer face has the vertices
+// of `frame`. It fails only when out of memory.
 pub(crate) fn framed(
     alloc: Global,
     lists: &Rotations,

@@ -16,7 +16,7 @@ use rect_orders::rect_order::Frame;
 use refusals::Unserved;
 use std::alloc::{AllocError, Global};
 
-// Draws a map of the class whose outer face is `four`. It fails only when out of memory.
+// Draws the map `lists`, of the class of `rect`, with the outer face `four`. It fails only when out of memory.
 fn drawn(alloc: Global, lists: &Rotations, four: OuterFour) -> Result<RectFigure, AllocError>
     requires class { IsRectMap lists.now }
     requires frame { IsFrame lists.now four.top.0 four.right.0 four.bottom.0 }

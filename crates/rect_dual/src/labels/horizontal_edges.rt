@@ -14,7 +14,7 @@ pub(crate) struct RunTables {
     ghost size: { vec_len left ≡ vec_len first },
 }
 
-// Fills the tables `first` and `left`, which are zeros before, from the rows and turns of `turned`.
+// Fills the tables `first` and `left` of [`RunTables`], which are zeros before, from the rows and turns of `turned`.
 fn fill_tables(first: &mut [u32], left: &mut [u32], turned: &TurnedRows<'_>)
     requires first { length first.old ≡ length turned.now.rows.now + 3 }
     requires left { length left.old ≡ length turned.now.rows.now + 3 }

@@ -31,7 +31,7 @@ impl Cycle<'_> {
             && self.away[v as usize] >= 2
     }
 
-    // Returns the top vertex of `stack` that may be taken off next, and pops those above it.
+    // Returns the topmost vertex of `stack` that may be taken off next, of which there is one. Pops those above it.
     pub(crate) fn removable_vertex(&self, stack: &mut Vec<u16>) -> u16
         requires stacked { IsStacked self.now.bottom self.now.left self.now.marked.now self.now.near.now self.now.away.now stack.old.items }
         requires some { (v : ℕ) × LooksRemovable self.now.bottom self.now.left self.now.marked.now self.now.near.now self.now.away.now v }

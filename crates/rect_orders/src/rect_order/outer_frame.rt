@@ -23,7 +23,7 @@ pub struct Frame {
     pub inner: VertexId,
 }
 
-/// Returns the vertices of the outer face, that of the dart `base`, and one inside.
+/// Returns the outer vertices of `map`, of the class of `rect`, on the face of the dart `base`, and one vertex inside.
 pub fn frame_of(map: &HalfMap, base: DartId) -> Frame
     requires { IsLive map.now base.0 }
     ensures { (s d p t : ℕ) → dart_at map.now base.0 ≡ Some (s, d) → IsRectMap map.now.lists s d p t → IsFrameOf map.now.lists result s d p t }
@@ -41,8 +41,8 @@ pub fn frame_of(map: &HalfMap, base: DartId) -> Frame
     }
 }
 
-/// Returns the lists of the closed map of one of this class, with lists `lists` and outer vertices in `frame`. It has
-/// an edge more, outside, between top and bottom, and is a triangulation. Fails only when out of memory.
+/// Returns `lists` with an edge added between the top and the bottom of `frame`, in the outer face. For a map of the
+/// class of `rect` they are a triangulation's. Fails only when out of memory.
 pub fn with_closing_edge(
     alloc: Global,
     lists: &Rotations,
