@@ -26,7 +26,7 @@ pub(crate) fn write_letter(letter: u8, bytes: &mut [u8], end: usize) -> usize
     write_byte(b' ', bytes, start)
 }
 
-// Writes a space and the signed `number` before index `end` of `bytes`, and returns the index at which they start.
+// Writes a space and signed `number` (by the table `texts`) before index `end`, at least 12, and returns the start.
 #[inline(always)]
 pub(crate) fn write_signed(texts: &Texts<'_>, number: i32, bytes: &mut [u8], end: usize) -> usize
     requires { (12 ≤ end) × (end ≤ length bytes.old) }
@@ -41,7 +41,7 @@ pub(crate) fn write_signed(texts: &Texts<'_>, number: i32, bytes: &mut [u8], end
     write_byte(b' ', bytes, sign)
 }
 
-// Writes `number`, that of a vertex, before index `end` of `bytes`, and returns the index at which it starts.
+// Writes `number` (by the table `texts`) before index `end`, at least 21, of `bytes`, and returns where it starts.
 pub(crate) fn write_number(texts: &Texts<'_>, number: u64, bytes: &mut [u8], end: usize) -> usize
     requires { (21 ≤ end) × (end ≤ length bytes.old) }
     ensures within { (result ≤ end) × (end ≤ result + 20) }
@@ -80,7 +80,7 @@ fn write_text(text: &[u8], bytes: &mut [u8], end: usize) -> usize
     start
 }
 
-// Writes the first line of a figure before index `end` of `bytes`, and returns the index at which it starts.
+// Writes the first line that `heading` gives before index `end`, at least 60, of `bytes`, and returns where it starts.
 pub(crate) fn write_first(
     texts: &Texts<'_>,
     heading: &Heading<'_>,

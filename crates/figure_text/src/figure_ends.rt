@@ -49,8 +49,8 @@ fn integers(alloc: Global, words: &[Word]) -> Result<Ints, AllocError>
     Ok(list)
 }
 
-// Returns the numbers of `line`, that of the columns, if they are plainly written, without keeping words; else None. It
-// fails only when out of memory.
+// Returns the numbers of `line`, if it is a line of columns, plainly written: no number has a sign or leading 0. None
+// promises nothing. It fails only when out of memory.
 fn plain_columns(alloc: Global, line: &[u8]) -> Result<Option<Ints>, AllocError>
     ensures { IfOk result (λ found. IfSome found (λ list. IsColumnsLine (words_of line.now) × ColumnsInRange (words_of line.now) × (list ≡ columns_of (words_of line.now)))) }
 {
@@ -65,8 +65,8 @@ fn plain_columns(alloc: Global, line: &[u8]) -> Result<Option<Ints>, AllocError>
     Ok(Some(list))
 }
 
-/// Judges the line of the columns, which is given without the byte 10 that closes it: by all its words, where its
-/// numbers are not plainly written.
+/// Judges `line`, given without its closing byte 10, as a line of columns. Returns `Good` with its numbers, `Bad` if it
+/// has another shape, `Limit` if a number is out of range, or `NoMemory`.
 pub fn columns_line(alloc: Global, line: &[u8]) -> Columns
     ensures { JudgesColumns (words_of line.now) result }
 {
@@ -89,8 +89,8 @@ pub fn columns_line(alloc: Global, line: &[u8]) -> Columns
     }
 }
 
-/// Makes a figure of rectangles from `made`, a draft filled line by line: its lists, and the four sides of each
-/// rectangle. It computes and checks nothing.
+/// Makes a rectangular dual from `made`, a draft filled line by line: its lists, fewer than 4096, and the four sides of
+/// each rectangle. It computes and checks nothing.
 pub fn draft_rects(made: Draft) -> Figure
     requires { length made.lists < 4096 }
     ensures { result ≡ Figure.Rects made.lists (record { x1 = made.x1; x2 = made.x2; y1 = made.y; y2 = made.y2 }) }
@@ -116,7 +116,7 @@ fn ids_of(alloc: Global, list: &[u16]) -> Result<Vec<VertexId>, AllocError>
     list.iter().map(|u| VertexId(*u)).collect(alloc)
 }
 
-// Returns the paths of `draft`: its lists after the first. It fails only when out of memory.
+// Returns the paths of a witness's `draft`: its lists after the first, which is there. Fails only when out of memory.
 fn paths_of(alloc: Global, draft: &Draft) -> Result<PathList, AllocError>
     requires { 0 < length draft.now.lists }
     ensures { IfOk result (λ paths. paths ≡ map ids (drop 1 draft.now.lists)) }
@@ -129,7 +129,8 @@ fn paths_of(alloc: Global, draft: &Draft) -> Result<PathList, AllocError>
     Ok(paths)
 }
 
-/// Returns the witness of `draft`, whose lists are the branches and then the paths. It fails only when out of memory.
+/// Returns the witness of `kind` in `draft`: its first list is the branches, and each other a path. There is at least
+/// one list. It fails only when out of memory.
 pub fn draft_witness(alloc: Global, kind: Subdivided, draft: &Draft) -> Result<Witness, AllocError>
     requires { 0 < length draft.now.lists }
     ensures { IfOk result (λ witness. witness ≡ witness_of kind draft.now.lists) }

@@ -39,8 +39,8 @@ fn part(line: &[u8], i: usize) -> &[u8]
     }
 }
 
-// Judges what is after the job's word in the first `line` of a figure of this `kind`, cut into `words`. That is the
-// number of vertices, or for a witness the graph6 line. It fails only when out of memory.
+// Returns the verdict on what is after the job's word in the first `line` of a figure of this `kind`, cut into `words`:
+// the number of vertices, or for a witness the graph6 line. It fails only when out of memory.
 fn tail_worth(alloc: Global, kind: Kind, line: &[u8], words: &[Word]) -> Result<Judged, AllocError>
     requires { words.now ≡ words_of line.now }
     ensures { IfOk result (Judges (IsTail (Some kind) line.now) (TailInRange (Some kind) line.now)) }
@@ -58,8 +58,8 @@ fn tail_worth(alloc: Global, kind: Kind, line: &[u8], words: &[Word]) -> Result<
     }
 }
 
-// Judges the first line of a figure of this `kind` by its `words` and the verdict `tail` on what is after the job's
-// word.
+// Judges the first line of a figure of this `kind` by all its `words` and `tail`, the verdict on those after the job's.
+// Returns `Begins`, `Limit` if a number is out of range, or `Bad`.
 fn front_of(kind: Kind, words: &[Word], tail: Judged) -> Front
     ensures { (line : List ℕ) → words.now ≡ words_of line → kind_of words.now ≡ Some kind
         → Judges (IsTail (Some kind) line) (TailInRange (Some kind) line) tail → IsFrontBy line result }
@@ -96,8 +96,8 @@ fn few_words(alloc: Global, line: &[u8]) -> Result<Option<Vec<Word>>, AllocError
     }
 }
 
-/// Judges `line`, which stands outside a figure and is given without the byte 10 that closes it. Of a long line no more
-/// words are kept than tell that it is no first line.
+/// Judges `line`, which stands outside a figure and is given without its closing byte 10. Returns `Note`, `Begins` for
+/// a good first line, `Limit` for one with a number out of range, or `Bad`. It fails only when out of memory.
 pub fn front_line(alloc: Global, line: &[u8]) -> Result<Front, AllocError>
     ensures { IfOk result (IsFront line.now) }
 {
@@ -116,7 +116,8 @@ pub fn front_line(alloc: Global, line: &[u8]) -> Result<Front, AllocError>
     }
 }
 
-/// Returns the graph of a witness by its first `line`, which is given without the byte 10 that closes it.
+/// Returns the graph of a witness by its first `line`, given without its closing byte 10. The fifth word is a graph6
+/// line without a fault. It fails only when out of memory.
 pub fn front_graph(alloc: Global, line: &[u8]) -> Result<Graph, AllocError>
     requires { line_fault (part_at line.now 4) ≡ None }
     ensures { IfOk result (IsGraphOf line.now) }

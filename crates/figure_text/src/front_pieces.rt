@@ -102,7 +102,7 @@ pub fn are_within(pieces: &[Piece], words: &[Word]) -> bool
     true
 }
 
-/// Says whether `words` are all that stands before the vertices in line `place`, in their shapes and ranges.
+/// Says whether `words` fit `pieces` one by one, in shape and range, in line `place`. Only a yes is promised.
 pub fn is_front(pieces: &[Piece], place: usize, words: &[Word]) -> bool
     ensures { OnTrue result ((length words.now ≡ length pieces.now) × Along (Fits place) pieces.now words.now × Along IsWithin pieces.now words.now) }
 {

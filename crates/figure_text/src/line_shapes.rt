@@ -115,7 +115,7 @@ pub fn words_from(words: &[Word], from: usize) -> &[Word]
     }
 }
 
-// Says whether `word` is at most the greatest coordinate in size.
+// Says whether the absolute value of the number `word` is at most the greatest coordinate. True for other words.
 pub fn is_inside(word: Word) -> bool
     ensures { IsTrue result ↔ IsInside word }
 {
@@ -139,8 +139,8 @@ fn is_columns_line(words: &[Word]) -> bool
             .all(|word| is_number_word(*word))
 }
 
-// Returns the kind of figure that `words`, those of a first line from `figure` on, announce: the third is the job's.
-// Of a witness the fourth tells K5 or K33; other words announce none.
+// Returns the kind of figure that `words`, all those of a first line, announce: the third is the job's. Of a witness
+// the fourth is K5 or K33. Returns None for other words.
 pub fn job_kind(words: &[Word]) -> Option<Kind>
     ensures { result ≡ kind_of words.now }
 {
@@ -176,7 +176,7 @@ pub fn witness_word(place: usize) -> Name
     if place == 1 { Name::Branch } else { Name::Path }
 }
 
-/// Says whether `kind` is that of a witness.
+/// Says whether `kind` is that of a witness. A no promises that its lines may have any number of neighbours.
 pub fn is_witness(kind: Kind) -> bool
     ensures { (place len : ℕ) → result ≡ false → IsTrue (is_long_enough kind place len) }
 {

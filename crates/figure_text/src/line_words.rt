@@ -54,7 +54,7 @@ pub enum Word {
 /// Stands for all numbers beyond the ranges.
 pub const FAR: u64 = 100_000_000;
 
-// Returns the number that `word` is in decimal, without sign or leading zeros, or `FAR` where that is less; else None.
+// Returns the number that `word` is in decimal, without sign or leading zeros, but at most `FAR`; else None.
 fn number(word: &[u8]) -> Option<u32>
     ensures { result ≡ number_of word.now }
 {
@@ -212,7 +212,8 @@ fn digit_of(byte: u8) -> u32
     u32::from(byte).wrapping_sub(48)
 }
 
-// Reads the digits that stand in `line` from index `at` on, `count` of them at most.
+// Returns the value of the first digits in `line` from index `at` on, and the index after them. Only `count` bytes are
+// looked at, at most 6, which must be there.
 #[inline(always)]
 fn first_digits(line: &[u8], at: usize, count: usize) -> Digits
     requires few { count ≤ 6 }
@@ -237,8 +238,7 @@ fn first_digits(line: &[u8], at: usize, count: usize) -> Digits
     }
 }
 
-// Reads the digits that stand in `line` from index `at` on, six of them at most. Where six bytes are left, the loop has
-// six rounds; where four are, as mostly at the end of a line, it has four.
+// Returns the value of the digits in `line` from index `at` on, six of them at most, and the index after them.
 #[inline(always)]
 fn digits_from(line: &[u8], at: usize) -> Digits
     requires { at ≤ length line.now }
@@ -257,14 +257,14 @@ fn digits_from(line: &[u8], at: usize) -> Digits
     }
 }
 
-// Says whether a word of `line` may end at index `end`.
+// Says whether a word of `line` may end at index `end`: at a space, or where the line ends. Only a yes is promised.
 fn ends_at(line: &[u8], end: usize) -> bool
     ensures { IsTrue result → end < length line.now → slice_index line.now end ≡ 32 }
 {
     line.len() <= end || line[end] == b' '
 }
 
-// Says whether `line` has a colon at index `end`, after which a word may end.
+// Says whether `line` has a colon at index `end`, and then a space or its end. Only a yes is promised.
 fn closes_at(line: &[u8], end: usize) -> bool
     ensures { IsTrue result → (end < length line.now) × (slice_index line.now end ≡ 58)
         × (end + 1 < length line.now → slice_index line.now (end + 1) ≡ 32) }
@@ -281,7 +281,7 @@ pub struct Next {
     pub end: usize,
 }
 
-/// Reads the word of `line` that begins at index `at`.
+/// Returns the word of `line` that begins at index `at`, at most the length, and the index of the space or end after.
 #[inline(always)]
 pub fn next_word(line: &[u8], at: usize) -> Next
     requires { at ≤ length line.now }
@@ -319,7 +319,7 @@ pub fn next_word(line: &[u8], at: usize) -> Next
     }
 }
 
-/// Returns the number that begins at index `at` of `line`, where it has no minus and at most six digits.
+/// Returns the number at index `at` of `line`, if it has no minus and at most six digits. None promises nothing.
 #[inline(always)]
 pub fn plain_at(line: &[u8], at: usize) -> Option<Digits>
     ensures { IfSome result (IsPlainAt line.now at) }
@@ -376,7 +376,7 @@ pub fn closing_at(line: &[u8], at: usize) -> Option<Digits>
     None
 }
 
-/// Says whether the word `at` begins at index `at` of `line`, with a space after it.
+/// Says whether the bytes "at " begin at index `at` of `line`, which is at most its length. Only a yes is promised.
 #[inline(always)]
 pub fn is_word_at(line: &[u8], at: usize) -> bool
     requires { at ≤ length line.now }
@@ -385,7 +385,7 @@ pub fn is_word_at(line: &[u8], at: usize) -> bool
     at + 2 < line.len() && line[at] == b'a' && line[at + 1] == b't' && line[at + 2] == b' '
 }
 
-/// Says whether `letter` stands at index `at` of `line`, with a space after it.
+/// Says whether `letter`, no space, is at index `at` of `line` with a space after it. Only a yes is promised.
 #[inline(always)]
 pub fn is_letter_at(line: &[u8], at: usize, letter: u8) -> bool
     requires place { at ≤ length line.now }
@@ -395,8 +395,8 @@ pub fn is_letter_at(line: &[u8], at: usize, letter: u8) -> bool
     at + 1 < line.len() && line[at] == letter && line[at + 1] == b' '
 }
 
-/// Fills `found` with the first words of `line`, `most` of them or as many as there are, and returns the index at which
-/// the others begin. What it held before is gone, and its memory is kept.
+/// Replaces the content of `found` by the first words of `line`, `most` of them or as many as there are. Returns the
+/// index at which the others begin, which is beyond the length if there are none. It fails only when out of memory.
 pub fn fill_front(line: &[u8], most: usize, found: &mut Vec<Word>) -> Result<usize, AllocError>
     ensures words { IfOk result (λ at. found.new.items ++ words_left line.now at ≡ words_of line.now) }
     ensures many { IfOk result (λ at. at ≤ length line.now → length found.new.items ≡ most) }
@@ -415,8 +415,8 @@ pub fn fill_front(line: &[u8], most: usize, found: &mut Vec<Word>) -> Result<usi
     Ok(at)
 }
 
-/// Fills `found` with the words of `line`, as far as each is a number or a word of figures, and says whether they are
-/// all. What it held before is gone, and its memory is kept.
+/// Replaces the content of `found` by the words of `line`, up to the first that is neither a number nor a word of
+/// figures. Returns whether there is no such word. It fails only when out of memory.
 pub fn fill_known(line: &[u8], found: &mut Vec<Word>) -> Result<bool, AllocError>
     ensures known { IfOk result (λ known. OnTrue known (found.new.items ≡ words_of line.now)) }
     ensures other { IfOk result (λ known. OnFalse known (HasOther (words_of line.now))) }

@@ -16,7 +16,7 @@ pub struct Numeral {
     bytes: [u8; 7],
 }
 
-// Returns the text of `number` after a space.
+// Returns the text of a space and `number`, which is below 10,000.
 fn text_of(number: usize) -> Numeral
     requires { number < 10000 }
     ensures { IsNumeral number result }
@@ -30,8 +30,8 @@ fn text_of(number: usize) -> Numeral
     }
 }
 
-// Writes the text of a number after a space before index `end` of `bytes`, and returns the index at which it starts.
-// All of the eight bytes before `end` are written, by one store.
+// Writes `numeral`, the text of a space and a number, so that it ends before index `end` of `bytes`, and returns the
+// index at which it starts. At least eight bytes stand before `end`, and the last eight of them are overwritten.
 fn write_numeral(numeral: Numeral, bytes: &mut [u8], end: usize) -> usize
     requires room { (8 ≤ end) × (end ≤ length bytes.old) }
     requires text { (number : ℕ) × IsNumeral number numeral }
@@ -94,7 +94,7 @@ pub struct Texts<'a> {
     pub ghost known: { AreNumerals texts.now },
 }
 
-// Writes a space and `number`, digit by digit, before index `end` of `bytes`, and returns the index of the space.
+// Writes a space and `number` before index `end` of `bytes`, where there is room, and returns the index of the space.
 #[inline(never)]
 fn write_digit_by_digit(number: u64, bytes: &mut [u8], end: usize) -> usize
     requires { (length (decimal number) < end) × (end ≤ length bytes.old) }
@@ -106,8 +106,8 @@ fn write_digit_by_digit(number: u64, bytes: &mut [u8], end: usize) -> usize
 }
 
 impl Texts<'_> {
-    /// Writes a space and `number` before index `end` of `bytes`, and returns the index of the space. Up to seven bytes
-    /// before it are lost.
+    /// Writes a space and `number` before index `end` of `bytes`, where eight bytes and the text have room. Returns the
+    /// index of the space. Up to seven bytes before it are overwritten.
     #[inline(always)]
     pub fn write(&self, number: u64, bytes: &mut [u8], end: usize) -> usize
         requires { (length (decimal number) < end) × (8 ≤ end) × (end ≤ length bytes.old) }

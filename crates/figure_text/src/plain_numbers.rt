@@ -11,8 +11,8 @@ use map_lists::ItemLists;
 use pg_plane::Ints;
 use std::alloc::AllocError;
 
-// Returns the vertex number that begins at index `at` of `line`, from 1 to 65535, if it is plainly written; else None.
-// That it does not begin with 0 is tested first, so that it needs no other test for that.
+// Returns the vertex number that begins at index `at` of `line`, from 1 to 65535, if it is plainly written: with at
+// most six digits, no sign and no leading 0. None promises nothing.
 #[inline(always)]
 fn vertex_at(line: &[u8], at: usize) -> Option<Digits>
     ensures { IfSome result (IsVertexAt line.now at) }
@@ -26,7 +26,7 @@ fn vertex_at(line: &[u8], at: usize) -> Option<Digits>
     }
 }
 
-// Like [`vertex_at`], but only if a space follows at most four digits. It takes fewer instructions.
+// Like [`vertex_at`], but only if a space follows at most four digits. None promises nothing. It is faster.
 #[inline(always)]
 fn short_vertex_at(line: &[u8], at: usize) -> Option<Digits>
     ensures { IfSome result (IsVertexAt line.now at) }
@@ -49,8 +49,8 @@ fn vertex(number: u32) -> u16
     (number - 1) as u16
 }
 
-/// Appends to `lists` the list of the vertices that stand in `line` from index `start` on. Returns false, and leaves
-/// `lists` unchanged, where some word there is not a plainly written number of a vertex.
+/// Appends to `lists` the list of the vertices in `line` from index `start` on, if each word there is plainly written:
+/// a number from 1 to 65535, with no sign or leading 0. Otherwise returns false, and leaves `lists` unchanged.
 pub fn push_plain(line: &[u8], start: usize, lists: &mut ItemLists<u16>) -> Result<bool, AllocError>
     ensures good { IfOk result (λ good. OnTrue good (All (λ w. IsNeighbour w) (words_left line.now start)
         × (lists.new ≡ lists.old ++ map vertex_of (words_left line.now start) ∷ []))) }
@@ -74,7 +74,7 @@ pub fn push_plain(line: &[u8], start: usize, lists: &mut ItemLists<u16>) -> Resu
     Ok(false)
 }
 
-// Returns the coordinate that begins at index `at` of `line`, if it is plainly written and in range; else None.
+// Returns the coordinate at index `at` of `line`, at most 2^20, if plainly written: no sign. None promises nothing.
 #[inline(always)]
 fn coordinate_at(line: &[u8], at: usize) -> Option<Digits>
     ensures { IfSome result (IsCoordinateAt line.now at) }
@@ -85,8 +85,8 @@ fn coordinate_at(line: &[u8], at: usize) -> Option<Digits>
     }
 }
 
-/// Returns the coordinate that begins at index `at` of `line`, if it has at most four digits and a space follows; else
-/// None.
+/// Returns the coordinate that begins at index `at` of `line`, if it has no sign and at most four digits, and a space
+/// follows. None promises nothing.
 #[inline(always)]
 pub fn short_coordinate_at(line: &[u8], at: usize) -> Option<Digits>
     ensures { IfSome result (IsCoordinateAt line.now at) }
@@ -105,8 +105,8 @@ fn coordinate(number: u32) -> i32
     number as i32
 }
 
-/// Appends to `list` the numbers in `line` from index `start` on, and says whether all words there are coordinates,
-/// plainly written. If not, it appends those before the first other word.
+/// Appends to `list` the numbers in `line` from index `start` on, up to the first word that is no coordinate without a
+/// sign. Returns true if there is none. False promises nothing of `list`.
 pub fn push_coordinates(line: &[u8], start: usize, list: &mut Ints) -> Result<bool, AllocError>
     ensures { IfOk result (λ good. OnTrue good (All (λ w. IsCoordinateWord w) (words_left line.now start)
         × (list.new ≡ list.old ++ map integer_of (words_left line.now start)))) }

@@ -16,7 +16,7 @@ use map_lists::Rotations;
 use pg_plane::{BarFigure, Ints, Points, RectFigure};
 use std::alloc::{AllocError, Global};
 
-// Appends `digit` to `out`.
+// Appends `digit`, from 0 to 9, to `out` as a decimal digit.
 fn push_digit(out: &mut Vec<u8>, digit: u64) -> Result<(), AllocError>
     requires { digit < 10 }
     ensures { OnOk result (out.new.items ≡ out.old.items ++ (48 + digit) ∷ []) }
@@ -78,7 +78,7 @@ pub(crate) struct Heading<'a> {
     pub ghost short: { length word.now ≤ 8 },
 }
 
-// Returns how many bytes the first line and the vertex lines of a figure with these `lists` take at most.
+// Returns the most bytes that the first line and vertex lines of a figure with these `lists` take. Fails beyond usize.
 fn room_of<R: Numbered>(lists: &Rotations) -> Result<usize, AllocError>
     ensures { IfOk result (λ room. room ≡ 60 + 6 * sum_by length lists.now + fronts_room R.longest (length lists.now)) }
 {
@@ -91,7 +91,7 @@ fn room_of<R: Numbered>(lists: &Rotations) -> Result<usize, AllocError>
     Ok(room)
 }
 
-// Writes the first line and the lines of the vertices at the end of `bytes`, and returns the index at which they start.
+// Writes the first line by `heading` and the vertex lines of `figure` to the end of `bytes`, and returns their start.
 fn write_figure<R: Numbered>(
     texts: &Texts<'_>,
     heading: &Heading<'_>,
@@ -143,8 +143,8 @@ fn bars_room(lists: &Rotations, columns: &Ints) -> Result<usize, AllocError>
     Ok(room)
 }
 
-// Writes the first line, the lines of the vertices and that of the columns of `bars` at the end of `bytes`. Returns the
-// index at which they start.
+// Writes the first line by `heading`, and the vertex lines and line of columns of `bars`, to the end of `bytes`, which
+// has room. Returns the index at which they start.
 fn write_bars(texts: &Texts<'_>, heading: &Heading<'_>, bars: &BarFigure, bytes: &mut [u8]) -> usize
     requires bars { HasBars heading.now.lists.now bars.now }
     requires room { 60 + 6 * sum_by length heading.now.lists.now + fronts_room 62 (length heading.now.lists.now) + (12 * length bars.now.column + 8) ≤ length bytes.old }
@@ -188,7 +188,7 @@ impl Printer {
         Ok(())
     }
 
-    // Appends the first line and the vertex lines of `figure` to `out`. When memory runs out `out` is unchanged.
+    // Appends the first line by `heading` and the vertex lines of `figure` to `out`, which is kept if memory runs out.
     fn print_lines<R: Numbered>(
         &mut self,
         heading: &Heading<'_>,
@@ -206,8 +206,8 @@ impl Printer {
         out.extend_from_slice(&self.bytes[start..])
     }
 
-    /// Appends the text of a straight-line drawing with this `number` to `out`, of `lists` and a point for each of
-    /// them. When memory runs out `out` is unchanged.
+    /// Appends the text of a straight-line drawing to `out`, as figure `number` made by `job`. `points` has one entry
+    /// for each of `lists`. When memory runs out `out` is unchanged.
     pub fn print_grid(
         &mut self,
         number: u32,

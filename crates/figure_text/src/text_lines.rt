@@ -16,7 +16,8 @@ pub fn line_length(bytes: &[u8]) -> usize
     }
 }
 
-/// Returns the line from offset `at` on, if a byte 10 closes it, and the offset after that.
+/// Returns the line from offset `at`, at most the length, up to the next byte 10, and the offset after that byte; or
+/// None if no byte 10 comes.
 pub fn next_line(bytes: &[u8], at: usize) -> Option<(&[u8], usize)>
     requires { at ≤ length bytes.now }
     ensures { MatchOption result (IsPlain (drop at bytes.now)) (λ found.

@@ -21,7 +21,7 @@ pub struct LineFront {
     pub end: usize,
 }
 
-// Returns the word `name` that ends at index `end`, where `is_there` holds.
+// Returns the word `name` that ends at index `end` if `is_there` is set, else None.
 #[inline(always)]
 fn word_if(is_there: bool, name: Name, end: usize) -> Option<Next>
     ensures { IfSome result (λ next. IsTrue is_there × (next.word ≡ Word.Named name) × (next.end ≡ end)) }
@@ -36,8 +36,8 @@ fn word_if(is_there: bool, name: Name, end: usize) -> Option<Next>
     }
 }
 
-// Returns the word of `piece` that begins at index `at` of `line`, where it is plainly written and a space follows.
-// `place` is the number of the line in its figure.
+// Returns the word that begins at index `at` of `line`, if it has the shape of `piece`, no sign, few digits and a space
+// after it. None promises nothing. `place` is the number of the line in its figure.
 #[inline(always)]
 fn plain_piece(piece: Piece, place: usize, line: &[u8], at: usize) -> Option<Next>
     ensures { IfSome result (IsPieceAt piece place line.now at) }
@@ -98,7 +98,7 @@ impl LineFront {
         }
     }
 
-    /// Returns the number at word `i`.
+    /// Returns the number kept for word `i`, below 7, of this front, or 2^20 if that is less.
     #[inline(always)]
     pub fn number(&self, i: usize) -> i32
         requires { i < length self.now.numbers }
@@ -112,7 +112,7 @@ impl LineFront {
 }
 
 impl VertexLine<'_> {
-    // Reads piece `k` of the front, after those before it, into `front`, and says whether it is there.
+    // Reads `piece`, number `k` of the front, into `front`, and says whether it is there. False promises nothing.
     #[inline(always)]
     fn with_piece(&self, front: &mut LineFront, k: usize, piece: Piece) -> bool
         requires { k < 7 }
@@ -129,7 +129,7 @@ impl VertexLine<'_> {
         }
     }
 
-    // Reads the `pieces` before the neighbours into `front`, one by one, and says whether all are there.
+    // Reads the `pieces` before the neighbours into the empty `front`, and says if all are there. A no says nothing.
     fn any_front(&self, pieces: &[Piece], front: &mut LineFront) -> bool
         requires { length pieces.now ≤ 7 }
         ensures { IsFrontOf [] self.now.place self.now.line.now front.old → IsTrue result → IsFrontOf pieces.now self.now.place self.now.line.now front.new }
@@ -167,7 +167,7 @@ impl VertexLine<'_> {
             && self.with_piece(front, 5, Piece::Last)
     }
 
-    /// Reads the front of this line into `front`, which is empty, and says whether all its words are plainly written.
+    /// Reads all before the neighbours into the empty `front`, and says if it is plainly written. A no says nothing.
     #[inline(always)]
     pub fn read_front(&self, front: &mut LineFront) -> bool
         ensures { IsFrontOf [] self.now.place self.now.line.now front.old → IsTrue result → IsFrontOf (the_pieces self.now.kind) self.now.place self.now.line.now front.new }

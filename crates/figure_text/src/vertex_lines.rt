@@ -61,7 +61,7 @@ fn push_vertices(words: &[Word], lists: &mut ItemLists<u16>) -> Result<(), Alloc
     Ok(())
 }
 
-/// Returns the number with the sign and the size of `z`.
+/// Returns the number with the sign and the size of `z`, where a size above 2^20 becomes 2^20.
 #[inline(always)]
 pub fn signed_number(z: Signed) -> i32
     ensures { result ≡ signed_value z }
@@ -78,7 +78,7 @@ pub fn signed_number(z: Signed) -> i32
     }
 }
 
-/// Returns the number that `word` is, and 0 for any other word.
+/// Returns the number that `word` is, held within -2^20 to 2^20, and 0 for any other word.
 #[inline(always)]
 pub fn integer(word: Word) -> i32
     ensures { result ≡ integer_of word }
@@ -111,6 +111,7 @@ impl Values for Vec<Word> {
 
     ghost Has = { λ words i. Unit {0} };
 
+    // Returns the number that word `i` is, held within -2^20 to 2^20; or 0 where it is none or there is no word `i`.
     fn value_at(&self, i: usize) -> i32 {
         integer(word(self, i))
     }
@@ -124,6 +125,7 @@ impl Values for LineFront {
 
     ghost Has = { λ front i. i < length front.numbers };
 
+    // Returns the number kept for word `i` of the front, which has fewer than eight words.
     #[inline(always)]
     fn value_at(&self, i: usize) -> i32 {
         self.number(i)
@@ -178,9 +180,8 @@ fn push_row(kind: Kind, words: &Vec<Word>, draft: &mut Draft) -> Result<(), Allo
 }
 
 impl VertexLine<'_> {
-    // Appends to `draft` what this line gives, and says whether it is found good. The words of its front are kept in
-    // `found`; its neighbours have to be plainly written, and are not kept as words. If not good, the draft is as it
-    // was.
+    // Appends to `draft` what this line gives, if it is found good, and says so. The words before its neighbours go to
+    // `found`, and its neighbours have to be plainly written. False leaves the draft as it was, and promises no more.
     fn push_by_words(&self, found: &mut Vec<Word>, draft: &mut Draft) -> Result<bool, AllocError>
         ensures good { IfOk result (λ good. OnTrue good (IsRow self.now.kind self.now.place (words_of self.now.line.now)
             × RowInRange self.now.kind (words_of self.now.line.now)
@@ -199,9 +200,8 @@ impl VertexLine<'_> {
         Ok(true)
     }
 
-    /// Appends to `draft` what this line gives, if it is found good at sight, and says whether it is. If not, the draft
-    /// is as it was, and the line may still be good. `found` is room for the words of a front that is not plainly
-    /// written.
+    /// Appends to `draft` what this line gives, if it is found good at sight, and says so. False leaves the draft as it
+    /// was, and the line may still be good. `found` is scratch space for words. It fails only when out of memory.
     #[inline(always)]
     pub fn quick(&self, found: &mut Vec<Word>, draft: &mut Draft) -> Result<bool, AllocError>
         ensures good { IfOk result (λ good. OnTrue good (IsRow self.now.kind self.now.place (words_of self.now.line.now)
@@ -221,8 +221,8 @@ impl VertexLine<'_> {
         Ok(true)
     }
 
-    /// Judges this line, by its words where it is not found good at sight, and appends to `draft` what a good one
-    /// gives. `None` means out of memory. `found` is room for its words, and keeps its memory for the next line's.
+    /// Judges this line, by its words where it is not found good at sight. Returns the verdict, or None when out of
+    /// memory, and appends to `draft` what a good line gives. `found` is scratch space for words.
     #[inline(never)]
     pub fn judge(&self, found: &mut Vec<Word>, draft: &mut Draft) -> Option<Judged>
         ensures { IfSome result (λ judged. Judges (IsRow self.now.kind self.now.place (words_of self.now.line.now)) (RowInRange self.now.kind (words_of self.now.line.now)) judged

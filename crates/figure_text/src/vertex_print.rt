@@ -77,11 +77,12 @@ impl Numbered for Points {
 
     ghost longest = { 49 };
 
+    // Returns how many bytes "V at X Y:" takes at most.
     fn longest() -> usize {
         49
     }
 
-    // Writes "V at X Y:" into `bytes`, where V is the vertex, from 1, and X and Y are the coordinates of its point.
+    // Writes "V at X Y:" before index `end`: V is the vertex, from 1, and X and Y are its point. Returns the start.
     #[inline(always)]
     fn write_front(&self, line: &PrintedLine<'_>, bytes: &mut [u8], end: usize) -> usize {
         let texts = line.texts;
@@ -108,11 +109,12 @@ impl Numbered for BarFigure {
 
     ghost longest = { 62 };
 
+    // Returns how many bytes "V y Y x A B:" takes at most.
     fn longest() -> usize {
         62
     }
 
-    // Writes "V y Y x A B:" into `bytes`: V is the vertex, from 1, whose bar goes from A to B at height Y.
+    // Writes "V y Y x A B:" before index `end`: V's bar, V from 1, goes from A to B at height Y. Returns the start.
     #[inline(always)]
     fn write_front(&self, line: &PrintedLine<'_>, bytes: &mut [u8], end: usize) -> usize {
         let texts = line.texts;
@@ -142,11 +144,12 @@ impl Numbered for RectFigure {
 
     ghost longest = { 74 };
 
+    // Returns how many bytes "V x A B y C D:" takes at most.
     fn longest() -> usize {
         74
     }
 
-    // Writes "V x A B y C D:" into `bytes`: V is the vertex, from 1, whose box goes from A to B and from C to D.
+    // Writes "V x A B y C D:" before index `end`: V's box, V from 1, goes from A to B and C to D. Returns the start.
     #[inline(always)]
     fn write_front(&self, line: &PrintedLine<'_>, bytes: &mut [u8], end: usize) -> usize {
         let texts = line.texts;

@@ -17,7 +17,7 @@ use half_edges::VertexId;
 use pg_plane::Point;
 use std::alloc::AllocError;
 
-// Converts the verdict of the check of convexity on a drawing without another fault.
+// Converts `verdict`, on the bends of a drawing's faces, to `Yes` or to `Convex` with that verdict.
 fn of_convex(verdict: ConvexVerdict) -> FigureVerdict
     ensures { (lists : Lists) (points : List Point) → IsConvexVerdict lists points (first_dart lists 0) verdict → HasBase lists
         → IsBendVerdict lists points result }
@@ -29,7 +29,8 @@ fn of_convex(verdict: ConvexVerdict) -> FigureVerdict
 }
 
 impl MapDrawing<'_> {
-    // Returns the verdict on a drawing without another fault, by its convexity over the first vertex's first dart.
+    // Judges only the bends of the faces, with that of vertex 0's first dart outside. Returns `Yes` or `Convex`, which
+    // is `OuterBent` where vertex 0 has no dart. It fails only when out of memory.
     fn bend_verdict(&self) -> Result<FigureVerdict, AllocError>
         ensures { IfOk result (IsBendVerdict self.now.map.now.lists self.now.points.now) }
     {
@@ -43,8 +44,8 @@ impl MapDrawing<'_> {
         }
     }
 
-    /// Returns the verdict on a drawing that is to be convex, in the grid up to `corner`: its first fault, or else how
-    /// a face bends, or `Yes`.
+    /// Returns the verdict on a drawing that is to be convex, in the grid up to `corner`: its first fault as `Drawing`,
+    /// or else how a face bends as `Convex`, or `Yes`. It fails only when out of memory.
     pub fn convex_verdict(&self, corner: Point) -> Result<FigureVerdict, AllocError>
         ensures { IfOk result (IsShapedVerdict self.now.map.now.lists self.now.points.now corner.x corner.y) }
     {

@@ -22,14 +22,14 @@ use pg_plane::{Point, Points};
 use simple_maps::no_fault_is_simple;
 use std::alloc::{AllocError, Global};
 
-// Says whether a simple map with this `count` has genus zero, three or more vertices and the most edges of such a map.
+// Says whether `count`, of a simple map, has n >= 3, m = 3n - 6 edges and genus zero. Only a yes is promised.
 fn is_triangulation(count: EulerCount) -> bool
     ensures { (lists : Lists) → IsSimpleMap lists → IsCountOf lists count → OnTrue result (IsTriangulation lists) }
 {
     3 <= count.n && count.m + 6 == 3 * count.n && count.n + count.f == 2 * count.c + count.m
 }
 
-// Says whether `lists` are a triangulation. When memory runs out it is not known, and the answer is false.
+// Says whether `lists`, at least one, are a triangulation. False promises nothing, and also comes without memory.
 fn are_triangulation(alloc: Global, lists: &Rotations) -> bool
     requires some_list { 0 < length lists.now }
     ensures { OnTrue result ((first_fault lists.now ≡ None) × IsTriangulation lists.now) }
@@ -71,7 +71,7 @@ pub struct MapDrawing<'a> {
 }
 
 impl MapDrawing<'_> {
-    // Returns the verdict on a drawing of a connected map by its outer face.
+    // Returns the verdict on a faultless drawing of a connected map by its outer face: `Inside` or `Yes`.
     fn outer_verdict(&self) -> Result<FigureVerdict, AllocError>
         requires { component_count self.now.map.now.lists ≡ 1 }
         ensures { IfOk result (λ verdict. (width height : ℤ) → IsVerdict self.now.map.now.lists self.now.points.now width height NoFault
@@ -88,7 +88,7 @@ impl MapDrawing<'_> {
         }
     }
 
-    // Returns the verdict on a drawing without a fault, by its outer face.
+    // Returns the verdict on a faultless drawing by its outer face: `Yes`, or `Inside` if the map is connected.
     fn faultless_verdict(&self) -> Result<FigureVerdict, AllocError>
         ensures { IfOk result (λ verdict. (width height : ℤ) → IsVerdict self.now.map.now.lists self.now.points.now width height NoFault
             → IsDrawnVerdict self.now.map.now.lists self.now.points.now width height verdict) }
@@ -100,8 +100,8 @@ impl MapDrawing<'_> {
         }
     }
 
-    /// Returns the first fault of the drawing in the grid up to `corner`. If it has none, it returns the least dart of
-    /// a face that is turned inside out, or `Yes`.
+    /// Returns the first fault of the drawing in the grid up to `corner` as `Drawing`. If it has none, it returns
+    /// `Inside` with the least dart of a face that is turned inside out, or `Yes`.
     pub fn drawn_verdict(&self, corner: Point) -> Result<FigureVerdict, AllocError>
         ensures { IfOk result (IsDrawnVerdict self.now.map.now.lists self.now.points.now corner.x corner.y) }
     {

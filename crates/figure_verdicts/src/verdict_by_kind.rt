@@ -26,7 +26,7 @@ use pg_plane::{BarFigure, Point, Points, RectFigure};
 use rect_check::{RectVerdict, check_rects};
 use std::alloc::{AllocError, Global};
 
-// Converts `n`, a small number, to a signed one.
+// Converts `n`, below 8192, to a signed number.
 fn signed(n: usize) -> i32
     requires { n < 8192 }
     ensures { result ≡ pos n }
@@ -59,7 +59,7 @@ fn height(job: GridJob, n: usize, f: u32) -> i32
     }
 }
 
-// Returns the upper right corner of the grid of a drawing by a method for triangulations, of `n` vertices.
+// Returns the upper right corner of the grid of a drawing of `n` vertices by `job`, which is not `Convex`.
 fn corner_of(job: GridJob, n: usize) -> Point
     requires { n < 4096 }
     ensures x { (lists : Lists) → length lists ≡ n → job ≢ ConvexJob → result.x ≡ grid_width job lists }
@@ -71,7 +71,7 @@ fn corner_of(job: GridJob, n: usize) -> Point
     }
 }
 
-// Says whether a drawing by a method for triangulations is seen to be valid, with no map made.
+// Says whether the drawing of `lists` at `points` by `job` is seen to be valid with no map made. A no promises nothing.
 fn is_seen_valid(alloc: Global, job: GridJob, lists: &Rotations, points: &Points) -> bool
     requires { IsGivenGrid lists.now points.now }
     ensures { OnTrue result (IsGridVerdict job lists.now points.now FigureYes) }
@@ -82,7 +82,7 @@ fn is_seen_valid(alloc: Global, job: GridJob, lists: &Rotations, points: &Points
     }
 }
 
-// Returns the verdict on lists with this `fault`.
+// Returns `Refused` with the `fault` of lists that are no simple map, or fails if the fault is `NoMemory`.
 fn refused(fault: MapFault) -> Result<FigureVerdict, AllocError>
     ensures { IfOk result (λ verdict. (verdict ≡ FigureVerdict.Refused fault) × (fault ≢ MapFault.NoMemory)) }
 {
@@ -93,7 +93,7 @@ fn refused(fault: MapFault) -> Result<FigureVerdict, AllocError>
 }
 
 impl MapDrawing<'_> {
-    // Returns the verdict on the drawing in the grid up to `corner`, by what the drawings of `job` are to be.
+    // Returns the verdict on the drawing in the grid up to `corner`. If `job` is `Convex`, its faces must be convex.
     fn job_verdict(&self, job: GridJob, corner: Point) -> Result<FigureVerdict, AllocError>
         ensures { IfOk result (IsJobVerdict job self.now.map.now.lists self.now.points.now corner.x corner.y) }
     {
@@ -116,7 +116,7 @@ impl MapDrawing<'_> {
     }
 }
 
-// Returns the verdict on a straight-line drawing of `lists`, which may be no simple map.
+// Returns the verdict on the drawing of `lists`, which may be no simple map, at `points`, one for each list, by `job`.
 fn grid_verdict(
     alloc: Global,
     job: GridJob,
@@ -152,7 +152,7 @@ fn bars_width(f: u32) -> i32
     f as i32 - 1
 }
 
-// Converts the verdict of the check of bars.
+// Converts `verdict`, of the check of bars, to `Yes` or to `Bars` with that verdict.
 fn of_bars(verdict: BarVerdict) -> FigureVerdict
     ensures { (lists : Lists) (bars : Bars) (width : ℤ) → IsBarVerdict lists bars width verdict → IsColumnsVerdict lists bars width result }
 {
@@ -162,7 +162,7 @@ fn of_bars(verdict: BarVerdict) -> FigureVerdict
     }
 }
 
-// Returns the verdict on a visibility drawing of `lists`, which may be no simple map.
+// Returns the verdict on `bars` as drawn for `lists`: `Refused` if these are no simple map, else `Bars` or `Yes`.
 fn bars_verdict(
     alloc: Global,
     lists: &Rotations,
@@ -180,7 +180,7 @@ fn bars_verdict(
     }
 }
 
-// Converts the verdict of the check of rectangles.
+// Converts `verdict`, of the check of rectangles, to `Yes` or to `Rects` with that verdict.
 fn of_rects(verdict: RectVerdict) -> FigureVerdict
     ensures { (lists : Lists) (rects : Rects) → IsRectVerdict lists rects verdict → IsTiledVerdict lists rects result }
 {
@@ -190,7 +190,7 @@ fn of_rects(verdict: RectVerdict) -> FigureVerdict
     }
 }
 
-// Returns the verdict on a rectangular dual of `lists`, which may be no simple map.
+// Returns the verdict on `rects` as a dual of `lists`: `Refused` if these are no simple map, else `Rects` or `Yes`.
 fn rects_verdict(
     alloc: Global,
     lists: &Rotations,
@@ -205,7 +205,7 @@ fn rects_verdict(
     }
 }
 
-// Returns the verdict on `witness` for `graph`.
+// Returns the verdict on `witness` for `graph`: `Yes`, or `Witness` with its first fault.
 fn witness_verdict(graph: &Graph, witness: &Witness) -> FigureVerdict
     ensures { IsWitnessVerdict graph.now witness.now result }
 {

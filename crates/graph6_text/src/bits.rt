@@ -2,7 +2,7 @@
 ghost use Rattle.std.specs.Prelude.{◌≡◌, ◌+◌, ◌-◌, ◌*◌, ◌<◌, ◌≤◌, ◌/◌, ◌==◌, ◌||◌, ℕ, false, length, slice_index, All};
 ghost use Rattle.graph6_text.specs.Lines.{pair_place as place_of_pair, pair_count as count_of_pairs, body_length as bytes_of_pairs, has_bit as is_bit, is_set as is_place_set, IsLineByte};
 
-/// Returns the index of the pair of `u` and `v`, where `u` is the lesser, among the bits.
+/// Returns the index among a graph's bits of the pair of `u`, the lesser vertex, and `v`: v(v - 1)/2 + u.
 #[tactic(auto, unfolding(crate::specs::Lines::pair_place))]
 pub fn pair_place(u: u16, v: u16) -> usize
     ensures { result ≡ place_of_pair u v }
@@ -21,7 +21,7 @@ pub fn pair_count(n: u16) -> usize
     vertices * vertices.saturating_sub(1) / 2
 }
 
-/// Returns the number of bytes that hold the bits of `n` vertices.
+/// Returns the number of bytes that hold the bits of all pairs of `n` vertices, at most 255, six bits a byte.
 pub fn body_length(n: u16) -> usize
     requires { n ≤ 255 }
     ensures { result ≡ bytes_of_pairs n }
@@ -29,7 +29,7 @@ pub fn body_length(n: u16) -> usize
     (pair_count(n) + 5) / 6
 }
 
-/// Returns the number of bits of the last byte that stand for no pair of `n` vertices.
+/// Returns how many of the last byte's six bits stand for no pair of `n` vertices, at most 255: from 0 to 5.
 pub fn spare_bits(n: u16) -> usize
     requires { n ≤ 255 }
     ensures number { result ≡ 6 * bytes_of_pairs n - count_of_pairs n }
@@ -47,7 +47,7 @@ fn has_bit(byte: u8, k: usize) -> bool
     (byte.saturating_sub(63) >> (5 - k)) % 2 == 1
 }
 
-// Returns `byte` with bit `k` set, which was not.
+// Returns `byte`, six bits plus 63, with bit `k` of the six, from the highest, set. That bit was not set.
 fn with_bit(byte: u8, k: usize) -> u8
     requires bit { k < 6 }
     requires range { IsLineByte byte }
@@ -58,7 +58,7 @@ fn with_bit(byte: u8, k: usize) -> u8
     byte + (32u8 >> k)
 }
 
-/// Says whether the bit at index `place` of `body` is set.
+/// Says whether the bit at index `place` of `body`, six bits in each byte plus 63, is set.
 #[tactic(auto, unfolding(crate::specs::Lines::is_set))]
 pub fn is_set(body: &[u8], place: usize) -> bool
     requires { place / 6 < length body.now }
@@ -67,7 +67,7 @@ pub fn is_set(body: &[u8], place: usize) -> bool
     has_bit(body[place / 6], place % 6)
 }
 
-/// Sets the bit at index `place` of `body`.
+/// Sets the bit at index `place` of `body`, six bits in each byte plus 63, and leaves the others.
 pub fn set(body: &mut [u8], place: usize)
     requires within { place / 6 < length body.old }
     requires bytes { All IsLineByte body.old }

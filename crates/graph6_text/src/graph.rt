@@ -54,7 +54,7 @@ impl Graph {
         Ok(Graph { vertices: n, body })
     }
 
-    /// Returns the graph on `n` vertices with the bits `bytes`, in the memory of `spent`.
+    /// Returns the graph on `n` vertices, at most 255, with the bits `bytes`, six a byte plus 63, in `spent`'s memory.
     pub(crate) fn of_body(spent: Graph, n: u16, bytes: &[u8]) -> Result<Graph, AllocError>
         requires few { n ≤ 255 }
         requires bits { IsBody n bytes.now }
@@ -74,7 +74,7 @@ impl Graph {
         self.vertices
     }
 
-    /// Says whether an edge joins `u` and `v`.
+    /// Says whether an edge joins `u` and `v`. False where one of them is no vertex.
     pub fn has(&self, u: VertexId, v: VertexId) -> bool
         ensures { result ≡ has_edge self.now u.0 v.0 }
     {
@@ -112,7 +112,7 @@ impl Graph {
     }
 }
 
-// Sets in `body` the bits of `edges`.
+// Sets in `body`, which has no bit set, the bits of `edges` on `n` vertices. They are in order, and each stands once.
 fn set_all(body: &mut [u8], n: u16, edges: &[Ends])
     requires few { n ≤ 255 }
     requires edges { AreEdges n (map edge_of edges.now) }

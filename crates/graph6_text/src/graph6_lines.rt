@@ -64,7 +64,7 @@ pub fn write_line(graph: &Graph, out: &mut Vec<u8>) -> Result<(), AllocError>
     }
 }
 
-// Returns the index of the first byte that is not six bits plus 63.
+// Returns the index of the first byte of `line` that is not six bits plus 63, or None.
 fn bad_place(line: &[u8]) -> Option<usize>
     ensures { result ≡ position is_bad_byte line.now }
 {
@@ -112,7 +112,7 @@ fn four_byte_start(n: u32) -> Result<(u16, usize), G6Fault>
     }
 }
 
-// Returns what is wrong with the bytes after the first `start`, as the bits of `n` vertices.
+// Returns what is wrong with the bytes of `line` after the first `start`, as the bits of `n` vertices, or None.
 fn body_fault(line: &[u8], n: u16, start: usize) -> Option<G6Fault>
     requires few { n ≤ 255 }
     requires start { start ≤ 4 }
@@ -130,7 +130,7 @@ fn body_fault(line: &[u8], n: u16, start: usize) -> Option<G6Fault>
     }
 }
 
-// Says whether the last bits, which stand for no pair of `n` vertices, are zeros.
+// Says whether the last bits of `line`, which stand for no pair of `n` vertices, are zeros.
 fn is_padded(line: &[u8], n: u16) -> bool
     requires { n ≤ 255 }
     ensures { result ≡ is_padded_for n line.now }

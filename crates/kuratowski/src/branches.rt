@@ -7,7 +7,7 @@ ghost use Rattle.kuratowski.specs.Verdicts.{NoBadBranch, IsLeast};
 use crate::shape::vertex_at;
 use map_lists::VertexList;
 
-/// Finds the index of the first branch that is no vertex below `n`, or is equal to an earlier branch.
+/// Returns the index of the first branch that is not below `n` or is equal to an earlier branch, or None.
 pub fn bad_branch(n: u16, branch: &VertexList) -> Option<usize>
     ensures { MatchOption result (NoBadBranch n branch.now) (IsLeast (IsBadBranch n branch.now)) }
 {

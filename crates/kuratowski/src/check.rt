@@ -39,7 +39,7 @@ impl WitnessVerdict {
     }
 }
 
-/// Returns the verdict on a witness for a graph. It takes no memory.
+/// Returns the verdict on `witness` for `graph`: `Yes`, or its first fault. It takes no memory.
 pub fn check_witness(graph: &Graph, witness: &Witness) -> WitnessVerdict
     ensures verdict { IsVerdict graph.now witness.now.kind witness.now.branch witness.now.paths result }
     ensures yes { (result ≡ WitnessVerdict.Yes) ↔ IsWitness graph.now witness.now.kind witness.now.branch witness.now.paths }
@@ -53,7 +53,7 @@ pub fn check_witness(graph: &Graph, witness: &Witness) -> WitnessVerdict
     }
 }
 
-// Returns the verdict on a witness whose shape and branches are right: only its paths are looked at.
+// Returns the verdict on `witness` for `graph` by its paths: its shape and its branches must be right.
 fn path_verdict(graph: &Graph, witness: &Witness) -> WitnessVerdict
     requires shape { IsShape witness.now.kind witness.now.branch witness.now.paths }
     requires branches { NoBadBranch graph.now.n witness.now.branch }

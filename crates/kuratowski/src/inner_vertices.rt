@@ -19,8 +19,8 @@ pub struct SharedVertex {
     pub vertex: u16,
 }
 
-/// Finds the first path with a wrong inner vertex: the first path that shares it, or the path itself where it is
-/// wrong there, and the least such vertex.
+/// Returns the first of `paths` (of 2 or more vertices) with a wrong inner vertex: a branch, repeated, or shared. There
+/// `second` is that path or the first that shares one, and `vertex` the least. Returns None if no path has one.
 pub fn shared(branch: &VertexList, paths: &PathList) -> Option<SharedVertex>
     requires { (p : ℕ) → p < length paths.now → 2 ≤ length (path_at paths.now p) }
     ensures { MatchOption result ((p q v : ℕ) → ¬ IsShared branch.now paths.now p q v) (λ s. IsLeastTriple (IsShared branch.now paths.now) s.first s.second s.vertex) }
@@ -40,8 +40,8 @@ pub fn shared(branch: &VertexList, paths: &PathList) -> Option<SharedVertex>
     None
 }
 
-// Returns the first fault of path number `p`: the number of the other path, and the least vertex. That path is `p`
-// itself where an inner vertex is a branch or stands twice, else the first later one that shares a vertex.
+// Returns the first fault of path number `p`, or None: a path, and the least inner vertex of `p` at fault with it. The
+// path is `p` itself if an inner vertex is a branch or stands twice, else the first later one that shares one.
 fn shared_by(branch: &VertexList, paths: &PathList, p: usize) -> Option<(usize, u16)>
     requires path { p < length paths.now }
     requires long { (p : ℕ) → p < length paths.now → 2 ≤ length (path_at paths.now p) }
@@ -63,7 +63,7 @@ fn shared_by(branch: &VertexList, paths: &PathList, p: usize) -> Option<(usize, 
     None
 }
 
-// Finds the least inner vertex of `path` that is a branch or stands twice in the path.
+// Returns the least inner vertex of `path`, of 2 or more vertices, that is a branch or stands twice in it, or None.
 fn wrong_inner(branch: &VertexList, path: &[VertexId]) -> Option<u16>
     requires { 2 ≤ length path.now }
     ensures { IsLeastInner path.now (λ v. Stands branch.now v ⊎ StandsTwice path.now v) (length path.now - 1) result }
@@ -77,7 +77,7 @@ fn wrong_inner(branch: &VertexList, path: &[VertexId]) -> Option<u16>
     least
 }
 
-// Finds the least vertex that is inner in both paths.
+// Returns the least vertex that is inner in both `path` and `other`, each of two or more vertices, or None.
 fn common_inner(path: &[VertexId], other: &[VertexId]) -> Option<u16>
     requires path { 2 ≤ length path.now }
     requires other { 2 ≤ length other.now }
@@ -119,7 +119,7 @@ fn is_below(vertex: u16, least: Option<u16>) -> bool
     }
 }
 
-// Says whether a vertex is inner in a path.
+// Says whether `vertex` is in `path`, which has at least two vertices, between the first and the last.
 fn is_inner(path: &[VertexId], vertex: u16) -> bool
     requires { 2 ≤ length path.now }
     ensures { IsTrue result ↔ IsInner path.now vertex }

@@ -8,7 +8,7 @@ ghost use Rattle.kuratowski.specs.Verdicts.{LacksNone, IsLeast, IsLeastPair};
 use graph6_text::Graph;
 use map_lists::{PathList, VertexId};
 
-/// Finds the first path, and the first index in it, at which no edge of `graph` leads to the next vertex.
+/// Returns the first path, and the first index in it, at which no edge of `graph` leads to the next vertex, or None.
 pub fn missing_edge(graph: &Graph, paths: &PathList) -> Option<(usize, usize)>
     ensures room { IfSome result (λ r. r.1 + 1 < 2 ^ 64) }
     ensures first { MatchOption result (LacksNone graph.now paths.now) (λ r. IsLeastPair (LacksEdge graph.now paths.now) r.0 r.1) }
@@ -22,7 +22,7 @@ pub fn missing_edge(graph: &Graph, paths: &PathList) -> Option<(usize, usize)>
     None
 }
 
-// Finds the first index of `path` at which no edge of `graph` leads to the next vertex.
+// Returns the first index of `path` at which no edge of `graph` leads to the next vertex, or None.
 fn missing_step(graph: &Graph, path: &[VertexId]) -> Option<usize>
     ensures room { IfSome result (λ i. i + 1 < 2 ^ 64) }
     ensures first { MatchOption result ((i : ℕ) → suc i < length path.now → has_edge graph.now (vertex_of path.now i) (vertex_of path.now (suc i)) ≡ true) (IsLeast (λ i. (suc i < length path.now) × (has_edge graph.now (vertex_of path.now i) (vertex_of path.now (suc i)) ≡ false))) }

@@ -23,7 +23,7 @@ pub fn has_shape(kind: Kind, branch: &VertexList, paths: &PathList) -> bool
     true
 }
 
-// Says whether `path` leads from the first to the second of the two branches that path number `p` joins.
+// Says whether `path` leads from the first to the second of the branches that path number `p`, from 0, of `kind` joins.
 fn joins(kind: Kind, branch: &VertexList, path: &[VertexId], p: usize) -> bool
     requires branches { length branch.now ≡ branches_of kind }
     requires path { p < length (pairs_of kind) }

@@ -15,7 +15,7 @@ pub(crate) fn join(alone: bool, front: &mut Vec<u8>, end: &[u8]) -> Result<(), A
     Ok(())
 }
 
-/// Returns the whole line: `end` if `alone` is set, else `joined`.
+/// Returns the whole line: `end` if `alone` says that `end` holds all of it, else `joined`, made of its parts.
 pub(crate) fn chosen<'a>(alone: bool, end: &'a [u8], joined: &'a [u8]) -> &'a [u8]
     ensures { result.now ≡ (if alone then end.now else joined.now) }
 {

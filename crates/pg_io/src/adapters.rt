@@ -26,7 +26,7 @@ impl<R> ReadAdapter<R> {
     }
 }
 
-// Passes on the answer of a reader, or adds one to `faults` where it is an error.
+// Returns the count of a reader's `answer`. If that is an error, fails and adds one to `faults`, up to 2^64 - 1.
 fn judge_read(answer: io::Result<usize>, faults: &mut u64) -> Result<usize, ReadFailed>
     ensures passed_on { MatchResult answer (λ k. result ≡ Ok k) (λ _. IsErr result) }
     ensures counted { faults.new ≡ (if is_err answer then raised faults.old else faults.old) }
@@ -94,8 +94,8 @@ fn flush_after<W: Write>(writer: &mut W, written: &io::Result<usize>) -> Option<
     }
 }
 
-// Judges the answers of a writer to a write and to the flush after it. Returns the number of bytes written, or adds
-// one to `faults`: the write failed or took no byte, or the flush failed.
+// Judges a writer's answers `written` to a write and `flushed` to the flush after, None if no byte was taken. Returns
+// the number of bytes written, or adds one to `faults`: the write failed or took no byte, or the flush failed.
 fn judge_write(
     written: io::Result<usize>,
     flushed: Option<io::Result<()>>,

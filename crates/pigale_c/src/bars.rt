@@ -36,7 +36,7 @@ impl BarArrays<'_> {
         Ok(BarFigure { y, x1, x2, column })
     }
 
-    // Says whether there is a bar for each of `n` vertices.
+    // Says whether there is a bar for each of `n` vertices: all arrays but `column` have `n` entries.
     fn are_for(&self, n: usize) -> bool
         ensures { IsTrue result ↔ AreBarsFor n (bars_in self.now.y.now self.now.x1.now self.now.x2.now self.now.column.now) }
     {
@@ -44,7 +44,8 @@ impl BarArrays<'_> {
     }
 }
 
-// Returns the verdict on `bars` as a drawing of the map `given` within `width`, or why there is none.
+// Returns the verdict on `bars` as a drawing of the map `given` within `width`. `Err` says why there is none: arrays of
+// a wrong length, no simple map, or no memory.
 fn judged(given: &MapArrays<'_>, bars: &BarArrays<'_>, width: i32) -> Result<Outcome, Failure>
     ensures { AreJudgedBars given.now.ends.now given.now.neighbours.now (bars_in bars.now.y.now bars.now.x1.now bars.now.x2.now bars.now.column.now) width (outcome_of result) }
 {
@@ -58,8 +59,9 @@ fn judged(given: &MapArrays<'_>, bars: &BarArrays<'_>, width: i32) -> Result<Out
     Ok(Outcome::Bars(verdict))
 }
 
-/// Judges a visibility drawing of a map within the width from 0 to `width`: bars at heights `y` from `x1` to `x2`, and
-/// the `column` of each edge. Returns the verdict's status, and writes the vertices that it names to `found`.
+/// Judges a visibility drawing of a map (`neighbours` cut into lists at `ends`) within the width from 0 to `width`.
+/// Each vertex has a bar at height `y` from `x1` to `x2`, each edge a `column`. Returns the status of the verdict, and
+/// writes the vertices that it names to `found`.
 #[unsafe(no_mangle)]
 pub extern "C" fn pigale_check_bars(
     alloc: Global,
@@ -83,8 +85,8 @@ pub extern "C" fn pigale_check_bars(
     report(judged(&given, &bars, width), found)
 }
 
-// Draws the map `given` by bars, if the arrays `bars` have the lengths of its figure. Otherwise it returns why it did
-// not. The arrays are only measured.
+// Draws the map `given` by bars, if the arrays `bars` have the lengths of its figure; nothing else of them is read.
+// `Err` is `BadArgument`, the condition of a biconnected plane map that the map breaks, or `NoMemory`.
 fn drawn(given: &MapArrays<'_>, bars: &BarArrays<'_>) -> Result<BarFigure, Failure>
     ensures shape { IfOk result (AreBarsFor (length given.now.ends.now)) }
     ensures columns { IfOk result (λ fig. length fig.column ≡ length bars.now.column.now) }
@@ -105,8 +107,9 @@ fn drawn(given: &MapArrays<'_>, bars: &BarArrays<'_>) -> Result<BarFigure, Failu
     Ok(figure)
 }
 
-/// Draws a biconnected plane map by bars, over the width f - 1 for f faces, at heights `y` from `x1` to `x2`, with the
-/// `column` of each edge. Returns a status, and writes the numbers beside it to `found`.
+/// Draws a biconnected plane map (`neighbours` cut into lists at `ends`) by bars, in width f - 1 for f faces. Writes
+/// each vertex's bar to `y`, `x1` and `x2`, and each edge's `column`. Returns a status, and writes what it names to
+/// `found`.
 #[unsafe(no_mangle)]
 pub extern "C" fn pigale_bars(
     alloc: Global,

@@ -23,7 +23,8 @@ struct Drawing {
     points: Points,
 }
 
-// Reads the map `given` and its points, with the coordinates `x` and `y`, or returns why the arrays are none.
+// Reads the map `given` and its points, with the coordinates `x` and `y` of each vertex. `Err` says why there is none:
+// bad lengths or coordinates, no simple map, or no memory.
 fn drawing_of(given: &MapArrays<'_>, x: &[i32], y: &[i32]) -> Result<Drawing, Failure>
     ensures map { IfOk result (λ drawing. drawing.map.lists ≡ lists_in given.now.ends.now given.now.neighbours.now) }
     ensures points { IfOk result (λ drawing. drawing.points ≡ points_in x.now y.now) }
@@ -40,7 +41,7 @@ fn drawing_of(given: &MapArrays<'_>, x: &[i32], y: &[i32]) -> Result<Drawing, Fa
 }
 
 // Returns the verdict on the drawing of the map `given` with straight edges, at the points of `x` and `y`, in the grid
-// from (0, 0) to `corner`. Or it returns why there is none.
+// from (0, 0) to `corner`. `Err` says why there is none: bad arrays, no simple map, or no memory.
 fn judged(given: &MapArrays<'_>, x: &[i32], y: &[i32], corner: Point) -> Result<Outcome, Failure>
     ensures { IsJudged given.now.ends.now given.now.neighbours.now x.now y.now corner.x corner.y (outcome_of result) }
 {
@@ -49,8 +50,8 @@ fn judged(given: &MapArrays<'_>, x: &[i32], y: &[i32], corner: Point) -> Result<
     Ok(Outcome::Drawing(verdict))
 }
 
-/// Judges a straight-line drawing of a map in the grid from (0, 0) to (`width`, `height`). Returns the status of the
-/// verdict, and writes the vertices that it names to `found`.
+/// Judges a straight-line drawing of a map (`neighbours` cut into lists at `ends`), vertex v at (`x[v]`, `y[v]`), in
+/// the grid up to (`width`, `height`). Returns the verdict's status, and writes the vertices that it names to `found`.
 #[unsafe(no_mangle)]
 pub extern "C" fn pigale_check(
     alloc: Global,
@@ -93,7 +94,7 @@ fn bends(alloc: Global, map: &HalfMap, points: &Points) -> Result<ConvexVerdict,
 }
 
 // Returns the first fault of the drawing of the map `given`, at the points of `x` and `y`, in the grid from (0, 0) to
-// `corner`. If it has none, it returns the verdict on the bends of its faces.
+// `corner`; if it has none, the verdict on the bends of its faces. `Err` says why there is no verdict.
 fn judged_convex(
     given: &MapArrays<'_>,
     x: &[i32],
@@ -112,8 +113,8 @@ fn judged_convex(
     }
 }
 
-/// Judges a straight-line drawing of a map that is to have convex faces, in the grid from (0, 0) to (`width`,
-/// `height`). Returns the status of the verdict, and writes the vertices that it names to `found`.
+/// Judges a drawing, with convex faces due, of a map (`neighbours` cut into lists at `ends`), vertex v at (`x[v]`,
+/// `y[v]`), in the grid up to (`width`, `height`). Returns the verdict's status, and writes its vertices to `found`.
 #[unsafe(no_mangle)]
 pub extern "C" fn pigale_check_convex(
     alloc: Global,

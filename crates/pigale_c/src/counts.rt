@@ -23,7 +23,7 @@ pub struct Counts {
     pub genus: u32,
 }
 
-// Writes the counts of the map of two arrays to `counts`, or returns why there are none.
+// Writes the counts of the map (`neighbours` cut into lists at `ends`) to `counts`, or returns why there are none.
 fn count(
     alloc: Global,
     ends: &[usize],
@@ -44,10 +44,8 @@ fn count(
     Ok(Outcome::Served)
 }
 
-/// Counts the vertices, edges, faces and components of a map, and its genus, into `counts`. Returns a status, and
-/// writes the numbers beside it to `found`.
-///
-/// `ends` has for each vertex the number of entries of `neighbours` up to the end of its list.
+/// Counts the vertices, edges, faces and components of a map (`neighbours` cut into lists at `ends`), and its genus,
+/// into `counts`. Returns a status, and writes the vertices or count that it names to `found`.
 #[unsafe(no_mangle)]
 pub extern "C" fn pigale_count(
     alloc: Global,

@@ -27,7 +27,7 @@ fn is_next(n: u16, last: EdgeEnds, e: EdgeEnds) -> bool
     e.a < e.b && e.b < n && (last.a < e.a || last.a == e.a && last.b < e.b)
 }
 
-// Says whether `edges` join vertices below `n`, in order and each once.
+// Says whether `edges` join vertices below `n`, the lesser end first, in rising order and each once.
 fn are_edges(n: u16, edges: &[EdgeEnds]) -> bool
     ensures { IsTrue result ↔ RiseFrom n (record { a = 0; b = 0 }) edges.now }
 {
@@ -41,7 +41,7 @@ fn are_edges(n: u16, edges: &[EdgeEnds]) -> bool
     true
 }
 
-// Converts edges of an array to those of a graph. It fails only when out of memory.
+// Converts `edges`, each with its lesser end first, to those of a graph. It fails only when out of memory.
 fn stored_edges(alloc: Global, edges: &[EdgeEnds]) -> Result<Vec<Ends>, AllocError>
     requires { All (λ e. e.a < e.b) edges.now }
     ensures { IfOk result (λ list. map edge_of list.items ≡ map edge_at edges.now) }
@@ -56,7 +56,7 @@ fn stored_edges(alloc: Global, edges: &[EdgeEnds]) -> Result<Vec<Ends>, AllocErr
     Ok(list)
 }
 
-// Says whether `n` is at most 255 and `edges` are those of a graph on `n` vertices.
+// Says whether `n` is at most 255 and `edges` are those of a graph on `n` vertices, in order and each once.
 fn is_given(n: u16, edges: &[EdgeEnds]) -> bool
     ensures { IsTrue result ↔ IsGraph (graph_in n edges.now) }
 {

@@ -44,9 +44,9 @@ fn numbers_of_vertices(alloc: Global, vertices: &[VertexId]) -> Result<Vec<u16>,
     Ok(numbers)
 }
 
-/// Writes a plane map of a graph to `ends` and `neighbours` and its drawing in the grid n - 2 by n - 2 to `x` and
-/// `y`. Where the graph is not planar, it writes the paths of a Kuratowski witness instead. Returns a status, and
-/// writes the numbers beside it to `found`.
+/// Writes a plane map of the graph of `n` vertices and sorted `edges` to `ends` and `neighbours`, as far as they have
+/// room. Its drawing, in the grid n - 2 by n - 2, goes to `x` and `y` of length n. Where the graph is not planar, the
+/// paths of a witness go to `ends` and `neighbours`. Returns a status, and writes the numbers beside it to `found`.
 #[unsafe(no_mangle)]
 pub extern "C" fn pigale_embed(
     alloc: Global,

@@ -62,8 +62,8 @@ fn convex(given: &MapArrays<'_>, x: &mut [i32], y: &mut [i32]) -> Result<Outcome
     Ok(Outcome::Served)
 }
 
-/// Draws a plane map with straight edges by the shift method, in the grid 2n - 4 by n - 2, into `x` and `y`. Returns
-/// a status, and writes the numbers beside it to `found`.
+/// Draws a plane map (`neighbours` cut into lists at `ends`) by the shift method, in the grid 2n - 4 by n - 2. Writes
+/// the point of each vertex to `x` and `y`. Returns a status, and writes the vertices or count it names to `found`.
 #[unsafe(no_mangle)]
 pub extern "C" fn pigale_shift(
     alloc: Global,
@@ -83,8 +83,8 @@ pub extern "C" fn pigale_shift(
     report(shift(&given, x, y), found)
 }
 
-/// Draws a plane map with straight edges by Schnyder's method, in the grid n - 2 by n - 2, into `x` and `y`. Returns
-/// a status, and writes the numbers beside it to `found`.
+/// Draws a plane map (`neighbours` cut into lists at `ends`) by Schnyder's method, in the grid n - 2 by n - 2. Writes
+/// the point of each vertex to `x` and `y`. Returns a status, and writes the vertices or count it names to `found`.
 #[unsafe(no_mangle)]
 pub extern "C" fn pigale_schnyder(
     alloc: Global,
@@ -104,8 +104,8 @@ pub extern "C" fn pigale_schnyder(
     report(schnyder(&given, x, y), found)
 }
 
-/// Draws a three-connected plane map with convex faces, in the grid f - 1 by f - 1, into `x` and `y`. Returns a
-/// status, and writes the numbers beside it to `found`.
+/// Draws a three-connected plane map (`neighbours` cut into lists at `ends`) convex in the grid f - 1 by f - 1. Writes
+/// the point of each vertex to `x` and `y`. Returns a status, and writes the vertices or count it names to `found`.
 #[unsafe(no_mangle)]
 pub extern "C" fn pigale_convex(
     alloc: Global,

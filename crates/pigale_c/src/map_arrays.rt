@@ -18,7 +18,7 @@ pub(crate) struct MapArrays<'a> {
     pub(crate) neighbours: &'a [u16],
 }
 
-// Says whether `ends` do not fall, and the last one is `total`.
+// Says whether `ends` do not fall, and the last one, or 0 if there is none, is `total`.
 fn are_cuts(ends: &[usize], total: usize) -> bool
     ensures { IsTrue result ↔ AreCuts 0 ends.now total }
 {
@@ -39,7 +39,8 @@ fn is_given_map(ends: &[usize], neighbours: &[u16]) -> bool
     !ends.is_empty() && ends.len() <= usize::from(MOST_VERTICES) && are_cuts(ends, neighbours.len())
 }
 
-/// Copies the rotation lists of two arrays. Fails with `BadArgument` where they describe none, and when out of memory.
+/// Copies the lists of `neighbours`, cut at `ends`. Fails with `BadArgument` unless these cut all of it into 1 to 4095
+/// lists, and with `NoMemory`.
 pub(crate) fn lists_of(
     alloc: Global,
     ends: &[usize],
@@ -67,15 +68,15 @@ fn is_coordinate(z: i32) -> bool
     -MOST_COORDINATE <= z && z <= MOST_COORDINATE
 }
 
-// Says whether both coordinates of a point are in range.
+// Says whether both coordinates of the point `p` are from -2^20 to 2^20.
 fn is_in_range(p: Point) -> bool
     ensures { IsTrue result ↔ IsInRange p }
 {
     is_coordinate(p.x) && is_coordinate(p.y)
 }
 
-/// Copies the points of `n` vertices from two arrays of coordinates. It fails with `BadArgument` where a length or a
-/// coordinate is wrong, and when out of memory.
+/// Copies the points of `n` vertices from their coordinates `x` and `y`. It fails with `BadArgument` where a length is
+/// not `n` or a coordinate is not from -2^20 to 2^20, and when out of memory.
 pub(crate) fn points_of(alloc: Global, n: usize, x: &[i32], y: &[i32]) -> Result<Points, Failure>
     ensures points { IfOk result (λ points. points ≡ points_in x.now y.now) }
     ensures given { IfOk result (λ points. ArePlaces n x.now y.now) }
@@ -97,7 +98,7 @@ pub(crate) fn points_of(alloc: Global, n: usize, x: &[i32], y: &[i32]) -> Result
     Ok(points)
 }
 
-/// Writes the coordinates of `points` into the arrays `x` and `y`.
+/// Writes the coordinates of `points` into the arrays `x` and `y`, which have an entry for each.
 pub(crate) fn put_points(points: &[Point], x: &mut [i32], y: &mut [i32])
     requires x { length x.old ≡ length points.now }
     requires y { length y.old ≡ length points.now }

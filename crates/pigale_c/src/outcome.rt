@@ -41,7 +41,7 @@ impl From<Unserved> for Failure {
 
     ghost from_gives = { λ unserved failure. failure ≡ failure_for unserved };
 
-    // Converts the reason why a record is not served.
+    // Converts the reason why a record is not served to `Refused` with the condition, or to `NoMemory`.
     fn from(unserved: Unserved) -> Failure {
         match unserved {
             Unserved::Refused(refusal) => Failure::Refused(refusal),
@@ -57,7 +57,7 @@ impl From<MapFault> for Failure {
 
     ghost from_gives = { λ fault failure. failure ≡ failure_for (unserved_for fault) };
 
-    // Converts the fault by which lists are no map to the condition that they break.
+    // Converts the fault by which lists are no map to `Refused` with the condition that they break, or `NoMemory`.
     fn from(fault: MapFault) -> Failure {
         Failure::from(Unserved::from(fault))
     }
@@ -106,7 +106,7 @@ fn answer_of(status: u8, numbers: Numbers) -> Answer
     Answer { status, numbers }
 }
 
-// Returns the numbers beside a status, where all four are used.
+// Returns the numbers beside a status, `first` to `fourth`. Those that a status does not have are 0.
 fn four(first: u32, second: u32, third: u32, fourth: u32) -> Numbers
     ensures { result ≡ four_of first second third fourth }
 {
@@ -125,28 +125,28 @@ fn none() -> Numbers
     four(0, 0, 0, 0)
 }
 
-// Returns the number of vertex `v` as the numbers beside a status.
+// Returns the number of vertex `v` as the numbers beside a status, which are 0 after it.
 fn one(v: VertexId) -> Numbers
     ensures { result ≡ one_of v.0 }
 {
     four(u32::from(v.0), 0, 0, 0)
 }
 
-// Returns the numbers of two vertices as the numbers beside a status.
+// Returns the numbers of the vertices `u` and `v` as the numbers beside a status, which are 0 after them.
 fn two(u: VertexId, v: VertexId) -> Numbers
     ensures { result ≡ two_of u.0 v.0 }
 {
     four(u32::from(u.0), u32::from(v.0), 0, 0)
 }
 
-// Returns the numbers of three vertices as the numbers beside a status.
+// Returns the numbers of the vertices `a`, `b` and `c` as the numbers beside a status, of which the fourth is 0.
 fn three(a: VertexId, b: VertexId, c: VertexId) -> Numbers
     ensures { result ≡ three_of a.0 b.0 c.0 }
 {
     four(u32::from(a.0), u32::from(b.0), u32::from(c.0), 0)
 }
 
-// Returns the numbers of the ends of two edges as the numbers beside a status.
+// Returns the numbers of the ends of the edges `e` and then `f` as the numbers beside a status.
 fn ends(e: Ends, f: Ends) -> Numbers
     ensures { result ≡ four_of e.a.0 e.b.0 f.a.0 f.b.0 }
 {
@@ -244,7 +244,7 @@ fn outcome_answer(outcome: Outcome) -> Answer
     }
 }
 
-// Returns the outcome of `call`, which is `Failed` where the call failed.
+// Returns the outcome of `call`, or `Failed` with the reason if the call failed.
 fn ended(call: Result<Outcome, Failure>) -> Outcome
     ensures { result ≡ outcome_of call }
 {

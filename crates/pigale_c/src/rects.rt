@@ -37,7 +37,7 @@ impl RectArrays<'_> {
         Ok(RectFigure { x1, x2, y1, y2 })
     }
 
-    // Says whether there is a rectangle for each of `n` vertices.
+    // Says whether there is a rectangle for each of `n` vertices: all four arrays have `n` entries.
     fn are_for(&self, n: usize) -> bool
         ensures { IsTrue result ↔ AreRectsFor n (rects_in self.now.x1.now self.now.x2.now self.now.y1.now self.now.y2.now) }
     {
@@ -45,7 +45,8 @@ impl RectArrays<'_> {
     }
 }
 
-// Returns the verdict on `rects` as a rectangular dual of the map `given`, or why there is none.
+// Returns the verdict on `rects` as a rectangular dual of the map `given`. `Err` says why there is none: arrays of a
+// wrong length, no simple map, or no memory.
 fn judged(given: &MapArrays<'_>, rects: &RectArrays<'_>) -> Result<Outcome, Failure>
     ensures { AreJudgedRects given.now.ends.now given.now.neighbours.now (rects_in rects.now.x1.now rects.now.x2.now rects.now.y1.now rects.now.y2.now) (outcome_of result) }
 {
@@ -59,8 +60,8 @@ fn judged(given: &MapArrays<'_>, rects: &RectArrays<'_>) -> Result<Outcome, Fail
     Ok(Outcome::Rects(verdict))
 }
 
-/// Judges a rectangular dual of a map, with a rectangle from `x1` to `x2` and `y1` to `y2` for each vertex. Returns the
-/// verdict's status, and writes the vertices that it names to `found`.
+/// Judges a rectangular dual of a map (`neighbours` cut into lists at `ends`), with a rectangle `x1` to `x2`, `y1` to
+/// `y2` for each vertex. Returns the verdict's status, and writes the vertices that it names to `found`.
 #[unsafe(no_mangle)]
 pub extern "C" fn pigale_check_rects(
     alloc: Global,
@@ -83,8 +84,8 @@ pub extern "C" fn pigale_check_rects(
     report(judged(&given, &rects), found)
 }
 
-// Draws the map `given` as a rectangular dual, if the arrays `rects` have one entry for each vertex. Otherwise it
-// returns why it did not. The arrays are only measured.
+// Draws the map `given` as a rectangular dual, if the arrays `rects` have one entry for each vertex; no entry is read.
+// `Err` is `BadArgument`, the first condition of the job `rect` that the map breaks, or `NoMemory`.
 fn drawn(given: &MapArrays<'_>, rects: &RectArrays<'_>) -> Result<RectFigure, Failure>
     ensures shape { IfOk result (AreRectsFor (length given.now.ends.now)) }
     ensures given { IfOk result (λ fig. IsGivenRects given.now.ends.now given.now.neighbours.now (rects_in rects.now.x1.now rects.now.x2.now rects.now.y1.now rects.now.y2.now)) }
@@ -103,8 +104,8 @@ fn drawn(given: &MapArrays<'_>, rects: &RectArrays<'_>) -> Result<RectFigure, Fa
     }
 }
 
-/// Draws a map of triangles within a quadrangle as a rectangular dual, within n - 2 by n - 2, into `x1`, `x2`, `y1` and
-/// `y2`. Returns a status, and writes the numbers beside it to `found`.
+/// Draws a map (`neighbours` cut into lists at `ends`) of triangles in a quadrangle as a rectangular dual within n - 2
+/// by n - 2. Each of `x1` to `y2` gets an entry for each vertex. Returns a status, and writes what it names to `found`.
 #[unsafe(no_mangle)]
 pub extern "C" fn pigale_rect(
     alloc: Global,

@@ -14,7 +14,7 @@ struct Run {
     text: Vec<u8>,
 }
 
-// Runs the job that `words` name, with spaces between them, over `input`.
+// Runs the job that `words` name, with single spaces between them, over `input`. Returns its status and its text.
 fn run_of_text(alloc: Global, words: &[u8], input: &[u8]) -> Run
     ensures { RunsText words.now input.now result.status result.text.items }
 {

@@ -5,8 +5,8 @@ ghost use Rattle.pigale_c.specs.Words.{GivesWords};
 
 use std::alloc::{AllocError, Global};
 
-// Moves the bytes of `word` to `words` as a string, and empties `word`. Returns false where they are not UTF-8. It
-// fails only when out of memory.
+// Moves the bytes of `word` to the end of `words` as a string, and empties `word`. Returns false if the bytes are not
+// UTF-8. It fails only when out of memory.
 fn close_word(
     alloc: Global,
     word: &mut Vec<u8>,
@@ -26,7 +26,7 @@ fn close_word(
     }
 }
 
-/// Returns the words of a text that spaces separate, or no words where one is not UTF-8. Fails only when out of memory.
+/// Splits `text` at its spaces into words, or returns no words if one is not UTF-8. It fails only when out of memory.
 pub(crate) fn words_of(alloc: Global, text: &[u8]) -> Result<Vec<String>, AllocError>
     ensures { IfOk result (λ words. GivesWords text.now (map string_bytes words.items)) }
 {

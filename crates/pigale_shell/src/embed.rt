@@ -66,8 +66,8 @@ impl RecordJob<GraphReader> for EmbedJob {
 
     ghost answers = { embed_answers };
 
-    // Appends to `out` the block of `given`, graph `number`: map and drawing, a witness, or the line that refuses it.
-    // Returns whether it was served. It fails only when out of memory.
+    // Appends to `out` the block of `given`, graph `number`: map and drawing, a Kuratowski witness, or the line that
+    // refuses fewer than 3 vertices. Returns whether it was served. It fails only when out of memory.
     fn answer(
         &mut self,
         number: u32,
@@ -91,7 +91,7 @@ impl RecordJob<GraphReader> for EmbedJob {
         Ok(true)
     }
 
-    // Returns the last line of the run, as text or as an SVG comment.
+    // Returns the last line: the counts `records` and `refused`, or the bad ending `end`, as text or SVG comment.
     fn last_line(
         &self,
         alloc: Global,
@@ -104,8 +104,8 @@ impl RecordJob<GraphReader> for EmbedJob {
     }
 }
 
-/// Runs the job `embed` over the graph6 lines of `src`, and writes to `out`. The tables for small graphs stand on its
-/// stack: inlined where jobs are told apart they would be cleared for each job.
+/// Runs the job `embed` over the graph6 lines of `src`, and writes to `out` in `form`. Returns how the run ended. Its
+/// tables for small graphs are on the stack: if it were inlined, they would be cleared for each job.
 #[inline(never)]
 pub(crate) fn run_graphs<S: Source, K: Sink>(
     alloc: Global,

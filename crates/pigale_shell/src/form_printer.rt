@@ -18,7 +18,7 @@ use pigale_words::Form;
 use std::alloc::{AllocError, Global};
 use svg_out::{svg_bars, svg_grid, svg_rects, svg_witness};
 
-// Returns `line` as an SVG comment. It fails only when out of memory.
+// Returns `line`, without its last byte (the newline), as an SVG comment line. It fails only when out of memory.
 fn commented(alloc: Global, line: &[u8]) -> Result<Vec<u8>, AllocError>
     ensures { IfOk result (λ text. text.items ≡ comment_of line.now) }
 {
@@ -28,7 +28,7 @@ fn commented(alloc: Global, line: &[u8]) -> Result<Vec<u8>, AllocError>
     Ok(text)
 }
 
-/// Returns a line that belongs to no figure, unchanged in text and as a comment in SVG.
+/// Returns `line`, which belongs to no figure: unchanged where `form` is text, and as a comment where it is SVG.
 pub(crate) fn line_in(alloc: Global, form: Form, line: Vec<u8>) -> Result<Vec<u8>, AllocError>
     ensures { IfOk result (λ text. text.items ≡ line_by form line.items) }
 {
@@ -54,8 +54,8 @@ impl FormPrinter {
         }
     }
 
-    /// Appends a straight-line drawing of a simple map in the form of its record. When memory runs out `out` is
-    /// unchanged.
+    /// Appends to `out` the drawing of `given`, a simple map, at `points`, one for each vertex, in the form of `given`.
+    /// When memory runs out `out` is unchanged.
     pub(crate) fn print_grid(
         &mut self,
         given: &MapRecord<'_>,
@@ -76,8 +76,8 @@ impl FormPrinter {
         }
     }
 
-    /// Appends a visibility drawing of a simple map in the form of its record. When memory runs out `out` is
-    /// unchanged.
+    /// Appends to `out` the visibility drawing of `given`, a simple map, in the form of `given`. `bars` has a bar for
+    /// each vertex and a column for each edge. When memory runs out `out` is unchanged.
     pub(crate) fn print_bars(
         &mut self,
         given: &MapRecord<'_>,
@@ -97,7 +97,7 @@ impl FormPrinter {
         }
     }
 
-    /// Appends a rectangular dual in the form of its record. When memory runs out `out` is unchanged.
+    /// Appends `rects`, one for each list of `given`, to `out` in `given`'s form. Out of memory leaves `out` unchanged.
     pub(crate) fn print_rects(
         &mut self,
         given: &MapRecord<'_>,
@@ -116,8 +116,8 @@ impl FormPrinter {
         }
     }
 
-    /// Appends what was found of a graph in the form of its record: a map of it, as it is drawn, or a witness that it
-    /// has none in the plane. When memory runs out `out` is unchanged.
+    /// Appends `figure`, which was found of the graph `given`, to `out` in the form of `given`: a drawn map of it, or a
+    /// witness that it is not planar. When memory runs out `out` is unchanged.
     pub(crate) fn print_embedded(
         &mut self,
         given: &GraphRecord<'_>,
@@ -141,7 +141,7 @@ impl FormPrinter {
         }
     }
 
-    // Appends a witness of a graph in the form of its record. When memory runs out `out` is unchanged.
+    // Appends `witness`, of the graph `given`, to `out` in the form of `given`. Out of memory leaves `out` unchanged.
     fn print_witness(
         &mut self,
         given: &GraphRecord<'_>,

@@ -23,7 +23,7 @@ use record_runs::RunEnd;
 use refusals::Unserved;
 use std::alloc::{AllocError, Global};
 
-// Returns the sum with `number` added.
+// Returns `sum`, from -2^44 to 2^44, with `number` added.
 fn added(sum: i64, number: i32) -> i64
     requires least { neg_ℤ (pos 17592186044416) ≤ℤ sum }
     requires most { sum ≤ℤ pos 17592186044416 }
@@ -32,7 +32,7 @@ fn added(sum: i64, number: i32) -> i64
     sum + i64::from(number)
 }
 
-// Returns the sums of x and of y over `points`.
+// Returns the sums of x and of y over `points`, fewer than 4096 of them.
 fn sums(points: &Points) -> (i64, i64)
     requires { length points.now < 4096 }
     ensures x { result.0 ≡ total_x points.now }
@@ -70,7 +70,7 @@ fn sums_line(alloc: Global, number: u32, x: i64, y: i64) -> Result<Vec<u8>, Allo
     Ok(line)
 }
 
-// Returns the counts of lists that are a simple map. It fails only when out of memory.
+// Returns the counts of `lists`, a simple map with at least one vertex. It fails only when out of memory.
 fn count(alloc: Global, lists: &Rotations) -> Result<EulerCount, AllocError>
     requires some_list { 0 < length lists.now }
     requires simple { first_fault lists.now ≡ None }
@@ -86,7 +86,7 @@ fn count(alloc: Global, lists: &Rotations) -> Result<EulerCount, AllocError>
     }
 }
 
-// Returns the drawing of a plane map by the shift method. It fails only when out of memory.
+// Draws `lists`, a simple map of genus zero with n >= 3, by the shift method. It fails only when out of memory.
 fn figure(alloc: Global, lists: &Rotations) -> Result<GridFigure, AllocError>
     requires some_list { 0 < length lists.now }
     requires served { first_refusal 3 lists.now ≡ None }
@@ -99,7 +99,8 @@ fn figure(alloc: Global, lists: &Rotations) -> Result<GridFigure, AllocError>
     }
 }
 
-// Returns the block of a plane map: its count line, and the sums over its drawing. It fails only when out of memory.
+// Returns the block of record `number`, with `lists` a simple map of genus zero with n >= 3: its count line, and the
+// line of the sums over its drawing. It fails only when out of memory.
 fn block(alloc: Global, number: u32, lists: &Rotations) -> Result<Vec<u8>, AllocError>
     requires some_list { 0 < length lists.now }
     requires served { first_refusal 3 lists.now ≡ None }
@@ -113,8 +114,8 @@ fn block(alloc: Global, number: u32, lists: &Rotations) -> Result<Vec<u8>, Alloc
     Ok(block)
 }
 
-// Returns the whole output of `gen`: the block of the map of `size` vertices made from `number`, and the last line.
-// It fails only when out of memory.
+// Returns the whole output of `gen`: the block (answer) of the map of `size` vertices, 3 to 4095, made from the seed
+// `number`, and the last line. It fails only when out of memory.
 fn text(alloc: Global, size: u16, number: u32) -> Result<Vec<u8>, AllocError>
     requires some { 3 ≤ size }
     requires few { size < 4096 }
@@ -128,8 +129,8 @@ fn text(alloc: Global, size: u16, number: u32) -> Result<Vec<u8>, AllocError>
     Ok(text)
 }
 
-/// Writes the answer of the job `gen` to `out`: the block of the map that is made of `size` vertices from `number`, and
-/// the last line. It reads nothing. Returns `Done`, `WriteFault` or `NoMemory`.
+/// Writes the answer of the job `gen` to `out`: the block of the map that is made of `size` vertices, 3 to 4095, from
+/// the seed `number`, and the last line. It reads nothing. Returns `Done`, `WriteFault` or `NoMemory`.
 pub fn run_made<K: Sink>(alloc: Global, size: u16, number: u32, out: &mut K) -> RunEnd
     requires some { 3 ≤ size }
     requires few { size < 4096 }

@@ -34,7 +34,7 @@ fn status(end: RunEnd) -> Status
 }
 
 /// Runs `job` over the records of `src`, to the end of its input or to what stops it. Writes to `out` a block for each
-/// record, and the last line. A job that reads no input does not touch `src`. Returns the status of the run.
+/// record, and the last line. `gen` does not touch `src`; its size is 3 to 4095. Returns the status of the run.
 pub fn run_job<S: Source, K: Sink>(alloc: Global, job: JobKind, src: &mut S, out: &mut K) -> Status
     requires sized { IsSized job }
     ensures outcome { Outcome job

@@ -61,7 +61,7 @@ impl JobKind {
     }
 }
 
-// Appends to `out` the block of the job `M` for one map, in new memory. Returns whether the map was served.
+// Appends the block (answer or refusal) of the job `M` for `given` to `out`. Returns whether it was served.
 fn answer_by<M: Method>(
     alloc: Global,
     given: &MapRecord<'_>,
@@ -75,7 +75,7 @@ fn answer_by<M: Method>(
     answer_with(alloc, &mut method, given, out)
 }
 
-/// Appends to `out` the block of `job` for one map. Returns whether it was served. Fails only when out of memory.
+/// Appends the block (answer or refusal) of `job` for `given` to `out`. Returns whether it was served, if memory lasts.
 pub(crate) fn answer_map(
     alloc: Global,
     job: MapJob,

@@ -55,7 +55,7 @@ pub trait Method: Drop {
         ensures served { OnOk result (says.Serves lists.now) }
         ensures refused { IfErr result (IfRefused (says.Breaks lists.now)) };
 
-    /// Appends what was found of a record that it serves. When memory runs out `out` is unchanged.
+    /// Appends to `out` the `figure` that was found of `given`, which it serves. Out of memory leaves `out` unchanged.
     fn print(
         &mut self,
         given: &MapRecord<'_>,

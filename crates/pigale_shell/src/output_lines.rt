@@ -71,7 +71,7 @@ fn push_vertex(out: &mut Vec<u8>, name: &[u8], v: u16) -> Result<(), AllocError>
     push_named(out, name, u64::from(v) + 1)
 }
 
-// Appends `name` and the numbers of two vertices, which are printed from 1, to `out`.
+// Appends `name` and the numbers of the vertices `v` and `u`, which are printed from 1, to `out`.
 fn push_vertices(out: &mut Vec<u8>, name: &[u8], v: u16, u: u16) -> Result<(), AllocError>
     ensures { OnOk result (out.new.items
         ≡ out.old.items ++ ((name.now ++ 32 ∷ decimal (v + 1)) ++ 32 ∷ decimal (u + 1))) }
@@ -139,7 +139,7 @@ pub(crate) fn end_line(alloc: Global, records: u32, refused: u32) -> Result<Vec<
     Ok(line)
 }
 
-/// Returns the last line of a run over `records` records, of which `refused` were refused.
+/// Returns the last line of a run: `end` with the numbers `records` and `refused`, or `stop` with the bad `ending`.
 pub fn last_line(
     alloc: Global,
     records: u32,

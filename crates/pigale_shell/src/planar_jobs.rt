@@ -57,7 +57,8 @@ impl Format for PlanarReader {
 
     ghost IsGiven = { IsGiven };
 
-    // Passes `piece` to the planar_code reader. A bad count becomes the ending `BadCount` with its record's offset.
+    // Passes `piece` to the planar_code reader. Returns `Goes` with its length if no record ended. `Ended` has the
+    // bytes to the end of a record, which `record` then lends. `Bad` has the ending `BadCount` at the record's offset.
     fn take(&mut self, piece: &[u8]) -> Result<Taken<Ending>, AllocError> {
         match self.reader.take(piece)? {
             Found::More => Ok(Taken::Goes(piece.len())),
@@ -71,7 +72,7 @@ impl Format for PlanarReader {
         self.reader.lists()
     }
 
-    // Returns how the input ends if it ends here.
+    // Returns how the input ends if it ends here: `Well` between records, else `EndInRecord` with the record's offset.
     fn end(&self) -> Ending {
         if self.reader.is_between() {
             Ending::Well
@@ -80,17 +81,17 @@ impl Format for PlanarReader {
         }
     }
 
-    // Returns the ending of an input that is longer than the limit.
+    // Returns `TooLong`, the ending of an input of more than 16777216 bytes.
     fn too_long(&self) -> Ending {
         Ending::TooLong
     }
 
-    // Says whether `end` is the good ending.
+    // Says whether `end` is the good ending, `Well`. Any other is a bad one.
     fn is_well(end: &Ending) -> bool {
         matches!(end, Ending::Well)
     }
 
-    // Does nothing. Its contract is the laws of the format.
+    // Does nothing. Its contract is the four laws that `Format::lawful` states, for this reader.
     fn lawful() {}
 }
 
@@ -124,8 +125,8 @@ impl<M: Method> RecordJob<PlanarReader> for PlanarJob<M> {
 
     ghost answers = { λ form. planar_answers M.says form };
 
-    // Appends to `out` the block of `given`, record `number`, by the method of the job. Returns whether it was served.
-    // It fails only when out of memory.
+    // Appends to `out` the block (answer or refusal) of `given`, record `number`, by the method of the job. Returns
+    // whether it was served. When memory runs out `out` is unchanged.
     fn answer(
         &mut self,
         number: u32,
@@ -140,7 +141,7 @@ impl<M: Method> RecordJob<PlanarReader> for PlanarJob<M> {
         answer_with(self.alloc, &mut self.method, &record, out)
     }
 
-    // Returns the last line of the run, as text or as an SVG comment.
+    // Returns the last line: the counts `records` and `refused`, or the bad ending `end`, as text or SVG comment.
     fn last_line(
         &self,
         alloc: Global,
@@ -153,7 +154,7 @@ impl<M: Method> RecordJob<PlanarReader> for PlanarJob<M> {
     }
 }
 
-/// Runs the job `M` over the planar_code of `src`, and writes to `out`.
+/// Runs the job `M` over the planar_code of `src`, and writes to `out` in `form`. Returns how the run ended.
 pub(crate) fn run_planar<M: Method, S: Source, K: Sink>(
     alloc: Global,
     form: Form,

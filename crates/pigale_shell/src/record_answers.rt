@@ -47,8 +47,8 @@ pub fn answer_record(
     }
 }
 
-/// Appends to `out` the block of a job for one map, by `method`, which may have answered others before. Returns
-/// whether the map was served. It fails only when out of memory.
+/// Appends to `out` the block of the map `given` by `method`, which may have answered others before: its answer, or the
+/// line that refuses it. Returns whether the map was served. When memory runs out `out` is unchanged.
 pub(crate) fn answer_with<M: Method>(
     alloc: Global,
     method: &mut M,

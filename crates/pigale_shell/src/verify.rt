@@ -35,7 +35,7 @@ fn push_places(out: &mut Vec<u8>, found: &[usize]) -> Result<(), AllocError>
     Ok(())
 }
 
-// Returns the line of a verdict on figure `number`: its name, and the vertices that it names, printed from 1.
+// Returns the line of a verdict on figure `number`: its `name`, and the `vertices` that it names, printed from 1.
 fn verdict_line(
     alloc: Global,
     number: u32,
@@ -194,9 +194,8 @@ impl RecordJob<FigureReader> for VerifyJob {
 
     ghost answers = { λ kind. verify_answers };
 
-    // Appends the line of the verdict on the figure `given`, which is the figure `number`, to `out`. Returns whether it
-    // is valid. The checks of bars and rectangles keep large arrays on the stack. Inlined into the step that takes a
-    // line, they would make each line touch it.
+    // Appends the line of the verdict on `given`, which is figure `number`, to `out`. Returns whether it is valid. This
+    // is not inlined, as its checks keep large arrays on the stack.
     #[inline(never)]
     fn answer(
         &mut self,
@@ -215,9 +214,8 @@ impl RecordJob<FigureReader> for VerifyJob {
         }
     }
 
-    // Returns the last line of a run of `verify`. It is `end` with the counts of `records` and `refused` where the
-    // input ended well. Otherwise it is `stop` with the reason, and with the line at which the input ended, if one is
-    // at fault.
+    // Returns the last line of a run of `verify`: `end` with the counts `records` and `refused` after a good ending.
+    // Otherwise it is `stop` with the bad ending `end`, and with the number of the line at fault, if there is one.
     fn last_line(
         &self,
         alloc: Global,

@@ -34,7 +34,7 @@ fn command<'a>(alloc: Global) -> Result<Command<'a>, AllocError>
         .arg(number)
 }
 
-// Converts an error of clap into the fault of the words.
+// Converts an `error` of clap: out of memory to `NoMemory`, any other to `BadWords`.
 fn fault_of(error: &Error) -> WordFault
     ensures { result ≡ WordFault.BadWords → kind_of error.now ≢ ErrorKind.OutOfMemory }
 {
@@ -60,7 +60,7 @@ fn matches_of<'a>(alloc: Global, words: &'a [String]) -> Result<ArgMatches<'a>, 
     }
 }
 
-// Returns the text that the words give for the argument `id`, if they do.
+// Returns the text that the words give for the argument `id`, or None if they give none.
 fn text_of<'a>(matches: &ArgMatches<'a>, id: &str) -> Option<&'a str>
     ensures { option_map (λ text. text.now) result ≡ first_of id.now (rows_of (found_of matches.now)) }
 {
@@ -91,7 +91,7 @@ fn has_number(matches: &ArgMatches) -> bool
     is_given(matches, "size") || is_given(matches, "number")
 }
 
-// Returns the form with this name, if there is one.
+// Returns the form with this `name`, `text` or `svg`, or None for another name.
 fn form_named(name: &str) -> Option<Form>
     ensures { result ≡ form_by (Some name.now) }
 {
@@ -135,7 +135,7 @@ fn number_given(matches: &ArgMatches, id: &str, least: u32, most: u32) -> Option
     }
 }
 
-// Returns the job `gen` with this size and number, if both are there.
+// Returns the job `gen` with this `size`, below 4096, and `number`, or None if one of them is None.
 fn gen_job(size: Option<u32>, number: Option<u32>) -> Option<Job>
     requires { IfSome size (λ size. size < 4096) }
     ensures { result ≡ gen_of size number }

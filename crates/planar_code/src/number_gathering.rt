@@ -16,10 +16,8 @@ pub fn number_of(high: u8, low: u8) -> u16
     u16::from(high) * 256 + u16::from(low)
 }
 
-/// Appends numbers of one byte each to `gathered`, up to the one that closes list number `count`. Returns how many
-/// bytes of `piece` they were.
-///
-/// The loop has the lists as a value of its own, so that their ends stay in registers.
+/// Appends numbers of one byte each from `piece`, which is not empty, to `gathered`, until `count` lists are closed or
+/// `piece` ends. Returns how many bytes were read. `gathered` has room for them, and fewer than `count` closed lists.
 pub fn gather_narrow(gathered: &mut OpenLists, count: usize, piece: &[u8]) -> usize
     requires { CanGather 0 (Narrow count) count gathered.old piece.now }
     ensures some { 0 < result }
@@ -48,8 +46,8 @@ fn behind_last_zero(piece: &[u8]) -> usize
     0
 }
 
-// Does the loops of `gather_narrow`, which append to `gathered`. Before the last 0 of `piece` its end is not tested,
-// and after it no list is closed.
+// Does the work of `gather_narrow` in two loops, and returns the bytes read. Before the last 0 of `piece` its end is
+// not tested, and after it no list is closed.
 #[inline(always)]
 fn narrow_numbers(gathered: &mut OpenLists, count: usize, piece: &[u8]) -> usize
     requires { CanGather 0 (Narrow count) count gathered.old piece.now }
@@ -76,8 +74,8 @@ fn narrow_numbers(gathered: &mut OpenLists, count: usize, piece: &[u8]) -> usize
     piece.len()
 }
 
-/// Appends numbers of two bytes each to `gathered`, up to the one that closes list number `count`. Returns how many
-/// bytes of `piece` they were. A last byte alone is not among them.
+/// Appends numbers of two bytes each from `piece`, at least two bytes, to `gathered`, until `count` lists are closed or
+/// no two bytes are left. Returns how many bytes were read. `gathered` has room, and fewer than `count` closed lists.
 pub fn gather_wide(gathered: &mut OpenLists, count: usize, piece: &[u8]) -> usize
     requires { CanGather 1 (Wide count) count gathered.old piece.now }
     ensures some { 0 < result }
@@ -91,7 +89,7 @@ pub fn gather_wide(gathered: &mut OpenLists, count: usize, piece: &[u8]) -> usiz
     taken
 }
 
-// Returns the number whose two bytes are pair number `pair` of `piece`.
+// Returns the number of the two bytes at index 2 `pair` of `piece`, the greater first.
 fn pair_at(piece: &[u8], pair: usize) -> u16
     requires { 2 * pair + 1 < length piece.now }
     ensures { result ≡ 256 * slice_index piece.now (2 * pair) + slice_index piece.now (2 * pair + 1) }
@@ -99,7 +97,7 @@ fn pair_at(piece: &[u8], pair: usize) -> u16
     number_of(piece[2 * pair], piece[2 * pair + 1])
 }
 
-// Returns the number of pairs of bytes up to the last number 0, or 0 where there is none.
+// Returns how many pairs of bytes `piece` has up to its last pair of zeros, with that one; or 0 where there is none.
 fn pairs_to_last_zero(piece: &[u8]) -> usize
     ensures within { 2 * result ≤ length piece.now }
     ensures zero { 0 < result → 256 * slice_index piece.now (2 * (result - 1)) + slice_index piece.now (2 * (result - 1) + 1) ≡ 0 }
@@ -115,7 +113,7 @@ fn pairs_to_last_zero(piece: &[u8]) -> usize
     0
 }
 
-// Does the loops of `gather_wide`, which append to `gathered`, like those of `narrow_numbers`.
+// Does the work of `gather_wide` in two loops, like `narrow_numbers`, and returns the bytes read.
 #[inline(always)]
 fn wide_numbers(gathered: &mut OpenLists, count: usize, piece: &[u8]) -> usize
     requires { CanGather 1 (Wide count) count gathered.old piece.now }
@@ -146,7 +144,7 @@ fn wide_numbers(gathered: &mut OpenLists, count: usize, piece: &[u8]) -> usize
     2 * pairs
 }
 
-/// Exchanges the lists `gathered` with `lent` if `count` of them are closed, and says whether they are.
+/// Moves the lists of `gathered` to `lent` if exactly `count` are closed, and says so. `gathered` is then empty.
 pub fn lend_whole(gathered: &mut OpenLists, lent: &mut Rotations, count: usize) -> bool
     requires whole { length gathered.old.lists ≡ count → gathered.old.last ≡ [] }
     requires few { count < 4096 }

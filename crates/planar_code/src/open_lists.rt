@@ -68,7 +68,7 @@ impl OpenLists {
         Ok(())
     }
 
-    /// Appends the vertex `number`, from 1 on, to the open list. 0 closes that list.
+    /// Appends the vertex `number`, counted from 1, to the open list; 0 closes that list. Room must have been reserved.
     pub fn collect(&mut self, number: u16)
         requires room { 0 < self.old.room }
         requires most { length self.old.lists < self.old.most }
@@ -90,7 +90,7 @@ impl OpenLists {
         self.ends.len()
     }
 
-    /// Moves the lists to `lent`, in place of those lent before, whose memory is kept.
+    /// Moves the closed lists, fewer than 4096, to `lent`, and takes over its old memory. The open list must be empty.
     pub fn exchange(&mut self, lent: &mut Rotations)
         requires whole { self.old.last ≡ [] }
         requires few { length self.old.lists < 4096 }

@@ -38,7 +38,7 @@ pub enum Taken {
     Bad(usize, usize),
 }
 
-/// Returns the outcome of a piece with its offsets raised by `passed`, the number of bytes before it.
+/// Returns the outcome `taken` of a piece with its number of bytes raised by `passed`, the number of bytes before it.
 fn shift(passed: usize, taken: Taken) -> Taken
     requires { passed + looked_at taken ≤ usize.MAX }
     ensures { result ≡ shifted passed taken }
@@ -85,7 +85,7 @@ fn ends_header(in_header: bool, length: usize) -> bool
     in_header && length == HEADER.len()
 }
 
-/// Converts the scanner's outcome for a piece into the reader's, and moves `place` past the piece.
+/// Converts the scanner's outcome `scanned` of a piece into the reader's, and moves `place` past the bytes taken.
 fn answer(place: &mut Place, scanned: Scanned) -> Taken
     requires some { HasByte scanned }
     requires fits { place.old.start + place.old.pending_len + seen_of scanned ≤ usize.MAX }
@@ -113,7 +113,8 @@ fn answer(place: &mut Place, scanned: Scanned) -> Taken
     }
 }
 
-/// Reads `byte` with `scanner`, and moves `place`. If it ends the header, `scanner` is cleared.
+/// Reads `byte` with `scanner`, which has room for it, moves `place`, and returns the outcome. After the last byte of
+/// the file's header `scanner` is cleared.
 fn take_byte(scanner: &mut Scanner, place: &mut Place, byte: u8) -> Taken
     requires { CanRead scanner.old place.old (byte ∷ []) }
     ensures takes { Takes (state_of scanner.old place.old) (byte ∷ []) result (state_of scanner.new place.new) }
@@ -137,7 +138,7 @@ fn take_byte(scanner: &mut Scanner, place: &mut Place, byte: u8) -> Taken
     }
 }
 
-/// Reads `piece` with `scanner`, which must have room for it, up to the end of a record or a bad count. Moves `place`.
+/// Reads `piece` with `scanner`, which has room, to a record's end or a bad count. Moves `place`, returns the outcome.
 fn take_piece(scanner: &mut Scanner, place: &mut Place, piece: &[u8]) -> Taken
     requires { CanRead scanner.old place.old piece.now }
     ensures takes { Takes (state_of scanner.old place.old) piece.now result (state_of scanner.new place.new) }
@@ -216,8 +217,8 @@ impl RecordReader {
         self.scanner.lists()
     }
 
-    /// Takes bytes of `piece` up to the end of a record, to a bad count, or to its own end, whichever is first. Where
-    /// a record ended, `lists` lends its lists. When memory runs out nothing has changed.
+    /// Takes bytes of `piece` up to the end of a record (`Ended`), to a bad count (`Bad`), or to its own end (`More`).
+    /// After `Ended` the method `lists` lends the record's lists. When memory runs out nothing has changed.
     pub fn take(&mut self, piece: &[u8]) -> Result<Taken, AllocError>
         requires { self.old.start + length self.old.pending + length piece.now ≤ input_limit }
         ensures taken { IfOk result (λ taken. Takes self.old piece.now taken self.new) }
@@ -227,7 +228,8 @@ impl RecordReader {
         Ok(take_piece(&mut self.scanner, &mut self.place, piece))
     }
 
-    /// Takes the next byte. After a bad count, and when memory runs out, nothing has changed.
+    /// Takes the next byte. Returns the lists of the record that it ends, `Bad` at a bad count, or `More`. After a bad
+    /// count, and when memory runs out, nothing has changed.
     pub fn feed(&mut self, byte: u8) -> Result<Fed, AllocError>
         requires { self.old.start + length self.old.pending < input_limit }
         ensures fed { IfOk result (λ fed. Feeds self.old byte fed self.new) }

@@ -82,8 +82,8 @@ fn take_wide(
     }
 }
 
-/// Scans as many bytes of `piece` as `phase` takes, and appends their numbers to `gathered`. If the record ends, its
-/// lists are moved to `lent`. Returns the next phase and the outcome.
+/// Scans as many bytes of `piece`, not empty, as `phase` takes. Appends their numbers to `gathered`, which has room for
+/// them. If the record ends, its lists are moved to `lent`. Returns the next phase and the outcome.
 fn advance(
     phase: Phase,
     gathered: &mut OpenLists,
@@ -180,7 +180,7 @@ impl Scanner {
         mem::replace(&mut self.lent, Rotations::new(self.alloc))
     }
 
-    /// Forgets the record that has begun.
+    /// Forgets the record that has begun. The lists of the one that ended last stay, and so does the room.
     pub fn clear(&mut self)
         ensures bytes { self.new.bytes ≡ [] }
         ensures lists { self.new.lists ≡ self.old.lists }
@@ -190,7 +190,7 @@ impl Scanner {
         self.gathered.clear();
     }
 
-    /// Scans as many bytes of `piece` as one phase takes, and moves to the next phase.
+    /// Scans as many bytes of `piece`, not empty, as one phase takes, and moves to the next phase. There must be room.
     fn advance(&mut self, piece: &[u8]) -> Scanned
         requires some { 0 < length piece.now }
         requires room { length piece.now ≤ self.old.room }
@@ -202,8 +202,8 @@ impl Scanner {
         scanned
     }
 
-    /// Scans `piece`, for which there must be room, up to the end of a record within it or to its own end. With a bad
-    /// count the last byte looked at changes nothing.
+    /// Scans `piece`, for which there must be room, up to the end of a record (`Ended`), a bad count (`Bad`), or its
+    /// own end (`More`). At a bad count the last byte looked at changes nothing.
     pub fn take(&mut self, piece: &[u8]) -> Scanned
         requires room { length piece.now ≤ self.old.room }
         ensures scans { Scans self.old piece.now result self.new }

@@ -31,7 +31,8 @@ pub enum CodeFault {
 /// The number of bytes for which memory is reserved at once.
 const AT_ONCE: usize = 4096;
 
-/// Reads the record at the offset `at` of `bytes`, which is at most their length.
+/// Returns the lists of the record at offset `at` of `bytes` and the offset after it, or `End` at the end of `bytes`.
+/// `Err` says why no record is there. `at` is at most the length.
 pub fn next_record(alloc: Global, bytes: &[u8], at: usize) -> Result<Step, CodeFault>
     requires { at ≤ length bytes.now }
     ensures { MatchResult result (StandsAt bytes.now at) (FailsAt bytes.now at) }

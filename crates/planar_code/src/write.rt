@@ -58,9 +58,8 @@ fn write_whole(lists: &Rotations, out: &mut Vec<u8>) -> Result<(), AllocError>
     Ok(())
 }
 
-/// Appends the record of some lists, from 1 to 4095: in the narrow form for at most 255 lists, and in
-/// the wide form for more. Entries are below 255 in the narrow form and below 65535 in the wide one.
-/// When memory runs out `out` is unchanged.
+/// Appends the record of `lists`, 1 to 4095 of them, to `out`: narrow for at most 255 lists, else wide. Entries are
+/// below 255 in the narrow form and below 65535 in the wide one. When memory runs out `out` is unchanged.
 pub fn write_record(lists: &Rotations, out: &mut Vec<u8>) -> Result<(), AllocError>
     requires some { 0 < length lists.now }
     requires few { length lists.now ≤ most_lists }

@@ -44,7 +44,8 @@ pub trait Format: Drop {
     /// A fact that holds of each record that is read.
     ghost IsGiven: { Self.Record → Type 0 };
 
-    /// Consumes some of the piece, which is not empty and within the limit: to the end of a record at most.
+    /// Consumes some of `piece`, which is not empty and within the limit of the input: to the end of a record at most.
+    /// Returns `Goes` or `Ended` with the bytes consumed, or `Bad` with the ending. After `Ended`, `record` lends it.
     fn take(&mut self, piece: &[u8]) -> Result<Taken<Self::End>, AllocError>
         requires some_bytes { 0 < length piece.now }
         requires room { place self.old + length piece.now ≤ input_limit }
@@ -60,14 +61,14 @@ pub trait Format: Drop {
     fn end(&self) -> Self::End
         ensures { result ≡ ending self.now };
 
-    /// Returns how the input ends if more bytes come, where those consumed are as many as the limit.
+    /// Returns the bad ending of an input with more bytes, where those consumed are as many as the limit.
     fn too_long(&self) -> Self::End
         ensures bad { reads.IsBad result }
         ensures reading { (consumed : List ℕ) (records : List Self.Record) → At self.now consumed records →
             length consumed ≡ input_limit → (byte : ℕ) (tail : List ℕ) →
             reads.IsReading (consumed ++ byte ∷ tail) records result };
 
-    /// Says whether `end` is the good ending.
+    /// Says whether `end` is the good ending. A no promises that it is a bad one.
     fn is_well(end: &Self::End) -> bool
         ensures well { OnTrue result (end.now ≡ reads.well) }
         ensures bad { OnFalse result (reads.IsBad end.now) };

@@ -15,7 +15,8 @@ pub trait Job<F: Format> {
     /// The texts that a job of this kind writes.
     ghost answers: { Self.Kind → Answers F.Record F.End };
 
-    /// Appends record `number`'s block to `out`, and says whether it was served. If memory runs out `out` is unchanged.
+    /// Appends the block (the answering text) of `given`, record `number` from 1, to `out`. Returns whether the record
+    /// was served, not refused. When memory runs out `out` is unchanged.
     fn answer(
         &mut self,
         number: u32,
@@ -31,7 +32,7 @@ pub trait Job<F: Format> {
         ensures err { OnErr result (out.new.items ≡ out.old.items) }
         ensures same { kind self.new ≡ kind self.old };
 
-    /// Returns the last line of a run over `records` records, of which `refused` were refused.
+    /// Returns the last line of a run over `records` records, `refused` of them refused, with the input's ending `end`.
     fn last_line(
         &self,
         alloc: Global,

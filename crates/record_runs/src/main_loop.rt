@@ -60,7 +60,7 @@ pub enum Failure {
     NoMemory,
 }
 
-// Writes to `out` the last line of `run`, whose input ended by `end`. Fails when a write fails or memory runs out.
+// Writes to `out` the last line of `run` by `job`, with the ending `end`. Fails when a write fails or memory runs out.
 fn write_last<F: Format, J: Job<F>, K: Sink>(
     alloc: Global,
     run: &Run<F>,
@@ -83,7 +83,7 @@ fn write_last<F: Format, J: Job<F>, K: Sink>(
     }
 }
 
-// Returns how a run ends whose last line could not be written.
+// Converts `failure`, by which the last line of a run could not be written, to how the run ends.
 fn failed(failure: Failure) -> RunEnd
     ensures { result ≡ end_of failure }
 {
@@ -95,7 +95,7 @@ fn failed(failure: Failure) -> RunEnd
 
 ghost use Rattle.record_runs.specs.Run.{end_of};
 
-// Writes the last line of `run` to `out`, at the end of the input. Returns how the run ended.
+// Writes the last line of `run` by `job` to `out`, at the end of the input. Returns how the run ended.
 fn finish<F: Format, J: Job<F>, K: Sink>(
     alloc: Global,
     run: &Run<F>,
@@ -124,7 +124,7 @@ fn finish<F: Format, J: Job<F>, K: Sink>(
     }
 }
 
-// Consumes `piece`, the bytes of one read: updates `run`, and writes to `out` the blocks that `job` makes of the
+// Consumes `piece`, the bytes of one read: updates `run`, and writes to `out` the blocks (answers of `job`) of the
 // records that end in it. `text` is scratch space for the blocks. Returns as an error how the run has ended, if it has.
 fn consume<F: Format, J: Job<F>, K: Sink>(
     alloc: Global,
@@ -160,8 +160,8 @@ fn consume<F: Format, J: Job<F>, K: Sink>(
     }
 }
 
-// Reads once from `src` into `buffer`, and passes the bytes to `consume` with `run`, `job`, `text` and `out`. Returns
-// as an error how the run has ended: at the end of the input, which writes the last line, or at a fault.
+// Reads once from `src` into the scratch `buffer`, not empty, and passes the bytes to `consume` with `run`, `job`, the
+// scratch `text` and `out`. If the run has ended, returns how as an error: at the end of the input or at a fault.
 fn read_once<F: Format, J: Job<F>, S: Source, K: Sink>(
     alloc: Global,
     run: &mut Run<F>,

@@ -20,9 +20,9 @@ fn count_record<F: Format>(run: &mut Run<F>, served: bool)
     }
 }
 
-// Consumes some of `piece` with `run.reader`, to the end of a record at most, and updates the counts of `run`. If a
-// record ends, appends the block that `job` makes of it to `text`. Returns the number of bytes consumed, or why the run
-// stops.
+// Consumes some of `piece`, not empty, with `run.reader`, to the end of a record at most, and updates the counts of
+// `run`. If a record ends, appends its block (the answer of `job`) to `text`. Returns the number of bytes consumed, or
+// why the run stops.
 fn take_record<F: Format, J: Job<F>>(
     run: &mut Run<F>,
     job: &mut J,
@@ -60,8 +60,8 @@ fn take_record<F: Format, J: Job<F>>(
     }
 }
 
-// Consumes all of `piece`, which is within the limit, by `take_record`: updates `run`, and appends the blocks that
-// `job` makes to `text`. Returns why the run stops, if it does.
+// Consumes all of `piece`, which is within the limit, by `take_record`: updates `run`, and appends the blocks (answers
+// of `job`) of the records that end in it to `text`. Returns as an error why the run stops, if it does.
 fn take_within<F: Format, J: Job<F>>(
     run: &mut Run<F>,
     job: &mut J,
@@ -89,8 +89,8 @@ fn take_within<F: Format, J: Job<F>>(
     Ok(())
 }
 
-/// Consumes `piece`, as far as the limit on the input allows, and updates `run`. Appends to `text` the blocks that
-/// `job` makes of its records. Returns why the run stops in it, if it does.
+/// Consumes `piece`, as far as the limit on the input allows, and updates `run`. Appends to `text` the blocks (answers
+/// of `job`) of the records that end in it. Returns as an error why the run stops in `piece`, if it does.
 pub fn take_piece<F: Format, J: Job<F>>(
     run: &mut Run<F>,
     job: &mut J,

@@ -67,7 +67,7 @@ fn thick() -> &'static [u8]
     b" stroke-width=\"3\""
 }
 
-// Appends the bars of all vertices to `out`. The drawing is `height` high, and y goes down in its picture.
+// Appends the bars of all vertices of `lists` to `out`. The drawing is `height` high, and y goes down in its picture.
 fn push_bars(
     out: &mut Vec<u8>,
     lists: &Rotations,
@@ -84,7 +84,7 @@ fn push_bars(
     Ok(())
 }
 
-// Appends the columns of all `edges` to `out`. The drawing is `height` high, and y goes down in its picture.
+// Appends the columns of `edges`, pairs of vertices, to `out`: `bars` has one each. The drawing is `height` high.
 fn push_columns(
     out: &mut Vec<u8>,
     edges: &[(usize, usize)],
@@ -105,8 +105,8 @@ fn push_columns(
     Ok(())
 }
 
-/// Appends a visibility drawing of a simple map as SVG, with a bar for each vertex and a column for each edge. When
-/// memory runs out `out` is unchanged.
+/// Appends the visibility drawing `bars` of `lists`, a simple map, to `out` as SVG, with a bar for each vertex and a
+/// column for each edge. When memory runs out `out` is unchanged.
 pub fn svg_bars(
     alloc: Global,
     lists: &Rotations,

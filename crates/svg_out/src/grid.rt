@@ -41,7 +41,7 @@ fn height_of(points: &Points) -> i32
     height
 }
 
-// Returns the position of `point` in the picture of a drawing that is `height` high.
+// Returns the position of `point` in the picture, ten times as large and y down, of a drawing that is `height` high.
 fn spot(height: i32, point: Point) -> Spot
     ensures x { result.x ≡ far_right point.x }
     ensures y { result.y ≡ far_down height point.y }
@@ -52,7 +52,7 @@ fn spot(height: i32, point: Point) -> Spot
     }
 }
 
-// Appends a segment for each of `edges` to `out`. The drawing is `height` high, and y goes down in its picture.
+// Appends a segment for each of `edges`, index pairs in `points`, to `out`. The drawing is `height` high; y goes down.
 fn push_straight_edges(
     out: &mut Vec<u8>,
     edges: &[(usize, usize)],
@@ -81,8 +81,8 @@ fn push_dots(out: &mut Vec<u8>, points: &Points, height: i32) -> Result<(), Allo
     Ok(())
 }
 
-/// Appends a straight-line drawing of a simple map as SVG to `out`, with a point for each vertex. When memory runs out
-/// `out` is unchanged.
+/// Appends a straight-line drawing of `lists`, a simple map, as SVG to `out`, with a point for each vertex. When memory
+/// runs out `out` is unchanged.
 pub fn svg_grid(
     alloc: Global,
     lists: &Rotations,

@@ -6,9 +6,9 @@ use crate::{svg_bars, svg_grid, svg_rects, svg_witness};
 use figure_text::Figure;
 use std::alloc::{AllocError, Global};
 
-/// Appends a figure with this number as SVG. Its lists are a simple map, and its drawing has an entry for each
-/// vertex, and bars a column for each edge. A witness, which has as many branches and paths as its kind and no empty
-/// path, is its text in a comment, where alone the number shows. When memory runs out `out` is unchanged.
+/// Appends `figure` as SVG to `out`. Its lists are a simple map, and its drawing has an entry for each vertex, and bars
+/// a column for each edge. A witness, with the branches and paths of its kind and no empty path, becomes a comment with
+/// its text as figure `number`; else `number` is not used. When memory runs out `out` is unchanged.
 pub fn svg(alloc: Global, number: u32, figure: &Figure, out: &mut Vec<u8>) -> Result<(), AllocError>
     requires { IsDrawn figure.now }
     ensures ok { OnOk result ((svg : List ℕ) × IsSvg number figure.now svg × (out.new.items ≡ out.old.items ++ svg)) }

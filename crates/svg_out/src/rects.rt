@@ -16,7 +16,7 @@ fn unfilled() -> &'static [u8]
     b" fill=\"none\" stroke=\"black\"/>\n"
 }
 
-// Appends the rectangles of all vertices to `out`. The drawing is `height` high, and y goes down in its picture.
+// Appends the `rects`, one for each of `lists`, to `out`. The drawing is `height` high; y goes down in its picture.
 fn push_tiles(
     out: &mut Vec<u8>,
     lists: &Rotations,
@@ -42,7 +42,7 @@ fn push_tiles(
     Ok(())
 }
 
-/// Appends a rectangular dual as SVG, with a rectangle for each list. When memory runs out `out` is unchanged.
+/// Appends `rects`, a rectangle for each of `lists`, to `out` as SVG. When memory runs out `out` is unchanged.
 pub fn svg_rects(
     alloc: Global,
     lists: &Rotations,

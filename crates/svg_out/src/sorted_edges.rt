@@ -6,7 +6,7 @@ ghost use Rattle.svg_out.specs.Edges.{later_neighbours, edges as the_edges};
 use map_lists::Rotations;
 use std::alloc::{AllocError, Global};
 
-// Makes `row` the neighbours of `v` that are greater than `v`, in rising order. It fails only when out of memory.
+// Replaces `row` by `v`'s neighbours above `v` in the simple map `lists`, rising. It fails only when out of memory.
 fn fill_sorted(lists: &Rotations, v: usize, row: &mut Vec<u16>) -> Result<(), AllocError>
     requires simple { IsSimpleMap lists.now }
     requires vertex { v < length lists.now }

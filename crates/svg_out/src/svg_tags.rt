@@ -73,7 +73,7 @@ pub(crate) fn push_sides(
     push_attribute(out, b"height", height)
 }
 
-/// Appends the SVG tag of a segment to `out`, with the attributes `more` after the others.
+/// Appends the SVG tag of the segment from `from` to `to` to `out`, with the attributes `more` after the others.
 pub(crate) fn push_segment(
     out: &mut Vec<u8>,
     from: Spot,

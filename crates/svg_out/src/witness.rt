@@ -23,8 +23,8 @@ fn comment(
     Ok(text)
 }
 
-/// Appends the text of a witness with this number as a comment, since a witness has no picture. No byte of the text
-/// is a minus, so the comment ends at its last line. When memory runs out `out` is unchanged.
+/// Appends the text of `witness` for `graph`, as figure `number`, to `out` as an SVG comment, not a picture. No byte of
+/// the text is a minus, so the comment ends at its last line. When memory runs out `out` is unchanged.
 pub fn svg_witness(
     alloc: Global,
     number: u32,

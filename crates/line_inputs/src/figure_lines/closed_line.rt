@@ -40,8 +40,9 @@ pub enum After {
     Bad(Ending),
 }
 
-// Completes the figure of `rows`, begun on line `first`: its vertex lines, or lines of branches and paths, have all
-// been read. A visibility drawing goes on, as its line of columns is still due. It fails only when out of memory.
+// Returns `Whole` with the figure of `rows`, begun on line `first`. Its 1 to 4095 vertex lines, or lines of branches
+// and paths, have all been read, and each gave its point, bar or rectangle. A visibility drawing comes back as `Goes`,
+// as its line of columns is still due. It fails only when out of memory.
 fn all_drawn(alloc: Global, first: u32, rows: Rows) -> Result<After, AllocError>
     requires some { 0 < length rows.draft.lists }
     requires few { length rows.draft.lists < 4096 }
@@ -76,8 +77,8 @@ fn all_drawn(alloc: Global, first: u32, rows: Rows) -> Result<After, AllocError>
     }
 }
 
-// Returns what the figure `held`, begun on line `first`, is after one more of its lines: it goes on while others are
-// due, and else `all_drawn` completes it. It fails only when out of memory.
+// Returns what the figure `held`, begun on line `first`, is after one more of its lines. While other vertex lines are
+// due it is `Goes` with the figure; else `all_drawn` completes it. It fails only when out of memory.
 #[inline(always)]
 fn grown(alloc: Global, first: u32, held: Held<Rows>) -> Result<After, AllocError>
     requires some { 0 < held.n }
@@ -98,7 +99,8 @@ fn grown(alloc: Global, first: u32, held: Held<Rows>) -> Result<After, AllocErro
 }
 
 impl ClosedLine<'_> {
-    // Judges the line as one outside a figure: it begins one, is a note, or is bad. It fails only when out of memory.
+    // Judges the line as one outside a figure. Returns `Goes` with the figure that it begins, `Goes(None)` for a note
+    // (a line of another job), or `Bad`. It fails only when out of memory.
     fn after_front(&self) -> Result<After, AllocError>
         ensures whole { IfOk result IsWhole }
         ensures makes { IsPlain self.now.text.now → IfOk result (Makes self.now.number self.now.number (self.now.text.now ++ 10 ∷ [])) }
@@ -119,7 +121,8 @@ impl ClosedLine<'_> {
     }
 
     // Judges the line as the next vertex line, or line of branches or a path, of the figure `rows`, begun on line
-    // `first`. `found` is room for its words, which it overwrites. It fails only when out of memory.
+    // `first`. Returns `Goes` or `Whole` with the figure after a good line, else `Bad`. `found` is scratch space for
+    // words. It fails only when out of memory.
     #[inline(always)]
     fn after_row(
         &self,
@@ -143,7 +146,7 @@ impl ClosedLine<'_> {
         }
     }
 
-    // Judges the line as the line of columns that completes `bars`. It fails only when out of memory.
+    // Judges the line as the columns that complete `bars`: `Whole` or `Bad`. It fails only when out of memory.
     fn after_columns(&self, bars: AllBars) -> Result<After, AllocError>
         ensures whole { IfOk result IsWhole }
         ensures makes { (text : List ℕ) (start : ℕ) → IsPlain self.now.text.now → IsDue (Due.Columns bars) start self.now.number text self.now.text.now
@@ -171,8 +174,8 @@ impl ClosedLine<'_> {
     }
 
     /// Judges the line as the next of an input of figures, where `before` is the figure that has begun, or None.
-    /// Returns the figure that goes on, the whole figure, or the bad ending. `found` is room for the line's words,
-    /// which it overwrites. It fails only when out of memory.
+    /// Returns `Goes` with the figure that is still open, or None after a note; `Whole` with a completed figure; or
+    /// `Bad` with the ending. `found` is scratch space for words. It fails only when out of memory.
     #[inline(always)]
     pub fn after(&self, found: &mut Vec<Word>, before: Option<Begun>) -> Result<After, AllocError>
         ensures whole { IfOk result IsWhole }

@@ -35,7 +35,8 @@ impl Head {
     }
 }
 
-/// Reads the first line of a figure of this kind. It is given without the byte 10 that closes it.
+/// Returns the head of a figure of this `kind`, for a witness with the graph that its first `line` holds. The number or
+/// graph at the end of `line`, given without its byte 10, is known to be in range. It fails only when out of memory.
 pub fn head_of(alloc: Global, kind: Kind, line: &[u8]) -> Result<Head, AllocError>
     requires { TailInRange (Some kind) line.now }
     ensures kind { IfOk result (λ head. head_kind head ≡ kind) }

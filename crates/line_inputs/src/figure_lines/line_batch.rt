@@ -38,7 +38,7 @@ struct LineStep {
     lines: usize,
 }
 
-// Returns `rows` with no bytes and no lines read.
+// Returns the step that leaves the begun figure `rows` as it is: 0 bytes and 0 lines read.
 fn no_step(rows: SomeRows) -> LineStep
     ensures { result ≡ record { rows = rows; bytes = 0; lines = 0 } }
 {
@@ -49,8 +49,9 @@ fn no_step(rows: SomeRows) -> LineStep
     }
 }
 
-// Reads the line at the front of `part` into `rows`, if it is whole, passes the quick test, and is not the last one
-// due. Otherwise it reads nothing. `found` is room for its words. It fails only when out of memory.
+// Reads the line at the front of `part` into the begun figure `rows`. It must be whole, not the last one due, and pass
+// the quick test (which keeps few words). Otherwise returns `rows` with 0 bytes and 0 lines read. `found` is scratch
+// space for words. It fails only when out of memory.
 #[inline(always)]
 fn with_line(found: &mut Vec<Word>, rows: SomeRows, part: &[u8]) -> Result<LineStep, AllocError>
     ensures within { IfOk result (λ step. step.bytes ≤ length part.now) }
@@ -93,7 +94,7 @@ fn run_to(first: u32, rows: SomeRows, bytes: usize, lines: usize) -> Run
 }
 
 // Reads lines from the front of `part` into `rows`, of the figure begun on line `first`, while `with_line` takes one.
-// `found` is room for words, which it overwrites. It fails only when out of memory.
+// Returns the figure, and the number of bytes and lines read. `found` is scratch space. Fails only when out of memory.
 fn rows_run(
     found: &mut Vec<Word>,
     first: u32,
@@ -123,9 +124,9 @@ fn rows_run(
     Ok(run_to(first, rows, bytes, lines))
 }
 
-/// Reads as many whole vertex lines at the front of `part` as pass the quick test, without the last line of the figure,
-/// and returns how far it came. It reads none unless `before` is a begun figure and `pending`, the bytes of the line
-/// due, is empty. `found` is room for words, which it overwrites. It fails only when out of memory.
+/// Reads whole vertex lines at the front of `part`, as far as they pass the quick test, but never a figure's last.
+/// Returns `Lines` with the batch, or `NoLine` with the figure unchanged. It reads none unless `before` is a begun
+/// figure and `pending`, the open line's bytes, is empty. `found` is scratch space. It fails only when out of memory.
 pub fn first_lines(
     found: &mut Vec<Word>,
     pending: &[u8],

@@ -23,10 +23,10 @@ pub enum Line {
     Ran(Run),
 }
 
-/// Reads whole vertex lines of a figure from the front of `part`. Where there are none, it reads the rest of the open
-/// line and judges it, or all where no line ends. A line that stands whole in `part` is judged there. `pending` holds
-/// the open line's bytes, `before` the figure begun, `line` its number, and `found` is room for words. It fails only
-/// when out of memory.
+/// Reads whole vertex lines from the front of `part` and returns them as `Ran`. If there are none, it reads the rest of
+/// the open line. It returns `Closed` with the bytes and the verdict, or `Open` where no line ends. `pending` holds the
+/// open line's bytes, `line` is its number, and `before` is the begun figure, if any. `found` is scratch space for
+/// words. It fails only when out of memory.
 pub fn take_part(
     alloc: Global,
     found: &mut Vec<Word>,

@@ -93,8 +93,9 @@ impl Format for FigureReader {
 
     ghost IsGiven = { IsGiven };
 
-    // Consumes of `piece` a run of whole lines of vertices, or else the rest of the open line, or all where no line
-    // ends. Where that ends a figure, `record` lends it.
+    // Consumes of `piece` whole vertex lines, or else the rest of the open line, or all where no line ends, by the
+    // clauses of `Format::take`. Returns `Ended` with the bytes consumed if a figure ended; the method `record` then
+    // lends it. `Goes` has the bytes consumed if none ended, and `Bad` the bad ending of the input.
     fn take(&mut self, piece: &[u8]) -> Result<Taken<Ending>, AllocError> {
         let before = self.begun.take();
         match take_part(
@@ -139,7 +140,7 @@ impl Format for FigureReader {
         &self.figure
     }
 
-    // Returns how the input ends if it ends here.
+    // Returns how the input ends if it ends here: `EndInFigure` inside a figure, `Well` or `BadLine` outside one.
     fn end(&self) -> Ending {
         match &self.begun {
             Some(begun) => Ending::EndInFigure(begun.first),
@@ -153,16 +154,16 @@ impl Format for FigureReader {
         }
     }
 
-    // Returns the ending of an input that is longer than the limit.
+    // Returns `TooLong`, the ending of an input of more than 16777216 bytes.
     fn too_long(&self) -> Ending {
         Ending::TooLong
     }
 
-    // Says whether `end` is the good ending.
+    // Says whether `end` is the good ending, `Well`. Any other is a bad one.
     fn is_well(end: &Ending) -> bool {
         matches!(end, Ending::Well)
     }
 
-    // Does nothing. Its contract is the laws of the format.
+    // Does nothing. Its contract is the four laws that `Format::lawful` states, for this reader.
     fn lawful() {}
 }

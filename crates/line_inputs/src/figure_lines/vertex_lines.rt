@@ -26,7 +26,7 @@ pub struct Rows {
 }
 
 impl Rows {
-    /// Makes a figure of which the first line alone has come.
+    /// Makes a figure of which only the first line has come, with the content `head`; `n` more lines are due.
     pub fn new(alloc: Global, head: Head, n: usize) -> Rows
         ensures { result ≡ record { head = head; n = n; draft = no_lines } }
     {
@@ -44,8 +44,8 @@ impl Rows {
         }
     }
 
-    // Judges `line` as the next one due, and appends its content to the draft if it is good. Returns None when out of
-    // memory. `found` is room for its words.
+    // Judges `line` as the next of this figure, of which at least one is due. Returns the verdict, or None when out of
+    // memory. Appends the content of a good line to the draft. `found` is scratch space for words.
     fn row(&mut self, found: &mut Vec<Word>, line: &[u8]) -> Option<Judged>
         requires { length self.old.draft.lists < self.old.n }
         ensures judged { IfSome result (λ judged. Judges (IsRow (head_kind self.old.head) (length self.old.draft.lists + 1) (words_of line.now))
@@ -59,7 +59,7 @@ impl Rows {
         row.judge(found, &mut self.draft)
     }
 
-    // Says whether at least two more lines are due.
+    // Says whether at least two more lines of this figure are due, where one is. Only a yes is promised.
     fn are_two_due(&self) -> bool
         requires { length self.now.draft.lists < self.now.n }
         ensures { OnTrue result (length self.now.draft.lists + 1 < self.now.n) }
@@ -68,8 +68,8 @@ impl Rows {
         self.draft.lists.len() + 1 < n
     }
 
-    // Appends the content of `line`, the next one due, to the draft if a quick test finds it good, and says whether it
-    // does. `found` is room for its words. It fails only when out of memory.
+    // Appends `line`, the next one due, to the draft if a quick test finds it good, and says so. False says no more,
+    // and leaves the draft unchanged. `found` is scratch space for words. It fails only when out of memory.
     #[inline(always)]
     fn quick(&mut self, found: &mut Vec<Word>, line: &[u8]) -> Result<bool, AllocError>
         requires { length self.old.draft.lists < self.old.n }
@@ -87,8 +87,8 @@ impl Rows {
 }
 
 impl Held<Rows> {
-    /// Judges `line` as the next one due, and appends its content to the draft if it is good. Returns None when out of
-    /// memory. `found` is room for its words.
+    /// Judges `line` as the next of this figure, of which at least one is due. Returns the verdict, or None when out of
+    /// memory. Appends the content of a good line to the draft. `found` is scratch space for words.
     pub fn row(&mut self, found: &mut Vec<Word>, line: &[u8]) -> Option<Judged>
         requires { length self.old.draft.lists < self.old.n }
         ensures judged { IfSome result (λ judged. Judges (IsRow (head_kind self.old.head) (length self.old.draft.lists + 1) (words_of line.now))
@@ -99,8 +99,8 @@ impl Held<Rows> {
         self.inside.row(found, line)
     }
 
-    /// Appends the content of `line`, the next one due, to the draft if a quick test finds it good, and says whether it
-    /// does. `found` is room for its words. It fails only when out of memory.
+    /// Appends `line`, the next one due, to the draft if a quick test finds it good, and says so. False says no more,
+    /// and leaves the draft unchanged. `found` is scratch space for words. It fails only when out of memory.
     #[inline(always)]
     pub fn quick(&mut self, found: &mut Vec<Word>, line: &[u8]) -> Result<bool, AllocError>
         requires { length self.old.draft.lists < self.old.n }
@@ -113,7 +113,7 @@ impl Held<Rows> {
         self.inside.quick(found, line)
     }
 
-    /// Says whether at least two more lines are due.
+    /// Says whether at least two more lines of this figure are due, where one is. Only a yes is promised.
     pub fn are_two_due(&self) -> bool
         requires { length self.now.draft.lists < self.now.n }
         ensures { OnTrue result (length self.now.draft.lists + 1 < self.now.n) }
@@ -121,7 +121,7 @@ impl Held<Rows> {
         self.inside.are_two_due()
     }
 
-    /// Says whether at least one more line is due.
+    /// Says whether at least one more line of this figure is due, but for the line of columns.
     pub fn is_due(&self) -> bool
         ensures { result ≡ nat_lt (length self.now.draft.lists) self.now.n }
     {

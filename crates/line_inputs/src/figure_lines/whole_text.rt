@@ -33,7 +33,8 @@ fn end_fault(begun: Option<Begun>, line: u32) -> TextFault
     }
 }
 
-/// Reads the item at offset `at` of a text, which is at most its length and begins line number `line`, counted from 1.
+/// Returns the item at offset `at` of the text `bytes`: a figure, a note (a line of another job), or the end. `at` is
+/// at most the length, and begins line number `line`, from 1 to 16777217.
 ///
 /// Each line is judged as it is closed. A closed line of another shape than the one that is due is a `BadLine`, and so
 /// is a line outside a figure that is not closed. A line of the due shape with a number outside its range is a `Limit`.

@@ -49,7 +49,7 @@ fn is_header(first: bool, line: &[u8]) -> bool
     first && line == b">>graph6<<".as_slice()
 }
 
-/// Returns `line` without the header `>>graph6<<` in front, if it is the first line.
+/// Returns `line` without the header `>>graph6<<` in front, if it has one and is the `first` line; else all of `line`.
 pub fn behind_header(first: bool, line: &[u8]) -> &[u8]
     ensures { result.now ≡ line_behind first line.now }
 {
@@ -60,7 +60,8 @@ pub fn behind_header(first: bool, line: &[u8]) -> &[u8]
     }
 }
 
-// Converts the fault of line `number` into the ending of the input. Returns None for out of memory, which is no ending.
+// Converts the `fault` of line `number` into the ending of the input: `Limit` for a graph with too many vertices, else
+// `BadLine`. Returns None when out of memory, which is no ending.
 fn fault_ending(fault: G6Fault, number: u32) -> Option<Ending>
     ensures { (line : List ℕ) → NamesFault line fault → Judges number line fault result }
 {
@@ -71,7 +72,8 @@ fn fault_ending(fault: G6Fault, number: u32) -> Option<Ending>
     }
 }
 
-// Judges a closed `line`, without its byte 10. A graph is made in the memory of `spent`. Fails only when out of memory.
+// Judges the closed `line`, which stands at `at` and is given without its byte 10. Returns `Header`, its `Graph`, made
+// in the memory of `spent`, or `Bad` with the ending of the input. It fails only when out of memory.
 fn judged_line(spent: Graph, line: &[u8], at: OpenLine) -> Result<Judged, AllocError>
     ensures { (consumed : List ℕ) (graphs : List EdgeGraph) → Progress consumed graphs at.number at.first line.now
         → length consumed < input_limit → IfOk result (Closes (consumed ++ 10 ∷ []) graphs at.number) }
@@ -88,9 +90,9 @@ fn judged_line(spent: Graph, line: &[u8], at: OpenLine) -> Result<Judged, AllocE
     }
 }
 
-/// Reads from `part` the rest of the open line, whose first bytes `pending` holds, and judges it; or appends all to
-/// `pending` where no line ends. A line that stands whole in `part` is judged there. A graph is made in the memory of
-/// `spent`. It fails only when out of memory.
+/// Reads from `part` the rest of the open line at `at`, whose first bytes `pending` holds. Returns `Closed` with the
+/// number of bytes read and the verdict, and empties `pending`; or `Open`, with all of `part` appended to `pending`. A
+/// graph is made in the memory of `spent`. It fails only when out of memory.
 pub fn take_line(
     spent: Graph,
     pending: &mut Vec<u8>,

@@ -74,7 +74,9 @@ impl Format for GraphReader {
 
     ghost IsGiven = { IsAny };
 
-    // Consumes of `piece` the rest of the open line, or all if no line ends. If the line is a graph, `record` lends it.
+    // Consumes of `piece` the rest of the open line, or all if no line ends, by the clauses of `Format::take`. Returns
+    // `Ended` with the bytes consumed if a graph's line ended; the method `record` then lends the graph. `Goes` has the
+    // bytes consumed after a header or an open line. `Bad` has the bad ending of the input.
     fn take(&mut self, piece: &[u8]) -> Result<Taken<Ending>, AllocError> {
         let line = OpenLine {
             number: self.line,
@@ -107,7 +109,7 @@ impl Format for GraphReader {
         &self.graph
     }
 
-    // Returns how the input ends if it ends here.
+    // Returns how the input ends if it ends here: `Well` if the open line has no bytes but a header, else `BadLine`.
     fn end(&self) -> Ending {
         if behind_header(self.first, &self.pending).is_empty() {
             Ending::Well
@@ -116,16 +118,16 @@ impl Format for GraphReader {
         }
     }
 
-    // Returns the ending of an input that is longer than the limit.
+    // Returns `TooLong`, the ending of an input of more than 16777216 bytes.
     fn too_long(&self) -> Ending {
         Ending::TooLong
     }
 
-    // Says whether `end` is the good ending.
+    // Says whether `end` is the good ending, `Well`. Any other is a bad one.
     fn is_well(end: &Ending) -> bool {
         matches!(end, Ending::Well)
     }
 
-    // Does nothing. Its contract is the laws of the format.
+    // Does nothing. Its contract is the four laws that `Format::lawful` states, for this reader.
     fn lawful() {}
 }

@@ -33,12 +33,12 @@ impl Method for Bars {
         }
     }
 
-    // Draws the map of `lists` by bars, or returns the first condition that they break.
+    // Draws the map of `lists` by bars. `Err` has the first condition of the job that they break, or says no memory.
     fn figure(&mut self, lists: &Rotations) -> Result<BarFigure, Unserved> {
         self.drawer.figure(lists)
     }
 
-    // Appends the drawing to `out`, as text or SVG.
+    // Appends the drawing `figure` of `given` to `out`, as text or SVG. When memory runs out `out` is unchanged.
     fn print(
         &mut self,
         given: &MapRecord<'_>,
@@ -53,7 +53,7 @@ impl Method for Bars {
         self.drawer.keep(figure);
     }
 
-    // Does nothing but call laws of the job's class. Its contract is that the job is lawful.
+    // Calls laws only. Its contract: no map is both served and refused, and each breaks one condition first.
     fn lawful() {
         conn_parts::biconnected_maps::biconnected_break_nothing();
         verdict_laws::one_break();

@@ -34,13 +34,13 @@ impl Method for Convex {
         }
     }
 
-    // Draws the map of `lists` with convex faces, or returns the first condition that they break.
+    // Draws the map of `lists` convex. `Err` has the first condition of the job that they break, or says no memory.
     fn figure(&mut self, lists: &Rotations) -> Result<GridFigure, Unserved> {
         let figure = self.drawer.figure(lists)?;
         Ok(figure)
     }
 
-    // Appends the drawing to `out`, as text or SVG.
+    // Appends the drawing `figure` of `given` to `out`, as text or SVG. When memory runs out `out` is unchanged.
     fn print(
         &mut self,
         given: &MapRecord<'_>,
@@ -54,7 +54,7 @@ impl Method for Convex {
     // Drops the figure, whose memory is not used again.
     fn keep(&mut self, _figure: GridFigure) {}
 
-    // Does nothing but call laws of the job's class. Its contract is that the job is lawful.
+    // Calls laws only. Its contract: no map is both served and refused, and each breaks one condition first.
     fn lawful() {
         convex_class::convex_maps::three_connected_break_nothing();
         verdict_laws::one_convex_break();

@@ -34,13 +34,13 @@ impl Method for Count {
         }
     }
 
-    // Counts the map of `lists`, or returns the first condition that they break.
+    // Counts the map of `lists`. `Err` has the first condition of a simple map that they break, or says no memory.
     fn figure(&mut self, lists: &Rotations) -> Result<EulerCount, Unserved> {
         let count = self.counter.count(lists)?;
         Ok(count)
     }
 
-    // Appends the count line to `out`.
+    // Appends the count line of `given`, with the counts `figure`, to `out`. Out of memory leaves `out` unchanged.
     fn print(
         &mut self,
         given: &MapRecord<'_>,
@@ -54,6 +54,6 @@ impl Method for Count {
     // Drops the counts.
     fn keep(&mut self, _figure: EulerCount) {}
 
-    // Does nothing. Its contract, that the job is lawful, is proved without a further law.
+    // Does nothing. Its contract: no map is both served and refused, and each breaks one condition first.
     fn lawful() {}
 }

@@ -33,12 +33,12 @@ impl Method for Rect {
         }
     }
 
-    // Draws the map of `lists` as a rectangular dual, or returns the first condition that they break.
+    // Draws a rectangular dual of `lists`. `Err` has the first condition of the job that they break, or says no memory.
     fn figure(&mut self, lists: &Rotations) -> Result<RectFigure, Unserved> {
         self.drawer.figure(lists)
     }
 
-    // Appends the drawing to `out`, as text or SVG.
+    // Appends the drawing `figure` of `given` to `out`, as text or SVG. When memory runs out `out` is unchanged.
     fn print(
         &mut self,
         given: &MapRecord<'_>,
@@ -51,7 +51,7 @@ impl Method for Rect {
     // Drops the figure, whose memory is not used again.
     fn keep(&mut self, _figure: RectFigure) {}
 
-    // Does nothing but call laws of the job's class. Its contract is that the job is lawful.
+    // Calls laws only. Its contract: no map is both served and refused, and each breaks one condition first.
     fn lawful() {
         rect_class::biconnected_break_nothing();
         verdict_laws::one_rect_break();

@@ -34,12 +34,12 @@ impl Method for Schnyder {
         }
     }
 
-    // Draws the map of `lists` by Schnyder's coordinates, or returns the first condition that they break.
+    // Draws `lists` by Schnyder's coordinates. `Err` has the first condition that they break, or says no memory.
     fn figure(&mut self, lists: &Rotations) -> Result<GridFigure, Unserved> {
         self.drawer.schnyder_figure(lists)
     }
 
-    // Appends the drawing to `out`, as text or SVG.
+    // Appends the drawing `figure` of `given` to `out`, as text or SVG. When memory runs out `out` is unchanged.
     fn print(
         &mut self,
         given: &MapRecord<'_>,
@@ -56,6 +56,6 @@ impl Method for Schnyder {
         self.drawer.keep_schnyder(figure);
     }
 
-    // Does nothing. Its contract, that the job is lawful, is proved without a further law.
+    // Does nothing. Its contract: no map is both served and refused, and each breaks one condition first.
     fn lawful() {}
 }

@@ -34,12 +34,12 @@ impl Method for Shift {
         }
     }
 
-    // Draws the map of `lists` by the shift method, or returns the first condition that they break.
+    // Draws `lists` by the shift method. `Err` has the first condition that they break, or says no memory.
     fn figure(&mut self, lists: &Rotations) -> Result<GridFigure, Unserved> {
         self.drawer.shift_figure(lists)
     }
 
-    // Appends the drawing to `out`, as text or SVG.
+    // Appends the drawing `figure` of `given` to `out`, as text or SVG. When memory runs out `out` is unchanged.
     fn print(
         &mut self,
         given: &MapRecord<'_>,
@@ -56,6 +56,6 @@ impl Method for Shift {
         self.drawer.keep_shift(figure);
     }
 
-    // Does nothing. Its contract, that the job is lawful, is proved without a further law.
+    // Does nothing. Its contract: no map is both served and refused, and each breaks one condition first.
     fn lawful() {}
 }
