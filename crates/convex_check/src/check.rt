@@ -17,8 +17,7 @@ use std::alloc::{AllocError, Global};
 /// vertices of the base's face are the corners of a triangle on whose sides all its vertices lie. Else returns `Yes`.
 ///
 /// `base` is live, there is one point for each vertex, and no coordinate is beyond 2^20 in size; whether the drawing is
-/// plane is not looked at. It fails only when out of memory. The time and the memory are linear in the vertices and the
-/// darts.
+/// plane is not looked at. It fails only when out of memory. Time and memory are linear in the vertices and darts.
 pub fn check_convex_points(
     alloc: Global,
     map: &HalfMap,

@@ -73,8 +73,7 @@ pub fn figure_by_faces(
 /// of the grid to the lower right one, and its face is the outer one. The grid is f - 1 by f - 1, for f faces. No inner
 /// face bends inwards, and the outer one is a triangle with flat angles.
 ///
-/// The points are counts of faces over a construction sequence. It fails only when out of memory. The map stays as it
-/// is.
+/// The points are counts of faces over a construction sequence. Fails only when out of memory. The map stays as it is.
 ///
 /// Source: Felsner, Convex drawings of planar graphs and the order dimension of 3-polytopes, 2001.
 pub fn convex_draw(alloc: Global, map: &HalfMap, base: DartId) -> Result<GridFigure, AllocError>

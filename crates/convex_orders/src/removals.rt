@@ -244,8 +244,7 @@ impl RowTables {
         Ok(())
     }
 
-    /// Makes all removals, in blank tables: the base's face, the vertex before the base with its faces, and then
-    /// others.
+    /// Makes all removals, in blank tables: the base's face, the vertex before the base with its faces, then others.
     pub(crate) fn put_all(&mut self, tables: &Tables) -> Result<(), AllocError>
         requires blank { IsBlank tables.now self.old }
         ensures { IfOk result (λ _. AreRowsOfRun tables.now.lists tables.now.tail tables.now.head self.new.rows) }

@@ -58,8 +58,7 @@ impl PointDrawing<'_> {
         a.0 < b.0 && self.meets(probe, a, b)
     }
 
-    // Returns the first edge that `probe` (a vertex or edge) meets, of those with lesser end at least `from`, or
-    // `None`.
+    // Returns the first edge that `probe` (a vertex or edge) meets, whose lesser end is at least `from`, or `None`.
     pub(crate) fn first_met(&self, probe: Probe, from: u16) -> Option<Ends>
         requires probe { IsProbeBelow (length self.now.map.now.lists) probe }
         ensures { MatchOption result ((a b : ℕ) → ¬ IsMetFrom self.now.map.now.lists self.now.points.now probe from a b)

@@ -5,9 +5,8 @@ ghost use Rattle.map_theory.specs.Paths.{SameFace};
 ghost use Rattle.half_edges.specs.Map.{IsLive, first_dart};
 ghost use Rattle.plane_laws.specs.Triangulations.{IsTriangulation};
 ghost use Rattle.plane_drawings.specs.Drawing.{HasPlaces};
-ghost use Rattle.vertex_rounds.specs.Rounds.{HoldsAt};
+ghost use Rattle.vertex_rounds.specs.Rounds.{HoldsAt, dart_of};
 ghost use Rattle.draw_check.specs.FaceVerdicts.{IsWrongFrom, IsFaceVerdict};
-ghost use Rattle.vertex_rounds.specs.Rounds.{dart_of};
 
 use crate::FaceVerdict;
 use crate::drawing::{Placed, PointDrawing};

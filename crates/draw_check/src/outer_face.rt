@@ -4,8 +4,7 @@ ghost use Rattle.map_theory.specs.Maps.{component_count};
 ghost use Rattle.half_edges.specs.Map.{IsLive, first_dart};
 ghost use Rattle.euler_faces.specs.FaceWalks.{AreFaces};
 ghost use Rattle.plane_drawings.specs.Drawing.{HasPlaces};
-ghost use Rattle.vertex_rounds.specs.Rounds.{HoldsAt};
-ghost use Rattle.vertex_rounds.specs.Rounds.{dart_of};
+ghost use Rattle.vertex_rounds.specs.Rounds.{HoldsAt, dart_of};
 ghost use Rattle.draw_check.specs.FaceSums.{HasLowSum};
 ghost use Rattle.draw_check.specs.Outer.{IsOuterVerdict};
 

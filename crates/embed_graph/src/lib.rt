@@ -1,8 +1,7 @@
 //! Embeds bare graphs: a map of a graph, or a Kuratowski witness that there is none.
 //!
 //! A fast search is made for each, and its answer is checked. After a proved no, a witness is found by contracted
-//! edges, of which the test tells which to take. Where the lists of the search are not accepted, those made by sides
-//! are.
+//! edges, of which the test tells which to take. Where the lists of the search are not accepted, those by sides are.
 #![tactic(auto)]
 
 pub mod contracted_embeddings;

@@ -78,8 +78,7 @@ impl ConflictMarks {
         self.mark_lowest(test, branch_of(&test.links, &test.search, edge, vertex));
     }
 
-    // Marks the return edges that make the ties of the test's ring, the cycle of constraints on sides, with their tree
-    // paths.
+    // Marks the return edges that make the ties of the test's ring, a cycle of constraints on sides, with tree paths.
     fn mark_ties(&mut self, test: &LeftRightTest) {
         let ties = &test.search.ties;
         let mut edge = test.ring.other;

@@ -56,8 +56,7 @@ fn is_left_out(
 }
 
 // Tests `kernel` whole, and keeps the edges that show the conflict, as long as that makes it smaller. Where it does
-// not, `MOST_ROOTS` other roots are tried. Fewer than `FEW_EDGES` edges stay as they are. It overwrites `test` and
-// `marks`.
+// not, `MOST_ROOTS` other roots are tried. Fewer than `FEW_EDGES` edges stay as they are. Overwrites `test`, `marks`.
 fn narrow(kernel: &mut Kernel, test: &mut LeftRightTest, marks: &mut ConflictMarks) {
     let mut roots = 0u32;
     for _ in 0..MOST_TESTS {

@@ -1,6 +1,5 @@
 //! Judges the words of a line of a figure: whether they have the shape that is due, and their numbers are in range.
-ghost use Rattle.std.specs.Prelude.{ℕ, false, ◌≡◌, ◌↔◌, ◌<◌, ◌≤◌, ◌-◌, length, drop, map, slice_index_or, IsTrue, IfOk, All};
-ghost use Rattle.std.specs.Prelude.{if◌then◌else◌};
+ghost use Rattle.std.specs.Prelude.{ℕ, false, ◌≡◌, ◌↔◌, ◌<◌, ◌≤◌, ◌-◌, length, drop, map, slice_index_or, IsTrue, IfOk, All, if◌then◌else◌};
 ghost use Rattle.figure_text.specs.Reading.{Judges, IsRow, RowInRange};
 ghost use Rattle.kuratowski.specs.Witnesses.{branch_count, pairs_of};
 ghost use Rattle.figure_text.specs.Words.{word_at};
@@ -214,8 +213,7 @@ fn is_vertex_line(kind: Kind, place: usize, words: &[Word]) -> bool
             .all(|word| is_natural_word(*word))
 }
 
-// Says whether the numbers among `words` are within their ranges, where these have the shape of a line of a figure of
-// `kind`.
+// Says whether the numbers among `words` are within their ranges, where these have the shape of a line of `kind`.
 fn is_vertex_line_in_range(kind: Kind, words: &[Word]) -> bool
     ensures { IsTrue result ↔ RowInRange kind words.now }
 {

@@ -19,8 +19,7 @@ pub fn tree_grows()
     ensures { TreeGrows }
 {}
 
-/// States the law that where the last step of a run covers all but the base, its tree is the tree of offsets of the
-/// run.
+/// States the law that where a run's last step covers all but the base, its tree is the tree of offsets of the run.
 pub fn grown_is_offset_tree()
     ensures { GrownIsOffsetTree }
 {}

@@ -2,8 +2,7 @@
 //!
 //! A graph has a map of genus zero exactly where the return edges (back edges) of a depth-first tree have a left-right
 //! partition. All that forks demand of their sides is met in a table of groups, or there is no such partition. By these
-//! sides the vertices are placed one by one, the last of the tree's order first, and their entries are the lists of a
-//! map.
+//! sides the vertices are placed one by one, the last of the tree's order first, and their entries are a map's lists.
 #![tactic(auto)]
 
 mod child_edges;

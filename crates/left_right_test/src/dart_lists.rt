@@ -104,8 +104,7 @@ impl Links {
         self.count_dart(b);
     }
 
-    /// Puts both darts of edge number `edge` of `edges` at the fronts of their lists, linked both ways, and counts
-    /// them.
+    /// Puts both darts of edge number `edge` of `edges` at the fronts of their lists, linked both ways, and counted.
     #[inline(always)]
     pub fn put_edge(&mut self, edges: &Edges, edge: u32) {
         let a = edges.one.get(edge);

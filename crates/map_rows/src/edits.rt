@@ -131,8 +131,7 @@ fn edit(map: &mut HalfMap, text: &str, out: &mut Reply) {
     }
 }
 
-// Appends `lists` to `out`, or for 20 lists or more their number of entries and the lengths of the first and the
-// last.
+// Appends `lists` to `out`, or for 20 lists or more their number of entries and the lengths of the first and the last.
 fn put_some(lists: &Rotations, out: &mut Reply) {
     let n = lists.len();
     if n < 20 {

@@ -10,8 +10,7 @@ pub use contour_rows::{order_rows, rows_into};
 pub use points_by_rank::points_at;
 pub use ranked_lists::RankedList;
 
-/// States the law that the rank of each vertex in a canonical order is an index of the order, below the number of
-/// vertices.
+/// States the law that each vertex's rank in a canonical order is an index of it, below the number of vertices.
 pub fn ranks_are_places()
     ensures { RanksArePlaces }
 {}

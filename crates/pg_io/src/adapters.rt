@@ -121,9 +121,8 @@ impl<W: Write> Sink for WriteAdapter<W> {
 
     ghost faults = { λ sink. sink.faults };
 
-    /// Writes once to the writer and flushes it: `Ok` is the writer's own answer. It fails exactly
-    /// where the writer fails or takes no byte, or the flush fails, and counts the fault. Nothing is
-    /// then known of the writer.
+    /// Writes once to the writer and flushes it: `Ok` is the writer's own answer. It fails exactly where the writer
+    /// fails or takes no byte, or the flush fails, and counts the fault. Nothing is then known of the writer.
     fn write(&mut self, piece: &[u8]) -> Result<usize, WriteFailed>
         requires { 0 < length piece.now }
         ensures within { IfOk result (λ k. (0 < k) × (k ≤ length piece.now)) }

@@ -162,9 +162,8 @@ impl Sink for MemSink {
 
     ghost faults = { λ sink. sink.faults };
 
-    /// Fails exactly where the number of this call stands in `failing`, or no room is left.
-    /// Otherwise it takes as many bytes as the least of `most`, the room left and the length of
-    /// `piece`. It takes no memory.
+    /// Fails exactly where the number of this call stands in `failing`, or no room is left. Otherwise it takes as many
+    /// bytes as the least of `most`, the room left and the length of `piece`. It takes no memory.
     fn write(&mut self, piece: &[u8]) -> Result<usize, WriteFailed>
         requires { 0 < length piece.now }
 

@@ -20,8 +20,7 @@ fn put_many(input: &mut Vec<u8>, bytes: &[u8], times: usize) -> bool {
     }
 }
 
-/// Appends `bytes` to `input`, or a single byte as often as the text `times` says. Returns false where it says
-/// neither.
+/// Appends `bytes` to `input`, or a single byte as often as the text `times` says. Returns false where it says neither.
 fn put_times(input: &mut Vec<u8>, bytes: &[u8], times: &str) -> bool {
     match times.parse::<usize>() {
         Ok(times) => put_many(input, bytes, times),

@@ -42,8 +42,7 @@ fn tell_three(line: &str, told: &mut Vec<u8>) {
     put(b"..\n", told);
 }
 
-/// Appends to `told` a line that is shown. Of the first line of a figure it appends three words, and of others
-/// nothing.
+/// Appends to `told` a line that is shown. Of the first line of a figure it appends three words, and of others nothing.
 fn tell_line(line: &str, shown: &str, told: &mut Vec<u8>) {
     if is_told(line, shown) {
         tell_whole(line, told);

@@ -1,5 +1,4 @@
-//! The settings of a test run: its input, how many bytes each call moves, which calls fail, and which lines are
-//! shown.
+//! The settings of a test run: its input, how many bytes each call moves, which calls fail, and which lines are shown.
 ghost use Rattle.std.specs.Prelude.{◌<◌};
 
 use std::alloc::Global;

@@ -1,5 +1,4 @@
-//! Test runs whose reads and writes are watched: how many bytes each read gave, and how many had been written by
-//! then.
+//! Test runs whose reads and writes are watched: how many bytes each read gave, and how many had been written by then.
 ghost use Rattle.std.specs.Prelude.{None};
 
 use crate::run_settings::Given;

@@ -1,10 +1,9 @@
 //! planar_code, the format of plantri: records of rotation lists, narrow and wide.
 //!
-//! `RecordReader` takes the bytes of a file in pieces, or one by one, and answers each record as it
-//! ends; `next_record` reads the record at an offset of bytes that are all there. Both take exactly
-//! the records: a clause on each says when each answer comes. Both stand on one scanner, which handles
-//! each byte once. `write_record` appends a record that is read back as the same lists. `laws` says of
-//! all inputs that each is read, and in one way at most.
+//! `RecordReader` takes the bytes of a file in pieces, or one by one, and answers each record as it ends; `next_record`
+//! reads the record at an offset of bytes that are all there. Both take exactly the records: a clause on each says when
+//! each answer comes. Both stand on one scanner, which handles each byte once. `write_record` appends a record that is
+//! read back as the same lists. `laws` says of all inputs that each is read, and in one way at most.
 #![tactic(auto)]
 
 pub mod laws;

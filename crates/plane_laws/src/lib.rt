@@ -1,6 +1,6 @@
 //! Laws of plane maps: bridges, faces and components when an edge is removed, the edge bound, and separation at
-//! corners. Each is the contract of a function that does nothing, and speaks of all maps. `with_edge_after` puts an edge
-//! into rotation lists.
+//! corners. Each is the contract of a function that does nothing, and speaks of all maps. `with_edge_after` puts an
+//! edge into rotation lists.
 #![tactic(auto)]
 
 mod edge_insertion;
@@ -54,8 +54,7 @@ pub fn corner_split()
     ensures { CornerSplit }
 {}
 
-/// States the law that two adjacent vertices of a map of genus zero that also have corners in one face separate its two
-/// sides.
+/// States the law that two adjacent vertices of a map of genus zero with corners in one face separate its two sides.
 pub fn digon_split()
     ensures { DigonSplit }
 {}

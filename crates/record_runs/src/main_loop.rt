@@ -3,7 +3,7 @@ ghost use Rattle.std.specs.Prelude.{◌≡◌, ◌<◌, ◌≤◌, ◌+◌, ◌^
 ghost use Rattle.pg_io.specs.Io.{Grows, TakesAtMost};
 ghost use Rattle.record_runs.specs.Texts.{input_limit};
 ghost use Rattle.record_runs.specs.Outcome.{Ports, ports, Outcome};
-ghost use Rattle.record_runs.specs.Run.{IsCounted, IsAt, Stands, FailsAt, IsAllConsumed};
+ghost use Rattle.record_runs.specs.Run.{IsCounted, IsAt, Stands, FailsAt, IsAllConsumed, end_of};
 
 use super::format::Format;
 use super::job::Job;
@@ -92,8 +92,6 @@ fn failed(failure: Failure) -> RunEnd
         Failure::NoMemory => RunEnd::NoMemory,
     }
 }
-
-ghost use Rattle.record_runs.specs.Run.{end_of};
 
 // Writes the last line of `run` by `job` to `out`, at the end of the input. Returns how the run ended.
 fn finish<F: Format, J: Job<F>, K: Sink>(

@@ -57,8 +57,7 @@ impl Rects<'_> {
         self.first_of_pairs_in(&mut marks[..n])
     }
 
-    // Returns the first pair that meets, else a gap, else a wrong contact, or `None`. It has 255 or 4095 flags on
-    // stack.
+    // Returns the first pair that meets, else a gap, else a wrong contact, or `None`. It has 255 or 4095 flags.
     fn first_of_pairs(&self) -> Option<RectVerdict>
         ensures { MatchOption result (NoneMeet self.now.map.now.lists self.now.fig.now × DoFill self.now.map.now.lists self.now.fig.now × HasContacts self.now.map.now.lists self.now.fig.now)
             (IsRectVerdict self.now.map.now.lists self.now.fig.now) }

@@ -10,8 +10,7 @@ pub fn labels_of_order()
 {}
 
 /// States the law that the boxes of a rectangular order come of an edge labelling. Along a run (horizontal edge) the
-/// right side of one is the left side of the other. Along a rise (vertical) the upper side of one is the other's lower
-/// side.
+/// right side of one is the left side of the other. Along a rise (vertical) one's upper side is the other's lower side.
 pub fn boxes_by_labelling()
     ensures { BoxesByLabelling }
 {}

@@ -32,8 +32,7 @@ impl Model for Wood {
 }
 
 impl Wood {
-    /// Does nothing. By its contract a proof learns that the wood is rooted: paths of parents of each colour lead to
-    /// its root.
+    /// Does nothing. By its contract a proof learns that the wood is rooted: parents of each colour lead to its root.
     pub fn facts(&self)
         ensures { IsRooted self.now }
     {

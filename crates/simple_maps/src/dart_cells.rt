@@ -1,8 +1,7 @@
 //! The twins of the darts of at most 64 vertices, found in one pass over the lists by a cell for each two vertices.
 //!
 //! A dart to a greater vertex leaves its index in the cell of its ends, where the dart back finds it. What a cell says
-//! is tried before it is taken, so cells may hold anything before. Where it fails the pass gives up, as that by threads
-//! does.
+//! is tried before it is taken, so cells may hold anything before. Where it fails the pass gives up, as by threads.
 ghost use Rattle.std.specs.Prelude.{◌≡◌, ◌+◌, ◌*◌, ◌<◌, ◌≤◌, ℕ, length, slice_index};
 ghost use Rattle.std.specs.Bool.{OnTrue};
 ghost use Rattle.map_lists.specs.Cuts.{joined};

@@ -1,6 +1,5 @@
 //! The place of each vertex in an st-order, as a range taken from the range of its parent in a depth-first search.
-ghost use Rattle.std.specs.Prelude.{◌≡◌, ◌+◌, ◌<◌, ◌≤◌, ◌≢◌, ℕ, true, false, length, slice_index, slice_index_or, slice_set};
-ghost use Rattle.std.specs.Prelude.{IfOk};
+ghost use Rattle.std.specs.Prelude.{◌≡◌, ◌+◌, ◌<◌, ◌≤◌, ◌≢◌, ℕ, true, false, length, slice_index, slice_index_or, slice_set, IfOk};
 ghost use Rattle.st_orders.specs.Placing.{IsCarved, IsWholeBy, AreTables, ArePlacedBelow};
 
 use graph_search::search_forests::{Forest, size};

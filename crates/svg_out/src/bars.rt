@@ -31,8 +31,7 @@ pub(crate) fn greatest_from(least: i32, list: &Ints) -> i32
     most
 }
 
-// Returns both ends of vertex `v`'s bar in the picture, left first, each 3 beyond the bar. The drawing is `height`
-// high.
+// Returns both ends of vertex `v`'s bar in the picture of a drawing `height` high, left first, each 3 beyond the bar.
 fn bar_ends(bars: &BarFigure, height: i32, v: usize) -> (Spot, Spot)
     requires y { v < length bars.now.y }
     requires x1 { v < length bars.now.x1 }

@@ -34,8 +34,7 @@ pub(crate) fn across(x: i32) -> i64
     10 * i64::from(x)
 }
 
-/// Converts the coordinate `y` of a figure that is `height` high to that of the picture, ten times as large and counted
-/// downwards.
+/// Converts the coordinate `y` of a figure that is `height` high to that of the picture, ten times as large, downwards.
 pub(crate) fn down(height: i32, y: i32) -> i64
     ensures { result ≡ far_down height y }
 {

@@ -1,5 +1,4 @@
-//! Steps of a search round a vertex: the next dart of its list, up to the last, and a test against the least vertex
-//! yet.
+//! Steps of a search round a vertex: the next dart of its list, up to the last, and a test against the least vertex.
 ghost use Rattle.std.specs.Prelude.{◌≡◌, ◌+◌, ◌<◌, ◌↔◌, ℕ, length, IsTrue, Some, MatchOption};
 ghost use Rattle.map_theory.specs.Maps.{list_of, place_of};
 ghost use Rattle.half_edges.specs.Map.{IsHalfMap, IsLive, dart_at};

@@ -40,8 +40,7 @@ pub fn bars_of_ranks(
 }
 
 /// Returns the visibility drawing by the st-order `order`, for the dart `st`, of a connected `map` of genus zero.
-/// Heights are ranks, columns dual numbers, and bars reach from least to greatest column. Fails only when out of
-/// memory.
+/// Heights are ranks, columns dual numbers, bars reach from least to greatest column. Fails only when out of memory.
 pub fn bars_of_order(
     alloc: Global,
     map: &HalfMap,

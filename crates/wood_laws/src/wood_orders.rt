@@ -41,8 +41,7 @@ pub fn inside_of_wood()
     crate::wood_regions::inside_is_known();
 }
 
-/// States the law that where an inner vertex lies in a region of another, its own region of that colour is part of that
-/// region.
+/// States the law that where an inner vertex lies in a region of another, its own region of that colour is part of it.
 pub fn nested_in_wood()
     ensures { NestedInWood }
 {

@@ -10,8 +10,7 @@ pub fn inside_is_known()
     ensures { InsideIsKnown }
 {}
 
-/// States the law that where an inner vertex lies in a region of another, its own region of that colour is part of that
-/// region.
+/// States the law that where an inner vertex lies in a region of another, its own region of that colour is part of it.
 pub fn regions_nested()
     ensures { RegionsNested }
 {}

@@ -5,8 +5,7 @@
 
 ghost use Rattle.wood_runs.specs.Laws.{RegionsNested};
 
-/// States the law that where a vertex lies in a region of another, its own region of that colour is part of that
-/// region.
+/// States the law that where a vertex lies in a region of another, its own region of that colour is part of it.
 pub fn regions_nested()
     ensures { RegionsNested }
 {}

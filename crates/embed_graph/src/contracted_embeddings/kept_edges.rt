@@ -30,8 +30,7 @@ fn has_witness(alloc: Global, graph: &Graph) -> Result<bool, AllocError>
     }
 }
 
-// Returns the first edge with lesser end `u` whose contraction leaves a witness, or None. Fails only when out of
-// memory.
+// Returns the first edge with lesser end `u` whose contraction leaves a witness, or None. Fails if out of memory.
 fn kept_above(alloc: Global, graph: &Graph, u: u16) -> Result<Option<Ends>, AllocError>
     requires { u < graph.now.n }
     ensures { IfOk result (λ found. MatchOption found ((b : ℕ) → ¬ IsKept graph.now u b) (λ e. IsKept graph.now e.a.0 e.b.0)) }

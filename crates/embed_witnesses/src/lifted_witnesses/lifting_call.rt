@@ -11,8 +11,7 @@ use kuratowski::Witness;
 use map_lists::Ends;
 use std::alloc::{AllocError, Global};
 
-/// Lifts `small`, a witness of the graph with the edge `e` contracted, to one of `graph`. It fails only when out of
-/// memory.
+/// Lifts `small`, a witness of the graph with edge `e` contracted, to one of `graph`. Fails only when out of memory.
 ///
 /// On its old numbers the witness takes some neighbours of the greater end for neighbours of the lesser. It
 /// is mended where one step lacks its edge, by the greater end put into it; or, with the ends exchanged, by

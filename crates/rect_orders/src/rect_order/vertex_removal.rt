@@ -31,8 +31,7 @@ impl Closed<'_> {
 
     // Takes the vertex `v` off the outer cycle, in tables with an entry for each vertex. Marks it in `gone`, and adds
     // one in `away` for each neighbour. In `marked` clears its mark, and marks its neighbours that are not gone. `near`
-    // counts marked neighbours; marked vertices that come to have two are pushed on `stack`. It fails only when out of
-    // memory.
+    // counts marked neighbours; marked vertices that come to have two go on `stack`. Fails only when out of memory.
     fn take_off(
         &self,
         marked: &mut [bool],
