@@ -13,7 +13,6 @@ pub(crate) fn is_triangle(map: &HalfMap, d: DartId) -> bool
     requires { IsLive map.now d.0 }
     ensures { (a b : ℕ) → dart_at map.now d.0 ≡ Some (a, b) → IsTrue result ↔ IsTriangle map.now.lists (a, b) }
 {
-    map.facts();
     let third = map.face_step(map.face_step(map.face_step(d)));
     third.0 == d.0
 }
@@ -24,7 +23,6 @@ fn can_join(map: &HalfMap, u: VertexId, v: VertexId) -> bool
     requires v_in { v.0 < vertex_count map.now.lists }
     ensures { MatchBool result (CanJoin map.now.lists u.0 v.0) (¬ CanJoin map.now.lists u.0 v.0) }
 {
-    map.facts();
     if u.0 == v.0 {
         return false;
     }
@@ -56,7 +54,6 @@ impl FacePath<'_> {
         ensures { MatchBool result (CanJoin self.now.map.now.lists self.now.a.0 self.now.c.0) (CanJoin self.now.map.now.lists self.now.b.0 self.now.x.0) }
     {
         let map = self.map;
-        map.facts();
         if map.degree(self.b) < map.degree(self.c) {
             !can_join(map, self.b, self.x)
         } else {
@@ -101,7 +98,6 @@ fn cut_ear(map: &mut HalfMap, d: DartId) -> DartId
     ensures ids { (e w z : ℕ) → dart_at map.old e ≡ Some (w, z) → dart_at map.new e ≡ Some (w, z) }
     ensures known { IsHalfMap map.new }
 {
-    map.facts();
     let before = map.prev(d);
     let back = map.twin(map.face_step(d));
     map.add_edge(Corner::After(before), Corner::After(back))

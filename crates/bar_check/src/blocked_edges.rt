@@ -54,7 +54,6 @@ impl LesserEnd<'_> {
         ensures { IsTrue result ↔ HoldsAt self.now.drawing.map.now (IsBlockedFrom self.now.drawing.map.now.lists self.now.drawing.fig.now self.now.a.0) d.0 }
     {
         let map = self.drawing.map;
-        map.facts();
         let b = map.head(d);
         if map.tail(d).0 != self.a.0 || b.0 <= self.a.0 {
             return false;
@@ -78,7 +77,6 @@ impl BarDrawing<'_> {
             (λ e. IsLeastPair (IsBlockedEdge self.now.map.now.lists self.now.fig.now) e.a.0 e.b.0) }
     {
         let drawing = *self;
-        drawing.map.facts();
         let mut before = 0;
         for a in 0..drawing.map.n() {
             let a = VertexId(a);

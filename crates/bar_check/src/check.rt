@@ -17,7 +17,6 @@ impl BarDrawing<'_> {
         requires through { NoneThrough self.now.map.now.lists self.now.fig.now }
         ensures { IsBarVerdict self.now.map.now.lists self.now.fig.now self.now.width result }
     {
-        self.map.facts();
         match self.first_turned() {
             Some(v) => BarVerdict::Turned(v),
             None => BarVerdict::Yes,
@@ -148,7 +147,6 @@ pub fn check_bars(map: &HalfMap, fig: &BarFigure, width: i32) -> BarVerdict
     requires { HasBars map.now.lists fig.now }
     ensures { IsBarVerdict map.now.lists fig.now width result }
 {
-    map.facts();
     if fig.column.len() != map.m() as usize {
         return BarVerdict::BadShape;
     }

@@ -36,7 +36,6 @@ impl GreaterEnd<'_> {
         ensures { AreFilled self.now.bars.map.now self.now.bars.fig.now self.now.b.0 (place_of (dart_of self.now.bars.map.now d.0).1 (list_of self.now.bars.map.now.lists self.now.b.0) + 1) next.new columns.new }
     {
         let map = self.bars.map;
-        map.facts();
         let a = map.head(d);
         if a.0 < self.b.0 {
             let edge = next[a.0 as usize];
@@ -58,7 +57,6 @@ impl GreaterEnd<'_> {
         ensures { IsFirstMetBad self.now.bars.map.now.lists self.now.bars.fig.now self.now.bars.width self.now.b.0 (place_of (dart_of self.now.bars.map.now d.0).1 (list_of self.now.bars.map.now.lists self.now.b.0) + 1) result }
     {
         let bars = self.bars;
-        bars.map.facts();
         let a = bars.map.head(d);
         if self.b.0 <= a.0 {
             return found;
@@ -82,7 +80,6 @@ impl GreaterEnd<'_> {
         ensures found { IsFirstMetBad self.now.bars.map.now.lists self.now.bars.fig.now self.now.bars.width (self.now.b.0 + 1) 0 result }
     {
         let end = *self;
-        end.bars.map.facts();
         let Some(first) = end.bars.map.first_dart(end.b) else {
             return found;
         };
@@ -110,7 +107,6 @@ impl Bars<'_> {
             (λ e. IsLeastPair (HasBadColumn self.now.map.now.lists self.now.fig.now self.now.width) e.a.0 e.b.0) }
     {
         let bars = *self;
-        bars.map.facts();
         let mut before = 0;
         for v in 0..bars.map.n() {
             next[v as usize] = before;
@@ -136,7 +132,6 @@ impl LesserEnd<'_> {
         ensures { result ≡ the_column self.now.drawing.map.now.lists self.now.drawing.fig.now self.now.a.0 b.0 }
     {
         let drawing = self.drawing;
-        drawing.map.facts();
         if (d.0 as usize) < drawing.columns.len() {
             drawing.columns[d.0 as usize]
         } else {
@@ -151,7 +146,6 @@ impl BarDrawing<'_> {
         requires live { IsLive self.now.map.now d.0 }
         ensures { result ≡ the_column_between self.now.map.now.lists self.now.fig.now (dart_of self.now.map.now d.0).0 (dart_of self.now.map.now d.0).1 }
     {
-        self.map.facts();
         if (d.0 as usize) < self.columns.len() {
             self.columns[d.0 as usize]
         } else {

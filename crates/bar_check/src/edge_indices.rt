@@ -15,7 +15,6 @@ fn edges_until(map: &HalfMap, v: VertexId, end: u16) -> u32
     ensures count { result ≡ the_edges_until map.now.lists v.0 end }
     ensures few { result ≤ 65535 }
 {
-    map.facts();
     let degree = map.degree(v);
     let Some(first) = map.first_dart(v) else {
         return 0;

@@ -81,7 +81,6 @@ pub(crate) fn is_clear(map: &HalfMap, clear: &[bool], d: DartId) -> bool
     ensures { (fig : Bars) (a b : ℕ) → AreClear map.now fig clear.now → dart_at map.now d.0 ≡ Some (a, b) → HasEdge map.now.lists a b
         → IsTrue result → (w : ℕ) → w < length map.now.lists → ¬ IsStruck fig a b (column_of map.now.lists fig a b) w }
 {
-    map.facts();
     is_marked(clear, d) || is_marked(clear, map.twin(d))
 }
 
@@ -123,7 +122,6 @@ impl Bar<'_> {
         ensures { AreClear self.now.drawing.map.now self.now.drawing.fig.now clear.new }
     {
         let bar = *self;
-        bar.drawing.map.facts();
         let Some(first) = bar.drawing.map.first_dart(bar.v) else {
             return;
         };

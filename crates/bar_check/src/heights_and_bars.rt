@@ -72,7 +72,6 @@ pub(crate) fn first_bad_height(map: &HalfMap, fig: &BarFigure) -> Option<VertexI
     ensures { MatchOption result (HasHeights map.now.lists fig.now)
         (λ v. IsLeast (HasBadHeight map.now.lists fig.now) v.0) }
 {
-    map.facts();
     let n = map.n() as usize;
     if n <= 255 {
         first_bad_height_of::<255>(map, fig, n)

@@ -50,7 +50,6 @@ impl BarDrawing<'_> {
         requires live { IsLive self.now.map.now d.0 }
         ensures { IsTrue result ↔ HoldsAt self.now.map.now (Breaks self.now.map.now.lists self.now.fig.now) d.0 }
     {
-        self.map.facts();
         let next = self.map.next(d);
         let x = self.column_at(d);
         let z = self.column_at(next);
@@ -68,7 +67,6 @@ impl BarDrawing<'_> {
             (λ v. IsLeast (IsTurned self.now.map.now.lists self.now.fig.now) v.0) }
     {
         let drawing = *self;
-        drawing.map.facts();
         for v in 0..drawing.map.n() {
             if !turns_once(drawing.map, VertexId(v), |d| drawing.is_break(d)) {
                 return Some(VertexId(v));

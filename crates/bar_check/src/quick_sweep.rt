@@ -103,7 +103,6 @@ impl Bar<'_> {
         requires reach { HasReach self.now.drawing.map.now.lists self.now.drawing.fig.now (IsBegun self.now.drawing.map.now.lists self.now.drawing.fig.now self.now.h self.now.v.0 (place_of (dart_of self.now.drawing.map.now d.0).1 (list_of self.now.drawing.map.now.lists self.now.v.0))) peaks.old blocks.old superblocks.old }
         ensures { OnTrue result (HasReach self.now.drawing.map.now.lists self.now.drawing.fig.now (IsBegun self.now.drawing.map.now.lists self.now.drawing.fig.now self.now.h self.now.v.0 (place_of (dart_of self.now.drawing.map.now d.0).1 (list_of self.now.drawing.map.now.lists self.now.v.0) + 1)) peaks.new blocks.new superblocks.new) }
     {
-        self.drawing.map.facts();
         let y = entry_or_zero(&self.drawing.fig.y, self.drawing.map.head(d).0 as usize);
         if y < i32::from(self.h) {
             return true;
@@ -126,7 +125,6 @@ impl Bar<'_> {
         ensures { OnTrue result (HasReach self.now.drawing.map.now.lists self.now.drawing.fig.now (IsBegun self.now.drawing.map.now.lists self.now.drawing.fig.now self.now.h self.now.v.0 (length (list_of self.now.drawing.map.now.lists self.now.v.0))) peaks.new blocks.new superblocks.new) }
     {
         let bar = *self;
-        bar.drawing.map.facts();
         let Some(first) = bar.drawing.map.first_dart(bar.v) else {
             return true;
         };

@@ -151,7 +151,6 @@ impl Peeler {
         requires live { IsLive tri.now base.0 }
         ensures order { OnOk result ((t s : ℕ) → dart_at tri.now base.0 ≡ Some (t, s) → IsCanonicalOrder tri.now.lists (t, s) (vertices_of self.new.order)) }
     {
-        tri.facts();
         let t = tri.tail(base).0;
         let s = tri.head(base).0;
         let third = tri.head(tri.face_step(base)).0;

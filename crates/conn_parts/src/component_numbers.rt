@@ -56,7 +56,6 @@ impl Parts {
 pub fn components(alloc: Global, map: &HalfMap) -> Result<Parts, AllocError>
     ensures { IfOk result (ArePartsOf map.now.lists) }
 {
-    map.facts();
     let lists = map.rotations(alloc)?;
     list_components(alloc, &lists)
 }

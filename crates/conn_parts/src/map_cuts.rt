@@ -11,7 +11,6 @@ use std::alloc::{AllocError, Global};
 pub fn cut_vertex(alloc: Global, map: &HalfMap) -> Result<Option<VertexId>, AllocError>
     ensures { IfOk result (λ found. MatchOption found ((v : ℕ) → ¬ IsCutVertex map.now.lists v) (λ v. IsLeastCutVertex map.now.lists v.0)) }
 {
-    map.facts();
     let lists = map.rotations(alloc)?;
     match list_cut_vertex(alloc, &lists)? {
         Some(v) => Ok(Some(VertexId(v))),
@@ -27,7 +26,6 @@ pub fn separating_pair(
 ) -> Result<Option<(VertexId, VertexId)>, AllocError>
     ensures { IfOk result (λ found. MatchOption found ((u v : ℕ) → ¬ IsSeparatingPair map.now.lists u v) (λ p. IsLeastPair map.now.lists p.0.0 p.1.0)) }
 {
-    map.facts();
     let lists = map.rotations(alloc)?;
     match list_separating_pair(alloc, &lists)? {
         Some(p) => Ok(Some((VertexId(p.0), VertexId(p.1)))),

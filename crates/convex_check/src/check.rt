@@ -28,7 +28,6 @@ pub fn check_convex_points(
     requires places { HasPlaces map.now.lists points.now }
     ensures { IfOk result (IsConvexVerdict map.now.lists points.now (dart_of map.now base.0)) }
 {
-    map.facts();
     let faces = faces(alloc, map)?;
     let drawing = BasedDrawing { map, points, base };
     if let Some((a, b, c)) = drawing.first_bent(&faces) {

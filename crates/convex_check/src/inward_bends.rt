@@ -47,7 +47,6 @@ impl BasedDrawing<'_> {
         requires live { IsLive self.now.map.now d.0 }
         ensures { IsTrue result ↔ HoldsAt self.now.map.now (IsBentFrom self.now.map.now self.now.points.now self.now.base.0) d.0 }
     {
-        self.map.facts();
         let map = self.map;
         let outer = faces.of_dart(self.base);
         let face = faces.of_dart(d);
@@ -63,7 +62,6 @@ impl BasedDrawing<'_> {
         ensures { MatchOption result (NoneBent self.now.map.now.lists self.now.points.now (dart_of self.now.map.now self.now.base.0))
             (λ p. IsLeastTriple (IsBent self.now.map.now.lists self.now.points.now (dart_of self.now.map.now self.now.base.0)) p.0.0 p.1.0 p.2.0) }
     {
-        self.map.facts();
         let drawing = *self;
         match first_dart(drawing.map, |d| drawing.is_bent(faces, d)) {
             Some((a, b)) => match drawing.map.dart_of(a, b) {

@@ -21,7 +21,6 @@ impl BasedDrawing<'_> {
         requires { All (λ d. IsLive self.now.map.now d.0) walk.now }
         ensures { IfOk result (λ places. AreWalkPlaces self.now.map.now self.now.points.now (ids_of walk.now) places.items) }
     {
-        self.map.facts();
         let drawing = *self;
         let mut places = Vec::new(alloc);
         for d in walk {
@@ -36,7 +35,6 @@ impl BasedDrawing<'_> {
         requires faces { AreFaces self.now.map.now faces.now }
         ensures { IfOk result (λ found. IsTrue found ↔ HasOuterCorners self.now.map.now.lists self.now.points.now (dart_of self.now.map.now self.now.base.0)) }
     {
-        self.map.facts();
         let walk = faces.walk(faces.of_dart(self.base));
         let places = self.walk_points(alloc, walk)?;
         Ok(has_corners(&places))

@@ -37,7 +37,6 @@ impl WalkedMap<'_> {
         requires live { IsLive self.now.map.now d.0 }
         ensures { (u v : ℕ) → dart_at self.now.map.now d.0 ≡ Some (u, v) → InWalk self.now.map.now self.now.faces.now result u v }
     {
-        self.map.facts();
         self.faces.of_dart(d).0
     }
 
@@ -53,7 +52,6 @@ impl WalkedMap<'_> {
         ensures other { IfOk result (λ _. IsRowPut (AreOther self.now.map.now self.now.faces.now v.0) (length (list_of self.now.map.now.lists v.0)) other.old.items other.new.items) }
     {
         let walked = *self;
-        walked.map.facts();
         let Some(first) = walked.map.first_dart(v) else {
             return Ok(());
         };
@@ -81,7 +79,6 @@ pub fn numbers_of_faces(
     requires faces { AreFaces map.now faces.now }
     ensures { IfOk result (λ t. AreFaceNumbers map.now.lists t.own t.other t.count) }
 {
-    map.facts();
     let items = 2 * map.m() as usize;
     let mut own = Vec::with_capacity(alloc, items)?;
     let mut own_ends = Vec::with_capacity(alloc, map.n() as usize)?;

@@ -91,7 +91,6 @@ pub fn rows_by_faces(
     requires live { IsLive map.now base.0 }
     ensures { IfOk result (λ rows. (s d : ℕ) → dart_at map.now base.0 ≡ Some (s, d) → AreRowsOfRun map.now.lists s d rows) }
 {
-    map.facts();
     let faces = numbers_of_faces(alloc, map, faces)?;
     let (tail, head) = (map.tail(base).0, map.head(base).0);
     let tables = tables_of(Rotations::new(alloc), lists, faces, tail, head)?;

@@ -34,7 +34,6 @@ impl PointDrawing<'_> {
         ensures { MatchOption result ((c d : ℕ) → ¬ EdgesCross self.now.map.now.lists self.now.points.now a.0 b.0 c d)
             (λ e. IsLeastPair (EdgesCross self.now.map.now.lists self.now.points.now a.0 b.0) e.a.0 e.b.0) }
     {
-        self.map.facts();
         self.first_met(Probe::Edge(a, b), a.0 + 1)
     }
 
@@ -45,7 +44,6 @@ impl PointDrawing<'_> {
         requires live { IsLive self.now.map.now d.0 }
         ensures { IsTrue result ↔ HoldsAt self.now.map.now (IsCrossed self.now.map.now.lists self.now.points.now) d.0 }
     {
-        self.map.facts();
         let a = self.map.tail(d);
         let b = self.map.head(d);
         if b.0 <= a.0 {
@@ -67,7 +65,6 @@ impl PointDrawing<'_> {
         ensures { MatchOption result ((a b : ℕ) → ¬ IsCrossed self.now.map.now.lists self.now.points.now a b)
             (λ e. IsLeastPair (IsCrossed self.now.map.now.lists self.now.points.now) e.a.0 e.b.0) }
     {
-        self.map.facts();
         match loose {
             Some(loose) if have_few_edges(self.map, loose) => {
                 match first_dart(self.map, |d| self.is_dart_crossed(loose, d)) {

@@ -25,7 +25,6 @@ pub fn check_points(map: &HalfMap, points: &Points, corner: Point) -> Verdict
     requires { HasPlaces map.now.lists points.now }
     ensures { IsVerdict map.now.lists points.now corner.x corner.y result }
 {
-    map.facts();
     let drawing = PointDrawing { map, points };
     if let Some(v) = drawing.first_outside(corner) {
         return Verdict::OutOfGrid(v);
@@ -72,7 +71,6 @@ impl PointDrawing<'_> {
         ensures { MatchOption result (NoneShareAPlace self.now.map.now.lists self.now.points.now × NoneOnEdge self.now.map.now.lists self.now.points.now × NoneCross self.now.map.now.lists self.now.points.now)
             (λ verdict. (width height : ℤ) → AllInGrid self.now.map.now.lists self.now.points.now width height → IsVerdict self.now.map.now.lists self.now.points.now width height verdict) }
     {
-        self.map.facts();
         let mut loose = [0; 8];
         match loose_vertices(self.map, self.points, &mut loose) {
             Some(0) => None,

@@ -52,7 +52,6 @@ impl PointDrawing<'_> {
         requires live { IsLive self.now.map.now d.0 }
         ensures { IsTrue result ↔ HoldsAt self.now.map.now (IsMet self.now.map.now.lists self.now.points.now probe) d.0 }
     {
-        self.map.facts();
         let a = self.map.tail(d);
         let b = self.map.head(d);
         a.0 < b.0 && self.meets(probe, a, b)
@@ -64,7 +63,6 @@ impl PointDrawing<'_> {
         ensures { MatchOption result ((a b : ℕ) → ¬ IsMetFrom self.now.map.now.lists self.now.points.now probe from a b)
             (λ e. IsLeastPair (IsMetFrom self.now.map.now.lists self.now.points.now probe from) e.a.0 e.b.0) }
     {
-        self.map.facts();
         match first_dart_from(self.map, from, |d| self.is_met(probe, d)) {
             Some((a, b)) => Some(Ends { a, b }),
             None => None,

@@ -20,7 +20,6 @@ impl PointDrawing<'_> {
         requires live { IsLive self.now.map.now d.0 }
         ensures { IsTrue result ↔ HoldsAt self.now.map.now (Touches self.now.points.now probe) d.0 }
     {
-        self.map.facts();
         let a = self.map.tail(d);
         let b = self.map.head(d);
         self.meets(probe, a, b)
@@ -33,7 +32,6 @@ impl PointDrawing<'_> {
         requires edge { HasEdge self.now.map.now.lists a.0 b.0 }
         ensures { result ≡ false → (c d : ℕ) → ¬ EdgesCross self.now.map.now.lists self.now.points.now a.0 b.0 c d }
     {
-        self.map.facts();
         if is_among(loose, a.0) {
             return true;
         }

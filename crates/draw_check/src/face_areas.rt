@@ -21,7 +21,6 @@ impl PointDrawing<'_> {
         requires sums { AreSumsBelow self.now.map.now self.now.points.now faces.now (number_at self.now.map.now d.0) sums.old }
         ensures { AreSumsBelow self.now.map.now self.now.points.now faces.now (number_at self.now.map.now d.0 + 1) sums.new }
     {
-        self.map.facts();
         let a = self.spot(self.map.tail(d));
         let b = self.spot(self.map.head(d));
         let area = area2(Point { x: 0, y: 0 }, a.point, b.point);
@@ -36,7 +35,6 @@ impl PointDrawing<'_> {
         requires sums { AreSumsBelow self.now.map.now self.now.points.now faces.now (darts_before self.now.map.now.lists v.0) sums.old }
         ensures { AreSumsBelow self.now.map.now self.now.points.now faces.now (darts_before self.now.map.now.lists (v.0 + 1)) sums.new }
     {
-        self.map.facts();
         let Some(first) = self.map.first_dart(v) else {
             return;
         };

@@ -40,7 +40,6 @@ pub fn check_points_by_faces(
     requires places { HasPlaces tri.now.lists points.now }
     ensures { IsFaceVerdict tri.now.lists points.now corner.x corner.y (dart_of tri.now base.0) result }
 {
-    tri.facts();
     let drawing = PointDrawing { map: tri, points };
     if let Some(v) = drawing.first_outside(corner) {
         return FaceVerdict::OutOfGrid(v);
@@ -83,7 +82,6 @@ impl Framed<'_> {
         ensures { IsTrue result ↔ SameFace self.now.drawing.map.now.lists (dart_of self.now.drawing.map.now self.now.base.0) (dart_of self.now.drawing.map.now d.0) }
     {
         let map = self.drawing.map;
-        map.facts();
         let second = map.face_step(self.base);
         let third = map.face_step(second);
         is_one_of(d, self.base, second, third)
@@ -97,7 +95,6 @@ impl Framed<'_> {
         ensures { IsTrue result ↔ HoldsAt self.now.drawing.map.now (IsWrongFrom self.now.drawing.map.now self.now.drawing.points.now self.now.base.0) d.0 }
     {
         let map = self.drawing.map;
-        map.facts();
         let placed = Placed {
             points: self.drawing.points,
         };

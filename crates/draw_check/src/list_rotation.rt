@@ -33,7 +33,6 @@ impl PointDrawing<'_> {
         requires live { IsLive self.now.map.now d.0 }
         ensures { IsTrue result ↔ HoldsAt self.now.map.now (Breaks self.now.map.now.lists self.now.points.now) d.0 }
     {
-        self.map.facts();
         let v = self.spot(self.map.tail(d));
         let u = self.spot(self.map.head(d));
         let w = self.spot(self.map.head(self.map.next(d)));
@@ -46,7 +45,6 @@ impl PointDrawing<'_> {
         ensures { MatchOption result (KeepsRotations self.now.map.now.lists self.now.points.now)
             (λ v. IsLeast (IsTurned self.now.map.now.lists self.now.points.now) v.0) }
     {
-        self.map.facts();
         for v in 0..self.map.n() {
             if !turns_once(self.map, VertexId(v), |d| self.is_break(d)) {
                 return Some(VertexId(v));

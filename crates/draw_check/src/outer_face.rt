@@ -34,7 +34,6 @@ impl Summed<'_> {
         requires live { IsLive self.now.map.now d.0 }
         ensures { IsTrue result ↔ HoldsAt self.now.map.now (HasLowSum self.now.map.now self.now.faces.now self.now.sums.now self.now.base.0) d.0 }
     {
-        self.map.facts();
         let outer = self.faces.of_dart(self.base);
         let face = self.faces.of_dart(d);
         face.0 != outer.0 && self.sums[face.0 as usize] <= 0
@@ -54,7 +53,6 @@ pub fn check_outer_connected(
     requires connected { component_count map.now.lists ≡ 1 }
     ensures { IfOk result (IsOuterVerdict map.now.lists points.now (dart_of map.now base.0)) }
 {
-    map.facts();
     let faces = faces(alloc, map)?;
     let sums = PointDrawing { map, points }.face_sums(alloc, &faces)?;
     let summed = Summed {
@@ -85,7 +83,6 @@ pub fn check_outer(
     requires places { HasPlaces map.now.lists fig.now.points }
     ensures { IfOk result (IsOuterVerdict map.now.lists fig.now.points (dart_of map.now base.0)) }
 {
-    map.facts();
     let count = euler(alloc, map)?;
     if count.c == 1 {
         check_outer_connected(alloc, map, base, &fig.points)

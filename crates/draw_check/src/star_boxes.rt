@@ -17,7 +17,6 @@ impl PointDrawing<'_> {
         ensures range { IsBoxInRange result }
         ensures reach { (v : ℕ) → begin ≤ v → v < end → Reaches self.now.map.now.lists self.now.points.now result v }
     {
-        self.map.facts();
         let mut span = NO_SPAN;
         for v in begin..end {
             let count = self.star_heads(VertexId(v), v + 1, heads);
@@ -33,7 +32,6 @@ impl PointDrawing<'_> {
         requires few { length blocks.old ≤ 256 }
         ensures { AreBlocks self.now.map.now.lists self.now.points.now blocks.new }
     {
-        self.map.facts();
         let n = self.map.n() as usize;
         for k in 0..blocks.len() {
             blocks[k] = self.block_of(heads, (16 * k) as u16, batch_begin(k + 1, n) as u16);

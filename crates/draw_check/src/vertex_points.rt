@@ -72,7 +72,6 @@ impl PointDrawing<'_> {
         ensures { MatchOption result (NoneShareAPlace self.now.map.now.lists self.now.points.now)
             (λ p. IsLeastPair (ShareAPlace self.now.map.now.lists self.now.points.now) p.0.0 p.1.0) }
     {
-        self.map.facts();
         for u in 0..self.map.n() {
             let p = place_at(self.points, VertexId(u));
             for v in u + 1..self.map.n() {

@@ -60,7 +60,6 @@ fn order_by_lists(alloc: Global, tri: &HalfMap, base: DartId) -> Result<Peeler, 
     requires triangulation { IsTriangulation tri.now.lists }
     requires live { IsLive tri.now base.0 }
 {
-    tri.facts();
     let lists = tri.rotations(alloc)?;
     let mut peeler = Peeler::new(alloc);
     peeler.order_lists(alloc, &lists, tri.tail(base).0, tri.head(base).0)?;

@@ -37,7 +37,6 @@ fn put_points(lists: Rotations, row: &Row<'_>, out: &mut Reply)
 fn put_bars(map: &HalfMap, lists: Rotations, row: &Row<'_>, out: &mut Reply)
     requires { lists ≡ map.now.lists }
 {
-    map.facts();
     if let Some(bars) = bars_of(out.alloc, behind(row.args, 1), lists.len()) {
         if bars.column.len() == map.m() as usize {
             put_picture(Figure::Bars { lists, bars }, out);
@@ -47,7 +46,6 @@ fn put_bars(map: &HalfMap, lists: Rotations, row: &Row<'_>, out: &mut Reply)
 
 /// Writes the picture of a map by the points of its vertices, or by its bars.
 pub fn answer(row: &Row<'_>, map: &HalfMap, out: &mut Reply) {
-    map.facts();
     if let Ok(lists) = map.rotations(out.alloc) {
         if row.call == "grid" {
             put_points(lists, row, out);

@@ -175,7 +175,6 @@ pub fn euler(alloc: Global, map: &HalfMap) -> Result<EulerCount, AllocError>
     ensures f { IfOk result (λ count. count.f ≡ face_count map.now.lists) }
     ensures c { IfOk result (λ count. count.c ≡ component_count map.now.lists) }
 {
-    map.facts();
     let lists = map.rotations(alloc)?;
     match count_lists(alloc, &lists) {
         Ok(count) => Ok(count),

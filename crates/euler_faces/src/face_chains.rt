@@ -60,7 +60,6 @@ fn go_on<F: Fn(DartId) -> bool>(
     requires room { length met.old ≡ 2 * id_bound map.now }
     ensures { OnOk result (GoesFrom map.now (F.post counts.now) side met.old sides.old.items met.new sides.new.items) }
 {
-    map.facts();
     let along = FaceSide {
         dart: map.face_step(side.dart),
         odd: side.odd,
@@ -95,7 +94,6 @@ pub fn mark_reached<F: Fn(DartId) -> bool>(
     requires unset { (i : ℕ) → mark_at met.old i ≡ false }
     ensures { OnOk result (MarksReached map.now (F.post counts) start.0 met.new) }
 {
-    map.facts();
     let mut sides = Vec::new(alloc);
     let first = FaceSide {
         dart: start,

@@ -35,7 +35,6 @@ impl Walking<'_> {
         ensures { OnOk result (AreWalked self.now.map.now walks.new.items of.new (number_at self.now.map.now start.0 + 1)) }
     {
         let map = self.map;
-        map.facts();
         if of[start.0 as usize] != NO_FACE {
             return Ok(());
         }
@@ -63,7 +62,6 @@ impl Walking<'_> {
         requires walking { AreWalked self.now.map.now walks.old.items of.old (darts_before self.now.map.now.lists v.0) }
         ensures { OnOk result (AreWalked self.now.map.now walks.new.items of.new (darts_before self.now.map.now.lists (v.0 + 1))) }
     {
-        self.map.facts();
         let Some(first) = self.map.first_dart(v) else {
             return Ok(());
         };
@@ -86,7 +84,6 @@ impl Walking<'_> {
         ensures count { OnOk result (length walks.new.items ≡ class_count (face_classes self.now.map.now.lists)) }
         ensures numbered { OnOk result (AreNumbered walks.new.items of.new) }
     {
-        self.map.facts();
         for v in 0..self.map.n() {
             self.add_vertex(of, walks, VertexId(v))?;
         }

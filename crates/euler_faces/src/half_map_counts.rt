@@ -34,7 +34,6 @@ pub fn euler_by_components(
     ensures f { IfOk result (λ count. count.f ≡ face_count map.now.lists) }
     ensures c { IfOk result (λ count. count.c ≡ component_count map.now.lists) }
 {
-    map.facts();
     let faces = faces(alloc, map)?;
     let isolated = count_isolated(map);
     Ok(EulerCount {

@@ -34,7 +34,6 @@ impl MapDrawing<'_> {
     fn bend_verdict(&self) -> Result<FigureVerdict, AllocError>
         ensures { IfOk result (IsBendVerdict self.now.map.now.lists self.now.points.now) }
     {
-        self.map.facts();
         match self.map.first_dart(VertexId(0)) {
             Some(base) => {
                 let verdict = check_convex_points(self.alloc, self.map, base, self.points)?;

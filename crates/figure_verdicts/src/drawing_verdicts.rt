@@ -77,7 +77,6 @@ impl MapDrawing<'_> {
         ensures { IfOk result (λ verdict. (width height : ℤ) → IsVerdict self.now.map.now.lists self.now.points.now width height NoFault
             → IsDrawnVerdict self.now.map.now.lists self.now.points.now width height verdict) }
     {
-        self.map.facts();
         match self.map.first_dart(VertexId(0)) {
             Some(base) => match check_outer_connected(self.alloc, self.map, base, self.points)? {
                 OuterVerdict::Inside(v, u) => Ok(FigureVerdict::Inside(v, u)),

@@ -33,7 +33,6 @@ pub fn shift_draw(alloc: Global, tri: &HalfMap, order: &Order) -> Result<GridFig
     requires order { (base : Dart) × IsCanonicalOrder tri.now.lists base (vertices_of order.now) }
     ensures { IfOk result (IsShiftOf tri.now.lists (vertices_of order.now)) }
 {
-    tri.facts();
     let lists = tri.rotations(alloc)?;
     let mut shifter = Shifter::new(alloc);
     let figure = shifter.list_draw(&lists, order)?;

@@ -8,8 +8,8 @@ use Rattle.map_lists.proofs.CutLemmas.{IsStored, IsStored-push}
 use Rattle.map_theory.specs.Maps.{Dart, list_of, HasDart, darts_before, place_of, follows, entry_after, twin_dart}
 use Rattle.map_theory.proofs.DartLemmas.{darts_before_more, darts_before_end, place_of-lt-length, get_or-place_of, place_of-get_or, place_after, place_before, place_before-lt, place_after-before, entry_after-place}
 use Rattle.map_theory.proofs.DartCounts.{dart_count-edge_count}
-use Rattle.half_edges.specs.Map.{Map, dart_at, IsLive, IsHalfMap, next_dart}
-use Rattle.half_edges.specs.Arena.{no_record, no_vertex, vertex_at, twin_of, next_of, prev_of, tail_of, live_of, head_of, dart_of_record, dart_in, steps, walk, IsWalkable, arena_lists, arena_map, IsLinked, IsArena}
+use Rattle.half_edges.specs.Map.{AreMapFacts, Map, dart_at, IsLive, IsHalfMap, next_dart}
+use Rattle.half_edges.specs.Arena.{arena_ids, no_record, no_vertex, vertex_at, twin_of, next_of, prev_of, tail_of, live_of, head_of, dart_of_record, dart_in, steps, walk, IsWalkable, arena_lists, arena_map, IsLinked, IsArena}
 use Rattle.half_edges.specs.declared.dart_records.DartRecord.{DartRecord}
 use Rattle.half_edges.specs.declared.dart_records.VertexRecord.{VertexRecord}
 
@@ -19,7 +19,7 @@ get_or-map_default f e (r ∷ records) zero = refl
 get_or-map_default f e (r ∷ records) (suc d) = get_or-map_default f e records d
 
 -- the dart of an id is that of its record
-pub dart_at-arena : (darts : List DartRecord) (vertices : List VertexRecord) (spare d : ℕ) → dart_at (arena_map darts vertices spare) d ≡ dart_in darts d
+pub dart_at-arena : (darts : List DartRecord) (vertices : List VertexRecord) (spare d : ℕ) → get_or (arena_ids darts) d None ≡ dart_in darts d
 dart_at-arena darts vertices spare d = get_or-map_default (dart_of_record darts) refl darts d
 
 pub dart_in-live : (darts : List DartRecord) (d : ℕ) → live_of darts d ≡ true → dart_in darts d ≡ Some (tail_of darts d, head_of darts d)
@@ -135,7 +135,7 @@ module _ (lists : Lists) (darts : List DartRecord) (vertices : List VertexRecord
 
 -- the facts that readers need, of a map that is the view of an arena
 module _ (darts : List DartRecord) (vertices : List VertexRecord) (edges free spare : ℕ) (a : IsArena (arena_lists darts vertices) darts vertices edges free spare) where
-  known_here : IsHalfMap (arena_map darts vertices spare)
+  pub known_here : AreMapFacts (arena_lists darts vertices) spare (arena_ids darts)
   known_here = record {
     simple = a.simple;
     few_vertices = a.few_vertices;
@@ -146,9 +146,9 @@ module _ (darts : List DartRecord) (vertices : List VertexRecord) (edges free sp
     few_edges = omega (arith, a.room, a.edges_are);
   }
 
-  module _ (map : Map) (view : arena_map darts vertices spare ≡ map) where
+  module _ {k : AreMapFacts (arena_lists darts vertices) spare (arena_ids darts)} (map : Map) (view : arena_map darts vertices spare k ≡ map) where
     pub known : IsHalfMap map
-    known = subst (λ m. IsHalfMap m) view known_here
+    known = map.known
 
     pub same_lists : map.lists ≡ arena_lists darts vertices
     same_lists = ap (λ (m : Map). m.lists) (sym view)
@@ -236,7 +236,7 @@ module _ (darts : List DartRecord) (vertices : List VertexRecord) (edges free sp
 -- the steps from a vertex's first dart stay within the records
 pub walkable_here : (darts : List DartRecord) (vertices : List VertexRecord) (edges free spare : ℕ) → IsArena (arena_lists darts vertices) darts vertices edges free spare → (v : ℕ) → v < length vertices → IsWalkable darts (vertex_at vertices v).first (vertex_at vertices v).degree
 walkable_here darts vertices edges free spare a v l =
-    walkable darts vertices edges free spare a (arena_map darts vertices spare) refl v (omega (arith, l, a.linked.vertex_count))
+    walkable darts vertices edges free spare a (arena_map darts vertices spare (known_here darts vertices edges free spare a)) refl v (omega (arith, l, a.linked.vertex_count))
 
 -- what a reader of a vertex's record and of all records of darts has read
 pub walkable_read : (darts read : List DartRecord) (vertex other : VertexRecord) → read ≡ darts → other ≡ vertex → IsWalkable darts vertex.first vertex.degree → IsWalkable read other.first other.degree

@@ -3,6 +3,7 @@ use Rattle.std.proofs.Common.{◌≡◌, true, false, [], ◌∷◌, Some, None,
 use Rattle.map_lists.specs.Lists.{Lists}
 use Rattle.map_theory.specs.Edges.{without_edge}
 use Rattle.half_edges.specs.Edges.{corner_place, with_edge}
+use Rattle.half_edges.specs.Map.{AreMapFacts}
 use Rattle.half_edges.specs.Induced.{induced_lists}
 use Rattle.half_edges.specs.declared.edge_edits.Corner.TheVariants.{After}
 
@@ -30,9 +31,9 @@ isolated-with_edge : with_edge ([] ∷ [] ∷ []) 0 None 1 None ≡ (1 ∷ []) �
 isolated-with_edge = refl
 
 -- the place of a corner at a dart from 1 to 2 under the id 1
-place-after : corner_place (record { lists = square; spare = 1; ids = None ∷ Some (1, 2) ∷ [] }) (After (record { 0 = 1 })) ≡ Some (1, Some 2)
+place-after : (known : AreMapFacts square 1 (None ∷ Some (1, 2) ∷ [])) → corner_place (record { lists = square; spare = 1; ids = None ∷ Some (1, 2) ∷ []; known = known }) (After (record { 0 = 1 })) ≡ Some (1, Some 2)
 unfolding square
-place-after = refl
+place-after known = refl
 
 k4-induced : induced_lists (true ∷ false ∷ true ∷ true ∷ []) k4 ≡ (1 ∷ 2 ∷ []) ∷ (0 ∷ 2 ∷ []) ∷ (0 ∷ 1 ∷ []) ∷ []
 unfolding k4

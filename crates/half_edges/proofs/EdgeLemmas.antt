@@ -1,5 +1,5 @@
 -- What a map is once an edge of its arena has come or gone.
-use Rattle.std.proofs.Common.{ℕ, ◌+◌, ◌-◌, ◌*◌, ◌<◌, ◌≤◌, ◌≡◌, ◌≢◌, List, [], ◌++◌, length, take, drop, Option, Some, option_map, refl, sym, ap, ◌∙◌, subst, arith}
+use Rattle.std.proofs.Common.{None, get_or, ℕ, ◌+◌, ◌-◌, ◌*◌, ◌<◌, ◌≤◌, ◌≡◌, ◌≢◌, List, [], ◌++◌, length, take, drop, Option, Some, option_map, refl, sym, ap, ◌∙◌, subst, arith}
 use Rattle.std.proofs.lemmas.List.{take_at}
 use Rattle.std.proofs.lemmas.Option.{some_pair_parts}
 use Rattle.map_lists.specs.Lists.{Lists}
@@ -7,8 +7,8 @@ use Rattle.map_theory.specs.Maps.{Dart, HasDart, list_of, edge_count}
 use Rattle.map_theory.specs.Edges.{without_edge}
 use Rattle.map_theory.proofs.WithoutEdge.{edge_count-without}
 use Rattle.map_theory.proofs.DartCounts.{dart_count-edge_count, few_darts-simple}
-use Rattle.half_edges.specs.Map.{Map, dart_at, IsLive}
-use Rattle.half_edges.specs.Arena.{tail_of, head_of, dart_in, arena_lists, arena_map, IsArena, IsWired}
+use Rattle.half_edges.specs.Map.{AreMapFacts, Map, dart_at, IsLive}
+use Rattle.half_edges.specs.Arena.{arena_ids, tail_of, head_of, dart_in, arena_lists, arena_map, IsArena, IsWired}
 use Rattle.half_edges.specs.Edges.{corner_place, IsCorner, corner_tail, corner_entry, IsCornerIn, AreCornersIn}
 use Rattle.half_edges.specs.declared.edge_edits.Corner.{Corner}
 use Rattle.half_edges.specs.declared.edge_edits.Corner.TheVariants.{After, Only}
@@ -40,13 +40,13 @@ pub few_edges : (darts : List DartRecord) (vertices : List VertexRecord) (edges 
 few_edges darts vertices edges free spare a =
     omega (arith, a.edges_are, dart_count-edge_count (arena_lists darts vertices) a.simple, few_darts-simple (arena_lists darts vertices) a.few_vertices a.simple)
 
-module _ (darts : List DartRecord) (vertices : List VertexRecord) (edges free spare : ℕ) (a : IsArena (arena_lists darts vertices) darts vertices edges free spare) (map : Map) (view : arena_map darts vertices spare ≡ map) where
+module _ (darts : List DartRecord) (vertices : List VertexRecord) (edges free spare : ℕ) (a : IsArena (arena_lists darts vertices) darts vertices edges free spare) {k : AreMapFacts (arena_lists darts vertices) spare (arena_ids darts)} (map : Map) (view : arena_map darts vertices spare k ≡ map) where
   -- an id's dart, in the records
   pub ends_are : (d u v : ℕ) → dart_at map d ≡ Some (u, v) → IsDartAt darts d u v
   ends_are d u v e = IsDartAt-from darts d u v (sym (dart_at-in darts vertices edges free spare a map view d) ∙ e)
 
   -- an id keeps its dart where its record does
-  pub ids_kept : (new : List DartRecord) (after : List VertexRecord) (left : ℕ) (e v u : ℕ) → (dart_in darts e ≡ Some (v, u) → dart_in new e ≡ Some (v, u)) → dart_at map e ≡ Some (v, u) → dart_at (arena_map new after left) e ≡ Some (v, u)
+  pub ids_kept : (new : List DartRecord) (after : List VertexRecord) (left : ℕ) (e v u : ℕ) → (dart_in darts e ≡ Some (v, u) → dart_in new e ≡ Some (v, u)) → dart_at map e ≡ Some (v, u) → get_or (arena_ids new) e None ≡ Some (v, u)
   ids_kept new after left e v u kept some = dart_at-arena new after left e ∙ kept (sym (dart_at-in darts vertices edges free spare a map view e) ∙ some)
 
   -- the lists of a map are those of the arena

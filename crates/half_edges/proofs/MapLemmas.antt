@@ -1,5 +1,5 @@
 -- What the tables of a map say of its darts and their ids.
-use Rattle.std.proofs.Common.{ℕ, zero, suc, ◌+◌, ◌/◌, ◌<◌, ◌≤◌, ◌≡◌, cond, ltb, List, [], ◌∷◌, length, get_or, slice_get, Option, Some, option_map, refl, sym, ap, ◌∙◌, arith}
+use Rattle.std.proofs.Common.{None, ℕ, zero, suc, ◌+◌, ◌/◌, ◌<◌, ◌≤◌, ◌≡◌, cond, ltb, List, [], ◌∷◌, length, get_or, slice_get, Option, Some, option_map, refl, sym, ap, ◌∙◌, arith}
 use Rattle.std.proofs.lemmas.List.{length-map}
 use Rattle.std.proofs.lemmas.Option.{slice_get-get_or, slice_get_within, get_or_from_slice_get}
 use Rattle.std.proofs.lemmas.Bool.Decides.{nat_tests}
@@ -7,13 +7,13 @@ use Rattle.map_lists.specs.Lists.{Lists}
 use Rattle.map_theory.specs.Maps.{Dart, list_of, HasDart, darts, darts_before, dart_count, dart_number, edge_count, place_of, follows}
 use Rattle.map_theory.proofs.DartLemmas.{length-darts, IsDartNumber-darts, dart_at_place, place_after, place_after-lt, darts_before_end, place_of-lt-length, entry_after-place, darts_before_more}
 use Rattle.map_theory.proofs.DartCounts.{dart_count-edge_count, few_darts-simple}
-use Rattle.half_edges.specs.Map.{Map, dart_at, IsHalfMap, next_dart}
+use Rattle.half_edges.specs.Map.{AreMapFacts, Map, dart_at, IsHalfMap, next_dart}
 use Rattle.simple_maps.specs.Tables.{AreTables}
-use Rattle.half_edges.specs.Tables.{map_of}
+use Rattle.half_edges.specs.Tables.{map_of, ids_of}
 use Rattle.simple_maps.proofs.TwinLemmas.{HasDart-from_slice_get, slice_get-dart_number}
 
 -- the dart of an id is that of its number
-pub dart_at-map_of : (lists : Lists) (ends : List Dart) (d : ℕ) → dart_at (map_of lists ends) d ≡ slice_get ends d
+pub dart_at-map_of : (lists : Lists) (ends : List Dart) (d : ℕ) → get_or (ids_of ends) d None ≡ slice_get ends d
 dart_at-map_of lists [] d = refl
 dart_at-map_of lists (e ∷ ends) zero = refl
 dart_at-map_of lists (e ∷ ends) (suc d) = dart_at-map_of lists ends d
@@ -40,7 +40,7 @@ module _ (lists : Lists) (starts : List ℕ) (ends : List Dart) (twins : List �
       sym (IsDartNumber-darts lists d (v, u) t.simple.no_repeat in_darts).number ∙ ap (λ (dart : Dart). dart_number lists dart) same
 
   -- what every caller may know
-  pub IsHalfMap-map_of : IsHalfMap (map_of lists ends)
+  pub IsHalfMap-map_of : AreMapFacts lists 0 (ids_of ends)
   IsHalfMap-map_of = record {
     simple = t.simple;
     few_vertices = t.few_vertices;
@@ -51,7 +51,7 @@ module _ (lists : Lists) (starts : List ℕ) (ends : List Dart) (twins : List �
     few_edges = omega (arith, few_darts-simple lists t.few_vertices t.simple, dart_count-edge_count lists t.simple);
   }
 
-module _ (lists : Lists) (starts : List ℕ) (ends : List Dart) (twins : List ℕ) (t : AreTables lists starts ends twins) (map : Map) (view : map_of lists ends ≡ map) where
+module _ (lists : Lists) (starts : List ℕ) (ends : List Dart) (twins : List ℕ) (t : AreTables lists starts ends twins) {k : AreMapFacts lists 0 (ids_of ends)} (map : Map) (view : map_of lists ends k ≡ map) where
   pub same_lists : map.lists ≡ lists
   same_lists = ap (λ (m : Map). m.lists) (sym view)
 

@@ -29,10 +29,10 @@ module _ (lists : Lists) (starts : List ℕ) (ends : List Dart) (twins : List �
     here = slice_get-get_or ends d (0, 0) l
 
     pub start_before : get_or starts (get_or ends d (0, 0)).0 0 ≤ d
-    start_before = from_start lists starts ends twins t (map_of lists ends) refl d (get_or ends d (0, 0)) here
+    start_before = from_start lists starts ends twins t (map_of lists ends (IsHalfMap-map_of lists starts ends twins t)) refl d (get_or ends d (0, 0)) here
 
     pub end_behind : d < get_or starts ((get_or ends d (0, 0)).0 + 1) 0
-    end_behind = below_end lists starts ends twins t (map_of lists ends) refl d (get_or ends d (0, 0)) here
+    end_behind = below_end lists starts ends twins t (map_of lists ends (IsHalfMap-map_of lists starts ends twins t)) refl d (get_or ends d (0, 0)) here
 
   -- two numbers with one dart are one
   one_number : (d e v u : ℕ) → slice_get ends d ≡ Some (v, u) → slice_get ends e ≡ Some (v, u) → d ≡ e
@@ -88,7 +88,7 @@ module _ (lists : Lists) (starts : List ℕ) (ends : List Dart) (twins : List �
         let end : get_or starts ((get_or ends d (0, 0)).0 + 1) 0 ≡ get_or starts (v + 1) 0 = ap (λ (x : Dart). get_or starts (x.0 + 1) 0) same in
         ap (λ x. slice_get ends x) (next_is d (slice_get_within ends d (v, u) e))
         ∙ sym (dart_at-map_of lists ends _)
-        ∙ next_at lists starts ends twins t (map_of lists ends) refl d (v, u) e (get_or starts (get_or ends d (0, 0)).0 0) (get_or starts ((get_or ends d (0, 0)).0 + 1) 0) start end
+        ∙ next_at lists starts ends twins t (map_of lists ends (IsHalfMap-map_of lists starts ends twins t)) refl d (v, u) e (get_or starts (get_or ends d (0, 0)).0 0) (get_or starts ((get_or ends d (0, 0)).0 + 1) 0) start end
         ∙ ap (λ o. option_map (next_dart lists) o) (dart_at-map_of lists ends d ∙ e)
 
     back_again : (s e d n p : ℕ) → s ≤ d → d < e → n ≡ cond (ltb (d + 1) e) (d + 1) s → p ≡ cond (eqb n s) (e - 1) (n - 1) → p ≡ d
@@ -117,7 +117,7 @@ module _ (lists : Lists) (starts : List ℕ) (ends : List Dart) (twins : List �
       prev_at = prev_dart_is;
       vertex_count = vs.count;
       degree_at = λ v l. vs.degree v l;
-      first_at = λ v l some. sym (dart_at-map_of lists ends (vertex_at vertices v).first) ∙ first_at lists starts ends twins t (map_of lists ends) refl v l (vertex_at vertices v).first (vs.first v l) some;
+      first_at = λ v l some. sym (dart_at-map_of lists ends (vertex_at vertices v).first) ∙ first_at lists starts ends twins t (map_of lists ends (IsHalfMap-map_of lists starts ends twins t)) refl v l (vertex_at vertices v).first (vs.first v l) some;
     }
 
     paired_by_tables : (d : ℕ) → d < length darts → IsPaired darts d

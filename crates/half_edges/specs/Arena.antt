@@ -2,7 +2,7 @@
 use Rattle.std.specs.Prelude.{ℕ, zero, suc, ◌+◌, ◌*◌, ◌<◌, ◌≤◌, ◌≡◌, ◌≢◌, Bool, false, if◌then◌else◌, List, [], ◌∷◌, ◌++◌, map, length, slice_index_or, AllPairs, Option, Some, None}
 use Rattle.map_lists.specs.Lists.{Lists}
 use Rattle.map_theory.specs.Maps.{Dart, IsSimpleMap, HasDart, list_of, follows, edge_count}
-use Rattle.half_edges.specs.Map.{Map}
+use Rattle.half_edges.specs.Map.{Map, AreMapFacts}
 use Rattle.half_edges.specs.declared.dart_records.DartRecord.{DartRecord}
 use Rattle.half_edges.specs.declared.dart_records.VertexRecord.{VertexRecord}
 
@@ -64,9 +64,13 @@ IsWalkable darts d n =
 abbrev pub arena_lists : List DartRecord → List VertexRecord → Lists
 arena_lists darts vertices = map (λ v. walk darts v.first v.degree) vertices
 
-abbrev pub arena_map : List DartRecord → List VertexRecord → ℕ → Map
-arena_map darts vertices spare =
-    record { lists = arena_lists darts vertices; spare = spare; ids = map (dart_of_record darts) darts }
+-- and the ids are the numbers of the records
+abbrev pub arena_ids : List DartRecord → List (Option Dart)
+arena_ids darts = map (dart_of_record darts) darts
+
+abbrev pub arena_map : (darts : List DartRecord) (vertices : List VertexRecord) (spare : ℕ) → AreMapFacts (arena_lists darts vertices) spare (arena_ids darts) → Map
+arena_map darts vertices spare known =
+    record { lists = arena_lists darts vertices; spare = spare; ids = arena_ids darts; known = known }
 
 -- The links of the darts that the ids have: next and prev go round each vertex as its list does.
 pub record IsLinked (dart : ℕ → Option Dart) (lists : Lists) (darts : List DartRecord) (vertices : List VertexRecord) : Type 0 where

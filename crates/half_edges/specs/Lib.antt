@@ -4,5 +4,6 @@ pub mod Edges
 pub mod Induced
 pub mod Links
 pub mod Map
+pub mod MapFacts
 pub mod Rounds
 pub mod Tables

@@ -3,6 +3,18 @@ use Rattle.std.specs.Prelude.{ℕ, ◌+◌, ◌*◌, ◌<◌, ◌≤◌, ◌≡�
 use Rattle.map_lists.specs.Lists.{Lists}
 use Rattle.map_theory.specs.Maps.{Dart, IsSimpleMap, HasDart, list_of, follows, edge_count}
 
+-- What holds of every half-edge map, by its lists, the room for more edges and the dart of each id.
+pub record AreMapFacts (lists : Lists) (spare : ℕ) (ids : List (Option Dart)) : Type 0 where
+  pub simple : IsSimpleMap lists
+  pub few_vertices : length lists < 4096
+  -- an id has a dart of the map
+  pub is_dart : (d v u : ℕ) → slice_index_or ids d None ≡ Some (v, u) → HasDart lists v u
+  -- each dart has an id, and no other
+  pub has_id : (v u : ℕ) → HasDart lists v u → (d : ℕ) × (slice_index_or ids d None ≡ Some (v, u))
+  pub one_id : (d e v u : ℕ) → slice_index_or ids d None ≡ Some (v, u) → slice_index_or ids e None ≡ Some (v, u) → d ≡ e
+  pub few_ids : length ids ≤ 2 * (edge_count lists + spare)
+  pub few_edges : edge_count lists + spare ≤ 16777216
+
 -- a half-edge map, as contracts see it
 pub record Map : Type 0 where
   -- for each vertex its neighbours, clockwise
@@ -11,6 +23,8 @@ pub record Map : Type 0 where
   pub spare : ℕ
   -- for each number of an id its dart, or None where no dart has that id
   pub ids : List (Option Dart)
+  -- what holds of every map
+  pub known : AreMapFacts lists spare ids
 
 -- the dart of an id, if it is live
 abbrev pub dart_at : Map → ℕ → Option Dart
@@ -33,13 +47,5 @@ abbrev pub id_bound : Map → ℕ
 id_bound map = 2 * (edge_count map.lists + map.spare)
 
 -- What holds of every half-edge map.
-pub record IsHalfMap (map : Map) : Type 0 where
-  pub simple : IsSimpleMap map.lists
-  pub few_vertices : length map.lists < 4096
-  -- an id has a dart of the map
-  pub is_dart : (d v u : ℕ) → dart_at map d ≡ Some (v, u) → HasDart map.lists v u
-  -- each dart has an id, and no other
-  pub has_id : (v u : ℕ) → HasDart map.lists v u → (d : ℕ) × (dart_at map d ≡ Some (v, u))
-  pub one_id : (d e v u : ℕ) → dart_at map d ≡ Some (v, u) → dart_at map e ≡ Some (v, u) → d ≡ e
-  pub few_ids : length map.ids ≤ id_bound map
-  pub few_edges : edge_count map.lists + map.spare ≤ 16777216
+abbrev pub IsHalfMap : Map → Type 0
+IsHalfMap map = AreMapFacts map.lists map.spare map.ids

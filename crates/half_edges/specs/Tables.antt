@@ -1,16 +1,19 @@
 -- What the tables of a half-edge map say.
-use Rattle.std.specs.Prelude.{ℕ, ◌+◌, ◌-◌, ◌<◌, ◌≡◌, ◌==◌, nat_lt, if◌then◌else◌, true, List, map, length, slice_index, slice_index_or, Some}
+use Rattle.std.specs.Prelude.{ℕ, ◌+◌, ◌-◌, ◌<◌, ◌≡◌, ◌==◌, nat_lt, if◌then◌else◌, true, List, map, length, slice_index, slice_index_or, Option, Some}
 use Rattle.map_lists.specs.Lists.{Lists}
 use Rattle.map_theory.specs.Maps.{Dart, list_of}
-use Rattle.half_edges.specs.Map.{Map}
+use Rattle.half_edges.specs.Map.{Map, AreMapFacts}
 use Rattle.half_edges.specs.Arena.{record_at, vertex_at}
 use Rattle.half_edges.specs.declared.dart_records.DartRecord.{DartRecord}
 use Rattle.half_edges.specs.declared.dart_records.VertexRecord.{VertexRecord}
 use Rattle.simple_maps.specs.Tables.{AreTables}
 
 -- the map of these tables: a dart's id is its number
-abbrev pub map_of : Lists → List Dart → Map
-map_of lists ends = record { lists = lists; spare = 0; ids = map (λ d. Some d) ends }
+abbrev pub ids_of : List Dart → List (Option Dart)
+ids_of ends = map (λ d. Some d) ends
+
+abbrev pub map_of : (lists : Lists) (ends : List Dart) → AreMapFacts lists 0 (ids_of ends) → Map
+map_of lists ends known = record { lists = lists; spare = 0; ids = ids_of ends; known = known }
 
 -- the record of a dart, by the tables: next and prev are the numbers after and before its own, round its vertex
 abbrev pub table_record : List ℕ → List Dart → List ℕ → ℕ → DartRecord

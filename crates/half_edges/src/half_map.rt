@@ -2,7 +2,9 @@
 ghost use Rattle.std.specs.Prelude.{◌≡◌, ◌+◌, ◌-◌, ◌<◌, ◌≤◌, ◌==◌, nat_lt, if◌then◌else◌, ◌↔◌, ℕ, List, [], length, slice_index, Some, None, IsTrue, IfOk, IfErr, IfSome, MatchOption, option_map};
 ghost use Rattle.map_theory.specs.Maps.{HasDart, list_of, vertex_count, edge_count, face_step, twin_dart};
 ghost use Rattle.simple_maps.specs.Faults.{first_fault};
-ghost use Rattle.half_edges.specs.Map.{IsHalfMap, IsLive, dart_at, first_dart, next_dart};
+ghost use Rattle.half_edges.specs.MapFacts.{AreMapFacts-prop};
+ghost use Rattle.half_edges.specs.Arena.{arena_lists, arena_ids};
+ghost use Rattle.half_edges.specs.Map.{AreMapFacts, IsHalfMap, IsLive, dart_at, first_dart, next_dart};
 ghost use Rattle.simple_maps.specs.MapFault.{Names};
 ghost use Rattle.simple_maps.specs.Tables.{AreSlots};
 
@@ -28,15 +30,19 @@ pub struct HalfMap {
     pub(crate) free: u32,
     // how many edges are free
     pub(crate) spare: u32,
+    pub(crate) ghost known: { AreMapFacts (arena_lists darts.items vertices.items) spare (arena_ids darts.items) } by { AreMapFacts-prop (arena_lists darts.items vertices.items) spare (arena_ids darts.items) },
 }
 
 impl Model for HalfMap {
     ghost use Rattle.half_edges.specs.Map.{Map};
+    ghost use Rattle.half_edges.specs.MapFacts.{Map-coded};
     ghost use Rattle.half_edges.specs.Arena.{IsArena, arena_lists, arena_map};
 
     ghost Value = { Map };
 
-    ghost view = { λ m. arena_map m.darts.items m.vertices.items m.spare };
+    ghost view = { λ m. arena_map m.darts.items m.vertices.items m.spare m.known };
+
+    ghost coded = { Map-coded };
 
     ghost invariant = { λ m. IsArena (arena_lists m.darts.items m.vertices.items) m.darts.items m.vertices.items m.edges m.free m.spare };
 }

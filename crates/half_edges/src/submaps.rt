@@ -31,7 +31,6 @@ impl HalfMap {
         ensures spare { IfOk result (λ map. map.spare ≡ 0) }
         ensures known { IfOk result IsHalfMap }
     {
-        self.facts();
         let lists = self.rotations(alloc)?;
         HalfMap::from_simple(alloc, &lists)
     }
@@ -47,7 +46,6 @@ impl HalfMap {
         ensures spare { IfOk result (λ map. map.spare ≡ 0) }
         ensures known { IfOk result IsHalfMap }
     {
-        self.facts();
         let lists = self.rotations(alloc)?;
         let part = induced_rotations(alloc, &lists, keep)?;
         HalfMap::from_simple(alloc, &part)

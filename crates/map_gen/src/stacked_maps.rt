@@ -60,7 +60,6 @@ fn put_vertex(map: &mut HalfMap, k: VertexId, face: FaceDarts) -> (FaceDarts, Fa
     ensures put { (f : Face) → HasDarts map.old face f → IsVertexPut map.old map.new k.0 f result.0 result.1 result.2 }
     ensures spare { map.new.spare + 3 ≡ map.old.spare }
 {
-    map.facts();
     let at_a = map.twin(face.c);
     let at_b = map.twin(face.a);
     let at_c = map.twin(face.b);
@@ -94,7 +93,6 @@ fn inner_face(map: &HalfMap) -> FaceDarts
     requires { IsFaceOf map.now.lists (record { a = 0; b = 2; c = 1 }) }
     ensures { HasDarts map.now result (record { a = 0; b = 2; c = 1 }) }
 {
-    map.facts();
     let first = match map.dart_of(VertexId(0), VertexId(2)) {
         Some(d) => d,
         None => unreachable!(),

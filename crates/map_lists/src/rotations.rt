@@ -1,16 +1,17 @@
 //! `Rotations`: the rotation lists of a map, at most 4095.
-ghost use Rattle.std.specs.Prelude.{◌≡◌, ◌<◌, [], length, sum_by, take, slice_index_or};
+ghost use Rattle.std.specs.Prelude.{◌≡◌, ◌<◌, [], ◌∷◌, ◌++◌, length, sum_by, take, slice_index_or, OnOk, OnErr};
 ghost use Rattle.map_lists.specs.Cuts.{cut, joined, AreCuts, ends_from};
 
 use crate::ItemLists;
-use std::alloc::Global;
+use std::alloc::{AllocError, Global};
 use std::marker::Model;
 
 /// The most vertices that a map has.
 pub const MOST_VERTICES: u16 = 4095;
 
 /// Rotation lists: for each vertex, by its number from 0, the vertices round it. Contracts see them as that list of
-/// lists, which are at most 4095: `len` and `facts` say so. They are made as `ItemLists`, or of their two vectors.
+/// lists, which are at most 4095: `len` and `facts` say so. They are made list by list, as `ItemLists`, or of their two
+/// vectors.
 #[derive(Drop)]
 pub struct Rotations {
     lists: ItemLists<u16>,
@@ -61,6 +62,16 @@ impl Rotations {
         ensures ends { result.1.items ≡ ends_from 0 self }
     {
         self.lists.into_parts()
+    }
+
+    /// Appends a copy of `list`, as the list of the vertex after the last. Fails only when out of memory, and then
+    /// nothing has changed.
+    pub fn push(&mut self, list: &[u16]) -> Result<(), AllocError>
+        requires { length self.old < 4095 }
+        ensures ok { OnOk result (self.new ≡ self.old ++ list.now ∷ []) }
+        ensures err { OnErr result (self.new ≡ self.old) }
+    {
+        self.lists.push(list)
     }
 
     /// Removes all lists, and keeps the memory.

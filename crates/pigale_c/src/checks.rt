@@ -83,7 +83,6 @@ fn bends(alloc: Global, map: &HalfMap, points: &Points) -> Result<ConvexVerdict,
     requires { HasPlaces map.now.lists points.now }
     ensures { IfOk result (IsBendVerdict map.now.lists points.now) }
 {
-    map.facts();
     match map.first_dart(VertexId(0)) {
         Some(base) => {
             let verdict = check_convex_points(alloc, map, base, points)?;

@@ -1,5 +1,5 @@
 //! Promised contracts of half-edge maps: what each call reads from the rotations, and what an edit leaves.
-ghost use Rattle.std.specs.Prelude.{◌≡◌, ◌+◌, ◌-◌, ◌<◌, ◌≤◌, ◌↔◌, [], length, None, IfOk, IfErr, IsTrue, option_map, Some, IfSome, MatchOption, true, Contains, ◌≢◌, ℕ, max, OnOk, OnErr, Option, min};
+ghost use Rattle.std.specs.Prelude.{◌≡◌, ◌+◌, ◌-◌, ◌<◌, ◌≤◌, ◌↔◌, ◌++◌, ◌∷◌, [], length, None, IfOk, IfErr, IsTrue, option_map, Some, IfSome, MatchOption, true, Contains, ◌≢◌, ℕ, max, OnOk, OnErr, Option, min};
 ghost use Rattle.half_edges.specs.Edges.{corner_place, IsCorner, with_edge};
 ghost use Rattle.half_edges.specs.Induced.{induced_lists};
 ghost use Rattle.half_edges.specs.Map.{IsHalfMap, IsLive, dart_at, next_dart, first_dart};
@@ -129,6 +129,15 @@ pub fn dart_between(map: &HalfMap, u: VertexId, v: VertexId) -> Option<DartId>
         (λ d. dart_at map.now d.0 ≡ Some (u.0, v.0)) }
 {
     map.dart_of(u, v)
+}
+
+/// Appends `list` to rotation `lists`, as that of the vertex after the last.
+pub fn push_list(lists: &mut Rotations, list: &[u16]) -> Result<(), AllocError>
+    requires { length lists.old < 4095 }
+    ensures ok { OnOk result (lists.new ≡ lists.old ++ list.now ∷ []) }
+    ensures err { OnErr result (lists.new ≡ lists.old) }
+{
+    lists.push(list)
 }
 
 /// Returns the lists of `map`.

@@ -65,7 +65,6 @@ impl Rects<'_> {
     fn total_area(&self) -> i64
         ensures { result ≡ area_of self.now.fig.now (length self.now.map.now.lists) }
     {
-        self.map.facts();
         let rects = *self;
         let mut total = 0;
         for v in 0..rects.map.n() {

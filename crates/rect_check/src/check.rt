@@ -84,7 +84,6 @@ pub fn check_rects(map: &HalfMap, fig: &RectFigure) -> RectVerdict
     requires { HasRects map.now.lists fig.now }
     ensures { IsRectVerdict map.now.lists fig.now result }
 {
-    map.facts();
     if let Some(v) = first_bad_rect(map, fig) {
         return RectVerdict::BadRect(v);
     }

@@ -21,7 +21,6 @@ impl Rects<'_> {
         ensures { MatchOption result (NoneMeet self.now.map.now.lists self.now.fig.now)
             (λ p. IsLeastPair (RectsMeet self.now.map.now.lists self.now.fig.now) p.0.0 p.1.0) }
     {
-        self.map.facts();
         for u in 0..self.map.n() {
             if !marks[u as usize] {
                 continue;
@@ -47,7 +46,6 @@ impl Rects<'_> {
         if !marks[u.0 as usize] {
             return self.first_missed_with(u);
         }
-        self.map.facts();
         for v in u.0 + 1..self.map.n() {
             let v = VertexId(v);
             if share_side(self.fig, u, v) != are_adjacent(self.map, u, v) {

@@ -134,7 +134,6 @@ impl Rects<'_> {
         ensures { MatchOption result (NoneMeet self.now.map.now.lists self.now.fig.now)
             (λ p. IsLeastPair (RectsMeet self.now.map.now.lists self.now.fig.now) p.0.0 p.1.0) }
     {
-        self.map.facts();
         fill_vertices(order);
         sort_vertices(&self.fig.x1, order);
         let rects = *self;

@@ -19,7 +19,6 @@ impl Rects<'_> {
         requires live { IsLive self.now.map.now d.0 }
         ensures { IsTrue result ↔ HoldsAt self.now.map.now (IsMissed self.now.map.now.lists self.now.fig.now) d.0 }
     {
-        self.map.facts();
         let u = self.map.tail(d);
         let v = self.map.head(d);
         u.0 < v.0 && !share_side(self.fig, u, v)
@@ -33,7 +32,6 @@ impl Rects<'_> {
         ensures { MatchOption result ((v : ℕ) → u.0 < v → v < length self.now.map.now.lists → ShareSide self.now.fig.now u.0 v ↔ HasDart self.now.map.now.lists u.0 v)
             (λ v. IsLeast (HasWrongContact self.now.map.now.lists self.now.fig.now u.0) v.0) }
     {
-        self.map.facts();
         least_head(self.map, u, |d| self.is_missed(d))
     }
 }

@@ -34,7 +34,6 @@ fn is_round_of_four(frame: OuterFour, s: VertexId, e: VertexId) -> bool
 pub fn outer_four(map: &HalfMap) -> Option<OuterFour>
     ensures { MatchOption result (¬ HasFrame map.now.lists) (λ f. IsFrame map.now.lists f.top.0 f.right.0 f.bottom.0) }
 {
-    map.facts();
     let Some(first) = map.first_dart(VertexId(0)) else {
         return None;
     };

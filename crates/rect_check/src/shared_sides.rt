@@ -58,7 +58,6 @@ fn is_in_list(map: &HalfMap, u: VertexId, v: VertexId) -> bool
     requires v { v.0 < length map.now.lists }
     ensures { IsTrue result ↔ HasDart map.now.lists u.0 v.0 }
 {
-    map.facts();
     match map.dart_of(u, v) {
         Some(_) => true,
         None => false,
@@ -71,7 +70,6 @@ pub(crate) fn are_adjacent(map: &HalfMap, u: VertexId, v: VertexId) -> bool
     requires v { v.0 < length map.now.lists }
     ensures { IsTrue result ↔ HasDart map.now.lists u.0 v.0 }
 {
-    map.facts();
     if map.degree(u) <= map.degree(v) {
         is_in_list(map, u, v)
     } else {

@@ -32,7 +32,6 @@ fn first_of_triangles(
     requires faces { HasTriangles map.now.lists }
     ensures { IfOk result (λ found. MatchOption found (NoneSeparating map.now.lists) (λ refusal. BreaksRect map.now.lists refusal)) }
 {
-    map.facts();
     if none_separates(alloc, lists, four)? {
         return Ok(None);
     }
@@ -55,7 +54,6 @@ fn first_broken(
     requires biconnected { IsBiconnectedMap 3 map.now.lists }
     ensures { IfOk result (λ found. MatchOption found (IsRectMap map.now.lists) (BreaksRect map.now.lists)) }
 {
-    map.facts();
     let Some(four) = outer_four(map) else {
         return Ok(Some(Refusal::OuterNotQuad));
     };

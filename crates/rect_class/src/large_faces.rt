@@ -34,7 +34,6 @@ fn is_triangle(map: &HalfMap, d: DartId) -> bool
     requires { IsLive map.now d.0 }
     ensures { IsTrue result ↔ IsTriangle map.now.lists (dart_of map.now d.0) }
 {
-    map.facts();
     let second = map.face_step(d);
     let third = map.face_step(second);
     let fourth = map.face_step(third);
@@ -46,7 +45,6 @@ fn is_large(map: &HalfMap, four: OuterFour, d: DartId) -> bool
     requires { IsLive map.now d.0 }
     ensures { IsTrue result ↔ HoldsAt map.now (IsLargeDart map.now.lists four.top.0 four.right.0 four.bottom.0) d.0 }
 {
-    map.facts();
     !is_triangle(map, d) && !is_frame_dart(four, map.tail(d), map.head(d))
 }
 
@@ -57,6 +55,5 @@ pub(crate) fn first_large(map: &HalfMap, four: OuterFour) -> Option<(VertexId, V
     ensures { MatchOption result (HasTriangles map.now.lists)
         (λ p. IsLeastPair (HasLargeFace map.now.lists) p.0.0 p.1.0) }
 {
-    map.facts();
     first_dart(map, |d| is_large(map, four, d))
 }

@@ -49,7 +49,6 @@ impl Wings<'_> {
     {
         let near = self.edge.near;
         let (a, b) = (self.edge.a, self.edge.b);
-        near.map.facts();
         a.0 < b.0
             && b.0 < c.0
             && !self.is_bounding(c)
@@ -64,7 +63,6 @@ impl Edge<'_> {
         ensures { IsTrue result ↔ IsFaceOfThree self.now.near.map.now.lists self.now.a.0 self.now.b.0 c.0 }
     {
         let map = self.near.map;
-        map.facts();
         let second = map.face_step(self.d);
         let third = map.face_step(second);
         let fourth = map.face_step(third);
@@ -75,7 +73,6 @@ impl Edge<'_> {
     fn is_turned_face(&self, c: VertexId) -> bool
         ensures { IsTrue result ↔ IsFaceOfThree self.now.near.map.now.lists self.now.b.0 self.now.a.0 c.0 }
     {
-        self.near.map.facts();
         let twin = Edge {
             near: self.near,
             d: self.near.map.twin(self.d),
@@ -90,7 +87,6 @@ impl Edge<'_> {
         ensures { follows self.now.near.map.now.lists self.now.b.0 self.now.a.0 ≡ result.0 }
     {
         let map = self.near.map;
-        map.facts();
         map.head(map.face_step(self.d))
     }
 
@@ -99,7 +95,6 @@ impl Edge<'_> {
         ensures { follows self.now.near.map.now.lists self.now.a.0 self.now.b.0 ≡ result.0 }
     {
         let map = self.near.map;
-        map.facts();
         map.head(map.next(self.d))
     }
 
@@ -108,7 +103,6 @@ impl Edge<'_> {
         requires { IsLive self.now.near.map.now e.0 }
         ensures { IsTrue result ↔ IsSeparating self.now.near.map.now.lists self.now.a.0 self.now.b.0 (dart_of self.now.near.map.now e.0).1 }
     {
-        self.near.map.facts();
         let wings = Wings {
             edge: *self,
             left: self.left(),
@@ -121,7 +115,6 @@ impl Edge<'_> {
     fn shorter_end(&self) -> VertexId
         ensures { (result.0 ≡ self.now.a.0) ⊎ (result.0 ≡ self.now.b.0) }
     {
-        self.near.map.facts();
         if self.near.map.degree(self.a) <= self.near.map.degree(self.b) {
             self.a
         } else {
@@ -135,7 +128,6 @@ impl Edge<'_> {
         ensures { MatchOption result ((c : ℕ) → ¬ IsSeparating self.now.near.map.now.lists self.now.a.0 self.now.b.0 c)
             (λ c. IsLeast (IsSeparating self.now.near.map.now.lists self.now.a.0 self.now.b.0) c.0) }
     {
-        self.near.map.facts();
         let w = self.shorter_end();
         least_head(self.near.map, w, |e| self.leads_to_third(e))
     }
@@ -147,7 +139,6 @@ impl Upper<'_> {
         requires { IsLive self.now.map.now d.0 }
         ensures { IsTrue result ↔ HoldsAt self.now.map.now (HasThird self.now.map.now.lists) d.0 }
     {
-        self.map.facts();
         let a = self.map.tail(d);
         let b = self.map.head(d);
         let near = *self;
@@ -160,7 +151,6 @@ impl Upper<'_> {
         requires { HasThird self.now.map.now.lists a.0 b.0 }
         ensures { IsLeast (IsSeparating self.now.map.now.lists a.0 b.0) result.0 }
     {
-        self.map.facts();
         let near = *self;
         match self.map.dart_of(a, b) {
             Some(d) => {
@@ -179,7 +169,6 @@ impl Upper<'_> {
         ensures { MatchOption result (NoneSeparating self.now.map.now.lists)
             (λ t. IsLeastTriple (IsSeparating self.now.map.now.lists) t.0.0 t.1.0 t.2.0) }
     {
-        self.map.facts();
         match first_dart(self.map, |d| self.is_second(d)) {
             Some((a, b)) => Some((a, b, self.third_between(a, b))),
             None => None,

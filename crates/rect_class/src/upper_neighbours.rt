@@ -66,7 +66,6 @@ impl Upper<'_> {
         requires v { v.0 < length self.now.map.now.lists }
         ensures { IsTrue result ↔ HasDart self.now.map.now.lists u.0 v.0 }
     {
-        self.map.facts();
         if self.map.degree(u) <= self.map.degree(v) {
             has_upper(self.rows, u, v)
         } else {

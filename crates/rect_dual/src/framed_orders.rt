@@ -51,7 +51,6 @@ pub(crate) fn map_order(
     ensures rows { IfOk result (λ made. HasLowerRows map.now.lists frame.left.0 frame.top.0 frame.right.0 frame.bottom.0 (vertices_of made.order) made.order.rank made.rows) }
     ensures ranks { IfOk result (λ made. All (λ k. k < length made.order.rank) made.order.rank) }
 {
-    map.facts();
     let lists = map.rotations(alloc)?;
     let made = framed_order(alloc, &lists, frame)?;
     Ok(made)

@@ -11,7 +11,6 @@ pub fn dart_between(map: &HalfMap, u: u16, v: u16) -> Option<DartId>
     ensures live { IfSome result (λ d. IsLive map.now d.0) }
     ensures ends { MatchOption result (¬ HasDart map.now.lists u v) (λ d. dart_at map.now d.0 ≡ Some (u, v)) }
 {
-    map.facts();
     if u >= map.n() || v >= map.n() {
         return None;
     }

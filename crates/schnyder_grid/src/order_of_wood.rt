@@ -35,7 +35,6 @@ pub fn wood_order(alloc: Global, tri: &HalfMap, wood: &Wood) -> Result<Order, Al
     requires wood { (base : Dart) × HasDart tri.now.lists base.0 base.1 × IsWoodOf tri.now.lists base wood.now }
     ensures arranged { IfOk result (λ order. (base : Dart) → HasDart tri.now.lists base.0 base.1 → IsWoodOf tri.now.lists base wood.now → IsArranged tri.now.lists base (parent_in wood.now) (vertices_of order)) }
 {
-    tri.facts();
     wood_laws::wood_orders::some_arranged();
     let lists = tri.rotations(alloc)?;
     let arcs = wood_arcs(alloc, &lists, wood)?;

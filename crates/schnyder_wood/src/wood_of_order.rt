@@ -66,7 +66,6 @@ pub fn wood(alloc: Global, tri: &HalfMap, order: &Order) -> Result<Wood, AllocEr
     ensures parents { IfOk result (λ wood. (base : Dart) (canonical : IsCanonicalOrder tri.now.lists base (vertices_of order.now)) (steps : ℕ → Step)
         → IsOrderRun tri.now.lists base (vertices_of order.now) canonical.cycle steps → AreParentsOf (vertices_of order.now) steps (parent_in wood)) }
 {
-    tri.facts();
     order_drawings::order_tables::ranks_are_places();
     order_drawings::order_runs::order_is_run();
     wood_laws::order_woods::wood_of_order();

@@ -139,7 +139,6 @@ pub fn st_order(alloc: Global, map: &HalfMap, st: DartId) -> Result<StOrder, All
     requires live { IsLive map.now st.0 }
     ensures { IfOk result (λ order. (s t : ℕ) → dart_at map.now st.0 ≡ Some (s, t) → IsStOrderOf map.now.lists s t order) }
 {
-    map.facts();
     let s = map.tail(st);
     let t = map.head(st);
     let lists = map.rotations(alloc)?;

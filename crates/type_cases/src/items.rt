@@ -67,6 +67,17 @@ fn lists_grow_by_entries(rt: HostRuntime) -> Result<(), Fail> {
     Ok(())
 }
 
+// Tests that rotation lists return the lists that were pushed, also an empty one.
+#[test]
+fn rotation_lists_come_back(rt: HostRuntime) -> Result<(), Fail> {
+    let mut lists = Rotations::new(rt.alloc());
+    lists.push(&[])?;
+    lists.push(&[2, 0])?;
+    assert!(rt; lists.len() == 2 && lists.total() == 2);
+    assert!(rt; lists.list(0) == [].as_slice() && lists.list(1) == [2, 0].as_slice());
+    Ok(())
+}
+
 // Tests rotation lists made of their entries and ends, and emptied.
 #[test]
 fn parts_make_lists(rt: HostRuntime) -> Result<(), Fail> {

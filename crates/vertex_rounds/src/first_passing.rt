@@ -22,7 +22,6 @@ fn better<F: Fn(DartId) -> bool>(
         → IsLeastOf (Passes map.now (F.post test.now) v) (Fails map.now (F.post test.now) v) us k best
         → IsLeastOf (Passes map.now (F.post test.now) v) (Fails map.now (F.post test.now) v) us (k + 1) result }
 {
-    map.facts();
     let u = map.head(d);
     if is_below(u, best) && test(d) {
         Some(u)
@@ -42,7 +41,6 @@ fn least_round<F: Fn(DartId) -> bool>(
     requires test { (e : TheDart) → IsLive map.now e.0 → F.pre test.now e }
     ensures { FindsLeast map.now (F.post test.now) v.0 result }
 {
-    map.facts();
     let mut best = None;
     let mut d = first;
     'round: loop {
@@ -60,7 +58,6 @@ fn least_of<F: Fn(DartId) -> bool>(map: &HalfMap, test: &F, v: VertexId) -> Opti
     requires test { (e : TheDart) → IsLive map.now e.0 → F.pre test.now e }
     ensures { FindsLeast map.now (F.post test.now) v.0 result }
 {
-    map.facts();
     match map.first_dart(v) {
         Some(first) => least_round(map, test, v, first),
         None => None,
@@ -74,7 +71,6 @@ pub fn least_head<F: Fn(DartId) -> bool>(map: &HalfMap, v: VertexId, test: F) ->
     requires test { (e : TheDart) → IsLive map.now e.0 → F.pre test e }
     ensures { FindsLeast map.now (F.post test) v.0 result }
 {
-    map.facts();
     least_of(map, &test, v)
 }
 
@@ -90,7 +86,6 @@ pub fn first_dart_from<F: Fn(DartId) -> bool>(
     requires test { (e : TheDart) → IsLive map.now e.0 → F.pre test e }
     ensures { FindsFirst map.now (F.post test) from result }
 {
-    map.facts();
     for v in from..map.n() {
         if let Some(u) = least_of(map, &test, VertexId(v)) {
             return Some((VertexId(v), u));
@@ -104,6 +99,5 @@ pub fn first_dart<F: Fn(DartId) -> bool>(map: &HalfMap, test: F) -> Option<(Vert
     requires test { (e : TheDart) → IsLive map.now e.0 → F.pre test e }
     ensures { FindsFirst map.now (F.post test) 0 result }
 {
-    map.facts();
     first_dart_from(map, 0, test)
 }

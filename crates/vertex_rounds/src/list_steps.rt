@@ -13,7 +13,6 @@ pub fn later_dart(map: &HalfMap, d: DartId) -> Option<DartId>
         → MatchOption result (place_of u (list_of map.now.lists v) + 1 ≡ length (list_of map.now.lists v))
         (λ e. IsLaterDart map.now v u e.0) }
 {
-    map.facts();
     let next = map.next(d);
     match map.first_dart(map.tail(d)) {
         Some(first) => { if next.0 == first.0 { None } else { Some(next) } }

@@ -20,7 +20,6 @@ fn passes_once<F: Fn(DartId) -> bool>(map: &HalfMap, test: &F, v: VertexId, firs
     requires test { (e : TheDart) → IsLive map.now e.0 → F.pre test.now e }
     ensures { IsPassedOnce map.now (F.post test.now) v.0 result }
 {
-    map.facts();
     let mut passed = false;
     let mut d = first;
     'round: loop {
@@ -42,7 +41,6 @@ fn turns_round<F: Fn(DartId) -> bool>(map: &HalfMap, test: &F, v: VertexId, firs
     requires test { (e : TheDart) → IsLive map.now e.0 → F.pre test.now e }
     ensures { TurnsOnce map.now (F.post test.now) v.0 result }
 {
-    map.facts();
     match later_dart(map, first) {
         Some(_) => passes_once(map, test, v, first),
         None => true,
@@ -58,7 +56,6 @@ pub fn turns_once<F: Fn(DartId) -> bool>(map: &HalfMap, v: VertexId, test: F) ->
     requires test { (e : TheDart) → IsLive map.now e.0 → F.pre test e }
     ensures { TurnsOnce map.now (F.post test) v.0 result }
 {
-    map.facts();
     match map.first_dart(v) {
         Some(first) => turns_round(map, &test, v, first),
         None => true,

@@ -29,7 +29,6 @@ pub fn bars_of_ranks(
     requires order { IsStOf map.now rank.now st.0 }
     ensures { IfOk result (AreBarsOf map.now rank.now st.0) }
 {
-    map.facts();
     let rows = rank_rows(alloc, map, rank, st)?;
     let columns = edge_columns(alloc, lists, &rows, map.m())?;
     let y = coordinates(alloc, rank)?;

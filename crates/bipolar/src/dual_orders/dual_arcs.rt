@@ -23,7 +23,6 @@ impl DirectedMap<'_> {
         requires { IsLive self.now.map.now d.0 }
         ensures { (u v : ℕ) → dart_at self.now.map.now d.0 ≡ Some (u, v) → (IsTrue result ↔ (slice_index self.now.rank.now u < slice_index self.now.rank.now v)) }
     {
-        self.map.facts();
         self.rank.get(self.map.tail(d).0 as usize) < self.rank.get(self.map.head(d).0 as usize)
     }
 

@@ -32,7 +32,6 @@ pub fn rank_rows(
     requires order { IsStOf map.now rank.now st.0 }
     ensures { IfOk result (GiveDualNumbers map.now rank.now st.0) }
 {
-    map.facts();
     let faces = faces(alloc, map)?;
     let arcs = face_arcs(alloc, map, rank, &faces)?;
     let numbers = longest_paths(alloc, &arcs, faces.of_dart(st).0)?;

@@ -29,7 +29,6 @@ impl NumberedMap<'_> {
         requires live { IsLive self.now.map.now d.0 }
         ensures { (u v : ℕ) → dart_at self.now.map.now d.0 ≡ Some (u, v) → IsNumberOf self.now.map.now self.now.faces.now self.now.numbers.now u v result }
     {
-        self.map.facts();
         self.numbers[self.faces.of_dart(d).0 as usize]
     }
 
@@ -39,7 +38,6 @@ impl NumberedMap<'_> {
         requires live { IsLive self.now.map.now d.0 }
         ensures { (u v : ℕ) → dart_at self.now.map.now d.0 ≡ Some (u, v) → IsLeftNumber self.now.map.now self.now.faces.now self.now.rank.now self.now.numbers.now u v result }
     {
-        self.map.facts();
         let ranked = DirectedMap {
             map: self.map,
             rank: self.rank,
@@ -57,7 +55,6 @@ impl NumberedMap<'_> {
         requires vertex { v.0 < length self.now.map.now.lists }
         ensures { IfOk result (λ _. ArePutNumbers self.now.map.now self.now.faces.now self.now.rank.now self.now.numbers.now v.0 (length (list_of self.now.map.now.lists v.0)) entries.old.items entries.new.items) }
     {
-        self.map.facts();
         let Some(first) = self.map.first_dart(v) else {
             return Ok(());
         };
@@ -75,7 +72,6 @@ impl NumberedMap<'_> {
         requires faces { AreFaces self.now.map.now self.now.faces.now }
         ensures { IfOk result (AreNumberRows self.now.map.now self.now.faces.now self.now.rank.now self.now.numbers.now) }
     {
-        self.map.facts();
         let numbered = *self;
         let mut entries = Vec::with_capacity(alloc, 2 * numbered.map.m() as usize)?;
         let mut ends = Vec::with_capacity(alloc, numbered.map.n() as usize)?;

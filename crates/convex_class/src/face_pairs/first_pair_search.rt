@@ -89,7 +89,6 @@ pub fn separating_pair_by(
     requires faces { AreFaces map.now faces.now }
     ensures { IfOk result (λ found. MatchOption found ((u v : ℕ) → ¬ IsSeparatingPair map.now.lists u v) (λ p. IsLeastPair map.now.lists p.0.0 p.1.0)) }
 {
-    map.facts();
     if has_short_faces(faces) {
         return Ok(None);
     }

@@ -26,6 +26,5 @@ impl UncutMap<'_> {
         ensures faces { AreFaces self.now.map.now self.now.faces.now }
         ensures uncut { IsPlaneUncut self.now.map.now.lists }
     {
-        self.map.facts();
     }
 }

@@ -32,7 +32,6 @@ impl WoodVertex<'_> {
         requires { HasDart self.now.map.now.lists (root_in self.now.wood.now from) (root_in self.now.wood.now to) }
         ensures { dart_at self.now.map.now result.0 ≡ Some (root_in self.now.wood.now from, root_in self.now.wood.now to) }
     {
-        self.map.facts();
         match self.map.dart_of(self.wood.root(from), self.wood.root(to)) {
             Some(d) => d,
             None => unreachable!(),
@@ -51,7 +50,6 @@ impl WoodVertex<'_> {
         ensures { IfOk result (λ k. (start : Dart) (w : IsWoodIn self.now.map.now start self.now.wood.now) → IsFaceRegion self.now.map.now.lists start (root_in self.now.wood.now) w.head axis self.now.v.0 k) }
     {
         let map = self.map;
-        map.facts();
         let base = self.dart_between(Axis::Two, Axis::One);
         let before = self.dart_between(Axis::Three, Axis::Two);
         let corner = OuterCorner { map, base, before };
@@ -86,7 +84,6 @@ pub fn face_region(
     requires vertex { v.0 < length map.now.lists }
     ensures { IfOk result (λ k. (base : Dart) (w : IsWoodIn map.now base wood.now) → IsFaceRegion map.now.lists base (root_in wood.now) w.head axis v.0 k) }
 {
-    map.facts();
     let ids = 2 * (map.m() as usize + map.spare() as usize);
     let mut marked = vec![in alloc; false; ids]?;
     WoodVertex { map, wood, v }.count_with(alloc, &mut marked, axis)

@@ -17,7 +17,6 @@ fn pass(map: &HalfMap, marked: &mut [bool], d: DartId)
     requires marks { length marked.old ≡ id_bound map.now }
     ensures { PassesDart map.now d.0 marked.old marked.new }
 {
-    map.facts();
     let twin = map.twin(d);
     marked[d.0 as usize] = !marked[d.0 as usize];
     marked[twin.0 as usize] = !marked[twin.0 as usize];

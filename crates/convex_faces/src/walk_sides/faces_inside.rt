@@ -22,7 +22,6 @@ fn is_inside(map: &HalfMap, faces: &Faces, met: &[bool], outer: FaceId, f: FaceI
     requires face { f.0 < length faces.now }
     ensures { result ≡ is_counted faces.now met.now outer.0 f.0 }
 {
-    map.facts();
     let first = faces.walk(f)[0];
     f.0 != outer.0 && met[2 * (first.0 as usize) + 1]
 }
@@ -33,7 +32,6 @@ fn counted(map: &HalfMap, faces: &Faces, met: &[bool], outer: FaceId) -> u32
     requires room { length met.now ≡ 2 * id_bound map.now }
     ensures { result ≡ count_below (is_counted faces.now met.now outer.0) (length faces.now) }
 {
-    map.facts();
     let mut count = 0;
     for f in 0..faces.count() {
         count += is_inside(map, faces, met, outer, FaceId(f)) as u32;
@@ -57,7 +55,6 @@ fn count_with(
     requires unset { (i : ℕ) → mark_at met.old i ≡ false }
     ensures { IfOk result (λ k. (start : Dart) (v : ℕ) (walk : List Dart) → dart_at map.now base.0 ≡ Some start → IsWalk map.now.lists v v walk → HasMarks map.now (is_odd_on walk) marked.now → IsInsideCount map.now.lists start walk k) }
 {
-    map.facts();
     mark_reached(alloc, map, met, base, |d| marked[d.0 as usize])?;
     let all = faces(alloc, map)?;
     Ok(counted(map, &all, met, all.of_dart(base)))
@@ -84,7 +81,6 @@ pub fn inside_count(
     requires marks { length marked.now ≡ id_bound map.now }
     ensures { IfOk result (λ k. (start : Dart) (v : ℕ) (walk : List Dart) → dart_at map.now base.0 ≡ Some start → IsWalk map.now.lists v v walk → HasMarks map.now (is_odd_on walk) marked.now → IsInsideCount map.now.lists start walk k) }
 {
-    map.facts();
     let ids = 2 * (map.m() as usize + map.spare() as usize);
     let mut met = vec![in alloc; false; 2 * ids]?;
     count_with(alloc, map, marked, &mut met, base)

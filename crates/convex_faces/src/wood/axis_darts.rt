@@ -25,7 +25,6 @@ fn note_all(map: &HalfMap, points: &Points, axis: Axis, outs: &mut [u32])
     requires outs { length outs.old ≡ length map.now.lists }
     ensures { AreNoted map.now points.now axis (id_bound map.now) outs.new }
 {
-    map.facts();
     let ids = 2 * (map.m() + map.spare());
     for id in 0..ids {
         let d = DartId(id);

@@ -34,7 +34,6 @@ pub fn convex_wood(alloc: Global, map: &HalfMap, base: DartId) -> Result<ConvexW
     ensures wood { IfOk result (λ wood. (s d : ℕ) → dart_at map.now base.0 ≡ Some (s, d) → IsWoodIn map.now (s, d) wood) }
     ensures drawn { IfOk result (λ wood. (s d : ℕ) → dart_at map.now base.0 ≡ Some (s, d) → IsDrawnWood map.now s d wood) }
 {
-    map.facts();
     let figure = convex_draw(alloc, map, base)?;
     let points = &figure.points;
     let ones = outs_along(alloc, map, points, Axis::One)?;

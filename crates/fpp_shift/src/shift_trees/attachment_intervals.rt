@@ -48,7 +48,6 @@ impl OrderedMap<'_> {
         requires { IsLive self.now.map.now d.0 }
         ensures { (v u : ℕ) → dart_at self.now.map.now d.0 ≡ Some (v, u) → result ≡ slice_index self.now.ranks.now u }
     {
-        self.map.facts();
         self.ranks.get(self.map.head(d).0 as usize)
     }
 
@@ -59,7 +58,6 @@ impl OrderedMap<'_> {
         requires begins { (p : ℕ) × BeginsRow self.now.map.now.lists self.now.ranks.now k v.0 p }
         ensures { BeginsRow self.now.map.now.lists self.now.ranks.now k v.0 result.0 }
     {
-        self.map.facts();
         let mut d = some_dart(self.map, v);
         for _ in 0..self.map.degree(v) {
             let rank = self.head_rank(d);
@@ -80,7 +78,6 @@ impl OrderedMap<'_> {
         requires ends { (q : ℕ) × EndsRow self.now.map.now.lists self.now.ranks.now k v.0 q }
         ensures { EndsRow self.now.map.now.lists self.now.ranks.now k v.0 result.0 }
     {
-        self.map.facts();
         let mut d = some_dart(self.map, v);
         for _ in 0..self.map.degree(v) {
             let rank = self.head_rank(d);

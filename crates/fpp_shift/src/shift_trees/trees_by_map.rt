@@ -37,7 +37,6 @@ pub fn offset_tree<L: Ledger>(
     ensures steps { steps.new ≤ steps.old + 24 * vertex_count tri.now.lists }
     ensures never_falls { steps.old ≤ steps.new }
 {
-    tri.facts();
     order_has_rows();
     order_drawings::order_runs::order_is_run();
     contour_runs::face_count();

@@ -111,10 +111,8 @@ impl Tools {
         ensures order { OnOk result (IsOrdered lists.now map.new.lists self.new.peeler.order) }
         ensures lists { IfOk result (λ made. lists_by made self.new.lists lists.now ≡ map.new.lists) }
     {
-        map.facts();
         let first = map.first_dart(VertexId(0));
         let made = self.complete_map(map)?;
-        map.facts();
         let base = base_dart(map, first);
         let own = made_or(made, &self.lists, lists);
         self.peeler.order_map(self.alloc, map, own, base)?;

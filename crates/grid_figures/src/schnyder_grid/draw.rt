@@ -114,7 +114,6 @@ pub fn wood_draw(alloc: Global, tri: &HalfMap, order: &Order) -> Result<GridFigu
     requires order { (base : Dart) × IsCanonicalOrder tri.now.lists base (vertices_of order.now) }
     ensures { IfOk result (IsSchnyderOf tri.now.lists (vertices_of order.now)) }
 {
-    tri.facts();
     let lists = tri.rotations(alloc)?;
     let mut woods = WoodDrawer::new(alloc);
     let figure = woods.list_draw(&lists, order)?;

@@ -147,7 +147,6 @@ pub fn order_rows(alloc: Global, tri: &HalfMap, order: &Order) -> Result<Rotatio
     requires order { (base : Dart) × IsCanonicalOrder tri.now.lists base (vertices_of order.now) }
     ensures { IfOk result (AreRowsOf tri.now.lists (vertices_of order.now)) }
 {
-    tri.facts();
     let lists = tri.rotations(alloc)?;
     let rows = rows_into(Rotations::new(alloc), &lists, order)?;
     Ok(rows)

@@ -114,6 +114,5 @@ pub(crate) fn rect_draw_by_lists(
     ensures dual { IfOk result (λ figure. (s d p t : ℕ) → dart_at map.now base.0 ≡ Some (s, d) → IsRectMap map.now.lists s d p t → IsDualFor map.now.lists s d p t figure) }
     ensures labelling { IfOk result (λ figure. (s d p t : ℕ) → dart_at map.now base.0 ≡ Some (s, d) → IsRectMap map.now.lists s d p t → IsByLabelling map.now.lists s d p t figure) }
 {
-    map.facts();
     framed(alloc, lists, frame_of(map, base))
 }

@@ -84,7 +84,6 @@ impl Ranked<'_> {
         ensures { (u v : ℕ) → dart_at self.now.map.now d.0 ≡ Some (u, v) → IsLabelOf self.now.frame.now.left.0 self.now.frame.now.top.0 self.now.frame.now.right.0 self.now.frame.now.bottom.0
             (end_by self.now.tables.now.first.items self.now.tables.now.left.items self.now.ranks.now) u v result }
     {
-        self.map.facts();
         if !self.map.is_live(d) {
             return Label::Frame;
         }
@@ -104,7 +103,6 @@ impl Ranked<'_> {
         ensures labels { IfOk result (λ labels. AreLabelsOf self.now.map.now self.now.frame.now.left.0 self.now.frame.now.top.0 self.now.frame.now.right.0 self.now.frame.now.bottom.0
             (end_by self.now.tables.now.first.items self.now.tables.now.left.items self.now.ranks.now) (id_bound self.now.map.now) labels.items) }
     {
-        self.map.facts();
         let ranked = *self;
         let ids = 2 * (ranked.map.m() + ranked.map.spare());
         let mut labels = Vec::new(alloc);

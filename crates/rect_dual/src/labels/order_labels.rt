@@ -21,7 +21,6 @@ fn framed(alloc: Global, map: &HalfMap, frame: Frame) -> Result<Labelling, Alloc
     ensures covers { IfOk result (λ labels. (id : ℕ) → IsLive map.now id → id < length labels) }
     ensures labelling { IfOk result (IsLabellingIn map.now frame.left.0 frame.top.0 frame.right.0 frame.bottom.0) }
 {
-    map.facts();
     rect_orders::rect_order_is_run();
     order_drawings::order_runs::order_is_run();
     rect_orders::rect_labellings::labels_of_order();

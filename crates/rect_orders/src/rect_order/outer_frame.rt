@@ -28,7 +28,6 @@ pub fn frame_of(map: &HalfMap, base: DartId) -> Frame
     requires { IsLive map.now base.0 }
     ensures { (s d p t : ℕ) → dart_at map.now base.0 ≡ Some (s, d) → IsRectMap map.now.lists s d p t → IsFrameOf map.now.lists result s d p t }
 {
-    map.facts();
     let along = map.face_step(base);
     let behind = map.face_step(along);
     let round = map.face_step(behind);

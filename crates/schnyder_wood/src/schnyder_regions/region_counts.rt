@@ -41,7 +41,6 @@ impl Region<'_> {
         ensures { IsCrossed self.now.map.now self.now.path.now d.0 result }
     {
         self.facts();
-        self.map.facts();
         self.path.has_edge(self.map.tail(d).0, self.map.head(d).0)
     }
 
@@ -52,7 +51,6 @@ impl Region<'_> {
         requires count { length inside.old ≡ length self.now.map.now.lists }
         ensures { MarksMore (HasOdd self.now.map.now met.now (id_bound self.now.map.now)) inside.old inside.new }
     {
-        self.map.facts();
         let ids = 2 * (self.map.m() + self.map.spare());
         let region = *self;
         for d in 0..ids {
@@ -74,7 +72,6 @@ impl Region<'_> {
         ensures { MarksMore (IsVertexOf self.now.path.now) inside.old inside.new }
     {
         self.facts();
-        self.map.facts();
         let region = *self;
         for u in 0..self.map.n() {
             if !region.path.has_vertex(u) {
@@ -94,7 +91,6 @@ impl Region<'_> {
         ensures { IfOk result (λ k. (base : Dart) (parent : TreeColour → ℕ → ℕ) (c : TreeColour) (v : ℕ) → dart_at self.now.map.now self.now.start.0 ≡ Some base → HasEdges self.now.map.now.lists base parent c v self.now.path.now → HasVertices self.now.map.now.lists base parent c v self.now.path.now
             → IsRegionCount self.now.map.now.lists base parent c v k) }
     {
-        self.map.facts();
         let region = *self;
         mark_reached(alloc, self.map, met, self.start, |d| region.crosses(d))?;
         self.mark_tails(met, inside);
@@ -112,7 +108,6 @@ fn base_dart(map: &HalfMap, wood: &Wood) -> DartId
     requires { HasDart map.now.lists (root_in wood.now two) (root_in wood.now one) }
     ensures { dart_at map.now result.0 ≡ Some (base_in wood.now) }
 {
-    map.facts();
     match map.dart_of(wood.root(Colour::Two), wood.root(Colour::One)) {
         Some(d) => d,
         None => unreachable!(),
@@ -140,7 +135,6 @@ pub fn region_count(
     requires inner { IsInnerIn wood.now v.0 }
     ensures { IfOk result (λ k. (base : Dart) → IsWoodOf tri.now.lists base wood.now → IsRegionCount tri.now.lists base (parent_in wood.now) (kind colour) v.0 k) }
 {
-    tri.facts();
     wood.facts();
     let path = closed_path(alloc, wood, v, colour)?;
     let start = base_dart(tri, wood);

@@ -11,7 +11,7 @@ returns-clause-cut c = λ a b at.
     let at_e : dart_at map c.face_step.result.0 ≡ Some (b, follows map.lists b a) = c.face_step.ensures ∙ ap (option_map (face_step map.lists)) at in
     let at_back : dart_at map c.twin-back.result.0 ≡ Some (follows map.lists b a, b) = c.twin-back.ensures ∙ ap (option_map twin_dart) at_e in (
       before.0,
-      c.facts.ensures.is_dart _ a before.0 before.1,
+      c.args.map.now.known.is_dart _ a before.0 before.1,
       before.2,
       c.add_edge.ensures.lists a (follows map.lists b a) (Some before.0) (Some b)
           (ap (option_map (λ (z : Dart). (z.0, Some z.1))) before.1) (ap (option_map (λ (z : Dart). (z.0, Some z.1))) at_back),

@@ -8,13 +8,13 @@ use Rattle.bar_check.proofs.edge_indices.edges_until.Goals.{then-v-u+then-u-end,
 
 pub overflow_add-count : goal.overflow_add-count
 overflow_add-count c =
-    let l = (at_place c.args.map.now c.facts.ensures c.args.v.0 c.round.d.0 c.round.invariant.dart).0 in
+    let l = (at_place c.args.map.now c.args.map.now.known c.args.v.0 c.round.d.0 c.round.invariant.dart).0 in
     let few = c.round.invariant.few in
     let degree = c.degree-degree.ensures in
     omega arith
 
 pub round-smaller : goal.round-smaller
-round-smaller c = fewer_left c.args.map.now c.facts.ensures c.args.v.0 c.round.d.0 c.in-Some-later_dart.next.0 c.round.invariant.dart c.in-Some-later_dart.ensures
+round-smaller c = fewer_left c.args.map.now c.args.map.now.known c.args.v.0 c.round.d.0 c.in-Some-later_dart.next.0 c.round.invariant.dart c.in-Some-later_dart.ensures
 
 pub round-preserved : goal.round-preserved
 round-preserved c =
@@ -22,7 +22,7 @@ round-preserved c =
     let v = c.args.v.0 in
     let d = c.round.d.0 in
     let dart = c.round.invariant.dart in
-    let at = at_place map c.facts.ensures v d dart in
+    let at = at_place map c.args.map.now.known v d dart in
     let next = c.in-Some-later_dart.ensures v (head_at map d) dart in
     let place = place_at-later map v d c.in-Some-later_dart.next.0 next in
     let us = list_of map.lists v in
@@ -45,7 +45,7 @@ returns-in-None-clause-count c =
     let v = c.args.v.0 in
     let d = c.round.d.0 in
     let dart = c.round.invariant.dart in
-    let at = at_place map c.facts.ensures v d dart in
+    let at = at_place map c.args.map.now.known v d dart in
     let us = list_of map.lists v in
     let k = place_at map v d in
     let more = count_more v c.args.end us k c.head-u.result.0 c.round.count c.if-v-u.count at.0 (at.1 ∙ head_at-result map v d c.head-u.result.0 dart c.head-u.ensures) c.round.invariant.count (elim c.if-v-u.branch [

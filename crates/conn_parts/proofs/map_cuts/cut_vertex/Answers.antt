@@ -5,7 +5,7 @@ use Rattle.graph_search.specs.Cuts.{IsCutVertex}
 use Rattle.conn_parts.proofs.map_cuts.cut_vertex.Goals as goal
 
 pub list_cut_vertex-requires : goal.list_cut_vertex-requires
-list_cut_vertex-requires c = record { adjacency = rw c.in_ok-lists.ensures (IsAdjacency-simple c.args.map.now.lists c.facts.ensures.simple) }
+list_cut_vertex-requires c = record { adjacency = rw c.in_ok-lists.ensures (IsAdjacency-simple c.args.map.now.lists c.args.map.now.known.simple) }
 
 pub returns : goal.returns
 returns c =

@@ -5,7 +5,7 @@ use Rattle.graph_search.specs.Cuts.{IsSeparatingPair}
 use Rattle.conn_parts.proofs.map_cuts.separating_pair.Goals as goal
 
 pub list_separating_pair-requires : goal.list_separating_pair-requires
-list_separating_pair-requires c = record { adjacency = rw c.in_ok-lists.ensures (IsAdjacency-simple c.args.map.now.lists c.facts.ensures.simple) }
+list_separating_pair-requires c = record { adjacency = rw c.in_ok-lists.ensures (IsAdjacency-simple c.args.map.now.lists c.args.map.now.known.simple) }
 
 pub returns : goal.returns
 returns c =

@@ -54,5 +54,5 @@ returns c =
     let map = c.args.map.now in
     let h = c.loop-v.invariant in
     let n : c.loop-v.v ≡ length map.lists = omega (arith, c.loop-v-test.false, c.loop-v.auto.v-end, c.n-v-end.ensures.count) in
-    rw (c.from_parts.ensures, c.from_parts-2.ensures, c.count-count.ensures) (tables map c.facts.ensures c.args.faces.now c.requires.faces (cut 0 c.loop-v.own_ends.items c.loop-v.own.items) (cut 0 c.loop-v.other_ends.items c.loop-v.other.items) (h.own_count ∙ n) (h.other_count ∙ n)
+    rw (c.from_parts.ensures, c.from_parts-2.ensures, c.count-count.ensures) (tables map c.args.map.now.known c.args.faces.now c.requires.faces (cut 0 c.loop-v.own_ends.items c.loop-v.own.items) (cut 0 c.loop-v.other_ends.items c.loop-v.other.items) (h.own_count ∙ n) (h.other_count ∙ n)
     (λ u l. h.own_sizes u (omega arith)) (λ u l. h.other_sizes u (omega arith)) (λ u l. h.own_each u (omega arith)) (λ u l. h.other_each u (omega arith)))

@@ -12,8 +12,8 @@ dart_of-requires-clause-v_in c =
     let map = c.args.tri.now in
     let a = c.in-Some-first_dart.a in
     let b = c.in-Some-first_dart.b in
-    let first = least_pair map c.facts.ensures _ (IsWrongFrom map c.args.points.now c.args.base.0) 0 (Some (a, b)) c.in-Some-first_dart.ensures (λ d live late r s. search rules) (λ v u x. (omega arith, x.dart)) in
-    c.facts.ensures.simple.in_range a.0 b.0 first.rest.here.dart
+    let first = least_pair map c.args.tri.now.known _ (IsWrongFrom map c.args.points.now c.args.base.0) 0 (Some (a, b)) c.in-Some-first_dart.ensures (λ d live late r s. search rules) (λ v u x. (omega arith, x.dart)) in
+    c.args.tri.now.known.simple.in_range a.0 b.0 first.rest.here.dart
 
 pub returns-in-Some-dart_of : goal.returns-in-Some-dart_of
 returns-in-Some-dart_of c =
@@ -22,10 +22,10 @@ returns-in-Some-dart_of c =
     let base = c.args.base.0 in
     let a = c.in-Some-first_dart.a in
     let b = c.in-Some-first_dart.b in
-    let first = least_pair map c.facts.ensures _ (IsWrongFrom map points base) 0 (Some (a, b)) c.in-Some-first_dart.ensures (λ d live late r s. search rules) (λ v u x. (omega arith, x.dart)) in (
+    let first = least_pair map c.args.tri.now.known _ (IsWrongFrom map points base) 0 (Some (a, b)) c.in-Some-first_dart.ensures (λ d live late r s. search rules) (λ v u x. (omega arith, x.dart)) in (
       c.in_default.ensures,
       least_wrong_three map points base a.0 b.0 c.head.result.0 first
-          (face_next_head map c.facts.ensures c.in-Some-dart_of.d.0 c.face_step.result.0 a.0 b.0 c.head.result.0 c.in-Some-dart_of.ensures c.face_step.ensures c.head.ensures).0,
+          (face_next_head map c.args.tri.now.known c.in-Some-dart_of.d.0 c.face_step.result.0 a.0 b.0 c.head.result.0 c.in-Some-dart_of.ensures c.face_step.ensures c.head.ensures).0,
     )
 
 pub returns-in-None : goal.returns-in-None
@@ -33,7 +33,7 @@ returns-in-None c =
     let map = c.args.tri.now in
     let points = c.args.points.now in
     let base = c.args.base.0 in
-    let none = least_pair map c.facts.ensures _ (IsWrongFrom map points base) 0 None c.in-None.ensures (λ d live late r s. search rules) (λ v u x. (omega arith, x.dart)) in (
+    let none = least_pair map c.args.tri.now.known _ (IsWrongFrom map points base) 0 None c.in-None.ensures (λ d live late r s. search rules) (λ v u x. (omega arith, x.dart)) in (
       c.in_default.ensures,
-      counterclockwise_from map.lists c.requires.triangulation points (dart_of map base) (no_wrong_three map points base none) (has_dart map c.facts.ensures base c.requires.base),
+      counterclockwise_from map.lists c.requires.triangulation points (dart_of map base) (no_wrong_three map points base none) (has_dart map c.args.tri.now.known base c.requires.base),
     )

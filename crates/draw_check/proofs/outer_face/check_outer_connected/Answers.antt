@@ -19,11 +19,11 @@ returns-in-Some c =
     let base = c.args.base.0 in
     let sums = c.deref.result.now in
     let s = subst (λ sums. AreSumsBelow map points walks (dart_count map.lists) sums) (sym c.deref.ensures.value) c.in_ok-sums.ensures in
-    let low = least_pair map c.facts.ensures _ (HasLowSum map walks sums base) 0 (Some (c.in-Some.v, c.in-Some.u)) c.in-Some.ensures (λ d live late r s. search rules) (λ v u low. (omega arith, low.dart)) in (
+    let low = least_pair map c.args.map.now.known _ (HasLowSum map walks sums base) 0 (Some (c.in-Some.v, c.in-Some.u)) c.in-Some.ensures (λ d live late r s. search rules) (λ v u low. (omega arith, low.dart)) in (
       c.requires.connected,
       IsLeastPair-alike (HasLowSum map walks sums base) (IsInside map.lists points (dart_of map base))
-          (inside_from map c.facts.ensures points walks c.in_ok-faces.ensures.walks sums s base)
-          (inside_to map c.facts.ensures points walks c.in_ok-faces.ensures.walks sums s base)
+          (inside_from map c.args.map.now.known points walks c.in_ok-faces.ensures.walks sums s base)
+          (inside_to map c.args.map.now.known points walks c.in_ok-faces.ensures.walks sums s base)
           c.in-Some.v.0 c.in-Some.u.0 low,
     )
 
@@ -35,5 +35,5 @@ returns c =
     let base = c.args.base.0 in
     let sums = c.deref.result.now in
     let s = subst (λ sums. AreSumsBelow map points walks (dart_count map.lists) sums) (sym c.deref.ensures.value) c.in_ok-sums.ensures in
-    let none = least_pair map c.facts.ensures _ (HasLowSum map walks sums base) 0 None c.in-None.ensures (λ d live late r s. search rules) (λ v u low. (omega arith, low.dart)) in
-    outer_from map.lists points (dart_of map base) (λ v u i. none v u (inside_to map c.facts.ensures points walks c.in_ok-faces.ensures.walks sums s base v u i))
+    let none = least_pair map c.args.map.now.known _ (HasLowSum map walks sums base) 0 None c.in-None.ensures (λ d live late r s. search rules) (λ v u low. (omega arith, low.dart)) in
+    outer_from map.lists points (dart_of map base) (λ v u i. none v u (inside_to map c.args.map.now.known points walks c.in_ok-faces.ensures.walks sums s base v u i))

@@ -10,5 +10,5 @@ order_lists-requires-clause-base c =
     let d = c.args.base.0 in
     let tail = tail_is map d c.tail.result.0 c.requires.live c.tail.ensures in
     let head = head_is map d c.head.result.0 c.requires.live c.head.ensures in
-    let has = subst (λ (z : ℕ). HasDart map.lists c.tail.result.0 z) head (subst (λ (z : ℕ). HasDart map.lists z (dart_of map d).1) tail (has_dart map c.facts.ensures d c.requires.live)) in
+    let has = subst (λ (z : ℕ). HasDart map.lists c.tail.result.0 z) head (subst (λ (z : ℕ). HasDart map.lists z (dart_of map d).1) tail (has_dart map c.args.tri.now.known d c.requires.live)) in
     subst (λ lists. HasDart lists c.tail.result.0 c.head.result.0) (sym c.in_ok-lists.ensures) has

@@ -10,16 +10,16 @@ unfolding face_count
 overflow_add-result c =
     let map = c.args.map.now in
     let orbits : c.count.result ≡ class_count (face_classes map.lists) = c.count.ensures ∙ c.in_ok-faces.ensures.count in
-    omega (arith, euler_bound_map map.lists c.facts.ensures.simple, few_darts map c.facts.ensures, orbits, c.count_isolated-isolated.ensures.count, c.requires, c.facts.ensures.few_vertices)
+    omega (arith, euler_bound_map map.lists c.args.map.now.known.simple, few_darts map c.args.map.now.known, orbits, c.count_isolated-isolated.ensures.count, c.requires, c.args.map.now.known.few_vertices)
 
 -- the counts are within the Euler bound
 pub invariant_of-result : goal.invariant_of-result
 unfolding face_count
 invariant_of-result c =
     let map = c.args.map.now in
-    let few = few_darts map c.facts.ensures in
-    let vertices = c.facts.ensures.few_vertices in
-    let bound = euler_bound_map map.lists c.facts.ensures.simple in
+    let few = few_darts map c.args.map.now.known in
+    let vertices = c.args.map.now.known.few_vertices in
+    let bound = euler_bound_map map.lists c.args.map.now.known.simple in
     let orbits : c.count.result ≡ class_count (face_classes map.lists) = c.count.ensures ∙ c.in_ok-faces.ensures.count in
     let isolated = c.count_isolated-isolated.ensures.count in
     record {

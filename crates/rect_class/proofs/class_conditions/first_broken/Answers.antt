@@ -8,7 +8,7 @@ use Rattle.rect_class.proofs.class_conditions.first_broken.Goals as goal
 
 pub returns-then-n-le-OUTER_COUNT : goal.returns-then-n-le-OUTER_COUNT
 returns-then-n-le-OUTER_COUNT c =
-    (c.requires.biconnected, c.in-Some.ensures.quadrangle, c.in_default-first_large.ensures, subst (λ (found : Option Refusal). MatchOption found (NoneSeparating c.args.map.now.lists) (BreaksRect c.args.map.now.lists)) c.in_default-2.is c.in_ok-refusal.ensures, (λ inner. let more = more-inner c.args.map.now.lists c.facts.ensures.simple c.in-Some.ensures.quadrangle inner in let few = c.if-n-le-OUTER_COUNT.true in let n = c.n.ensures.count in omega arith))
+    (c.requires.biconnected, c.in-Some.ensures.quadrangle, c.in_default-first_large.ensures, subst (λ (found : Option Refusal). MatchOption found (NoneSeparating c.args.map.now.lists) (BreaksRect c.args.map.now.lists)) c.in_default-2.is c.in_ok-refusal.ensures, (λ inner. let more = more-inner c.args.map.now.lists c.args.map.now.known.simple c.in-Some.ensures.quadrangle inner in let few = c.if-n-le-OUTER_COUNT.true in let n = c.n.ensures.count in omega arith))
 
 pub returns-else-n-le-OUTER_COUNT : goal.returns-else-n-le-OUTER_COUNT
 returns-else-n-le-OUTER_COUNT c = record {

@@ -5,7 +5,7 @@ use Rattle.row_texts.proofs.maps.dart_between.Goals.{then-u-n-via-then-u-n, then
 
 pub returns-then-u-n-clause-ends : goal.returns-then-u-n-clause-ends
 returns-then-u-n-clause-ends c dart =
-    let head = c.facts.ensures.simple.in_range _ _ dart in
+    let head = c.args.map.now.known.simple.in_range _ _ dart in
     let tail = dart.0 in
     elim c.then-u-n.branch [
       | then-u-n-via-then-u-n w ↦ omega (arith, w.if-u-n, tail, c.n.ensures.count)

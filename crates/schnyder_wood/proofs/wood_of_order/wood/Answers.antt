@@ -24,7 +24,7 @@ invariant_of-result c =
     let run = c.order_is_run.ensures c.args.tri.now.lists base at c.requires.triangulation order in
     let tables = c.in_ok-tables.ensures run.0 (c.in_ok-rows.ensures.of_run base order run.0 run.1).rows_are in
     let last : c.name_of-3.result ≡ slice_index at (length at - 1) = c.name_of-3.ensures ∙ ap (λ n. slice_index at (n - 1)) (c.len-last.ensures ∙ sym (length-map c.args.order.now.at (λ v. v.0))) in (
-      IsRooted-made c.args.tri.now.lists base at c.args.order.now.rank run.0 c.requires.triangulation order c.args.order.now.ranked run.1 c.facts.ensures.few_vertices c.wood_of_order.ensures (length c.in_ok-rows.rows) _ _ _ _ _ _ c.in_ok-rows.ensures.count tables c.name_of.ensures c.name_of-2.ensures last,
+      IsRooted-made c.args.tri.now.lists base at c.args.order.now.rank run.0 c.requires.triangulation order c.args.order.now.ranked run.1 c.args.tri.now.known.few_vertices c.wood_of_order.ensures (length c.in_ok-rows.rows) _ _ _ _ _ _ c.in_ok-rows.ensures.count tables c.name_of.ensures c.name_of-2.ensures last,
       tables.count two ∙ sym (tables.count one),
       tables.count three ∙ sym (tables.count one),
     )
@@ -35,11 +35,11 @@ returns-clause-wood c = λ base order.
     let run = c.order_is_run.ensures c.args.tri.now.lists base at c.requires.triangulation order in
     let tables = c.in_ok-tables.ensures run.0 (c.in_ok-rows.ensures.of_run base order run.0 run.1).rows_are in
     let last : c.name_of-3.result ≡ slice_index at (length at - 1) = c.name_of-3.ensures ∙ ap (λ n. slice_index at (n - 1)) (c.len-last.ensures ∙ sym (length-map c.args.order.now.at (λ v. v.0))) in
-    IsWoodOf-made c.args.tri.now.lists base at c.args.order.now.rank run.0 c.requires.triangulation order c.args.order.now.ranked run.1 c.facts.ensures.few_vertices c.wood_of_order.ensures (length c.in_ok-rows.rows) _ _ _ _ _ _ c.in_ok-rows.ensures.count tables c.name_of.ensures c.name_of-2.ensures last
+    IsWoodOf-made c.args.tri.now.lists base at c.args.order.now.rank run.0 c.requires.triangulation order c.args.order.now.ranked run.1 c.args.tri.now.known.few_vertices c.wood_of_order.ensures (length c.in_ok-rows.rows) _ _ _ _ _ _ c.in_ok-rows.ensures.count tables c.name_of.ensures c.name_of-2.ensures last
 
 pub returns-clause-parents : goal.returns-clause-parents
 returns-clause-parents c = λ base order steps run.
     let at = vertices_of c.args.order.now in
     let tables = c.in_ok-tables.ensures steps (c.in_ok-rows.ensures.of_run base order steps run).rows_are in
     let last : c.name_of-3.result ≡ slice_index at (length at - 1) = c.name_of-3.ensures ∙ ap (λ n. slice_index at (n - 1)) (c.len-last.ensures ∙ sym (length-map c.args.order.now.at (λ v. v.0))) in
-    made_parents c.args.tri.now.lists base at c.args.order.now.rank steps c.requires.triangulation order c.args.order.now.ranked run c.facts.ensures.few_vertices c.wood_of_order.ensures (length c.in_ok-rows.rows) _ _ _ _ _ _ c.in_ok-rows.ensures.count tables c.name_of.ensures c.name_of-2.ensures last
+    made_parents c.args.tri.now.lists base at c.args.order.now.rank steps c.requires.triangulation order c.args.order.now.ranked run c.args.tri.now.known.few_vertices c.wood_of_order.ensures (length c.in_ok-rows.rows) _ _ _ _ _ _ c.in_ok-rows.ensures.count tables c.name_of.ensures c.name_of-2.ensures last

@@ -11,7 +11,7 @@ returns-then-next-first c = λ v u is.
     let t : Some v ≡ Some c.tail.result.0 = sym (ap (option_map (λ (x : Dart). x.0)) is) ∙ c.tail.ensures in
     let same : c.tail.result.0 ≡ v = cc in
     let begins : dart_at map c.in-Some.first.0 ≡ Some (first_dart map.lists v) = subst (λ (x : ℕ). dart_at map c.in-Some.first.0 ≡ Some (first_dart map.lists x)) same c.in-Some.ensures.dart in
-    last_place map c.facts.ensures c.args.d.0 c.next-next.result.0 c.in-Some.first.0 v u c.requires.live c.next-next.ensures begins is c.if-next-first.true
+    last_place map c.args.map.now.known c.args.d.0 c.next-next.result.0 c.in-Some.first.0 v u c.requires.live c.next-next.ensures begins is c.if-next-first.true
 
 pub returns-else-next-first : goal.returns-else-next-first
 returns-else-next-first c = λ v u is.
@@ -19,4 +19,4 @@ returns-else-next-first c = λ v u is.
     let t : Some v ≡ Some c.tail.result.0 = sym (ap (option_map (λ (x : Dart). x.0)) is) ∙ c.tail.ensures in
     let same : c.tail.result.0 ≡ v = cc in
     let begins : dart_at map c.in-Some.first.0 ≡ Some (first_dart map.lists v) = subst (λ (x : ℕ). dart_at map c.in-Some.first.0 ≡ Some (first_dart map.lists x)) same c.in-Some.ensures.dart in
-    later_place map c.facts.ensures c.args.d.0 c.next-next.result.0 c.in-Some.first.0 v u c.requires.live c.next-next.ensures begins is c.if-next-first.false
+    later_place map c.args.map.now.known c.args.d.0 c.next-next.result.0 c.in-Some.first.0 v u c.requires.live c.next-next.ensures begins is c.if-next-first.false

@@ -8,12 +8,12 @@ returns-in-Some g c =
     let map = c.args.map.now in
     let v = c.args.v.0 in
     let first = c.requires.first in
-    let two = two_from_later map c.facts.ensures v c.args.first.0 c.in-Some.field-0.0 first (c.in-Some.ensures v (get_or (list_of map.lists v) 0 0) first) in
-    turns_of_two map c.facts.ensures _ v c.passes_once.result c.passes_once.ensures two
+    let two = two_from_later map c.args.map.now.known v c.args.first.0 c.in-Some.field-0.0 first (c.in-Some.ensures v (get_or (list_of map.lists v) 0 0) first) in
+    turns_of_two map c.args.map.now.known _ v c.passes_once.result c.passes_once.ensures two
 
 pub returns-in-None : goal.returns-in-None
 returns-in-None g c =
     let map = c.args.map.now in
     let v = c.args.v.0 in
     let first = c.requires.first in
-    record { once = λ two. absurd (one_from_last map c.facts.ensures v c.args.first.0 first (c.in-None.ensures v (get_or (list_of map.lists v) 0 0) first) two) }
+    record { once = λ two. absurd (one_from_last map c.args.map.now.known v c.args.first.0 first (c.in-None.ensures v (get_or (list_of map.lists v) 0 0) first) two) }

@@ -6,7 +6,7 @@ use Rattle.augment_tri.proofs.ears.FacePath.is_first.Goals as goal
 pub returns-else-degree : goal.returns-else-degree
 returns-else-degree c =
     let lists = c.args.self.now.map.now.lists in
-    let simple = c.facts.ensures.simple in
+    let simple = c.args.self.now.map.now.known.simple in
     let turned = CanJoin-turned lists c.args.self.now.c.0 c.args.self.now.a.0 simple in
     let chord : Type 0 = CanJoin lists c.args.self.now.a.0 c.args.self.now.c.0 in
     let back : Type 0 = CanJoin lists c.args.self.now.c.0 c.args.self.now.a.0 in

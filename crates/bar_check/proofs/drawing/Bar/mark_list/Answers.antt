@@ -3,7 +3,7 @@ use Rattle.bar_check.proofs.Rounds.{fewer_left}
 use Rattle.bar_check.proofs.drawing.Bar.mark_list.Goals as goal
 
 pub round-smaller : goal.round-smaller
-round-smaller c = fewer_left c.args.self.now.drawing.map.now c.facts.ensures c.args.self.now.v.0 c.round.d.0 c.in-Some-later_dart.later.0 c.round.invariant.dart c.in-Some-later_dart.ensures
+round-smaller c = fewer_left c.args.self.now.drawing.map.now c.args.self.now.drawing.map.now.known c.args.self.now.v.0 c.round.d.0 c.in-Some-later_dart.later.0 c.round.invariant.dart c.in-Some-later_dart.ensures
 
 pub round-preserved : goal.round-preserved
 round-preserved c =

@@ -10,10 +10,10 @@ pub column_between-requires-clause-v : goal.column_between-requires-clause-v
 column_between-requires-clause-v c =
     let map = c.args.self.now.map.now in
     let d = c.args.d.0 in
-    subst (λ (x : ℕ). x < length map.lists) (head_is map d c.head.result.0 c.requires.live c.head.ensures) (c.facts.ensures.simple.in_range (dart_of map d).0 (dart_of map d).1 (has_dart map c.facts.ensures d c.requires.live))
+    subst (λ (x : ℕ). x < length map.lists) (head_is map d c.head.result.0 c.requires.live c.head.ensures) (c.args.self.now.map.now.known.simple.in_range (dart_of map d).0 (dart_of map d).1 (has_dart map c.args.self.now.map.now.known d c.requires.live))
 
 pub returns-then-d-self : goal.returns-then-d-self
 returns-then-d-self c =
     let x : ℤ = number_at c.args.self.now.columns.now c.args.d.0 in
     let f : FitsSigned w32 x = search rules in
-    rw (to_z-of_z w32 x f) (column-at c.args.self.now.map.now c.args.self.now.fig.now c.facts.ensures c.args.self.now.columns.now c.args.self.now.table c.args.d.0 c.requires.live c.if-d-self.true)
+    rw (to_z-of_z w32 x f) (column-at c.args.self.now.map.now c.args.self.now.fig.now c.args.self.now.map.now.known c.args.self.now.columns.now c.args.self.now.table c.args.d.0 c.requires.live c.if-d-self.true)

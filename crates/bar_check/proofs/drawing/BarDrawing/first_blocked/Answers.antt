@@ -14,7 +14,7 @@ invariant_of-result c =
     let map = c.args.self.now.map.now in
     let fig = c.args.self.now.fig.now in
     let a = c.loop-a.a in
-    let least = least_blocked_edge map.lists fig a (Some c.in-Some.b) (least_one map c.facts.ensures _ (IsBlockedFrom map.lists fig a) a (Some c.in-Some.b) c.in-Some.ensures (λ d live late r s. search rules)) in
+    let least = least_blocked_edge map.lists fig a (Some c.in-Some.b) (least_one map c.args.self.now.map.now.known _ (IsBlockedFrom map.lists fig a) a (Some c.in-Some.b) c.in-Some.ensures (λ d live late r s. search rules)) in
     record { rising = least.here.edge.0 }
 
 pub returns-in-Some : goal.returns-in-Some
@@ -24,7 +24,7 @@ returns-in-Some c =
     let a = c.loop-a.a in
     record {
       before = c.loop-a.invariant.none;
-      rest = least_blocked_edge map.lists fig a (Some c.in-Some.b) (least_one map c.facts.ensures _ (IsBlockedFrom map.lists fig a) a (Some c.in-Some.b) c.in-Some.ensures (λ d live late r s. search rules));
+      rest = least_blocked_edge map.lists fig a (Some c.in-Some.b) (least_one map c.args.self.now.map.now.known _ (IsBlockedFrom map.lists fig a) a (Some c.in-Some.b) c.in-Some.ensures (λ d live late r s. search rules));
     }
 
 pub loop-a-preserved : goal.loop-a-preserved
@@ -35,7 +35,7 @@ loop-a-preserved c =
     record {
       none = λ s b l. elim (cases_eq s a) [
         | inl same ↦
-            subst (λ (z : ℕ). ¬ IsBlockedEdge map.lists fig z b) (sym same) (least_blocked_edge map.lists fig a None (least_one map c.facts.ensures _ (IsBlockedFrom map.lists fig a) a None c.in_default.ensures (λ d live late r s. search rules)) b)
+            subst (λ (z : ℕ). ¬ IsBlockedEdge map.lists fig z b) (sym same) (least_blocked_edge map.lists fig a None (least_one map c.args.self.now.map.now.known _ (IsBlockedFrom map.lists fig a) a None c.in_default.ensures (λ d live late r s. search rules)) b)
         | inr ne ↦ c.loop-a.invariant.none s b (omega (arith, l, ne))
       ];
       before = c.edges_with-before.ensures.count;

@@ -9,11 +9,11 @@ returns-in-Some c =
       d.bars,
       d.within,
       c.requires.through,
-      none_overlap d.map.now.lists d.fig.now d.heights c.facts.ensures.simple d.width d.within c.requires.through,
+      none_overlap d.map.now.lists d.fig.now d.heights c.args.self.now.map.now.known.simple d.width d.within c.requires.through,
       c.in-Some.ensures,
     )
 
 pub returns-in-None : goal.returns-in-None
 returns-in-None c =
     let d = c.args.self.now in
-    valid_bars d.map.now.lists d.fig.now d.width c.facts.ensures.simple d.shape d.heights d.bars d.within c.requires.through c.in-None.ensures
+    valid_bars d.map.now.lists d.fig.now d.width c.args.self.now.map.now.known.simple d.shape d.heights d.bars d.within c.requires.through c.in-None.ensures

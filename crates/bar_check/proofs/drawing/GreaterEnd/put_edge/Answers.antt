@@ -18,8 +18,8 @@ overflow_add-next c =
     let b = c.args.self.now.b.0 in
     let a = (dart_of map d).1 in
     let same = head_is map d c.head-a.result.0 c.requires.live c.head-a.ensures in
-    let has = subst (λ (z : ℕ). HasDart map.lists z a) c.requires.tail (has_dart map c.facts.ensures d c.requires.live) in
-    let few = subst (λ (z : ℕ). get_or c.args.next.now z 0 < 4294967295) same (number_few map bars.fig.now c.facts.ensures b a has c.args.next.now c.args.columns.now c.requires.filled (subst (λ (z : ℕ). z < b) (sym same) c.if-a-self.true)) in
+    let has = subst (λ (z : ℕ). HasDart map.lists z a) c.requires.tail (has_dart map c.args.self.now.bars.map.now.known d c.requires.live) in
+    let few = subst (λ (z : ℕ). get_or c.args.next.now z 0 < 4294967295) same (number_few map bars.fig.now c.args.self.now.bars.map.now.known b a has c.args.next.now c.args.columns.now c.requires.filled (subst (λ (z : ℕ). z < b) (sym same) c.if-a-self.true)) in
     omega (arith, few)
 
 pub returns-then-a-self : goal.returns-then-a-self
@@ -31,13 +31,13 @@ returns-then-a-self c =
     let a = (dart_of map d).1 in
     let next = c.args.next.now in
     let same = sym (head_is map d c.head-a.result.0 c.requires.live c.head-a.ensures) in
-    let has = subst (λ (z : ℕ). HasDart map.lists z a) c.requires.tail (has_dart map c.facts.ensures d c.requires.live) in
+    let has = subst (λ (z : ℕ). HasDart map.lists z a) c.requires.tail (has_dart map c.args.self.now.bars.map.now.known d c.requires.live) in
     let at : dart_at map d ≡ Some (b, a) = dart_of-live map d c.requires.live ∙ ap (λ (z : ℕ). Some (z, a)) c.requires.tail in
     let at_twin : dart_at map c.twin.result.0 ≡ Some (a, b) = c.twin.ensures ∙ ap (option_map twin_dart) at in
     let x : ℤ = c.entry_or_zero-x.result in
     let fits : FitsSigned w32 x = search rules in
     let written : IsWritten d c.twin.result.0 x c.args.columns.now c.put_column-then-a-self.new.columns = IsWritten-both d c.twin.result.0 x c.args.columns.now c.put_column.new.columns c.put_column-then-a-self.new.columns c.put_column.ensures.size (simp to_z-of_z at c.put_column.ensures.here) c.put_column.ensures.elsewhere c.put_column-then-a-self.ensures.size (simp to_z-of_z at c.put_column-then-a-self.ensures.here) c.put_column-then-a-self.ensures.elsewhere in
-    AreFilled-put map bars.fig.now c.facts.ensures b a has next c.args.columns.now c.requires.filled _ c.put_column-then-a-self.new.columns (subst (λ (z : ℕ). z < b) same c.if-a-self.true) d c.twin.result.0 at at_twin
+    AreFilled-put map bars.fig.now c.args.self.now.bars.map.now.known b a has next c.args.columns.now c.requires.filled _ c.put_column-then-a-self.new.columns (subst (λ (z : ℕ). z < b) same c.if-a-self.true) d c.twin.result.0 at at_twin
     (ap (λ (z : ℕ). set next z (get_or next z 0 + 1)) same)
     (subst (λ (z : ℕ). IsWritten d c.twin.result.0 (number_at bars.fig.now.column (get_or next z 0)) c.args.columns.now c.put_column-then-a-self.new.columns) same (subst (λ (z : ℤ). IsWritten d c.twin.result.0 z c.args.columns.now c.put_column-then-a-self.new.columns) c.entry_or_zero-x.ensures written))
 
@@ -49,5 +49,5 @@ returns-else-a-self c =
     let b = c.args.self.now.b.0 in
     let a = (dart_of map d).1 in
     let same = sym (head_is map d c.head-a.result.0 c.requires.live c.head-a.ensures) in
-    let has = subst (λ (z : ℕ). HasDart map.lists z a) c.requires.tail (has_dart map c.facts.ensures d c.requires.live) in
-    AreFilled-past map bars.fig.now c.facts.ensures b a has c.args.next.now c.args.columns.now c.requires.filled c.args.next.now c.args.columns.now (subst (λ (z : ℕ). b ≤ z) same c.if-a-self.false)
+    let has = subst (λ (z : ℕ). HasDart map.lists z a) c.requires.tail (has_dart map c.args.self.now.bars.map.now.known d c.requires.live) in
+    AreFilled-past map bars.fig.now c.args.self.now.bars.map.now.known b a has c.args.next.now c.args.columns.now c.requires.filled c.args.next.now c.args.columns.now (subst (λ (z : ℕ). b ≤ z) same c.if-a-self.false)

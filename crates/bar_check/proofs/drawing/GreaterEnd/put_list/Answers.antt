@@ -16,7 +16,7 @@ round-init c =
     }
 
 pub round-smaller : goal.round-smaller
-round-smaller c = fewer_left c.args.self.now.bars.map.now c.facts.ensures c.args.self.now.b.0 c.round.d.0 c.in-Some-later_dart.later.0 c.round.invariant.dart c.in-Some-later_dart.ensures
+round-smaller c = fewer_left c.args.self.now.bars.map.now c.args.self.now.bars.map.now.known c.args.self.now.b.0 c.round.d.0 c.in-Some-later_dart.later.0 c.round.invariant.dart c.in-Some-later_dart.ensures
 
 pub round-preserved : goal.round-preserved
 round-preserved c =
@@ -35,19 +35,19 @@ returns-in-None-clause-filled c =
     let map = c.args.self.now.bars.map.now in
     let b = c.args.self.now.b.0 in
     let d = c.round.d.0 in
-    AreFilled-next map c.args.self.now.bars.fig.now c.facts.ensures b (place_at map b d + 1) c.put_edge.new.next c.put_edge.new.columns c.args.self.now.vertex (c.in-None.ensures b (head_at map d) c.round.invariant.dart) c.put_edge.ensures
+    AreFilled-next map c.args.self.now.bars.fig.now c.args.self.now.bars.map.now.known b (place_at map b d + 1) c.put_edge.new.next c.put_edge.new.columns c.args.self.now.vertex (c.in-None.ensures b (head_at map d) c.round.invariant.dart) c.put_edge.ensures
 
 pub returns-in-None-clause-found : goal.returns-in-None-clause-found
 returns-in-None-clause-found c =
     let map = c.args.self.now.bars.map.now in
     let b = c.args.self.now.b.0 in
     let d = c.round.d.0 in
-    first-next map c.args.self.now.bars.fig.now c.facts.ensures c.args.self.now.bars.width b (place_at map b d + 1) (c.in-None.ensures b (head_at map d) c.round.invariant.dart) c.with_next-bad.result c.with_next-bad.ensures
+    first-next map c.args.self.now.bars.fig.now c.args.self.now.bars.map.now.known c.args.self.now.bars.width b (place_at map b d + 1) (c.in-None.ensures b (head_at map d) c.round.invariant.dart) c.with_next-bad.result c.with_next-bad.ensures
 
 pub returns-in_default-clause-filled : goal.returns-in_default-clause-filled
 returns-in_default-clause-filled c =
-    AreFilled-next c.args.self.now.bars.map.now c.args.self.now.bars.fig.now c.facts.ensures c.args.self.now.b.0 0 c.args.next.now c.args.columns.now c.args.self.now.vertex (sym (ap length c.in_default.ensures.dart)) c.requires.filled
+    AreFilled-next c.args.self.now.bars.map.now c.args.self.now.bars.fig.now c.args.self.now.bars.map.now.known c.args.self.now.b.0 0 c.args.next.now c.args.columns.now c.args.self.now.vertex (sym (ap length c.in_default.ensures.dart)) c.requires.filled
 
 pub returns-in_default-clause-found : goal.returns-in_default-clause-found
 returns-in_default-clause-found c =
-    first-next c.args.self.now.bars.map.now c.args.self.now.bars.fig.now c.facts.ensures c.args.self.now.bars.width c.args.self.now.b.0 0 (sym (ap length c.in_default.ensures.dart)) c.args.found c.requires.found
+    first-next c.args.self.now.bars.map.now c.args.self.now.bars.fig.now c.args.self.now.bars.map.now.known c.args.self.now.bars.width c.args.self.now.b.0 0 (sym (ap length c.in_default.ensures.dart)) c.args.found c.requires.found

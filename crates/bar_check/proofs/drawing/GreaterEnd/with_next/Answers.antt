@@ -46,8 +46,8 @@ returns-then-self-a c =
     let b = c.args.self.now.b.0 in
     let a = (dart_of bars.map.now d).1 in
     let same = head_is bars.map.now d c.head-a.result.0 c.requires.live c.head-a.ensures in
-    let has = subst (λ (z : ℕ). HasDart bars.map.now.lists z a) c.requires.tail (has_dart bars.map.now c.facts.ensures d c.requires.live) in
-    first-past bars.map.now bars.fig.now c.facts.ensures b a has bars.width (subst (λ (z : ℕ). b ≤ z) (sym same) c.if-self-a.true) c.args.found c.requires.found
+    let has = subst (λ (z : ℕ). HasDart bars.map.now.lists z a) c.requires.tail (has_dart bars.map.now c.args.self.now.bars.map.now.known d c.requires.live) in
+    first-past bars.map.now bars.fig.now c.args.self.now.bars.map.now.known b a has bars.width (subst (λ (z : ℕ). b ≤ z) (sym same) c.if-self-a.true) c.args.found c.requires.found
 
 pub returns-in-Some : goal.returns-in-Some
 returns-in-Some c =
@@ -56,9 +56,9 @@ returns-in-Some c =
     let b = c.args.self.now.b.0 in
     let a = (dart_of bars.map.now d).1 in
     let same = head_is bars.map.now d c.head-a.result.0 c.requires.live c.head-a.ensures in
-    let has = subst (λ (z : ℕ). HasDart bars.map.now.lists z a) c.requires.tail (has_dart bars.map.now c.facts.ensures d c.requires.live) in
+    let has = subst (λ (z : ℕ). HasDart bars.map.now.lists z a) c.requires.tail (has_dart bars.map.now c.args.self.now.bars.map.now.known d c.requires.live) in
     let up : IsUpTo c.args.found a = rw c.in-Some.is (subst (λ (z : ℕ). c.in-Some.e.a.0 ≤ z) (sym same) c.if-e-a.true) in
-    rw c.in-Some.is at (first-stays bars.map.now bars.fig.now c.facts.ensures b a has bars.width c.args.found up c.requires.found)
+    rw c.in-Some.is at (first-stays bars.map.now bars.fig.now c.args.self.now.bars.map.now.known b a has bars.width c.args.found up c.requires.found)
 
 pub returns-then-is_column : goal.returns-then-is_column
 returns-then-is_column c =
@@ -66,7 +66,7 @@ returns-then-is_column c =
     let x : ℤ = c.entry_or_zero-x.result in
     let fits : FitsSigned w32 x = search rules in
     let good : IsColumn bars.fig.now bars.width c.head-a.result.0 c.args.self.now.b.0 x = simp to_z-of_z at (c.is_column.ensures.0 c.if-is_column.true) in
-    with-good bars.map.now bars.fig.now c.facts.ensures bars.width c.args.self.now.b.0 c.args.d.0 c.head-a.result.0 c.args.next.now x c.requires.live c.requires.tail c.head-a.ensures c.requires.numbers (omega (arith, c.if-self-a.false)) c.entry_or_zero-x.ensures good c.args.found c.requires.found
+    with-good bars.map.now bars.fig.now c.args.self.now.bars.map.now.known bars.width c.args.self.now.b.0 c.args.d.0 c.head-a.result.0 c.args.next.now x c.requires.live c.requires.tail c.head-a.ensures c.requires.numbers (omega (arith, c.if-self-a.false)) c.entry_or_zero-x.ensures good c.args.found c.requires.found
 
 pub returns-in_default : goal.returns-in_default
 returns-in_default c =
@@ -74,7 +74,7 @@ returns-in_default c =
     let x : ℤ = c.entry_or_zero-x.result in
     let fits : FitsSigned w32 x = search rules in
     let bad : IsColumn bars.fig.now bars.width c.head-a.result.0 c.args.self.now.b.0 x → ⊥ = λ p. false≢true (sym c.if-is_column.false ∙ (simp to_z-of_z at c.is_column.ensures).1 p) in
-    with-bad bars.map.now bars.fig.now c.facts.ensures bars.width c.args.self.now.b.0 c.args.d.0 c.head-a.result.0 c.args.next.now x c.requires.live c.requires.tail c.head-a.ensures c.requires.numbers (omega (arith, c.if-self-a.false)) c.entry_or_zero-x.ensures bad c.args.found c.requires.found
+    with-bad bars.map.now bars.fig.now c.args.self.now.bars.map.now.known bars.width c.args.self.now.b.0 c.args.d.0 c.head-a.result.0 c.args.next.now x c.requires.live c.requires.tail c.head-a.ensures c.requires.numbers (omega (arith, c.if-self-a.false)) c.entry_or_zero-x.ensures bad c.args.found c.requires.found
     (λ up. elim c.in_default.branch [
       | in_default-via-in-Some+else-e-a w ↦ (let most = rw w.in-Some.is at up in omega (arith, most, w.if-e-a.false))
       | in_default-via-in_default w ↦ rw w.in_default.is at up

@@ -21,7 +21,7 @@ returns-then-is_clear c =
     let b = c.head-b.result.0 in
     let ends = ends_are map c.args.d.0 c.tail.result.0 b c.requires.live c.tail.ensures c.head-b.ensures in
     let at : dart_at map c.args.d.0 ≡ Some (a, b) = dart_of-live map c.args.d.0 c.requires.live ∙ ap (λ (x : Dart). Some x) (sym ends) ∙ ap (λ (z : ℕ). Some (z, b)) c.if-tail-self.false in
-    let dart = subst (λ (z : ℕ). HasDart map.lists z b) c.if-tail-self.false (subst (λ (x : Dart). HasDart map.lists x.0 x.1) (sym ends) (has_dart map c.facts.ensures c.args.d.0 c.requires.live)) in
+    let dart = subst (λ (z : ℕ). HasDart map.lists z b) c.if-tail-self.false (subst (λ (x : Dart). HasDart map.lists x.0 x.1) (sym ends) (has_dart map c.args.self.now.drawing.map.now.known c.args.d.0 c.requires.live)) in
     let head = head_is map c.args.d.0 b c.requires.live c.head-b.ensures in (
       λ e. absurd (false≢true e),
       λ p.

@@ -4,7 +4,7 @@ use Rattle.canon_order.proofs.order.Peeler.order_map.Goals as goal
 
 pub invariant_of-based : goal.invariant_of-based
 invariant_of-based c = record {
-  few = omega (arith, ap length c.requires.lists, c.facts.ensures.few_vertices);
+  few = omega (arith, ap length c.requires.lists, c.args.tri.now.known.few_vertices);
   triangulated = ∣ subst IsTriangulation (sym c.requires.lists) c.requires.triangulation ∣₁;
   dart = ∣ search rules ∣₁;
   left = search rules;

@@ -12,8 +12,8 @@ turns_right-requires-clause-c c =
     let map = c.args.self.now.map.now in
     let d = c.args.d.0 in
     let x = dart_of map d in
-    let third = face_next_head map c.facts.ensures d c.face_step.result.0 x.0 x.1 c.head-c.result.0 (dart_of-live map d c.requires.live) c.face_step.ensures c.head-c.ensures in
-    c.facts.ensures.simple.in_range x.1 c.head-c.result.0 third.1
+    let third = face_next_head map c.args.self.now.map.now.known d c.face_step.result.0 x.0 x.1 c.head-c.result.0 (dart_of-live map d c.requires.live) c.face_step.ensures c.head-c.ensures in
+    c.args.self.now.map.now.known.simple.in_range x.1 c.head-c.result.0 third.1
 
 pub returns-then-face-outer : goal.returns-then-face-outer
 returns-then-face-outer c =
@@ -21,7 +21,7 @@ returns-then-face-outer c =
     let a = (dart_of map c.args.d.0).0 in
     let b = (dart_of map c.args.d.0).1 in
     let is = dart_of-live map c.args.d.0 c.requires.live in
-    let known = c.facts.ensures in
+    let known = c.args.self.now.map.now.known in
     let points = c.args.self.now.points.now in
     let base = c.args.self.now.base.0 in
     let d = c.args.d.0 in
@@ -42,7 +42,7 @@ returns-else-face-outer c =
     let base = c.args.self.now.base.0 in
     let d = c.args.d.0 in
     let same : SameFace map.lists (dart_of map base) (dart_of map d) =
-    (one_walk_face map c.facts.ensures c.args.faces.now c.requires.faces base d c.args.self.now.based c.requires.live c.of_dart-outer.result.0 c.of_dart-outer.ensures.face c.of_dart-outer.ensures.stands
+    (one_walk_face map c.args.self.now.map.now.known c.args.faces.now c.requires.faces base d c.args.self.now.based c.requires.live c.of_dart-outer.result.0 c.of_dart-outer.ensures.face c.of_dart-outer.ensures.stands
     (subst (λ f. Contains (walk_at c.args.faces.now f) d) c.if-face-outer.false c.of_dart-face.ensures.stands)) in (
       λ t. absurd (true≢false (sym t ∙ rw (eq-eqb c.of_dart-face.result.0 c.of_dart-outer.result.0 c.if-face-outer.false) refl)),
       λ bent. absurd (bent.other same),

@@ -14,7 +14,7 @@ has_corners-requires c =
     let points = c.args.self.now.points.now in
     let here = subst (λ (ids : List ℕ). AreWalkPlaces map points ids c.in_ok-places.places.items) c.walk-walk.ensures.walk c.in_ok-places.ensures in
     let are = subst (λ (places : List Point). AreWalkPlaces map points (walk_at c.args.faces.now c.of_dart.result.0) places) (sym c.deref.ensures.value) here in
-    places_in_range c.args.self.now.map.now c.args.self.now.points.now (record { known = c.facts.ensures; places = c.args.self.now.places }) c.args.faces.now c.requires.faces c.args.self.now.base.0 c.of_dart.result.0 c.args.self.now.based c.of_dart.ensures.face c.of_dart.ensures.stands c.deref.result.now are
+    places_in_range c.args.self.now.map.now c.args.self.now.points.now (record { known = c.args.self.now.map.now.known; places = c.args.self.now.places }) c.args.faces.now c.requires.faces c.args.self.now.base.0 c.of_dart.result.0 c.args.self.now.based c.of_dart.ensures.face c.of_dart.ensures.stands c.deref.result.now are
 
 pub returns : goal.returns
 returns c =
@@ -22,6 +22,6 @@ returns c =
     let points = c.args.self.now.points.now in
     let here = subst (λ (ids : List ℕ). AreWalkPlaces map points ids c.in_ok-places.places.items) c.walk-walk.ensures.walk c.in_ok-places.ensures in
     let are = subst (λ (places : List Point). AreWalkPlaces map points (walk_at c.args.faces.now c.of_dart.result.0) places) (sym c.deref.ensures.value) here in (
-      λ t. outer_of_places c.args.self.now.map.now c.args.self.now.points.now (record { known = c.facts.ensures; places = c.args.self.now.places }) c.args.faces.now c.requires.faces c.args.self.now.base.0 c.of_dart.result.0 c.args.self.now.based c.of_dart.ensures.face c.of_dart.ensures.stands c.deref.result.now are (c.has_corners.ensures.0 t),
-      λ found. c.has_corners.ensures.1 (places_of_outer c.args.self.now.map.now c.args.self.now.points.now (record { known = c.facts.ensures; places = c.args.self.now.places }) c.args.faces.now c.requires.faces c.args.self.now.base.0 c.of_dart.result.0 c.args.self.now.based c.of_dart.ensures.face c.of_dart.ensures.stands c.deref.result.now are found),
+      λ t. outer_of_places c.args.self.now.map.now c.args.self.now.points.now (record { known = c.args.self.now.map.now.known; places = c.args.self.now.places }) c.args.faces.now c.requires.faces c.args.self.now.base.0 c.of_dart.result.0 c.args.self.now.based c.of_dart.ensures.face c.of_dart.ensures.stands c.deref.result.now are (c.has_corners.ensures.0 t),
+      λ found. c.has_corners.ensures.1 (places_of_outer c.args.self.now.map.now c.args.self.now.points.now (record { known = c.args.self.now.map.now.known; places = c.args.self.now.places }) c.args.faces.now c.requires.faces c.args.self.now.base.0 c.of_dart.result.0 c.args.self.now.based c.of_dart.ensures.face c.of_dart.ensures.stands c.deref.result.now are found),
     )

@@ -4,8 +4,8 @@ use Rattle.convex_class.proofs.face_pairs.first_pair_search.separating_pair_by.G
 
 pub returns-then-has_short_faces : goal.returns-then-has_short_faces
 returns-then-has_short_faces c =
-    no_pair c.args.map.now c.facts.ensures c.args.faces.now c.requires.faces (c.if-has_short_faces.ensures refl)
-    (record { simple = c.facts.ensures.simple; plane = c.requires.plane; uncut = c.requires.uncut })
+    no_pair c.args.map.now c.args.map.now.known c.args.faces.now c.requires.faces (c.if-has_short_faces.ensures refl)
+    (record { simple = c.args.map.now.known.simple; plane = c.requires.plane; uncut = c.requires.uncut })
 
 pub returns-then-from-n : goal.returns-then-from-n
 returns-then-from-n c = λ u v pair.

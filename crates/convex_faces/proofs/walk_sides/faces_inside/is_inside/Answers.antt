@@ -13,6 +13,6 @@ pub bounds-met-first : goal.bounds-met-first
 bounds-met-first c =
     let map = c.args.map.now in
     let walk = c.requires.faces.each c.args.f.0 c.requires.face in
-    let l = live-lt map c.facts.ensures (get_or (walk_at c.args.faces.now c.args.f.0) 0 0) (walk.live 0 walk.some) in
+    let l = live-lt map c.args.map.now.known (get_or (walk_at c.args.faces.now c.args.f.0) 0 0) (walk.live 0 walk.some) in
     let e = first_id c.walk.result.now ∙ ap (λ us. get_or us 0 0) c.walk.ensures.walk in
     omega (arith, l, e, c.requires.room)

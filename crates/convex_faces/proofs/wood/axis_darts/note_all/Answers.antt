@@ -12,7 +12,7 @@ place_at-requires-in-loop-id c =
     let live : IsLive map d = search rules in
     let x = dart_of map d in
     let same = head_is (dart_at map d) x.0 x.1 c.head-u.result.0 (dart_of-live map d live) c.head-u.ensures in
-    let l = c.facts.ensures.simple.in_range x.0 x.1 (has_dart map c.facts.ensures d live) in
+    let l = c.args.map.now.known.simple.in_range x.0 x.1 (has_dart map c.args.map.now.known d live) in
     let n = c.requires.points in
     omega arith
 
@@ -23,7 +23,7 @@ bounds-outs-v c =
     let live : IsLive map d = search rules in
     let x = dart_of map d in
     let same = tail_is (dart_at map d) x.0 x.1 c.tail-v.result.0 (dart_of-live map d live) c.tail-v.ensures in
-    let l = (has_dart map c.facts.ensures d live).0 in
+    let l = (has_dart map c.args.map.now.known d live).0 in
     omega (arith, same, l, c.loop-id.auto.outs, c.requires.outs)
 
 pub loop-id-init : goal.loop-id-init
@@ -52,6 +52,6 @@ loop-id-preserved c =
     let e = dart_of-live map d live in
     let same = tail_is (dart_at map d) x.0 x.1 c.tail-v.result.0 e c.tail-v.ensures in
     let rising = rising_dart_iff map c.args.points.now c.args.axis d x.0 x.1 c.tail-v.result.0 c.head-u.result.0 c.place_at.result c.place_at-in-loop-id.result c.rises.result e same (head_is (dart_at map d) x.0 x.1 c.head-u.result.0 e c.head-u.ensures) c.place_at.ensures c.place_at-in-loop-id.ensures c.rises.ensures.0 c.rises.ensures.1 in
-    let l = (has_dart map c.facts.ensures d live).0 in
+    let l = (has_dart map c.args.map.now.known d live).0 in
     let within : c.tail-v.result.0 < length c.loop-id.outs = omega (arith, same, l, c.loop-id.auto.outs, c.requires.outs) in
     AreNoted-more _ _ _ _ _ _ (Notes-set map c.args.points.now c.args.axis d c.loop-id.outs x.0 x.1 c.tail-v.result.0 e same within (rising.0 (search rules))) c.loop-id.invariant

@@ -24,7 +24,7 @@ outs_along-requires-3 c =
 
 pub invariant_of-result : goal.invariant_of-result
 invariant_of-result c =
-    let few = c.facts.ensures.few_vertices in
+    let few = c.args.map.now.known.few_vertices in
     let a = c.in_ok-ones.ensures.count in
     let b = c.in_ok-twos.ensures.count in
     let d = c.in_ok-threes.ensures.count in
@@ -32,12 +32,12 @@ invariant_of-result c =
 
 pub returns-clause-wood : goal.returns-clause-wood
 returns-clause-wood c = λ s d e.
-    IsWoodIn-made c.args.map.now c.facts.ensures c.args.base.0 s d c.in_ok-figure.figure.points _ e c.head-first.ensures c.tail-second.ensures
-    (λ s d e. before_is c.args.map.now c.facts.ensures c.prev-before.result.0 c.args.base.0 s d c.head-third.result.0 c.prev-before.ensures.live c.prev-before.ensures.before e c.head-third.ensures)
+    IsWoodIn-made c.args.map.now c.args.map.now.known c.args.base.0 s d c.in_ok-figure.figure.points _ e c.head-first.ensures c.tail-second.ensures
+    (λ s d e. before_is c.args.map.now c.args.map.now.known c.prev-before.result.0 c.args.base.0 s d c.head-third.result.0 c.prev-before.ensures.live c.prev-before.ensures.before e c.head-third.ensures)
     c.in_ok-ones.ensures.count c.in_ok-ones.ensures.noted c.in_ok-twos.ensures.noted c.in_ok-threes.ensures.noted (c.in_ok-figure.ensures.points s d e)
 
 pub returns-clause-drawn : goal.returns-clause-drawn
 returns-clause-drawn c = λ s d e.
-    IsDrawnWood-made c.args.map.now c.facts.ensures c.args.base.0 s d c.in_ok-figure.figure.points _ e c.head-first.ensures c.tail-second.ensures
-    (λ s d e. before_is c.args.map.now c.facts.ensures c.prev-before.result.0 c.args.base.0 s d c.head-third.result.0 c.prev-before.ensures.live c.prev-before.ensures.before e c.head-third.ensures)
+    IsDrawnWood-made c.args.map.now c.args.map.now.known c.args.base.0 s d c.in_ok-figure.figure.points _ e c.head-first.ensures c.tail-second.ensures
+    (λ s d e. before_is c.args.map.now c.args.map.now.known c.prev-before.result.0 c.args.base.0 s d c.head-third.result.0 c.prev-before.ensures.live c.prev-before.ensures.before e c.head-third.ensures)
     c.in_ok-ones.ensures.count c.in_ok-ones.ensures.noted c.in_ok-twos.ensures.noted c.in_ok-threes.ensures.noted (c.in_ok-figure.ensures.points s d e) c.requires.plane c.requires.three.connected

@@ -46,7 +46,7 @@ loop-preserved c =
     let is' = c.number_of-in-loop.ensures u v (twin_at (dart_at map c.loop.d.0) (dart_at map c.twin-twin.result.0) v u (h.dart in_list) c.twin-twin.ensures) in
     record {
       live = next_live map (dart_at map c.loop.d.0) (dart_at map c.next-d.result.0) h.live c.next-d.ensures;
-      dart = λ l. next_at map c.facts.ensures v k (dart_at map c.loop.d.0) (dart_at map c.next-d.result.0) c.requires.vertex (h.dart in_list) c.next-d.ensures l;
+      dart = λ l. next_at map c.args.self.now.map.now.known v k (dart_at map c.loop.d.0) (dart_at map c.next-d.result.0) c.requires.vertex (h.dart in_list) c.next-d.ensures l;
       own_room = omega (arith, h.own_room, in_list, c.push_reserved.ensures.len, c.push_reserved.ensures.capacity);
       other_room = omega (arith, h.other_room, in_list, c.push_reserved-in-loop.ensures.len, c.push_reserved-in-loop.ensures.capacity);
       own = IsRowPut-more (AreOwn map walks v) k x _ _ _ c.push_reserved.ensures.items (λ row long are. AreOwn-more map walks v x row are (subst (λ z. InWalk map walks x v (get_or (list_of map.lists v) z 0)) (sym long) is)) h.own;

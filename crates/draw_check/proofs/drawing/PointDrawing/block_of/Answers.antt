@@ -8,13 +8,13 @@ use Rattle.draw_check.proofs.drawing.PointDrawing.block_of.Goals as goal
 
 pub star_heads-count-requires-clause-room : goal.star_heads-count-requires-clause-room
 star_heads-count-requires-clause-room c =
-    let few = few_neighbours c.args.self.now.map.now.lists c.loop-v.v c.facts.ensures.simple c.facts.ensures.few_vertices (omega arith) in
+    let few = few_neighbours c.args.self.now.map.now.lists c.loop-v.v c.args.self.now.map.now.known.simple c.args.self.now.map.now.known.few_vertices (omega arith) in
     omega arith
 
 pub box_of-star-requires-clause-heads : goal.box_of-star-requires-clause-heads
 box_of-star-requires-clause-heads c = λ k d l.
     let heads = take c.star_heads-count.result c.star_heads-count.new.heads in
-    let below = heads_below c.args.self.now.map.now.lists c.loop-v.v (c.loop-v.v + 1) heads c.facts.ensures.simple c.star_heads-count.ensures.heads k d l in
+    let below = heads_below c.args.self.now.map.now.lists c.loop-v.v (c.loop-v.v + 1) heads c.args.self.now.map.now.known.simple c.star_heads-count.ensures.heads k d l in
     let n = c.args.self.now.places.count in
     omega arith
 

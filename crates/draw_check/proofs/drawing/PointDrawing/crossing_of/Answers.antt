@@ -4,7 +4,7 @@ use Rattle.draw_check.proofs.drawing.PointDrawing.crossing_of.Goals as goal
 pub first_met-requires : goal.first_met-requires
 first_met-requires c =
     let edge = c.requires.edge in
-    let greater = c.facts.ensures.simple.in_range c.args.a.0 c.args.b.0 edge.1 in
+    let greater = c.args.self.now.map.now.known.simple.in_range c.args.a.0 c.args.b.0 edge.1 in
     record { probe = (edge.1.0, greater) }
 
 pub returns : goal.returns

@@ -6,13 +6,13 @@ use Rattle.draw_check.proofs.LooseLemmas.{IsClear, apart_but_loose, off_but_loos
 use Rattle.draw_check.proofs.drawing.PointDrawing.first_pair.Goals as goal
 
 pub first_meeting-requires-clause-apart : goal.first_meeting-requires-clause-apart
-first_meeting-requires-clause-apart c = apart_but_loose c.args.self.now.map.now.lists c.args.self.now.points.now (take c.in-Some.count c.loose_vertices.new.loose) c.facts.ensures.simple c.in-Some.ensures.plane
+first_meeting-requires-clause-apart c = apart_but_loose c.args.self.now.map.now.lists c.args.self.now.points.now (take c.in-Some.count c.loose_vertices.new.loose) c.args.self.now.map.now.known.simple c.in-Some.ensures.plane
 
 pub returns-in-Some-eq0 : goal.returns-in-Some-eq0
 returns-in-Some-eq0 c =
     let lists = c.args.self.now.map.now.lists in
     let points = c.args.self.now.points.now in
-    let simple = c.facts.ensures.simple in
+    let simple = c.args.self.now.map.now.known.simple in
     let none : List ℕ = [] in
     let plane = subst (λ (k : ℕ). IsPlaneDrawing (firm_lists (take k c.loose_vertices.new.loose) lists) points) c.in-Some-eq0.field-0-test c.in-Some-eq0.ensures.plane in
     let clear : (probe : Probe) → IsClear lists points none probe = λ probe v u among has touches. absurd (let no : false ≡ true = among in cc) in (

@@ -11,7 +11,7 @@ loop-v-preserved c =
     let map = c.args.self.now.map.now in
     let points = c.args.self.now.points.now in
     let v = c.loop-v.v in
-    let ends = turned_or_not map.lists points v c.turns_once.result (omega (arith, c.n-v-end.ensures.count)) (goes_once map c.facts.ensures _ v (Breaks map.lists points) c.turns_once.result c.turns_once.ensures (λ d live late r s. search rules)) in
+    let ends = turned_or_not map.lists points v c.turns_once.result (omega (arith, c.n-v-end.ensures.count)) (goes_once map c.args.self.now.map.now.known _ v (Breaks map.lists points) c.turns_once.result c.turns_once.ensures (λ d live late r s. search rules)) in
     below_more (λ (u : ℕ). 2 ≤ length (list_of map.lists u) → GoesOnceRound map.lists points u) v c.loop-v.invariant (rw c.if-not-turns_once.false at ends)
 
 pub returns-then-not-turns_once : goal.returns-then-not-turns_once
@@ -19,5 +19,5 @@ returns-then-not-turns_once c =
     let map = c.args.self.now.map.now in
     let points = c.args.self.now.points.now in
     let v = c.loop-v.v in
-    let ends = turned_or_not map.lists points v c.turns_once.result (omega (arith, c.n-v-end.ensures.count)) (goes_once map c.facts.ensures _ v (Breaks map.lists points) c.turns_once.result c.turns_once.ensures (λ d live late r s. search rules)) in
+    let ends = turned_or_not map.lists points v c.turns_once.result (omega (arith, c.n-v-end.ensures.count)) (goes_once map c.args.self.now.map.now.known _ v (Breaks map.lists points) c.turns_once.result c.turns_once.ensures (λ d live late r s. search rules)) in
     record { here = rw c.if-not-turns_once.true at ends; before = λ u l turned. turned.turned (c.loop-v.invariant u l turned.two) }

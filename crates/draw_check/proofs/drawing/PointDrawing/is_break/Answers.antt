@@ -8,7 +8,7 @@ pub spot-v-requires : goal.spot-v-requires
 spot-v-requires c =
     let map = c.args.self.now.map.now in
     let d = c.args.d.0 in
-    let l = (has_dart map c.facts.ensures d c.requires.live).0 in
+    let l = (has_dart map c.args.self.now.map.now.known d c.requires.live).0 in
     let same = tail_is map d c.tail.result.0 c.requires.live c.tail.ensures in
     let n = c.args.self.now.places.count in
     omega arith
@@ -17,7 +17,7 @@ pub spot-u-requires : goal.spot-u-requires
 spot-u-requires c =
     let map = c.args.self.now.map.now in
     let d = c.args.d.0 in
-    let l = c.facts.ensures.simple.in_range (dart_of map d).0 (dart_of map d).1 (has_dart map c.facts.ensures d c.requires.live) in
+    let l = c.args.self.now.map.now.known.simple.in_range (dart_of map d).0 (dart_of map d).1 (has_dart map c.args.self.now.map.now.known d c.requires.live) in
     let same = head_is map d c.head.result.0 c.requires.live c.head.ensures in
     let n = c.args.self.now.places.count in
     omega arith
@@ -26,8 +26,8 @@ pub spot-w-requires : goal.spot-w-requires
 spot-w-requires c =
     let map = c.args.self.now.map.now in
     let d = c.args.d.0 in
-    let next = next_head map c.facts.ensures d c.next.result.0 c.head-2.result.0 c.requires.live c.next.ensures c.head-2.ensures in
-    let l = c.facts.ensures.simple.in_range (dart_of map d).0 c.head-2.result.0 next.1 in
+    let next = next_head map c.args.self.now.map.now.known d c.next.result.0 c.head-2.result.0 c.requires.live c.next.ensures c.head-2.ensures in
+    let l = c.args.self.now.map.now.known.simple.in_range (dart_of map d).0 c.head-2.result.0 next.1 in
     let n = c.args.self.now.places.count in
     omega arith
 
@@ -35,7 +35,7 @@ pub returns : goal.returns
 returns c =
     let map = c.args.self.now.map.now in
     let d = c.args.d.0 in
-    let next = next_head map c.facts.ensures d c.next.result.0 c.head-2.result.0 c.requires.live c.next.ensures c.head-2.ensures in
+    let next = next_head map c.args.self.now.map.now.known d c.next.result.0 c.head-2.result.0 c.requires.live c.next.ensures c.head-2.ensures in
     let before = rw (c.direction.ensures.vector, c.direction-2.ensures.vector, c.spot-v.ensures, c.spot-u.ensures, c.spot-w.ensures) at c.clock_before.ensures in
     break_is map.lists c.args.self.now.points.now (dart_of map d).0 (dart_of map d).1 c.tail.result.0 c.head.result.0 c.head-2.result.0
     (tail_is map d c.tail.result.0 c.requires.live c.tail.ensures) (head_is map d c.head.result.0 c.requires.live c.head.ensures) next.0 (not c.clock_before.result) (denied _ c.clock_before.result before)

@@ -9,13 +9,13 @@ pub may_be_crossed-requires-clause-edge : goal.may_be_crossed-requires-clause-ed
 may_be_crossed-requires-clause-edge c =
     let map = c.args.self.now.map.now in
     let same = ends_are map c.args.d.0 c.tail-a.result.0 c.head-b.result.0 c.requires.live c.tail-a.ensures c.head-b.ensures in
-    (c.if-b-a.false, subst (λ (x : Dart). HasDart map.lists x.0 x.1) (sym same) (has_dart map c.facts.ensures c.args.d.0 c.requires.live))
+    (c.if-b-a.false, subst (λ (x : Dart). HasDart map.lists x.0 x.1) (sym same) (has_dart map c.args.self.now.map.now.known c.args.d.0 c.requires.live))
 
 pub crossing_of-requires : goal.crossing_of-requires
 crossing_of-requires c =
     let map = c.args.self.now.map.now in
     let same = ends_are map c.args.d.0 c.tail-a.result.0 c.head-b.result.0 c.requires.live c.tail-a.ensures c.head-b.ensures in
-    record { edge = (c.if-b-a.false, subst (λ (x : Dart). HasDart map.lists x.0 x.1) (sym same) (has_dart map c.facts.ensures c.args.d.0 c.requires.live)) }
+    record { edge = (c.if-b-a.false, subst (λ (x : Dart). HasDart map.lists x.0 x.1) (sym same) (has_dart map c.args.self.now.map.now.known c.args.d.0 c.requires.live)) }
 
 pub returns-then-b-a : goal.returns-then-b-a
 returns-then-b-a c =

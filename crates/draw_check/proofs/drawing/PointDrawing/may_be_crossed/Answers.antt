@@ -13,7 +13,7 @@ pub least_head-requires-clause-test : goal.least_head-requires-clause-test
 least_head-requires-clause-test c =
     let edge = c.requires.edge in
     let n = length c.args.self.now.map.now.lists in
-    let probe : (c.args.a.0 < n) × (c.args.b.0 < n) = (edge.1.0, c.facts.ensures.simple.in_range c.args.a.0 c.args.b.0 edge.1) in
+    let probe : (c.args.a.0 < n) × (c.args.b.0 < n) = (edge.1.0, c.args.self.now.map.now.known.simple.in_range c.args.a.0 c.args.b.0 edge.1) in
     search rules
 
 pub loop-i-preserved : goal.loop-i-preserved
@@ -23,7 +23,7 @@ loop-i-preserved c =
     let probe = Edge c.args.a c.args.b in
     let loose = c.args.loose.now in
     each_more (λ k. (u : ℕ) → HasDart lists (get_or loose k 0) u → ¬ Touches points probe (get_or loose k 0) u) c.loop-i.i c.loop-i.invariant
-    (λ u has touches. least_one c.args.self.now.map.now c.facts.ensures _ (Touches points probe) (get_or loose c.loop-i.i 0) None c.in_default.ensures (λ d live late r s. search rules) u has touches)
+    (λ u has touches. least_one c.args.self.now.map.now c.args.self.now.map.now.known _ (Touches points probe) (get_or loose c.loop-i.i 0) None c.in_default.ensures (λ d live late r s. search rules) u has touches)
 
 pub loop-i-preserved-then-v-n : goal.loop-i-preserved-then-v-n
 loop-i-preserved-then-v-n c =
@@ -38,7 +38,7 @@ returns c = λ e s t x.
     let lists = c.args.self.now.map.now.lists in
     let points = c.args.self.now.points.now in
     let loose = c.args.loose.now in
-    uncrossed_but_loose lists points loose c.facts.ensures.simple c.requires.plane c.args.a c.args.b s t
+    uncrossed_but_loose lists points loose c.args.self.now.map.now.known.simple c.requires.plane c.args.a c.args.b s t
     (sym c.is_among.ensures ∙ c.if-is_among.false) (sym c.is_among-2.ensures ∙ c.if-is_among-2.false)
     (λ v u among has.
     let at = place_in loose v (Contains-from_list_any v loose among) in

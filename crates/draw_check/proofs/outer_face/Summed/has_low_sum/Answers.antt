@@ -12,8 +12,8 @@ returns-then-face-outer c =
     let map = c.args.self.now.map.now in
     let dart = dart_of map c.args.d.0 in
     let is = dart_of-live map c.args.d.0 c.requires.live in
-    let from = low_from map c.facts.ensures c.args.self.now.faces.now c.requires.faces c.args.self.now.sums.now c.args.self.now.base.0 c.args.d.0 c.of_dart-face.result.0 c.of_dart-outer.result.0 dart.0 dart.1 c.args.self.now.live is c.of_dart-face.ensures.face c.of_dart-outer.ensures.face c.of_dart-face.ensures.stands c.of_dart-outer.ensures.stands in
-    let to = low_to map c.facts.ensures c.args.self.now.faces.now c.requires.faces c.args.self.now.sums.now c.args.self.now.base.0 c.args.d.0 c.of_dart-face.result.0 c.of_dart-outer.result.0 dart.0 dart.1 c.args.self.now.live is c.of_dart-face.ensures.face c.of_dart-outer.ensures.face c.of_dart-face.ensures.stands c.of_dart-outer.ensures.stands in
+    let from = low_from map c.args.self.now.map.now.known c.args.self.now.faces.now c.requires.faces c.args.self.now.sums.now c.args.self.now.base.0 c.args.d.0 c.of_dart-face.result.0 c.of_dart-outer.result.0 dart.0 dart.1 c.args.self.now.live is c.of_dart-face.ensures.face c.of_dart-outer.ensures.face c.of_dart-face.ensures.stands c.of_dart-outer.ensures.stands in
+    let to = low_to map c.args.self.now.map.now.known c.args.self.now.faces.now c.requires.faces c.args.self.now.sums.now c.args.self.now.base.0 c.args.d.0 c.of_dart-face.result.0 c.of_dart-outer.result.0 dart.0 dart.1 c.args.self.now.live is c.of_dart-face.ensures.face c.of_dart-outer.ensures.face c.of_dart-face.ensures.stands c.of_dart-outer.ensures.stands in
     let f : SFits w128 (get_or c.args.self.now.sums.now c.of_dart-face.result.0 (pos 0)) = search rules in
     let e = to_z-of_z w128 (get_or c.args.self.now.sums.now c.of_dart-face.result.0 (pos 0)) f in
     rw e (λ t. from c.if-face-outer.true (grind (arith, ints)), λ low. let l = to low in grind (arith, ints))
@@ -24,5 +24,5 @@ returns-else-face-outer c =
     let dart = dart_of map c.args.d.0 in
     let is = dart_of-live map c.args.d.0 c.requires.live in (
       λ t. absurd (true≢false (sym t ∙ rw (eq-eqb c.of_dart-face.result.0 c.of_dart-outer.result.0 c.if-face-outer.false) refl)),
-      λ low. absurd (not_low map c.facts.ensures c.args.self.now.faces.now c.requires.faces c.args.self.now.sums.now c.args.self.now.base.0 c.args.d.0 c.of_dart-face.result.0 c.of_dart-outer.result.0 dart.0 dart.1 c.args.self.now.live is c.of_dart-face.ensures.face c.of_dart-outer.ensures.face c.of_dart-face.ensures.stands c.of_dart-outer.ensures.stands c.if-face-outer.false low),
+      λ low. absurd (not_low map c.args.self.now.map.now.known c.args.self.now.faces.now c.requires.faces c.args.self.now.sums.now c.args.self.now.base.0 c.args.d.0 c.of_dart-face.result.0 c.of_dart-outer.result.0 dart.0 dart.1 c.args.self.now.live is c.of_dart-face.ensures.face c.of_dart-outer.ensures.face c.of_dart-face.ensures.stands c.of_dart-outer.ensures.stands c.if-face-outer.false low),
     )

@@ -12,8 +12,8 @@ pub loop-v-init : goal.loop-v-init
 loop-v-init c =
     let map = c.args.self.now.map.now in
     record {
-      known = c.facts.ensures;
-      walking = rw (c.requires.none, darts_before_none map.lists) (AreWalked-none map c.facts.ensures c.args.of.now c.requires.size c.requires.unset);
+      known = c.args.self.now.map.now.known;
+      walking = rw (c.requires.none, darts_before_none map.lists) (AreWalked-none map c.args.self.now.map.now.known c.args.of.now c.requires.size c.requires.unset);
     }
 
 pub returns-clause-faces : goal.returns-clause-faces

@@ -13,23 +13,23 @@ returns-then-of-start c =
     let map = c.args.self.now.map.now in
     let w = c.requires.walking in
     let d = c.args.start.0 in
-    let l = live-lt map c.facts.ensures d c.requires.live in
-    AreWalked-old map c.facts.ensures c.args.walks.now.items c.args.of.now d c.requires.live w (met no_face c.args.of.now d (omega (arith, w.size)) c.if-of-start.true)
+    let l = live-lt map c.args.self.now.map.now.known d c.requires.live in
+    AreWalked-old map c.args.self.now.map.now.known c.args.walks.now.items c.args.of.now d c.requires.live w (met no_face c.args.of.now d (omega (arith, w.size)) c.if-of-start.true)
 
 pub overflow_cast-f : goal.overflow_cast-f
 overflow_cast-f c =
-    let few = few_walked c.args.self.now.map.now c.facts.ensures c.args.walks.now.items c.args.of.now c.args.start.0 c.requires.live c.requires.walking in
+    let few = few_walked c.args.self.now.map.now c.args.self.now.map.now.known c.args.walks.now.items c.args.of.now c.args.start.0 c.requires.live c.requires.walking in
     omega (arith, few, c.len-f.ensures)
 
 pub bounds-of-d : goal.bounds-of-d
 bounds-of-d c =
     let map = c.args.self.now.map.now in
     let h = c.loop-of.invariant in
-    let l = live-lt map c.facts.ensures c.loop-of.d.0 (live_now map c.facts.ensures _ _ _ _ _ h.walking) in
+    let l = live-lt map c.args.self.now.map.now.known c.loop-of.d.0 (live_now map c.args.self.now.map.now.known _ _ _ _ _ h.walking) in
     omega (arith, h.size)
 
 pub face_step-d-requires : goal.face_step-d-requires
-face_step-d-requires c = live_now c.args.self.now.map.now c.facts.ensures _ _ _ _ _ c.loop-of.invariant.walking
+face_step-d-requires c = live_now c.args.self.now.map.now c.args.self.now.map.now.known _ _ _ _ _ c.loop-of.invariant.walking
 
 pub loop-of-smaller : goal.loop-of-smaller
 loop-of-smaller c =
@@ -37,16 +37,16 @@ loop-of-smaller c =
     let h = c.loop-of.invariant in
     let d = c.loop-of.d.0 in
     let of = c.loop-of.of in
-    let few = few_walked map c.facts.ensures c.args.walks.now.items c.args.of.now c.args.start.0 c.requires.live c.requires.walking in
-    let live = live_now map c.facts.ensures _ _ _ _ _ h.walking in
-    let l = live-lt map c.facts.ensures d live in
+    let few = few_walked map c.args.self.now.map.now.known c.args.walks.now.items c.args.of.now c.args.start.0 c.requires.live c.requires.walking in
+    let live = live_now map c.args.self.now.map.now.known _ _ _ _ _ h.walking in
+    let l = live-lt map c.args.self.now.map.now.known d live in
     let off = unmet no_face of d (omega (arith, h.size)) c.loop-of-test.true in
     let e = marks-set no_face of d c.len-f.result (omega (arith, few, c.len-f.ensures)) in
     let long = length-marks_of no_face of in
     rw e (unmarked_below-set _ _ _ (number_at map d)
-    (SetsMark-set map c.facts.ensures (with_face of) d live (omega (arith, h.size)))
-    (number_at-lt map c.facts.ensures d live)
-    (mark_of-number map c.facts.ensures (with_face of) d live ∙ off))
+    (SetsMark-set map c.args.self.now.map.now.known (with_face of) d live (omega (arith, h.size)))
+    (number_at-lt map c.args.self.now.map.now.known d live)
+    (mark_of-number map c.args.self.now.map.now.known (with_face of) d live ∙ off))
 
 pub loop-of-preserved : goal.loop-of-preserved
 loop-of-preserved c =
@@ -55,10 +55,10 @@ loop-of-preserved c =
     let d = c.loop-of.d.0 in
     let of = c.loop-of.of in
     let f = c.len-f.result in
-    let few = few_walked map c.facts.ensures c.args.walks.now.items c.args.of.now c.args.start.0 c.requires.live c.requires.walking in
+    let few = few_walked map c.args.self.now.map.now.known c.args.walks.now.items c.args.of.now c.args.start.0 c.requires.live c.requires.walking in
     let number : f < no_face = omega (arith, few, c.len-f.ensures) in
-    let live = live_now map c.facts.ensures _ _ _ _ _ h.walking in
-    let l = live-lt map c.facts.ensures d live in
+    let live = live_now map c.args.self.now.map.now.known _ _ _ _ _ h.walking in
+    let l = live-lt map c.args.self.now.map.now.known d live in
     let l' : d < length of = omega (arith, h.size) in
     let off = unmet no_face of d l' c.loop-of-test.true in
     let e = marks-set no_face of d f number in
@@ -67,10 +67,10 @@ loop-of-preserved c =
       size = length-set of d f ∙ h.size;
       walking =
           subst (λ ids. IsWalking map (mark_of map (with_face c.args.of.now)) (mark_of map (with_face (set of d f))) ids c.args.start.0 c.face_step-d.result.0) (sym c.in_ok-push.ensures)
-          (rw e (IsWalking-more map c.facts.ensures _ _ _ _ _ h.walking (mark_of map (set (with_face of) d true)) c.face_step-d.result.0
-          (mark_of-number map c.facts.ensures (with_face of) d live ∙ off)
-          (SetsMark-set map c.facts.ensures (with_face of) d live (omega arith))
-          (face_step-live map c.facts.ensures d c.face_step-d.result.0 live c.face_step-d.ensures)
+          (rw e (IsWalking-more map c.args.self.now.map.now.known _ _ _ _ _ h.walking (mark_of map (set (with_face of) d true)) c.face_step-d.result.0
+          (mark_of-number map c.args.self.now.map.now.known (with_face of) d live ∙ off)
+          (SetsMark-set map c.args.self.now.map.now.known (with_face of) d live (omega arith))
+          (face_step-live map c.args.self.now.map.now.known d c.face_step-d.result.0 live c.face_step-d.ensures)
           c.face_step-d.ensures));
       numbered = IsNumbered-chained no_face _ _ _ _ h.numbered (IsNumbered-set no_face of d f number l' off);
       here = rw c.in_ok-push.ensures (here_more of c.loop-of.walk f d l' h.here);
@@ -79,7 +79,7 @@ loop-of-preserved c =
 pub returns : goal.returns
 returns c =
     let map = c.args.self.now.map.now in
-    let known = c.facts.ensures in
+    let known = c.args.self.now.map.now.known in
     let walks = c.args.walks.now.items in
     let of = c.args.of.now in
     let s = c.args.start.0 in

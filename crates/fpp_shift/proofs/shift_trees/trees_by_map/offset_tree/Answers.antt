@@ -19,7 +19,7 @@ interval_begin-p-requires-clause-vertex g c =
     let len = c.len-k-end.ensures in
     let test = c.loop-k-test.true in
     let is = vertex-is c.args.order.now.at c.loop-k.k c.get-v.result c.get-v.ensures in
-    vertex-in c.args.tri.now.lists c.requires.order.0 (vertices_of c.args.order.now) c.requires.triangulation c.requires.order.1 c.order_is_run.ensures c.facts.ensures.few_vertices c.args.order.now.rank c.args.order.now.ranked c.order_has_rows.ensures c.loop-k.k c.get-v.result.0 c.loop-k.auto.k (omega arith) is
+    vertex-in c.args.tri.now.lists c.requires.order.0 (vertices_of c.args.order.now) c.requires.triangulation c.requires.order.1 c.order_is_run.ensures c.args.tri.now.known.few_vertices c.args.order.now.rank c.args.order.now.ranked c.order_has_rows.ensures c.loop-k.k c.get-v.result.0 c.loop-k.auto.k (omega arith) is
 
 pub interval_begin-p-requires-clause-begins : goal.interval_begin-p-requires-clause-begins
 interval_begin-p-requires-clause-begins g c =
@@ -27,7 +27,7 @@ interval_begin-p-requires-clause-begins g c =
     let len = c.len-k-end.ensures in
     let test = c.loop-k-test.true in
     let is = vertex-is c.args.order.now.at c.loop-k.k c.get-v.result c.get-v.ensures in
-    (ends-at c.args.tri.now.lists c.requires.order.0 (vertices_of c.args.order.now) c.requires.triangulation c.requires.order.1 c.order_is_run.ensures c.facts.ensures.few_vertices c.args.order.now.rank c.args.order.now.ranked c.order_has_rows.ensures c.loop-k.k c.get-v.result.0 c.loop-k.auto.k (omega arith) is).0
+    (ends-at c.args.tri.now.lists c.requires.order.0 (vertices_of c.args.order.now) c.requires.triangulation c.requires.order.1 c.order_is_run.ensures c.args.tri.now.known.few_vertices c.args.order.now.rank c.args.order.now.ranked c.order_has_rows.ensures c.loop-k.k c.get-v.result.0 c.loop-k.auto.k (omega arith) is).0
 
 pub interval_end-q-requires-clause-ends : goal.interval_end-q-requires-clause-ends
 interval_end-q-requires-clause-ends g c =
@@ -35,7 +35,7 @@ interval_end-q-requires-clause-ends g c =
     let len = c.len-k-end.ensures in
     let test = c.loop-k-test.true in
     let is = vertex-is c.args.order.now.at c.loop-k.k c.get-v.result c.get-v.ensures in
-    (ends-at c.args.tri.now.lists c.requires.order.0 (vertices_of c.args.order.now) c.requires.triangulation c.requires.order.1 c.order_is_run.ensures c.facts.ensures.few_vertices c.args.order.now.rank c.args.order.now.ranked c.order_has_rows.ensures c.loop-k.k c.get-v.result.0 c.loop-k.auto.k (omega arith) is).1
+    (ends-at c.args.tri.now.lists c.requires.order.0 (vertices_of c.args.order.now) c.requires.triangulation c.requires.order.1 c.order_is_run.ensures c.args.tri.now.known.few_vertices c.args.order.now.rank c.args.order.now.ranked c.order_has_rows.ensures c.loop-k.k c.get-v.result.0 c.loop-k.auto.k (omega arith) is).1
 
 pub put_over-requires : goal.put_over-requires
 put_over-requires g c =
@@ -43,8 +43,8 @@ put_over-requires g c =
     let len = c.len-k-end.ensures in
     let test = c.loop-k-test.true in
     let is = vertex-is c.args.order.now.at c.loop-k.k c.get-v.result c.get-v.ensures in
-    let next = next-order c.args.tri.now.lists c.requires.order.0 (vertices_of c.args.order.now) c.requires.triangulation c.requires.order.1 c.order_is_run.ensures c.facts.ensures.few_vertices c.args.order.now.rank c.args.order.now.ranked c.order_has_rows.ensures c.loop-k.k c.get-v.result.0 c.loop-k.auto.k (omega arith) is c.loop-k.tree c.interval_begin-p.result.0 c.interval_end-q.result.0 (c.loop-k.invariant.count ∙ c.requires.nodes) c.loop-k.invariant.grown c.interval_begin-p.ensures c.interval_end-q.ensures in
-    record { next = some-next c.args.tri.now.lists c.requires.order.0 (vertices_of c.args.order.now) c.requires.triangulation c.requires.order.1 c.order_is_run.ensures c.facts.ensures.few_vertices c.args.order.now.rank c.args.order.now.ranked c.order_has_rows.ensures c.loop-k.k c.get-v.result.0 c.loop-k.auto.k (omega arith) is c.loop-k.tree c.interval_begin-p.result.0 c.interval_end-q.result.0 next }
+    let next = next-order c.args.tri.now.lists c.requires.order.0 (vertices_of c.args.order.now) c.requires.triangulation c.requires.order.1 c.order_is_run.ensures c.args.tri.now.known.few_vertices c.args.order.now.rank c.args.order.now.ranked c.order_has_rows.ensures c.loop-k.k c.get-v.result.0 c.loop-k.auto.k (omega arith) is c.loop-k.tree c.interval_begin-p.result.0 c.interval_end-q.result.0 (c.loop-k.invariant.count ∙ c.requires.nodes) c.loop-k.invariant.grown c.interval_begin-p.ensures c.interval_end-q.ensures in
+    record { next = some-next c.args.tri.now.lists c.requires.order.0 (vertices_of c.args.order.now) c.requires.triangulation c.requires.order.1 c.order_is_run.ensures c.args.tri.now.known.few_vertices c.args.order.now.rank c.args.order.now.ranked c.order_has_rows.ensures c.loop-k.k c.get-v.result.0 c.loop-k.auto.k (omega arith) is c.loop-k.tree c.interval_begin-p.result.0 c.interval_end-q.result.0 next }
 
 pub loop-k-preserved : goal.loop-k-preserved
 loop-k-preserved g c =
@@ -52,7 +52,7 @@ loop-k-preserved g c =
     let len = c.len-k-end.ensures in
     let test = c.loop-k-test.true in
     let is = vertex-is c.args.order.now.at c.loop-k.k c.get-v.result c.get-v.ensures in
-    let next = next-order c.args.tri.now.lists c.requires.order.0 (vertices_of c.args.order.now) c.requires.triangulation c.requires.order.1 c.order_is_run.ensures c.facts.ensures.few_vertices c.args.order.now.rank c.args.order.now.ranked c.order_has_rows.ensures c.loop-k.k c.get-v.result.0 c.loop-k.auto.k (omega arith) is c.loop-k.tree c.interval_begin-p.result.0 c.interval_end-q.result.0 (c.loop-k.invariant.count ∙ c.requires.nodes) c.loop-k.invariant.grown c.interval_begin-p.ensures c.interval_end-q.ensures in
+    let next = next-order c.args.tri.now.lists c.requires.order.0 (vertices_of c.args.order.now) c.requires.triangulation c.requires.order.1 c.order_is_run.ensures c.args.tri.now.known.few_vertices c.args.order.now.rank c.args.order.now.ranked c.order_has_rows.ensures c.loop-k.k c.get-v.result.0 c.loop-k.auto.k (omega arith) is c.loop-k.tree c.interval_begin-p.result.0 c.interval_end-q.result.0 (c.loop-k.invariant.count ∙ c.requires.nodes) c.loop-k.invariant.grown c.interval_begin-p.ensures c.interval_end-q.ensures in
     record {
       grown = IsTreeTo-more c.args.tri.now.lists (vertices_of c.args.order.now) c.loop-k.tree c.loop-k.k c.get-v.result.0 c.interval_begin-p.result.0 c.interval_end-q.result.0 c.loop-k.auto.k next c.put_over.new.tree c.put_over.ensures.grown;
       count = c.put_over.ensures.count ∙ c.loop-k.invariant.count;
@@ -66,7 +66,7 @@ returns-clause-tree g c =
     let len = c.len-k-end.ensures in
     let test = c.loop-k-test.false in
     let end = c.loop-k.auto.k-end in
-    (tree-done c.args.tri.now.lists c.requires.order.0 (vertices_of c.args.order.now) c.requires.triangulation c.requires.order.1 c.order_is_run.ensures c.facts.ensures.few_vertices c.grown_is_offset_tree.ensures c.face_count.ensures c.loop-k.tree c.loop-k.k c.args.steps.now c.loop-k.steps (c.loop-k.invariant.count ∙ c.requires.nodes) (omega (arith, c.requires.triangulation.some, c.requires.order.1.count)) c.loop-k.invariant.grown c.loop-k.invariant.uses).0
+    (tree-done c.args.tri.now.lists c.requires.order.0 (vertices_of c.args.order.now) c.requires.triangulation c.requires.order.1 c.order_is_run.ensures c.args.tri.now.known.few_vertices c.grown_is_offset_tree.ensures c.face_count.ensures c.loop-k.tree c.loop-k.k c.args.steps.now c.loop-k.steps (c.loop-k.invariant.count ∙ c.requires.nodes) (omega (arith, c.requires.triangulation.some, c.requires.order.1.count)) c.loop-k.invariant.grown c.loop-k.invariant.uses).0
 
 pub returns-clause-steps : goal.returns-clause-steps
 returns-clause-steps g c =
@@ -74,7 +74,7 @@ returns-clause-steps g c =
     let len = c.len-k-end.ensures in
     let test = c.loop-k-test.false in
     let end = c.loop-k.auto.k-end in
-    (tree-done c.args.tri.now.lists c.requires.order.0 (vertices_of c.args.order.now) c.requires.triangulation c.requires.order.1 c.order_is_run.ensures c.facts.ensures.few_vertices c.grown_is_offset_tree.ensures c.face_count.ensures c.loop-k.tree c.loop-k.k c.args.steps.now c.loop-k.steps (c.loop-k.invariant.count ∙ c.requires.nodes) (omega (arith, c.requires.triangulation.some, c.requires.order.1.count)) c.loop-k.invariant.grown c.loop-k.invariant.uses).1
+    (tree-done c.args.tri.now.lists c.requires.order.0 (vertices_of c.args.order.now) c.requires.triangulation c.requires.order.1 c.order_is_run.ensures c.args.tri.now.known.few_vertices c.grown_is_offset_tree.ensures c.face_count.ensures c.loop-k.tree c.loop-k.k c.args.steps.now c.loop-k.steps (c.loop-k.invariant.count ∙ c.requires.nodes) (omega (arith, c.requires.triangulation.some, c.requires.order.1.count)) c.loop-k.invariant.grown c.loop-k.invariant.uses).1
 
 pub returns-clause-links : goal.returns-clause-links
 returns-clause-links g c =
@@ -82,7 +82,7 @@ returns-clause-links g c =
     let len = c.len-k-end.ensures in
     let test = c.loop-k-test.false in
     let end = c.loop-k.auto.k-end in
-    (tree-done c.args.tri.now.lists c.requires.order.0 (vertices_of c.args.order.now) c.requires.triangulation c.requires.order.1 c.order_is_run.ensures c.facts.ensures.few_vertices c.grown_is_offset_tree.ensures c.face_count.ensures c.loop-k.tree c.loop-k.k c.args.steps.now c.loop-k.steps (c.loop-k.invariant.count ∙ c.requires.nodes) (omega (arith, c.requires.triangulation.some, c.requires.order.1.count)) c.loop-k.invariant.grown c.loop-k.invariant.uses).2
+    (tree-done c.args.tri.now.lists c.requires.order.0 (vertices_of c.args.order.now) c.requires.triangulation c.requires.order.1 c.order_is_run.ensures c.args.tri.now.known.few_vertices c.grown_is_offset_tree.ensures c.face_count.ensures c.loop-k.tree c.loop-k.k c.args.steps.now c.loop-k.steps (c.loop-k.invariant.count ∙ c.requires.nodes) (omega (arith, c.requires.triangulation.some, c.requires.order.1.count)) c.loop-k.invariant.grown c.loop-k.invariant.uses).2
 
 pub begin_tree-requires-clause-apart : goal.begin_tree-requires-clause-apart
 begin_tree-requires-clause-apart g c = two_first c.args.tri.now.lists c.requires.order.0 (vertices_of c.args.order.now) c.requires.triangulation c.requires.order.1 c.get.result.0 c.get-2.result.0 (vertex-is c.args.order.now.at 0 c.get.result c.get.ensures) (vertex-is c.args.order.now.at 1 c.get-2.result c.get-2.ensures)

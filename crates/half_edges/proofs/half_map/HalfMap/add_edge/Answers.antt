@@ -1,11 +1,12 @@
+use Rattle.std.specs.Prelude.{None, slice_index_or}
 use Rattle.std.proofs.Common.{◌≡◌, ◌+◌, ◌-◌, ◌++◌, Some, List, length, take, drop, refl, sym, ap, ap₂, is_some, ◌∙◌, subst, arith}
 use Rattle.map_lists.specs.Lists.{Lists}
 use Rattle.half_edges.specs.Map.{Map, dart_at}
-use Rattle.half_edges.specs.Arena.{arena_lists, arena_map, dart_in, next_of, IsArena, IsWired}
+use Rattle.half_edges.specs.Arena.{arena_ids, arena_lists, arena_map, dart_in, next_of, IsArena, IsWired}
 use Rattle.half_edges.specs.Edges.{with_edge, corner_tail, corner_entry}
 use Rattle.half_edges.specs.declared.dart_records.DartRecord.{DartRecord}
 use Rattle.half_edges.specs.declared.dart_records.VertexRecord.{VertexRecord}
-use Rattle.half_edges.proofs.ArenaLemmas.{known, dart_at-arena, arena_lists_are}
+use Rattle.half_edges.proofs.ArenaLemmas.{known_here, known, dart_at-arena, arena_lists_are}
 use Rattle.half_edges.proofs.FreeLemmas.{IsWired-arena}
 use Rattle.half_edges.proofs.EdgeLemmas.{IsLent, lent, through, ids_kept, of_lists, corners_here, place_is}
 use Rattle.half_edges.proofs.GivenLemmas.{arena_more}
@@ -57,6 +58,9 @@ arena_after c =
     c.self.inside.edges c.first_free_behind-next.result c.self.invariant.edges_are c.self.invariant.count c.self.invariant.room
     (darts_after c) (vertices_after c) (wired_after c) (ap length (lent_darts c).is ∙ c.put_edge.auto.darts ∙ ap length c.deref_mut.ensures.value)
 
+pub invariant_of-self-inside : goal.invariant_of-self-inside
+invariant_of-self-inside c = (known_here _ _ _ _ _ (arena_after ((goal.at.invariant_of-self-inside c).After-put_edge)), tt)
+
 pub invariant_of-self : goal.invariant_of-self
 invariant_of-self c = arena_after ((goal.at.invariant_of-self c).After-put_edge)
 
@@ -77,7 +81,7 @@ returns-clause-spare c =
     omega (arith, e, c.requires.spare)
 
 -- the new dart, in the records before
-dart_after : (c : After-put_edge) → dart_at (arena_map (darts_after c) (vertices_after c) (c.self.inside.spare - 1)) c.self.inside.free ≡ Some (corner_tail c.self.inside.darts.items c.args.at_u, corner_tail c.self.inside.darts.items c.args.at_v)
+dart_after : (c : After-put_edge) → slice_index_or (arena_ids (darts_after c)) c.self.inside.free None ≡ Some (corner_tail c.self.inside.darts.items c.args.at_u, corner_tail c.self.inside.darts.items c.args.at_v)
 dart_after c =
     dart_at-arena (darts_after c) (vertices_after c) (c.self.inside.spare - 1) c.self.inside.free
     ∙ through (λ ds _ nds _. dart_in nds c.self.inside.free ≡ Some (corner_tail ds c.args.at_u, corner_tail ds c.args.at_v)) (lent_darts c) (lent_vertices c) c.put_edge.ensures.dart
@@ -98,4 +102,4 @@ returns-clause-ids c e v u =
     (through (λ ds _ nds _. dart_in ds e ≡ Some (v, u) → dart_in nds e ≡ Some (v, u)) (lent_darts w) (lent_vertices w) (c.put_edge.ensures.ids e v u))
 
 pub returns-clause-known : goal.returns-clause-known
-returns-clause-known c = known _ _ _ _ _ (arena_after ((goal.at.returns-clause-known c).After-put_edge)) _ refl
+returns-clause-known c = known_here _ _ _ _ _ (arena_after ((goal.at.returns-clause-known c).After-put_edge))

@@ -10,4 +10,4 @@ part_is c = c.in_ok-part.ensures ∙ ap (λ lists. induced_lists c.args.keep.now
 pub from_simple-requires : goal.from_simple-requires
 from_simple-requires c =
     let e = part_is ((goal.at.from_simple-requires c).In_ok-part) in
-    record { simple = rw e (IsSimpleMap-induced c.args.keep.now c.args.self.now.lists c.requires.flags c.facts.ensures.simple c.requires.some) }
+    record { simple = rw e (IsSimpleMap-induced c.args.keep.now c.args.self.now.lists c.requires.flags c.args.self.now.known.simple c.requires.some) }

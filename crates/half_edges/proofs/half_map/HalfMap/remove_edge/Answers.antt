@@ -7,7 +7,7 @@ use Rattle.half_edges.specs.Map.{Map, dart_at}
 use Rattle.half_edges.specs.Arena.{arena_lists, dart_in, tail_of, head_of, live_of, IsArena, IsWired}
 use Rattle.half_edges.specs.declared.dart_records.DartRecord.{DartRecord}
 use Rattle.half_edges.specs.declared.dart_records.VertexRecord.{VertexRecord}
-use Rattle.half_edges.proofs.ArenaLemmas.{arena_lists_are, known, live_here, IsDartAt}
+use Rattle.half_edges.proofs.ArenaLemmas.{known_here, arena_lists_are, known, live_here, IsDartAt}
 use Rattle.half_edges.proofs.FreeLemmas.{IsWired-arena}
 use Rattle.half_edges.proofs.EdgeLemmas.{IsLent, lent, through, ends_are, ids_kept, of_lists, edges_fall, arena_less}
 use Rattle.half_edges.proofs.half_map.HalfMap.remove_edge.Goals as goal
@@ -50,6 +50,9 @@ arena_after c =
     arena_less _ _ _ _ _ c.self.invariant c.args.self.now c.self.view_is c.args.d.0 c.requires (darts_after c) (vertices_after c) (wired_after c)
     (ap length (lent_darts c).is ∙ c.take_edge-ends.auto.darts ∙ ap length c.deref_mut.ensures.value)
 
+pub invariant_of-self-inside : goal.invariant_of-self-inside
+invariant_of-self-inside c = (known_here _ _ _ _ _ (arena_after ((goal.at.invariant_of-self-inside c).After-take_edge-ends)), tt)
+
 pub invariant_of-self : goal.invariant_of-self
 invariant_of-self c = arena_after ((goal.at.invariant_of-self c).After-take_edge-ends)
 
@@ -85,7 +88,7 @@ returns-clause-greater c u v some =
     c.take_edge-ends.ensures.greater ∙ ap₂ max at.tail at.head
 
 pub returns-clause-known : goal.returns-clause-known
-returns-clause-known c = known _ _ _ _ _ (arena_after ((goal.at.returns-clause-known c).After-take_edge-ends)) _ refl
+returns-clause-known c = known_here _ _ _ _ _ (arena_after ((goal.at.returns-clause-known c).After-take_edge-ends))
 
 pub overflow_sub-self : goal.overflow_sub-self
 overflow_sub-self c = omega (arith, edges_fall _ _ _ _ _ c.self.invariant c.args.self.now c.self.view_is c.args.d.0 c.requires)

@@ -1,9 +1,10 @@
+use Rattle.half_edges.specs.MapFacts.{same_map}
 use Rattle.std.proofs.Common.{◌≡◌, ◌+◌, ◌≤◌, List, refl, sym, ap, ◌∙◌, subst, arith}
 use Rattle.half_edges.specs.Map.{Map}
-use Rattle.half_edges.specs.Arena.{arena_lists, arena_map, IsArena}
+use Rattle.half_edges.specs.Arena.{arena_ids, arena_lists, arena_map, IsArena}
 use Rattle.half_edges.specs.Links.{IsFreer}
 use Rattle.half_edges.specs.declared.dart_records.DartRecord.{DartRecord}
-use Rattle.half_edges.proofs.ArenaLemmas.{known, dart_at-in, dart_at-arena}
+use Rattle.half_edges.proofs.ArenaLemmas.{known_here, known, dart_at-in, dart_at-arena}
 use Rattle.half_edges.proofs.EdgeLemmas.{few_edges}
 use Rattle.half_edges.proofs.ReserveLemmas.{lists_reserved, arena_reserved, dart_reserved}
 use Rattle.half_edges.proofs.half_map.HalfMap.reserve_edges.Goals as goal
@@ -29,8 +30,14 @@ push_free-free-requires c =
       threaded = rw items c.self.invariant.threaded;
     }
 
+pub invariant_of-self-inside : goal.invariant_of-self-inside
+invariant_of-self-inside c = (known_here _ _ _ _ _ (arena_after ((goal.at.invariant_of-self-inside c).After-push_free-free)), tt)
+
 pub invariant_of-self : goal.invariant_of-self
 invariant_of-self c = arena_after ((goal.at.invariant_of-self c).After-push_free-free)
+
+pub invariant_of-self-inside-in-Err : goal.invariant_of-self-inside-in-Err
+invariant_of-self-inside-in-Err c = let items = c.in-Err.ensures.items in rw items ((c.self.inside.known, tt))
 
 pub invariant_of-self-in-Err : goal.invariant_of-self-in-Err
 invariant_of-self-in-Err c = let items = c.in-Err.ensures.items in rw items c.self.invariant
@@ -47,7 +54,7 @@ returns-in-Ok c =
           ∙ dart_reserved _ _ _ _ _ c.self.invariant c.push_free-free.new.darts.items c.push_free-free.result c.saturating_sub-more.result (freer a) d
           ∙ sym (dart_at-in _ _ _ _ _ c.self.invariant c.args.self.now c.self.view_is d);
       err = tt;
-      known = known _ _ _ _ _ (arena_after a) _ refl;
+      known = known_here _ _ _ _ _ (arena_after a);
     }
 
 pub returns-in-Err : goal.returns-in-Err
@@ -55,6 +62,6 @@ returns-in-Err c = record {
   spare = tt;
   lists = tt;
   ids = tt;
-  err = ap (λ (ds : List DartRecord). arena_map ds c.self.inside.vertices.items c.self.inside.spare) c.in-Err.ensures.items ∙ c.self.view_is;
+  err = same_map _ _ (ap (λ (ds : List DartRecord). arena_lists ds c.self.inside.vertices.items) c.in-Err.ensures.items) refl (ap (λ (ds : List DartRecord). arena_ids ds) c.in-Err.ensures.items) ∙ c.self.view_is;
   known = tt;
 }

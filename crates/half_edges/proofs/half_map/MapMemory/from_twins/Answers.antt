@@ -1,5 +1,5 @@
 use Rattle.std.proofs.Common.{◌≡◌, ◌/◌, length, refl, ap, ◌∙◌, arith}
-use Rattle.half_edges.proofs.ArenaLemmas.{known}
+use Rattle.half_edges.proofs.ArenaLemmas.{known_here, known}
 use Rattle.half_edges.proofs.TableArena.{invariant_from_tables, lists_from_tables}
 use Rattle.half_edges.proofs.MapLemmas.{few_ends, half_of_ends}
 use Rattle.half_edges.proofs.half_map.MapMemory.from_twins.Goals as goal
@@ -11,6 +11,12 @@ overflow_cast-edges c =
 
 pub invariant_of-result : goal.invariant_of-result
 invariant_of-result c =
+    let linked = c.in_ok-link_darts.ensures in
+    rw (c.replace-darts.ensures.value, c.replace-vertices.ensures.value)
+    (known_here _ _ _ _ _ (invariant_from_tables _ _ _ _ linked.tables _ _ linked.records_are linked.vertices_are _ (half_of_ends _ _ _ _ linked.tables)), tt)
+
+pub invariant_of-result-2 : goal.invariant_of-result-2
+invariant_of-result-2 c =
     let linked = c.in_ok-link_darts.ensures in
     let count : c.len.result ≡ length linked.ends = omega (arith, c.len.ensures, linked.records_are.count) in
     rw (c.replace-darts.ensures.value, c.replace-vertices.ensures.value)
@@ -26,4 +32,4 @@ pub returns-clause-known : goal.returns-clause-known
 returns-clause-known c =
     let linked = c.in_ok-link_darts.ensures in
     rw (c.replace-darts.ensures.value, c.replace-vertices.ensures.value)
-    (known _ _ _ _ _ (invariant_from_tables _ _ _ _ linked.tables _ _ linked.records_are linked.vertices_are _ (half_of_ends _ _ _ _ linked.tables)) _ refl)
+    (known_here _ _ _ _ _ (invariant_from_tables _ _ _ _ linked.tables _ _ linked.records_are linked.vertices_are _ (half_of_ends _ _ _ _ linked.tables)))

@@ -12,5 +12,5 @@ returns-clause-fitting c =
     let tall = c.upwards-upwards in let first = c.are_ranked in let last = c.are_ranked-2 in
     let ranked = subst (λ (s : Sides). AreRanked lists first.new.marks s) wide.ensures.sides (subst (λ (ls : Lists). AreRanked ls first.new.marks (sides wide.result)) wide.ensures.map (OnTrue_at c.if-not-are_ranked.false first.ensures.ranked)) in
     OnTrue_from last.result (AreFitting lists last.new.marks fig) (λ t.
-    AreFitting-from_ranks lists last.new.marks fig c.facts.ensures.simple c.args.self.now.rects (AreRanked-kept lists first.new.marks last.new.marks last.ensures.kept (across fig) ranked)
+    AreFitting-from_ranks lists last.new.marks fig c.args.self.now.map.now.known.simple c.args.self.now.rects (AreRanked-kept lists first.new.marks last.new.marks last.ensures.kept (across fig) ranked)
     (subst (λ (s : Sides). AreRanked lists last.new.marks s) tall.ensures.sides (subst (λ (ls : Lists). AreRanked ls last.new.marks (sides tall.result)) tall.ensures.map (OnTrue_at t last.ensures.ranked))))

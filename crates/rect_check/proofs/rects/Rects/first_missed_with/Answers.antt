@@ -8,5 +8,5 @@ pub returns : goal.returns
 returns c =
     let map = c.args.self.now.map.now in
     let fig = c.args.self.now.fig.now in
-    wrong-from_missed map.lists fig c.facts.ensures.simple c.args.u.0 c.requires.vertex c.requires.joined c.least_head.result
-    (least_one map c.facts.ensures _ (IsMissed map.lists fig) c.args.u.0 c.least_head.result c.least_head.ensures (λ d live late r s. search rules))
+    wrong-from_missed map.lists fig c.args.self.now.map.now.known.simple c.args.u.0 c.requires.vertex c.requires.joined c.least_head.result
+    (least_one map c.args.self.now.map.now.known _ (IsMissed map.lists fig) c.args.u.0 c.least_head.result c.least_head.ensures (λ d live late r s. search rules))

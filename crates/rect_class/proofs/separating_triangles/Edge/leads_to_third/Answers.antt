@@ -9,7 +9,7 @@ is_separating-requires c =
     let map = c.args.self.now.near.map.now in
     let e = c.args.e.0 in
     let same = head_is map e c.head.result.0 c.requires c.head.ensures in
-    subst (λ (x : ℕ). x < length map.lists) same (c.facts.ensures.simple.in_range (dart_of map e).0 (dart_of map e).1 (has_dart map c.facts.ensures e c.requires))
+    subst (λ (x : ℕ). x < length map.lists) same (c.args.self.now.near.map.now.known.simple.in_range (dart_of map e).0 (dart_of map e).1 (has_dart map c.args.self.now.near.map.now.known e c.requires))
 
 pub returns : goal.returns
 returns c =

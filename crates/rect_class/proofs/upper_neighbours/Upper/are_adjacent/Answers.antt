@@ -11,6 +11,6 @@ returns-then-degree c =
 pub returns-else-degree : goal.returns-else-degree
 returns-else-degree c =
     let found = c.has_upper-else-degree.ensures in
-    let turned = c.facts.ensures.simple.both_ways in
+    let turned = c.args.self.now.map.now.known.simple.both_ways in
     let is = Contains-upper c.args.self.now.map.now.lists c.args.self.now.rows.now c.args.v.0 c.args.u.0 c.args.self.now.upper c.requires.v (omega (arith, c.if-degree.false)) in
     ((λ t. turned c.args.v.0 c.args.u.0 (is.0 (found.0 t))), (λ d. found.1 (is.1 (turned c.args.u.0 c.args.v.0 d))))

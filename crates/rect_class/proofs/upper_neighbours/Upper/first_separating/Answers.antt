@@ -5,11 +5,11 @@ use Rattle.rect_class.proofs.upper_neighbours.Upper.first_separating.Goals as go
 
 pub third_between-requires : goal.third_between-requires
 third_between-requires c =
-    (least_pair c.args.self.now.map.now c.facts.ensures _ (HasThird c.args.self.now.map.now.lists) 0 (Some (c.in-Some.a, c.in-Some.b)) c.in-Some.ensures (λ d live late r s. search rules) (λ a b x. (omega arith, x.separating.low))).rest.here
+    (least_pair c.args.self.now.map.now c.args.self.now.map.now.known _ (HasThird c.args.self.now.map.now.lists) 0 (Some (c.in-Some.a, c.in-Some.b)) c.in-Some.ensures (λ d live late r s. search rules) (λ a b x. (omega arith, x.separating.low))).rest.here
 
 pub returns-in-Some : goal.returns-in-Some
 returns-in-Some c =
-    let first = least_pair c.args.self.now.map.now c.facts.ensures _ (HasThird c.args.self.now.map.now.lists) 0 (Some (c.in-Some.a, c.in-Some.b)) c.in-Some.ensures (λ d live late r s. search rules) (λ a b x. (omega arith, x.separating.low)) in
+    let first = least_pair c.args.self.now.map.now c.args.self.now.map.now.known _ (HasThird c.args.self.now.map.now.lists) 0 (Some (c.in-Some.a, c.in-Some.b)) c.in-Some.ensures (λ d live late r s. search rules) (λ a b x. (omega arith, x.separating.low)) in
     record {
       before = λ a b t less x. first.before a b less (record { third = t; separating = x });
       rest = record {
@@ -20,5 +20,5 @@ returns-in-Some c =
 
 pub returns-in-None : goal.returns-in-None
 returns-in-None c =
-    let none = least_pair c.args.self.now.map.now c.facts.ensures _ (HasThird c.args.self.now.map.now.lists) 0 None c.in-None.ensures (λ d live late r s. search rules) (λ a b x. (omega arith, x.separating.low)) in
+    let none = least_pair c.args.self.now.map.now c.args.self.now.map.now.known _ (HasThird c.args.self.now.map.now.lists) 0 None c.in-None.ensures (λ d live late r s. search rules) (λ a b x. (omega arith, x.separating.low)) in
     λ a b t x. none a b (record { third = t; separating = x })

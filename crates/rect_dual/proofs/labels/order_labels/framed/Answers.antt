@@ -44,10 +44,10 @@ returns-clause-labelling c =
     let tables = c.in_ok-tables.tables in
     let of_tables = c.in_ok-tables.ensures in
     let told = labelling c.args.map.now.lists c.args.frame.left.0 c.args.frame.top.0 c.args.frame.right.0 c.args.frame.bottom.0 (vertices_of c.in_ok-made.made.order) c.in_ok-made.made.order.rank c.in_ok-made.made.rows c.in_ok-made.ensures.rows c.order_is_run.ensures c.rect_order_is_run.ensures c.in_ok-turns.turns.place.items c.in_ok-turns.turns.run.items tables.first.items tables.left.items (c.in_ok-turns.ensures (short c.args.map.now.lists c.args.frame.left.0 c.args.frame.top.0 c.args.frame.right.0 c.args.frame.bottom.0 (vertices_of c.in_ok-made.made.order) c.in_ok-made.made.order.rank c.in_ok-made.made.rows c.in_ok-made.ensures.rows c.order_is_run.ensures c.rect_order_is_run.ensures) (short_rows c.args.map.now.lists c.args.frame.left.0 c.args.frame.top.0 c.args.frame.right.0 c.args.frame.bottom.0 (vertices_of c.in_ok-made.made.order) c.in_ok-made.made.order.rank c.in_ok-made.made.rows c.in_ok-made.ensures.rows c.order_is_run.ensures c.rect_order_is_run.ensures)) of_tables.firsts (subst (λ (us : List ℕ). AreLefts c.in_ok-made.made.rows us (length c.in_ok-made.made.rows) tables.left.items) c.deref.ensures.value of_tables.lefts) c.labels_of_order.ensures in
-    IsLabellingIn-of map f.left.0 f.top.0 f.right.0 f.bottom.0 (end_by tables.first.items tables.left.items c.in_ok-made.made.order.rank) c.facts.ensures c.in_ok-labels.labels.items told c.in_ok-labels.ensures.labels
+    IsLabellingIn-of map f.left.0 f.top.0 f.right.0 f.bottom.0 (end_by tables.first.items tables.left.items c.in_ok-made.made.order.rank) c.args.map.now.known c.in_ok-labels.labels.items told c.in_ok-labels.ensures.labels
 
 pub returns-clause-covers : goal.returns-clause-covers
 returns-clause-covers c = λ id live.
     let m = c.in_ok-labels.ensures.count in
-    let l = live-lt c.args.map.now c.facts.ensures id live in
+    let l = live-lt c.args.map.now c.args.map.now.known id live in
     omega arith

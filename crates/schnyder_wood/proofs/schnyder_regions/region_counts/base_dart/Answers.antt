@@ -5,5 +5,5 @@ use Rattle.schnyder_wood.proofs.schnyder_regions.region_counts.base_dart.Goals a
 
 pub dart_of-requires-clause-v_in : goal.dart_of-requires-clause-v_in
 dart_of-requires-clause-v_in c =
-    let l = c.facts.ensures.simple.in_range (root_in c.args.wood.now two) (root_in c.args.wood.now one) c.requires in
+    let l = c.args.map.now.known.simple.in_range (root_in c.args.wood.now two) (root_in c.args.wood.now one) c.requires in
     omega (arith, c.root-2.ensures)

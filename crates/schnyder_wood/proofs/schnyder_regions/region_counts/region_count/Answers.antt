@@ -27,7 +27,7 @@ invariant_of-region c =
 pub returns : goal.returns
 returns c =
     let wood = c.args.wood.now in
-    let known = c.facts.ensures in
+    let known = c.args.tri.now.known in
     let d = kind c.args.colour in
     let path = c.in_ok-path.path in
     IfOk-weaker c.count.result _ _ (λ k h base is.

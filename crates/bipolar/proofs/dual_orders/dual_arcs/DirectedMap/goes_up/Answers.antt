@@ -9,7 +9,7 @@ get-requires c =
     let map = c.args.self.now.map.now in
     let x = some_dart (dart_at map c.args.d.0) c.requires in
     let t = tail_is (dart_at map c.args.d.0) x.0 x.1 c.tail.result.0 x.2 c.tail.ensures in
-    let has = c.facts.ensures.is_dart c.args.d.0 x.0 x.1 x.2 in
+    let has = c.args.self.now.map.now.known.is_dart c.args.d.0 x.0 x.1 x.2 in
     omega (arith, has.0, t, c.args.self.now.ranks)
 
 pub get-requires-2 : goal.get-requires-2
@@ -17,8 +17,8 @@ get-requires-2 c =
     let map = c.args.self.now.map.now in
     let x = some_dart (dart_at map c.args.d.0) c.requires in
     let h = head_is (dart_at map c.args.d.0) x.0 x.1 c.head.result.0 x.2 c.head.ensures in
-    let has = c.facts.ensures.is_dart c.args.d.0 x.0 x.1 x.2 in
-    let back = c.facts.ensures.simple.in_range x.0 x.1 has in
+    let has = c.args.self.now.map.now.known.is_dart c.args.d.0 x.0 x.1 x.2 in
+    let back = c.args.self.now.map.now.known.simple.in_range x.0 x.1 has in
     omega (arith, back, h, c.args.self.now.ranks)
 
 pub returns : goal.returns

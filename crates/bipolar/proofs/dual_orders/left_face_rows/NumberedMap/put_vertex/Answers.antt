@@ -24,7 +24,7 @@ loop-preserved c =
     let in_list : k < length (list_of map.lists v) = omega (arith, c.loop-test.true, c.degree-end.ensures) in
     record {
       live = next_live map (dart_at map c.loop.d.0) (dart_at map c.next-d.result.0) h.live c.next-d.ensures;
-      dart = λ l. next_at map c.facts.ensures v k (dart_at map c.loop.d.0) (dart_at map c.next-d.result.0) c.requires.vertex (h.dart in_list) c.next-d.ensures l;
+      dart = λ l. next_at map c.args.self.now.map.now.known v k (dart_at map c.loop.d.0) (dart_at map c.next-d.result.0) c.requires.vertex (h.dart in_list) c.next-d.ensures l;
       row = ArePutNumbers-more map c.args.self.now.faces.now c.args.self.now.rank.now c.args.self.now.numbers.now v c.left_number.result k c.args.entries.now.items c.loop.entries.items _ h.row c.in_ok-push.ensures.items (c.left_number.ensures v (get_or (list_of map.lists v) k 0) (h.dart in_list));
     }
 

@@ -5,4 +5,4 @@ pub returns-clause-faces : goal.returns-clause-faces
 returns-clause-faces c = AreFaces-known c.args.self.now.map.now c.args.self.now.faces.now c.args.self.now.walked
 
 pub returns-clause-uncut : goal.returns-clause-uncut
-returns-clause-uncut c = record { simple = c.facts.ensures.simple; plane = c.args.self.now.plane; uncut = c.args.self.now.uncut }
+returns-clause-uncut c = record { simple = c.args.self.now.map.now.known.simple; plane = c.args.self.now.plane; uncut = c.args.self.now.uncut }

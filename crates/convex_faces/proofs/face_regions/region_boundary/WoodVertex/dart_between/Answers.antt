@@ -4,5 +4,5 @@ use Rattle.convex_faces.proofs.face_regions.region_boundary.WoodVertex.dart_betw
 
 pub dart_of-requires-clause-v_in : goal.dart_of-requires-clause-v_in
 dart_of-requires-clause-v_in c =
-    let l = c.facts.ensures.simple.in_range (root_in c.args.self.now.wood.now c.args.from) (root_in c.args.self.now.wood.now c.args.to) c.requires in
+    let l = c.args.self.now.map.now.known.simple.in_range (root_in c.args.self.now.wood.now c.args.from) (root_in c.args.self.now.wood.now c.args.to) c.requires in
     omega (arith, c.root-2.ensures)

@@ -6,7 +6,7 @@ use Rattle.fpp_shift.proofs.shift_trees.attachment_intervals.OrderedMap.head_ran
 
 pub get-requires : goal.get-requires
 get-requires c =
-    let l = head-within c.args.self.now.map.now c.args.d.0 c.head.result.0 c.facts.ensures c.requires c.head.ensures in
+    let l = head-within c.args.self.now.map.now c.args.d.0 c.head.result.0 c.args.self.now.map.now.known c.requires c.head.ensures in
     omega (arith, c.args.self.now.ranked)
 
 pub returns : goal.returns

@@ -11,9 +11,9 @@ loop-preserved c =
     let map = c.args.self.now.map.now in
     let u = get_or (list_of map.lists c.args.v.0) c.loop.counter 0 in
     let is = c.loop.invariant.dart (omega arith) in
-    let tested = EndsRow-tested map c.facts.ensures c.args.self.now.ranks.now c.args.k c.args.v.0 u c.loop.d.0 c.prev-before.result.0 c.head_rank-rank.result c.head_rank-rank_before.result c.is_end.result is c.head_rank-rank.ensures c.head_rank-rank_before.ensures c.prev-before.ensures.live c.prev-before.ensures.before c.is_end.ensures in
+    let tested = EndsRow-tested map c.args.self.now.map.now.known c.args.self.now.ranks.now c.args.k c.args.v.0 u c.loop.d.0 c.prev-before.result.0 c.head_rank-rank.result c.head_rank-rank_before.result c.is_end.result is c.head_rank-rank.ensures c.head_rank-rank_before.ensures c.prev-before.ensures.live c.prev-before.ensures.before c.is_end.ensures in
     record {
-      dart = λ more. next-is map c.loop.d.0 c.next-d.result.0 c.args.v.0 c.loop.counter c.facts.ensures c.requires.vertex more is c.next-d.ensures;
+      dart = λ more. next-is map c.loop.d.0 c.next-d.result.0 c.args.v.0 c.loop.counter c.args.self.now.map.now.known c.requires.vertex more is c.next-d.ensures;
       none = below_more (λ (j : ℕ). ¬ EndsRow map.lists c.args.self.now.ranks.now c.args.k c.args.v.0 (get_or (list_of map.lists c.args.v.0) j 0)) c.loop.counter c.loop.invariant.none (λ row. true≢false (sym (tested.1 row) ∙ c.if-is_end.false));
     }
 
@@ -22,7 +22,7 @@ returns-then-is_end c =
     let map = c.args.self.now.map.now in
     let u = get_or (list_of map.lists c.args.v.0) c.loop.counter 0 in
     let is = c.loop.invariant.dart (omega arith) in
-    let tested = EndsRow-tested map c.facts.ensures c.args.self.now.ranks.now c.args.k c.args.v.0 u c.loop.d.0 c.prev-before.result.0 c.head_rank-rank.result c.head_rank-rank_before.result c.is_end.result is c.head_rank-rank.ensures c.head_rank-rank_before.ensures c.prev-before.ensures.live c.prev-before.ensures.before c.is_end.ensures in
+    let tested = EndsRow-tested map c.args.self.now.map.now.known c.args.self.now.ranks.now c.args.k c.args.v.0 u c.loop.d.0 c.prev-before.result.0 c.head_rank-rank.result c.head_rank-rank_before.result c.is_end.result is c.head_rank-rank.ensures c.head_rank-rank_before.ensures c.prev-before.ensures.live c.prev-before.ensures.before c.is_end.ensures in
     subst (EndsRow map.lists c.args.self.now.ranks.now c.args.k c.args.v.0) (head-is map c.loop.d.0 c.args.v.0 u c.head.result.0 is c.head.ensures) (tested.0 c.if-is_end.true)
 
 pub unreachable-requires : goal.unreachable-requires

@@ -35,7 +35,7 @@ returns-clause-order c =
     let base =
     base_of_choice c.args.map.now tri c.first_dart-first.result c.base_dart-base.result c.facts-2.ensures.is_dart c.first_dart-first.ensures.dart made.ids c.base_dart-base.ensures.given c.base_dart-base.ensures.least c.first_dart-first.ensures.not_isolated in
     record {
-      simple = subst IsSimpleMap is c.facts.ensures.simple;
+      simple = subst IsSimpleMap is c.args.map.now.known.simple;
       triangulation = made.triangulation;
       extended = subst (λ (ls : Lists). IsExtended ls tri.lists) is made.extended;
       to = base.to;

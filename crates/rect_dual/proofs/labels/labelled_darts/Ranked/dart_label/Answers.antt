@@ -17,7 +17,7 @@ get-requires c =
     let live : IsLive map d = search rules in
     let x = dart_of map d in
     let same = tail_is (dart_at map d) x.0 x.1 c.tail-u.result.0 (dart_of-live map d live) c.tail-u.ensures in
-    omega (arith, same, (has_dart map c.facts.ensures d live).0, c.args.self.now.count)
+    omega (arith, same, (has_dart map c.args.self.now.map.now.known d live).0, c.args.self.now.count)
 
 pub get-requires-2 : goal.get-requires-2
 get-requires-2 c =
@@ -26,7 +26,7 @@ get-requires-2 c =
     let live : IsLive map d = search rules in
     let x = dart_of map d in
     let same = head_is (dart_at map d) x.0 x.1 c.head-v.result.0 (dart_of-live map d live) c.head-v.ensures in
-    omega (arith, same, c.facts.ensures.simple.in_range x.0 x.1 (has_dart map c.facts.ensures d live), c.args.self.now.count)
+    omega (arith, same, c.args.self.now.map.now.known.simple.in_range x.0 x.1 (has_dart map c.args.self.now.map.now.known d live), c.args.self.now.count)
 
 pub returns-then-is_frame_edge : goal.returns-then-is_frame_edge
 returns-then-is_frame_edge c = λ u v at.

@@ -9,7 +9,7 @@ pub returns : goal.returns
 returns c = λ base parent k v start edges vertices.
     let map = c.args.self.now.map.now in
     let path = c.args.self.now.path.now in
-    let known = c.facts.ensures in
+    let known = c.args.self.now.map.now.known in
     let reached = are_marked map known path base parent k v c.mark_reached.new.met (known.is_dart c.args.self.now.start.0 base.0 base.1 start) edges
     (c.in_ok-mark_reached.ensures base (is_edge_of path) start (λ d answer x y e s. told_same map path d answer x y e (search rules))) in
     let all : c.loop-u.u ≡ length map.lists = omega (arith, c.loop-u.auto.u-end, c.loop-u-test.false, c.n-u-end.ensures.count) in

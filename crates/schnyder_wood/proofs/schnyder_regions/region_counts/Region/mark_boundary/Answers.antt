@@ -4,7 +4,7 @@ use Rattle.schnyder_wood.proofs.CountLemmas.{boundary-passed, boundary-marked}
 use Rattle.schnyder_wood.proofs.schnyder_regions.region_counts.Region.mark_boundary.Goals as goal
 
 pub has_vertex-requires : goal.has_vertex-requires
-has_vertex-requires c = omega (arith, c.facts.ensures, c.loop-u-test.true, c.n-u-end.ensures.count)
+has_vertex-requires c = omega (arith, c.args.self.now.map.now.known, c.loop-u-test.true, c.n-u-end.ensures.count)
 
 pub loop-u-preserved-then-not-has_vertex : goal.loop-u-preserved-then-not-has_vertex
 loop-u-preserved-then-not-has_vertex c =
