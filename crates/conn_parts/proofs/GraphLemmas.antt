@@ -6,8 +6,8 @@ use Rattle.std.proofs.lemmas.List.FromFn.{length-range_with_len, get_or-range_wi
 use Rattle.std.proofs.lemmas.List.Kept.{AllPairs-filter}
 use Rattle.map_theory.specs.Maps.{HasDart, IsSimpleMap, list_of}
 use Rattle.map_theory.proofs.EntryLemmas.{Contains-filter, Contains-from_filter}
-use Rattle.graph6_text.specs.Graphs.{EdgeGraph, IsGraph, has_edge}
-use Rattle.graph6_text.proofs.EdgeLemmas.{has_edge-turned, joined_is}
+use Rattle.graphs.specs.Graphs.{EdgeGraph, IsGraph, has_edge}
+use Rattle.graphs.proofs.EdgeLemmas.{has_edge-turned, joined_is}
 use Rattle.conn_parts.specs.GraphLists.{neighbours_below, graph_lists}
 
 -- one number more

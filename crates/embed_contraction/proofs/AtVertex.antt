@@ -1,6 +1,6 @@
 -- The steps of a frame at one vertex: two where it is no branch, and one on each path of a branch.
 use Rattle.std.proofs.Common.{◌≡◌, ◌≢◌, ◌⊎◌, ◌||◌, ℕ, suc, ◌<◌, ◌≤◌, Bool, true, cond, eqb, refl, sym, ap, ◌∙◌, subst, inl, inr, arith, not}
-use Rattle.graph6_text.proofs.BitLemmas.{below_six}
+use Rattle.graphs.proofs.BitLemmas.{below_six}
 use Rattle.std.proofs.lemmas.Bool.{cases_eq, eq-eqb, ne_eqb, cond-true, cond-false, or_left, or_right, and_from}
 use Rattle.classes.specs.Classes.{count_below}
 use Rattle.kuratowski.specs.Witnesses.{branch_count, pair_at}

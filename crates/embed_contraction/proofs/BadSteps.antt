@@ -1,8 +1,8 @@
 -- Steps of a frame that are edges but at one vertex: where at most one is not, a second vertex mends it.
 use Rattle.std.proofs.Common.{◌≡◌, ◌≢◌, ◌⊎◌, ℕ, suc, ◌<◌, ◌≤◌, true, false, sym, ap, ◌∙◌, inl, inr}
 use Rattle.std.proofs.lemmas.Bool.{cases_Bool, cases_eq, true≢false}
-use Rattle.graph6_text.specs.Graphs.{EdgeGraph, has_edge}
-use Rattle.graph6_text.proofs.EdgeLemmas.{has_edge-turned}
+use Rattle.graphs.specs.Graphs.{EdgeGraph, has_edge}
+use Rattle.graphs.proofs.EdgeLemmas.{has_edge-turned}
 use Rattle.kuratowski.specs.Witnesses.{branch_count}
 use Rattle.kuratowski.specs.declared.witness.Kind.{Kind}
 use Rattle.embed_contraction.specs.Traces.{path_count, HasWitness}

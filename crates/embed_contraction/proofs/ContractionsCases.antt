@@ -1,6 +1,6 @@
 -- The definitions, run on worked cases: the edge of 0 and 2 contracted in a path 0, 2, 1, 3.
 use Rattle.std.proofs.Common.{◌≡◌, true, false, [], ◌∷◌, refl}
-use Rattle.graph6_text.specs.Graphs.{EdgeGraph}
+use Rattle.graphs.specs.Graphs.{EdgeGraph}
 use Rattle.embed_contraction.specs.Contracted.{before_left, contracted_edge}
 
 abbrev path : EdgeGraph

@@ -1,6 +1,6 @@
 -- Graphs with few vertices have no witness.
 use Rattle.std.proofs.Common.{◌≢◌, ◌<◌, ℕ, arith}
-use Rattle.graph6_text.specs.Graphs.{EdgeGraph}
+use Rattle.graphs.specs.Graphs.{EdgeGraph}
 use Rattle.kuratowski.specs.Witnesses.{vertex_at}
 use Rattle.kuratowski.specs.declared.witness.Kind.TheVariants.{K5, K33}
 use Rattle.embed_contraction.specs.Traces.{HasWitness}

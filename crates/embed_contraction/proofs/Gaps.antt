@@ -4,8 +4,8 @@ use Rattle.std.proofs.lemmas.Bool.{cases_eq, cases_lt, cases_Bool, true≢false}
 use Rattle.std.proofs.lemmas.List.{get_or-take, get_or-drop, take-append-drop, get_or_default, length-take-le}
 use Rattle.std.proofs.lemmas.List.Elements.{Contains-append_cases, Contains-append_left, Contains-append_right}
 use Rattle.map_theory.proofs.EntryLemmas.{Contains-here, Contains-there}
-use Rattle.graph6_text.specs.Graphs.{EdgeGraph, has_edge}
-use Rattle.graph6_text.proofs.EdgeLemmas.{has_edge-turned}
+use Rattle.graphs.specs.Graphs.{EdgeGraph, has_edge}
+use Rattle.graphs.proofs.EdgeLemmas.{has_edge-turned}
 use Rattle.embed_contraction.proofs.Places.{two_sets_lie}
 use Rattle.embed_contraction.proofs.Rings.{alternating_witness, common_witness, IsRimmed, spoke, IsGapOf, IsGap, IsOuterGap, HasTwo, Lie.in_gap, Lie.around, Lie.alternate, Lie.alternate', Lie.common}
 use Rattle.std.specs.Prelude.{◌⊎◌}

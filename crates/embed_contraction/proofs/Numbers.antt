@@ -1,6 +1,6 @@
 -- What is so of the first few numbers, one by one.
 use Rattle.std.proofs.Common.{ℕ, zero, suc, ◌<◌, arith}
-use Rattle.graph6_text.proofs.BitLemmas.{below_six}
+use Rattle.graphs.proofs.BitLemmas.{below_six}
 
 pub each_of_one : (P : ℕ → Type 0) → P 0 → (p : ℕ) → p < 1 → P p
 each_of_one P a zero l = a

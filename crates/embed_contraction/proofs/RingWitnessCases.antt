@@ -1,6 +1,6 @@
 -- The definitions, run on worked cases: places round a ring of five.
 use Rattle.std.proofs.Common.{◌≡◌, ℕ, ◌||◌, Bool, true, false, ◌==◌, refl, arith, [], ◌∷◌}
-use Rattle.graph6_text.specs.Graphs.{EdgeGraph}
+use Rattle.graphs.specs.Graphs.{EdgeGraph}
 use Rattle.embed_contraction.proofs.Rings.{spoke, IsGap, Alternate}
 
 -- the places 0 and 3, and the places 1 and 2

@@ -2,8 +2,8 @@
 use Rattle.std.proofs.Common.{◌≡◌, ◌≢◌, ◌⊎◌, ℕ, suc, ◌-◌, ◌<◌, ◌≤◌, true, false, List, [], ◌∷◌, length, AllPairs, Contains, refl, sym, ap, ap₂, ◌∙◌, subst, inl, inr, arith}
 use Rattle.std.proofs.lemmas.Bool.{cases_Bool, cases_eq, true≢false}
 use Rattle.map_theory.proofs.EntryLemmas.{Contains-here, Contains-there, AllPairs-tail, head_apart}
-use Rattle.graph6_text.specs.Graphs.{EdgeGraph, has_edge}
-use Rattle.graph6_text.proofs.EdgeLemmas.{has_edge-turned}
+use Rattle.graphs.specs.Graphs.{EdgeGraph, has_edge}
+use Rattle.graphs.proofs.EdgeLemmas.{has_edge-turned}
 use Rattle.kuratowski.specs.Witnesses.{branch_count, vertex_at, path_at}
 use Rattle.kuratowski.specs.declared.witness.Kind.{Kind}
 use Rattle.embed_contraction.specs.Traces.{path_count, HasWitness}

@@ -5,7 +5,7 @@ use Rattle.std.proofs.lemmas.List.Elements.{Contains-append_right}
 use Rattle.map_lists.specs.Lists.{Lists}
 use Rattle.map_theory.specs.Maps.{HasDart, IsSimpleMap, SameComponent}
 use Rattle.map_theory.proofs.EntryLemmas.{Contains-there, Contains-cons_cases, AllPairs-tail, AllPairs-right, head_apart}
-use Rattle.graph6_text.specs.Graphs.{EdgeGraph, has_edge}
+use Rattle.graphs.specs.Graphs.{EdgeGraph, has_edge}
 use Rattle.plane_laws.proofs.ComponentPaths.{components_are_paths}
 use Rattle.plane_peeling.proofs.Rings.{separated_at, AllPairs-put}
 use Rattle.plane_peeling.proofs.RestrictedMaps.{cases_Contains}

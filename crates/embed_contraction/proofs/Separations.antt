@@ -1,9 +1,9 @@
 -- Where two steps at a branch of K5 lead to neighbours of y alone, and the two others to neighbours of x alone: K3,3 with x and the branches of the first two against y and those of the others.
 use Rattle.std.proofs.Common.{◌≡◌, ◌≢◌, ◌⊎◌, ◌&&◌, ℕ, zero, suc, ◌+◌, ◌<◌, ◌≤◌, Bool, true, false, cond, eqb, refl, sym, ap, ap₂, ◌∙◌, subst, inl, inr, arith}
 use Rattle.std.proofs.lemmas.Bool.{cases_eq, cases_Bool, eq-eqb, ne_eqb, cond-true, cond-false}
-use Rattle.graph6_text.specs.Graphs.{EdgeGraph, has_edge}
-use Rattle.graph6_text.proofs.EdgeLemmas.{has_edge-turned}
-use Rattle.graph6_text.proofs.BitLemmas.{below_six}
+use Rattle.graphs.specs.Graphs.{EdgeGraph, has_edge}
+use Rattle.graphs.proofs.EdgeLemmas.{has_edge-turned}
+use Rattle.graphs.proofs.BitLemmas.{below_six}
 use Rattle.kuratowski.specs.Witnesses.{pair_at}
 use Rattle.kuratowski.specs.declared.witness.Kind.TheVariants.{K5, K33}
 use Rattle.embed_contraction.specs.Traces.{HasWitness}

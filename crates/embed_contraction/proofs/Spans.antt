@@ -1,8 +1,8 @@
 -- Paths that are one edge, or lead along a ring from one place of it to another, up or down; and witnesses made of them. The ring is a function of its places, with its first vertex at its end once more.
 use Rattle.std.proofs.Common.{◌≡◌, ◌≢◌, ◌⊎◌, ℕ, zero, suc, ◌+◌, ◌-◌, ◌<◌, ◌≤◌, true, refl, sym, ap, ◌∙◌, inl, inr, arith}
 use Rattle.std.proofs.lemmas.Bool.{cases_eq}
-use Rattle.graph6_text.specs.Graphs.{EdgeGraph, has_edge}
-use Rattle.graph6_text.proofs.EdgeLemmas.{has_edge-turned}
+use Rattle.graphs.specs.Graphs.{EdgeGraph, has_edge}
+use Rattle.graphs.proofs.EdgeLemmas.{has_edge-turned}
 use Rattle.kuratowski.specs.Witnesses.{branch_count, pair_at}
 use Rattle.kuratowski.specs.declared.witness.Kind.{Kind}
 use Rattle.embed_contraction.specs.Traces.{path_count}

@@ -4,7 +4,7 @@ use Rattle.std.specs.List.{range_with_len}
 use Rattle.std.proofs.lemmas.List.{length-map, get_or-map}
 use Rattle.std.proofs.lemmas.List.FromFn.{length-range_with_len, get_or-range_with_len}
 use Rattle.map_lists.specs.declared.ids.VertexId.{VertexId}
-use Rattle.graph6_text.specs.Graphs.{EdgeGraph}
+use Rattle.graphs.specs.Graphs.{EdgeGraph}
 use Rattle.kuratowski.specs.Witnesses.{branch_count, pair_at, vertex_at, path_at, IsInnerPlace, IsWitness}
 use Rattle.kuratowski.specs.declared.witness.Kind.{Kind}
 use Rattle.kuratowski.specs.declared.witness.Kind.TheVariants.{K5, K33}

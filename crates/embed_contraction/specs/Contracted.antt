@@ -1,6 +1,6 @@
 -- A graph with an edge contracted.
 use Rattle.std.specs.Prelude.{ℕ, ◌+◌, ◌<◌, ◌≡◌, ◌≢◌, ◌⊎◌, Bool, true, ◌&&◌, ◌||◌, ◌==◌, not, nat_lt, if◌then◌else◌}
-use Rattle.graph6_text.specs.Graphs.{EdgeGraph, has_edge}
+use Rattle.graphs.specs.Graphs.{EdgeGraph, has_edge}
 use Rattle.embed_contraction.specs.Traces.{HasWitness}
 
 -- The vertices of `small` stand for vertices of `graph` other than y, and x stands for x and y: each edge of `small` is one of `graph` between what its ends stand for.

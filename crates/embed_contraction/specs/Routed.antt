@@ -1,6 +1,6 @@
 -- A witness that uses an edge which a graph lacks, with a path of the graph in its place.
 use Rattle.std.specs.Prelude.{ℕ, ◌≡◌, ◌⊎◌, true, false, List, ◌∷◌, AllPairs, Contains, [], ◌≢◌}
-use Rattle.graph6_text.specs.Graphs.{EdgeGraph, has_edge}
+use Rattle.graphs.specs.Graphs.{EdgeGraph, has_edge}
 use Rattle.embed_contraction.specs.Traces.{HasWitness}
 
 -- edges lead from u along the list to v

@@ -1,7 +1,7 @@
 -- Kuratowski witnesses by functions: branches by their numbers, and paths by their steps.
 use Rattle.std.specs.Prelude.{ℕ, List, length}
 use Rattle.map_lists.specs.declared.ids.VertexId.{VertexId}
-use Rattle.graph6_text.specs.Graphs.{EdgeGraph}
+use Rattle.graphs.specs.Graphs.{EdgeGraph}
 use Rattle.kuratowski.specs.Witnesses.{pairs_of, IsWitness}
 use Rattle.kuratowski.specs.declared.witness.Kind.{Kind}
 

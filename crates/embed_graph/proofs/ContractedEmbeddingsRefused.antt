@@ -1,6 +1,6 @@
 -- Answers that wrong bodies would give: the clauses refuse them.
 use Rattle.std.proofs.Common.{◌↔◌, ◌<◌, ℕ, true, IsTrue, refl}
-use Rattle.graph6_text.specs.Graphs.{EdgeGraph}
+use Rattle.graphs.specs.Graphs.{EdgeGraph}
 use Rattle.embed_contraction.specs.Traces.{HasWitness}
 use Rattle.embed_contraction.proofs.FewVertices.{few_without_witness}
 use Rattle.embed_witnesses.specs.Kept.{IsKept}

@@ -1,8 +1,8 @@
 -- From the theorem on graphs and the drawings of maps.
 use Rattle.std.proofs.Common.{◌≡◌, ◌≢◌, ℕ, ◌<◌, true, ◌∙◌, inl, inr, arith}
 use Rattle.std.proofs.lemmas.Bool.{cases_lt}
-use Rattle.graph6_text.specs.Graphs.{EdgeGraph, IsGraph, has_edge}
-use Rattle.graph6_text.proofs.EdgeLemmas.{joined_is, has_edge-turned}
+use Rattle.graphs.specs.Graphs.{EdgeGraph, IsGraph, has_edge}
+use Rattle.graphs.proofs.EdgeLemmas.{joined_is, has_edge-turned}
 use Rattle.embed_theorem.specs.Embedding.{IsProper, MapOrWitness, PlanarExactly}
 use Rattle.grid_figures.specs.SchnyderFiguresLaws.{SomeSchnyderFigure}
 use Rattle.embed_graph.specs.declared.embed_figures.embedder.EmbedFigure.TheVariants.{Drawn, NotPlanar}

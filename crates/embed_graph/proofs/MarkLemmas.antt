@@ -7,11 +7,11 @@ use Rattle.std.proofs.lemmas.List.Elements.{All-set, Contains-append_left, Conta
 use Rattle.map_lists.specs.Lists.{Lists}
 use Rattle.map_theory.specs.Maps.{HasDart, IsSimpleMap, list_of}
 use Rattle.map_theory.proofs.EntryLemmas.{AllPairs-left, parts_apart}
-use Rattle.graph6_text.specs.Graphs.{EdgeGraph, AreEdges, joins, has_edge}
-use Rattle.graph6_text.specs.Lines.{IsLineByte, pair_place, body_length, is_set, edges_of}
-use Rattle.graph6_text.proofs.BitLemmas.{range-with_bit, bits-with_bit, is_set-set, one_pair, pair_place-lt, body_length-bounds}
-use Rattle.graph6_text.proofs.PairLemmas.{Contains-first, Contains-cases, Contains-none}
-use Rattle.graph6_text.proofs.EdgeLemmas.{AreMarked-begin, AreEdges-edges_of, joined_as_bit, joined_is, has_edge-turned}
+use Rattle.graphs.specs.Graphs.{EdgeGraph, AreEdges, joins, has_edge}
+use Rattle.graphs.specs.Bits.{IsLineByte, pair_place, body_length, is_set, edges_of}
+use Rattle.graphs.proofs.BitLemmas.{range-with_bit, bits-with_bit, is_set-set, one_pair, pair_place-lt, body_length-bounds}
+use Rattle.graphs.proofs.PairLemmas.{Contains-first, Contains-cases, Contains-none}
+use Rattle.graphs.proofs.EdgeLemmas.{AreMarked-begin, AreEdges-edges_of, joined_as_bit, joined_is, has_edge-turned}
 use Rattle.embed_theorem.specs.Expanded.{HasJustEdges}
 use Rattle.embed_graph.specs.Marks.{AreBytes, Adds, Marks}
 

@@ -2,7 +2,7 @@
 use Rattle.std.proofs.Common.{◌<◌, [], ◌∷◌, true, IsTrue, refl, arith}
 use Rattle.map_lists.specs.Lists.{Lists}
 use Rattle.map_theory.specs.Maps.{genus, IsPlane}
-use Rattle.graph6_text.specs.Graphs.{EdgeGraph}
+use Rattle.graphs.specs.Graphs.{EdgeGraph}
 use Rattle.kuratowski.specs.declared.witness.Witness.{Witness}
 use Rattle.embed_theorem.specs.Expanded.{HasJustEdges}
 use Rattle.embed_contraction.proofs.FewVertices.{few_without_witness}

@@ -3,7 +3,7 @@ use Rattle.std.proofs.Common.{◌≡◌, ◌<◌, ◌≤◌, ℕ, Bool, true, fa
 use Rattle.std.specs.Prelude.{Option, None, MatchOption, IsTrue, ◌↔◌}
 use Rattle.std.proofs.lemmas.Bool.{true≢false}
 use Rattle.map_lists.specs.Lists.{Lists}
-use Rattle.graph6_text.specs.Graphs.{EdgeGraph, IsGraph}
+use Rattle.graphs.specs.Graphs.{EdgeGraph, IsGraph}
 use Rattle.embed_contraction.specs.Traces.{HasWitness}
 use Rattle.embed_theorem.specs.Expanded.{IsMapOf}
 use Rattle.embed_theorem.proofs.Refuted.{witnesses_refute}

@@ -1,5 +1,5 @@
 -- A map of a graph, or a witness that there is none.
-use Rattle.graph6_text.specs.Graphs.{EdgeGraph}
+use Rattle.graphs.specs.Graphs.{EdgeGraph}
 use Rattle.kuratowski.specs.Witnesses.{IsWitness}
 use Rattle.embed_theorem.specs.Expanded.{IsMapOf}
 use Rattle.embed_graph.specs.declared.graph_embeddings.embedding.Embedding.{Embedding}

@@ -1,7 +1,7 @@
 -- The figure of a graph: a map of it as it is drawn, or a witness that there is none.
 use Rattle.map_lists.specs.Lists.{Lists}
 use Rattle.pg_plane.specs.declared.figures.GridFigure.{GridFigure}
-use Rattle.graph6_text.specs.Graphs.{EdgeGraph}
+use Rattle.graphs.specs.Graphs.{EdgeGraph}
 use Rattle.kuratowski.specs.Witnesses.{IsWitness}
 use Rattle.embed_theorem.specs.Expanded.{IsMapOf}
 use Rattle.grid_figures.specs.SchnyderFiguresFigures.{IsSchnyderFigure}

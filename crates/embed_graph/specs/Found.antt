@@ -1,6 +1,6 @@
 -- The answer of the left-right test to a graph.
 use Rattle.map_lists.specs.Lists.{Lists}
-use Rattle.graph6_text.specs.Graphs.{EdgeGraph}
+use Rattle.graphs.specs.Graphs.{EdgeGraph}
 use Rattle.embed_theorem.specs.Expanded.{IsMapOf}
 use Rattle.embed_graph.specs.declared.fast_embeddings.Tested.{Tested}
 use Rattle.embed_graph.specs.declared.fast_embeddings.Tested.TheVariants.{Map, NoMap}

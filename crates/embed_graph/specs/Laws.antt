@@ -2,7 +2,7 @@
 use Rattle.std.specs.Prelude.{◌≤◌, ◌↔◌}
 use Rattle.map_lists.specs.Lists.{Lists}
 use Rattle.pg_plane.specs.declared.figures.GridFigure.{GridFigure}
-use Rattle.graph6_text.specs.Graphs.{EdgeGraph, IsGraph}
+use Rattle.graphs.specs.Graphs.{EdgeGraph, IsGraph}
 use Rattle.embed_contraction.specs.Traces.{HasWitness}
 use Rattle.embed_graph.specs.Figures.{IsDrawnMap, IsEmbedFigure}
 use Rattle.embed_graph.specs.declared.embed_figures.embedder.EmbedFigure.{EmbedFigure}

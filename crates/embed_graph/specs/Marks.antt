@@ -2,7 +2,7 @@
 use Rattle.std.specs.Prelude.{ℕ, ◌<◌, ◌≡◌, ◌⊎◌, true, List, length, All, Contains}
 use Rattle.map_lists.specs.Lists.{Lists}
 use Rattle.map_theory.specs.Maps.{HasDart}
-use Rattle.graph6_text.specs.Lines.{pair_place, body_length, is_set, IsLineByte}
+use Rattle.graphs.specs.Bits.{pair_place, body_length, is_set, IsLineByte}
 
 -- bytes with the bits of the pairs of n vertices
 pub record AreBytes (n : ℕ) (body : List ℕ) : Type 0 where

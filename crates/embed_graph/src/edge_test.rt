@@ -1,12 +1,12 @@
 //! Compares the edges of a map with those of a graph, as graph6 bits.
 ghost use Rattle.std.specs.Prelude.{◌≡◌, ◌<◌, ◌≤◌, ◌∷◌, ◌/◌, ◌≢◌, ◌==◌, ◌||◌, ℕ, false, [], length, replicate, All, AllPairs, Contains, IfOk, IsTrue};
 ghost use Rattle.map_theory.specs.Maps.{IsSimpleMap};
-ghost use Rattle.graph6_text.specs.Lines.{pair_place as place_of_pair, body_length as bytes_of_pairs, is_set as is_place_set, IsLineByte};
+ghost use Rattle.graphs.specs.Bits.{pair_place as place_of_pair, body_length as bytes_of_pairs, is_set as is_place_set, IsLineByte};
 ghost use Rattle.embed_theorem.specs.Expanded.{HasJustEdges};
 ghost use Rattle.embed_graph.specs.Marks.{AreBytes, Adds, Marks};
 
-use graph6_text::Graph;
-use graph6_text::bits::{body_length, pair_place};
+use graphs::Graph;
+use graphs::bits::{body_length, pair_place};
 use map_lists::Rotations;
 use std::alloc::{AllocError, Global};
 use std::mem;

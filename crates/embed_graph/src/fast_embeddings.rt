@@ -12,7 +12,7 @@ use crate::graph_embeddings::Embedding;
 use conn_parts::plane_count;
 use embed_search::Tables;
 use euler_faces::Counter;
-use graph6_text::Graph;
+use graphs::Graph;
 use kuratowski::{Witness, check_witness};
 use left_right_lists::map_of_graph;
 use map_lists::Rotations;

@@ -7,7 +7,7 @@ use crate::conflict_marks::ConflictMarks;
 use crate::kernel::Kernel;
 use crate::shrink::shrink;
 use crate::witness_tracing::Tracer;
-use graph6_text::Graph;
+use graphs::Graph;
 use kuratowski::Witness;
 use left_right_test::{Edges, LeftRightTest};
 use map_lists::Rotations;

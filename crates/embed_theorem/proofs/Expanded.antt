@@ -8,8 +8,8 @@ use Rattle.map_theory.specs.Maps.{Dart, list_of, HasDart, IsSimpleMap, IsPlane, 
 use Rattle.map_theory.specs.Paths.{SameFace}
 use Rattle.map_theory.proofs.DartLemmas.{HasDart-follows}
 use Rattle.map_theory.proofs.EntryLemmas.{Contains-here, Contains-there}
-use Rattle.graph6_text.specs.Graphs.{EdgeGraph, has_edge}
-use Rattle.graph6_text.proofs.EdgeLemmas.{has_edge-turned}
+use Rattle.graphs.specs.Graphs.{EdgeGraph, has_edge}
+use Rattle.graphs.proofs.EdgeLemmas.{has_edge-turned}
 use Rattle.plane_peeling.proofs.Rings.{each_of_one}
 use Rattle.plane_peeling.proofs.RestrictedMaps.{restricted-map, restricted-old, length-restricted}
 use Rattle.embed_surgery.proofs.Holes.{passed_once, hole_of_vertex, rest_dart, all_but, without_vertex, IsPassedOnce, IsRing, IsRingOf}

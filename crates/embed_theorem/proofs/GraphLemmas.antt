@@ -5,9 +5,9 @@ use Rattle.std.proofs.lemmas.Bool.{cases_Bool, true≢false, eqb-true, eq-eqb}
 use Rattle.map_lists.specs.Lists.{Lists}
 use Rattle.map_theory.specs.Maps.{Dart, darts, list_of, HasDart, IsSimpleMap, dart_number}
 use Rattle.map_theory.proofs.DartLemmas.{length-darts, dart_number-lt, get_or-dart_number, HasDart-darts}
-use Rattle.graph6_text.specs.Graphs.{has_edge, joins}
-use Rattle.graph6_text.proofs.EdgeLemmas.{joined_by, joins-ends}
-use Rattle.graph6_text.proofs.PairLemmas.{any-from, any-gives}
+use Rattle.graphs.specs.Graphs.{has_edge, joins}
+use Rattle.graphs.proofs.EdgeLemmas.{joined_by, joins-ends}
+use Rattle.graphs.proofs.PairLemmas.{any-from, any-gives}
 use Rattle.embed_theorem.specs.ListGraphs.{graph_of}
 
 pub has_edge-from : (lists : Lists) (u v : ℕ) → HasDart lists u v → has_edge (graph_of lists) u v ≡ true

@@ -10,7 +10,7 @@ use Rattle.map_lists.specs.Lists.{Lists}
 use Rattle.map_theory.specs.Maps.{list_of, HasDart, IsSimpleMap, is_empty_list}
 use Rattle.map_theory.proofs.EntryLemmas.{Contains-from_filter, Contains-filter}
 use Rattle.map_theory.proofs.DartPermutations.{has_edge as has_some}
-use Rattle.graph6_text.specs.Graphs.{EdgeGraph, has_edge}
+use Rattle.graphs.specs.Graphs.{EdgeGraph, has_edge}
 use Rattle.embed_surgery.proofs.Entries.{lists_by}
 use Rattle.embed_surgery.proofs.UnionLists.{length-lists_by, list_of-lists_by}
 use Rattle.embed_contraction.specs.Linked.{HasEdge}

@@ -6,8 +6,8 @@ use Rattle.map_lists.specs.Lists.{Lists}
 use Rattle.map_theory.specs.Maps.{HasDart, IsSimpleMap, component_classes, SameComponent}
 use Rattle.plane_peeling.proofs.Rings.{each_of_two, each_of_three}
 use Rattle.plane_peeling.proofs.RestrictedMaps.{cases_Contains}
-use Rattle.graph6_text.specs.Graphs.{has_edge}
-use Rattle.graph6_text.proofs.EdgeLemmas.{has_edge-turned}
+use Rattle.graphs.specs.Graphs.{has_edge}
+use Rattle.graphs.proofs.EdgeLemmas.{has_edge-turned}
 use Rattle.embed_contraction.specs.Linked.{HasEdge, IsThreeLinked, IsLinkedWithout, without_vertices}
 use Rattle.embed_contraction.proofs.Parts.{all_or_one, closed_part, cases_part, cases_edge, part-chained, part-itself, rest-simple, rest-length, rest-old, rest-together}
 use Rattle.embed_contraction.proofs.Growth.{contractible_edge}

@@ -7,7 +7,7 @@ use Rattle.map_lists.specs.declared.ids.VertexId.{VertexId}
 use Rattle.map_theory.specs.Maps.{IsSimpleMap, IsPlane}
 use Rattle.plane_laws.specs.Kept.{with_kept, IsKeptMap}
 use Rattle.plane_laws.proofs.KeptEdges.{kept_edges}
-use Rattle.graph6_text.specs.Graphs.{EdgeGraph}
+use Rattle.graphs.specs.Graphs.{EdgeGraph}
 use Rattle.kuratowski.specs.Witnesses.{branch_count, pairs_of, vertex_at, path_at, IsInnerPlace, IsWitness}
 use Rattle.kuratowski.specs.declared.witness.Kind.{Kind}
 use Rattle.kuratowski.specs.declared.witness.Kind.TheVariants.{K5, K33}

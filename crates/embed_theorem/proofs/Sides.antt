@@ -10,7 +10,7 @@ use Rattle.plane_laws.proofs.EdgeRemoved.{edge_removed_plane}
 use Rattle.plane_laws.specs.WithEdge.{with_edge_at}
 use Rattle.plane_laws.proofs.WithEdge.{with_edge, length-new}
 use Rattle.plane_peeling.proofs.RestrictedMaps.{cases_Contains}
-use Rattle.graph6_text.specs.Graphs.{EdgeGraph, has_edge}
+use Rattle.graphs.specs.Graphs.{EdgeGraph, has_edge}
 use Rattle.embed_surgery.proofs.Entries.{glued_lists, edge_glued_lists, IsUnion}
 use Rattle.embed_surgery.proofs.AtVertex.{glued_at_vertex}
 use Rattle.embed_surgery.proofs.AlongEdge.{glued_along_edge}

@@ -1,7 +1,7 @@
 -- Maps of graphs.
 use Rattle.std.specs.Prelude.{ℕ, ◌<◌, ◌≡◌, ◌≢◌, ◌⊎◌, ◌↔◌, true}
 use Rattle.map_lists.specs.Lists.{Lists}
-use Rattle.graph6_text.specs.Graphs.{EdgeGraph, has_edge}
+use Rattle.graphs.specs.Graphs.{EdgeGraph, has_edge}
 use Rattle.embed_contraction.specs.Traces.{HasWitness}
 use Rattle.embed_theorem.specs.Expanded.{IsMapOf}
 

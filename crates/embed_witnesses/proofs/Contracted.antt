@@ -8,7 +8,7 @@ use Rattle.map_theory.specs.Maps.{HasDart, IsSimpleMap, component_classes, compo
 use Rattle.map_theory.specs.Paths.{JoinsAvoiding}
 use Rattle.plane_laws.proofs.ComponentPaths.{components_are_paths}
 use Rattle.plane_laws.proofs.Completions.{one_component}
-use Rattle.graph6_text.specs.Graphs.{EdgeGraph, IsGraph, has_edge}
+use Rattle.graphs.specs.Graphs.{EdgeGraph, IsGraph, has_edge}
 use Rattle.convex_peeling.specs.Polyhedral.{IsThreeConnected}
 use Rattle.conn_parts.specs.GraphLists.{graph_lists}
 use Rattle.conn_parts.proofs.GraphLemmas.{length-graph_lists, IsSimpleMap-graph_lists, dart_edge, edge_dart}

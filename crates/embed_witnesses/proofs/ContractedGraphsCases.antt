@@ -1,7 +1,7 @@
 -- The definitions, run on worked cases: edges contracted in a square 0, 1, 2, 3 with the diagonal from 0 to 2.
 use Rattle.std.proofs.Common.{◌≡◌, [], ◌∷◌, refl}
-use Rattle.graph6_text.specs.Graphs.{EdgeGraph}
-use Rattle.graph6_text.specs.Lines.{pairs}
+use Rattle.graphs.specs.Graphs.{EdgeGraph}
+use Rattle.graphs.specs.Bits.{pairs}
 use Rattle.embed_witnesses.specs.ContractedEdges.{contracted_among}
 
 abbrev square : EdgeGraph

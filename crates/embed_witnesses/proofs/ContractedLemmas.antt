@@ -10,10 +10,10 @@ use Rattle.std.proofs.lemmas.List.Elements.{filter-append}
 use Rattle.std.proofs.lemmas.List.FromFn.{map-range_with_len_more}
 use Rattle.std.proofs.lemmas.List.Kept.{AllPairs-filter}
 use Rattle.std.specs.Cmp.{both_ways}
-use Rattle.graph6_text.specs.Graphs.{Edge, EdgeGraph, AreEdges, ComesBefore, has_edge, joins}
-use Rattle.graph6_text.specs.Lines.{pairs, pairs_of}
-use Rattle.graph6_text.proofs.PairLemmas.{All-from_Contains, Contains-filter, Contains-unfilter, pairs-have, pairs-hold, pairs-rising}
-use Rattle.graph6_text.proofs.EdgeLemmas.{has_edge-turned, joined_is, joined_by, joined_no_pair}
+use Rattle.graphs.specs.Graphs.{Edge, EdgeGraph, AreEdges, ComesBefore, has_edge, joins}
+use Rattle.graphs.specs.Bits.{pairs, pairs_of}
+use Rattle.graphs.proofs.PairLemmas.{All-from_Contains, Contains-filter, Contains-unfilter, pairs-have, pairs-hold, pairs-rising}
+use Rattle.graphs.proofs.EdgeLemmas.{has_edge-turned, joined_is, joined_by, joined_no_pair}
 use Rattle.embed_contraction.specs.Contracted.{before_left, contracted_edge, IsContraction}
 use Rattle.embed_witnesses.specs.ContractedEdges.{contracted_among, contraction}
 

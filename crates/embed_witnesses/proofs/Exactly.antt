@@ -4,7 +4,7 @@ use Rattle.std.proofs.lemmas.Bool.{and_parts, or_cases, eqb-true}
 use Rattle.classes.specs.Classes.{same_class}
 use Rattle.map_lists.specs.Lists.{Lists}
 use Rattle.map_theory.specs.Maps.{IsSimpleMap, component_classes}
-use Rattle.graph6_text.specs.Graphs.{EdgeGraph, IsGraph, has_edge}
+use Rattle.graphs.specs.Graphs.{EdgeGraph, IsGraph, has_edge}
 use Rattle.convex_peeling.specs.Polyhedral.{IsThreeConnected}
 use Rattle.conn_parts.specs.GraphLists.{graph_lists}
 use Rattle.conn_parts.proofs.GraphLemmas.{length-graph_lists, dart_edge, edge_dart}

@@ -1,8 +1,8 @@
 -- There is an edge that can be contracted.
 use Rattle.std.proofs.Common.{ℕ, ◌≤◌, [], ◌∷◌, sym, ◌∙◌, inl, inr, arith}
 use Rattle.std.proofs.lemmas.Bool.{cases_order}
-use Rattle.graph6_text.specs.Graphs.{EdgeGraph, IsGraph}
-use Rattle.graph6_text.proofs.EdgeLemmas.{has_edge-turned}
+use Rattle.graphs.specs.Graphs.{EdgeGraph, IsGraph}
+use Rattle.graphs.proofs.EdgeLemmas.{has_edge-turned}
 use Rattle.convex_peeling.specs.Polyhedral.{IsThreeConnected}
 use Rattle.conn_parts.specs.GraphLists.{graph_lists}
 use Rattle.conn_parts.proofs.GraphLemmas.{dart_edge}

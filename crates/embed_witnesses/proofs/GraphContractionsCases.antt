@@ -1,7 +1,7 @@
 -- The definitions, run on worked cases: a wheel with the hub 0 and the rim 1, 2, 3, 4.
 use Rattle.std.proofs.Common.{◌≡◌, [], ◌∷◌, refl}
-use Rattle.graph6_text.specs.Graphs.{EdgeGraph}
-use Rattle.graph6_text.specs.Lines.{pairs}
+use Rattle.graphs.specs.Graphs.{EdgeGraph}
+use Rattle.graphs.specs.Bits.{pairs}
 use Rattle.conn_parts.specs.GraphLists.{graph_lists}
 use Rattle.embed_witnesses.specs.ContractedEdges.{contraction}
 

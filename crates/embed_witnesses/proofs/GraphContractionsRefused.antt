@@ -1,7 +1,7 @@
 -- Answers that wrong bodies would give: the clauses refuse them.
 use Rattle.std.proofs.Common.{◌≡◌, ◌≢◌, ℕ, ◌+◌, [], ◌∷◌, false, true, Contains, sym, inl, inr, refl, arith}
 use Rattle.classes.specs.Classes.{merge}
-use Rattle.graph6_text.specs.Graphs.{EdgeGraph}
+use Rattle.graphs.specs.Graphs.{EdgeGraph}
 use Rattle.convex_peeling.specs.Polyhedral.{IsThreeConnected}
 use Rattle.conn_parts.specs.GraphLists.{graph_lists}
 use Rattle.embed_witnesses.specs.Contractible.{IsContractibleEdge}

@@ -1,8 +1,8 @@
 -- The definitions, run on a worked case: in a path 0, 2, 1, 3 the ends 0 and 2 merged.
 use Rattle.std.proofs.Common.{◌≡◌, [], ◌∷◌, map, refl}
 use Rattle.std.specs.List.{range_with_len}
-use Rattle.graph6_text.specs.Graphs.{EdgeGraph}
-use Rattle.graph6_text.specs.Lines.{pairs}
+use Rattle.graphs.specs.Graphs.{EdgeGraph}
+use Rattle.graphs.specs.Bits.{pairs}
 use Rattle.embed_witnesses.specs.Merged.{merged, old_number}
 
 abbrev path : EdgeGraph

@@ -5,8 +5,8 @@ use Rattle.std.proofs.lemmas.Bool.{cases_lt, and_from, and_parts, or_cases, or_l
 use Rattle.std.proofs.lemmas.Bool.Decides.{nat_tests}
 use Rattle.std.proofs.lemmas.List.{get_or_past}
 use Rattle.std.proofs.lemmas.List.FromFn.{length-map-range_with_len, get_or-map-range_with_len}
-use Rattle.graph6_text.specs.Graphs.{Edge, EdgeGraph, IsGraph, has_edge}
-use Rattle.graph6_text.proofs.EdgeLemmas.{has_edge-turned, joined_is}
+use Rattle.graphs.specs.Graphs.{Edge, EdgeGraph, IsGraph, has_edge}
+use Rattle.graphs.proofs.EdgeLemmas.{has_edge-turned, joined_is}
 use Rattle.embed_contraction.specs.Contracted.{before_left, contracted_edge}
 use Rattle.embed_witnesses.specs.ContractedEdges.{contraction}
 use Rattle.embed_witnesses.proofs.ContractedLemmas.{AreEdges-filter, joined-filter, edge_within, IsContraction-contraction}

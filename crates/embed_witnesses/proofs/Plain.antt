@@ -6,9 +6,9 @@ use Rattle.std.proofs.lemmas.Bool.Decides.{nat_tests}
 use Rattle.std.proofs.lemmas.List.Elements.{Contains-append_left, Contains-append_right}
 use Rattle.std.proofs.lemmas.List.FromFn.{length-map-range_with_len, get_or-map-range_with_len}
 use Rattle.map_lists.specs.declared.ids.VertexId.{VertexId}
-use Rattle.graph6_text.specs.Graphs.{EdgeGraph, has_edge}
-use Rattle.graph6_text.proofs.EdgeLemmas.{has_edge-turned}
-use Rattle.graph6_text.proofs.BitLemmas.{below_six}
+use Rattle.graphs.specs.Graphs.{EdgeGraph, has_edge}
+use Rattle.graphs.proofs.EdgeLemmas.{has_edge-turned}
+use Rattle.graphs.proofs.BitLemmas.{below_six}
 use Rattle.kuratowski.specs.Witnesses.{branch_count, pair_at, vertex_at, path_at, IsInnerPlace, IsWitness}
 use Rattle.kuratowski.specs.declared.witness.Kind.{Kind}
 use Rattle.kuratowski.specs.declared.witness.Kind.TheVariants.{K5, K33}

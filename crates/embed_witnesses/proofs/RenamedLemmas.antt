@@ -2,7 +2,7 @@
 use Rattle.std.proofs.Common.{◌≡◌, ℕ, suc, ◌-◌, ◌<◌, List, [], ◌∷◌, ◌++◌, ◌+◌, take, get_or, length, sym, ap, ap₂, ◌∙◌, subst, arith}
 use Rattle.std.proofs.lemmas.List.{length-map, get_or-map, map-append, take_more}
 use Rattle.map_lists.specs.declared.ids.VertexId.{VertexId}
-use Rattle.graph6_text.specs.Graphs.{has_edge}
+use Rattle.graphs.specs.Graphs.{has_edge}
 use Rattle.kuratowski.specs.Witnesses.{pair_at, vertex_at, path_at, IsInnerPlace}
 use Rattle.embed_contraction.proofs.Traces.{pairs_within}
 use Rattle.embed_witnesses.specs.Renamed.{renamed_list, renamed_paths, RenamedWitness}

@@ -1,7 +1,7 @@
 -- A graph with an edge contracted.
 use Rattle.std.specs.Prelude.{ℕ, ◌-◌, List, filter}
-use Rattle.graph6_text.specs.Graphs.{Edge, EdgeGraph}
-use Rattle.graph6_text.specs.Lines.{pairs}
+use Rattle.graphs.specs.Graphs.{Edge, EdgeGraph}
+use Rattle.graphs.specs.Bits.{pairs}
 use Rattle.embed_contraction.specs.Contracted.{contracted_edge}
 
 -- those of some pairs that are edges after the edge of a and b is contracted

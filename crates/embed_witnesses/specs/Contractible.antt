@@ -1,6 +1,6 @@
 -- Edges of a graph that leave a three-connected graph when they are contracted.
 use Rattle.std.specs.Prelude.{ℕ, ◌<◌, ◌≤◌, ◌≡◌, ◌⊎◌, ◌↔◌, true}
-use Rattle.graph6_text.specs.Graphs.{EdgeGraph, IsGraph, has_edge}
+use Rattle.graphs.specs.Graphs.{EdgeGraph, IsGraph, has_edge}
 use Rattle.convex_peeling.specs.Polyhedral.{IsThreeConnected}
 use Rattle.conn_parts.specs.GraphLists.{graph_lists}
 use Rattle.embed_contraction.specs.Linked.{IsContractible}

@@ -1,6 +1,6 @@
 -- Witnesses of single edges, and witnesses that stay when an edge is contracted.
 use Rattle.std.specs.Prelude.{ℕ, ◌<◌, ◌≡◌, ◌⊎◌, true}
-use Rattle.graph6_text.specs.Graphs.{EdgeGraph, IsGraph, has_edge}
+use Rattle.graphs.specs.Graphs.{EdgeGraph, IsGraph, has_edge}
 use Rattle.kuratowski.specs.Witnesses.{branch_count, pair_at}
 use Rattle.kuratowski.specs.declared.witness.Kind.{Kind}
 use Rattle.embed_contraction.specs.Traces.{path_count, HasWitness}

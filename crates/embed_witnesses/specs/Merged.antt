@@ -1,7 +1,7 @@
 -- Graphs in which one end of an edge has the neighbours of both, and the other none.
 use Rattle.std.specs.Prelude.{ℕ, ◌+◌, Bool, ◌&&◌, ◌||◌, ◌==◌, not, nat_lt, if◌then◌else◌, filter}
-use Rattle.graph6_text.specs.Graphs.{EdgeGraph, has_edge}
-use Rattle.graph6_text.specs.Lines.{pairs}
+use Rattle.graphs.specs.Graphs.{EdgeGraph, has_edge}
+use Rattle.graphs.specs.Bits.{pairs}
 use Rattle.embed_contraction.specs.Contracted.{IsContractedBy}
 
 -- whether an edge joins u and v, where a has the neighbours of b too, and b none

@@ -1,7 +1,7 @@
 -- Witnesses with other numbers for their vertices.
 use Rattle.std.specs.Prelude.{ℕ, ◌<◌, ◌≡◌, true, List, map, slice_index_or}
 use Rattle.map_lists.specs.declared.ids.VertexId.{VertexId}
-use Rattle.graph6_text.specs.Graphs.{EdgeGraph, has_edge}
+use Rattle.graphs.specs.Graphs.{EdgeGraph, has_edge}
 use Rattle.kuratowski.specs.Witnesses.{IsWitness}
 use Rattle.kuratowski.specs.declared.witness.Kind.{Kind}
 use Rattle.kuratowski.specs.declared.witness.Witness.{Witness}

@@ -21,7 +21,7 @@ use Rattle.figure_text.specs.declared.line_shapes.Kind.{Kind}
 use Rattle.figure_text.specs.declared.line_shapes.Kind.TheVariants.{Grid, Bars, Rects, Witness}
 use Rattle.figure_text.specs.declared.figure_ends.Item.TheVariants.{Drawn}
 use Rattle.figure_text.specs.Words.{word_of, words_of, word_at}
-use Rattle.graph6_text.specs.Graphs.{EdgeGraph}
+use Rattle.graphs.specs.Graphs.{EdgeGraph}
 use Rattle.graph6_text.specs.Lines.{IsLine as IsGraphLine}
 use Rattle.graph6_text.proofs.LineLemmas.{lines_are_graphs}
 use Rattle.kuratowski.specs.declared.witness.Witness.{Witness as AWitness}

@@ -12,7 +12,7 @@ use Rattle.figure_text.specs.declared.fault.TextFault.TheVariants.{BadLine, EndI
 use Rattle.figure_text.specs.declared.figure_ends.Item.{Item}
 use Rattle.figure_text.specs.declared.figure_ends.Item.TheVariants.{Drawn, Note, End}
 use Rattle.figure_text.specs.Words.{words_of, part_at}
-use Rattle.graph6_text.specs.Graphs.{EdgeGraph}
+use Rattle.graphs.specs.Graphs.{EdgeGraph}
 use Rattle.graph6_text.proofs.LineLemmas.{one_graph}
 use Rattle.figure_text.specs.Lines.{rows_due, IsFirstLine, FirstInRange, IsColumnsLine, ColumnsInRange}
 use Rattle.figure_text.specs.Reading.{IsPlain, IsLine, Rows, RowsFail, is_note, of_lines, point_of, vertices_from}

@@ -6,8 +6,9 @@ use Rattle.std.proofs.lemmas.List.{length-map}
 use Rattle.std.proofs.lemmas.List.Elements.{All-nil, All-cons, All-append, All-map, All-weaker, All-get_or, All-from_recursion}
 use Rattle.map_lists.specs.Lists.{Lists}
 use Rattle.map_lists.specs.declared.ids.VertexId.{VertexId}
-use Rattle.graph6_text.specs.Graphs.{EdgeGraph}
-use Rattle.graph6_text.specs.Lines.{IsLine as IsGraphLine, count_form, IsLineByte}
+use Rattle.graphs.specs.Graphs.{EdgeGraph}
+use Rattle.graphs.specs.Bits.{IsLineByte}
+use Rattle.graph6_text.specs.Lines.{IsLine as IsGraphLine, count_form}
 use Rattle.graph6_text.specs.Faults.{line_fault}
 use Rattle.kuratowski.specs.declared.witness.Kind.{Kind as Subdivided}
 use Rattle.kuratowski.specs.declared.witness.Kind.TheVariants.{K5 as FiveJoined, K33 as ThreeByThree}

@@ -15,7 +15,7 @@ use Rattle.figure_text.specs.declared.figure_ends.Columns.{Columns}
 use Rattle.figure_text.specs.declared.figure_ends.Columns.TheVariants.{Good as GoodColumns, Bad as BadColumns, Limit as FarColumns, NoMemory as NoColumns}
 use Rattle.map_lists.specs.Lists.{Lists}
 use Rattle.map_lists.specs.declared.ids.VertexId.{VertexId}
-use Rattle.graph6_text.specs.Graphs.{EdgeGraph}
+use Rattle.graphs.specs.Graphs.{EdgeGraph}
 use Rattle.kuratowski.specs.declared.witness.Kind.{Kind as Subdivided}
 use Rattle.kuratowski.specs.declared.witness.Witness.{Witness as SubdivisionWitness}
 use Rattle.figure_text.specs.Words.{words_of}

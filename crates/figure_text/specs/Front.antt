@@ -1,6 +1,6 @@
 -- What a closed line is that stands outside a figure.
 use Rattle.std.specs.Prelude.{ℕ, ◌≡◌, ◌≤◌, IsTrue, IsFalse, List, Some}
-use Rattle.graph6_text.specs.Graphs.{EdgeGraph}
+use Rattle.graphs.specs.Graphs.{EdgeGraph}
 use Rattle.graph6_text.specs.Lines.{IsLine as IsGraphLine}
 use Rattle.figure_text.specs.declared.line_shapes.Kind.{Kind}
 use Rattle.figure_text.specs.declared.first_lines.Front.{Front}

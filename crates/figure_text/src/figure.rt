@@ -1,6 +1,6 @@
 //! The kinds of figure that a text may hold, as the types `Figure` and `GridJob`.
 
-use graph6_text::Graph;
+use graphs::Graph;
 use kuratowski::Witness;
 use map_lists::Rotations;
 use pg_plane::{BarFigure, Points, RectFigure};

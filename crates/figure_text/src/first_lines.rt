@@ -13,7 +13,8 @@ use crate::line_shapes::{
 };
 use crate::line_words::{Word, fill_front};
 use crate::text_lines::is_note;
-use graph6_text::{G6Fault, Graph, lines_are_graphs, read_line};
+use graph6_text::{G6Fault, lines_are_graphs, read_line};
+use graphs::Graph;
 use std::alloc::{AllocError, Global};
 
 /// A closed line that stands outside a figure, judged.

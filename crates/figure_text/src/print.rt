@@ -9,7 +9,7 @@ use crate::number_texts::{Numerals, Texts};
 use crate::vertex_print::{Numbered, write_lines};
 use crate::witness_print::push_witness;
 use crate::{Figure, GridJob};
-use graph6_text::Graph;
+use graphs::Graph;
 use itoa::Buffer;
 use kuratowski::Witness;
 use map_lists::Rotations;

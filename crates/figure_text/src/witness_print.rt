@@ -4,7 +4,8 @@ ghost use Rattle.graph6_text.specs.Lines.{IsLine as IsGraphLine};
 ghost use Rattle.figure_text.specs.Text.{kind_word, witness_lines, witness_text};
 
 use crate::print::{Printer, push_next};
-use graph6_text::{Graph, write_line};
+use graph6_text::write_line;
+use graphs::Graph;
 use kuratowski::{Kind, Witness};
 use map_lists::VertexId;
 use std::alloc::{AllocError, Global};

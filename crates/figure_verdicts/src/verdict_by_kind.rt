@@ -18,7 +18,7 @@ use crate::drawing_verdicts::{MapDrawing, is_drawn_triangulation};
 use bar_check::{BarVerdict, check_bars};
 use conn_parts::counted_map;
 use figure_text::{Figure, GridJob};
-use graph6_text::Graph;
+use graphs::Graph;
 use half_edges::{HalfMap, MapFault};
 use kuratowski::{Witness, WitnessVerdict, check_witness};
 use map_lists::Rotations;

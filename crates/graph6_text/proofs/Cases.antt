@@ -1,19 +1,10 @@
--- Worked cases: the lines of two graphs, and faults.
+-- Worked cases: counts, faults and a header.
 use Rattle.std.proofs.Common.{◌≡◌, [], ◌∷◌, Some, None, refl}
-use Rattle.graph6_text.specs.Lines.{pair_place, pair_count, body_length, has_bit, is_set, pairs, edges_of, count_form}
+use Rattle.graphs.specs.Bits.{pair_count, body_length}
+use Rattle.graph6_text.specs.Lines.{count_form}
 use Rattle.graph6_text.specs.Faults.{line_fault}
 use Rattle.graph6_text.specs.Header.{header_length}
 use Rattle.graph6_text.specs.declared.graph6_lines.G6Fault.TheVariants.{BadByte, LongCount, TooMany, ShortLine, ExtraByte, Padding}
-
--- K3,3 is the line EFz_: the bits 000111 111011 100 and three zeros
-bipartite : edges_of 6 (70 ∷ 122 ∷ 95 ∷ []) ≡ (0, 3) ∷ (0, 4) ∷ (0, 5) ∷ (1, 3) ∷ (1, 4) ∷ (1, 5) ∷ (2, 3) ∷ (2, 4) ∷ (2, 5) ∷ []
-unfolding edges_of pairs is_set has_bit pair_place
-bipartite = refl
-
--- the cycle 0 1 2 3 is the line Cl
-cycle : edges_of 4 (108 ∷ []) ≡ (0, 1) ∷ (0, 3) ∷ (1, 2) ∷ (2, 3) ∷ []
-unfolding edges_of pairs is_set has_bit pair_place
-cycle = refl
 
 -- the forms of counts
 short_count : count_form 62 ≡ 125 ∷ []

@@ -1,5 +1,2 @@
-pub mod BitLemmas
-pub mod PairLemmas
-pub mod EdgeLemmas
 pub mod LineLemmas
 mod Cases

@@ -7,14 +7,15 @@ use Rattle.std.proofs.lemmas.Bool.Decides.{nat_tests}
 use Rattle.std.proofs.Math.Seq.{drop-append_seam}
 use Rattle.std.proofs.lemmas.List.{ext_get_or, get_or-drop, get_or-append_right}
 use Rattle.std.proofs.lemmas.List.Elements.{All-nil, All-cons, All-head, All-tail, All-append}
-use Rattle.graph6_text.specs.Graphs.{Edge, EdgeGraph, AreEdges, joins}
-use Rattle.graph6_text.specs.Lines.{pair_count, body_length, has_bit, is_set, IsLineByte, IsBody, IsLine, edges_of, count_form}
+use Rattle.graphs.specs.Graphs.{Edge, EdgeGraph, AreEdges, joins}
+use Rattle.graphs.specs.Bits.{pair_count, body_length, has_bit, is_set, IsLineByte, IsBody, edges_of}
+use Rattle.graph6_text.specs.Lines.{IsLine, count_form}
 use Rattle.graph6_text.specs.Faults.{is_bad_byte, four_byte_start, long_rest, long_start, line_start, is_padded, body_fault, rest_fault, fault_from, line_fault}
 use Rattle.graph6_text.specs.Laws.{OneGraph, OneLine, LinesAreGraphs}
 use Rattle.graph6_text.specs.declared.graph6_lines.G6Fault.{G6Fault}
 use Rattle.graph6_text.specs.declared.graph6_lines.G6Fault.TheVariants.{LongCount, TooMany}
-use Rattle.graph6_text.proofs.BitLemmas.{below_six, byte_by_bits, pair_at, body_length-bounds}
-use Rattle.graph6_text.proofs.EdgeLemmas.{is_set-past, AreEdges-edges_of, joined_as_bit}
+use Rattle.graphs.proofs.BitLemmas.{below_six, byte_by_bits, pair_at, body_length-bounds}
+use Rattle.graphs.proofs.EdgeLemmas.{is_set-past, AreEdges-edges_of, joined_as_bit}
 
 -- ---- the range of the bytes
 good_byte : (b : ℕ) → is_bad_byte b ≡ false → IsLineByte b

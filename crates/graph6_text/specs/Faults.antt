@@ -1,6 +1,6 @@
 -- What is wrong with bytes that are no line: the first fault, in the order of the tests.
 use Rattle.std.specs.Prelude.{ℕ, ◌+◌, ◌-◌, ◌*◌, ◌%◌, ◌^◌, ◌≡◌, ◌==◌, Bool, ◌||◌, nat_lt, if◌then◌else◌, List, [], ◌∷◌, length, slice_index, position, Option, Some, None, Result, Ok, Err}
-use Rattle.graph6_text.specs.Lines.{pair_count, body_length}
+use Rattle.graphs.specs.Bits.{pair_count, body_length}
 use Rattle.graph6_text.specs.declared.graph6_lines.G6Fault.{G6Fault}
 use Rattle.graph6_text.specs.declared.graph6_lines.G6Fault.TheVariants.{BadByte, LongCount, TooMany, ShortLine, ExtraByte, Padding, NoMemory}
 

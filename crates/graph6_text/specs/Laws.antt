@@ -1,6 +1,6 @@
 -- What lines and graphs have to do with each other.
 use Rattle.std.specs.Prelude.{ℕ, ◌≡◌, List, None}
-use Rattle.graph6_text.specs.Graphs.{EdgeGraph, IsGraph}
+use Rattle.graphs.specs.Graphs.{EdgeGraph, IsGraph}
 use Rattle.graph6_text.specs.Lines.{IsLine}
 use Rattle.graph6_text.specs.Faults.{line_fault}
 

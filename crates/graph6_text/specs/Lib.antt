@@ -1,5 +1,4 @@
--- Graphs by their edges, and the lines of text that they are.
-pub mod Graphs
+-- Lines of text that are graphs, and what is wrong with others.
 pub mod Lines
 pub mod Faults
 pub mod Laws

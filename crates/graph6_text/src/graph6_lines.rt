@@ -1,11 +1,12 @@
 //! Reads and writes graph6 lines, with their faults as the type `G6Fault`.
 ghost use Rattle.std.specs.Prelude.{◌≡◌, ◌≤◌, ◌+◌, ◌-◌, ◌*◌, ◌++◌, ◌∷◌, List, ℕ, length, position, IfOk, IfErr, OnErr, IfSome, IfNone, All, None, Ok};
-ghost use Rattle.graph6_text.specs.Graphs.{EdgeGraph};
-ghost use Rattle.graph6_text.specs.Lines.{IsLine, IsLineByte, IsBody, count_form};
+ghost use Rattle.graphs.specs.Graphs.{EdgeGraph};
+ghost use Rattle.graphs.specs.Bits.{IsLineByte, IsBody};
+ghost use Rattle.graph6_text.specs.Lines.{IsLine, count_form};
 ghost use Rattle.graph6_text.specs.Faults.{NamesFault, is_bad_byte, line_start as start_of, four_byte_start as four_byte_of, is_padded as is_padded_for, body_fault as fault_of_body};
 
-use crate::Graph;
-use crate::bits::{body_length, spare_bits};
+use graphs::Graph;
+use graphs::bits::{body_length, spare_bits};
 use std::alloc::{AllocError, Global};
 
 /// Why bytes are no line of a graph with at most 255 vertices.

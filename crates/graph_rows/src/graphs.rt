@@ -1,12 +1,13 @@
 //! Answers test rows on bare graphs: graph6 lines, edges, cuts and contracted edges.
 ghost use Rattle.std.specs.Prelude.{◌≡◌, ◌<◌, IfSome, true};
-ghost use Rattle.graph6_text.specs.Graphs.{has_edge};
+ghost use Rattle.graphs.specs.Graphs.{has_edge};
 
 use crate::{searches, witnesses};
 use conn_parts::graph_cuts::{graph_components, graph_cut_vertex, graph_separating_pair};
 use embed_witnesses::contracted_graphs::contract;
 use embed_witnesses::graph_contractions::{contractible_edge, is_three_connected};
-use graph6_text::{Graph, after_graph_header, read_line, write_line};
+use graph6_text::{after_graph_header, read_line, write_line};
+use graphs::Graph;
 use map_lists::{Ends, VertexId};
 use row_texts::bytes::{lines_of, put_bytes};
 use row_texts::fault_texts::{put_pair, put_vertex, tell_line_fault, tell_no_memory};

@@ -1,11 +1,11 @@
 //! Answers test rows on Kuratowski witnesses: checked, and lifted from a contracted graph.
 ghost use Rattle.std.specs.Prelude.{◌≡◌, true};
-ghost use Rattle.graph6_text.specs.Graphs.{has_edge};
+ghost use Rattle.graphs.specs.Graphs.{has_edge};
 
 use crate::graphs::edge_of;
 use embed_witnesses::contracted_graphs::contract;
 use embed_witnesses::lifted_witnesses::lift;
-use graph6_text::Graph;
+use graphs::Graph;
 use kuratowski::{Kind, Witness, WitnessVerdict, check_witness};
 use map_lists::Ends;
 use row_texts::fault_texts::tell_no_memory;

@@ -1,7 +1,7 @@
 -- What may be wrong with a witness, and where. All numbers are from 0.
 use Rattle.std.specs.Prelude.{ℕ, suc, ◌<◌, ◌≤◌, ◌≡◌, ◌⊎◌, false, List, length}
 use Rattle.map_lists.specs.declared.ids.VertexId.{VertexId}
-use Rattle.graph6_text.specs.Graphs.{EdgeGraph, has_edge}
+use Rattle.graphs.specs.Graphs.{EdgeGraph, has_edge}
 use Rattle.kuratowski.specs.Witnesses.{vertex_at, path_at, IsInnerPlace}
 
 -- a branch stands at an earlier place too

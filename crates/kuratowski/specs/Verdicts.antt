@@ -1,7 +1,7 @@
 -- The verdict on a witness: the first kind of fault that it has, with the least numbers; these are counted from 1.
 use Rattle.std.specs.Prelude.{ℕ, ◌-◌, ◌<◌, ◌≤◌, List}
 use Rattle.map_lists.specs.declared.ids.VertexId.{VertexId}
-use Rattle.graph6_text.specs.Graphs.{EdgeGraph}
+use Rattle.graphs.specs.Graphs.{EdgeGraph}
 use Rattle.kuratowski.specs.Witnesses.{IsShape, IsWitness}
 use Rattle.kuratowski.specs.Faults.{IsBadBranch, LacksEdge, IsShared}
 use Rattle.kuratowski.specs.declared.witness.Kind.{Kind}

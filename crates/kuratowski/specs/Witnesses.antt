@@ -1,7 +1,7 @@
 -- Kuratowski witnesses: a subdivision of K5 or of K3,3 in a graph.
 use Rattle.std.specs.Prelude.{ℕ, suc, ◌-◌, ◌<◌, ◌≤◌, ◌≡◌, ◌≢◌, true, List, [], ◌∷◌, length, slice_index_or}
 use Rattle.map_lists.specs.declared.ids.VertexId.{VertexId}
-use Rattle.graph6_text.specs.Graphs.{EdgeGraph, has_edge}
+use Rattle.graphs.specs.Graphs.{EdgeGraph, has_edge}
 use Rattle.kuratowski.specs.declared.witness.Kind.{Kind}
 use Rattle.kuratowski.specs.declared.witness.Kind.TheVariants.{K5, K33}
 

@@ -8,7 +8,7 @@ use crate::branches::bad_branch;
 use crate::inner_vertices::shared;
 use crate::path_edges::missing_edge;
 use crate::shape::has_shape;
-use graph6_text::Graph;
+use graphs::Graph;
 use map_lists::VertexId;
 
 /// The verdict on a witness: yes, or the first fault of the first kind it has. Positions and paths are counted from 1.

@@ -1,11 +1,11 @@
 //! Whether the paths of a witness go along edges of the graph.
 ghost use Rattle.std.specs.Prelude.{◌≡◌, ◌+◌, ◌^◌, ◌<◌, ◌≤◌, ◌↔◌, ℕ, suc, true, false, length, IsTrue, IfSome, MatchOption};
-ghost use Rattle.graph6_text.specs.Graphs.{has_edge};
+ghost use Rattle.graphs.specs.Graphs.{has_edge};
 ghost use Rattle.kuratowski.specs.Witnesses.{vertex_at as vertex_of};
 ghost use Rattle.kuratowski.specs.Faults.{LacksEdge};
 ghost use Rattle.kuratowski.specs.Verdicts.{LacksNone, IsLeast, IsLeastPair};
 
-use graph6_text::Graph;
+use graphs::Graph;
 use map_lists::{PathList, VertexId};
 
 /// Returns the first path, and the first index in it, at which no edge of `graph` leads to the next vertex, or None.

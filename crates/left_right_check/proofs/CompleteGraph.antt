@@ -1,7 +1,7 @@
 -- The complete graph on five vertices: sides that cannot be, in the forest that is a line from 0 to 4.
 use Rattle.std.proofs.Common.{◌≡◌, ℕ, zero, suc, true, false, List, [], ◌∷◌, length, get_or, refl, sym, ap₂, subst, ◌∙◌, inl, inr, arith}
-use Rattle.graph6_text.specs.Graphs.{EdgeGraph}
-use Rattle.graph6_text.specs.Lines.{pair_place, has_bit, is_set, pairs, edges_of}
+use Rattle.graphs.specs.Graphs.{EdgeGraph}
+use Rattle.graphs.specs.Bits.{pair_place, has_bit, is_set, pairs, edges_of}
 use Rattle.left_right_check.specs.Ties.{ReturnsBy, AreTied, HasNoMap}
 use Rattle.left_right_check.proofs.TieLemmas.{forest_by_places, placed_past, alike_by_fork, opposite_by_fork, AreTied-more, HasNoMap-odd, IsPlaced}
 

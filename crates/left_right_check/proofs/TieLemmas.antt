@@ -3,7 +3,7 @@ use Rattle.std.proofs.Common.{◌≡◌, ◌≢◌, ℕ, zero, suc, ◌-◌, ◌
 use Rattle.std.proofs.lemmas.List.{get_or_past}
 use Rattle.map_lists.specs.Lists.{Lists}
 use Rattle.map_theory.specs.Maps.{HasDart}
-use Rattle.graph6_text.specs.Graphs.{EdgeGraph}
+use Rattle.graphs.specs.Graphs.{EdgeGraph}
 use Rattle.left_right_laws.specs.Forests.{up, IsForest, IsAbove, IsBranch, IsReturn, IsLeftRight}
 use Rattle.left_right_laws.proofs.Forks.{plane_is_left_right}
 use Rattle.embed_theorem.specs.Expanded.{HasJustEdges}

@@ -1,7 +1,7 @@
 -- Sides that edges of a graph have in each partition into left and right.
 use Rattle.std.specs.Prelude.{ℕ, ◌≡◌, Bool, true, not, if◌then◌else◌, List, slice_index}
 use Rattle.map_lists.specs.Lists.{Lists}
-use Rattle.graph6_text.specs.Graphs.{EdgeGraph, has_edge}
+use Rattle.graphs.specs.Graphs.{EdgeGraph, has_edge}
 use Rattle.left_right_laws.specs.Forests.{IsForest, IsReturn, IsLeftRight}
 use Rattle.embed_theorem.specs.Expanded.{IsMapOf}
 

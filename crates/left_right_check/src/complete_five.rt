@@ -2,7 +2,7 @@
 ghost use Rattle.std.specs.Prelude.{IsTrue};
 ghost use Rattle.left_right_check.specs.Ties.{HasNoMap};
 
-use graph6_text::Graph;
+use graphs::Graph;
 
 // The ten bits of the edges of K5 as the two bytes of a graph6 line, six bits a byte.
 const ALL: [u8; 2] = [126, 123];

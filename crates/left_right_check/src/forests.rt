@@ -3,7 +3,7 @@ ghost use Rattle.std.specs.Prelude.{◌≡◌, slice_index, IsTrue};
 ghost use Rattle.left_right_laws.specs.Forests.{up, IsAbove, IsBranch};
 ghost use Rattle.left_right_check.specs.Ties.{IsForestOf, ReturnsBy};
 
-use graph6_text::Graph;
+use graphs::Graph;
 use map_lists::VertexId;
 
 /// A return edge, or back edge: from a vertex to an ancestor of it.

@@ -4,7 +4,7 @@ use Rattle.std.proofs.lemmas.Bool.{cases_eq, true≢false}
 use Rattle.std.proofs.lemmas.List.Elements.{Contains-append_cases, Contains-append_left, Contains-append_right}
 use Rattle.std.proofs.Math.Seq.{take-suc}
 use Rattle.map_theory.specs.Maps.{Dart}
-use Rattle.graph6_text.specs.Graphs.{EdgeGraph}
+use Rattle.graphs.specs.Graphs.{EdgeGraph}
 use Rattle.left_right_maps.proofs.Inserts.{none_in_none, here, there, here_or_there}
 use Rattle.left_right_lists.specs.Groups.{Demand, IsRising, HasLower, IsDemanded, Group}
 use Rattle.std.specs.Prelude.{eqb}

@@ -5,7 +5,7 @@ use Rattle.std.proofs.lemmas.Bool.{cases_Bool, cases_eq, cond-true, cond-false}
 use Rattle.std.proofs.lemmas.List.{get_or-append-add}
 use Rattle.map_lists.specs.Lists.{Lists}
 use Rattle.map_theory.specs.Maps.{Dart, list_of}
-use Rattle.graph6_text.specs.Graphs.{EdgeGraph, has_edge}
+use Rattle.graphs.specs.Graphs.{EdgeGraph, has_edge}
 use Rattle.plane_laws.proofs.KeptEdges.{same_kept}
 use Rattle.embed_theorem.specs.Expanded.{IsMapOf}
 use Rattle.left_right_maps.specs.RootedMaps.{is_child, joined as joined_lists}

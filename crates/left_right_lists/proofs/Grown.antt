@@ -6,7 +6,7 @@ use Rattle.std.proofs.lemmas.Bool.{cases_Bool, cases_eq, cases_lt, cond-false, t
 use Rattle.std.proofs.lemmas.List.{get_or_past}
 use Rattle.map_lists.specs.Lists.{Lists}
 use Rattle.graph_search.specs.Forests.{IsForestOf}
-use Rattle.graph6_text.specs.Graphs.{EdgeGraph, IsGraph, has_edge}
+use Rattle.graphs.specs.Graphs.{EdgeGraph, IsGraph, has_edge}
 use Rattle.conn_parts.specs.GraphLists.{graph_lists}
 use Rattle.conn_parts.proofs.GraphLemmas.{length-graph_lists}
 use Rattle.plane_laws.specs.Kept.{with_kept}

@@ -5,8 +5,8 @@ use Rattle.std.proofs.lemmas.List.{get_or_past, get_or-set_same, get_or-set_othe
 use Rattle.map_lists.specs.Lists.{Lists}
 use Rattle.graph_search.specs.Forests.{Holds, IsForest, IsForestOf}
 use Rattle.graph_search.proofs.ForestLemmas.{same_vertex}
-use Rattle.graph6_text.specs.Graphs.{EdgeGraph, IsGraph, has_edge}
-use Rattle.graph6_text.proofs.EdgeLemmas.{has_edge-turned}
+use Rattle.graphs.specs.Graphs.{EdgeGraph, IsGraph, has_edge}
+use Rattle.graphs.proofs.EdgeLemmas.{has_edge-turned}
 use Rattle.conn_parts.specs.GraphLists.{graph_lists}
 use Rattle.conn_parts.proofs.GraphLemmas.{length-graph_lists, dart_edge, edge_dart, IsSimpleMap-graph_lists}
 use Rattle.left_right_laws.specs.Forests.{IsAbove}

@@ -3,7 +3,7 @@ use Rattle.std.proofs.Common.{◌≡◌, ◌≢◌, ◌↔◌, ℕ, ◌+◌, ◌
 use Rattle.std.proofs.lemmas.Bool.{cases_eq, cases_lt}
 use Rattle.std.proofs.lemmas.List.{get_or_past}
 use Rattle.map_theory.specs.Maps.{Dart}
-use Rattle.graph6_text.specs.Graphs.{EdgeGraph}
+use Rattle.graphs.specs.Graphs.{EdgeGraph}
 use Rattle.left_right_laws.specs.Forests.{up}
 use Rattle.left_right_maps.proofs.Lines.{above_same, IsBelow, branch_below}
 use Rattle.left_right_check.specs.Ties.{turned}

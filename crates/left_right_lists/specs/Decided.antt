@@ -1,6 +1,6 @@
 -- Graphs that have a map of genus zero.
 use Rattle.map_lists.specs.Lists.{Lists}
-use Rattle.graph6_text.specs.Graphs.{EdgeGraph}
+use Rattle.graphs.specs.Graphs.{EdgeGraph}
 use Rattle.embed_theorem.specs.Expanded.{IsMapOf}
 
 -- a graph has a map of genus zero

@@ -1,7 +1,7 @@
 -- Groups of edges whose sides are known of each other, as a table by edge.
 use Rattle.std.specs.Prelude.{ℕ, ◌+◌, ◌*◌, ◌<◌, ◌≡◌, ◌≢◌, Bool, true, false, not, List, length, slice_index, slice_index_or, Contains, ◌⊎◌}
 use Rattle.map_theory.specs.Maps.{Dart}
-use Rattle.graph6_text.specs.Graphs.{EdgeGraph}
+use Rattle.graphs.specs.Graphs.{EdgeGraph}
 use Rattle.left_right_laws.specs.Forests.{IsReturn}
 use Rattle.left_right_maps.specs.Orders.{IsEdge}
 use Rattle.left_right_check.specs.Ties.{turned}

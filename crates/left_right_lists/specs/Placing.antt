@@ -2,7 +2,7 @@
 use Rattle.std.specs.Prelude.{ℕ, ◌-◌, ◌<◌, ◌≡◌, Bool, true, false, cond, not, eqb, List, ◌∷◌, ◌++◌, length, slice_index, slice_index_or, filter, []}
 use Rattle.map_lists.specs.Lists.{Lists}
 use Rattle.map_theory.specs.Maps.{Dart}
-use Rattle.graph6_text.specs.Graphs.{EdgeGraph, has_edge}
+use Rattle.graphs.specs.Graphs.{EdgeGraph, has_edge}
 use Rattle.left_right_maps.specs.RootedMaps.{is_child}
 use Rattle.left_right_lists.specs.Trees.{joined}
 use Rattle.left_right_lists.specs.Groups.{Group}

@@ -1,7 +1,7 @@
 -- Depth-first trees of graphs, as tables. Where a graph has several parts, edges from the root to a vertex of each other part make them one tree.
 use Rattle.std.specs.Prelude.{ℕ, ◌+◌, ◌<◌, ◌≤◌, ◌≡◌, Bool, ◌||◌, not, eqb, ◌&&◌, cond, List, length, slice_index}
 use Rattle.map_lists.specs.Lists.{Lists}
-use Rattle.graph6_text.specs.Graphs.{EdgeGraph, has_edge}
+use Rattle.graphs.specs.Graphs.{EdgeGraph, has_edge}
 use Rattle.plane_laws.specs.Kept.{with_kept}
 use Rattle.left_right_laws.specs.Forests.{up, IsLeftRight}
 use Rattle.left_right_maps.specs.Orders.{IsEdge}

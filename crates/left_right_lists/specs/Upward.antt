@@ -1,7 +1,7 @@
 -- A graph's tree with the edges that lead upwards.
 use Rattle.std.specs.Prelude.{◌↔◌, Contains}
 use Rattle.map_theory.specs.Maps.{Dart}
-use Rattle.graph6_text.specs.Graphs.{EdgeGraph}
+use Rattle.graphs.specs.Graphs.{EdgeGraph}
 use Rattle.left_right_lists.specs.Trees.{IsTreeOf}
 use Rattle.left_right_lists.specs.Groups.{IsRising}
 use Rattle.left_right_lists.specs.declared.return_edges.Upward.{Upward}

@@ -6,7 +6,7 @@ ghost use Rattle.left_right_lists.specs.Decided.{HasMap};
 
 use crate::fork_demands::sides_of;
 use crate::return_edges::{RootedGraph, upward_of};
-use graph6_text::Graph;
+use graphs::Graph;
 use map_lists::Rotations;
 use std::alloc::{AllocError, Global};
 

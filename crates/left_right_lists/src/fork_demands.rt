@@ -7,7 +7,7 @@ ghost use Rattle.left_right_lists.specs.Groups.{Demand, Returns, HasLower, IsDem
 
 use crate::return_edges::{RootedGraph, Upward, push_if};
 use crate::side_groups::{single_groups, tie_all};
-use graph6_text::Graph;
+use graphs::Graph;
 use left_right_check::entry;
 use std::alloc::{AllocError, Global};
 

@@ -7,7 +7,7 @@ ghost use Rattle.left_right_lists.specs.Groups.{IsRising, Returns};
 ghost use Rattle.left_right_lists.specs.Upward.{IsUpward};
 
 use crate::tree::{Tree, tree_of};
-use graph6_text::Graph;
+use graphs::Graph;
 use left_right_check::{after_steps, entry};
 use map_lists::VertexId;
 use std::alloc::{AllocError, Global};

@@ -6,7 +6,7 @@ use crate::joined_forest::JoinedForest;
 use crate::search_depths::depths_of;
 use conn_parts::graph_cuts::graph_lists;
 use graph_search::search_forests::search_forest;
-use graph6_text::Graph;
+use graphs::Graph;
 use left_right_check::entry;
 use std::alloc::{AllocError, Global};
 

@@ -3,7 +3,7 @@
 use crate::dart_lists::Links;
 use crate::fixed_tables::{NONE, minus, plus, twice};
 use crate::search_tables::Search;
-use graph6_text::Graph;
+use graphs::Graph;
 
 /// The greatest number of vertices of a graph that is read as bits. The bits of one vertex fewer, and those of a
 /// byte, fit in one number.

@@ -7,7 +7,7 @@ use crate::dart_lists::Links;
 use crate::fixed_tables::{ByVertex, NONE};
 use crate::planarity_test::LeftRightTest;
 use crate::search_tables::Search;
-use graph6_text::Graph;
+use graphs::Graph;
 use left_right_check::{Fork, Pair, ReturnEdge, RootedForest, is_forest, turned};
 
 /// The rooted forest of a search, by parents and depths.

@@ -2,7 +2,7 @@
 use crate::bitwise_orientation::{FEW, Few};
 use crate::dart_lists::Links;
 use crate::fixed_tables::{ByEdge, minus, plus, twice};
-use graph6_text::Graph;
+use graphs::Graph;
 
 /// The edges of a graph by number, each with its two ends.
 #[derive(Drop)]

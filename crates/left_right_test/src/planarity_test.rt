@@ -12,7 +12,7 @@ use crate::fixed_tables::NONE;
 use crate::graph_edges::Edges;
 use crate::orientation::orient_all;
 use crate::search_tables::Search;
-use graph6_text::Graph;
+use graphs::Graph;
 use left_right_check::is_k5;
 use map_lists::Rotations;
 use std::alloc::AllocError;

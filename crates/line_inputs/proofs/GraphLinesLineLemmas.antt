@@ -5,7 +5,7 @@ use Rattle.std.proofs.lemmas.List.Elements.{All-append, All-drop}
 use Rattle.std.proofs.Math.Seq.{take-append-add}
 use Rattle.std.specs.Prelude.{Some}
 use Rattle.record_runs.specs.Texts.{input_limit}
-use Rattle.graph6_text.specs.Graphs.{EdgeGraph}
+use Rattle.graphs.specs.Graphs.{EdgeGraph}
 use Rattle.graph6_text.specs.Header.{graph_header, header_length}
 use Rattle.graph6_text.specs.Lines.{IsLine}
 use Rattle.graph6_text.specs.declared.graph6_lines.G6Fault.{G6Fault}

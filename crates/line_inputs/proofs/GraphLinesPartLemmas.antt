@@ -2,7 +2,7 @@
 use Rattle.std.proofs.Common.{◌≡◌, ◌≢◌, ℕ, ◌+◌, ◌<◌, ◌≤◌, Bool, List, [], ◌∷◌, ◌++◌, length, take, get_or, sym, ap, ◌∙◌, subst, arith, append_assoc, length-append}
 use Rattle.std.proofs.lemmas.List.{take_more, take_all, length-take-le}
 use Rattle.record_runs.specs.Texts.{input_limit}
-use Rattle.graph6_text.specs.Graphs.{EdgeGraph}
+use Rattle.graphs.specs.Graphs.{EdgeGraph}
 use Rattle.line_inputs.proofs.FigureLinesPartLemmas.{IsPlain-front}
 use Rattle.line_inputs.specs.GraphLinesProgress.{Progress, Closes}
 use Rattle.line_inputs.specs.declared.graph_lines.open_line.Judged.{Judged}

@@ -2,7 +2,7 @@
 use Rattle.std.proofs.Common.{◌≡◌, ℕ, ◌-◌, ◌<◌, ◌≤◌, Bool, true, false, List, [], ◌∷◌, ◌++◌, length, take, refl, sym, subst, arith, inr, length-append}
 use Rattle.std.proofs.lemmas.List.{take_all, take_at}
 use Rattle.record_runs.specs.Texts.{input_limit}
-use Rattle.graph6_text.specs.Graphs.{EdgeGraph}
+use Rattle.graphs.specs.Graphs.{EdgeGraph}
 use Rattle.figure_text.specs.Reading.{IsPlain}
 use Rattle.line_inputs.specs.GraphLinesReading.{first_bytes, lines_in, HasLines, EndsAs, BeginsWith, IsReading}
 use Rattle.line_inputs.specs.GraphLinesProgress.{Stands, behind_header}

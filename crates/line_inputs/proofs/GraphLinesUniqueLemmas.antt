@@ -3,7 +3,7 @@ use Rattle.std.proofs.Common.{◌≡◌, ℕ, zero, suc, ◌+◌, ◌<◌, ◌�
 use Rattle.std.specs.Prelude.{◌⊎◌, Option, Some, None}
 use Rattle.std.proofs.lemmas.Bool.{cases_lt}
 use Rattle.record_runs.specs.Texts.{input_limit}
-use Rattle.graph6_text.specs.Graphs.{EdgeGraph}
+use Rattle.graphs.specs.Graphs.{EdgeGraph}
 use Rattle.graph6_text.specs.Lines.{IsLine}
 use Rattle.graph6_text.specs.Faults.{line_fault}
 use Rattle.graph6_text.specs.declared.graph6_lines.G6Fault.{G6Fault}

@@ -1,6 +1,6 @@
 -- Lines of graphs as a format of runs.
 use Rattle.record_runs.specs.Texts.{Reads}
-use Rattle.graph6_text.specs.Graphs.{EdgeGraph}
+use Rattle.graphs.specs.Graphs.{EdgeGraph}
 use Rattle.line_inputs.specs.GraphLinesReading.{IsReading, BeginsWith}
 use Rattle.line_inputs.specs.declared.graph_lines.ending.Ending.{Ending}
 use Rattle.line_inputs.specs.declared.graph_lines.ending.Ending.TheVariants.{Well, BadLine, Limit, TooLong}

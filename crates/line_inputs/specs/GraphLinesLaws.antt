@@ -1,6 +1,6 @@
 -- Laws on how inputs of lines are read.
 use Rattle.std.specs.Prelude.{ℕ, ◌≡◌, List}
-use Rattle.graph6_text.specs.Graphs.{EdgeGraph}
+use Rattle.graphs.specs.Graphs.{EdgeGraph}
 use Rattle.line_inputs.specs.GraphLinesReading.{IsReading}
 use Rattle.line_inputs.specs.declared.graph_lines.ending.Ending.{Ending}
 

@@ -1,7 +1,7 @@
 -- How an input of graph6 lines is read: as graphs, and one ending.
 use Rattle.std.specs.Prelude.{ℕ, ◌+◌, ◌<◌, ◌≤◌, ◌≡◌, ◌⊎◌, List, [], ◌∷◌, ◌++◌, length, take, drop, Some}
 use Rattle.record_runs.specs.Texts.{input_limit}
-use Rattle.graph6_text.specs.Graphs.{EdgeGraph}
+use Rattle.graphs.specs.Graphs.{EdgeGraph}
 use Rattle.graph6_text.specs.Header.{header_length}
 use Rattle.graph6_text.specs.Lines.{IsLine}
 use Rattle.graph6_text.specs.Faults.{line_fault}

@@ -1,6 +1,6 @@
 -- What contracts see of a reader, and what pieces do to it.
 use Rattle.std.specs.Prelude.{ℕ, ◌<◌, ◌≤◌, ◌≡◌, Bool, List, [], ◌∷◌, ◌++◌, length, take}
-use Rattle.graph6_text.specs.Graphs.{EdgeGraph}
+use Rattle.graphs.specs.Graphs.{EdgeGraph}
 use Rattle.line_inputs.specs.GraphLinesProgress.{Progress, Closes, behind_header}
 use Rattle.line_inputs.specs.declared.graph_lines.ending.Ending.{Ending}
 use Rattle.line_inputs.specs.declared.graph_lines.ending.Ending.TheVariants.{Well, BadLine}

@@ -3,7 +3,7 @@ use Rattle.std.proofs.Common.{◌<◌, ◌≤◌, ◌↔◌, Bool, IsTrue, ℕ, 
 use Rattle.std.specs.List.{All, AllPairs}
 use Rattle.std.proofs.lemmas.List.Elements.{All-nil, All-cons, All-head, All-tail}
 use Rattle.std.proofs.lemmas.List.Kept.{AllPairs-cons}
-use Rattle.graph6_text.specs.Graphs.{Edge, IsGraph, AreEdges, ComesBefore}
+use Rattle.graphs.specs.Graphs.{Edge, IsGraph, AreEdges, ComesBefore}
 use Rattle.plane_drawings.proofs.Pairs.{AllPairs-nil, AllPairs-head, AllPairs-tail}
 use Rattle.pigale_c.specs.Embedded.{edge_at, graph_in, RiseFrom}
 use Rattle.pigale_c.specs.declared.edges.EdgeEnds.{EdgeEnds}

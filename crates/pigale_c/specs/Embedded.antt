@@ -4,7 +4,7 @@ use Rattle.map_lists.specs.Cuts.{joined, ends_from}
 use Rattle.map_lists.specs.Lists.{Lists}
 use Rattle.map_lists.specs.declared.ids.VertexId.{VertexId}
 use Rattle.pg_plane.specs.declared.figures.GridFigure.{GridFigure}
-use Rattle.graph6_text.specs.Graphs.{Edge, EdgeGraph, IsGraph, ComesBefore}
+use Rattle.graphs.specs.Graphs.{Edge, EdgeGraph, IsGraph, ComesBefore}
 use Rattle.kuratowski.specs.Witnesses.{IsWitness}
 use Rattle.kuratowski.specs.declared.witness.Kind.{Kind}
 use Rattle.embed_graph.specs.Figures.{IsDrawnMap}

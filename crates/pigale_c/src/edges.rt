@@ -1,11 +1,11 @@
 //! Graphs read from the caller's arrays of edges.
 ghost use Rattle.std.specs.Prelude.{◌≡◌, ◌<◌, ◌↔◌, map, All, IsTrue, IfOk, IfErr};
-ghost use Rattle.graph6_text.specs.Graphs.{IsGraph, ComesBefore, edge_of};
+ghost use Rattle.graphs.specs.Graphs.{IsGraph, ComesBefore, edge_of};
 ghost use Rattle.pigale_c.specs.Embedded.{edge_at, graph_in, IsEdge, RiseFrom};
 ghost use Rattle.pigale_c.specs.Failures.{IsBadOnly};
 
 use crate::outcome::Failure;
-use graph6_text::Graph;
+use graphs::Graph;
 use map_lists::{Ends, VertexId};
 use std::alloc::{AllocError, Global};
 

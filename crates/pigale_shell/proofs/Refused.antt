@@ -7,7 +7,7 @@ use Rattle.map_lists.specs.Lists.{Lists}
 use Rattle.pg_plane.specs.declared.figures.GridFigure.{GridFigure}
 use Rattle.grid_figures.specs.ShiftFiguresFigures.{IsShiftFigure}
 use Rattle.grid_figures.specs.SchnyderFiguresFigures.{IsSchnyderFigure}
-use Rattle.graph6_text.specs.Graphs.{EdgeGraph, Edge}
+use Rattle.graphs.specs.Graphs.{EdgeGraph, Edge}
 use Rattle.kuratowski.specs.declared.witness.Witness.{Witness}
 use Rattle.figure_text.specs.declared.figure.Figure.TheVariants.{Witness as WitnessFigure}
 use Rattle.figure_verdicts.specs.Verdicts.{IsFigureVerdict}

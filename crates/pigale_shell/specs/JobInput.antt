@@ -5,7 +5,7 @@ use Rattle.record_runs.specs.Texts.{Reads, Answers}
 use Rattle.figure_text.specs.declared.figure.Figure.{Figure}
 use Rattle.line_inputs.specs.declared.figure_lines.ending.Ending.{Ending as FigureEnding}
 use Rattle.line_inputs.specs.FigureLinesFormat.{figures}
-use Rattle.graph6_text.specs.Graphs.{EdgeGraph}
+use Rattle.graphs.specs.Graphs.{EdgeGraph}
 use Rattle.line_inputs.specs.declared.graph_lines.ending.Ending.{Ending as GraphEnding}
 use Rattle.line_inputs.specs.GraphLinesFormat.{graph_lines}
 use Rattle.pigale_shell.specs.Answer.{planar_answers}

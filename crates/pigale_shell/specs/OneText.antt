@@ -1,7 +1,7 @@
 -- What the words and the input decide of the text that a run writes.
 use Rattle.std.specs.Prelude.{ℕ, ◌<◌, ◌≡◌, List, length, Some}
 use Rattle.map_lists.specs.Lists.{Lists}
-use Rattle.graph6_text.specs.Graphs.{EdgeGraph}
+use Rattle.graphs.specs.Graphs.{EdgeGraph}
 use Rattle.pigale_words.specs.declared.output_form.Form.{Form}
 use Rattle.pigale_shell.specs.Answer.{IsMapBlock}
 use Rattle.pigale_shell.specs.Blocks.{IsRefused}

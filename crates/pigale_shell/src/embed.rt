@@ -11,7 +11,7 @@ use super::method::GraphRecord;
 use super::output_lines::{end_line, stop_line};
 use super::record_answers::refusal_line_in_form;
 use embed_graph::embed_figures::Embedder;
-use graph6_text::Graph;
+use graphs::Graph;
 use line_inputs::graph_lines::{Ending, GraphReader};
 use pg_io::{Sink, Source};
 use pigale_words::Form;

@@ -4,7 +4,7 @@ ghost use Rattle.map_lists.specs.Lists.{Lists};
 ghost use Rattle.refusals.specs.Conditions.{IfRefused};
 ghost use Rattle.pigale_shell.specs.Blocks.{Appends, Says, IsLawful};
 
-use graph6_text::Graph;
+use graphs::Graph;
 use half_edges::Rotations;
 use pigale_words::Form;
 use refusals::Unserved;

@@ -22,7 +22,7 @@ use convex_check::ConvexVerdict;
 use draw_check::{FaceVerdict, OuterVerdict, Verdict};
 use figure_text::Figure;
 use figure_verdicts::FigureVerdict;
-use graph6_text::Graph;
+use graphs::Graph;
 use half_edges::HalfMap;
 use kuratowski::{Witness, WitnessVerdict};
 use map_lists::DartId;

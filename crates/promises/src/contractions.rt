@@ -5,10 +5,10 @@ ghost use Rattle.convex_peeling.specs.Polyhedral.{IsThreeConnected};
 ghost use Rattle.embed_contraction.specs.Contracted.{IsContraction};
 ghost use Rattle.embed_witnesses.specs.ContractedEdges.{contraction};
 ghost use Rattle.embed_witnesses.specs.Contractible.{IsLeastContractible};
-ghost use Rattle.graph6_text.specs.Graphs.{has_edge};
+ghost use Rattle.graphs.specs.Graphs.{has_edge};
 ghost use Rattle.kuratowski.specs.Witnesses.{IsWitness};
 
-use graph6_text::Graph;
+use graphs::Graph;
 use kuratowski::Witness;
 use map_lists::Ends;
 use std::alloc::{AllocError, Global};

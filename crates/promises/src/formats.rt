@@ -1,14 +1,15 @@
 //! Promised contracts of records of planar_code and lines of graph6, read and written.
 ghost use Rattle.std.specs.Prelude.{◌≡◌, ◌<◌, ◌≤◌, length, MatchResult, ◌+◌, ◌++◌, OnOk, OnErr, ◌-◌, IfOk, IfErr, List, ℕ, ◌/◌, map};
 ghost use Rattle.graph6_text.specs.Faults.{NamesFault};
-ghost use Rattle.graph6_text.specs.Graphs.{AreEdges, edge_of, IsGraph, has_edge};
+ghost use Rattle.graphs.specs.Graphs.{AreEdges, edge_of, IsGraph, has_edge};
 ghost use Rattle.graph6_text.specs.Lines.{IsLine};
 ghost use Rattle.planar_code.specs.Reading.{header_of, IsRecord};
 ghost use Rattle.planar_code.specs.Scan.{most_lists};
 ghost use Rattle.planar_code.specs.Step.{StandsAt, FailsAt};
 ghost use Rattle.planar_code.specs.Write.{entry_limit, record_bytes, is_wide, AreBelow};
 
-use graph6_text::{G6Fault, Graph};
+use graph6_text::G6Fault;
+use graphs::Graph;
 use map_lists::{Ends, Rotations, VertexId};
 use planar_code::{CodeFault, Step};
 use std::alloc::{AllocError, Global};

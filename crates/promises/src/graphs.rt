@@ -8,7 +8,7 @@ ghost use Rattle.embed_graph.specs.Figures.{IsEmbedFigure};
 
 use embed_graph::Embedding;
 use embed_graph::embed_figures::{EmbedFigure, Embedder};
-use graph6_text::Graph;
+use graphs::Graph;
 use map_lists::Rotations;
 use std::alloc::{AllocError, Global};
 

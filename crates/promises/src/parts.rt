@@ -8,7 +8,7 @@ ghost use Rattle.map_theory.specs.Maps.{IsPlane};
 
 use conn_parts::Parts;
 use euler_faces::Faces;
-use graph6_text::Graph;
+use graphs::Graph;
 use half_edges::HalfMap;
 use map_lists::VertexId;
 use std::alloc::{AllocError, Global};

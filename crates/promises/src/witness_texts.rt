@@ -5,7 +5,7 @@ ghost use Rattle.graph6_text.specs.Header.{header_length};
 ghost use Rattle.graph6_text.specs.Lines.{IsLine as IsGraphLine};
 ghost use Rattle.svg_out.specs.Svg.{IsWitnessSvg};
 
-use graph6_text::Graph;
+use graphs::Graph;
 use kuratowski::Witness;
 use std::alloc::{AllocError, Global};
 

@@ -8,7 +8,7 @@ use Rattle.pg_plane.specs.declared.grid_points.Point.{Point}
 use Rattle.pg_plane.specs.declared.figures.BarFigure.{BarFigure}
 use Rattle.pg_plane.specs.declared.figures.RectFigure.{RectFigure}
 use Rattle.figure_text.specs.Text.{point_at, integer_at, texts, HasBars, HasRects, HasPaths, witness_text}
-use Rattle.graph6_text.specs.Graphs.{EdgeGraph}
+use Rattle.graphs.specs.Graphs.{EdgeGraph}
 use Rattle.graph6_text.specs.Lines.{IsLine as IsGraphLine}
 use Rattle.kuratowski.specs.declared.witness.Witness.{Witness as AWitness}
 use Rattle.figure_text.specs.declared.figure.Figure.{Figure}

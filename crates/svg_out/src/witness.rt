@@ -3,7 +3,7 @@ ghost use Rattle.std.specs.Prelude.{◌≡◌, ◌++◌, List, ℕ, OnOk, OnErr,
 ghost use Rattle.svg_out.specs.Svg.{IsWitnessSvg};
 
 use figure_text::print_witness;
-use graph6_text::Graph;
+use graphs::Graph;
 use kuratowski::Witness;
 use std::alloc::{AllocError, Global};
 

@@ -2,7 +2,8 @@
 ghost use Rattle.figure_text.specs.Text.{IsWhole};
 
 use figure_text::{Figure, GridJob, Item, TextFault, print_figure, print_witness};
-use graph6_text::{Graph, read_line};
+use graph6_text::read_line;
+use graphs::Graph;
 use half_edges::Rotations;
 use line_inputs::read_figure;
 use pg_plane::Points;

@@ -24,7 +24,7 @@ use Rattle.bar_check.specs.Verdicts.{IsBarVerdict}
 use Rattle.bar_check.specs.declared.verdict.BarVerdict.TheVariants.{Yes as NoBarFault}
 use Rattle.rect_check.specs.Verdicts.{IsRectVerdict}
 use Rattle.rect_check.specs.declared.verdict.RectVerdict.TheVariants.{Yes as NoRectFault}
-use Rattle.graph6_text.specs.Graphs.{EdgeGraph}
+use Rattle.graphs.specs.Graphs.{EdgeGraph}
 use Rattle.kuratowski.specs.Verdicts.{IsVerdict as IsVerdictOf}
 use Rattle.kuratowski.specs.declared.witness.Witness.{Witness}
 use Rattle.kuratowski.specs.declared.check.WitnessVerdict.{WitnessVerdict}

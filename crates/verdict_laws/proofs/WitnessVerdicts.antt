@@ -2,7 +2,7 @@
 use Rattle.std.proofs.Common.{◌≡◌, ◌⊎◌, ◌≤◌, ◌-◌, ℕ, inl, inr, refl, sym, ap, ap₂, subst, ◌∙◌, List, arith}
 use Rattle.map_lists.specs.declared.ids.VertexId.{VertexId}
 use Rattle.vertex_rounds.specs.Least as ids
-use Rattle.graph6_text.specs.Graphs.{EdgeGraph}
+use Rattle.graphs.specs.Graphs.{EdgeGraph}
 use Rattle.kuratowski.specs.Witnesses.{IsShape}
 use Rattle.kuratowski.specs.Faults.{IsBadBranch, LacksEdge, IsShared}
 use Rattle.kuratowski.specs.Verdicts.{IsLeast, IsLeastPair, IsLeastTriple, NoBadBranch, LacksNone, IsVerdict}

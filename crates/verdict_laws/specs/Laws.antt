@@ -16,7 +16,7 @@ use Rattle.bar_check.specs.Verdicts.{IsBarVerdict}
 use Rattle.bar_check.specs.declared.verdict.BarVerdict.{BarVerdict}
 use Rattle.rect_check.specs.Verdicts.{IsRectVerdict}
 use Rattle.rect_check.specs.declared.verdict.RectVerdict.{RectVerdict}
-use Rattle.graph6_text.specs.Graphs.{EdgeGraph}
+use Rattle.graphs.specs.Graphs.{EdgeGraph}
 use Rattle.kuratowski.specs.Verdicts.{IsVerdict as IsWitnessVerdict}
 use Rattle.kuratowski.specs.declared.witness.Kind.{Kind}
 use Rattle.kuratowski.specs.declared.check.WitnessVerdict.{WitnessVerdict}

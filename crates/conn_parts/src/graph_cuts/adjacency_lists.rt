@@ -1,10 +1,10 @@
 //! Bare graphs as adjacency lists, in rising order.
 ghost use Rattle.std.specs.Prelude.{◌≡◌, ◌<◌, ◌++◌, ◌∷◌, [], List, ℕ, length, IfOk};
 ghost use Rattle.std.specs.List.{filter};
-ghost use Rattle.graph6_text.specs.Graphs.{has_edge};
+ghost use Rattle.graphs.specs.Graphs.{has_edge};
 ghost use Rattle.conn_parts.specs.GraphLists.{neighbours_below, graph_lists as lists_of_graph};
 
-use graph6_text::Graph;
+use graphs::Graph;
 use map_lists::{ItemLists, Rotations, VertexId};
 use std::alloc::{AllocError, Global};
 

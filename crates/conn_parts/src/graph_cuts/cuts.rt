@@ -7,7 +7,7 @@ ghost use Rattle.conn_parts.specs.GraphLists.{graph_lists as lists_of_graph};
 use crate::graph_cuts::adjacency_lists::graph_lists;
 use crate::{Parts, list_components};
 use graph_search::list_cuts::{list_cut_vertex, list_separating_pair};
-use graph6_text::Graph;
+use graphs::Graph;
 use map_lists::VertexId;
 use std::alloc::{AllocError, Global};
 

@@ -4,7 +4,7 @@ ghost use Rattle.embed_graph.specs.Embeddings.{IsEmbedding};
 
 use crate::contracted_embeddings::contracted_witnesses::contracted_witness;
 use crate::graph_embeddings::Embedding;
-use graph6_text::Graph;
+use graphs::Graph;
 use left_right_lists::map_of_graph;
 use std::alloc::{AllocError, Global};
 

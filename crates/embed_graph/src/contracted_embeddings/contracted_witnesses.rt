@@ -7,7 +7,7 @@ use crate::contracted_embeddings::kept_edges::kept_edge;
 use embed_witnesses::contracted_graphs::contract;
 use embed_witnesses::lifted_witnesses::lift;
 use embed_witnesses::plain_witnesses::plain_witness;
-use graph6_text::Graph;
+use graphs::Graph;
 use kuratowski::Witness;
 use std::alloc::{AllocError, Global};
 

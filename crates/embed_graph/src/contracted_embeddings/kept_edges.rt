@@ -1,13 +1,13 @@
 //! Finds an edge whose contraction leaves the graph nonplanar, so that a Kuratowski witness stays.
 ghost use Rattle.std.specs.Prelude.{◌≡◌, ◌<◌, ◌↔◌, ℕ, true, IsTrue, IfOk, MatchOption};
-ghost use Rattle.graph6_text.specs.Graphs.{has_edge};
+ghost use Rattle.graphs.specs.Graphs.{has_edge};
 ghost use Rattle.embed_contraction.specs.Traces.{HasWitness};
 ghost use Rattle.embed_witnesses.specs.Kept.{IsKept};
 
 use crate::fast_embeddings::{Tested, test_graph};
 use embed_search::Tables;
 use embed_witnesses::contracted_graphs::contract;
-use graph6_text::Graph;
+use graphs::Graph;
 use left_right_lists::has_map;
 use map_lists::{Ends, VertexId};
 use std::alloc::{AllocError, Global};

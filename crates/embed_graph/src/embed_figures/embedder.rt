@@ -6,7 +6,7 @@ ghost use Rattle.embed_graph.specs.Figures.{IsEmbedFigure};
 use crate::edge_test::EdgeTest;
 use crate::fast_embeddings::{Tested, found_witness, refuted, test_graph};
 use embed_search::Tables;
-use graph6_text::Graph;
+use graphs::Graph;
 use grid_figures::Drawer;
 use kuratowski::Witness;
 use map_lists::Rotations;

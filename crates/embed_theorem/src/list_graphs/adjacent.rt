@@ -2,7 +2,7 @@
 ghost use Rattle.std.specs.Prelude.{◌≡◌, ◌==◌};
 ghost use Rattle.std.specs.List.{list_any};
 ghost use Rattle.map_theory.specs.Maps.{IsSimpleMap};
-ghost use Rattle.graph6_text.specs.Graphs.{has_edge};
+ghost use Rattle.graphs.specs.Graphs.{has_edge};
 ghost use Rattle.embed_theorem.specs.ListGraphs.{graph_of};
 
 use map_lists::Rotations;

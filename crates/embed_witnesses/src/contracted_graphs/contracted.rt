@@ -1,11 +1,11 @@
 //! Contracts an edge of a graph: lists the edges that remain and renumbers the vertices.
 ghost use Rattle.std.specs.Prelude.{◌≡◌, ◌≤◌, ◌<◌, ◌++◌, ◌∷◌, [], true, map, IfOk, OnOk};
-ghost use Rattle.graph6_text.specs.Graphs.{Edge, edge_of, has_edge};
-ghost use Rattle.graph6_text.specs.Lines.{pairs};
+ghost use Rattle.graphs.specs.Graphs.{Edge, edge_of, has_edge};
+ghost use Rattle.graphs.specs.Bits.{pairs};
 ghost use Rattle.embed_contraction.specs.Contracted.{IsContraction, before_left as number_before, contracted_edge};
 ghost use Rattle.embed_witnesses.specs.ContractedEdges.{contracted_among, contraction};
 
-use graph6_text::Graph;
+use graphs::Graph;
 use map_lists::{Ends, VertexId};
 use std::alloc::{AllocError, Global};
 

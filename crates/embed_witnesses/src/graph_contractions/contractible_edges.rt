@@ -6,7 +6,7 @@ ghost use Rattle.embed_witnesses.specs.Contractible.{IsContractibleEdge, IsLeast
 
 use crate::contracted_graphs::contract;
 use crate::graph_contractions::three_connected::is_three_connected;
-use graph6_text::Graph;
+use graphs::Graph;
 use map_lists::{Ends, VertexId};
 use std::alloc::{AllocError, Global};
 

@@ -4,7 +4,7 @@ ghost use Rattle.convex_peeling.specs.Polyhedral.{IsThreeConnected};
 ghost use Rattle.conn_parts.specs.GraphLists.{graph_lists as lists_of_graph};
 
 use conn_parts::graph_cuts::{graph_components, graph_cut_vertex, graph_separating_pair};
-use graph6_text::Graph;
+use graphs::Graph;
 use std::alloc::{AllocError, Global};
 
 /// Says whether `graph`, which has a vertex, has at least four, and is connected without cut vertices and separating

@@ -1,12 +1,12 @@
 //! The public call `lift`, which tries all changes of a witness until one makes it a witness of the graph.
 ghost use Rattle.std.specs.Prelude.{◌≡◌, true, IfOk};
-ghost use Rattle.graph6_text.specs.Graphs.{has_edge};
+ghost use Rattle.graphs.specs.Graphs.{has_edge};
 ghost use Rattle.kuratowski.specs.Witnesses.{IsWitness};
 ghost use Rattle.embed_witnesses.specs.ContractedEdges.{contraction};
 
 use crate::lifted_witnesses::tried_changes::Lifting;
 use crate::merged_ends::on_old_numbers;
-use graph6_text::Graph;
+use graphs::Graph;
 use kuratowski::Witness;
 use map_lists::Ends;
 use std::alloc::{AllocError, Global};

@@ -5,7 +5,7 @@ ghost use Rattle.embed_witnesses.specs.Changes.{IsRight};
 
 use crate::lifted_witnesses::change_kinds::Change;
 use crate::lifted_witnesses::changed_witness::changed;
-use graph6_text::Graph;
+use graphs::Graph;
 use kuratowski::{Witness, check_witness};
 use map_lists::Ends;
 use std::alloc::{AllocError, Global};

@@ -1,13 +1,13 @@
 //! Renumbers a witness of a contracted graph by the numbers that its vertices had before.
 ghost use Rattle.std.specs.Prelude.{◌≡◌, ◌<◌, ◌≤◌, ℕ, true, length, map, IfOk};
 ghost use Rattle.std.specs.List.{range_with_len};
-ghost use Rattle.graph6_text.specs.Graphs.{has_edge};
+ghost use Rattle.graphs.specs.Graphs.{has_edge};
 ghost use Rattle.kuratowski.specs.Witnesses.{IsWitness};
 ghost use Rattle.embed_witnesses.specs.ContractedEdges.{contraction};
 ghost use Rattle.embed_witnesses.specs.Merged.{merged, old_number as number_before};
 
 use crate::renamed_witnesses::renamed;
-use graph6_text::Graph;
+use graphs::Graph;
 use kuratowski::Witness;
 use map_lists::Ends;
 use std::alloc::{AllocError, Global};

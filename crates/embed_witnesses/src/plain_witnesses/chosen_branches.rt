@@ -4,7 +4,7 @@ ghost use Rattle.kuratowski.specs.Witnesses.{pairs_of, IsWitness};
 ghost use Rattle.embed_witnesses.specs.Plain.{plain_branch as branches_of, plain_path as path_of, plain_paths as paths_of};
 
 use crate::plain_witnesses::branch_pairs::chosen_at;
-use graph6_text::Graph;
+use graphs::Graph;
 use kuratowski::{Kind, Witness, check_witness};
 use map_lists::{PathList, VertexId, VertexList};
 use std::alloc::{AllocError, Global};

@@ -1,13 +1,13 @@
 //! The backtracking search for K5 and K3,3 as subgraphs, branch vertex by branch vertex.
 ghost use Rattle.std.specs.Prelude.{◌≡◌, ◌<◌, ◌≤◌, ℕ, true, length, IsTrue, IfOk, MatchOption};
-ghost use Rattle.graph6_text.specs.Graphs.{has_edge};
+ghost use Rattle.graphs.specs.Graphs.{has_edge};
 ghost use Rattle.kuratowski.specs.Witnesses.{branch_count as branches_of, IsWitness};
 ghost use Rattle.embed_witnesses.specs.Kept.{HasPlain};
 ghost use Rattle.embed_witnesses.specs.Plain.{NoneBegins, NoneContinues, HasLive};
 
 use crate::plain_witnesses::branch_pairs::is_pair;
 use crate::plain_witnesses::chosen_branches::as_witness;
-use graph6_text::Graph;
+use graphs::Graph;
 use kuratowski::{Kind, Witness};
 use map_lists::VertexId;
 use std::alloc::{AllocError, Global};

@@ -4,7 +4,7 @@ ghost use Rattle.figure_text.specs.Lines.{TailInRange};
 ghost use Rattle.line_inputs.specs.Heads.{head_kind, HasGraph};
 
 use figure_text::{GridJob, Kind, front_graph};
-use graph6_text::Graph;
+use graphs::Graph;
 use kuratowski::Kind as Subdivided;
 use std::alloc::{AllocError, Global};
 

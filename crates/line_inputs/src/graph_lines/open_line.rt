@@ -1,7 +1,7 @@
 //! Bytes of an input of graph6 joined to its open line, which is judged where they close it: header, graph or bad.
 ghost use Rattle.std.specs.Prelude.{◌≡◌, ◌+◌, ◌<◌, ◌≤◌, ◌++◌, ◌∷◌, [], List, ℕ, length, drop, IfOk, OnOk, OnErr, Bool, ◌↔◌, IsTrue};
 ghost use Rattle.record_runs.specs.Texts.{input_limit};
-ghost use Rattle.graph6_text.specs.Graphs.{EdgeGraph};
+ghost use Rattle.graphs.specs.Graphs.{EdgeGraph};
 ghost use Rattle.graph6_text.specs.Header.{graph_header};
 ghost use Rattle.graph6_text.specs.Faults.{NamesFault, line_fault};
 ghost use Rattle.line_inputs.specs.GraphLinesProgress.{Progress, Closes, Judges, behind_header as line_behind};
@@ -10,7 +10,8 @@ ghost use Rattle.line_inputs.specs.GraphLinesState.{IsLinePart, TakesLine};
 use crate::graph_lines::ending::Ending;
 use crate::whole_lines::{chosen, join};
 use figure_text::line_length;
-use graph6_text::{G6Fault, Graph, after_graph_header, read_line_into};
+use graph6_text::{G6Fault, after_graph_header, read_line_into};
+use graphs::Graph;
 use std::alloc::AllocError;
 
 /// The verdict on a closed graph6 line.

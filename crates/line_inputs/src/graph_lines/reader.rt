@@ -3,7 +3,7 @@ ghost use Rattle.std.specs.Prelude.{◌≡◌, ◌+◌, ◌≤◌, []};
 
 use crate::graph_lines::ending::Ending;
 use crate::graph_lines::open_line::{Judged, Line, OpenLine, behind_header, take_line};
-use graph6_text::Graph;
+use graphs::Graph;
 use record_runs::{Format, Taken};
 use std::alloc::{AllocError, Global};
 use std::marker::Model;

@@ -1,5 +1,5 @@
 use Rattle.std.proofs.Common.{◌≡◌, ◌/◌, ◌<◌, ◌==◌, ◌||◌, false, length, sym, subst, ap, ◌∙◌, arith, length-set}
-use Rattle.graph6_text.specs.Lines.{is_set}
+use Rattle.graphs.specs.Bits.{is_set}
 use Rattle.embed_graph.proofs.MarkLemmas.{place_within, bytes-put, bits-put, Adds-one, Adds-none}
 use Rattle.embed_graph.proofs.edge_test.set_pair.Goals as goal
 

@@ -1,5 +1,5 @@
 use Rattle.std.proofs.Common.{arith}
-use Rattle.graph6_text.proofs.BitLemmas.{pair_count-few, body_length-bounds}
+use Rattle.graphs.proofs.BitLemmas.{pair_count-few, body_length-bounds}
 use Rattle.graph6_text.proofs.graph6_lines.body_fault.Goals as goal
 
 pub overflow_add-end : goal.overflow_add-end

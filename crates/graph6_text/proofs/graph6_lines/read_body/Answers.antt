@@ -1,7 +1,8 @@
 use Rattle.std.proofs.Common.{◌≡◌, ◌-◌, ℕ, List, length, take, drop, sym, subst, ap, ◌∙◌, arith, length-drop}
 use Rattle.std.proofs.lemmas.List.{take_all}
-use Rattle.graph6_text.specs.Graphs.{EdgeGraph}
-use Rattle.graph6_text.specs.Lines.{IsBody, IsLine, edges_of}
+use Rattle.graphs.specs.Graphs.{EdgeGraph}
+use Rattle.graphs.specs.Bits.{IsBody, edges_of}
+use Rattle.graph6_text.specs.Lines.{IsLine}
 use Rattle.graph6_text.proofs.LineLemmas.{body_of}
 use Rattle.graph6_text.proofs.graph6_lines.read_body.Goals as goal
 

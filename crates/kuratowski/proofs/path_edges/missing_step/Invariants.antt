@@ -1,6 +1,6 @@
 use Rattle.std.proofs.Common.{◌≡◌, ℕ, suc, ◌<◌, true}
 use Rattle.kuratowski.specs.Witnesses.{vertex_at}
-use Rattle.graph6_text.specs.Graphs.{has_edge}
+use Rattle.graphs.specs.Graphs.{has_edge}
 use Rattle.kuratowski.proofs.path_edges.missing_step.Given as goal
 
 abbrev pub invariant-loop-i : goal.invariant-loop-i

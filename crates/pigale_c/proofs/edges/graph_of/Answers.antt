@@ -1,6 +1,6 @@
 -- Of each edge of a graph the lesser end comes first.
 use Rattle.std.proofs.Common.{rules}
-use Rattle.graph6_text.specs.Graphs.{IsGraph}
+use Rattle.graphs.specs.Graphs.{IsGraph}
 use Rattle.pigale_c.specs.Embedded.{graph_in}
 use Rattle.pigale_c.proofs.EdgeLemmas.{lesser_first-graph}
 use Rattle.pigale_c.proofs.edges.graph_of.Goals as goal

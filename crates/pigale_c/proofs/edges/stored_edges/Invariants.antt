@@ -1,5 +1,5 @@
 use Rattle.std.proofs.Common.{◌≡◌, take, map}
-use Rattle.graph6_text.specs.Graphs.{edge_of}
+use Rattle.graphs.specs.Graphs.{edge_of}
 use Rattle.pigale_c.specs.Embedded.{edge_at}
 use Rattle.pigale_c.proofs.edges.stored_edges.Given as goal
 

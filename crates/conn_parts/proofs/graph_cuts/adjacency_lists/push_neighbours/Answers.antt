@@ -1,7 +1,7 @@
 use Rattle.std.proofs.Common.{ℕ, List, [], ◌∷◌, ◌++◌, sym, ap, ◌∙◌}
 use Rattle.std.specs.List.{filter, range_with_len}
 use Rattle.std.proofs.lemmas.List.Elements.{filter-append}
-use Rattle.graph6_text.specs.Graphs.{has_edge}
+use Rattle.graphs.specs.Graphs.{has_edge}
 use Rattle.conn_parts.specs.GraphLists.{neighbours_below}
 use Rattle.conn_parts.proofs.GraphLemmas.{range_more}
 use Rattle.conn_parts.proofs.graph_cuts.adjacency_lists.push_neighbours.Goals as goal

@@ -1,5 +1,5 @@
 use Rattle.std.proofs.Common.{◌≡◌, ℕ, sym, subst, ap, ◌∙◌, rules}
-use Rattle.graph6_text.specs.Lines.{edges_of}
+use Rattle.graphs.specs.Bits.{edges_of}
 use Rattle.embed_graph.specs.Marks.{Marks}
 use Rattle.embed_graph.proofs.MarkLemmas.{has_just_edges}
 use Rattle.embed_graph.proofs.edge_test.EdgeTest.has_edges.Goals as goal

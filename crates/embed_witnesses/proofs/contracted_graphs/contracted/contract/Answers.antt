@@ -1,6 +1,6 @@
 use Rattle.std.proofs.Common.{◌-◌, ◌≡◌, map, subst, sym, ap, ◌∙◌, arith}
 use Rattle.std.proofs.lemmas.Result.{IfOk-weaker}
-use Rattle.graph6_text.specs.Graphs.{EdgeGraph, AreEdges, edge_of}
+use Rattle.graphs.specs.Graphs.{EdgeGraph, AreEdges, edge_of}
 use Rattle.embed_contraction.specs.Contracted.{contracted_edge, IsContraction}
 use Rattle.embed_witnesses.specs.ContractedEdges.{contraction}
 use Rattle.embed_witnesses.proofs.ContractedLemmas.{AreEdges-filter, IsContraction-contraction, contraction-from, edge_within}

@@ -1,5 +1,5 @@
 use Rattle.std.proofs.Common.{◌≡◌, ◌<◌, ℕ, false}
-use Rattle.graph6_text.specs.Graphs.{has_edge}
+use Rattle.graphs.specs.Graphs.{has_edge}
 use Rattle.embed_witnesses.proofs.plain_witnesses.subgraph_search.has_edges.Given as goal
 
 abbrev pub invariant-loop-u : goal.invariant-loop-u

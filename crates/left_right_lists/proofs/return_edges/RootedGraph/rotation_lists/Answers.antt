@@ -1,6 +1,6 @@
 use Rattle.std.proofs.Common.{◌≡◌, ◌++◌, ◌∷◌, [], List, ℕ, filter, ap, ◌∙◌, arith, rules}
 use Rattle.std.proofs.lemmas.List.{take_all}
-use Rattle.graph6_text.specs.Graphs.{has_edge}
+use Rattle.graphs.specs.Graphs.{has_edge}
 use Rattle.left_right_lists.specs.Placing.{row_at}
 use Rattle.left_right_lists.proofs.Tabled.{values_more}
 use Rattle.left_right_lists.proofs.return_edges.RootedGraph.rotation_lists.Goals as goal

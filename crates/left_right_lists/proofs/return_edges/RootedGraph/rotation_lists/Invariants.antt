@@ -1,5 +1,5 @@
 use Rattle.std.proofs.Common.{◌≡◌, [], filter, take}
-use Rattle.graph6_text.specs.Graphs.{has_edge}
+use Rattle.graphs.specs.Graphs.{has_edge}
 use Rattle.left_right_lists.specs.Blocks.{AreValues}
 use Rattle.left_right_lists.specs.Placing.{row_at}
 use Rattle.left_right_lists.proofs.return_edges.RootedGraph.rotation_lists.Given as goal

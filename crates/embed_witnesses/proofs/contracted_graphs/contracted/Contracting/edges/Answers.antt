@@ -1,8 +1,8 @@
 use Rattle.std.proofs.Common.{◌≡◌, ◌++◌, ◌+◌, ◌-◌, ℕ, map, refl, sym, ap, ◌∙◌, arith}
 use Rattle.std.proofs.lemmas.List.{append-nil}
 use Rattle.std.specs.List.{flat_map, range_with_len}
-use Rattle.graph6_text.specs.Graphs.{edge_of}
-use Rattle.graph6_text.specs.Lines.{pairs, pairs_of}
+use Rattle.graphs.specs.Graphs.{edge_of}
+use Rattle.graphs.specs.Bits.{pairs, pairs_of}
 use Rattle.embed_witnesses.specs.ContractedEdges.{contracted_among}
 use Rattle.embed_witnesses.proofs.ContractedLemmas.{row-more, rows-more}
 use Rattle.embed_witnesses.proofs.contracted_graphs.contracted.Contracting.edges.Goals as goal

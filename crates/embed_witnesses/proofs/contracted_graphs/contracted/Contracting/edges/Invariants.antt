@@ -1,7 +1,7 @@
 use Rattle.std.proofs.Common.{◌≡◌, ◌++◌, ◌+◌, ◌-◌, map}
 use Rattle.std.specs.List.{range_with_len, flat_map}
-use Rattle.graph6_text.specs.Graphs.{edge_of}
-use Rattle.graph6_text.specs.Lines.{pairs_of}
+use Rattle.graphs.specs.Graphs.{edge_of}
+use Rattle.graphs.specs.Bits.{pairs_of}
 use Rattle.embed_witnesses.specs.ContractedEdges.{contracted_among}
 use Rattle.embed_witnesses.proofs.contracted_graphs.contracted.Contracting.edges.Given as goal
 

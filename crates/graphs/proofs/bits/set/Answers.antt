@@ -1,7 +1,7 @@
 use Rattle.std.proofs.Common.{◌∙◌, sym}
-use Rattle.graph6_text.specs.Lines.{is_set}
-use Rattle.graph6_text.proofs.BitLemmas.{is_set-set}
-use Rattle.graph6_text.proofs.bits.set.Goals as goal
+use Rattle.graphs.specs.Bits.{is_set}
+use Rattle.graphs.proofs.BitLemmas.{is_set-set}
+use Rattle.graphs.proofs.bits.set.Goals as goal
 
 pub with_bit-requires-clause-unset : goal.with_bit-requires-clause-unset
 unfolding is_set

@@ -1,7 +1,7 @@
 use Rattle.std.proofs.Common.{subst}
-use Rattle.graph6_text.specs.Graphs.{IsGraph}
-use Rattle.graph6_text.proofs.EdgeLemmas.{AreEdges-edges_of}
-use Rattle.graph6_text.proofs.graph.Graph.n.Goals as goal
+use Rattle.graphs.specs.Graphs.{IsGraph}
+use Rattle.graphs.proofs.EdgeLemmas.{AreEdges-edges_of}
+use Rattle.graphs.proofs.graph.Graph.n.Goals as goal
 
 pub returns-clause-known : goal.returns-clause-known
 returns-clause-known c =

@@ -11,10 +11,10 @@ use Rattle.std.proofs.lemmas.List.Folds.{list_any_more}
 use Rattle.std.specs.Cmp.{both_ways}
 use Rattle.std.proofs.Math.Bool.{or_comm}
 use Rattle.map_lists.specs.declared.items.Ends.{Ends}
-use Rattle.graph6_text.specs.Graphs.{Edge, EdgeGraph, AreEdges, ComesBefore, joins, has_edge, edge_of}
-use Rattle.graph6_text.specs.Lines.{pair_place, body_length, has_bit, is_set, IsLineByte, IsBody, pairs, edges_of}
-use Rattle.graph6_text.proofs.BitLemmas.{below_six, pair_place-lt, one_pair}
-use Rattle.graph6_text.proofs.PairLemmas.{Contains-first, Contains-later, Contains-cases, Contains-none, All-from_Contains, Contains-filter, Contains-unfilter, any-from, any-gives, any-none, rising_same, before_strict, before_apart, pairs-have, pairs-hold, pairs-rising}
+use Rattle.graphs.specs.Graphs.{Edge, EdgeGraph, AreEdges, ComesBefore, joins, has_edge, edge_of}
+use Rattle.graphs.specs.Bits.{pair_place, body_length, has_bit, is_set, IsLineByte, IsBody, pairs, edges_of}
+use Rattle.graphs.proofs.BitLemmas.{below_six, pair_place-lt, one_pair}
+use Rattle.graphs.proofs.PairLemmas.{Contains-first, Contains-later, Contains-cases, Contains-none, All-from_Contains, Contains-filter, Contains-unfilter, any-from, any-gives, any-none, rising_same, before_strict, before_apart, pairs-have, pairs-hold, pairs-rising}
 
 -- ---- joining
 pub joins-own : (e : Edge) → joins e.0 e.1 e ≡ true

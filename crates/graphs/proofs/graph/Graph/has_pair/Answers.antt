@@ -1,9 +1,9 @@
 use Rattle.std.proofs.Common.{◌<◌, ◌∙◌, sym, ap, arith}
 use Rattle.std.proofs.lemmas.Bool.Decides.{nat_tests}
-use Rattle.graph6_text.specs.Graphs.{EdgeGraph, has_edge}
-use Rattle.graph6_text.proofs.EdgeLemmas.{AreEdges-edges_of, joined_no_pair}
-use Rattle.graph6_text.proofs.graph.Graph.has_pair.Goals as goal
-use Rattle.graph6_text.proofs.graph.Graph.has_pair.Goals.{then-u-v, else-u-v}
+use Rattle.graphs.specs.Graphs.{EdgeGraph, has_edge}
+use Rattle.graphs.proofs.EdgeLemmas.{AreEdges-edges_of, joined_no_pair}
+use Rattle.graphs.proofs.graph.Graph.has_pair.Goals as goal
+use Rattle.graphs.proofs.graph.Graph.has_pair.Goals.{then-u-v, else-u-v}
 
 pub returns-else-v-self : goal.returns-else-v-self
 returns-else-v-self c =

@@ -1,9 +1,9 @@
 //! The adjacency bits of a graph6 line: the index of a pair of vertices, and bits read and set, six a byte.
 ghost use Rattle.std.specs.Prelude.{◌≡◌, ◌+◌, ◌-◌, ◌*◌, ◌<◌, ◌≤◌, ◌/◌, ◌==◌, ◌||◌, ℕ, false, length, slice_index, All};
-ghost use Rattle.graph6_text.specs.Lines.{pair_place as place_of_pair, pair_count as count_of_pairs, body_length as bytes_of_pairs, has_bit as is_bit, is_set as is_place_set, IsLineByte};
+ghost use Rattle.graphs.specs.Bits.{pair_place as place_of_pair, pair_count as count_of_pairs, body_length as bytes_of_pairs, has_bit as is_bit, is_set as is_place_set, IsLineByte};
 
 /// Returns the index among a graph's bits of the pair of `u`, the lesser vertex, and `v`: v(v - 1)/2 + u.
-#[tactic(auto, unfolding(crate::specs::Lines::pair_place))]
+#[tactic(auto, unfolding(crate::specs::Bits::pair_place))]
 pub fn pair_place(u: u16, v: u16) -> usize
     ensures { result ≡ place_of_pair u v }
 {
@@ -12,7 +12,7 @@ pub fn pair_place(u: u16, v: u16) -> usize
 }
 
 /// Returns the number of pairs of `n` vertices.
-#[tactic(auto, unfolding(crate::specs::Lines::pair_count))]
+#[tactic(auto, unfolding(crate::specs::Bits::pair_count))]
 pub fn pair_count(n: u16) -> usize
     requires { n ≤ 255 }
     ensures { result ≡ count_of_pairs n }
@@ -39,7 +39,7 @@ pub fn spare_bits(n: u16) -> usize
 }
 
 // Says whether bit `k` of `byte`, from the highest of its six, is set.
-#[tactic(auto, unfolding(crate::specs::Lines::has_bit))]
+#[tactic(auto, unfolding(crate::specs::Bits::has_bit))]
 fn has_bit(byte: u8, k: usize) -> bool
     requires { k < 6 }
     ensures { result ≡ is_bit byte k }
@@ -59,7 +59,7 @@ fn with_bit(byte: u8, k: usize) -> u8
 }
 
 /// Says whether the bit at index `place` of `body`, six bits in each byte plus 63, is set.
-#[tactic(auto, unfolding(crate::specs::Lines::is_set))]
+#[tactic(auto, unfolding(crate::specs::Bits::is_set))]
 pub fn is_set(body: &[u8], place: usize) -> bool
     requires { place / 6 < length body.now }
     ensures { result ≡ is_place_set body.now place }

@@ -1,9 +1,9 @@
 -- No bytes are the bits of no vertices.
 use Rattle.std.proofs.Common.{◌≡◌, ℕ, [], List, refl, subst, sym, arith}
 use Rattle.std.proofs.lemmas.List.Elements.{All-nil}
-use Rattle.graph6_text.specs.Lines.{IsBody, IsLineByte, pair_count, body_length, pairs, edges_of}
-use Rattle.graph6_text.proofs.EdgeLemmas.{is_set-past}
-use Rattle.graph6_text.proofs.graph.Graph.new.Goals as goal
+use Rattle.graphs.specs.Bits.{IsBody, IsLineByte, pair_count, body_length, pairs, edges_of}
+use Rattle.graphs.proofs.EdgeLemmas.{is_set-past}
+use Rattle.graphs.proofs.graph.Graph.new.Goals as goal
 
 none-body : IsBody 0 []
 unfolding body_length pair_count

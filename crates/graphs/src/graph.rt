@@ -1,8 +1,8 @@
 //! Bare graphs as the type `Graph`, kept as graph6 bits, with adjacency lookups.
 ghost use Rattle.std.specs.Prelude.{◌≡◌, ◌≤◌, ◌<◌, ◌/◌, ◌==◌, ◌||◌, ℕ, false, [], map, length, All, AllPairs, IfOk, replicate};
 ghost use Rattle.std.specs.List.{list_any};
-ghost use Rattle.graph6_text.specs.Graphs.{EdgeGraph, IsGraph, AreEdges, has_edge, edge_of};
-ghost use Rattle.graph6_text.specs.Lines.{IsBody, IsLineByte, edges_of, pair_place as place_of_pair, body_length as bytes_of_pairs, is_set as is_place_set};
+ghost use Rattle.graphs.specs.Graphs.{EdgeGraph, IsGraph, AreEdges, has_edge, edge_of};
+ghost use Rattle.graphs.specs.Bits.{IsBody, IsLineByte, edges_of, pair_place as place_of_pair, body_length as bytes_of_pairs, is_set as is_place_set};
 
 use crate::bits::{body_length, is_set, pair_place, set};
 use map_lists::{Ends, VertexId};
@@ -20,8 +20,8 @@ pub struct Graph {
 }
 
 impl Model for Graph {
-    ghost use Rattle.graph6_text.specs.Graphs.{EdgeGraph};
-    ghost use Rattle.graph6_text.specs.Lines.{IsBody, edges_of};
+    ghost use Rattle.graphs.specs.Graphs.{EdgeGraph};
+    ghost use Rattle.graphs.specs.Bits.{IsBody, edges_of};
     ghost use Rattle.std.specs.Prelude.{◌≤◌};
 
     ghost Value = { EdgeGraph };
@@ -55,7 +55,7 @@ impl Graph {
     }
 
     /// Returns the graph on `n` vertices, at most 255, with the bits `bytes`, six a byte plus 63, in `spent`'s memory.
-    pub(crate) fn of_body(spent: Graph, n: u16, bytes: &[u8]) -> Result<Graph, AllocError>
+    pub fn of_body(spent: Graph, n: u16, bytes: &[u8]) -> Result<Graph, AllocError>
         requires few { n ≤ 255 }
         requires bits { IsBody n bytes.now }
         ensures { IfOk result (λ g. g ≡ record { n = n; edges = edges_of n bytes.now }) }

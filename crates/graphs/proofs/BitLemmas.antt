@@ -4,7 +4,7 @@ use Rattle.std.proofs.Math.ListN.{get_or, set}
 use Rattle.std.proofs.lemmas.Bool.{eqb-false, cases_eq, cases_lt, or_right}
 use Rattle.std.proofs.lemmas.Bool.Decides.{nat_tests}
 use Rattle.std.proofs.Math.Bool.{or-false}
-use Rattle.graph6_text.specs.Lines.{pair_place, pair_count, body_length, has_bit, is_set, IsLineByte}
+use Rattle.graphs.specs.Bits.{pair_place, pair_count, body_length, has_bit, is_set, IsLineByte}
 
 -- what holds of the numbers below six, one by one
 pub below_six : (P : ℕ → Type 0) → P 0 → P 1 → P 2 → P 3 → P 4 → P 5 → (k : ℕ) → k < 6 → P k

@@ -5,8 +5,8 @@ use Rattle.std.proofs.lemmas.Bool.{cases_Bool, cases_eq, true≢false, cond-true
 use Rattle.std.proofs.lemmas.List.Elements.{All-append, All-weaker, All-contains, All-contains_itself, All-filter, filter_passes, Contains-append_left, Contains-append_right, Contains-append_cases}
 use Rattle.std.proofs.lemmas.List.Kept.{AllPairs-cons}
 use Rattle.std.proofs.lemmas.List.Folds.{list_any-from_Any, Any-from_list_any, list_any_none}
-use Rattle.graph6_text.specs.Graphs.{Edge, ComesBefore}
-use Rattle.graph6_text.specs.Lines.{pairs_of, pairs}
+use Rattle.graphs.specs.Graphs.{Edge, ComesBefore}
+use Rattle.graphs.specs.Bits.{pairs_of, pairs}
 
 -- ---- lists
 module _ {X : Type 0} where

@@ -1,9 +1,9 @@
 use Rattle.std.proofs.Common.{length, ◌∙◌, sym, ap, ap₂, arith}
-use Rattle.graph6_text.specs.Graphs.{EdgeGraph, has_edge}
-use Rattle.graph6_text.specs.Lines.{is_set}
-use Rattle.graph6_text.proofs.BitLemmas.{pair_place-lt, body_length-bounds}
-use Rattle.graph6_text.proofs.EdgeLemmas.{joined_as_bit}
-use Rattle.graph6_text.proofs.graph.Graph.has_bit.Goals as goal
+use Rattle.graphs.specs.Graphs.{EdgeGraph, has_edge}
+use Rattle.graphs.specs.Bits.{is_set}
+use Rattle.graphs.proofs.BitLemmas.{pair_place-lt, body_length-bounds}
+use Rattle.graphs.proofs.EdgeLemmas.{joined_as_bit}
+use Rattle.graphs.proofs.graph.Graph.has_bit.Goals as goal
 
 pub is_set-requires : goal.is_set-requires
 is_set-requires c =

@@ -1,8 +1,8 @@
 use Rattle.std.proofs.Common.{◌==◌, ◌||◌, ℕ, List, sym, subst, ap, ◌∙◌, arith}
-use Rattle.graph6_text.specs.Lines.{is_set}
-use Rattle.graph6_text.proofs.BitLemmas.{pair_place-lt, body_length-bounds}
-use Rattle.graph6_text.proofs.EdgeLemmas.{AreMarked, AreMarked-begin, AreMarked-more, AreMarked-done, ends_at}
-use Rattle.graph6_text.proofs.graph.set_all.Goals as goal
+use Rattle.graphs.specs.Bits.{is_set}
+use Rattle.graphs.proofs.BitLemmas.{pair_place-lt, body_length-bounds}
+use Rattle.graphs.proofs.EdgeLemmas.{AreMarked, AreMarked-begin, AreMarked-more, AreMarked-done, ends_at}
+use Rattle.graphs.proofs.graph.set_all.Goals as goal
 
 pub loop-edge-init : goal.loop-edge-init
 loop-edge-init c = subst (λ (body : List ℕ). AreMarked c.args.n body c.args.edges.now 0) (sym c.requires.empty) (AreMarked-begin c.args.n c.args.edges.now)

@@ -1,0 +1,4 @@
+pub mod BitLemmas
+pub mod PairLemmas
+pub mod EdgeLemmas
+mod Cases
