@@ -7,7 +7,7 @@ use Rattle.simple_maps.specs.Faults.{first_fault}
 use Rattle.simple_maps.proofs.FaultLemmas.{IsSimpleMap-from_first_fault}
 use Rattle.pg_plane.specs.declared.figures.BarFigure.{BarFigure}
 use Rattle.vertex_rounds.specs.Rounds.{HasEdge}
-use Rattle.bar_check.specs.Bars.{number_at, edges_until, edges_before, edge_number, column_of, IsNewHeight, IsBar, IsColumn, IsStruck, IsEarlier, IsBreak, GoesOnceRound}
+use Rattle.drawings.specs.Bars.{number_at, edges_until, edges_before, edge_number, column_of, IsNewHeight, IsBar, IsColumn, IsStruck, IsEarlier, IsBreak, GoesOnceRound}
 use Rattle.bar_check.specs.Faults.{GoesThrough}
 use Rattle.bar_check.specs.Verdicts.{IsBarVerdict, NoBadColumn, NoneThrough}
 use Rattle.bar_check.specs.declared.verdict.BarVerdict.TheVariants.{BadShape, Yes}

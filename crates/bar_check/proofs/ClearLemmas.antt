@@ -8,7 +8,7 @@ use Rattle.half_edges.specs.Map.{Map, IsLive, dart_at}
 use Rattle.pg_plane.specs.declared.figures.BarFigure.{BarFigure}
 use Rattle.vertex_rounds.specs.Rounds.{HasEdge, dart_of}
 use Rattle.vertex_rounds.proofs.DartIds.{dart_of-is}
-use Rattle.bar_check.specs.Bars.{number_at, column_of, column_between, Holds, IsStruck}
+use Rattle.drawings.specs.Bars.{number_at, column_of, column_between, Holds, IsStruck}
 use Rattle.bar_check.specs.Verdicts.{HasHeights}
 use Rattle.bar_check.proofs.HeightLemmas.{natural_is}
 use Rattle.bar_check.specs.Tables.{AreClear, HasTops, IsSeen, DoGoRight, StandsAt}

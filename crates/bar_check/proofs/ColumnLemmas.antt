@@ -8,7 +8,7 @@ use Rattle.std.specs.Prelude.{length}
 use Rattle.pg_plane.specs.declared.figures.BarFigure.{BarFigure}
 use Rattle.vertex_rounds.specs.Least.{IsLeast}
 use Rattle.vertex_rounds.specs.Rounds.{HasEdge}
-use Rattle.bar_check.specs.Bars.{column_of}
+use Rattle.drawings.specs.Bars.{column_of}
 use Rattle.bar_check.specs.Faults.{GoesThrough}
 use Rattle.bar_check.specs.Loops.{IsStruckBelow, IsBlockedFrom, IsBlockedEdge}
 

@@ -4,7 +4,7 @@ use Rattle.std.proofs.lemmas.Bool.{cases_eq, true≢false}
 use Rattle.std.proofs.lemmas.Int.{ints}
 use Rattle.map_lists.specs.Lists.{Lists}
 use Rattle.pg_plane.specs.declared.figures.BarFigure.{BarFigure}
-use Rattle.bar_check.specs.Bars.{number_at, IsNewHeight}
+use Rattle.drawings.specs.Bars.{number_at, IsNewHeight}
 use Rattle.bar_check.specs.Tables.{AreSeen, IsFree}
 
 -- a number that is not below 0

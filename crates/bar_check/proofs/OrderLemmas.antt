@@ -6,7 +6,7 @@ use Rattle.map_theory.specs.Maps.{IsSimpleMap, list_of, entry_after}
 use Rattle.pg_plane.specs.declared.figures.BarFigure.{BarFigure}
 use Rattle.map_theory.proofs.DartLemmas.{Contains-entry_after}
 use Rattle.map_theory.proofs.RoundOrder.{sorted_from_once, once_from_sorted}
-use Rattle.bar_check.specs.Bars.{number_at, IsAbove, IsEarlier, GoesOnceRound}
+use Rattle.drawings.specs.Bars.{number_at, IsAbove, IsEarlier, GoesOnceRound}
 use Rattle.bar_check.specs.Laws.{IsInOrder}
 
 module _ (lists : Lists) (fig : BarFigure) (v : ℕ) where

@@ -6,7 +6,7 @@ use Rattle.map_lists.specs.Lists.{Lists}
 use Rattle.map_theory.specs.Maps.{HasDart, IsSimpleMap, list_of, place_of}
 use Rattle.map_theory.proofs.DartLemmas.{place_of-lt-length, get_or-place_of}
 use Rattle.pg_plane.specs.declared.figures.BarFigure.{BarFigure}
-use Rattle.bar_check.specs.Bars.{number_at, column_of, column_between, Holds}
+use Rattle.drawings.specs.Bars.{number_at, column_of, column_between, Holds}
 use Rattle.bar_check.specs.Verdicts.{HasHeights, NoneThrough}
 use Rattle.bar_check.specs.Tables.{DoGoRight, StandsAt}
 use Rattle.bar_check.specs.Reach.{IsRaised, IsReached, IsPassed, IsUp, IsBegun, HasReach, IsSwept}

@@ -5,7 +5,7 @@ use Rattle.map_lists.specs.declared.ids.VertexId.{VertexId}
 use Rattle.map_lists.specs.Lists.{Lists}
 use Rattle.map_theory.specs.Maps.{entry_after}
 use Rattle.pg_plane.specs.declared.figures.BarFigure.{BarFigure}
-use Rattle.bar_check.specs.Bars.{edges_until, edges_before}
+use Rattle.drawings.specs.Bars.{edges_until, edges_before}
 use Rattle.bar_check.specs.Verdicts.{IsBarVerdict}
 use Rattle.bar_check.specs.declared.verdict.BarVerdict.TheVariants.{BadBar, Through, Yes}
 

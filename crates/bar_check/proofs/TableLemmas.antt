@@ -12,12 +12,13 @@ use Rattle.vertex_rounds.specs.Rounds.{HasEdge, dart_of}
 use Rattle.vertex_rounds.specs.Least.{IsLeastPair}
 use Rattle.vertex_rounds.proofs.LeastLemmas.{IsLeastPair-alike}
 use Rattle.vertex_rounds.proofs.DartIds.{dart_of-live, has_dart}
-use Rattle.bar_check.specs.Bars.{number_at, edges_before, column_of, column_between, IsColumn}
+use Rattle.drawings.specs.Bars.{number_at, edges_before, column_of, column_between, IsColumn}
 use Rattle.bar_check.specs.Faults.{HasBadColumn}
 use Rattle.bar_check.specs.Verdicts.{NoBadColumn}
-use Rattle.bar_check.specs.Tables.{IsDartOf, AreColumns, IsWritten, IsMet, AreFilled, AreNext, IsMetBad, IsFirstMetBad, IsUpTo}
-use Rattle.bar_check.proofs.PassLemmas.{edge_here, number_is, AreNext-none, AreNext-next, AreNext-put, AreNext-past}
-use Rattle.bar_check.proofs.NumberCounts.{edge_number-lt}
+use Rattle.bar_check.specs.Tables.{IsDartOf, AreColumns, IsWritten, IsMet, AreFilled, IsMetBad, IsFirstMetBad, IsUpTo}
+use Rattle.drawings.specs.NextEdges.{AreNext}
+use Rattle.drawings.proofs.NextEdges.{edge_here, number_is, AreNext-none, AreNext-next, AreNext-put, AreNext-past}
+use Rattle.drawings.proofs.NumberCounts.{edge_number-lt}
 
 module _ (map : Map) (fig : BarFigure) (h : IsHalfMap map) where
   abbrev lists : Lists

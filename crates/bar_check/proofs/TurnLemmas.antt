@@ -4,7 +4,7 @@ use Rattle.std.proofs.lemmas.Bool.{true≢false}
 use Rattle.map_lists.specs.Lists.{Lists}
 use Rattle.map_theory.specs.Maps.{list_of, follows}
 use Rattle.pg_plane.specs.declared.figures.BarFigure.{BarFigure}
-use Rattle.bar_check.specs.Bars.{IsEarlier, GoesOnceRound}
+use Rattle.drawings.specs.Bars.{IsEarlier, GoesOnceRound}
 use Rattle.bar_check.specs.Faults.{IsTurned}
 use Rattle.bar_check.specs.Loops.{Breaks}
 use Rattle.vertex_rounds.specs.Rounds.{GoesOnce}

@@ -4,7 +4,7 @@ use Rattle.map_lists.specs.Lists.{Lists}
 use Rattle.map_theory.specs.Maps.{list_of}
 use Rattle.pg_plane.specs.declared.figures.BarFigure.{BarFigure}
 use Rattle.vertex_rounds.specs.Rounds.{HasEdge, ComesBefore}
-use Rattle.bar_check.specs.Bars.{number_at, column_of, IsNewHeight, IsBar, IsColumn, IsStruck, MeetInside, GoesOnceRound}
+use Rattle.drawings.specs.Bars.{number_at, column_of, IsNewHeight, IsBar, IsColumn, IsStruck, MeetInside, GoesOnceRound}
 
 -- the height of v is not from 0 to n - 1, or a lesser vertex has it
 pub record HasBadHeight (lists : Lists) (fig : BarFigure) (v : ℕ) : Type 0 where

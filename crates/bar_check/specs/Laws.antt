@@ -6,7 +6,7 @@ use Rattle.map_theory.specs.Maps.{IsSimpleMap, list_of, edge_count}
 use Rattle.map_theory.specs.Paths.{from_entry}
 use Rattle.pg_plane.specs.declared.figures.BarFigure.{BarFigure}
 use Rattle.vertex_rounds.specs.Rounds.{HasEdge, ComesBefore}
-use Rattle.bar_check.specs.Bars.{edge_number, IsEarlier, GoesOnceRound, IsValidBars}
+use Rattle.drawings.specs.Bars.{edge_number, IsEarlier, GoesOnceRound, IsValidBars}
 use Rattle.bar_check.specs.Verdicts.{IsBarVerdict}
 use Rattle.bar_check.specs.declared.verdict.BarVerdict.{BarVerdict}
 use Rattle.bar_check.specs.declared.verdict.BarVerdict.TheVariants.{Overlap, Yes}

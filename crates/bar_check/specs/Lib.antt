@@ -1,5 +1,4 @@
 -- What a check of a visibility drawing answers, and its laws.
-pub mod Bars
 pub mod Faults
 pub mod Verdicts
 pub mod Laws

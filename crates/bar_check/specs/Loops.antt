@@ -3,7 +3,7 @@ use Rattle.std.specs.Prelude.{ℕ, ◌<◌, ◌≡◌, length, ℤ}
 use Rattle.map_lists.specs.Lists.{Lists}
 use Rattle.pg_plane.specs.declared.figures.BarFigure.{BarFigure}
 use Rattle.vertex_rounds.specs.Rounds.{HasEdge}
-use Rattle.bar_check.specs.Bars.{column_of, IsStruck, IsBreak}
+use Rattle.drawings.specs.Bars.{column_of, IsStruck, IsBreak}
 
 -- a vertex that the edge from a to b, in column x, strikes
 abbrev pub IsStruckBelow : ℕ → BarFigure → ℕ → ℕ → ℤ → ℕ → Type 0

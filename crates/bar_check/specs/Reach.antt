@@ -3,7 +3,7 @@ use Rattle.std.specs.Prelude.{ℕ, ◌/◌, ◌<◌, ◌≡◌, ◌⊎◌, List,
 use Rattle.map_lists.specs.Lists.{Lists}
 use Rattle.map_theory.specs.Maps.{HasDart, list_of, place_of}
 use Rattle.pg_plane.specs.declared.figures.BarFigure.{BarFigure}
-use Rattle.bar_check.specs.Bars.{number_at, column_between, Holds}
+use Rattle.drawings.specs.Bars.{number_at, column_between, Holds}
 
 -- number i is y at least, and no number is less than it was
 pub record IsRaised (i : ℕ) (y : ℤ) (old new : List ℤ) : Type 0 where

@@ -1,6 +1,7 @@
 -- Tables by the ids of darts, of the column of each edge and of whether it is clear; and the highest bars that a sweep from below has met.
 use Rattle.std.specs.Prelude.{ℕ, ◌+◌, ◌<◌, ◌≤◌, Option, MatchOption, ◌≡◌, ◌≢◌, ◌⊎◌, ◌==◌, nat_lt, if◌then◌else◌, Bool, true, false, List, length, take, slice_index, slice_index_or, count_by, Some, ℤ, pos, ◌+ℤ◌, ◌≤ℤ◌, ◌<ℤ◌}
 use Rattle.map_lists.specs.Lists.{Lists}
+use Rattle.drawings.specs.NextEdges.{AreNext}
 use Rattle.map_lists.specs.declared.items.Ends.{Ends}
 use Rattle.map_theory.specs.Maps.{list_of, place_of}
 use Rattle.half_edges.specs.Map.{Map, IsLive, dart_at}
@@ -8,7 +9,7 @@ use Rattle.pg_plane.specs.declared.figures.BarFigure.{BarFigure}
 use Rattle.vertex_rounds.specs.Rounds.{HasEdge, dart_of}
 use Rattle.vertex_rounds.specs.Least.{IsLeastPair}
 use Rattle.bar_check.specs.Faults.{HasBadColumn}
-use Rattle.bar_check.specs.Bars.{number_at, edges_until, edges_before, column_of, column_between, Holds, IsStruck}
+use Rattle.drawings.specs.Bars.{number_at, edges_until, edges_before, column_of, column_between, Holds, IsStruck}
 
 -- e is the id of one of the two darts of the edge from a to c
 abbrev pub IsDartOf : Map → ℕ → ℕ → ℕ → Type 0
@@ -28,11 +29,6 @@ pub record IsWritten (d t : ℕ) (x : ℤ) (old new : List ℤ) : Type 0 where
 -- the edge from a to c is met before entry i of the list of b, where each is met at its greater end
 abbrev pub IsMet : Lists → ℕ → ℕ → ℕ → ℕ → Type 0
 IsMet lists b i a c = (c < b) ⊎ ((c ≡ b) × (place_of a (list_of lists b) < i))
-
--- The lists before that of b have been gone over, and the first i entries of that of b: `next` says for each vertex the number of its next edge upwards.
-abbrev pub AreNext : Lists → ℕ → ℕ → List ℕ → Type 0
-AreNext lists b i next =
-    (a : ℕ) → a < length lists → slice_index next a ≡ edges_before lists a + edges_until lists a b + (if nat_lt a b then count_by (λ u. u == a) (take i (list_of lists b)) else 0)
 
 -- `AreNext`, and the columns of the edges that were met are written
 pub record AreFilled (map : Map) (fig : BarFigure) (b i : ℕ) (next : List ℕ) (columns : List ℤ) : Type 0 where

@@ -4,7 +4,7 @@ use Rattle.map_lists.specs.Lists.{Lists}
 use Rattle.map_theory.specs.Maps.{list_of, edge_count}
 use Rattle.pg_plane.specs.declared.figures.BarFigure.{BarFigure}
 use Rattle.vertex_rounds.specs.Least.{IsLeast, IsLeastPair, IsLeastTriple, IsLeastFour}
-use Rattle.bar_check.specs.Bars.{IsNewHeight, IsBar, GoesOnceRound, IsValidBars}
+use Rattle.drawings.specs.Bars.{IsNewHeight, IsBar, GoesOnceRound, IsValidBars}
 use Rattle.bar_check.specs.Faults.{HasBadHeight, HasBadBar, HasBadColumn, GoesThrough, DoOverlap, IsTurned}
 use Rattle.bar_check.specs.declared.verdict.BarVerdict.{BarVerdict}
 use Rattle.bar_check.specs.declared.verdict.BarVerdict.TheVariants.{BadShape, BadHeight, BadBar, BadColumn, Through, Overlap, Turned, Yes}

@@ -3,7 +3,7 @@ ghost use Rattle.std.specs.Prelude.{◌*◌, ◌<◌, ◌≤◌, ◌↔◌, ℕ,
 ghost use Rattle.half_edges.specs.Map.{IsLive};
 ghost use Rattle.vertex_rounds.specs.Least.{IsLeast, IsLeastPair, IsLeastTriple};
 ghost use Rattle.vertex_rounds.specs.Rounds.{HoldsAt};
-ghost use Rattle.bar_check.specs.Bars.{number_at, IsBetween, IsStruck};
+ghost use Rattle.drawings.specs.Bars.{number_at, IsBetween, IsStruck};
 ghost use Rattle.bar_check.specs.Faults.{GoesThrough};
 ghost use Rattle.bar_check.specs.Verdicts.{NoneThrough};
 ghost use Rattle.bar_check.specs.Loops.{IsStruckBelow, IsBlockedFrom, IsBlockedEdge};

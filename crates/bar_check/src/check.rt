@@ -1,7 +1,7 @@
 //! The public call `check_bars`, which finds a visibility drawing's first fault, and its stages with fixed-size tables.
 ghost use Rattle.std.specs.Prelude.{◌≡◌, ◌<◌, ◌≤◌, length, MatchOption};
 ghost use Rattle.map_theory.specs.Maps.{edge_count};
-ghost use Rattle.bar_check.specs.Bars.{HasBars, IsValidBars};
+ghost use Rattle.drawings.specs.Bars.{HasBars, IsValidBars};
 ghost use Rattle.bar_check.specs.Verdicts.{HasShape, HasHeights, AreBars, NoneThrough, NoneOverlap, KeepsTurns, IsBarVerdict};
 
 use crate::BarVerdict;

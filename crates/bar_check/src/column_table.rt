@@ -4,10 +4,11 @@ ghost use Rattle.map_theory.specs.Maps.{list_of, place_of};
 ghost use Rattle.half_edges.specs.Map.{IsLive, dart_at, first_dart};
 ghost use Rattle.vertex_rounds.specs.Least.{IsLeastPair};
 ghost use Rattle.vertex_rounds.specs.Rounds.{dart_of};
-ghost use Rattle.bar_check.specs.Bars.{number_at, IsColumn, column_of as the_column, column_between as the_column_between};
+ghost use Rattle.drawings.specs.Bars.{number_at, IsColumn, column_of as the_column, column_between as the_column_between};
 ghost use Rattle.bar_check.specs.Faults.{HasBadColumn};
 ghost use Rattle.bar_check.specs.Verdicts.{NoBadColumn};
-ghost use Rattle.bar_check.specs.Tables.{AreColumns, AreFilled, AreNext, IsFirstMetBad};
+ghost use Rattle.bar_check.specs.Tables.{AreColumns, AreFilled, IsFirstMetBad};
+ghost use Rattle.drawings.specs.NextEdges.{AreNext};
 
 use crate::drawing::{BarDrawing, Bars, GreaterEnd, LesserEnd};
 use crate::edge_indices::edges_with;

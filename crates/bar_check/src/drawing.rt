@@ -1,6 +1,6 @@
 //! The types the check passes on: the bars of a figure that passed the first tests, and with them its edges' columns.
 ghost use Rattle.std.specs.Prelude.{◌≡◌, ◌*◌, ◌<◌, ◌≤◌, length};
-ghost use Rattle.bar_check.specs.Bars.{edges_before};
+ghost use Rattle.drawings.specs.Bars.{edges_before};
 ghost use Rattle.bar_check.specs.Verdicts.{HasShape, HasHeights, AreBars, NoBadColumn};
 ghost use Rattle.bar_check.specs.Tables.{AreClear, AreColumns, StandsAt};
 

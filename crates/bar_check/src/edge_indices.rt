@@ -2,7 +2,7 @@
 ghost use Rattle.std.specs.Prelude.{◌≡◌, ◌+◌, ◌*◌, ◌<◌, ◌≤◌, ◌&&◌, nat_lt, ℕ, List, length, take, count_by, slice_index, Some};
 ghost use Rattle.map_theory.specs.Maps.{list_of};
 ghost use Rattle.half_edges.specs.Map.{dart_at, first_dart};
-ghost use Rattle.bar_check.specs.Bars.{number_at, edges_until as the_edges_until, edges_before as the_edges_before, column_of as the_column, column_between as the_column_between};
+ghost use Rattle.drawings.specs.Bars.{number_at, edges_until as the_edges_until, edges_before as the_edges_before, column_of as the_column, column_between as the_column_between};
 
 use crate::drawing::BarDrawing;
 use crate::heights_and_bars::entry_or_zero;

@@ -5,7 +5,7 @@ ghost use Rattle.std.specs.Bool.{OnTrue};
 ghost use Rattle.half_edges.specs.Map.{IsLive, dart_at, first_dart};
 ghost use Rattle.pg_plane.specs.declared.figures.BarFigure.{BarFigure as Bars};
 ghost use Rattle.vertex_rounds.specs.Rounds.{HasEdge, dart_of};
-ghost use Rattle.bar_check.specs.Bars.{number_at, column_of, IsStruck};
+ghost use Rattle.drawings.specs.Bars.{number_at, column_of, IsStruck};
 ghost use Rattle.bar_check.specs.Tables.{AreClear, HasTops, IsSeen, StandsAt};
 
 use crate::drawing::{Bar, OrderedBars};

@@ -1,7 +1,7 @@
 //! Tests of heights and bars, vertex by vertex, and whether bars hold a column.
 ghost use Rattle.std.specs.Prelude.{◌≡◌, ◌≢◌, ◌<◌, ◌≤◌, ◌↔◌, ℕ, true, false, length, slice_index_or, pos, IsTrue, MatchOption};
 ghost use Rattle.vertex_rounds.specs.Least.{IsLeast};
-ghost use Rattle.bar_check.specs.Bars.{number_at, Holds, IsBar, IsColumn};
+ghost use Rattle.drawings.specs.Bars.{number_at, Holds, IsBar, IsColumn};
 ghost use Rattle.bar_check.specs.Faults.{HasBadHeight, HasBadBar};
 ghost use Rattle.bar_check.specs.Verdicts.{HasHeights, AreBars};
 ghost use Rattle.bar_check.specs.Tables.{IsFree};

@@ -5,7 +5,7 @@ ghost use Rattle.half_edges.specs.Map.{IsLive};
 ghost use Rattle.vertex_rounds.specs.Least.{IsLeast};
 ghost use Rattle.vertex_rounds.specs.Rounds.{HoldsAt};
 ghost use Rattle.bar_check.specs.Loops.{Breaks};
-ghost use Rattle.bar_check.specs.Bars.{column_between as the_column, IsAbove, IsEarlier};
+ghost use Rattle.drawings.specs.Bars.{column_between as the_column, IsAbove, IsEarlier};
 ghost use Rattle.bar_check.specs.Faults.{IsTurned};
 ghost use Rattle.bar_check.specs.Verdicts.{KeepsTurns};
 

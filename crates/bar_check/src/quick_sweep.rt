@@ -7,7 +7,7 @@ ghost use Rattle.std.specs.Bool.{OnTrue};
 ghost use Rattle.map_theory.specs.Maps.{list_of, place_of};
 ghost use Rattle.half_edges.specs.Map.{IsLive, dart_at, first_dart};
 ghost use Rattle.vertex_rounds.specs.Rounds.{dart_of};
-ghost use Rattle.bar_check.specs.Bars.{number_at, Holds};
+ghost use Rattle.drawings.specs.Bars.{number_at, Holds};
 ghost use Rattle.bar_check.specs.Verdicts.{NoneThrough};
 ghost use Rattle.bar_check.specs.Tables.{StandsAt};
 ghost use Rattle.bar_check.specs.Reach.{IsRaised, IsReached, IsPassed, IsUp, IsBegun, HasReach, IsSwept};

@@ -11,8 +11,8 @@ use Rattle.map_theory.proofs.DartPermutations.{dart_of, rotation, twin}
 use Rattle.plane_laws.proofs.DartPaths.{twin-number, rotation-number, numbers_apart}
 use Rattle.pg_plane.specs.declared.figures.BarFigure.{BarFigure}
 use Rattle.vertex_rounds.specs.Rounds.{HasEdge}
-use Rattle.bar_check.specs.Bars.{number_at, edge_number, column_of, column_between, IsNewHeight, IsBar, Holds, IsColumn, IsStruck, IsAbove, IsEarlier, IsBreak, GoesOnceRound, IsValidBars}
-use Rattle.bar_check.proofs.OverlapLemmas.{valid_bars}
+use Rattle.drawings.specs.Bars.{number_at, edge_number, column_of, column_between, IsNewHeight, IsBar, Holds, IsColumn, IsStruck, IsAbove, IsEarlier, IsBreak, GoesOnceRound, IsValidBars}
+use Rattle.drawings.proofs.BarsApart.{valid_bars}
 use Rattle.bipolar.proofs.Upward.{IsRising}
 use Rattle.bipolar.proofs.RisingNumbers.{column, column_of_up, column_of_down, Passes, one_side}
 use Rattle.bipolar.proofs.Turns.{some_break, one_break}
@@ -231,8 +231,8 @@ module _ {lists : Lists} {s t : ℕ} {at rank columns : List ℕ} {fig : BarFigu
   valid : IsValidBars lists fig (pos (face_count lists - 1))
   valid =
       valid_bars lists fig (pos (face_count lists - 1)) x.simple (ap length drawn.column ∙ (length-map columns pos ∙ edges.count)) new_height bar
-      (λ a b h. h.bad (column_is a b h.edge))
-      (λ a b v h. clear a b v h.edge h.vertex h.struck)
+      column_is
+      clear
       turns
 
 pub dual_numbers_are_bars : DualNumbersAreBars

@@ -3,7 +3,7 @@ use Rattle.std.specs.Prelude.{ℕ, ◌<◌, ◌≡◌, List, length, map, pos, �
 use Rattle.map_lists.specs.Lists.{Lists}
 use Rattle.map_theory.specs.Maps.{HasDart}
 use Rattle.pg_plane.specs.declared.figures.BarFigure.{BarFigure}
-use Rattle.bar_check.specs.Bars.{number_at, column_between}
+use Rattle.drawings.specs.Bars.{number_at, column_between}
 
 -- the bar of v reaches from the least column of its edges to the greatest
 pub record Reaches (lists : Lists) (fig : BarFigure) (v : ℕ) : Type 0 where

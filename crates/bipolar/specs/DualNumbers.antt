@@ -3,7 +3,7 @@ use Rattle.std.specs.Prelude.{ℕ, ◌+◌, ◌<◌, ◌≡◌, nat_lt, if◌the
 use Rattle.map_lists.specs.Lists.{Lists}
 use Rattle.map_theory.specs.Maps.{Dart, HasDart, edge_count}
 use Rattle.map_theory.specs.Paths.{SameFace}
-use Rattle.bar_check.specs.Bars.{edge_number}
+use Rattle.drawings.specs.Bars.{edge_number}
 
 -- the edge goes upwards from u to v; the face of the dart (u, v) is on its left, and that of (v, u) on its right
 abbrev pub IsUpward : Lists → List ℕ → ℕ → ℕ → Type 0

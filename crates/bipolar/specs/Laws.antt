@@ -4,7 +4,7 @@ use Rattle.map_lists.specs.Lists.{Lists}
 use Rattle.map_theory.specs.Maps.{Dart, HasDart, IsSimpleMap, IsPlane, component_count, face_count}
 use Rattle.pg_plane.specs.declared.figures.BarFigure.{BarFigure}
 use Rattle.st_orders.specs.StOrders.{IsStOrder}
-use Rattle.bar_check.specs.Bars.{IsValidBars}
+use Rattle.drawings.specs.Bars.{IsValidBars}
 use Rattle.bipolar.specs.DualNumbers.{IsFaceNumbering, AreDualNumbers}
 use Rattle.bipolar.specs.Drawn.{IsDrawnBy}
 

@@ -12,7 +12,7 @@ use Rattle.plane_drawings.specs.Drawing.{place}
 use Rattle.vertex_rounds.specs.Rounds.{dart_of}
 use Rattle.euler_faces.proofs.WalkFaces.{in_class, in_walk}
 use Rattle.convex_check.specs.Verdicts.{NoneBent, IsBentFrom}
-use Rattle.convex_check.specs.Convex.{IsBent}
+use Rattle.drawings.specs.Convex.{IsBent}
 use Rattle.vertex_rounds.specs.Least.{IsLeastPair, IsLeastTriple}
 
 -- Two ids stand in one walk exactly where their darts are in one face.

@@ -7,7 +7,7 @@ use Rattle.classes.specs.Classes.{merge}
 use Rattle.map_lists.specs.Lists.{Lists}
 use Rattle.map_theory.specs.Maps.{entry_after}
 use Rattle.pg_plane.specs.declared.grid_points.Point.{Point}
-use Rattle.convex_check.specs.Convex.{IsBent}
+use Rattle.drawings.specs.Convex.{IsBent}
 
 -- neighbours clockwise
 abbrev triangle : Lists

@@ -9,7 +9,7 @@ use Rattle.pg_plane.proofs.Near.{same_point}
 use Rattle.pg_plane.proofs.Segments.{IsOnSegment-back}
 use Rattle.plane_drawings.specs.PlaneSweepLines.{IsBefore}
 use Rattle.plane_drawings.proofs.Areas.{early_off, late_off}
-use Rattle.convex_check.specs.Corners.{IsOnTriangle, AreCorners, HasCorners}
+use Rattle.drawings.specs.Corners.{IsOnTriangle, AreCorners, HasCorners}
 
 -- one of two points comes before the other, or they are one
 pub cases_before : (p q : Point) → IsBefore p q ⊎ ((p ≡ q) ⊎ IsBefore q p)

@@ -13,8 +13,8 @@ use Rattle.pg_plane.specs.Range.{IsInRange}
 use Rattle.plane_drawings.specs.Drawing.{place, HasPlaces}
 use Rattle.vertex_rounds.specs.Rounds.{dart_of}
 use Rattle.vertex_rounds.proofs.DartIds.{dart_of-is, has_dart}
-use Rattle.convex_check.specs.Corners.{IsOnTriangle, HasCorners}
-use Rattle.convex_check.specs.Convex.{IsOnFace, HasOuterCorners}
+use Rattle.drawings.specs.Corners.{IsOnTriangle, HasCorners}
+use Rattle.drawings.specs.Convex.{IsOnFace, HasOuterCorners}
 use Rattle.convex_check.specs.Walks.{AreWalkPlaces}
 use Rattle.convex_check.proofs.BendLemmas.{one_walk_face, in_walk_of}
 

@@ -5,7 +5,7 @@ use Rattle.map_lists.specs.declared.ids.VertexId.{VertexId}
 use Rattle.map_theory.specs.Maps.{Dart}
 use Rattle.map_theory.specs.Paths.{SameFace}
 use Rattle.pg_plane.specs.declared.grid_points.Point.{Point}
-use Rattle.convex_check.specs.Convex.{HasOuterCorners}
+use Rattle.drawings.specs.Convex.{HasOuterCorners}
 use Rattle.convex_check.specs.Verdicts.{IsConvexVerdict}
 use Rattle.convex_check.specs.declared.verdict.ConvexVerdict.TheVariants.{Bent, OuterBent, Yes}
 

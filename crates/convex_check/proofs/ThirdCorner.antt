@@ -8,7 +8,7 @@ use Rattle.pg_plane.proofs.Identities.{heights, cross_back}
 use Rattle.pg_plane.proofs.Segments.{IsOnSegment-back}
 use Rattle.std.proofs.Math.IntN.{zero-*ℤ}
 use Rattle.pg_plane.proofs.Near.{same_point}
-use Rattle.convex_check.specs.Corners.{IsOnTriangle}
+use Rattle.drawings.specs.Corners.{IsOnTriangle}
 
 -- the same for the widths of three vectors
 widths : (u v w : Point) → (((cross v w) *ℤ u.x) +ℤ ((cross w u) *ℤ v.x)) +ℤ ((cross u v) *ℤ w.x) ≡ pos 0

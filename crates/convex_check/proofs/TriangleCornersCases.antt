@@ -3,7 +3,7 @@ use Rattle.std.specs.Prelude.{ℤ, pos, refl}
 use Rattle.std.proofs.Common.{inl, arith}
 use Rattle.std.proofs.lemmas.Int.{ints}
 use Rattle.pg_plane.specs.declared.grid_points.Point.{Point}
-use Rattle.convex_check.specs.Corners.{IsOnTriangle}
+use Rattle.drawings.specs.Corners.{IsOnTriangle}
 
 abbrev pub at : ℤ → ℤ → Point
 at x y = record { x = x; y = y }

@@ -3,7 +3,7 @@ use Rattle.std.proofs.Common.{◌≡◌, ◌↔◌, ◌<◌, ℕ, zero, suc, Lis
 use Rattle.std.proofs.lemmas.Int.{ints}
 use Rattle.pg_plane.specs.declared.grid_points.Point.{Point}
 use Rattle.plane_drawings.specs.PlaneSweepLines.{IsBefore}
-use Rattle.convex_check.specs.Corners.{IsOnTriangle, AreCorners, HasCorners}
+use Rattle.drawings.specs.Corners.{IsOnTriangle, AreCorners, HasCorners}
 use Rattle.convex_check.proofs.Points.{point_at, each_point}
 use Rattle.convex_check.proofs.TriangleCornersCases.{at}
 

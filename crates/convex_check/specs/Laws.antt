@@ -3,7 +3,7 @@ use Rattle.std.specs.Prelude.{◌≡◌, ◌↔◌, List}
 use Rattle.map_lists.specs.Lists.{Lists}
 use Rattle.map_theory.specs.Maps.{Dart}
 use Rattle.pg_plane.specs.declared.grid_points.Point.{Point}
-use Rattle.convex_check.specs.Convex.{IsConvex}
+use Rattle.drawings.specs.Convex.{IsConvex}
 use Rattle.convex_check.specs.Verdicts.{IsConvexVerdict}
 use Rattle.convex_check.specs.declared.verdict.ConvexVerdict.{ConvexVerdict}
 use Rattle.convex_check.specs.declared.verdict.ConvexVerdict.TheVariants.{Yes}

@@ -6,7 +6,7 @@ use Rattle.half_edges.specs.Map.{Map}
 use Rattle.pg_plane.specs.declared.grid_points.Point.{Point}
 use Rattle.vertex_rounds.specs.Least.{IsLeastTriple}
 use Rattle.vertex_rounds.specs.Rounds.{dart_of}
-use Rattle.convex_check.specs.Convex.{IsBent, HasOuterCorners, IsConvex}
+use Rattle.drawings.specs.Convex.{IsBent, HasOuterCorners, IsConvex}
 use Rattle.convex_check.specs.declared.verdict.ConvexVerdict.{ConvexVerdict}
 use Rattle.convex_check.specs.declared.verdict.ConvexVerdict.TheVariants.{Bent, OuterBent, Yes}
 

@@ -7,7 +7,7 @@ ghost use Rattle.pg_plane.specs.Geometry.{area};
 ghost use Rattle.plane_drawings.specs.Drawing.{place};
 ghost use Rattle.vertex_rounds.specs.Least.{IsLeast, IsLeastPair, IsLeastTriple};
 ghost use Rattle.vertex_rounds.specs.Rounds.{dart_of, HoldsAt};
-ghost use Rattle.convex_check.specs.Convex.{IsBent};
+ghost use Rattle.drawings.specs.Convex.{IsBent};
 ghost use Rattle.convex_check.specs.Verdicts.{IsBentFrom, NoneBent};
 
 use crate::drawing::BasedDrawing;

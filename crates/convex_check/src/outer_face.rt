@@ -4,7 +4,7 @@ ghost use Rattle.half_edges.specs.Map.{IsLive};
 ghost use Rattle.euler_faces.specs.FaceWalks.{AreFaces, ids_of};
 ghost use Rattle.pg_plane.specs.Range.{IsInRange};
 ghost use Rattle.vertex_rounds.specs.Rounds.{dart_of};
-ghost use Rattle.convex_check.specs.Convex.{HasOuterCorners};
+ghost use Rattle.drawings.specs.Convex.{HasOuterCorners};
 ghost use Rattle.convex_check.specs.Walks.{AreWalkPlaces};
 
 use crate::drawing::BasedDrawing;

@@ -6,7 +6,7 @@ ghost use Rattle.std.specs.Prelude.{◌≡◌, ◌⊎◌, ◌<◌, ◌↔◌, �
 ghost use Rattle.pg_plane.specs.Geometry.{area};
 ghost use Rattle.pg_plane.specs.Range.{IsInRange};
 ghost use Rattle.plane_drawings.specs.PlaneSweepLines.{IsBefore};
-ghost use Rattle.convex_check.specs.Corners.{IsOnTriangle, AreCorners, HasCorners};
+ghost use Rattle.drawings.specs.Corners.{IsOnTriangle, AreCorners, HasCorners};
 
 use pg_plane::{Point, area2, on_segment};
 

@@ -10,7 +10,7 @@ use Rattle.pg_plane.specs.declared.figures.GridFigure.{GridFigure}
 use Rattle.pg_plane.specs.Geometry.{area}
 use Rattle.pg_plane.proofs.Segments.{IsOnSegment-back}
 use Rattle.plane_drawings.specs.Drawing.{place, IsInGrid}
-use Rattle.draw_check.proofs.FacesJoined.{SameFace-turned}
+use Rattle.drawings.proofs.FacesJoined.{SameFace-turned}
 use Rattle.contour_runs.specs.FaceRuns.{Step, stage_after, faces_made, IsRun}
 use Rattle.contour_runs.proofs.FaceRunsPlaces.{order, cut-add}
 use Rattle.contour_runs.proofs.FaceRunsStages.{IsStage-run, IsRun-less}
@@ -25,7 +25,7 @@ use Rattle.convex_laws.specs.ConvexWoodsLaws.{IsNamedRun}
 use Rattle.convex_laws.proofs.WoodRegions.{regions_draw, some_wood, some_wood-rises}
 use Rattle.convex_laws.specs.ConvexDrawings.{AreCountPoints, IsConvexDrawing, grid_point}
 use Rattle.convex_laws.proofs.ConvexDrawingsTurned.{touched_run_draws}
-use Rattle.convex_check.specs.Convex.{IsConvex}
+use Rattle.drawings.specs.Convex.{IsConvex}
 use Rattle.convex_laws.specs.declared.convex_rows.rows.ConvexRows.{ConvexRows}
 use Rattle.convex_draw.specs.Points.{IsListedRun, ArePointsOf}
 use Rattle.convex_laws.proofs.ConvexWoodsTurned.{faces_made-well_turned}

@@ -7,11 +7,11 @@ use Rattle.half_edges.specs.Map.{first_dart}
 use Rattle.pg_plane.specs.declared.grid_points.Point.{Point}
 use Rattle.pg_plane.specs.declared.figures.GridFigure.{GridFigure}
 use Rattle.plane_drawings.specs.Drawing.{place}
-use Rattle.draw_check.specs.Laws.{IsValid}
+use Rattle.drawings.specs.Valid.{IsValid}
 use Rattle.convex_counts.specs.declared.face_woods.axis.Axis.{Axis}
 use Rattle.convex_laws.specs.ConvexDrawings.{grid_point}
 use Rattle.convex_laws.specs.RegionDrawings.{IsRegionDrawing}
-use Rattle.convex_check.specs.Convex.{IsConvex}
+use Rattle.drawings.specs.Convex.{IsConvex}
 
 -- how far the grid reaches in both directions: as far as there are faces besides one
 abbrev pub side_of : Lists → ℕ

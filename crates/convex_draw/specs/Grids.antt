@@ -5,11 +5,11 @@ use Rattle.map_theory.specs.Maps.{HasDart, face_count}
 use Rattle.map_theory.specs.Paths.{SameFace}
 use Rattle.pg_plane.specs.declared.figures.GridFigure.{GridFigure}
 use Rattle.plane_drawings.specs.Drawing.{place}
-use Rattle.draw_check.specs.Laws.{IsValid}
+use Rattle.drawings.specs.Valid.{IsValid}
 use Rattle.convex_counts.specs.declared.face_woods.axis.Axis.{Axis}
 use Rattle.convex_laws.specs.ConvexDrawings.{grid_point}
 use Rattle.convex_laws.specs.RegionDrawings.{IsRegionDrawing}
-use Rattle.convex_check.specs.Convex.{IsConvex}
+use Rattle.drawings.specs.Convex.{IsConvex}
 
 -- The figure draws the map plane and convex, by the regions of a convex wood, with the rotations kept, in a grid of one less than the number of faces in both directions. The base goes from the upper left corner to the lower right one, and the vertex before it on its face stands at the lower left one.
 pub record IsConvexGrid (lists : Lists) (s d : ℕ) (figure : GridFigure) : Type 0 where

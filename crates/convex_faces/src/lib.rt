@@ -1,12 +1,11 @@
-//! Convex drawings by counts of faces (Felsner 2001): the convex realizer of a map, the regions of its vertices, the
-//! drawing, and the check.
+//! Convex drawings by counts of faces (Felsner 2001): the convex realizer of a map, the regions of its vertices, and
+//! the drawing.
 #![tactic(auto)]
 
 pub mod face_regions;
 pub mod walk_sides;
 pub mod wood;
 
-pub use convex_check::{ConvexVerdict, check_convex};
 pub use convex_draw::convex_draw;
 pub use convex_laws::closed_walks;
 pub use face_regions::face_region;

@@ -5,8 +5,9 @@ use Rattle.classes.specs.Classes.{merge}
 use Rattle.map_lists.specs.Lists.{Lists}
 use Rattle.map_theory.specs.Maps.{entry_after}
 use Rattle.pg_plane.specs.declared.grid_points.Point.{Point}
-use Rattle.draw_check.specs.Verdicts.{AllInGrid, IsVerdict}
-use Rattle.draw_check.specs.Outer.{face_sum}
+use Rattle.drawings.specs.Valid.{AllInGrid}
+use Rattle.draw_check.specs.Verdicts.{IsVerdict}
+use Rattle.drawings.specs.OuterFaces.{face_sum}
 use Rattle.draw_check.specs.declared.verdict.Verdict.TheVariants.{OutOfGrid, SamePlace}
 
 abbrev at : ℤ → ℤ → Point

@@ -13,7 +13,8 @@ use Rattle.pg_plane.specs.declared.grid_points.Point.{Point}
 use Rattle.plane_drawings.specs.Drawing.{IsCounterclockwise}
 use Rattle.draw_check.specs.Corners.{IsCornerWell, IsRoundWell}
 use Rattle.draw_check.specs.FaceVerdicts.{IsDrawnWell}
-use Rattle.draw_check.proofs.FaceLemmas.{thrice, on_base, same_itself, counterclockwise_from}
+use Rattle.drawings.proofs.FaceSteps.{thrice, on_base, same_itself}
+use Rattle.draw_check.proofs.FaceLemmas.{counterclockwise_from}
 
 -- the entry after one of a list comes at the next place, or it is the first
 after_is : (us : List ℕ) (z k n : ℕ) → k ≡ place_of z us → n ≡ length us → k < n → ((k + 1 < n) × (place_after n k ≡ k + 1)) ⊎ ((k ≡ n - 1) × (place_after n k ≡ 0))

@@ -9,7 +9,7 @@ use Rattle.pg_plane.specs.Geometry.{vector, cross, area}
 use Rattle.pg_plane.specs.Range.{IsWithin, IsInRange}
 use Rattle.pg_plane.proofs.Products.{IsWithin-product}
 use Rattle.plane_drawings.specs.Drawing.{place}
-use Rattle.draw_check.specs.Outer.{swept, sum_over}
+use Rattle.drawings.specs.OuterFaces.{swept, sum_over}
 
 -- the triangle from (0, 0) along a dart
 from_zero : (p : Point) → vector (record { x = pos 0; y = pos 0 }) p ≡ p

@@ -15,7 +15,7 @@ use Rattle.vertex_rounds.specs.Rounds.{dart_of}
 use Rattle.vertex_rounds.proofs.DartIds.{dart_of-live, dart_of-is, has_dart}
 use Rattle.draw_check.specs.FaceVerdicts.{IsDrawnWell, IsDrawnWrong, IsWrongFrom}
 use Rattle.vertex_rounds.specs.Least.{IsLeastPair, IsLeastTriple}
-use Rattle.draw_check.proofs.FaceLemmas.{same_step, same_itself, on_base}
+use Rattle.drawings.proofs.FaceSteps.{same_step, same_itself, on_base}
 
 module _ (map : Map) (h : IsHalfMap map) where
   module _ (c : IsTriangulation map.lists) (base d second third : ℕ) (live : IsLive map base) (live' : IsLive map d) (step : dart_at map second ≡ option_map (face_step map.lists) (dart_at map base)) (step' : dart_at map third ≡ option_map (face_step map.lists) (dart_at map second)) where

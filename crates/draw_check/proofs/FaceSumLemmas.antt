@@ -18,7 +18,8 @@ use Rattle.pg_plane.specs.declared.grid_points.Point.{Point}
 use Rattle.pg_plane.specs.Range.{IsWithin}
 use Rattle.plane_drawings.specs.Drawing.{HasPlaces}
 use Rattle.vertex_rounds.specs.Rounds.{dart_of}
-use Rattle.draw_check.specs.Outer.{swept, sum_over, face_sum, IsInside, HasOuterFace}
+use Rattle.drawings.specs.OuterFaces.{swept, sum_over, face_sum, HasOuterFace}
+use Rattle.draw_check.specs.Outer.{IsInside}
 use Rattle.draw_check.specs.FaceSums.{is_on_walk, AreSumsBelow, HasLowSum}
 use Rattle.draw_check.proofs.DartSums.{sum_over-take, sum_over-within, swept-within}
 use Rattle.euler_faces.proofs.WalkFaces.{in_class, in_walk}

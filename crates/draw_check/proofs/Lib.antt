@@ -1,9 +1,5 @@
 -- The lemmas on checks of drawings.
 pub mod DartSums
-pub mod DartTotals
-pub mod FacesJoined
-pub mod TriangleSums
-pub mod OuterFewer
 pub mod FaceSumLemmas
 pub mod FaceIds
 pub mod FaceLemmas
@@ -16,6 +12,5 @@ mod StarLemmas
 mod OnEdgeLemmas
 mod Cases
 pub mod TurnLemmas
-pub mod ValidFewer
 pub mod ValidYes
 mod Refused

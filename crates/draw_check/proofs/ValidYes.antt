@@ -9,7 +9,7 @@ use Rattle.plane_drawings.specs.Drawing.{place, IsPlaneDrawing}
 use Rattle.draw_check.specs.declared.verdict.Verdict.TheVariants.{Yes}
 use Rattle.vertex_rounds.specs.Rounds.{HasEdge}
 use Rattle.draw_check.specs.Verdicts.{NoneShareAPlace, NoneOnEdge, NoneCross, IsVerdict}
-use Rattle.draw_check.specs.Laws.{IsValid}
+use Rattle.drawings.specs.Valid.{IsValid}
 use Rattle.pg_plane.proofs.Segments.{IsOnSegment-back, DoCross-first_back, DoCross-second_back, DoCross-exchanged}
 
 module _ (lists : Lists) (points : List Point) (simple : IsSimpleMap lists) (apart : NoneShareAPlace lists points) (off : NoneOnEdge lists points) (none : NoneCross lists points) where

@@ -7,7 +7,7 @@ use Rattle.half_edges.specs.Map.{Map}
 use Rattle.euler_faces.specs.FaceWalks.{walk_at, first_number}
 use Rattle.pg_plane.specs.declared.grid_points.Point.{Point}
 use Rattle.vertex_rounds.specs.Rounds.{dart_of}
-use Rattle.draw_check.specs.Outer.{swept, sum_over}
+use Rattle.drawings.specs.OuterFaces.{swept, sum_over}
 
 -- a dart lies on the face of a walk
 abbrev pub is_on_walk : Map → List ℕ → Dart → Bool

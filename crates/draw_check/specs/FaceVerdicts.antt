@@ -10,7 +10,7 @@ use Rattle.plane_drawings.specs.Drawing.{place, IsCounterclockwise}
 use Rattle.vertex_rounds.specs.Least.{IsLeast, IsLeastTriple}
 use Rattle.vertex_rounds.specs.Rounds.{dart_of}
 use Rattle.draw_check.specs.Faults.{LeavesGrid}
-use Rattle.draw_check.specs.Verdicts.{AllInGrid}
+use Rattle.drawings.specs.Valid.{AllInGrid}
 use Rattle.draw_check.specs.declared.verdict.FaceVerdict.{FaceVerdict}
 use Rattle.draw_check.specs.declared.verdict.FaceVerdict.TheVariants.{OutOfGrid, Wrong, Yes}
 

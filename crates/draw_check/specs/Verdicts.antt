@@ -3,14 +3,11 @@ use Rattle.std.specs.Prelude.{ℕ, ◌<◌, List, length, ℤ}
 use Rattle.map_lists.specs.Lists.{Lists}
 use Rattle.pg_plane.specs.declared.grid_points.Point.{Point}
 use Rattle.plane_drawings.specs.Drawing.{place, IsInGrid, KeepsRotations}
+use Rattle.drawings.specs.Valid.{AllInGrid}
 use Rattle.vertex_rounds.specs.Least.{IsLeast, IsLeastPair, IsLeastTriple, IsLeastFour}
 use Rattle.draw_check.specs.Faults.{LeavesGrid, ShareAPlace, LiesOnEdge, EdgesCross, IsTurned}
 use Rattle.draw_check.specs.declared.verdict.Verdict.{Verdict}
 use Rattle.draw_check.specs.declared.verdict.Verdict.TheVariants.{OutOfGrid, SamePlace, OnEdge, Cross, Turned, Yes}
-
--- all vertices lie in the grid
-abbrev pub AllInGrid : Lists → List Point → ℤ → ℤ → Type 0
-AllInGrid lists points width height = (v : ℕ) → v < length lists → IsInGrid width height (place points v)
 
 -- no two vertices stand at one place
 abbrev pub NoneShareAPlace : Lists → List Point → Type 0

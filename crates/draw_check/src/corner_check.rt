@@ -4,7 +4,7 @@ ghost use Rattle.std.specs.Bool.{OnTrue};
 ghost use Rattle.half_edges.specs.Map.{first_dart};
 ghost use Rattle.draw_check.specs.Corners.{IsCornerWell, IsRoundWell};
 ghost use Rattle.plane_drawings.specs.Drawing.{HasPlaces};
-ghost use Rattle.draw_check.specs.Outer.{HasOuterFace};
+ghost use Rattle.drawings.specs.OuterFaces.{HasOuterFace};
 ghost use Rattle.draw_check.specs.Verdicts.{IsVerdict};
 ghost use Rattle.draw_check.specs.declared.verdict.Verdict.TheVariants.{Yes as NoFault};
 ghost use Rattle.plane_laws.specs.Triangulations.{IsTriangulation};

@@ -2,7 +2,8 @@
 ghost use Rattle.std.specs.Prelude.{IfSome, MatchOption, ℤ};
 ghost use Rattle.plane_drawings.specs.Drawing.{IsPlaneDrawing, HasPlaces};
 ghost use Rattle.plane_drawings.specs.SweepCheckLines.{firm_lists};
-ghost use Rattle.draw_check.specs.Verdicts.{AllInGrid, NoneShareAPlace, NoneOnEdge, NoneCross, IsVerdict};
+ghost use Rattle.drawings.specs.Valid.{AllInGrid};
+ghost use Rattle.draw_check.specs.Verdicts.{NoneShareAPlace, NoneOnEdge, NoneCross, IsVerdict};
 
 use crate::Verdict;
 use crate::drawing::PointDrawing;

@@ -4,7 +4,8 @@
 #![tactic(auto)]
 
 ghost use Rattle.draw_check.specs.FaceLaws.{FacesYesForFewer, FacesYesIsYes};
-ghost use Rattle.draw_check.specs.Laws.{ValidWithFewer, YesIsValid};
+ghost use Rattle.drawings.specs.Laws.{ValidWithFewer};
+ghost use Rattle.draw_check.specs.Laws.{YesIsValid};
 
 mod bounding_boxes;
 mod corner_check;
@@ -34,12 +35,6 @@ pub use verdict::{FaceVerdict, OuterVerdict, Verdict};
 /// States the law that the verdict is `Yes` exactly for plane drawings that lie in the grid and keep the rotations.
 pub fn yes_is_valid()
     ensures { YesIsValid }
-{}
-
-/// States the law that a drawing that is valid for a map with more edges, as for a completion, is valid for the map
-/// itself. It stays in the grid and plane, and keeps the rotations.
-pub fn valid_with_fewer()
-    ensures { ValidWithFewer }
 {}
 
 /// States the law that where `check_by_faces` answers `Yes`, `check` does.

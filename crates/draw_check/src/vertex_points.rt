@@ -4,7 +4,8 @@ ghost use Rattle.pg_plane.specs.Range.{IsInRange};
 ghost use Rattle.plane_drawings.specs.Drawing.{place, IsInGrid};
 ghost use Rattle.vertex_rounds.specs.Least.{IsLeast, IsLeastPair};
 ghost use Rattle.draw_check.specs.Faults.{LeavesGrid, ShareAPlace};
-ghost use Rattle.draw_check.specs.Verdicts.{AllInGrid, NoneShareAPlace};
+ghost use Rattle.drawings.specs.Valid.{AllInGrid};
+ghost use Rattle.draw_check.specs.Verdicts.{NoneShareAPlace};
 
 use crate::drawing::PointDrawing;
 use half_edges::VertexId;

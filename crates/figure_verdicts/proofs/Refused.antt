@@ -6,7 +6,7 @@ use Rattle.map_lists.specs.Lists.{Lists}
 use Rattle.map_theory.specs.Maps.{entry_after, component_count}
 use Rattle.half_edges.specs.Map.{first_dart}
 use Rattle.pg_plane.specs.declared.grid_points.Point.{Point}
-use Rattle.draw_check.specs.Outer.{face_sum, HasOuterFace}
+use Rattle.drawings.specs.OuterFaces.{face_sum, HasOuterFace}
 use Rattle.figure_verdicts.specs.Verdicts.{IsDrawnVerdict}
 use Rattle.figure_verdicts.specs.declared.verdict.FigureVerdict.TheVariants.{Yes}
 

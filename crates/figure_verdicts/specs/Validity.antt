@@ -6,12 +6,12 @@ use Rattle.half_edges.specs.Map.{first_dart}
 use Rattle.pg_plane.specs.declared.grid_points.Point.{Point}
 use Rattle.pg_plane.specs.declared.figures.BarFigure.{BarFigure}
 use Rattle.pg_plane.specs.declared.figures.RectFigure.{RectFigure}
-use Rattle.convex_check.specs.Convex.{IsConvex}
-use Rattle.rect_check.specs.Duals.{IsRectangularDual}
-use Rattle.bar_check.specs.Bars.{IsValidBars}
+use Rattle.drawings.specs.Convex.{IsConvex}
+use Rattle.drawings.specs.Duals.{IsRectangularDual}
+use Rattle.drawings.specs.Bars.{IsValidBars}
 use Rattle.kuratowski.specs.Witnesses.{IsWitness}
-use Rattle.draw_check.specs.Laws.{IsValid}
-use Rattle.draw_check.specs.Outer.{HasOuterFace}
+use Rattle.drawings.specs.Valid.{IsValid}
+use Rattle.drawings.specs.OuterFaces.{HasOuterFace}
 use Rattle.figure_text.specs.declared.figure.GridJob.{GridJob}
 use Rattle.figure_text.specs.declared.figure.GridJob.TheVariants.{Shift, Schnyder, Convex}
 use Rattle.figure_text.specs.declared.figure.Figure.{Figure}

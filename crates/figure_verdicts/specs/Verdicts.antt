@@ -9,7 +9,7 @@ use Rattle.half_edges.specs.Map.{first_dart}
 use Rattle.pg_plane.specs.declared.grid_points.Point.{Point}
 use Rattle.pg_plane.specs.declared.figures.BarFigure.{BarFigure}
 use Rattle.pg_plane.specs.declared.figures.RectFigure.{RectFigure}
-use Rattle.convex_check.specs.Convex.{IsConvex}
+use Rattle.drawings.specs.Convex.{IsConvex}
 use Rattle.convex_check.specs.Verdicts.{IsConvexVerdict}
 use Rattle.convex_check.specs.declared.verdict.ConvexVerdict.TheVariants.{OuterBent, Yes as NoBend}
 use Rattle.rect_check.specs.Verdicts.{IsRectVerdict}
@@ -22,7 +22,8 @@ use Rattle.kuratowski.specs.Verdicts.{IsVerdict as IsVerdictOf}
 use Rattle.kuratowski.specs.declared.check.WitnessVerdict.TheVariants.{Yes as NoWitnessFault}
 use Rattle.vertex_rounds.specs.Least.{IsLeastPair}
 use Rattle.draw_check.specs.Verdicts.{IsVerdict}
-use Rattle.draw_check.specs.Outer.{IsInside, HasOuterFace}
+use Rattle.draw_check.specs.Outer.{IsInside}
+use Rattle.drawings.specs.OuterFaces.{HasOuterFace}
 use Rattle.draw_check.specs.declared.verdict.Verdict.TheVariants.{Yes as NoFault}
 use Rattle.figure_text.specs.declared.figure.GridJob.{GridJob}
 use Rattle.figure_text.specs.declared.figure.GridJob.TheVariants.{Shift, Schnyder, Convex}

@@ -16,10 +16,10 @@ use Rattle.map_lists.specs.declared.ids.DartId.{DartId}
 use Rattle.half_edges.specs.Map.{Map, dart_at, first_dart}
 use Rattle.pg_plane.specs.declared.grid_points.Point.{Point}
 use Rattle.plane_drawings.specs.Drawing.{IsCounterclockwise}
-use Rattle.draw_check.specs.Laws.{IsValid}
-use Rattle.draw_check.specs.Outer.{HasOuterFace}
-use Rattle.draw_check.proofs.ValidFewer.{dart_more, valid_with_fewer}
-use Rattle.draw_check.proofs.OuterFewer.{outer_fewer}
+use Rattle.drawings.specs.Valid.{IsValid}
+use Rattle.drawings.specs.OuterFaces.{HasOuterFace}
+use Rattle.drawings.proofs.ValidFewer.{dart_more, valid_with_fewer}
+use Rattle.drawings.proofs.OuterFewer.{outer_fewer}
 use Rattle.grid_figures.specs.DrawingOrdersBases.{LeadsToLeast}
 use Rattle.grid_figures.specs.Orders.{IsBaseTo, lists_by}
 use Rattle.grid_figures.specs.DrawingOrdersLaws.{IsCompletionFor, IsBaseDrawing}

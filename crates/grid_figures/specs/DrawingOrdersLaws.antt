@@ -7,9 +7,9 @@ use Rattle.plane_laws.specs.MapEditsCompleted.{IsExtended}
 use Rattle.half_edges.specs.Map.{first_dart}
 use Rattle.pg_plane.specs.declared.grid_points.Point.{Point}
 use Rattle.plane_drawings.specs.Drawing.{IsPlaneDrawing, KeepsRotations, IsCounterclockwise}
-use Rattle.draw_check.specs.Verdicts.{AllInGrid}
-use Rattle.draw_check.specs.Laws.{IsValid}
-use Rattle.draw_check.specs.Outer.{HasOuterFace}
+use Rattle.drawings.specs.Valid.{AllInGrid}
+use Rattle.drawings.specs.Valid.{IsValid}
+use Rattle.drawings.specs.OuterFaces.{HasOuterFace}
 use Rattle.grid_figures.specs.Orders.{IsBaseTo}
 
 -- a completion of the map of `lists`, with a base to `to`

@@ -6,8 +6,8 @@ use Rattle.half_edges.specs.Map.{first_dart}
 use Rattle.pg_plane.specs.declared.grid_points.Point.{Point}
 use Rattle.pg_plane.specs.declared.figures.GridFigure.{GridFigure}
 use Rattle.plane_drawings.specs.Drawing.{place}
-use Rattle.draw_check.specs.Laws.{IsValid}
-use Rattle.draw_check.specs.Outer.{HasOuterFace}
+use Rattle.drawings.specs.Valid.{IsValid}
+use Rattle.drawings.specs.OuterFaces.{HasOuterFace}
 use Rattle.canon_order.specs.Orders.{IsCanonicalOrder}
 use Rattle.grid_figures.specs.DrawingOrdersLaws.{IsCompletionFor, IsBaseDrawing}
 

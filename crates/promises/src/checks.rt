@@ -1,6 +1,6 @@
 //! Promised contracts of drawing checks: yes exactly for a valid drawing, else the first fault with its least vertices.
 ghost use Rattle.std.specs.Prelude.{◌≡◌, ◌<◌, ◌↔◌, IfOk, IsTrue};
-ghost use Rattle.bar_check.specs.Bars.{HasBars};
+ghost use Rattle.drawings.specs.Bars.{HasBars};
 ghost use Rattle.bar_check.specs.Verdicts.{IsBarVerdict};
 ghost use Rattle.convex_check.specs.Verdicts.{IsConvexVerdict};
 ghost use Rattle.draw_check.specs.FaceVerdicts.{IsFaceVerdict};
@@ -13,7 +13,7 @@ ghost use Rattle.kuratowski.specs.Verdicts.{IsVerdict as IsWitnessVerdict};
 ghost use Rattle.kuratowski.specs.Witnesses.{IsWitness};
 ghost use Rattle.line_inputs.specs.Given.{IsGiven};
 ghost use Rattle.plane_laws.specs.Triangulations.{IsTriangulation};
-ghost use Rattle.rect_check.specs.Duals.{HasRects};
+ghost use Rattle.drawings.specs.Duals.{HasRects};
 ghost use Rattle.rect_check.specs.Verdicts.{IsRectVerdict};
 ghost use Rattle.vertex_rounds.specs.Rounds.{dart_of};
 

@@ -1,7 +1,7 @@
 //! Promised contracts of rectangular duals and regular edge labellings.
 ghost use Rattle.std.specs.Prelude.{◌≡◌, ◌<◌, length, IfOk, IfErr, ℕ, Some, ◌-◌, OnOk};
 ghost use Rattle.half_edges.specs.Map.{IsLive, dart_at};
-ghost use Rattle.rect_check.specs.Duals.{HasRects};
+ghost use Rattle.drawings.specs.Duals.{HasRects};
 ghost use Rattle.rect_class.specs.RectMaps.{IsRectMap};
 ghost use Rattle.rect_class.specs.Refusals.{BreaksRect};
 ghost use Rattle.rect_dual.specs.Figures.{IsRectFigure};

@@ -6,7 +6,7 @@ use Rattle.std.proofs.lemmas.List.{take_more}
 use Rattle.std.proofs.lemmas.List.Sums.{fold-append}
 use Rattle.pg_plane.specs.declared.figures.RectFigure.{RectFigure}
 use Rattle.pg_plane.proofs.Products.{IsWithin-product}
-use Rattle.rect_check.specs.Duals.{area_at, area_of, greatest}
+use Rattle.drawings.specs.Duals.{area_at, area_of, greatest}
 
 -- one rectangle more
 pub area_of-more : (fig : RectFigure) (k : ℕ) → area_of fig (k + 1) ≡ area_of fig k +ℤ area_at fig k

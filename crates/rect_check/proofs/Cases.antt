@@ -4,7 +4,7 @@ use Rattle.std.proofs.lemmas.Int.{ints}
 use Rattle.map_lists.specs.Lists.{Lists}
 use Rattle.map_theory.specs.Maps.{HasDart, entry_after}
 use Rattle.pg_plane.specs.declared.figures.RectFigure.{RectFigure}
-use Rattle.rect_check.specs.Duals.{IsSpan, IsRect, DoMeet, IsBeside, IsAbove, ShareSide, HasFrame, IsRectangularDual}
+use Rattle.drawings.specs.Duals.{IsSpan, IsRect, DoMeet, IsBeside, IsAbove, ShareSide, HasFrame, IsRectangularDual}
 
 -- a wheel of four spokes, whose hub is the last vertex
 abbrev wheel : Lists

@@ -4,7 +4,7 @@ use Rattle.std.proofs.lemmas.Bool.{true≢false}
 use Rattle.map_lists.specs.Lists.{Lists}
 use Rattle.map_theory.specs.Maps.{HasDart}
 use Rattle.pg_plane.specs.declared.figures.RectFigure.{RectFigure}
-use Rattle.rect_check.specs.Duals.{ShareSide}
+use Rattle.drawings.specs.Duals.{ShareSide}
 use Rattle.rect_check.specs.Loops.{IsMissed}
 
 -- an edge is missed where its rectangles do not share a side

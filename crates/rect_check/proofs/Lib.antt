@@ -5,6 +5,5 @@ mod EdgeLemmas
 mod RunLemmas
 mod SweepLemmas
 mod MeetLemmas
-mod FrameLemmas
 mod Cases
 mod Refused

@@ -6,7 +6,7 @@ use Rattle.std.proofs.lemmas.Int.{ints}
 use Rattle.std.proofs.lemmas.List.{get_or-reverse}
 use Rattle.map_lists.specs.Lists.{Lists}
 use Rattle.pg_plane.specs.declared.figures.RectFigure.{RectFigure}
-use Rattle.rect_check.specs.Duals.{IsRect, DoMeet}
+use Rattle.drawings.specs.Duals.{IsRect, DoMeet}
 use Rattle.rect_check.specs.Loops.{IsMarked, AreKept, HasRow}
 use Rattle.rect_check.specs.Meets.{near_at, far_at, DoReach, LaterAreMarked, MeetsAreMarked}
 use Rattle.rect_check.proofs.SweepLemmas.{AreVertices, place_of_vertex, common}

@@ -8,7 +8,7 @@ use Rattle.map_lists.specs.declared.ids.VertexId.{VertexId}
 use Rattle.map_theory.specs.Maps.{IsSimpleMap, HasDart}
 use Rattle.vertex_rounds.specs.Least.{IsLeast}
 use Rattle.pg_plane.specs.declared.figures.RectFigure.{RectFigure}
-use Rattle.rect_check.specs.Duals.{left_of, right_of, low_of, high_of, IsBeside, IsAbove, ShareSide}
+use Rattle.drawings.specs.Duals.{left_of, right_of, low_of, high_of, IsBeside, IsAbove, ShareSide}
 use Rattle.rect_check.specs.Faults.{HasWrongContact}
 use Rattle.rect_check.specs.Loops.{IsMissed}
 

@@ -9,7 +9,7 @@ use Rattle.std.proofs.lemmas.List.Sorted.{Contains-permutation, All-permutation}
 use Rattle.map_lists.specs.Lists.{Lists}
 use Rattle.map_theory.specs.Maps.{IsSimpleMap}
 use Rattle.pg_plane.specs.declared.figures.RectFigure.{RectFigure}
-use Rattle.rect_check.specs.Duals.{number_at, IsRect, ShareSide}
+use Rattle.drawings.specs.Duals.{number_at, IsRect, ShareSide}
 use Rattle.rect_check.specs.Loops.{Sides, across, upwards, AreKept, AreJoined, AreFitting, HasRow, DoesFollow, FollowsInRows, AreRanked, DoFollow, HaveLast, AreRuns, IsFilled, IsRunPut, AreTaken, AreLast, HasEachVertex, AreSpans}
 use Rattle.rect_check.proofs.RunLemmas.{filled, filled_is, AreRuns-closed, AreRuns-none, entry_here, AreRuns-taken}
 

@@ -3,7 +3,7 @@ use Rattle.std.specs.Prelude.{ℕ, ◌<◌, ◌≡◌, ◌⊎◌, ◌↔◌, len
 use Rattle.map_lists.specs.Lists.{Lists}
 use Rattle.map_theory.specs.Maps.{HasDart}
 use Rattle.pg_plane.specs.declared.figures.RectFigure.{RectFigure}
-use Rattle.rect_check.specs.Duals.{IsRect, DoMeet, ShareSide, IsLeftmost, IsTop, IsRightmost, IsBottom}
+use Rattle.drawings.specs.Duals.{IsRect, DoMeet, ShareSide, IsLeftmost, IsTop, IsRightmost, IsBottom}
 
 -- the rectangle of v is empty, or leaves n - 2 by n - 2
 pub record HasBadRect (lists : Lists) (fig : RectFigure) (v : ℕ) : Type 0 where

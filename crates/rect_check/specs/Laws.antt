@@ -2,7 +2,7 @@
 use Rattle.std.specs.Prelude.{◌≡◌, ◌↔◌}
 use Rattle.map_lists.specs.Lists.{Lists}
 use Rattle.pg_plane.specs.declared.figures.RectFigure.{RectFigure}
-use Rattle.rect_check.specs.Duals.{IsRectangularDual}
+use Rattle.drawings.specs.Duals.{IsRectangularDual}
 use Rattle.rect_check.specs.Verdicts.{IsRectVerdict}
 use Rattle.rect_check.specs.declared.verdict.RectVerdict.{RectVerdict}
 use Rattle.rect_check.specs.declared.verdict.RectVerdict.TheVariants.{Yes}

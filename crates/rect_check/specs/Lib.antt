@@ -1,5 +1,4 @@
 -- What a check of a rectangular dual answers, and its laws.
-pub mod Duals
 pub mod Faults
 pub mod Verdicts
 pub mod Laws

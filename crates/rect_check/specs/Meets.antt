@@ -2,7 +2,7 @@
 use Rattle.std.specs.Prelude.{ℕ, ◌<◌, Bool, true, false, List, length, slice_index, ℤ, pos, ◌-ℤ◌, ◌≤ℤ◌}
 use Rattle.map_lists.specs.Lists.{Lists}
 use Rattle.pg_plane.specs.declared.figures.RectFigure.{RectFigure}
-use Rattle.rect_check.specs.Duals.{left_of, right_of, DoMeet}
+use Rattle.drawings.specs.Duals.{left_of, right_of, DoMeet}
 use Rattle.rect_check.specs.Loops.{IsMarked, HasRow}
 
 -- where the rectangle of v begins along the level axis, and where it ends; or, on the way back, how far its end and its beginning are before n

@@ -4,7 +4,7 @@ use Rattle.map_lists.specs.Lists.{Lists}
 use Rattle.map_theory.specs.Maps.{HasDart}
 use Rattle.pg_plane.specs.declared.figures.RectFigure.{RectFigure}
 use Rattle.vertex_rounds.specs.Least.{IsLeast, IsLeastPair}
-use Rattle.rect_check.specs.Duals.{IsRect, DoMeet, ShareSide, area_of, width_of, height_of, top_vertex, right_vertex, bottom_vertex, HasFrame, IsRectangularDual}
+use Rattle.drawings.specs.Duals.{IsRect, DoMeet, ShareSide, area_of, width_of, height_of, top_vertex, right_vertex, bottom_vertex, HasFrame, IsRectangularDual}
 use Rattle.rect_check.specs.Faults.{HasBadRect, RectsMeet, HasWrongContact, IsFirstUnframed}
 use Rattle.rect_check.specs.declared.verdict.RectVerdict.{RectVerdict}
 use Rattle.rect_check.specs.declared.verdict.RectVerdict.TheVariants.{BadRect, Meet, Gap, Contact, NoFrame, Frame, Yes}

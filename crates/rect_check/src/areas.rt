@@ -1,7 +1,7 @@
 //! Whether the areas of the rectangles sum to that of the rectangle that they span.
 ghost use Rattle.std.specs.Prelude.{◌≡◌, ◌+◌, ◌<◌, ◌↔◌, IsTrue, length, take, ◌≤ℤ◌, ◌-ℤ◌, ◌*ℤ◌, pos};
 ghost use Rattle.std.specs.Int.{int_max};
-ghost use Rattle.rect_check.specs.Duals.{IsSpan, area_at, area_of, greatest as the_greatest};
+ghost use Rattle.drawings.specs.Duals.{IsSpan, area_at, area_of, greatest as the_greatest};
 ghost use Rattle.rect_check.specs.Loops.{IsLength};
 ghost use Rattle.rect_check.specs.Verdicts.{DoFill};
 

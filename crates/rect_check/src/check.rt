@@ -3,9 +3,9 @@ ghost use Rattle.std.specs.Prelude.{◌≡◌, ◌<◌, ◌≤◌, length, Match
 ghost use Rattle.std.specs.Bool.{OnTrue};
 ghost use Rattle.half_edges.specs.Map.{IsHalfMap};
 ghost use Rattle.vertex_rounds.specs.Least.{IsLeastPair};
-ghost use Rattle.rect_check.specs.Duals.{HasRects, HasFrame, IsRectangularDual};
+ghost use Rattle.drawings.specs.Duals.{HasRects, HasFrame, IsRectangularDual};
 ghost use Rattle.rect_check.specs.Faults.{RectsMeet, HasWrongContact};
-ghost use Rattle.rect_check.specs.Loops.{IsFrame};
+ghost use Rattle.drawings.specs.Frames.{IsFrame};
 ghost use Rattle.rect_check.specs.Verdicts.{AreRects, NoneMeet, DoFill, HasContacts, IsUnframed, IsRectVerdict};
 
 use crate::RectVerdict;

@@ -2,7 +2,7 @@
 ghost use Rattle.std.specs.Prelude.{◌≡◌, ◌<◌, ◌↔◌, ℕ, length, MatchOption};
 ghost use Rattle.map_theory.specs.Maps.{HasDart};
 ghost use Rattle.vertex_rounds.specs.Least.{IsLeast, IsLeastPair};
-ghost use Rattle.rect_check.specs.Duals.{ShareSide};
+ghost use Rattle.drawings.specs.Duals.{ShareSide};
 ghost use Rattle.rect_check.specs.Faults.{RectsMeet, HasWrongContact};
 ghost use Rattle.rect_check.specs.Loops.{AllJoined};
 ghost use Rattle.rect_check.specs.Meets.{MeetsAreMarked};

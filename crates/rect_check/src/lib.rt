@@ -18,7 +18,6 @@ mod sweep_order;
 mod verdict;
 
 pub use check::check_rects;
-pub use outer_frame::{OuterFour, outer_four};
 pub use verdict::RectVerdict;
 
 /// States the law that a verdict is `Yes` exactly where the figure is a rectangular dual.

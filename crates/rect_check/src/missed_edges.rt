@@ -4,7 +4,7 @@ ghost use Rattle.map_theory.specs.Maps.{HasDart};
 ghost use Rattle.half_edges.specs.Map.{IsLive};
 ghost use Rattle.vertex_rounds.specs.Least.{IsLeast};
 ghost use Rattle.vertex_rounds.specs.Rounds.{HoldsAt};
-ghost use Rattle.rect_check.specs.Duals.{ShareSide};
+ghost use Rattle.drawings.specs.Duals.{ShareSide};
 ghost use Rattle.rect_check.specs.Faults.{HasWrongContact};
 ghost use Rattle.rect_check.specs.Loops.{IsMissed};
 

@@ -1,7 +1,7 @@
 //! The rectangles of a figure, one for each vertex, and the first one that is empty or out of range.
 ghost use Rattle.std.specs.Prelude.{◌≡◌, ◌<◌, ◌↔◌, IsTrue, MatchOption};
 ghost use Rattle.vertex_rounds.specs.Least.{IsLeast};
-ghost use Rattle.rect_check.specs.Duals.{number_at, IsSpan, IsRect};
+ghost use Rattle.drawings.specs.Duals.{number_at, IsSpan, IsRect};
 ghost use Rattle.rect_check.specs.Faults.{HasBadRect};
 ghost use Rattle.rect_check.specs.Verdicts.{AreRects};
 

@@ -1,7 +1,7 @@
 //! Two rectangles: whether their interiors meet, whether they share a side, and whether their vertices are adjacent.
 ghost use Rattle.std.specs.Prelude.{◌≡◌, ◌<◌, ◌↔◌, ◌<ℤ◌, IsTrue, length};
 ghost use Rattle.map_theory.specs.Maps.{HasDart};
-ghost use Rattle.rect_check.specs.Duals.{left_of, right_of, low_of, high_of, DoMeet, IsBeside, IsAbove, ShareSide};
+ghost use Rattle.drawings.specs.Duals.{left_of, right_of, low_of, high_of, DoMeet, IsBeside, IsAbove, ShareSide};
 
 use crate::rects::number;
 use half_edges::{HalfMap, VertexId};

@@ -9,8 +9,8 @@ use Rattle.map_theory.specs.Maps.{IsSimpleMap, HasDart, list_of, follows, entry_
 use Rattle.map_theory.proofs.DartLemmas.{place_after, entry_after-place, place_of-get_or}
 use Rattle.plane_peeling.specs.Restricted.{IsFaceOfThree}
 use Rattle.plane_peeling.proofs.OuterCycles.{IsFaceOfThree-turned, IsFaceOfThree-triangle}
-use Rattle.rect_check.specs.Duals.{HasFrame, top_vertex, right_vertex, bottom_vertex}
-use Rattle.rect_check.specs.Loops.{IsFrame}
+use Rattle.drawings.specs.Duals.{HasFrame, top_vertex, right_vertex, bottom_vertex}
+use Rattle.drawings.specs.Frames.{IsFrame}
 use Rattle.rect_class.specs.RectMaps.{IsOuter, HasTriangles, NoneSeparating}
 use Rattle.rect_class.specs.Loops.{IsFrameDart}
 use Rattle.rect_class.specs.Corners.{IsSide, IsClosedOver, AreClosed, ComesBefore, HasDiagonal}

@@ -15,8 +15,8 @@ use Rattle.plane_laws.proofs.WithEdge.{with_edge_after_law, length-new}
 use Rattle.graph_search.specs.Cuts.{IsCutVertex}
 use Rattle.convex_peeling.proofs.Sides.{IsSide}
 use Rattle.convex_peeling.proofs.Uncut.{uncut_within}
-use Rattle.rect_check.specs.Duals.{HasFrame, IsQuadrangle, top_vertex, right_vertex, bottom_vertex}
-use Rattle.rect_check.specs.Loops.{IsFrame}
+use Rattle.drawings.specs.Duals.{HasFrame, IsQuadrangle, top_vertex, right_vertex, bottom_vertex}
+use Rattle.drawings.specs.Frames.{IsFrame}
 use Rattle.rect_class.specs.RectMaps.{IsOuter, HasTriangles, IsRectMap}
 use Rattle.rect_class.specs.Corners.{AreClosed, HasDiagonal, IsRound}
 use Rattle.rect_class.proofs.FrameDarts.{IsQuadrangle-turned, distinct_four}

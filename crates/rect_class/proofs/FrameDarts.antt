@@ -9,7 +9,7 @@ use Rattle.plane_laws.specs.Laws.{IsTriangle}
 use Rattle.plane_peeling.specs.NearTriangulations.{IsOuterCycle, IsOuterDart}
 use Rattle.plane_peeling.proofs.Rings.{entry_after-inside, entry_after-last, each_of_four}
 use Rattle.plane_peeling.proofs.BaseFaces.{outer_cycle_is_face}
-use Rattle.rect_check.specs.Duals.{IsQuadrangle, HasFrame, top_vertex, right_vertex, bottom_vertex}
+use Rattle.drawings.specs.Duals.{IsQuadrangle, HasFrame, top_vertex, right_vertex, bottom_vertex}
 use Rattle.rect_class.specs.RectMaps.{IsOuter}
 use Rattle.rect_class.specs.Loops.{IsDart, IsFrameDart}
 

@@ -7,8 +7,8 @@ use Rattle.map_lists.specs.declared.ids.VertexId.{VertexId}
 use Rattle.map_theory.specs.Maps.{IsSimpleMap}
 use Rattle.vertex_rounds.specs.Least.{IsLeastPair}
 use Rattle.vertex_rounds.proofs.LeastLemmas.{IsLeastPair-alike}
-use Rattle.rect_check.specs.Duals.{IsQuadrangle, HasFrame, top_vertex, right_vertex, bottom_vertex}
-use Rattle.rect_check.specs.Loops.{IsFrame}
+use Rattle.drawings.specs.Duals.{IsQuadrangle, HasFrame, top_vertex, right_vertex, bottom_vertex}
+use Rattle.drawings.specs.Frames.{IsFrame}
 use Rattle.rect_class.specs.RectMaps.{HasLargeFace, HasTriangles, HasInner}
 use Rattle.rect_class.specs.Loops.{IsLargeDart}
 use Rattle.rect_class.proofs.FrameDarts.{IsOuter-frame, IsTriangle-from_not, IsQuadrangle-turned}

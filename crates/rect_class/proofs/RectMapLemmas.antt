@@ -4,7 +4,7 @@ use Rattle.map_lists.specs.Lists.{Lists}
 use Rattle.refusals.specs.declared.conditions.Refusal.{Refusal}
 use Rattle.refusals.specs.declared.conditions.Refusal.TheVariants.{OuterNotQuad, NotTriangle, SeparatingTriangle, NoInner}
 use Rattle.conn_parts.specs.Laws.{BiconnectedBreakNothing}
-use Rattle.rect_check.specs.Duals.{top_vertex, right_vertex, bottom_vertex}
+use Rattle.drawings.specs.Duals.{top_vertex, right_vertex, bottom_vertex}
 use Rattle.rect_class.specs.RectMaps.{IsRectMap}
 use Rattle.rect_class.specs.Refusals.{BreaksRect}
 use Rattle.rect_class.specs.Laws.{BiconnectedAreRectMaps}

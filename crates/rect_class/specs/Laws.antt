@@ -5,7 +5,7 @@ use Rattle.map_theory.specs.Maps.{component_count}
 use Rattle.plane_peeling.specs.NearTriangulations.{IsNearTriangulation}
 use Rattle.plane_peeling.specs.TwoGone.{HasNoSeparatingTriangle}
 use Rattle.refusals.specs.declared.conditions.Refusal.{Refusal}
-use Rattle.rect_check.specs.Duals.{top_vertex, right_vertex, bottom_vertex}
+use Rattle.drawings.specs.Duals.{top_vertex, right_vertex, bottom_vertex}
 use Rattle.rect_class.specs.RectMaps.{IsRectMap}
 use Rattle.rect_class.specs.Refusals.{BreaksRect}
 

@@ -6,7 +6,7 @@ use Rattle.map_theory.specs.Paths.{SameFace}
 use Rattle.plane_laws.specs.Laws.{IsTriangle}
 use Rattle.plane_peeling.specs.Restricted.{IsFaceOfThree}
 use Rattle.conn_parts.specs.BiconnectedMaps.{IsBiconnectedMap}
-use Rattle.rect_check.specs.Duals.{top_vertex, right_vertex, bottom_vertex, HasFrame}
+use Rattle.drawings.specs.Duals.{top_vertex, right_vertex, bottom_vertex, HasFrame}
 
 -- the dart (v, u) is on the outer face, that of the dart from vertex 0 to the first entry of its list
 abbrev pub IsOuter : Lists → ℕ → ℕ → Type 0

@@ -2,7 +2,7 @@
 use Rattle.map_lists.specs.Lists.{Lists}
 use Rattle.vertex_rounds.specs.Least.{IsLeastPair, IsLeastTriple}
 use Rattle.conn_parts.specs.BiconnectedMaps.{IsBiconnectedMap, BreaksFirst}
-use Rattle.rect_check.specs.Duals.{HasFrame}
+use Rattle.drawings.specs.Duals.{HasFrame}
 use Rattle.rect_class.specs.RectMaps.{HasLargeFace, HasTriangles, IsSeparating, NoneSeparating, HasInner}
 use Rattle.refusals.specs.declared.conditions.Refusal.{Refusal}
 use Rattle.refusals.specs.declared.conditions.Refusal.TheVariants.{OuterNotQuad, NotTriangle, SeparatingTriangle, NoInner}

@@ -2,7 +2,7 @@
 ghost use Rattle.std.specs.Prelude.{◌≡◌, ◌<◌, length, MatchOption, IfOk, IfErr};
 ghost use Rattle.refusals.specs.Conditions.{IfRefused};
 ghost use Rattle.conn_parts.specs.BiconnectedMaps.{IsBiconnectedMap};
-ghost use Rattle.rect_check.specs.Loops.{IsFrame};
+ghost use Rattle.drawings.specs.Frames.{IsFrame};
 ghost use Rattle.rect_class.specs.RectMaps.{HasTriangles, NoneSeparating, IsRectMap};
 ghost use Rattle.rect_class.specs.Refusals.{BreaksRect};
 
@@ -10,8 +10,8 @@ use crate::large_faces::first_large;
 use crate::separation_by_corners::none_separates;
 use crate::upper_neighbours::{Upper, upper_rows};
 use conn_parts::biconnected_maps::biconnected_map;
+use drawings::{OuterFour, outer_four};
 use half_edges::{HalfMap, Rotations};
-use rect_check::{OuterFour, outer_four};
 use refusals::{Refusal, Unserved};
 use std::alloc::{AllocError, Global};
 

@@ -1,15 +1,15 @@
 //! `FrameFinder`: the outer face of a map of `rect`'s class, by counts and corners of the lists, with no half-edge map.
 ghost use Rattle.std.specs.Prelude.{◌≡◌, ◌≤◌, ◌<◌, ◌+◌, ◌*◌, ⊤, ℕ, length, slice_index, sum_by, IsTrue, MatchOption, IfOk};
 ghost use Rattle.map_theory.specs.Maps.{IsSimpleMap, HasDart, follows, list_of};
-ghost use Rattle.rect_check.specs.Loops.{IsFrame};
+ghost use Rattle.drawings.specs.Frames.{IsFrame};
 ghost use Rattle.rect_class.specs.RectMaps.{IsRectMap};
 
 use crate::cyclic_lists::Ring;
 use crate::separation_by_corners::{are_closed, has_diagonal};
 use conn_parts::plane_count;
+use drawings::OuterFour;
 use euler_faces::Counter;
 use half_edges::{Rotations, VertexId};
-use rect_check::OuterFour;
 use std::alloc::{AllocError, Global};
 
 // Says whether `lists` are at least five, with 3n - 7 edges as in a map of the class. Only a yes is promised.

@@ -4,12 +4,12 @@ ghost use Rattle.plane_laws.specs.Laws.{IsTriangle};
 ghost use Rattle.half_edges.specs.Map.{IsLive, dart_at, first_dart};
 ghost use Rattle.vertex_rounds.specs.Least.{IsLeast, IsLeastPair};
 ghost use Rattle.vertex_rounds.specs.Rounds.{HoldsAt, dart_of};
-ghost use Rattle.rect_check.specs.Loops.{IsFrame};
+ghost use Rattle.drawings.specs.Frames.{IsFrame};
 ghost use Rattle.rect_class.specs.RectMaps.{HasLargeFace, HasTriangles};
 ghost use Rattle.rect_class.specs.Loops.{IsDart as IsOneDart, IsFrameDart, IsLargeDart};
 
+use drawings::OuterFour;
 use half_edges::{DartId, HalfMap, VertexId};
-use rect_check::OuterFour;
 use vertex_rounds::first_dart;
 
 // Says whether the dart from `v` to `u` is that from `x` to `y`.

@@ -2,14 +2,14 @@
 ghost use Rattle.std.specs.Prelude.{◌≡◌, ◌≢◌, ◌<◌, ◌↔◌, ◌+◌, ◌⊎◌, ℕ, length, All, AllPairs, slice_index, IsTrue, IfOk};
 ghost use Rattle.std.specs.Bool.{OnTrue};
 ghost use Rattle.map_theory.specs.Maps.{HasDart, IsSimpleMap, list_of, entry_after};
-ghost use Rattle.rect_check.specs.Loops.{IsFrame};
+ghost use Rattle.drawings.specs.Frames.{IsFrame};
 ghost use Rattle.rect_class.specs.RectMaps.{HasTriangles, NoneSeparating};
 ghost use Rattle.rect_class.specs.Corners.{IsSide, IsClosedOver, AreClosed, ComesBefore, HasDiagonal};
 
 use crate::cyclic_lists::Ring;
 use crate::upper_neighbours::has_upper;
+use drawings::OuterFour;
 use half_edges::{Rotations, VertexId};
-use rect_check::OuterFour;
 use std::alloc::{AllocError, Global};
 
 // Sets to `stamp` the entry in `marks`, which has one for each vertex, of each vertex of the list `us`.

@@ -9,7 +9,7 @@ use Rattle.rect_runs.specs.Labels.{IsLabelledRun}
 use Rattle.rect_runs.proofs.Steps.{IsLabelledRun-less}
 use Rattle.rect_runs.specs.Boxes.{boxes}
 use Rattle.rect_runs.specs.RectBoxesLaws.{BoxesAreDual}
-use Rattle.rect_check.specs.Duals.{HasRects, top_vertex, right_vertex, bottom_vertex}
+use Rattle.drawings.specs.Duals.{HasRects, top_vertex, right_vertex, bottom_vertex}
 use Rattle.rect_class.specs.Laws.{BiconnectedAreRectMaps}
 use Rattle.rect_class.specs.RectMaps.{IsRectMap as IsOfClass}
 use Rattle.rect_orders.specs.Maps.{IsRectMap, closed}

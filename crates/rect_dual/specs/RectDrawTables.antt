@@ -8,7 +8,7 @@ use Rattle.contour_runs.specs.Runs.{Step}
 use Rattle.order_drawings.specs.OrderRuns.{IsOrderRun}
 use Rattle.order_drawings.specs.Rows.{AreRows}
 use Rattle.rect_runs.specs.Boxes.{Boxes}
-use Rattle.rect_check.specs.Duals.{number_at}
+use Rattle.drawings.specs.Duals.{number_at}
 use Rattle.rect_orders.specs.Maps.{IsRectMap, closed}
 use Rattle.rect_orders.specs.Orders.{IsRectOrder}
 use Rattle.rect_orders.specs.Runs.{shortened}

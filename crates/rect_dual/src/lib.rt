@@ -13,4 +13,3 @@ mod side_lines;
 
 pub use draw::rect_draw;
 pub use labels::{Label, Labelling, edge_labels};
-pub use rect_check::{RectVerdict, check_rects};

@@ -14,7 +14,7 @@ use Rattle.rect_runs.specs.Later.{StandsOver}
 use Rattle.rect_runs.specs.Ends.{IsEndAt}
 use Rattle.rect_runs.specs.Boxes.{boxes}
 use Rattle.rect_runs.proofs.Top.{edges_meet}
-use Rattle.rect_check.specs.Duals.{left_of, right_of, low_of, high_of}
+use Rattle.drawings.specs.Duals.{left_of, right_of, low_of, high_of}
 use Rattle.rect_orders.specs.Maps.{IsRectMap, closed}
 use Rattle.rect_orders.specs.Orders.{IsRectOrder}
 use Rattle.rect_orders.specs.Runs.{shortened, IsRunOfMap}

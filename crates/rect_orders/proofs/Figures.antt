@@ -15,7 +15,7 @@ use Rattle.rect_runs.specs.RectBoxesLaws.{AreApart, AreJoined, IsRunDual, ShareS
 use Rattle.rect_runs.proofs.Totals.{total}
 use Rattle.rect_runs.proofs.Areas.{area_of-total}
 use Rattle.rect_runs.proofs.Top.{boxes_are_dual}
-use Rattle.rect_check.specs.Duals.{IsRect, DoMeet, ShareSide, IsFramed, IsQuadrangle, area_of, greatest, width_of, height_of, left_of, right_of, low_of, high_of, number_at, top_vertex, right_vertex, bottom_vertex}
+use Rattle.drawings.specs.Duals.{IsRect, DoMeet, ShareSide, IsFramed, IsQuadrangle, area_of, greatest, width_of, height_of, left_of, right_of, low_of, high_of, number_at, top_vertex, right_vertex, bottom_vertex}
 use Rattle.rect_orders.specs.Maps.{IsRectMap, closed}
 use Rattle.rect_orders.specs.Orders.{IsRectOrder}
 use Rattle.rect_orders.specs.Runs.{IsRunOfMap}

@@ -6,7 +6,7 @@ use Rattle.pg_plane.specs.declared.figures.RectFigure.{RectFigure}
 use Rattle.contour_runs.specs.Runs.{Step}
 use Rattle.canon_order.specs.Orders.{IsRankOf}
 use Rattle.rect_runs.specs.Boxes.{Boxes, boxes}
-use Rattle.rect_check.specs.Duals.{HasRects, IsRect, DoMeet, ShareSide, IsFramed, IsRectangularDual, area_of, width_of, height_of, left_of, right_of, low_of, high_of, top_vertex}
+use Rattle.drawings.specs.Duals.{HasRects, IsRect, DoMeet, ShareSide, IsFramed, IsRectangularDual, area_of, width_of, height_of, left_of, right_of, low_of, high_of, top_vertex}
 use Rattle.rect_orders.specs.Maps.{IsRectMap}
 use Rattle.rect_orders.specs.Orders.{IsRectOrder}
 use Rattle.rect_orders.specs.Runs.{IsRunOfMap}

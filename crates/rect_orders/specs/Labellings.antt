@@ -13,7 +13,7 @@ use Rattle.canon_order.specs.Orders.{IsRankOf}
 use Rattle.rect_runs.specs.Ends.{IsEndAt, other_end}
 use Rattle.rect_runs.specs.Rounds.{IsOnceRound}
 use Rattle.rect_runs.specs.Boxes.{boxes}
-use Rattle.rect_check.specs.Duals.{left_of, right_of, low_of, high_of}
+use Rattle.drawings.specs.Duals.{left_of, right_of, low_of, high_of}
 use Rattle.rect_orders.specs.Figures.{AreBoxesAt}
 
 -- v comes after u along the outer face

@@ -12,7 +12,7 @@ use Rattle.refusals.specs.declared.conditions.Refusal.TheVariants.{OutOfRange, L
 use Rattle.conn_parts.specs.BiconnectedMaps.{IsBiconnectedMap, BreaksFirst}
 use Rattle.conn_parts.specs.Laws.{BiconnectedBreakNothing}
 use Rattle.convex_class.specs.Convexity.{BreaksConvex}
-use Rattle.rect_check.specs.Duals.{HasFrame}
+use Rattle.drawings.specs.Duals.{HasFrame}
 use Rattle.rect_class.specs.RectMaps.{HasLargeFace, HasTriangles, IsSeparating, NoneSeparating}
 use Rattle.rect_class.specs.Refusals.{BreaksRect}
 use Rattle.verdict_laws.specs.AtMostOne.{AtMostOne}

@@ -8,7 +8,7 @@ use Rattle.pg_plane.specs.declared.grid_points.Point.{Point}
 use Rattle.pg_plane.specs.Geometry.{area}
 use Rattle.plane_drawings.specs.Drawing.{place}
 use Rattle.vertex_rounds.specs.Least.{IsLeastTriple}
-use Rattle.convex_check.specs.Convex.{IsBent, HasOuterCorners, IsConvex}
+use Rattle.drawings.specs.Convex.{IsBent, HasOuterCorners, IsConvex}
 use Rattle.convex_check.specs.Verdicts.{NoneBent, IsConvexVerdict}
 use Rattle.convex_check.specs.declared.verdict.ConvexVerdict.{ConvexVerdict}
 use Rattle.convex_check.specs.declared.verdict.ConvexVerdict.TheVariants.{Bent, OuterBent, Yes}

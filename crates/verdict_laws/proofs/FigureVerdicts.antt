@@ -13,10 +13,11 @@ use Rattle.pg_plane.specs.declared.figures.BarFigure.{BarFigure}
 use Rattle.pg_plane.specs.declared.figures.RectFigure.{RectFigure}
 use Rattle.vertex_rounds.specs.Least.{IsLeastPair}
 use Rattle.draw_check.specs.Verdicts.{IsVerdict}
-use Rattle.draw_check.specs.Outer.{IsInside, HasOuterFace}
+use Rattle.draw_check.specs.Outer.{IsInside}
+use Rattle.drawings.specs.OuterFaces.{HasOuterFace}
 use Rattle.draw_check.specs.declared.verdict.Verdict.{Verdict}
 use Rattle.draw_check.specs.declared.verdict.Verdict.TheVariants.{Yes as NoFault}
-use Rattle.convex_check.specs.Convex.{IsConvex}
+use Rattle.drawings.specs.Convex.{IsConvex}
 use Rattle.convex_check.specs.Verdicts.{IsConvexVerdict}
 use Rattle.convex_check.specs.declared.verdict.ConvexVerdict.{ConvexVerdict}
 use Rattle.convex_check.specs.declared.verdict.ConvexVerdict.TheVariants.{OuterBent, Yes as NoBend}

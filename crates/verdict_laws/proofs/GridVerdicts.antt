@@ -9,8 +9,10 @@ use Rattle.pg_plane.specs.declared.grid_points.Point.{Point}
 use Rattle.plane_drawings.specs.Drawing.{KeepsRotations}
 use Rattle.vertex_rounds.specs.Least.{IsLeast, IsLeastPair, IsLeastTriple, IsLeastFour}
 use Rattle.draw_check.specs.Faults.{LeavesGrid, ShareAPlace, LiesOnEdge, EdgesCross, IsTurned}
-use Rattle.draw_check.specs.Verdicts.{IsVerdict, AllInGrid, NoneShareAPlace, NoneOnEdge, NoneCross}
-use Rattle.draw_check.specs.Outer.{IsInside, HasOuterFace, IsOuterVerdict}
+use Rattle.draw_check.specs.Verdicts.{IsVerdict, NoneShareAPlace, NoneOnEdge, NoneCross}
+use Rattle.drawings.specs.Valid.{AllInGrid}
+use Rattle.draw_check.specs.Outer.{IsInside, IsOuterVerdict}
+use Rattle.drawings.specs.OuterFaces.{HasOuterFace}
 use Rattle.draw_check.specs.declared.verdict.Verdict.{Verdict}
 use Rattle.draw_check.specs.declared.verdict.Verdict.TheVariants.{OutOfGrid, SamePlace, OnEdge, Cross, Turned, Yes}
 use Rattle.draw_check.specs.declared.verdict.OuterVerdict.{OuterVerdict}

@@ -4,7 +4,7 @@ use Rattle.map_lists.specs.Lists.{Lists}
 use Rattle.map_lists.specs.declared.ids.VertexId.{VertexId}
 use Rattle.pg_plane.specs.declared.figures.RectFigure.{RectFigure}
 use Rattle.vertex_rounds.specs.Least.{IsLeast, IsLeastPair}
-use Rattle.rect_check.specs.Duals.{IsFramed, HasFrame, top_vertex, right_vertex, bottom_vertex}
+use Rattle.drawings.specs.Duals.{IsFramed, HasFrame, top_vertex, right_vertex, bottom_vertex}
 use Rattle.rect_check.specs.Faults.{HasBadRect, RectsMeet, HasWrongContact, IsFirstUnframed}
 use Rattle.rect_check.specs.Verdicts.{AreRects, NoneMeet, DoFill, HasContacts, IsUnframed, IsRectVerdict}
 use Rattle.rect_check.specs.declared.verdict.RectVerdict.{RectVerdict}

@@ -14,7 +14,7 @@ use Rattle.map_theory.proofs.DartPermutations.{rotation, twin, two_m}
 use Rattle.pg_plane.specs.declared.figures.BarFigure.{BarFigure}
 use Rattle.half_edges.specs.Map.{Map, IsHalfMap, IsLive, dart_at}
 use Rattle.euler_faces.proofs.NumberLemmas.{some_of}
-use Rattle.bar_check.specs.Bars.{column_between}
+use Rattle.drawings.specs.Bars.{column_between}
 use Rattle.graph_search.specs.Arcs.{arcs_of}
 use Rattle.bipolar.specs.Drawn.{Reaches, IsDrawnBy}
 use Rattle.bipolar.specs.Laws.{IsStMap}

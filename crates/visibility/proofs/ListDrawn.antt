@@ -15,7 +15,7 @@ use Rattle.map_theory.proofs.DartCounts.{few_darts-simple}
 use Rattle.map_theory.proofs.DartPermutations.{rotation, twin}
 use Rattle.plane_laws.proofs.EdgeBound.{none_isolated}
 use Rattle.pg_plane.specs.declared.figures.BarFigure.{BarFigure}
-use Rattle.bar_check.specs.Bars.{column_between}
+use Rattle.drawings.specs.Bars.{column_between}
 use Rattle.graph_search.specs.Arcs.{arcs_of}
 use Rattle.st_orders.specs.StOrders.{IsStOrder}
 use Rattle.bipolar.specs.Drawn.{Reaches, IsDrawnBy}

@@ -8,8 +8,8 @@ use Rattle.pg_plane.proofs.Counts.{count_none}
 use Rattle.map_lists.specs.Lists.{Lists}
 use Rattle.map_theory.specs.Maps.{IsSimpleMap, list_of, edge_count}
 use Rattle.map_theory.proofs.DartPermutations.{count_by-count_below}
-use Rattle.bar_check.specs.Bars.{edges_until, edges_before}
-use Rattle.bar_check.proofs.EdgeLemmas.{edges_until-is}
+use Rattle.drawings.specs.Bars.{edges_until, edges_before}
+use Rattle.drawings.proofs.EdgeCounts.{edges_until-is}
 use Rattle.graph_search.specs.Arcs.{arcs_of}
 use Rattle.bipolar.proofs.ColumnLemmas.{place_in, IsFilled-none, IsFilled-more, IsFilled-next}
 use Rattle.visibility.specs.Spans.{IsFilledTo}

@@ -4,7 +4,7 @@ use Rattle.map_theory.specs.Maps.{face_count}
 use Rattle.pg_plane.specs.declared.figures.BarFigure.{BarFigure}
 use Rattle.half_edges.specs.Map.{Map, dart_at}
 use Rattle.st_orders.specs.StOrders.{IsStOrder}
-use Rattle.bar_check.specs.Bars.{HasBars, IsValidBars}
+use Rattle.drawings.specs.Bars.{HasBars, IsValidBars}
 use Rattle.bipolar.specs.DualNumbers.{AreDualNumbers}
 use Rattle.bipolar.specs.Drawn.{IsDrawnBy}
 

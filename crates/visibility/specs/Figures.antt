@@ -6,7 +6,7 @@ use Rattle.graph_search.specs.Forests.{IsForestOf}
 use Rattle.graph_search.specs.Lows.{AreLows}
 use Rattle.graph_search.specs.Cuts.{IsCutVertex}
 use Rattle.pg_plane.specs.declared.figures.BarFigure.{BarFigure}
-use Rattle.bar_check.specs.Bars.{HasBars, IsValidBars}
+use Rattle.drawings.specs.Bars.{HasBars, IsValidBars}
 use Rattle.st_orders.specs.StOrders.{IsStOrder}
 use Rattle.bipolar.specs.DualNumbers.{AreDualNumbers}
 use Rattle.bipolar.specs.Drawn.{IsDrawnBy}

@@ -6,5 +6,4 @@ pub mod bar_figures;
 mod column_pass;
 mod st_bars;
 
-pub use bar_check::{BarVerdict, check_bars};
 pub use st_bars::{bars, bars_of_order, bars_of_ranks};

@@ -1,5 +1,5 @@
-use Rattle.bar_check.proofs.NumberLemmas.{edge_number-rise}
-use Rattle.bar_check.proofs.NumberCounts.{edge_number-lt}
+use Rattle.drawings.proofs.EdgeNumbers.{edge_number-rise}
+use Rattle.drawings.proofs.NumberCounts.{edge_number-lt}
 use Rattle.bar_check.proofs.edge_numbers.Goals as goal
 
 pub returns : goal.returns

@@ -1,6 +1,6 @@
-use Rattle.draw_check.proofs.ValidFewer.{dart_more, valid_with_fewer}
+use Rattle.drawings.proofs.ValidFewer.{dart_more, valid_with_fewer}
 use Rattle.draw_check.proofs.ValidYes.{valid_from_yes, yes_from_valid}
-use Rattle.draw_check.proofs.OuterFewer.{outer_fewer}
+use Rattle.drawings.proofs.OuterFewer.{outer_fewer}
 use Rattle.draw_check.proofs.faces_yes_for_fewer.Goals as goal
 
 pub returns : goal.returns

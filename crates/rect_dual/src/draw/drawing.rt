@@ -2,7 +2,7 @@
 ghost use Rattle.std.specs.Prelude.{◌≡◌, ◌<◌, ◌^◌, ℕ, length, slice_index, Some, All, IfOk, pos};
 ghost use Rattle.map_theory.specs.Maps.{follows};
 ghost use Rattle.half_edges.specs.Map.{IsLive, dart_at};
-ghost use Rattle.rect_check.specs.Duals.{HasRects};
+ghost use Rattle.drawings.specs.Duals.{HasRects};
 ghost use Rattle.rect_orders.specs.Maps.{IsRectMap};
 ghost use Rattle.rect_orders.specs.Figures.{IsDualFor};
 ghost use Rattle.rect_orders.specs.Labellings.{IsByLabelling};

@@ -1,16 +1,16 @@
 //! `RectDrawer`: rectangular duals of records, one after another, in tables that are kept.
 ghost use Rattle.std.specs.Prelude.{◌<◌, length, IfOk, IfErr, OnOk};
 ghost use Rattle.refusals.specs.Conditions.{IfRefused};
-ghost use Rattle.rect_check.specs.Loops.{IsFrame};
+ghost use Rattle.drawings.specs.Frames.{IsFrame};
 ghost use Rattle.rect_class.specs.RectMaps.{IsRectMap};
 ghost use Rattle.rect_class.specs.Refusals.{BreaksRect};
 ghost use Rattle.rect_dual.specs.Figures.{IsRectFigure};
 
 use crate::draw::framed;
 use crate::figures::record_figure::rect_figure;
+use drawings::OuterFour;
 use half_edges::{Rotations, VertexId};
 use pg_plane::RectFigure;
-use rect_check::OuterFour;
 use rect_class::{FrameFinder, next_on_face};
 use rect_orders::rect_order::Frame;
 use refusals::Unserved;

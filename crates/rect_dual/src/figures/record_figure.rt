@@ -1,7 +1,7 @@
 //! The rectangular dual of one record, or the condition that it breaks.
 ghost use Rattle.std.specs.Prelude.{◌≡◌, ◌<◌, length, Some, IfOk, IfErr, OnOk};
 ghost use Rattle.half_edges.specs.Map.{IsLive, dart_at};
-ghost use Rattle.rect_check.specs.Duals.{top_vertex};
+ghost use Rattle.drawings.specs.Duals.{top_vertex};
 ghost use Rattle.refusals.specs.Conditions.{IfRefused};
 ghost use Rattle.rect_class.specs.RectMaps.{IsRectMap};
 ghost use Rattle.rect_class.specs.Refusals.{BreaksRect};

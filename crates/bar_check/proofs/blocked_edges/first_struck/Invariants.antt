@@ -1,5 +1,5 @@
 use Rattle.std.proofs.Common.{ℕ, ◌<◌}
-use Rattle.bar_check.specs.Bars.{IsStruck}
+use Rattle.drawings.specs.Bars.{IsStruck}
 use Rattle.bar_check.proofs.blocked_edges.first_struck.Given as goal
 
 abbrev pub invariant-loop-v : goal.invariant-loop-v

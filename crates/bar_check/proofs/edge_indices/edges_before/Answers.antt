@@ -1,5 +1,5 @@
 use Rattle.std.proofs.Common.{arith}
-use Rattle.bar_check.proofs.EdgeLemmas.{edges_before-none}
+use Rattle.drawings.proofs.EdgeCounts.{edges_before-none}
 use Rattle.bar_check.proofs.edge_indices.edges_before.Goals as goal
 
 pub loop-u-init : goal.loop-u-init

@@ -1,5 +1,5 @@
 use Rattle.std.proofs.Common.{◌≡◌, ◌≤◌, ◌*◌}
-use Rattle.bar_check.specs.Bars.{edges_before}
+use Rattle.drawings.specs.Bars.{edges_before}
 use Rattle.bar_check.proofs.edge_indices.edges_before.Given as goal
 
 abbrev pub invariant-loop-u : goal.invariant-loop-u

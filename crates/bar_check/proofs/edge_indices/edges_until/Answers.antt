@@ -1,7 +1,7 @@
 use Rattle.std.proofs.Common.{◌+◌, ◌≤◌, ◌≡◌, inl, inr, ◌&&◌, nat_lt, ℕ, take, count_by, sym, subst, ◌∙◌, arith}
 use Rattle.map_theory.specs.Maps.{list_of}
 use Rattle.vertex_rounds.proofs.RoundLemmas.{head_at, place_at, at_place, place_at-later, LeavesFrom-later, head_at-result}
-use Rattle.bar_check.proofs.EdgeLemmas.{edges_until-all, edges_until-none, count_more}
+use Rattle.drawings.proofs.EdgeCounts.{edges_until-all, edges_until-none, count_more}
 use Rattle.bar_check.proofs.Rounds.{fewer_left}
 use Rattle.bar_check.proofs.edge_indices.edges_until.Goals as goal
 use Rattle.bar_check.proofs.edge_indices.edges_until.Goals.{then-v-u+then-u-end, else-v-u, else-v-u-via-then-v-u+else-u-end, else-v-u-via-else-v-u}

@@ -1,5 +1,5 @@
 use Rattle.std.proofs.Common.{arith}
-use Rattle.bar_check.proofs.EdgeLemmas.{edges_before-more}
+use Rattle.drawings.proofs.EdgeCounts.{edges_before-more}
 use Rattle.bar_check.proofs.edge_indices.edges_with.Goals as goal
 
 pub returns-clause-count : goal.returns-clause-count

@@ -1,7 +1,7 @@
 use Rattle.std.proofs.Common.{◌≡◌, ◌≢◌, ℕ, ℤ, true, false, pos, get_or, ◌∙◌, sym, below_more, subst, rules, w32, FitsSigned, arith}
 use Rattle.std.proofs.lemmas.Bool.{true≢false}
 use Rattle.std.proofs.lemmas.Int.{to_z-of_z}
-use Rattle.bar_check.specs.Bars.{IsNewHeight}
+use Rattle.drawings.specs.Bars.{IsNewHeight}
 use Rattle.bar_check.specs.Tables.{IsFree}
 use Rattle.bar_check.proofs.HeightLemmas.{new_from_free, free_from_new, AreSeen-more}
 use Rattle.bar_check.proofs.heights_and_bars.first_bad_height_in.Goals as goal

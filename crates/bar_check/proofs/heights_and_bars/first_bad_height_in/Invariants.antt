@@ -1,5 +1,5 @@
 use Rattle.std.proofs.Common.{◌≡◌, ◌<◌, ℕ, length}
-use Rattle.bar_check.specs.Bars.{IsNewHeight}
+use Rattle.drawings.specs.Bars.{IsNewHeight}
 use Rattle.bar_check.specs.Tables.{AreSeen}
 use Rattle.bar_check.proofs.heights_and_bars.first_bad_height_in.Given as goal
 

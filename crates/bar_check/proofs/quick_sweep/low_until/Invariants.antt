@@ -1,5 +1,5 @@
 use Rattle.std.proofs.Common.{ℕ, pos, ◌-◌, ◌<◌, ◌≤◌, ◌≤ℤ◌}
-use Rattle.bar_check.specs.Bars.{number_at}
+use Rattle.drawings.specs.Bars.{number_at}
 use Rattle.bar_check.proofs.quick_sweep.low_until.Given as goal
 
 abbrev pub invariant-loop-at : goal.invariant-loop-at

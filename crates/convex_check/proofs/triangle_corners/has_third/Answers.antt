@@ -2,7 +2,7 @@ use Rattle.std.proofs.Common.{◌≡◌, refl, sym, subst, inl, inr, arith}
 use Rattle.std.proofs.lemmas.Bool.{cases_lt}
 use Rattle.std.proofs.lemmas.Int.{ints}
 use Rattle.std.proofs.lemmas.List.Elements.{Contains-get_or}
-use Rattle.convex_check.specs.Corners.{IsOnTriangle}
+use Rattle.drawings.specs.Corners.{IsOnTriangle}
 use Rattle.convex_check.proofs.Points.{point_at, each_point}
 use Rattle.convex_check.proofs.ThirdCorner.{third_is}
 use Rattle.convex_check.proofs.triangle_corners.has_third.Goals as goal

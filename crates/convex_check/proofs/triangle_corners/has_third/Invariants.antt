@@ -1,5 +1,5 @@
 use Rattle.std.proofs.Common.{ℕ, ◌<◌}
-use Rattle.convex_check.specs.Corners.{IsOnTriangle}
+use Rattle.drawings.specs.Corners.{IsOnTriangle}
 use Rattle.convex_check.proofs.Points.{point_at}
 use Rattle.convex_check.proofs.triangle_corners.has_third.Given as goal
 

@@ -1,4 +1,4 @@
-use Rattle.rect_check.specs.Duals.{top_vertex, right_vertex, bottom_vertex}
+use Rattle.drawings.specs.Duals.{top_vertex, right_vertex, bottom_vertex}
 use Rattle.rect_orders.specs.Maps.{IsRectMap}
 use Rattle.drawing_rows.proofs.rects.of_block.Goals as goal
 

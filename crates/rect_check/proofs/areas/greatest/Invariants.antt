@@ -1,5 +1,5 @@
 use Rattle.std.proofs.Common.{◌≡◌, take}
-use Rattle.rect_check.specs.Duals.{greatest}
+use Rattle.drawings.specs.Duals.{greatest}
 use Rattle.rect_check.proofs.areas.greatest.Given as goal
 
 abbrev pub invariant-loop-i : goal.invariant-loop-i

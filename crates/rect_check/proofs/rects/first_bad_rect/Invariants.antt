@@ -1,5 +1,5 @@
 use Rattle.std.proofs.Common.{ℕ, ◌<◌, length}
-use Rattle.rect_check.specs.Duals.{IsRect}
+use Rattle.drawings.specs.Duals.{IsRect}
 use Rattle.rect_check.proofs.rects.first_bad_rect.Given as goal
 
 abbrev pub invariant-loop-v : goal.invariant-loop-v

@@ -2,7 +2,7 @@ use Rattle.std.proofs.Common.{true≢false, sym, ◌∙◌, arith}
 use Rattle.std.specs.Bool.{OnTrue}
 use Rattle.std.proofs.lemmas.Bool.{OnTrue_at, OnTrue_from}
 use Rattle.std.proofs.lemmas.Result.{IfOk-weaker}
-use Rattle.rect_check.specs.Duals.{top_vertex, right_vertex, bottom_vertex}
+use Rattle.drawings.specs.Duals.{top_vertex, right_vertex, bottom_vertex}
 use Rattle.rect_class.specs.RectMaps.{NoneSeparating}
 use Rattle.rect_class.specs.Corners.{AreClosed}
 use Rattle.rect_class.proofs.InnerLemmas.{vertices_of}

@@ -4,7 +4,7 @@ use Rattle.std.proofs.lemmas.Int.{ints, to_z-of_z}
 use Rattle.map_theory.specs.Maps.{HasDart, list_of, place_of}
 use Rattle.vertex_rounds.specs.Rounds.{dart_of}
 use Rattle.vertex_rounds.proofs.DartIds.{head_is, has_dart}
-use Rattle.bar_check.specs.Bars.{number_at, column_between}
+use Rattle.drawings.specs.Bars.{number_at, column_between}
 use Rattle.bar_check.specs.Reach.{IsRaised, IsBegun, HasReach}
 use Rattle.bar_check.proofs.ReachLemmas.{HasReach-past, HasReach-more}
 use Rattle.bar_check.proofs.drawing.Bar.begin_if_up.Goals as goal

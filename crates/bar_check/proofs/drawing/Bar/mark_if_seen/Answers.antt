@@ -2,7 +2,7 @@ use Rattle.std.proofs.Common.{ℤ, subst, sym, rules, w32, FitsSigned}
 use Rattle.std.proofs.lemmas.Int.{to_z-of_z}
 use Rattle.vertex_rounds.specs.Rounds.{dart_of}
 use Rattle.vertex_rounds.proofs.DartIds.{head_is}
-use Rattle.bar_check.specs.Bars.{column_between}
+use Rattle.drawings.specs.Bars.{column_between}
 use Rattle.bar_check.specs.Tables.{IsSeen}
 use Rattle.bar_check.proofs.ClearLemmas.{seen-clear, AreClear-more}
 use Rattle.bar_check.proofs.drawing.Bar.mark_if_seen.Goals as goal

@@ -1,7 +1,7 @@
 use Rattle.std.proofs.Common.{◌+◌, ◌≤◌, ◌≡◌, pos, rules, arith}
 use Rattle.std.proofs.lemmas.Bool.{OnTrue_at, OnTrue_from}
 use Rattle.std.proofs.lemmas.Int.{ints}
-use Rattle.bar_check.specs.Bars.{number_at}
+use Rattle.drawings.specs.Bars.{number_at}
 use Rattle.bar_check.specs.Reach.{IsSwept}
 use Rattle.bar_check.proofs.ReachLemmas.{HasReach-first, IsSwept-more}
 use Rattle.bar_check.proofs.drawing.Bar.meets.Goals as goal

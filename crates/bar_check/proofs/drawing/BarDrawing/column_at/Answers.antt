@@ -2,7 +2,7 @@ use Rattle.std.proofs.Common.{ℕ, ℤ, ◌<◌, length, subst, rules, w32, Fits
 use Rattle.std.proofs.lemmas.Int.{to_z-of_z}
 use Rattle.vertex_rounds.specs.Rounds.{dart_of}
 use Rattle.vertex_rounds.proofs.DartIds.{head_is, has_dart}
-use Rattle.bar_check.specs.Bars.{number_at}
+use Rattle.drawings.specs.Bars.{number_at}
 use Rattle.bar_check.proofs.TableLemmas.{column-at}
 use Rattle.bar_check.proofs.drawing.BarDrawing.column_at.Goals as goal
 

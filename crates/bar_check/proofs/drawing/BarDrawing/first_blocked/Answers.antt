@@ -3,7 +3,7 @@ use Rattle.std.proofs.lemmas.Bool.{cases_eq}
 use Rattle.vertex_rounds.proofs.FirstLemmas.{least_one}
 use Rattle.bar_check.specs.Loops.{IsBlockedFrom, IsBlockedEdge}
 use Rattle.bar_check.proofs.ColumnLemmas.{least_blocked_edge}
-use Rattle.bar_check.proofs.EdgeLemmas.{edges_before-none}
+use Rattle.drawings.proofs.EdgeCounts.{edges_before-none}
 use Rattle.bar_check.proofs.drawing.BarDrawing.first_blocked.Goals as goal
 
 pub loop-a-init : goal.loop-a-init

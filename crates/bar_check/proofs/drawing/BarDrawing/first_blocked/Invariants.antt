@@ -1,5 +1,5 @@
 use Rattle.std.proofs.Common.{ℕ, ◌<◌, ◌≡◌, ◌≤◌, ◌*◌}
-use Rattle.bar_check.specs.Bars.{edges_before}
+use Rattle.drawings.specs.Bars.{edges_before}
 use Rattle.bar_check.specs.Loops.{IsBlockedEdge}
 use Rattle.bar_check.proofs.drawing.BarDrawing.first_blocked.Given as goal
 

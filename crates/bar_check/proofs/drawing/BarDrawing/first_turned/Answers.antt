@@ -1,7 +1,7 @@
 use Rattle.std.proofs.Common.{ℕ, ◌≤◌, length, below_more, rules, arith}
 use Rattle.map_theory.specs.Maps.{list_of}
 use Rattle.vertex_rounds.proofs.OnceLemmas.{goes_once}
-use Rattle.bar_check.specs.Bars.{GoesOnceRound}
+use Rattle.drawings.specs.Bars.{GoesOnceRound}
 use Rattle.bar_check.specs.Loops.{Breaks}
 use Rattle.bar_check.proofs.TurnLemmas.{turned_or_not}
 use Rattle.bar_check.proofs.drawing.BarDrawing.first_turned.Goals as goal

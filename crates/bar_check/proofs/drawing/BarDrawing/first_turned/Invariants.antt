@@ -1,6 +1,6 @@
 use Rattle.std.proofs.Common.{ℕ, ◌<◌, ◌≤◌, length}
 use Rattle.map_theory.specs.Maps.{list_of}
-use Rattle.bar_check.specs.Bars.{GoesOnceRound}
+use Rattle.drawings.specs.Bars.{GoesOnceRound}
 use Rattle.bar_check.proofs.drawing.BarDrawing.first_turned.Given as goal
 
 abbrev pub invariant-loop-v : goal.invariant-loop-v

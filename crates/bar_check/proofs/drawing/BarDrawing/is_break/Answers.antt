@@ -5,7 +5,7 @@ use Rattle.map_theory.specs.Maps.{Dart, follows}
 use Rattle.half_edges.specs.Map.{next_dart}
 use Rattle.vertex_rounds.specs.Rounds.{dart_of}
 use Rattle.vertex_rounds.proofs.DartIds.{dart_of-live, dart_of-is, tail_is, head_is, next_head}
-use Rattle.bar_check.specs.Bars.{column_between}
+use Rattle.drawings.specs.Bars.{column_between}
 use Rattle.bar_check.proofs.TurnLemmas.{break_is}
 use Rattle.bar_check.proofs.drawing.BarDrawing.is_break.Goals as goal
 

@@ -1,5 +1,5 @@
 use Rattle.std.proofs.Common.{arith}
-use Rattle.bar_check.proofs.EdgeLemmas.{edges_before-none}
+use Rattle.drawings.proofs.EdgeCounts.{edges_before-none}
 use Rattle.bar_check.proofs.TableLemmas.{AreFilled-none, AreColumns-from, first-none, first-from}
 use Rattle.bar_check.proofs.drawing.Bars.fill_columns.Goals as goal
 

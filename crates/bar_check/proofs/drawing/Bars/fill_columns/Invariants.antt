@@ -1,5 +1,5 @@
 use Rattle.std.proofs.Common.{◌≡◌, ◌<◌, ◌≤◌, ◌*◌, ℕ, length, slice_index}
-use Rattle.bar_check.specs.Bars.{edges_before}
+use Rattle.drawings.specs.Bars.{edges_before}
 use Rattle.bar_check.specs.Tables.{AreFilled, IsFirstMetBad}
 use Rattle.bar_check.proofs.drawing.Bars.fill_columns.Given as goal
 

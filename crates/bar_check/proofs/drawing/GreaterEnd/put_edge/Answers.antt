@@ -5,7 +5,7 @@ use Rattle.map_theory.specs.Maps.{HasDart, twin_dart}
 use Rattle.half_edges.specs.Map.{dart_at}
 use Rattle.vertex_rounds.specs.Rounds.{dart_of}
 use Rattle.vertex_rounds.proofs.DartIds.{dart_of-live, head_is, has_dart}
-use Rattle.bar_check.specs.Bars.{number_at}
+use Rattle.drawings.specs.Bars.{number_at}
 use Rattle.bar_check.specs.Tables.{IsWritten}
 use Rattle.bar_check.proofs.TableLemmas.{number_few, IsWritten-both, AreFilled-put, AreFilled-past}
 use Rattle.bar_check.proofs.drawing.GreaterEnd.put_edge.Goals as goal

@@ -8,8 +8,9 @@ use Rattle.pg_plane.specs.declared.figures.BarFigure.{BarFigure}
 use Rattle.vertex_rounds.specs.Rounds.{dart_of}
 use Rattle.vertex_rounds.specs.Least.{IsLeastPair}
 use Rattle.vertex_rounds.proofs.DartIds.{head_is, has_dart}
-use Rattle.bar_check.specs.Bars.{number_at, column_of, IsColumn}
-use Rattle.bar_check.specs.Tables.{AreNext, IsMetBad, IsFirstMetBad, IsUpTo}
+use Rattle.drawings.specs.Bars.{number_at, column_of, IsColumn}
+use Rattle.drawings.specs.NextEdges.{AreNext}
+use Rattle.bar_check.specs.Tables.{IsMetBad, IsFirstMetBad, IsUpTo}
 use Rattle.bar_check.proofs.TableLemmas.{column_next, edge_next, first-past, first-good, first-stays, first-new}
 use Rattle.bar_check.proofs.drawing.GreaterEnd.with_next.Goals as goal
 use Rattle.bar_check.proofs.drawing.GreaterEnd.with_next.Goals.{in_default-via-in-Some+else-e-a, in_default-via-in_default}

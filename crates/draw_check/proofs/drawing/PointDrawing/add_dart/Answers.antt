@@ -3,7 +3,7 @@ use Rattle.std.proofs.lemmas.Int.{ints}
 use Rattle.euler_faces.specs.Numbers.{number_at}
 use Rattle.half_edges.specs.Map.{dart_at}
 use Rattle.pg_plane.specs.Geometry.{cross}
-use Rattle.draw_check.specs.Outer.{swept}
+use Rattle.drawings.specs.OuterFaces.{swept}
 use Rattle.vertex_rounds.specs.Rounds.{dart_of}
 use Rattle.vertex_rounds.proofs.DartIds.{has_dart, head_is}
 use Rattle.draw_check.proofs.DartSums.{area_from_zero, swept-within}

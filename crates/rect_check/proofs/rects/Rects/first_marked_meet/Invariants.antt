@@ -1,6 +1,6 @@
 -- No rectangle of a vertex before u meets one after it, and that of u meets none before v.
 use Rattle.std.proofs.Common.{ℕ, ◌<◌}
-use Rattle.rect_check.specs.Duals.{DoMeet}
+use Rattle.drawings.specs.Duals.{DoMeet}
 use Rattle.rect_check.specs.Faults.{RectsMeet}
 use Rattle.rect_check.proofs.rects.Rects.first_marked_meet.Given as goal
 

@@ -1,6 +1,6 @@
 use Rattle.std.proofs.Common.{ℕ, ◌<◌, ◌↔◌, length, below_more}
 use Rattle.map_theory.specs.Maps.{HasDart}
-use Rattle.rect_check.specs.Duals.{ShareSide}
+use Rattle.drawings.specs.Duals.{ShareSide}
 use Rattle.rect_check.proofs.rects.Rects.first_wrong.Goals as goal
 
 pub loop-u-preserved : goal.loop-u-preserved

@@ -1,6 +1,6 @@
 use Rattle.std.proofs.Common.{ℕ, ◌<◌, ◌↔◌, length}
 use Rattle.map_theory.specs.Maps.{HasDart}
-use Rattle.rect_check.specs.Duals.{ShareSide}
+use Rattle.drawings.specs.Duals.{ShareSide}
 use Rattle.rect_check.proofs.rects.Rects.first_wrong.Given as goal
 
 abbrev pub invariant-loop-u : goal.invariant-loop-u

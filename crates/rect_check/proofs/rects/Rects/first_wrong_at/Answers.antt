@@ -3,7 +3,7 @@ use Rattle.std.specs.Bool.{one_answer}
 use Rattle.std.specs.Cmp.{booleans_Decides}
 use Rattle.std.proofs.lemmas.Bool.{true≢false, not_from_true}
 use Rattle.map_theory.specs.Maps.{HasDart}
-use Rattle.rect_check.specs.Duals.{ShareSide}
+use Rattle.drawings.specs.Duals.{ShareSide}
 use Rattle.rect_check.proofs.PairLemmas.{between_more}
 use Rattle.rect_check.proofs.rects.Rects.first_wrong_at.Goals as goal
 

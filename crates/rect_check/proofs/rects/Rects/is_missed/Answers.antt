@@ -2,7 +2,7 @@ use Rattle.std.proofs.Common.{◌≡◌, ◌<◌, true, subst}
 use Rattle.map_theory.specs.Maps.{Dart}
 use Rattle.vertex_rounds.specs.Rounds.{dart_of}
 use Rattle.vertex_rounds.proofs.DartIds.{ends_are, has_dart}
-use Rattle.rect_check.specs.Duals.{ShareSide}
+use Rattle.drawings.specs.Duals.{ShareSide}
 use Rattle.rect_check.proofs.EdgeLemmas.{missed_is}
 use Rattle.rect_check.proofs.rects.Rects.is_missed.Goals as goal
 

@@ -1,5 +1,5 @@
 use Rattle.std.proofs.Common.{◌≡◌, ◌*ℤ◌, ◌≤ℤ◌, pos}
-use Rattle.rect_check.specs.Duals.{area_of}
+use Rattle.drawings.specs.Duals.{area_of}
 use Rattle.rect_check.proofs.rects.Rects.total_area.Given as goal
 
 abbrev pub invariant-loop-v : goal.invariant-loop-v

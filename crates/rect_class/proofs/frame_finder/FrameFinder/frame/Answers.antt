@@ -1,6 +1,6 @@
 use Rattle.std.proofs.Common.{true≢false, sym, ◌∙◌, arith}
 use Rattle.std.proofs.lemmas.Bool.{OnTrue_at}
-use Rattle.rect_check.specs.Duals.{top_vertex, right_vertex, bottom_vertex}
+use Rattle.drawings.specs.Duals.{top_vertex, right_vertex, bottom_vertex}
 use Rattle.rect_class.proofs.InnerLemmas.{vertices_of}
 use Rattle.rect_class.proofs.CornerLemmas.{uncrossed_frame}
 use Rattle.rect_class.proofs.Counted.{IsRectMap-counted}

@@ -1,5 +1,5 @@
 use Rattle.std.proofs.Common.{◌≡◌, ◌<◌, ℕ, length, slice_index, pos}
-use Rattle.rect_check.specs.Duals.{number_at}
+use Rattle.drawings.specs.Duals.{number_at}
 use Rattle.rect_dual.proofs.draw.drawing.numbers_at.Given as goal
 
 abbrev pub invariant-loop-v : goal.invariant-loop-v

@@ -3,7 +3,7 @@ use Rattle.std.specs.Prelude.{IfOk}
 use Rattle.std.proofs.lemmas.Result.{IfOk-weaker}
 use Rattle.map_lists.specs.Lists.{Lists}
 use Rattle.map_theory.specs.Maps.{follows}
-use Rattle.rect_check.specs.Duals.{HasRects}
+use Rattle.drawings.specs.Duals.{HasRects}
 use Rattle.rect_orders.specs.Maps.{IsRectMap}
 use Rattle.rect_orders.specs.Figures.{IsDualFor}
 use Rattle.rect_orders.specs.Labellings.{IsByLabelling}

@@ -1,6 +1,6 @@
 use Rattle.std.proofs.Common.{refl, sym, subst}
 use Rattle.map_theory.specs.Maps.{HasDart}
-use Rattle.rect_check.specs.Duals.{top_vertex, right_vertex, bottom_vertex}
+use Rattle.drawings.specs.Duals.{top_vertex, right_vertex, bottom_vertex}
 use Rattle.rect_orders.specs.Maps.{IsRectMap}
 use Rattle.rect_orders.specs.Figures.{IsDualFor}
 use Rattle.rect_orders.specs.Labellings.{IsByLabelling}

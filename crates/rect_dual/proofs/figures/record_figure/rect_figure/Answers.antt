@@ -1,6 +1,6 @@
 use Rattle.std.proofs.Common.{sym, subst}
 use Rattle.map_lists.specs.Lists.{Lists}
-use Rattle.rect_check.specs.Duals.{top_vertex, right_vertex, bottom_vertex}
+use Rattle.drawings.specs.Duals.{top_vertex, right_vertex, bottom_vertex}
 use Rattle.rect_class.specs.RectMaps.{IsRectMap as IsOfClass}
 use Rattle.rect_dual.specs.Figures.{IsRectFigure}
 use Rattle.rect_dual.proofs.Drawn.{class_of}

@@ -6,7 +6,7 @@ use Rattle.map_theory.proofs.DartCounts.{few_darts-simple}
 use Rattle.map_theory.proofs.DartLemmas.{darts_before_end}
 use Rattle.graph_search.specs.Arcs.{arcs_of}
 use Rattle.bipolar.specs.FaceNumbers.{left_rows}
-use Rattle.bar_check.proofs.EdgeLemmas.{edges_until-all}
+use Rattle.drawings.proofs.EdgeCounts.{edges_until-all}
 use Rattle.bipolar.proofs.FaceAgree.{length-left_row}
 use Rattle.visibility.proofs.StartLemmas.{below_more, one_most, columns_put, start_in, IsFilledTo-more}
 use Rattle.visibility.proofs.SpanLemmas.{IsSpan-more, IsLeastOf-span, IsGreatestOf-span, entry_in, entry_twin_in, entry_head, entry_read}

@@ -9,8 +9,8 @@ use Rattle.map_theory.specs.Maps.{Dart, HasDart, IsSimpleMap, darts, dart_number
 use Rattle.map_theory.specs.Paths.{SameFace}
 use Rattle.plane_laws.specs.Laws.{IsMergedFaces}
 use Rattle.pg_plane.specs.declared.grid_points.Point.{Point}
-use Rattle.draw_check.specs.Outer.{swept, face_sum, AreOthersPositive}
-use Rattle.draw_check.proofs.DartTotals.{total, sum_over-total, total-add, total-darts}
+use Rattle.drawings.specs.OuterFaces.{swept, face_sum, AreOthersPositive}
+use Rattle.drawings.proofs.DartTotals.{total, sum_over-total, total-add, total-darts}
 
 -- whether two darts are in one face
 abbrev pub same_face : Lists → Dart → Dart → Bool

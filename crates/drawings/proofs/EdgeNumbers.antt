@@ -7,8 +7,8 @@ use Rattle.map_theory.specs.Maps.{IsSimpleMap, list_of}
 use Rattle.map_theory.proofs.EntryLemmas.{count_of, count_of-cons, Contains-counted}
 use Rattle.map_theory.proofs.DartCounts.{sum_below, sum_below-add, sum_below-same, sum_below-zero}
 use Rattle.vertex_rounds.specs.Rounds.{HasEdge, ComesBefore}
-use Rattle.bar_check.specs.Bars.{edges_until, edges_before, edge_number}
-use Rattle.bar_check.proofs.EdgeLemmas.{edges_until-is, edges_before-more}
+use Rattle.drawings.specs.Bars.{edges_until, edges_before, edge_number}
+use Rattle.drawings.proofs.EdgeCounts.{edges_until-is, edges_before-more}
 
 -- how often u stands in a list, if it is above v
 abbrev pub above : List ℕ → ℕ → ℕ → ℕ

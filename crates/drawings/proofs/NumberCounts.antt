@@ -7,9 +7,9 @@ use Rattle.map_theory.specs.Maps.{IsSimpleMap, list_of, dart_count, edge_count}
 use Rattle.map_theory.proofs.EntryLemmas.{count_of, Contains-from_count_of}
 use Rattle.map_theory.proofs.DartCounts.{sum_below, sum_below-add, sum_below-same, sum_below-zero, sum_below-count_of, sum_below-front, dart_count-edge_count, count_mirrored}
 use Rattle.vertex_rounds.specs.Rounds.{HasEdge}
-use Rattle.bar_check.specs.Bars.{edges_before, edge_number}
-use Rattle.bar_check.proofs.EdgeLemmas.{edges_before-none, edges_before-more}
-use Rattle.bar_check.proofs.NumberLemmas.{edges_until-sum, edge_number-before}
+use Rattle.drawings.specs.Bars.{edges_before, edge_number}
+use Rattle.drawings.proofs.EdgeCounts.{edges_before-none, edges_before-more}
+use Rattle.drawings.proofs.EdgeNumbers.{edges_until-sum, edge_number-before}
 
 -- the darts, list by list
 dart_count-rows : (lists : Lists) → dart_count lists ≡ sum_below (λ v. length (list_of lists v)) (length lists)

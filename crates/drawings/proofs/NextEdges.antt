@@ -10,9 +10,9 @@ use Rattle.map_theory.specs.Maps.{HasDart, IsSimpleMap, list_of}
 use Rattle.map_theory.proofs.DartCounts.{sum_below, count_mirrored}
 use Rattle.map_theory.proofs.EntryLemmas.{count_of, count_of-le-one}
 use Rattle.vertex_rounds.specs.Rounds.{HasEdge}
-use Rattle.bar_check.specs.Bars.{edges_until, edges_before, edge_number}
-use Rattle.bar_check.specs.Tables.{AreNext}
-use Rattle.bar_check.proofs.NumberLemmas.{above, edges_until-sum}
+use Rattle.drawings.specs.Bars.{edges_until, edges_before, edge_number}
+use Rattle.drawings.specs.NextEdges.{AreNext}
+use Rattle.drawings.proofs.EdgeNumbers.{above, edges_until-sum}
 
 nothing : (t : Bool) → cond {A = ℕ} t 0 0 ≡ 0
 nothing true = refl

@@ -22,11 +22,11 @@ use Rattle.plane_laws.proofs.KeptEdges.{filter-all, all_or_some}
 use Rattle.pg_plane.specs.declared.grid_points.Point.{Point}
 use Rattle.pg_plane.proofs.Identities.{cross_back}
 use Rattle.plane_drawings.specs.Drawing.{place, IsCounterclockwise}
-use Rattle.draw_check.specs.Outer.{swept, AreOthersPositive, HasOuterFace}
-use Rattle.draw_check.proofs.DartTotals.{total-without}
-use Rattle.draw_check.proofs.FacesJoined.{same_face, AreOthersPositive-joined}
-use Rattle.draw_check.proofs.TriangleSums.{AreOthersPositive-counterclockwise}
-use Rattle.draw_check.proofs.ValidFewer.{dart_more}
+use Rattle.drawings.specs.OuterFaces.{swept, AreOthersPositive, HasOuterFace}
+use Rattle.drawings.proofs.DartTotals.{total-without}
+use Rattle.drawings.proofs.FacesJoined.{same_face, AreOthersPositive-joined}
+use Rattle.drawings.proofs.TriangleSums.{AreOthersPositive-counterclockwise}
+use Rattle.drawings.proofs.ValidFewer.{dart_more}
 
 -- the two directions of an edge sweep opposite areas
 swept-turned : (points : List Point) (u v : ℕ) → swept points (u, v) +ℤ swept points (v, u) ≡ pos 0

@@ -8,7 +8,7 @@ use Rattle.map_theory.specs.Maps.{Dart, HasDart, IsSimpleMap, list_of, darts_fro
 use Rattle.map_theory.specs.Edges.{without_entry, without_edge}
 use Rattle.map_theory.proofs.DartLemmas.{length-darts, dart_number-lt, get_or-dart_number, IsDartNumber-darts, place_of-here, place_of-there}
 use Rattle.map_theory.proofs.EntryLemmas.{Contains-cons_cases}
-use Rattle.draw_check.specs.Outer.{sum_over}
+use Rattle.drawings.specs.OuterFaces.{sum_over}
 
 -- the sum of the weights of darts
 abbrev pub total : (Dart → ℤ) → List Dart → ℤ

@@ -1,7 +1,7 @@
 use Rattle.std.proofs.Common.{sym, ◌∙◌}
 use Rattle.std.proofs.lemmas.Bool.{true≢false}
-use Rattle.rect_check.proofs.FrameLemmas.{IsRoundOfFour-frame}
-use Rattle.rect_check.proofs.outer_frame.outer_four.Goals as goal
+use Rattle.drawings.proofs.FrameLemmas.{IsRoundOfFour-frame}
+use Rattle.drawings.proofs.outer_frame.outer_four.Goals as goal
 
 pub returns-else-is_round_of_four : goal.returns-else-is_round_of_four
 returns-else-is_round_of_four c = λ h.

@@ -6,7 +6,7 @@ use Rattle.std.proofs.lemmas.List.Sums.{count_by_more_yes, count_by_more_no}
 use Rattle.std.proofs.Math.Bool.{and-false}
 use Rattle.map_lists.specs.Lists.{Lists}
 use Rattle.map_theory.specs.Maps.{list_of}
-use Rattle.bar_check.specs.Bars.{edges_until, edges_before}
+use Rattle.drawings.specs.Bars.{edges_until, edges_before}
 
 pub edges_until-is : (lists : Lists) (v end : ℕ) → edges_until lists v end ≡ count_by (λ u. nat_lt v u && nat_lt u end) (list_of lists v)
 unfolding edges_until

@@ -4,8 +4,8 @@ use Rattle.std.specs.Option.{option_map}
 use Rattle.map_lists.specs.Lists.{Lists}
 use Rattle.map_theory.specs.Maps.{Dart, follows, face_step}
 use Rattle.half_edges.specs.Map.{Map, dart_at, first_dart}
-use Rattle.rect_check.specs.Duals.{HasFrame, top_vertex, right_vertex, bottom_vertex}
-use Rattle.rect_check.specs.Loops.{AreFour, IsRoundOfFour}
+use Rattle.drawings.specs.Duals.{HasFrame, top_vertex, right_vertex, bottom_vertex}
+use Rattle.drawings.specs.Frames.{AreFour, IsRoundOfFour}
 
 -- a dart after the face step
 stepped : (map : Map) (lists : Lists) (d e x y : ℕ) → dart_at map e ≡ option_map (face_step lists) (dart_at map d) → dart_at map d ≡ Some (x, y) → dart_at map e ≡ Some (y, follows lists y x)

@@ -11,10 +11,10 @@ use Rattle.pg_plane.specs.declared.grid_points.Point.{Point}
 use Rattle.pg_plane.specs.Geometry.{cross, area}
 use Rattle.pg_plane.proofs.Ring.{ring, sums}
 use Rattle.plane_drawings.specs.Drawing.{place, IsCounterclockwise}
-use Rattle.draw_check.specs.Outer.{swept, face_sum, AreOthersPositive}
-use Rattle.draw_check.proofs.DartTotals.{total-add, total-darts, total-dart}
-use Rattle.draw_check.proofs.FacesJoined.{same_face, weight, weight-on, weight-off, face_sum-total}
-use Rattle.draw_check.proofs.FaceLemmas.{thrice, same_step, same_itself, on_base}
+use Rattle.drawings.specs.OuterFaces.{swept, face_sum, AreOthersPositive}
+use Rattle.drawings.proofs.DartTotals.{total-add, total-darts, total-dart}
+use Rattle.drawings.proofs.FacesJoined.{same_face, weight, weight-on, weight-off, face_sum-total}
+use Rattle.drawings.proofs.FaceSteps.{thrice, same_step, same_itself, on_base}
 
 -- three sides of a triangle
 pub swept_triangle : (p q r : Point) → (cross p q +ℤ cross q r) +ℤ cross r p ≡ area p q r

@@ -10,7 +10,7 @@ use Rattle.plane_laws.specs.MapEditsCompleted.{IsExtended}
 use Rattle.pg_plane.specs.declared.grid_points.Point.{Point}
 use Rattle.pg_plane.specs.Geometry.{vector, IsClockBefore}
 use Rattle.plane_drawings.specs.Drawing.{place, GoesOnceRound, IsPlaneDrawing, KeepsRotations}
-use Rattle.draw_check.specs.Laws.{IsValid}
+use Rattle.drawings.specs.Valid.{IsValid}
 use Rattle.pg_plane.proofs.ClockOrder.{clock_cases, clock_apart, clock_chained}
 use Rattle.map_theory.proofs.RoundOrder.{sorted_from_once, once_from_sorted, sorted_kept}
 

@@ -6,7 +6,7 @@ use Rattle.map_theory.specs.Paths.{SameFace}
 use Rattle.pg_plane.specs.declared.grid_points.Point.{Point}
 use Rattle.pg_plane.specs.Geometry.{area}
 use Rattle.plane_drawings.specs.Drawing.{place}
-use Rattle.convex_check.specs.Corners.{IsOnTriangle}
+use Rattle.drawings.specs.Corners.{IsOnTriangle}
 
 -- the walk of another face than the base's goes from a over b to c, and turns to the right
 pub record IsBent (lists : Lists) (points : List Point) (base : Dart) (a b c : ℕ) : Type 0 where
