@@ -7,6 +7,7 @@ mod CornerLemmas
 pub mod MetLemmas
 pub mod LooseLemmas
 mod SpanLemmas
+mod WedgeLemmas
 mod RunLemmas
 mod StarLemmas
 mod OnEdgeLemmas

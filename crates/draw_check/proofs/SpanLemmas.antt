@@ -98,11 +98,11 @@ area-le p q k u over beside =
       | inr h ↦ (let a = h.0 in let b = h.1 in (product_signs (u.x -ℤ k.x) (q.y -ℤ p.y)).up_down (omega (arith, ints)) (omega (arith, ints)))
     ]))
 
-not_opposite_up : (s t : ℤ) → pos 0 ≤ℤ s → pos 0 ≤ℤ t → ¬ AreOpposite s t
+pub not_opposite_up : (s t : ℤ) → pos 0 ≤ℤ s → pos 0 ≤ℤ t → ¬ AreOpposite s t
 not_opposite_up s t a b (inl h) = let k = h.0 in omega (arith, ints)
 not_opposite_up s t a b (inr h) = let k = h.1 in omega (arith, ints)
 
-not_opposite_down : (s t : ℤ) → s ≤ℤ pos 0 → t ≤ℤ pos 0 → ¬ AreOpposite s t
+pub not_opposite_down : (s t : ℤ) → s ≤ℤ pos 0 → t ≤ℤ pos 0 → ¬ AreOpposite s t
 not_opposite_down s t a b (inl h) = let k = h.1 in omega (arith, ints)
 not_opposite_down s t a b (inr h) = let k = h.0 in omega (arith, ints)
 
@@ -116,7 +116,7 @@ left_missed span r p q first second u inside h =
     not_opposite_up (area r u p) (area r u q) (subst (λ a. pos 0 ≤ℤ a) (sym (area_turned p r u)) (first u inside)) (subst (λ a. pos 0 ≤ℤ a) (sym (area_turned q r u)) (second u inside)) h.ends_of_first
 
 -- no more to the left seen from the other end
-turned_down : (r p u : Point) → pos 0 ≤ℤ area r p u → area r u p ≤ℤ pos 0
+pub turned_down : (r p u : Point) → pos 0 ≤ℤ area r p u → area r u p ≤ℤ pos 0
 turned_down r p u h = let back = area_back p r u in let turn = area_turned p r u in omega (arith, ints, back, turn)
 
 -- Seen from r both ends are to the right of the box.

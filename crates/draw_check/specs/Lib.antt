@@ -4,6 +4,7 @@ pub mod Verdicts
 pub mod Laws
 pub mod Loops
 pub mod Spans
+pub mod Wedges
 pub mod Stars
 pub mod OnEdges
 pub mod FaceVerdicts

@@ -112,14 +112,14 @@ fn far_corner(extent: Extent, p: Point, q: Point) -> Point
 }
 
 // Says whether `z` is not negative.
-fn is_not_negative(z: i64) -> bool
+pub(crate) fn is_not_negative(z: i64) -> bool
     ensures { IsTrue result ↔ (pos 0 ≤ℤ z) }
 {
     0 <= z
 }
 
 // Says whether no point of the box is to the right of the line from `p` to `q`. Only true is promised.
-fn is_left_of(extent: Extent, p: PlacedPoint, q: PlacedPoint) -> bool
+pub(crate) fn is_left_of(extent: Extent, p: PlacedPoint, q: PlacedPoint) -> bool
     ensures { OnTrue result (IsLeftOf extent.span p.point q.point) }
 {
     is_not_negative(area2(p.point, q.point, far_corner(extent, p.point, q.point)))

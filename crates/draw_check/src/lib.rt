@@ -24,6 +24,7 @@ mod star_crossings;
 mod verdict;
 mod vertex_points;
 mod vertices_on_edges;
+mod wedges;
 
 pub use corner_check::is_drawn_well;
 pub use drawing_check::{check, check_points};

@@ -9,8 +9,9 @@ ghost use Rattle.drawings.specs.Frames.{IsFrame};
 ghost use Rattle.rect_check.specs.Verdicts.{AreRects, NoneMeet, DoFill, HasContacts, IsUnframed, IsRectVerdict};
 
 use crate::RectVerdict;
-use crate::outer_frame::{first_unframed, outer_four};
+use crate::outer_frame::first_unframed;
 use crate::rects::{Rects, first_bad_rect};
+use drawings::outer_four;
 use half_edges::{HalfMap, VertexId};
 use pg_plane::RectFigure;
 
