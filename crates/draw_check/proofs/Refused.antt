@@ -9,7 +9,7 @@ use Rattle.pg_plane.specs.declared.grid_points.Point.{Point}
 use Rattle.pg_plane.specs.Geometry.{vector, IsFirstHalf, IsClockBefore}
 use Rattle.draw_check.specs.FaceVerdicts.{IsFaceVerdict}
 use Rattle.draw_check.specs.Outer.{IsOuterVerdict}
-use Rattle.draw_check.specs.Verdicts.{IsVerdict}
+use Rattle.draw_check.specs.Verdicts.{IsVerdict, IsPlaneVerdict}
 use Rattle.draw_check.specs.declared.verdict.FaceVerdict.TheVariants.{Wrong}
 use Rattle.draw_check.specs.declared.verdict.OuterVerdict.TheVariants.{Inside}
 use Rattle.draw_check.specs.declared.verdict.Verdict.TheVariants.{Yes}
@@ -55,6 +55,10 @@ mirrored_drawing_accepted width height v =
 -- two vertices at one place, where the sweep's "no" is taken for "yes"
 no_of_the_sweep_taken_for_yes : (width height : ℤ) → IsVerdict ([] ∷ [] ∷ []) (point 0 0 ∷ point 0 0 ∷ []) width height Yes → ⊥
 no_of_the_sweep_taken_for_yes width height v = v.1 0 1 (record { order = omega arith; vertex = omega arith; same = refl })
+
+-- the same of the edges alone
+one_place_called_plane : IsPlaneVerdict ([] ∷ [] ∷ []) (point 0 0 ∷ point 0 0 ∷ []) Yes → ⊥
+one_place_called_plane v = v.0 0 1 (record { order = omega arith; vertex = omega arith; same = refl })
 
 -- a face named for a triangle with an isolated vertex beside it
 outer_of_two_components : (points : List Point) (base : Dart) (v u : VertexId) → IsOuterVerdict ((1 ∷ 2 ∷ []) ∷ (2 ∷ 0 ∷ []) ∷ (0 ∷ 1 ∷ []) ∷ [] ∷ []) points base (Inside v u) → ⊥

@@ -8,7 +8,7 @@ use Rattle.pg_plane.specs.Geometry.{IsOnSegment, DoCross}
 use Rattle.plane_drawings.specs.Drawing.{place, IsPlaneDrawing}
 use Rattle.draw_check.specs.declared.verdict.Verdict.TheVariants.{Yes}
 use Rattle.vertex_rounds.specs.Rounds.{HasEdge}
-use Rattle.draw_check.specs.Verdicts.{NoneShareAPlace, NoneOnEdge, NoneCross, IsVerdict}
+use Rattle.draw_check.specs.Verdicts.{NoneShareAPlace, NoneOnEdge, NoneCross, IsVerdict, IsPlaneVerdict}
 use Rattle.drawings.specs.Valid.{IsValid}
 use Rattle.pg_plane.proofs.Segments.{IsOnSegment-back, DoCross-first_back, DoCross-second_back, DoCross-exchanged}
 
@@ -66,4 +66,15 @@ yes_from_valid lists points width height simple h = (
   λ v a b s. h.plane.off_edges a b v s.edge.1 s.vertex s.not_first s.not_second s.on,
   λ a b c d s. h.plane.no_crossing a b c d s.first.1 s.second.1 s.apart.0 s.apart.1 s.apart.2 s.apart.3 s.cross,
   h.rotations,
+)
+
+-- of the edges alone
+pub plane_from_yes : (lists : Lists) (points : List Point) → IsSimpleMap lists → IsPlaneVerdict lists points Yes → IsPlaneDrawing lists points
+plane_from_yes lists points simple y = plane_without_faults lists points simple y.0 y.1 y.2
+
+pub yes_from_plane : (lists : Lists) (points : List Point) → IsSimpleMap lists → IsPlaneDrawing lists points → IsPlaneVerdict lists points Yes
+yes_from_plane lists points simple h = (
+  λ u v s. h.apart u v (let l = s.order in let lv = s.vertex in omega arith) s.vertex (λ e. let l = s.order in absurd (omega arith)) s.same,
+  λ v a b s. h.off_edges a b v s.edge.1 s.vertex s.not_first s.not_second s.on,
+  λ a b c d s. h.no_crossing a b c d s.first.1 s.second.1 s.apart.0 s.apart.1 s.apart.2 s.apart.3 s.cross,
 )

@@ -34,3 +34,14 @@ IsVerdict lists points width height (Turned v) =
     AllInGrid lists points width height × NoneShareAPlace lists points × NoneOnEdge lists points × NoneCross lists points × IsLeast (IsTurned lists points) v.0
 IsVerdict lists points width height Yes =
     AllInGrid lists points width height × NoneShareAPlace lists points × NoneOnEdge lists points × NoneCross lists points × KeepsRotations lists points
+
+-- The verdict is the first fault of the drawing of the edges alone, wherever the points stand and in whatever order the lists are.
+abbrev pub IsPlaneVerdict : Lists → List Point → Verdict → Type 0
+IsPlaneVerdict lists points (OutOfGrid v) = ⊥
+IsPlaneVerdict lists points (SamePlace u v) = IsLeastPair (ShareAPlace lists points) u.0 v.0
+IsPlaneVerdict lists points (OnEdge v e) =
+    NoneShareAPlace lists points × IsLeastTriple (LiesOnEdge lists points) v.0 e.a.0 e.b.0
+IsPlaneVerdict lists points (Cross e f) =
+    NoneShareAPlace lists points × NoneOnEdge lists points × IsLeastFour (EdgesCross lists points) e.a.0 e.b.0 f.a.0 f.b.0
+IsPlaneVerdict lists points (Turned v) = ⊥
+IsPlaneVerdict lists points Yes = NoneShareAPlace lists points × NoneOnEdge lists points × NoneCross lists points

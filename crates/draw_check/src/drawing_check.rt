@@ -3,7 +3,7 @@ ghost use Rattle.std.specs.Prelude.{IfSome, MatchOption, ℤ};
 ghost use Rattle.plane_drawings.specs.Drawing.{IsPlaneDrawing, HasPlaces};
 ghost use Rattle.plane_drawings.specs.SweepCheckLines.{firm_lists};
 ghost use Rattle.drawings.specs.Valid.{AllInGrid};
-ghost use Rattle.draw_check.specs.Verdicts.{NoneShareAPlace, NoneOnEdge, NoneCross, IsVerdict};
+ghost use Rattle.draw_check.specs.Verdicts.{NoneShareAPlace, NoneOnEdge, NoneCross, IsVerdict, IsPlaneVerdict};
 
 use crate::Verdict;
 use crate::drawing::PointDrawing;
@@ -39,6 +39,20 @@ pub fn check_points(map: &HalfMap, points: &Points, corner: Point) -> Verdict
     }
 }
 
+/// Returns the first fault of the drawing of the edges of `map` at `points`, wherever these stand and whatever the order
+/// of the lists: two vertices at one point, a vertex on an edge, or two edges that cross. `Yes` is returned where the
+/// drawing is plane. It takes the time of [`check_points`].
+pub fn check_plane(map: &HalfMap, points: &Points) -> Verdict
+    requires { HasPlaces map.now.lists points.now }
+    ensures { IsPlaneVerdict map.now.lists points.now result }
+{
+    let drawing = PointDrawing { map, points };
+    match drawing.first_pair() {
+        Some(verdict) => verdict,
+        None => Verdict::Yes,
+    }
+}
+
 /// Checks a figure as [`check_points`] does its points, in its grid.
 pub fn check(map: &HalfMap, fig: &GridFigure) -> Verdict
     requires { HasPlaces map.now.lists fig.now.points }
@@ -53,8 +67,9 @@ impl PointDrawing<'_> {
     fn first_meeting(&self, loose: Option<&[u16]>) -> Option<Verdict>
         requires apart { NoneShareAPlace self.now.map.now.lists self.now.points.now }
         requires plane { IfSome loose (λ l. IsPlaneDrawing (firm_lists l.now self.now.map.now.lists) self.now.points.now) }
-        ensures { MatchOption result (NoneShareAPlace self.now.map.now.lists self.now.points.now × NoneOnEdge self.now.map.now.lists self.now.points.now × NoneCross self.now.map.now.lists self.now.points.now)
+        ensures verdict { MatchOption result (NoneShareAPlace self.now.map.now.lists self.now.points.now × NoneOnEdge self.now.map.now.lists self.now.points.now × NoneCross self.now.map.now.lists self.now.points.now)
             (λ verdict. (width height : ℤ) → AllInGrid self.now.map.now.lists self.now.points.now width height → IsVerdict self.now.map.now.lists self.now.points.now width height verdict) }
+        ensures meeting { IfSome result (IsPlaneVerdict self.now.map.now.lists self.now.points.now) }
     {
         let from = self.first_on_edges(loose);
         if let Some((v, e)) = self.first_on_edge(from) {
@@ -69,8 +84,9 @@ impl PointDrawing<'_> {
     // Returns the first two vertices at one point, else the first vertex on an edge, else the first two edges that
     // cross, or `None`. A sweep that finds the drawing plane, or so without a few vertices' edges, spares trying pairs.
     fn first_pair(&self) -> Option<Verdict>
-        ensures { MatchOption result (NoneShareAPlace self.now.map.now.lists self.now.points.now × NoneOnEdge self.now.map.now.lists self.now.points.now × NoneCross self.now.map.now.lists self.now.points.now)
+        ensures verdict { MatchOption result (NoneShareAPlace self.now.map.now.lists self.now.points.now × NoneOnEdge self.now.map.now.lists self.now.points.now × NoneCross self.now.map.now.lists self.now.points.now)
             (λ verdict. (width height : ℤ) → AllInGrid self.now.map.now.lists self.now.points.now width height → IsVerdict self.now.map.now.lists self.now.points.now width height verdict) }
+        ensures meeting { IfSome result (IsPlaneVerdict self.now.map.now.lists self.now.points.now) }
     {
         let mut loose = [0; 8];
         match loose_vertices(self.map, self.points, &mut loose) {

@@ -5,7 +5,7 @@
 
 ghost use Rattle.draw_check.specs.FaceLaws.{FacesYesForFewer, FacesYesIsYes};
 ghost use Rattle.drawings.specs.Laws.{ValidWithFewer};
-ghost use Rattle.draw_check.specs.Laws.{YesIsValid};
+ghost use Rattle.draw_check.specs.Laws.{YesIsPlane, YesIsValid};
 
 mod bounding_boxes;
 mod corner_check;
@@ -27,7 +27,7 @@ mod vertices_on_edges;
 mod wedges;
 
 pub use corner_check::is_drawn_well;
-pub use drawing_check::{check, check_points};
+pub use drawing_check::{check, check_plane, check_points};
 pub use face_check::{check_by_faces, check_points_by_faces};
 pub use outer_face::{check_outer, check_outer_connected};
 use plane_drawings::drawings::counterclockwise_is_plane;
@@ -36,6 +36,11 @@ pub use verdict::{FaceVerdict, OuterVerdict, Verdict};
 /// States the law that the verdict is `Yes` exactly for plane drawings that lie in the grid and keep the rotations.
 pub fn yes_is_valid()
     ensures { YesIsValid }
+{}
+
+/// States the law that [`check_plane`] answers `Yes` exactly for plane drawings.
+pub fn yes_is_plane()
+    ensures { YesIsPlane }
 {}
 
 /// States the law that where `check_by_faces` answers `Yes`, `check` does.

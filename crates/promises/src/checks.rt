@@ -6,7 +6,7 @@ ghost use Rattle.convex_check.specs.Verdicts.{IsConvexVerdict};
 ghost use Rattle.draw_check.specs.FaceVerdicts.{IsFaceVerdict};
 ghost use Rattle.plane_drawings.specs.Drawing.{HasPlaces};
 ghost use Rattle.draw_check.specs.Outer.{IsOuterVerdict};
-ghost use Rattle.draw_check.specs.Verdicts.{IsVerdict};
+ghost use Rattle.draw_check.specs.Verdicts.{IsPlaneVerdict, IsVerdict};
 ghost use Rattle.figure_verdicts.specs.Verdicts.{IsFigureVerdict};
 ghost use Rattle.half_edges.specs.Map.{IsLive};
 ghost use Rattle.kuratowski.specs.Verdicts.{IsVerdict as IsWitnessVerdict};
@@ -26,7 +26,7 @@ use graphs::Graph;
 use half_edges::HalfMap;
 use kuratowski::{Witness, WitnessVerdict};
 use map_lists::DartId;
-use pg_plane::{BarFigure, GridFigure, RectFigure};
+use pg_plane::{BarFigure, GridFigure, Points, RectFigure};
 use rect_check::RectVerdict;
 use std::alloc::{AllocError, Global};
 
@@ -36,6 +36,14 @@ pub fn check(map: &HalfMap, fig: &GridFigure) -> Verdict
     ensures { IsVerdict map.now.lists fig.now.points fig.now.width fig.now.height result }
 {
     draw_check::check(map, fig)
+}
+
+/// Checks that the edges of `map`, drawn straight at `points`, are plane, whatever the order of its lists.
+pub fn check_plane(map: &HalfMap, points: &Points) -> Verdict
+    requires { HasPlaces map.now.lists points.now }
+    ensures { IsPlaneVerdict map.now.lists points.now result }
+{
+    draw_check::check_plane(map, points)
 }
 
 /// Checks that `fig` is in its grid and draws each face of `tri` counterclockwise but that of `base`.

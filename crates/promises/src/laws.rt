@@ -5,7 +5,7 @@ ghost use Rattle.convex_check.specs.Laws.{YesIsConvex};
 ghost use Rattle.convex_faces.specs.FaceRegionsLaws.{RegionsAreCoordinates};
 ghost use Rattle.convex_laws.specs.FaceRegionsLaws.{RegionsAreOne};
 ghost use Rattle.draw_check.specs.FaceLaws.{FacesYesIsYes};
-ghost use Rattle.draw_check.specs.Laws.{YesIsValid};
+ghost use Rattle.draw_check.specs.Laws.{YesIsPlane, YesIsValid};
 ghost use Rattle.embed_graph.specs.Laws.{DrawnExactly};
 ghost use Rattle.embed_theorem.specs.Embedding.{PlanarExactly};
 ghost use Rattle.embed_theorem.specs.Refuted.{WitnessesRefute};
@@ -206,6 +206,13 @@ pub fn yes_is_valid_drawing()
     ensures { YesIsValid }
 {
     draw_check::yes_is_valid();
+}
+
+/// The edges of a straight-line drawing alone have the verdict yes exactly where the drawing is plane.
+pub fn yes_is_plane()
+    ensures { YesIsPlane }
+{
+    draw_check::yes_is_plane();
 }
 
 /// A triangulation of which all inner faces are counterclockwise is drawn plane with its rotations kept.

@@ -8,8 +8,8 @@ use Rattle.draw_check.proofs.drawing.PointDrawing.first_pair.Goals as goal
 pub first_meeting-requires-clause-apart : goal.first_meeting-requires-clause-apart
 first_meeting-requires-clause-apart c = apart_but_loose c.args.self.now.map.now.lists c.args.self.now.points.now (take c.in-Some.count c.loose_vertices.new.loose) c.args.self.now.map.now.known.simple c.in-Some.ensures.plane
 
-pub returns-in-Some-eq0 : goal.returns-in-Some-eq0
-returns-in-Some-eq0 c =
+pub returns-in-Some-eq0-clause-verdict : goal.returns-in-Some-eq0-clause-verdict
+returns-in-Some-eq0-clause-verdict c =
     let lists = c.args.self.now.map.now.lists in
     let points = c.args.self.now.points.now in
     let simple = c.args.self.now.map.now.known.simple in
