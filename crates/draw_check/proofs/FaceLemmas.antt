@@ -1,13 +1,10 @@
 -- Where no face walk, written from its least vertex, is drawn wrong, all faces of a triangulation are drawn well.
-use Rattle.std.proofs.Common.{◌≡◌, ℕ, ◌<◌, ◌⊎◌, Bool, true, false, eqb, ◌||◌, List, length, ℤ, pos, ◌<ℤ◌, refl, sym, ap, subst, ◌∙◌, inl, inr, arith, eqb-true}
+use Rattle.std.proofs.Common.{◌≡◌, ℕ, ◌<◌, List, ℤ, pos, ◌<ℤ◌, refl, sym, ap, subst, ◌∙◌, inl, inr, arith}
 use Rattle.std.proofs.lemmas.Bool.{cases_lt}
 use Rattle.std.proofs.lemmas.Int.{ints, by_lt_z}
 use Rattle.map_lists.specs.Lists.{Lists}
-use Rattle.map_theory.specs.Maps.{Dart, HasDart, follows, face_step, dart_number, face_images, face_classes}
-use Rattle.map_theory.specs.Paths.{SameFace}
-use Rattle.map_theory.proofs.DartLemmas.{dart_number-lt, get_or-dart_number, dart_number-injective, HasDart-face_step, length-face_images, get_or-face_images, IsPermutationOfBelow-face_images}
+use Rattle.map_theory.specs.Maps.{Dart, HasDart, follows}
 use Rattle.plane_laws.specs.Triangulations.{IsTriangulation}
-use Rattle.plane_laws.proofs.Triangles.{triangles_where_met}
 use Rattle.pg_plane.specs.declared.grid_points.Point.{Point}
 use Rattle.pg_plane.specs.Geometry.{area}
 use Rattle.pg_plane.proofs.Identities.{area_turned}

@@ -21,8 +21,9 @@ use Rattle.vertex_rounds.specs.Rounds.{HasEdge, ComesBefore}
 use Rattle.vertex_rounds.proofs.LeastLemmas.{place_in}
 use Rattle.draw_check.specs.Faults.{EdgesCross}
 use Rattle.draw_check.specs.Loops.{Meets, IsCrossed}
-use Rattle.draw_check.specs.Spans.{IsIn, MissesStar}
-use Rattle.draw_check.specs.Stars.{HoldsHeads, AreHeads, Reaches, IsAhead, IsCrossedBy, IsBest, IsLowered, run_at}
+use Rattle.pg_plane.specs.Geometry.{DoCross}
+use Rattle.draw_check.specs.Spans.{IsIn}
+use Rattle.draw_check.specs.Stars.{AreHeads, Reaches, IsAhead, IsCrossedBy, IsBest, IsLowered, run_at}
 use Rattle.draw_check.proofs.RunLemmas.{run, by_run}
 use Rattle.draw_check.specs.declared.edge_meetings.Probe.TheVariants.{Edge}
 use Rattle.draw_check.specs.declared.bounding_boxes.BoundingBox.{BoundingBox}
@@ -166,10 +167,10 @@ reaches_from lists points v heads span wide are held vertex more = record {
 pub reaches_more : (lists : Lists) (points : List Point) (span wide : BoundingBox) (v : ℕ) → ((u : Point) → IsIn span u → IsIn wide u) → Reaches lists points span v → Reaches lists points wide v
 reaches_more lists points span wide v more h = record { vertex = more (place points v) h.vertex; heads = λ u edge. more (place points u) (h.heads u edge) }
 
--- a run that misses a block crosses no edge of it
-pub block_uncrossed : (lists : Lists) (points : List Point) (v : ℕ) (heads : List ℕ) (best : Option Ends) (span block : BoundingBox) → HoldsHeads points heads span 0 (length heads) → ((p q : Point) → IsIn block p → IsIn block q → MissesStar span (place points v) p q) → (a b : ℕ) → Reaches lists points block a → ¬ IsCrossedBy lists points v heads best a b
-block_uncrossed lists points v heads best span block held misses a b reach x =
-    misses (place points a) (place points b) reach.vertex (reach.heads b x.edge) (place points (get_or heads x.place 0)) (held x.place (omega arith) x.within) x.meets.4
+-- a fan that nothing in a block crosses crosses no edge of it
+pub block_uncrossed : (lists : Lists) (points : List Point) (v : ℕ) (heads : List ℕ) (best : Option Ends) (block : BoundingBox) → ((p q : Point) → IsIn block p → IsIn block q → (i : ℕ) → i < length heads → ¬ DoCross p q (place points v) (place points (get_or heads i 0))) → (a b : ℕ) → Reaches lists points block a → ¬ IsCrossedBy lists points v heads best a b
+block_uncrossed lists points v heads best block misses a b reach x =
+    misses (place points a) (place points b) reach.vertex (reach.heads b x.edge) x.place x.within x.meets.4
 
 -- a vertex has less neighbours than there are vertices
 pub few_neighbours : (lists : Lists) (v : ℕ) → IsSimpleMap lists → length lists < 4096 → v < length lists → length (list_of lists v) ≤ 4095

@@ -2,12 +2,10 @@
 use Rattle.std.specs.Prelude.{List, ℤ, ◌↔◌}
 use Rattle.map_lists.specs.Lists.{Lists}
 use Rattle.map_theory.specs.Maps.{IsSimpleMap}
-use Rattle.plane_laws.specs.MapEditsCompleted.{IsExtended}
 use Rattle.pg_plane.specs.declared.grid_points.Point.{Point}
-use Rattle.plane_drawings.specs.Drawing.{IsPlaneDrawing, KeepsRotations}
+use Rattle.plane_drawings.specs.Drawing.{IsPlaneDrawing}
 use Rattle.drawings.specs.Valid.{IsValid}
 use Rattle.draw_check.specs.declared.verdict.Verdict.TheVariants.{Yes}
-use Rattle.drawings.specs.Valid.{AllInGrid}
 use Rattle.draw_check.specs.Verdicts.{IsVerdict, IsPlaneVerdict}
 
 -- The verdict is Yes exactly where the drawing is valid.

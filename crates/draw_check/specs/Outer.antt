@@ -1,12 +1,9 @@
 -- The verdict on the outer face of a drawing of a connected map: each face other than the base's has a positive area.
-use Rattle.std.specs.Prelude.{ℕ, ◌≡◌, Bool, if◌then◌else◌, List, [], ◌∷◌, ℤ, pos, ◌+ℤ◌, ◌≤ℤ◌, ◌<ℤ◌}
-use Rattle.classes.specs.Classes.{same_class}
+use Rattle.std.specs.Prelude.{ℕ, ◌≡◌, List, pos, ◌≤ℤ◌}
 use Rattle.map_lists.specs.Lists.{Lists}
-use Rattle.map_theory.specs.Maps.{Dart, HasDart, darts, dart_number, face_classes, component_count}
+use Rattle.map_theory.specs.Maps.{Dart, HasDart, component_count}
 use Rattle.map_theory.specs.Paths.{SameFace}
 use Rattle.pg_plane.specs.declared.grid_points.Point.{Point}
-use Rattle.pg_plane.specs.Geometry.{cross}
-use Rattle.plane_drawings.specs.Drawing.{place}
 use Rattle.drawings.specs.OuterFaces.{face_sum, HasOuterFace}
 use Rattle.vertex_rounds.specs.Least.{IsLeastPair}
 use Rattle.draw_check.specs.declared.verdict.OuterVerdict.{OuterVerdict}

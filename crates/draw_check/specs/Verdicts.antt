@@ -1,8 +1,8 @@
 -- The verdict on a drawing: the first kind of fault that it has, with the least ids where it has one.
-use Rattle.std.specs.Prelude.{ℕ, ◌<◌, List, length, ℤ}
+use Rattle.std.specs.Prelude.{ℕ, List, ℤ}
 use Rattle.map_lists.specs.Lists.{Lists}
 use Rattle.pg_plane.specs.declared.grid_points.Point.{Point}
-use Rattle.plane_drawings.specs.Drawing.{place, IsInGrid, KeepsRotations}
+use Rattle.plane_drawings.specs.Drawing.{KeepsRotations}
 use Rattle.drawings.specs.Valid.{AllInGrid}
 use Rattle.vertex_rounds.specs.Least.{IsLeast, IsLeastPair, IsLeastTriple, IsLeastFour}
 use Rattle.draw_check.specs.Faults.{LeavesGrid, ShareAPlace, LiesOnEdge, EdgesCross, IsTurned}

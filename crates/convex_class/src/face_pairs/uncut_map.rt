@@ -25,6 +25,5 @@ impl UncutMap<'_> {
         ensures known { IsHalfMap self.now.map.now }
         ensures faces { AreFaces self.now.map.now self.now.faces.now }
         ensures uncut { IsPlaneUncut self.now.map.now.lists }
-    {
-    }
+    {}
 }
