@@ -1,5 +1,5 @@
 -- The text of a run, on worked cases. Each is a computation: the two sides come to the same value.
-use Rattle.std.specs.Prelude.{pos, ◌-◌, ◌≡◌, [], ◌∷◌, ◌++◌, map, codes, refl, Some, None}
+use Rattle.std.specs.Prelude.{ℕ, List, pos, ◌-◌, ◌≡◌, [], ◌∷◌, ◌++◌, map, codes, refl, Some, None}
 use Rattle.std.proofs.Common.{arith, inl, inr}
 use Rattle.classes.specs.Classes.{merge}
 use Rattle.std.specs.Fmt.{digits}
@@ -18,6 +18,12 @@ use Rattle.pigale_shell.specs.Verify.{verdict_line, verify_last_line}
 use Rattle.line_inputs.specs.declared.graph_lines.ending.Ending.TheVariants.{Limit}
 use Rattle.pigale_shell.specs.EmbedText.{IsEmbedBlock, embed_last_line}
 use Rattle.pigale_shell.specs.Text.{counts_line, refusal_line, end_line}
+use Rattle.verdict_laws.specs.Laws.{OneFigureVerdict}
+use Rattle.pigale_words.specs.declared.output_form.Form.{Form}
+use Rattle.pigale_shell.specs.JobInput.{EndingOf}
+use Rattle.pigale_shell.specs.Outcome.{Writes}
+use Rattle.pigale_shell.specs.declared.job_kinds.JobKind.TheVariants.{Maps, Figures}
+use Rattle.pigale_shell.proofs.OneTextLemmas.{one_text}
 use Rattle.pigale_shell.specs.Answer.{IsMapBlock}
 use Rattle.pigale_shell.specs.Kinds.{says_of}
 use Rattle.pigale_shell.specs.declared.map_jobs.MapJob.TheVariants as maps
@@ -172,3 +178,15 @@ one_vertex_refused = inr (Small 1, (refl, omega arith), refl)
 last_line_of_limit : embed_last_line 1 0 (Limit 2) ≡ codes "stop Limit 2" ++ 10 ∷ []
 unfolding embed_last_line digits
 last_line_of_limit = refl
+
+-- two texts of one `verify` are one, since it draws nothing
+one_verdict_text :
+    OneFigureVerdict → (input before text text' : List ℕ) (ending ending' : EndingOf Figures) (refused refused' : ℕ) → Writes Figures input ending refused (Some before) (Some text) → Writes Figures input ending' refused' (Some before) (Some text') → text ≡ text'
+one_verdict_text one input before text text' ending ending' refused refused' =
+    one_text one Figures input before text text' ending ending' refused refused' tt
+
+-- and so are two of one `count`
+one_count_text :
+    OneFigureVerdict → (form : Form) (input before text text' : List ℕ) (ending ending' : EndingOf (Maps maps.Count form)) (refused refused' : ℕ) → Writes (Maps maps.Count form) input ending refused (Some before) (Some text) → Writes (Maps maps.Count form) input ending' refused' (Some before) (Some text') → text ≡ text'
+one_count_text one form input before text text' ending ending' refused refused' =
+    one_text one (Maps maps.Count form) input before text text' ending ending' refused refused' tt
