@@ -1,78 +1,40 @@
-// The program's text: its blocks, the numbers of records in it, and what its refusals and verdicts say in words.
+// The program's text: the numbers of records in it, and what its refusals and verdicts say in words.
 
-// Counts a text's answers: how many `records` it answers, how many are `refused`, and how it stops, if it does.
-function tally(text) {
-  const lines = text.trimEnd();
-  const last = lines.slice(lines.lastIndexOf("\n") + 1).split(" ");
-  return last[0] === "end"
-    ? { records: Number(last[2]), refused: Number(last[4]), stop: null }
-    : { records: (text.match(/^(figure|count|refused|verdict) /gm) || []).length, refused: null, stop: last[0] === "stop" ? last.slice(1) : [] };
+import { blocksOf, figureLines } from "./figures.js";
+
+// Counts a text's answers: how many `records` it answers, how many are `refused`, how it stops, if it does, and its `text`
+// without the last line. Where memory ran out on the way there is no last line, and a figure that is not whole is left out.
+export function tally(text) {
+  const cut = text.lastIndexOf("\n", text.length - 2) + 1;
+  const last = text.slice(cut, -1).split(" ");
+  if (last[0] === "end" && text.endsWith("\n"))
+    return { records: Number(last[2]), refused: Number(last[4]), stop: null, text: text.slice(0, cut) };
+  const isTold = last[0] === "stop" && text.endsWith("\n");
+  const lines = isTold ? text.slice(0, cut) : wholeBlocks(text);
+  const records = (lines.match(/^(figure|count|refused|verdict) /gm) || []).length;
+  return { records, refused: null, stop: isTold ? last.slice(1) : [], text: lines };
 }
 
-// Returns a text without its last line, in which the first record has the number `base` + 1.
-function numbered(text, base) {
-  const lines = text.slice(0, text.lastIndexOf("\n", text.length - 2) + 1);
+// Returns the lines of a text up to the last one that closes a block.
+function wholeBlocks(text) {
+  const closed = text.slice(0, text.lastIndexOf("\n") + 1);
+  const head = closed.lastIndexOf("\nfigure ") + 1;
+  const [last] = blocksOf(closed.slice(head));
+  const isWhole = !last || !last[0].startsWith("figure ") || last.length > figureLines(last[0].split(" "));
+  return isWhole ? closed : closed.slice(0, head);
+}
+
+// Returns lines in which the first record has the number `base` + 1.
+export function numbered(lines, base) {
   return base ? lines.replace(/^(figure|count|refused|verdict) (\d+)/gm, (_, word, number) => `${word} ${Number(number) + base}`) : lines;
 }
 
-// Returns the blocks of a text as lists of lines.
-function blocksOf(text) {
-  const blocks = [];
-  const lines = text.split("\n");
-  lines.pop();
-  for (let at = 0; at < lines.length; ) {
-    const words = lines[at].split(" ");
-    const to = at + 1 + (words[0] === "figure" ? figureLines(words) : 0);
-    blocks.push(lines.slice(at, to));
-    at = to;
-  }
-  return blocks;
-}
-
-// Returns the blocks of figures alone, as `verify` reads them: notes between figures are passed over.
-function figuresOf(text) {
-  return blocksOf(text).filter((lines) => lines[0].startsWith("figure "));
-}
-
-// Reads a block that is a figure: its job, its lists, and its places, bars, rectangles or paths.
-function readFigure(lines) {
-  const [, number, job, third, fourth] = lines[0].split(" ");
-  const figure = { number: Number(number), job, lines };
-  if (job === "witness") {
-    const rows = lines.slice(1).map((line) => line.split(" ").slice(1).map(Number));
-    return { ...figure, kind: third, graph: fourth, branches: rows[0], paths: rows.slice(1), count: readGraph(fourth).count };
-  }
-  const count = Number(third);
-  const heads = [];
-  const lists = [];
-  for (const line of lines.slice(1, count + 1)) {
-    const [head, tail = ""] = line.split(":");
-    heads.push((head.match(/-?\d+/g) || []).map(Number));
-    lists.push(tail.trim() ? tail.trim().split(" ").map(Number) : []);
-  }
-  if (heads.length < count) return null;
-  figure.count = count;
-  figure.lists = lists;
-  if (job === "bars") {
-    figure.bars = heads.map(([, y, a, b]) => ({ y, a, b }));
-    figure.columns = (lines[count + 1] || "").split(" ").slice(1).map(Number);
-  } else if (job === "rect") figure.rects = heads.map(([, a, b, c, d]) => ({ a, b, c, d }));
-  else figure.places = heads.map(([, x, y]) => [x, y]);
-  return figure;
-}
-
-// Says whether each list of a figure names its vertices, and each entry stands in both lists.
-function isMap(figure) {
-  const known = figure.lists.map((list) => new Set(list));
-  return figure.lists.every((list, v) => list.every((u) => u >= 1 && u <= figure.count && known[u - 1].has(v + 1)));
-}
-
-function plural(count, noun, more = noun + "s") {
+export function plural(count, noun, more = noun + "s") {
   return `${count.toLocaleString("en")} ${count === 1 ? noun : more}`;
 }
 
 // Says in words what a line that is no figure says.
-function said(line) {
+export function said(line) {
   const [word, , ...rest] = line.split(" ");
   if (word === "count") {
     const [n, m, f, c, genus] = [1, 3, 5, 7, 9].map((k) => Number(rest[k]));
@@ -131,7 +93,7 @@ function verdict(name, [a, b, c, d]) {
 }
 
 // Says in words why a run stopped before the end of its input.
-function stopped(kind, [name, at]) {
+export function stopped(kind, [name, at]) {
   const byte = Number(at).toLocaleString("en");
   if (name === "EndInRecord")
     return Number(at) <= 15
@@ -149,5 +111,5 @@ function stopped(kind, [name, at]) {
       : `A number of line ${byte} is out of range. Vertices are numbered from 1 to 4,095, and coordinates reach to 1,048,576.`;
   if (name === "EndInFigure") return `The text ends inside the figure that begins at line ${byte}. It has fewer lines than its first line says.`;
   if (name === "TooLong") return "One record has more than 16 MiB.";
-  return name ? `It stopped: ${name} ${at || ""}` : "There was not enough memory.";
+  return name ? `It stopped: ${name} ${at || ""}` : "There is not enough memory for the next record. What was answered before stands below.";
 }

@@ -6,18 +6,25 @@ typedef unsigned __int128 wide;
 typedef struct { long ok; void *at; } tried;
 
 extern byte __heap_base;
+enum { PAGE = 65536, STEP = 256, MOST = 65536 }; /* bytes of a page, pages that are added at once, pages of 32 bits */
+
 static word top, end;     /* the memory that was given out, and that there is */
-static void *freed[64];   /* blocks that came back, by the logarithm of their size */
+static void *freed[33];   /* blocks that came back, by the logarithm of their size */
 static byte nothing[16];  /* a refused request is answered by an address too */
+
+/* Whether the memory grows by so many pages. Addresses are made of 32 bits after all, so a refusal is 2^32 - 1 then. */
+static int grows(word pages) {
+    if (pages > MOST - end / PAGE || (unsigned)__builtin_wasm_memory_grow(0, pages) == -1u) return 0;
+    end += pages * PAGE;
+    return 1;
+}
 
 static void *fresh(word size) {
     if (!top) top = ((word)&__heap_base + 15) & ~15ul;
-    if (!end) end = __builtin_wasm_memory_size(0) * 65536ul;
+    if (!end) end = __builtin_wasm_memory_size(0) * PAGE;
     if (size > end - top) {
-        word pages = (size - (end - top) + 65535) / 65536;
-        if (pages < 256) pages = 256;
-        if (__builtin_wasm_memory_grow(0, pages) == (word)-1) return 0;
-        end += pages * 65536ul;
+        word pages = (size - (end - top) + PAGE - 1) / PAGE;
+        if (!grows(pages < STEP ? STEP : pages) && !grows(pages)) return 0;
     }
     top += size;
     return (void *)(top - size);
@@ -25,7 +32,7 @@ static void *fresh(word size) {
 
 /* A block of 2^k bytes holds k, and behind 16 bytes what was asked for; 0 where there is no memory left. */
 void *memory_for(word size) {
-    if (size > 1ul << 40) return 0;
+    if (size > 1ul << 31) return 0;
     word k = 5;
     while ((1ul << k) < size + 16) k++;
     byte *block = freed[k];

@@ -1,309 +1,207 @@
-// Pictures of figures as SVG, in the style that the Python package has too (style.json).
+// Pictures of figures as SVG. Shapes, places, tints and labels are those of the Python package's pictures.
 
-// Returns the picture of a figure: its width, its height and its SVG. `paint` gives the colour of a name, `side` is the
-// longer side in pixels, numbers that are less than `least` pixels high are left out, and lines, dots and numbers are
-// `fine` times smaller than the side asks for.
-function picture(figure, paint, side = sideFor(figure.count), least = 5, fine = 1) {
-  const pen = new Pen(figure.count, side, paint, least, fine);
+import { isMap, readGraph } from "./figures.js";
+import { DIGIT } from "./labels.js";
+import { dots, lines, Look, num, placed, plain, texts, title, whole } from "./pens.js";
+import { STYLE } from "./style.js";
+
+// Returns the picture of a figure: its width, its height and its SVG. What `given` says is as for `Look`; its side is
+// by default 400 to 1000 pixels by the number of vertices.
+export function picture(figure, given = {}) {
+  const look = new Look({ side: defaultSide(figure.count), ...given });
   const draw = { bars: drawBars, rect: drawRects, witness: drawWitness }[figure.job] || drawGrid;
-  const [width, height] = draw(figure, pen);
-  return { width, height, body: pen.lines.join("") };
+  const [[width, height], body] = draw(figure, look);
+  return { width, height, body: body.map((line) => line + "\n").join("") };
 }
 
 // Returns a picture as a document of its own, with the plain colours of the light style.
-function document_of(figure, side) {
-  const { width, height, body } = picture(figure, (name) => STYLE.light[name], side);
+export function pictureDocument(figure, given = {}) {
+  const { width, height, body } = picture(figure, { ...given, paint: plain });
   return (
     `<svg xmlns="http://www.w3.org/2000/svg" viewBox="0 0 ${width} ${height}" width="${width}" height="${height}">\n` +
-    `<rect width="100%" height="100%" fill="${STYLE.light.ground}"/>\n${body}</svg>\n`
+    `<rect width="${width}" height="${height}" ${plain({ fill: "ground" })}/>\n${body}</svg>\n`
   );
 }
 
-function sideFor(count) {
+function defaultSide(count) {
   const { least, most, from, each } = STYLE.side;
   return Math.min(most, least + each * Math.max(0, count - from));
 }
 
-// How drawings are shown: with their right triangle made equilateral, and with their faces filled.
-const ways = { equilateral: true, faces: true };
-
-const DENSE = 600; // vertices from which on a picture is made of few paths, without numbers
-
-class Pen {
-  constructor(count, side, paint, least, fine) {
-    const scale = side / 400 / fine;
-    const size = ({ most, root }) => scale * Math.min(most, root / Math.sqrt(Math.max(count, 1)));
-    Object.assign(this, { count, side, paint, least, lines: [], isDense: count > DENSE * fine * fine, scale, margin: STYLE.margin * scale });
-    this.dot = size(STYLE.sizes.dot);
-    this.width = size(STYLE.sizes.line);
-    this.size = size(STYLE.sizes.number);
-  }
-
-  put(line) {
-    this.lines.push(line + "\n");
-  }
-
-  // Draws segments, in one path where they are many.
-  segments(pairs, name, width) {
-    const open = `stroke="${this.paint(name)}" stroke-width="${num(Math.max(0.1, width))}" stroke-linecap="round" fill="none"`;
-    if (this.isDense) {
-      this.put(`<path d="${pairs.map(([p, q]) => `M${num(p[0])} ${num(p[1])}L${num(q[0])} ${num(q[1])}`).join("")}" ${open}/>`);
-      return;
-    }
-    this.put(`<g ${open}>`);
-    for (const [p, q] of pairs) this.put(`<line x1="${num(p[0])}" y1="${num(p[1])}" x2="${num(q[0])}" y2="${num(q[1])}"/>`);
-    this.put("</g>");
-  }
-
-  text(x, y, size, name, number, halo = "") {
-    this.put(
-      `<text x="${num(x)}" y="${num(y)}" dy="0.35em" font-size="${num(size)}" font-family="${STYLE.font}" text-anchor="middle" ` +
-        `fill="${this.paint(name)}"${halo}>${number}</text>`,
-    );
-  }
-
-  // Draws dots with titles, and the numbers that have room beside them.
-  dots(places, lists, names = []) {
-    if (this.isDense) {
-      const r = num(this.dot);
-      const d = places.map(([x, y]) => `M${num(x - this.dot)} ${num(y)}a${r} ${r} 0 1 0 ${num(2 * this.dot)} 0a${r} ${r} 0 1 0 ${num(-2 * this.dot)} 0`);
-      this.put(`<path d="${d.join("")}" fill="${this.paint("dot")}"/>`);
-      return;
-    }
-    places.forEach(([x, y], v) =>
-      this.put(`<circle cx="${num(x)}" cy="${num(y)}" r="${num(this.dot)}" fill="${this.paint(names[v] || "dot")}">${title(v + 1, lists[v])}</circle>`),
-    );
-    if (this.size < this.least) return;
-    const halo = ` stroke="${this.paint("ground")}" stroke-width="${num(this.size / 4)}" stroke-linejoin="round" paint-order="stroke"`;
-    for (const [v, [x, y]] of this.numberPlaces(places, lists)) this.text(x, y, this.size, "number", v, halo);
-  }
-
-  // Returns the numbers that have room beside their dots: of eight directions the farthest from the dot's edges first.
-  numberPlaces(places, lists) {
-    const taken = new Map();
-    const cell = 3 * this.size;
-    const apart = this.dot + (this.count > 100 ? this.size / 2 : 0);
-    const cells = (box) => {
-      const found = [];
-      for (let i = Math.floor(box[0] / cell); i <= Math.floor(box[2] / cell); i++)
-        for (let j = Math.floor(box[1] / cell); j <= Math.floor(box[3] / cell); j++) found.push(i * 65536 + j);
-      return found;
-    };
-    const put = (box, v) => {
-      for (const key of cells(box)) {
-        if (!taken.has(key)) taken.set(key, []);
-        taken.get(key).push([box, v]);
-      }
-    };
-    const isFree = (box, v) =>
-      cells(box).every((key) =>
-        (taken.get(key) || []).every(([o, u]) => u === v || box[0] >= o[2] || o[0] >= box[2] || box[1] >= o[3] || o[1] >= box[3]),
-      );
-    places.forEach(([x, y], v) => put([x - apart, y - apart, x + apart, y + apart], v + 1));
-    const found = [];
-    places.forEach(([x, y], k) => {
-      const v = k + 1;
-      const half = 0.3 * this.size * String(v).length + 0.5;
-      const to = lists[k].map((u) => Math.atan2(places[u - 1][1] - y, places[u - 1][0] - x));
-      const room = (turn) => Math.min(4, ...to.map((other) => Math.abs(remainder(turn - other))));
-      const turns = [0, 1, 2, 3, 4, 5, 6, 7].map((i) => (i * Math.PI) / 4).map((turn) => [turn, room(turn)]);
-      for (const [turn] of turns.sort((p, q) => q[1] - p[1])) {
-        const at = [x + Math.cos(turn) * (this.dot + half + 1), y + Math.sin(turn) * (this.dot + this.size / 2 + 1)];
-        const box = [at[0] - half, at[1] - this.size / 2, at[0] + half, at[1] + this.size / 2];
-        if (!isFree(box, v)) continue;
-        put(box, v);
-        found.push([v, at]);
-        break;
-      }
-    });
-    return found;
-  }
+// Returns the edges of lists, as pairs (v, u) with v below u, in order.
+export function edgesOf(lists) {
+  return lists.flatMap((list, k) =>
+    list
+      .filter((u) => u > k + 1)
+      .sort((a, b) => a - b)
+      .map((u) => [k + 1, u]),
+  );
 }
 
-function remainder(turn) {
-  return turn - 2 * Math.PI * Math.round(turn / (2 * Math.PI));
+// Returns the places by the affine map that makes the triangle of the job's grid one with three like sides. Its corners,
+// from the lower left one on, are (0, 0), (2n - 4, 0) and (n - 2, n - 2) of `shift`, (1, 0), (n - 2, 1) and (0, n - 2) of
+// `schnyder`, and (0, 0), (w, 0) and (0, w) of `convex`, where w does not matter.
+export function equilateral(job, places) {
+  if (job === "shift") return places.map(([x, y]) => [x, y * Math.sqrt(3)]);
+  const most = places.length - 2;
+  const parts = job === "convex" || most < 1 ? places : places.map(([x, y]) => [(x - 1) * most + y, (most - 1) * y - (x - 1)]);
+  return parts.map(([across, up]) => [across + up / 2, (up * Math.sqrt(3)) / 2]);
 }
 
-function num(value) {
-  return String(Math.round(value * 10) / 10);
-}
-
-function title(v, list) {
-  return `<title>${v}:${list.length > 30 ? ` ${list.length} neighbours` : list.map((u) => ` ${u}`).join("")}</title>`;
-}
-
-function edgesOf(lists) {
-  const edges = [];
-  lists.forEach((list, v) => {
-    for (const u of [...list].sort((a, b) => a - b)) if (u > v + 1) edges.push([v + 1, u]);
-  });
-  return edges;
-}
-
-// Returns places in pixels, with y downwards, and the width and the height of the picture.
-function placed(places, pen) {
-  let [left, right, low, high] = [Infinity, -Infinity, Infinity, -Infinity];
-  for (const [x, y] of places) {
-    left = Math.min(left, x);
-    right = Math.max(right, x);
-    low = Math.min(low, y);
-    high = Math.max(high, y);
-  }
-  const unit = (pen.side - 2 * pen.margin) / Math.max(right - left, high - low, 1);
-  const spots = places.map(([x, y]) => [pen.margin + unit * (x - left), pen.margin + unit * (high - y)]);
-  return [spots, [Math.round(unit * (right - left) + 2 * pen.margin), Math.round(unit * (high - low) + 2 * pen.margin)]];
-}
-
-// Makes the right triangle of a drawing an equilateral one.
-function equilateral(job, [x, y]) {
-  return job === "shift" ? [x, y * Math.sqrt(3)] : [x + y / 2, (y * Math.sqrt(3)) / 2];
-}
-
-function drawGrid(figure, pen) {
+function drawGrid(figure, look) {
   const isDrawing = isMap(figure);
   // A drawing that was given to be judged is shown as it is.
-  const [spots, box] = placed(figure.places.map((place) => (figure.isGiven || !ways.equilateral ? place : equilateral(figure.job, place))), pen);
-  if (ways.faces && isDrawing && !pen.isDense) fillFaces(figure, spots, pen);
+  const isMapped = look.equilateral && !figure.isGiven;
+  const [spots, box] = placed(isMapped ? equilateral(figure.job, figure.places) : figure.places, look);
   const edges = edgesOf(figure.lists).filter(([, u]) => u <= figure.count);
-  pen.segments(edges.map(([v, u]) => [spots[v - 1], spots[u - 1]]), "line", pen.width);
-  pen.dots(spots, figure.lists.map((list) => list.filter((u) => u >= 1 && u <= figure.count)));
-  return box;
+  const pairs = edges.map(([v, u]) => [spots[v - 1], spots[u - 1]]);
+  const faces = look.faces && isDrawing && figure.count <= look.dense ? fillFaces(figure, spots, look) : [];
+  const known = figure.lists.map((list) => list.filter((u) => u >= 1 && u <= figure.count));
+  const line = lines(pairs, look.size("line", figure.count), "line", look);
+  return [box, [...faces, ...line, ...dots(spots, known, edges, look)]];
 }
 
-// Fills each face of positive area by the length of its boundary walk, the largest first.
-function fillFaces(figure, spots, pen) {
+// Fills the inner faces by their lengths; where one stands within another, it comes after it. A face's walk is
+// counterclockwise, and so has its area above zero, where the face is not the outer one of its part.
+function fillFaces(figure, spots, look) {
   const faces = [];
-  for (const walk of faceWalks(figure.lists)) {
-    const at = walk.map((v) => spots[v - 1]);
-    const area = at.reduce((sum, [x, y], k) => sum + y * at[(k + 1) % at.length][0] - x * at[(k + 1) % at.length][1], 0);
-    if (area > 0.01) faces.push([area, walk.length, at]);
+  for (const face of facesOf(figure.lists)) {
+    const at = face.map((v) => figure.places[v - 1]);
+    const area = at.reduce((sum, [x, y], k) => sum + x * at[(k + 1) % at.length][1] - at[(k + 1) % at.length][0] * y, 0);
+    if (area > 0) faces.push([area, face]);
   }
-  for (const [, length, at] of faces.sort((p, q) => q[0] - p[0]))
-    pen.put(
-      `<polygon points="${at.map(([x, y]) => `${num(x)},${num(y)}`).join(" ")}" fill="${pen.paint(length > 10 ? "face-more" : `face-${length}`)}"/>`,
-    );
+  return faces
+    .sort((p, q) => q[0] - p[0])
+    .map(([, face]) => {
+      const points = face.map((v) => `${num(spots[v - 1][0])},${num(spots[v - 1][1])}`).join(" ");
+      const colour = face.length > 10 ? "face-more" : `face-${face.length}`;
+      const words = `face of ${face.length}: ${face.map((v) => look.name(v)).join(" ")}`;
+      return `<polygon points="${points}" ${look.paint({ fill: colour })}><title>${words}</title></polygon>`;
+    });
 }
 
-// Returns the boundary walks of a map, each with its face on the left.
-function faceWalks(lists) {
+// Returns the faces of a map that have edges, each as its walk with the face on the left. The first one is that of the
+// dart from vertex 1 to the first of its list, which drawings of connected maps have outside.
+export function facesOf(lists) {
   const after = lists.map((list) => new Map(list.map((u, k) => [u, list[(k + 1) % list.length]])));
   const seen = lists.map(() => new Set());
-  const walks = [];
+  const faces = [];
   lists.forEach((list, k) => {
     for (const first of list) {
-      if (seen[k].has(first)) continue;
-      const walk = [];
-      let [v, u] = [k + 1, first];
-      while (!seen[v - 1].has(u)) {
+      const face = [];
+      for (let [v, u] = [k + 1, first]; !seen[v - 1].has(u); [v, u] = [u, after[u - 1].get(v)]) {
         seen[v - 1].add(u);
-        walk.push(v);
-        [v, u] = [u, after[u - 1].get(v)];
+        face.push(v);
       }
-      if (walk.length > 2) walks.push(walk);
+      if (face.length) faces.push(face);
     }
   });
-  return walks;
+  return faces;
 }
 
 // Draws bars and columns, each axis with a unit of its own, so that bars keep apart.
-function drawBars(figure, pen) {
-  const right = Math.max(1, ...figure.bars.map(({ b }) => b), ...figure.columns);
-  const top = Math.max(1, ...figure.bars.map(({ y }) => y));
-  const room = Math.max(pen.side, Math.min(STYLE.side.most, 14 * figure.count)) - 2 * pen.margin;
-  const [across, upwards] = [Math.min(36, room / right), Math.min(30, room / top)];
-  const thick = Math.min(16, 0.62 * upwards);
-  const spot = (x, y) => [pen.margin + across * x, pen.margin + upwards * (top - y)];
-  const edges = edgesOf(figure.lists);
-  const pairs = edges.slice(0, figure.columns.length).filter(([, u]) => u <= figure.count);
-  pen.segments(pairs.map(([v, u], k) => [spot(figure.columns[k], figure.bars[v - 1].y), spot(figure.columns[k], figure.bars[u - 1].y)]), "line", pen.width);
-  figure.bars.forEach(({ y, a, b }, v) => {
+function drawBars(figure, look) {
+  const { count, bars, columns } = figure;
+  const most = (values) => values.reduce((most, it) => Math.max(most, it), 0);
+  const [right, top] = [Math.max(1, most(bars.map(({ b }) => b)), most(columns)), most(bars.map(({ y }) => y))];
+  const { scale, margin } = look;
+  const room = (look.side - 2 * margin) / Math.max(count - 1, 1);
+  const across = Math.min(40 * scale, (look.side - 2 * margin) / right);
+  const high = count <= 64 ? 13 * scale : (1.6 * look.side) / Math.max(count - 1, 1);
+  const upwards = Math.min(30 * scale, Math.max(high, room));
+  const thick = Math.min(17 * scale, 0.7 * upwards);
+  const spot = (x, y) => [margin + across * x, margin + upwards * (top - y)];
+  const edges = edgesOf(figure.lists).slice(0, columns.length).filter(([, u]) => u <= count);
+  const pairs = edges.map(([v, u], k) => [spot(columns[k], bars[v - 1].y), spot(columns[k], bars[u - 1].y)]);
+  const body = lines(pairs, look.size("line", count), "line", look);
+  const numbers = [];
+  body.push(`<g ${look.paint({ fill: "dot" })}>`);
+  bars.forEach(({ y, a, b }, k) => {
     const [[x1, middle], [x2]] = [spot(a, y), spot(b, y)];
-    const [from, to] = [x1 - 0.34 * across, x2 + 0.34 * across];
-    pen.put(
-      `<rect x="${num(from)}" y="${num(middle - thick / 2)}" width="${num(Math.max(0, to - from))}" height="${num(thick)}" rx="${num(thick / 6)}" ` +
-        `fill="${pen.paint("dot")}">${pen.isDense ? "" : title(v + 1, figure.lists[v])}</rect>`,
+    const [from, width] = [x1 - 0.36 * across, Math.max(0, x2 - x1 + 0.72 * across)];
+    body.push(
+      `<rect x="${num(from)}" y="${num(middle - thick / 2)}" width="${num(width)}" height="${num(thick)}" ` +
+        `rx="${num(Math.min(thick, width) / 5)}">${count > look.dense ? "" : title(look, k + 1, figure.lists[k])}</rect>`,
     );
-    const size = Math.min(0.8 * thick, (to - from) / (0.65 * String(v + 1).length));
-    if (size >= pen.least) pen.text((from + to) / 2, middle, size, "on-dot", v + 1);
+    const name = look.name(k + 1);
+    const size = Math.min(13 * scale, 0.92 * thick, width / (DIGIT * name.length + 0.15));
+    numbers.push([name, [from + width / 2, middle], size]);
   });
-  return [Math.round(across * right + 2 * pen.margin), Math.round(upwards * top + 2 * pen.margin)];
+  body.push("</g>", ...texts(look.legible(numbers), "on-dot", look));
+  return [[whole(across * right + 2 * margin), whole(upwards * Math.max(count - 1, top) + 2 * margin)], body];
 }
 
-function drawRects(figure, pen) {
-  const [spots, box] = placed(figure.rects.flatMap(({ a, b, c, d }) => [[a, c], [b, d]]), pen);
-  tints(figure.lists).forEach((tint, v) => {
-    const [[x1, y2], [x2, y1]] = [spots[2 * v], spots[2 * v + 1]];
-    pen.put(
-      `<rect x="${num(x1)}" y="${num(y1)}" width="${num(Math.max(0, x2 - x1))}" height="${num(Math.max(0, y2 - y1))}" fill="${pen.paint(`tint-${tint}`)}" ` +
-        `stroke="${pen.paint("line")}" stroke-width="${num(pen.width)}">${pen.isDense ? "" : title(v + 1, figure.lists[v])}</rect>`,
+function drawRects(figure, look) {
+  const { count, rects } = figure;
+  const [spots, box] = placed(rects.flatMap(({ a, b, c, d }) => [[a, c], [b, d]]), look);
+  const most = Math.min(13 * look.scale, Math.max(6 * look.scale, 1.6 * look.size("number", count)));
+  const body = [`<g ${look.paint({ stroke: "line" })} stroke-width="${num(look.size("line", count))}" stroke-linejoin="round">`];
+  const numbers = [];
+  tints(figure.lists).forEach((tint, k) => {
+    const [[x1, y2], [x2, y1]] = [spots[2 * k], spots[2 * k + 1]];
+    body.push(
+      `<rect x="${num(x1)}" y="${num(y1)}" width="${num(Math.max(0, x2 - x1))}" height="${num(Math.max(0, y2 - y1))}" ` +
+        `${look.paint({ fill: `tint-${tint}` })}>${count > look.dense ? "" : title(look, k + 1, figure.lists[k])}</rect>`,
     );
-    const size = Math.min(1.2 * STYLE.sizes.number.most * pen.scale, 0.8 * (y2 - y1), (x2 - x1) / (0.62 * String(v + 1).length + 0.3));
-    if (size >= pen.least) pen.text((x1 + x2) / 2, (y1 + y2) / 2, size, "number", v + 1);
+    const name = look.name(k + 1);
+    numbers.push([name, [(x1 + x2) / 2, (y1 + y2) / 2], Math.min(most, 0.8 * (y2 - y1), (x2 - x1) / (DIGIT * name.length + 0.3))]);
   });
-  return box;
+  return [box, [...body, "</g>", ...texts(look.legible(numbers), "number", look)]];
 }
 
-// Returns one of six tints for each vertex, other than its neighbours' where the map is plane: by least degrees from the end.
-function tints(lists) {
-  const left = lists.map((list) => new Set(list.filter((u) => u >= 1 && u <= lists.length)));
-  const queues = [];
-  const put = (v) => (queues[left[v].size] ||= []).push(v);
-  lists.forEach((_, v) => put(v));
+// Returns one of six tints for each vertex, other than its neighbours' where the map is plane: by least degrees from the
+// end, and of these the least vertex first.
+export function tints(lists) {
+  const left = new Map(lists.map((list, k) => [k + 1, new Set(list.filter((u) => u >= 1 && u <= lists.length))]));
   const order = [];
-  const isGone = lists.map(() => false);
-  for (let size = 0; order.length < lists.length; ) {
-    const v = (queues[size] || []).pop();
-    if (v === undefined) size++;
-    else if (!isGone[v] && left[v].size === size) {
-      isGone[v] = true;
-      order.push(v);
-      for (const u of left[v])
-        if (!isGone[u - 1]) {
-          left[u - 1].delete(v + 1);
-          put(u - 1);
-          size = Math.min(size, left[u - 1].size);
-        }
-    }
+  while (left.size) {
+    let least = 0;
+    for (const [v, beside] of left) if (!least || beside.size < left.get(least).size) least = v;
+    order.push(least);
+    for (const u of left.get(least)) if (left.has(u)) left.get(u).delete(least);
+    left.delete(least);
   }
   const found = [];
   for (const v of order.reverse()) {
-    const beside = lists[v].map((u) => found[u - 1]);
-    found[v] = Math.max(0, [0, 1, 2, 3, 4, 5].findIndex((tint) => !beside.includes(tint)));
+    const beside = lists[v - 1].map((u) => found[u - 1]);
+    found[v - 1] = Math.max(0, [0, 1, 2, 3, 4, 5].findIndex((tint) => !beside.includes(tint)));
   }
   return found;
 }
 
 // Draws branch vertices in two rows or on a circle, paths straight between them, and the other edges thin.
-function drawWitness(figure, pen) {
+function drawWitness(figure, look) {
   const { count, edges } = readGraph(figure.graph);
-  const [spots, box] = placed(witnessPlaces(figure, count), pen);
+  const [spots, box] = placed(witnessPlaces(figure, count), look);
   const own = new Set(figure.paths.flatMap((path) => path.slice(1).map((v, k) => String([Math.min(v, path[k]), Math.max(v, path[k])]))));
-  const pairs = (isOwn) => edges.filter((edge) => own.has(String(edge)) === isOwn).map(([u, v]) => [spots[u - 1], spots[v - 1]]);
-  pen.segments(pairs(false), "thin", pen.width);
-  pen.segments(pairs(true), "line", 1.6 * pen.width);
+  const inOrder = [...edges].sort((p, q) => p[0] - q[0] || p[1] - q[1]);
+  const [ours, rest] = [true, false].map((isOwn) => inOrder.filter((edge) => own.has(String(edge)) === isOwn));
+  const pairs = (list) => list.map(([u, v]) => [spots[u - 1], spots[v - 1]]);
+  const line = look.size("line", count);
   const lists = Array.from({ length: count }, () => []);
   for (const [u, v] of edges) {
     lists[u - 1].push(v);
     lists[v - 1].push(u);
   }
-  const names = [];
-  figure.branches.forEach((v, k) => (names[v - 1] = figure.kind === "K33" && k > 2 ? "odd" : "even"));
-  pen.dots(spots, lists, names);
-  return box;
+  const colours = [];
+  figure.branches.forEach((v, k) => (colours[v - 1] = figure.kind === "K33" && k > 2 ? "odd" : "even"));
+  const body = [...lines(pairs(rest), line, "thin", look), ...lines(pairs(ours), 1.6 * line, "line", look)];
+  return [box, [...body, ...dots(spots, lists, ours, look, colours)]];
 }
 
-// Returns a place for each vertex of a witness's graph; those off the witness stand in a row below.
+// Returns a place for each vertex of a witness's graph; those that it does not pass stand in a row below. Between two
+// rows inner vertices stand at heights of their own, since paths meet half-way.
 function witnessPlaces(figure, count) {
+  const turns = [0, 1, 2, 3, 4].map((k) => Math.PI / 2 - (2 * Math.PI * k) / 5);
   const corners =
     figure.kind === "K33"
       ? [0, 1, 2, 3, 4, 5].map((k) => [600 * (k % 3), k < 3 ? 800 : 0])
-      : [0, 1, 2, 3, 4].map((k) => Math.PI / 2 - (2 * Math.PI * k) / 5).map((turn) => [600 + 600 * Math.cos(turn), 600 * Math.sin(turn)]);
+      : turns.map((turn) => [600 + 600 * Math.cos(turn), 600 * Math.sin(turn)]);
   const places = [];
   figure.branches.forEach((v, k) => (places[v - 1] = corners[k]));
   figure.paths.forEach((path, i) => {
     const [[x1, y1], [x2, y2]] = [places[path[0] - 1], places[path[path.length - 1] - 1]];
     path.slice(1, -1).forEach((v, k) => {
-      // Between two rows inner vertices stand at heights of their own, since paths meet half-way.
       const along = (k + 1) / (path.length - 1);
       const part = figure.kind === "K33" ? 0.3 * along + 0.15 + 0.06 * (i % 3) : along;
       places[v - 1] = [x1 + part * (x2 - x1), y1 + part * (y2 - y1)];

@@ -1,5 +1,7 @@
 // Answers the page's runs beside the page, so that a long one leaves it at hand and can be stopped.
 
+import { Engine } from "./engine.js";
+
 let engine;
 onmessage = async ({ data }) => {
   try {

@@ -1,0 +1,138 @@
+// The parts that pictures are made of, as SVG text: lines, dots, numbers, and how a picture is to look.
+
+import { labelPlaces, dotRadius, within } from "./labels.js";
+import { STYLE } from "./style.js";
+
+const UNIT = 400; // the sizes of the style are for a picture whose longer side is this
+const LEAST_NUMBER = 2.4; // the least height of numbers in bars and rectangles, in a picture of that side
+
+// Returns attributes with the light colours of names, as `fill="#ffffff"`.
+export function plain(paints) {
+  return Object.entries(paints)
+    .map(([attribute, name]) => `${attribute}="${STYLE.light[name]}"`)
+    .join(" ");
+}
+
+// Returns an attribute that takes its colours from the variables of the page.
+export function variable(paints) {
+  const rules = Object.entries(paints).map(([attribute, name]) => `${attribute}:var(--${name})`);
+  return `style="${rules.join(";")}"`;
+}
+
+// How a picture looks: its longer `side` in pixels, whether the triangle of a drawing is made `equilateral`, whether
+// `faces` are filled, and how colours are named (`paint`). Numbers that are less than `least` pixels high are left out,
+// and lines, dots and numbers are `fine` times as large as the side asks for. From `dense` vertices on all dots are one
+// path, and all lines one, without titles and numbers. `names` are what stands at the vertices in place of numbers.
+export class Look {
+  constructor({ side, equilateral = false, faces = false, paint = plain, least = 0, fine = 1, dense = Infinity, names = null }) {
+    Object.assign(this, { side, equilateral, faces, paint, least, fine, dense, names });
+    this.scale = side / UNIT;
+    this.margin = STYLE.margin * this.scale * Math.min(1, fine);
+  }
+
+  // Returns the radius of a "dot", the width of a "line" or the height of a "number" in a picture of `count` vertices.
+  size(name, count) {
+    const { most, root } = STYLE.sizes[name];
+    return Math.min(most, root / Math.sqrt(Math.max(count, 1))) * this.scale * this.fine;
+  }
+
+  // Returns what stands at vertex `v`.
+  name(v) {
+    return this.names ? this.names[v - 1] : String(v);
+  }
+
+  // Returns the numbers that are high enough to be read, each with its place and its height.
+  legible(numbers) {
+    return numbers.filter(([, , size]) => size >= Math.max(LEAST_NUMBER * this.scale, this.least));
+  }
+}
+
+// Writes a number of pixels: to a hundredth where it is small, and to a tenth elsewhere.
+export function num(value) {
+  const unit = Math.abs(value) < 10 ? 100 : 10;
+  return String(Math.round(value * unit) / unit || 0);
+}
+
+export function escaped(text) {
+  return String(text).replace(/[&<>"]/g, (it) => ({ "&": "&amp;", "<": "&lt;", ">": "&gt;", '"': "&quot;" })[it]);
+}
+
+export function title(look, v, list) {
+  return `<title>${[`${look.name(v)}:`, ...list.map((u) => look.name(u))].map(escaped).join(" ")}</title>`;
+}
+
+// Returns straight lines of one width and colour; `ends` are pairs of places.
+export function lines(ends, width, colour, look) {
+  if (!ends.length) return [];
+  const open = `${look.paint({ stroke: colour })} stroke-width="${num(Math.max(0.1, width))}" stroke-linecap="round"`;
+  if (ends.length > look.dense) {
+    const path = ends.map(([p, q]) => `M${num(p[0])} ${num(p[1])}L${num(q[0])} ${num(q[1])}`).join("");
+    return [`<path d="${path}" fill="none" ${open}/>`];
+  }
+  const each = ends.map(([p, q]) => `<line x1="${num(p[0])}" y1="${num(p[1])}" x2="${num(q[0])}" y2="${num(q[1])}"/>`);
+  return [`<g ${open}>`, ...each, "</g>"];
+}
+
+// Returns texts, each about its place and with its height, and where asked for with a halo beneath them all.
+export function texts(given, colour, look, hasHalo = false) {
+  if (!given.length) return [];
+  const font = `font-family="${STYLE.font}" text-anchor="middle"`;
+  const each = given.map(
+    ([text, [x, y], size]) => `<text x="${num(x)}" y="${num(y)}" dy="0.35em" font-size="${num(size)}">${escaped(text)}</text>`,
+  );
+  const width = 0.28 * given.reduce((most, [, , size]) => Math.max(most, size), 0);
+  const paints = look.paint({ fill: "ground", stroke: "ground" });
+  const open = `<g ${paints} stroke-width="${num(width)}" stroke-linejoin="round" ${font} aria-hidden="true">`;
+  return [...(hasHalo ? [open, ...each, "</g>"] : []), `<g ${look.paint({ fill: colour })} ${font}>`, ...each, "</g>"];
+}
+
+// Returns dots with titles, and their numbers: within all dots where each has room, and else beside those that have room.
+export function dots(places, lists, edges, look, colours = []) {
+  const count = places.length;
+  if (count > look.dense) return [denseDots(places, look)];
+  const size = look.size("number", count);
+  const inner = count < 100 ? within(places, edges, size, look.scale, look.names) : null;
+  const isInner = inner && inner.height >= look.least;
+  const radius = isInner ? inner.radius : dotRadius(places, edges, look.size("dot", count));
+  const rim = `stroke-width="${num(0.3 * look.size("line", count) + 0.25 * look.scale)}"`;
+  const body = [];
+  let last = "";
+  places.forEach(([x, y], k) => {
+    const paints = look.paint({ fill: colours[k] || "dot", stroke: "ground" });
+    if (paints !== last) body.push(...(last ? ["</g>"] : []), `<g ${paints} ${rim}>`);
+    last = paints;
+    body.push(`<circle cx="${num(x)}" cy="${num(y)}" r="${num(radius)}">${title(look, k + 1, lists[k])}</circle>`);
+  });
+  if (last) body.push("</g>");
+  const names = places.map((_, k) => look.name(k + 1));
+  if (isInner) return [...body, ...texts(places.map((at, k) => [names[k], at, inner.height]), "on-dot", look)];
+  if (size < look.least) return body;
+  const beside = labelPlaces(places, edges, names, radius, size).map(([k, at]) => [names[k], at, size]);
+  return [...body, ...texts(beside, "number", look, true)];
+}
+
+function denseDots(places, look) {
+  const size = look.size("dot", places.length);
+  const r = num(size);
+  const circle = ([x, y]) => `M${num(x - size)} ${num(y)}a${r} ${r} 0 1 0 ${num(2 * size)} 0a${r} ${r} 0 1 0 ${num(-2 * size)} 0`;
+  return `<path d="${places.map(circle).join("")}" ${look.paint({ fill: "dot" })}/>`;
+}
+
+// Returns places in pixels, with y downwards, and the width and the height of the picture.
+export function placed(places, look) {
+  let [left, right, low, high] = [Infinity, -Infinity, Infinity, -Infinity];
+  for (const [x, y] of places) {
+    left = Math.min(left, x);
+    right = Math.max(right, x);
+    low = Math.min(low, y);
+    high = Math.max(high, y);
+  }
+  const { margin } = look;
+  const unit = (look.side - 2 * margin) / Math.max(right - left, high - low, 1);
+  const spots = places.map(([x, y]) => [margin + unit * (x - left), margin + unit * (high - y)]);
+  return [spots, [whole(unit * (right - left) + 2 * margin), whole(unit * (high - low) + 2 * margin)]];
+}
+
+export function whole(length) {
+  return Math.max(1, Math.round(length));
+}
