@@ -4,7 +4,9 @@ import zlib from "node:zlib";
 
 const page = process.env.PIGALE_PAGE || new URL("../pigale.html", import.meta.url);
 
+// The page's own module, or the one of the file that PIGALE_MODULE names.
 export function moduleBytes() {
+  if (process.env.PIGALE_MODULE) return new Uint8Array(fs.readFileSync(process.env.PIGALE_MODULE));
   const [, text] = /<script type="text\/plain" id="module">([^<]*)<\/script>/.exec(fs.readFileSync(page, "utf8"));
   return new Uint8Array(zlib.gunzipSync(Buffer.from(text, "base64")));
 }
