@@ -47,7 +47,7 @@ export function recognized(bytes) {
 }
 
 // Says whether a line is as long as its first byte says, and in the bytes of graph6.
-function isGraphLine(line) {
+export function isGraphLine(line) {
   if (!/^[?-~]+$/.test(line)) return false;
   const wide = line[0] === "~";
   if (wide && (line.length < 4 || line[1] === "~")) return line.length > 8;
