@@ -23,9 +23,11 @@ export function variable(paints) {
 // `faces` are filled, and how colours are named (`paint`). Numbers that are less than `least` pixels high are left out,
 // and lines, dots and numbers are `fine` times as large as the side asks for. From `dense` vertices on all dots are one
 // path, and all lines one, without titles and numbers. `names` are what stands at the vertices in place of numbers.
+// `overlay` returns of a scene what is drawn `below` the lines and `above` them, the `colours` of vertices, and whether the
+// picture `hasNoLines` of its own.
 export class Look {
-  constructor({ side, equilateral = false, faces = false, paint = plain, least = 0, fine = 1, dense = Infinity, names = null }) {
-    Object.assign(this, { side, equilateral, faces, paint, least, fine, dense, names });
+  constructor({ side, equilateral = false, faces = false, paint = plain, least = 0, fine = 1, dense = Infinity, names = null, overlay }) {
+    Object.assign(this, { side, equilateral, faces, paint, least, fine, dense, names, overlay: overlay || (() => ({})) });
     this.scale = side / UNIT;
     this.margin = STYLE.margin * this.scale * Math.min(1, fine);
   }
@@ -71,6 +73,20 @@ export function lines(ends, width, colour, look) {
   }
   const each = ends.map(([p, q]) => `<line x1="${num(p[0])}" y1="${num(p[1])}" x2="${num(q[0])}" y2="${num(q[1])}"/>`);
   return [`<g ${open}>`, ...each, "</g>"];
+}
+
+// Returns a line with a head in its middle that points from `from` to `to`.
+export function arrow(from, to, width, colour, look, isDotted = false) {
+  const [dx, dy] = [to[0] - from[0], to[1] - from[1]];
+  const length = Math.hypot(dx, dy) || 1;
+  const [along, size] = [[dx / length, dy / length], Math.min(3.2 * width + 2, length / 3)];
+  const [x, y] = [from[0] + 0.6 * dx, from[1] + 0.6 * dy];
+  const corner = (ahead, aside) => `${num(x + ahead * size * along[0] - aside * size * along[1])} ${num(y + ahead * size * along[1] + aside * size * along[0])}`;
+  const dash = isDotted ? ` stroke-dasharray="${num(width)} ${num(2 * width)}"` : "";
+  return (
+    `<line x1="${num(from[0])}" y1="${num(from[1])}" x2="${num(to[0])}" y2="${num(to[1])}" ${look.paint({ stroke: colour })} stroke-width="${num(width)}"${dash}/>` +
+    `<path d="M${corner(1, 0)}L${corner(-0.8, 0.75)}L${corner(-0.8, -0.75)}Z" ${look.paint({ fill: colour })}/>`
+  );
 }
 
 // Returns texts, each about its place and with its height, and where asked for with a halo beneath them all.

@@ -5,13 +5,14 @@ import { DIGIT } from "./labels.js";
 import { dots, lines, Look, num, placed, plain, texts, title, whole } from "./pens.js";
 import { STYLE } from "./style.js";
 
-// Returns the picture of a figure: its width, its height and its SVG. What `given` says is as for `Look`; its side is
-// by default 400 to 1000 pixels by the number of vertices.
+// Returns the picture of a figure: its width, its height, its SVG and its `scene`, which says where vertices and edges stand
+// in it: `spots` or `boxes` of vertices, and `pairs`, the ends of edges in the order of `edgesOf`. What `given` says is as for
+// `Look`; its side is by default 400 to 1000 pixels by the number of vertices.
 export function picture(figure, given = {}) {
   const look = new Look({ side: defaultSide(figure.count), ...given });
   const draw = { bars: drawBars, rect: drawRects, witness: drawWitness }[figure.job] || drawGrid;
-  const [[width, height], body] = draw(figure, look);
-  return { width, height, body: body.map((line) => line + "\n").join("") };
+  const [[width, height], body, scene] = draw(figure, look);
+  return { width, height, body: body.map((line) => line + "\n").join(""), scene };
 }
 
 // Returns a picture as a document of its own, with the plain colours of the light style.
@@ -57,8 +58,10 @@ function drawGrid(figure, look) {
   const pairs = edges.map(([v, u]) => [spots[v - 1], spots[u - 1]]);
   const faces = look.faces && isDrawing && figure.count <= look.dense ? fillFaces(figure, spots, look) : [];
   const known = figure.lists.map((list) => list.filter((u) => u >= 1 && u <= figure.count));
-  const line = lines(pairs, look.size("line", figure.count), "line", look);
-  return [box, [...faces, ...line, ...dots(spots, known, edges, look)]];
+  const scene = { spots, pairs };
+  const { below = [], above = [], colours, hasNoLines } = look.overlay(scene, look);
+  const line = hasNoLines ? [] : lines(pairs, look.size("line", figure.count), "line", look);
+  return [box, [...faces, ...below, ...line, ...above, ...dots(spots, known, edges, look, colours)], scene];
 }
 
 // Fills the inner faces by their lengths; where one stands within another, it comes after it. A face's walk is
@@ -114,11 +117,12 @@ function drawBars(figure, look) {
   const edges = edgesOf(figure.lists).slice(0, columns.length).filter(([, u]) => u <= count);
   const pairs = edges.map(([v, u], k) => [spot(columns[k], bars[v - 1].y), spot(columns[k], bars[u - 1].y)]);
   const body = lines(pairs, look.size("line", count), "line", look);
-  const numbers = [];
+  const [numbers, boxes] = [[], []];
   body.push(`<g ${look.paint({ fill: "dot" })}>`);
   bars.forEach(({ y, a, b }, k) => {
     const [[x1, middle], [x2]] = [spot(a, y), spot(b, y)];
     const [from, width] = [x1 - 0.36 * across, Math.max(0, x2 - x1 + 0.72 * across)];
+    boxes.push([from, middle - thick / 2, width, thick]);
     body.push(
       `<rect x="${num(from)}" y="${num(middle - thick / 2)}" width="${num(width)}" height="${num(thick)}" ` +
         `rx="${num(Math.min(thick, width) / 5)}">${count > look.dense ? "" : title(look, k + 1, figure.lists[k])}</rect>`,
@@ -127,8 +131,9 @@ function drawBars(figure, look) {
     const size = Math.min(13 * scale, 0.92 * thick, width / (DIGIT * name.length + 0.15));
     numbers.push([name, [from + width / 2, middle], size]);
   });
-  body.push("</g>", ...texts(look.legible(numbers), "on-dot", look));
-  return [[whole(across * right + 2 * margin), whole(upwards * Math.max(count - 1, top) + 2 * margin)], body];
+  const scene = { boxes, pairs };
+  body.push("</g>", ...(look.overlay(scene, look).above || []), ...texts(look.legible(numbers), "on-dot", look));
+  return [[whole(across * right + 2 * margin), whole(upwards * Math.max(count - 1, top) + 2 * margin)], body, scene];
 }
 
 function drawRects(figure, look) {
@@ -136,9 +141,10 @@ function drawRects(figure, look) {
   const [spots, box] = placed(rects.flatMap(({ a, b, c, d }) => [[a, c], [b, d]]), look);
   const most = Math.min(13 * look.scale, Math.max(6 * look.scale, 1.6 * look.size("number", count)));
   const body = [`<g ${look.paint({ stroke: "line" })} stroke-width="${num(look.size("line", count))}" stroke-linejoin="round">`];
-  const numbers = [];
+  const [numbers, boxes] = [[], []];
   tints(figure.lists).forEach((tint, k) => {
     const [[x1, y2], [x2, y1]] = [spots[2 * k], spots[2 * k + 1]];
+    boxes.push([x1, y1, Math.max(0, x2 - x1), Math.max(0, y2 - y1)]);
     body.push(
       `<rect x="${num(x1)}" y="${num(y1)}" width="${num(Math.max(0, x2 - x1))}" height="${num(Math.max(0, y2 - y1))}" ` +
         `${look.paint({ fill: `tint-${tint}` })}>${count > look.dense ? "" : title(look, k + 1, figure.lists[k])}</rect>`,
@@ -146,7 +152,11 @@ function drawRects(figure, look) {
     const name = look.name(k + 1);
     numbers.push([name, [(x1 + x2) / 2, (y1 + y2) / 2], Math.min(most, 0.8 * (y2 - y1), (x2 - x1) / (DIGIT * name.length + 0.3))]);
   });
-  return [box, [...body, "</g>", ...texts(look.legible(numbers), "number", look)]];
+  const middles = boxes.map(([x, y, width, height]) => [x + width / 2, y + height / 2]);
+  const pairs = edgesOf(figure.lists).map(([v, u]) => [middles[v - 1], middles[u - 1]]);
+  const scene = { boxes, pairs, spots: middles };
+  const { above = [] } = look.overlay(scene, look);
+  return [box, [...body, "</g>", ...above, ...texts(look.legible(numbers), "number", look)], scene];
 }
 
 // Returns one of six tints for each vertex, other than its neighbours' where the map is plane: by least degrees from the
@@ -186,7 +196,7 @@ function drawWitness(figure, look) {
   const colours = [];
   figure.branches.forEach((v, k) => (colours[v - 1] = figure.kind === "K33" && k > 2 ? "odd" : "even"));
   const body = [...lines(pairs(rest), line, "thin", look), ...lines(pairs(ours), 1.6 * line, "line", look)];
-  return [box, [...body, ...dots(spots, lists, ours, look, colours)]];
+  return [box, [...body, ...dots(spots, lists, ours, look, colours)], { spots, pairs: pairs(edgesOf(lists)) }];
 }
 
 // Returns a place for each vertex of a witness's graph; those that it does not pass stand in a row below. Between two
