@@ -124,6 +124,16 @@ class Page:
         self.ask("Input.dispatchKeyEvent", type="keyDown", text=text or (key if len(key) == 1 else ""), **given)
         self.ask("Input.dispatchKeyEvent", type="keyUp", **given)
 
+    def mouse(self, kind, x, y):
+        """Moves the mouse to a place of the window, or presses or lets go its button there."""
+        given = {"button": "left", "clickCount": 1} if kind != "mouseMoved" else {}
+        self.ask("Input.dispatchMouseEvent", type=kind, x=x, y=y, **given)
+
+    def click(self, x, y):
+        """Clicks at a place of the window."""
+        for kind in ("mouseMoved", "mousePressed", "mouseReleased"):
+            self.mouse(kind, x, y)
+
     def shot(self, path, is_whole=False):
         """Keeps what is seen, or the whole page, as a PNG file."""
         said = self.ask("Page.captureScreenshot", format="png", captureBeyondViewport=is_whole,

@@ -11,7 +11,7 @@ ROOT = os.path.dirname(os.path.dirname(os.path.realpath(__file__)))
 PAGE = f"{ROOT}/web/pigale.html"
 SOURCES = f"{ROOT}/web/src"
 STYLE = f"{ROOT}/python/pigale/style.json"
-IMPORT = re.compile(r'^import \{([^}]*)\} from "\./([a-z]+)\.js";\n', re.M)
+IMPORT = re.compile(r'^import \{([^}]*)\} from "\./([a-z_]+)\.js";\n', re.M)
 TOP = re.compile(r"^(?:export )?(?:async )?(?:function\*?|class|const|let) ([\w$]+|\{[^}]*\}|\[[^\]]*\])", re.M)
 EXAMPLES = (
     ("Platonic solids", "examples/platonic.plc"),
@@ -101,6 +101,7 @@ def text(program):
         "colours": colours(json.loads(text_of(STYLE))),
         "style": text_of(f"{SOURCES}/page.css").strip(),
         "made": html.escape(made.replace("  ", " ").replace(" ,", ",")),
+        "version": html.escape(f"Version {version.group(1)}" if version else ""),
         "worker": bundle("worker"),
         "samples": samples(),
         "module": packed(program),

@@ -2,7 +2,7 @@
 
 import { plural, said } from "./answers.js";
 import { $, copy, element, page, saveFile } from "./dom.js";
-import { codeOf, readFigure } from "./figures.js";
+import { codeOf, readFigure, readGraph } from "./figures.js";
 import { variable } from "./pens.js";
 import { edgesOf, picture, pictureDocument } from "./pictures.js";
 
@@ -119,8 +119,9 @@ function caption(figure) {
 function card(figure, number) {
   const box = element("figure");
   const words = caption(figure);
-  const shot = element("button", "", { type: "button", className: "shot", onclick: () => enlarge(figure, number) });
-  shot.setAttribute("aria-label", `Enlarge ${words}`);
+  const isOne = page.answers.kind !== "figures" && page.calls.has("schnyder");
+  const shot = element("button", "", { type: "button", className: "shot", onclick: () => (isOne ? open(figure, number) : enlarge(figure, number)) });
+  shot.setAttribute("aria-label", `${isOne ? "Open" : "Enlarge"} ${words}`);
   shot.draw = () => {
     try {
       shot.innerHTML = svgOf(figure, words);
@@ -142,6 +143,16 @@ function card(figure, number) {
   foot.append(acts);
   box.append(shot, foot);
   return box;
+}
+
+// Opens the sheet of a record, with the view of its picture in front.
+function open(figure, number) {
+  const title = `${NOUNS[page.answers.kind]} ${(number + 1).toLocaleString("en")}`;
+  const graph = figure.job === "witness" ? readGraph(figure.graph) : { count: figure.count, edges: edgesOf(figure.lists) };
+  const names = Array.from({ length: graph.count }, (_, k) => String(k + 1));
+  const lists = figure.lists ? { lists: figure.lists } : {};
+  page.open({ names, edges: graph.edges, ...lists, show: page.answers.kind === "maps" ? figure.job : "" }, `${title[0].toUpperCase()}${title.slice(1)} of ${page.input.name}`);
+  scrollTo(0, 0);
 }
 
 export function saveSvg(figure, number) {

@@ -21,11 +21,15 @@ export function refusalOf({ refused, numbers }, names) {
   }[refused] || refused;
 }
 
-// Returns how often each number stands in a list, as `5 (12 times)`, the greatest first.
+const MOST_KINDS = 10; // numbers that are told with their counts
+
+// Returns how often each number stands in a list, as `5 (12 times)`, the greatest first; of many numbers only the span.
 function tallied(numbers) {
   const counts = new Map();
   for (const it of [...numbers].sort((a, b) => b - a)) counts.set(it, (counts.get(it) || 0) + 1);
-  return [...counts].map(([it, count]) => (count > 1 ? `${it} (${count.toLocaleString("en")} times)` : `${it}`)).join(", ");
+  const all = [...counts];
+  if (all.length > MOST_KINDS) return `${all[all.length - 1][0]} to ${all[0][0]}`;
+  return all.map(([it, count]) => (count > 1 ? `${it} (${count.toLocaleString("en")} times)` : `${it}`)).join(", ");
 }
 
 function listed(names, most = 12) {

@@ -113,7 +113,7 @@ export function readJson(data, Fault) {
     const isMatrix = data.length > 2 && data.every((row) => Array.isArray(row) && row.length === data.length && row.every((it) => it === 0 || it === 1));
     if (isMatrix) return { format: "a matrix", names: data.map((_, k) => k + 1), pairs: data.flatMap((row, v) => row.flatMap((it, u) => (it && u >= v ? [[v + 1, u + 1]] : []))) };
     if (data.every(isPair)) return { format: "pairs", pairs: data.map(([one, other]) => [one, other]) };
-    if (data.every(Array.isArray)) return neighbours(data.map((list, v) => [v, list]));
+    if (data.every(Array.isArray)) return listedNeighbours(data.map((list, v) => [v, list]));
     throw new Fault("The JSON is a list, and not of pairs, of a matrix's rows, or of neighbours.");
   }
   const links = data.links || data.edges;
@@ -126,7 +126,7 @@ export function readJson(data, Fault) {
     return { format: "JSON", names: ids, pairs };
   }
   const lists = Object.entries(data.adjacency && !Array.isArray(data.adjacency) ? data.adjacency : data);
-  if (lists.every(([, list]) => Array.isArray(list) || (list && typeof list === "object"))) return neighbours(lists);
+  if (lists.every(([, list]) => Array.isArray(list) || (list && typeof list === "object"))) return listedNeighbours(lists);
   throw new Fault("The JSON has no edges: they stand under links or edges, or as lists of neighbours by name.");
 }
 
@@ -135,7 +135,7 @@ function isPair(it) {
 }
 
 // Returns the graph of lists of neighbours, in each of which an edge stands for itself or with the other end's.
-function neighbours(lists) {
+function listedNeighbours(lists) {
   const pairs = [];
   const seen = new Set();
   for (const [head, list] of lists)

@@ -100,13 +100,13 @@ function readMatrix(text) {
   return { format: "a matrix", names: numbers(rows.length, 1), pairs };
 }
 
-function plainLines(text) {
+function codeLines(text) {
   return text.split("\n").map((line, k) => [line.replace(/(^|\s)[#%].*|\/\/.*/, "").trim(), k + 1]).filter(([line]) => line);
 }
 
 // Returns the graph of lines such as `1: 2 3`, or where lines have other than two names, such as `1 2 3`; or null.
 function readAdjacency(text) {
-  const lines = plainLines(text);
+  const lines = codeLines(text);
   const hasColons = lines.every(([line]) => /^[^\s:,{}()[\]]+\s*:/.test(line));
   const split = lines.map(([line]) => line.split(/[\s,;]+/).filter(Boolean));
   const isBare = lines.length > 1 && lines.every(([line]) => /^[\w.]+(\s+[\w.]+)*$/.test(line)) && split.some((words) => words.length !== 2);
@@ -134,7 +134,7 @@ function readEdges(text) {
   if (bracketed.length && !/[^\s,;(){}[\]=A-Za-z]/.test(rest)) return { format: "pairs", pairs: bracketed.map(([, one, other]) => [one, other]) };
   const pairs = [];
   const names = [];
-  for (const [line, number] of plainLines(text))
+  for (const [line, number] of codeLines(text))
     for (const piece of line.replace(/\{[^}]*\}\s*$/, "").split(/[,;]/).map((it) => it.trim()).filter(Boolean)) {
       const path = DASH.test(piece) ? piece.split(DASH) : piece.split(/\s+/).slice(0, /^\S+\s+\S+\s+-?[\d.]+$/.test(piece) ? 2 : undefined);
       if (path.some((name) => !name)) throw new GraphFault(`“${piece.slice(0, 40)}” lacks a vertex at a dash.`, number);

@@ -36,14 +36,14 @@ export function readLink(hash) {
 
 function graphOf({ g6, e, map }) {
   if (g6) return readGraphText(decodeURIComponent(g6));
-  if (e) return { ...edgesOf(e), format: "edges", dropped: 0 };
+  if (e) return { ...linkedEdges(e), format: "edges", dropped: 0 };
   if (!map) return null;
   const lists = map.split("_").map((list) => (list ? list.split(".").map(Number) : []));
   return { names: lists.map((_, k) => String(k + 1)), edges: [], lists, format: "a map", dropped: 0 };
 }
 
 // Returns the graph of edges as they stand in a link; a name keeps what it has of dashes and commas, as these are escaped.
-function edgesOf(text) {
+function linkedEdges(text) {
   const paths = text.split(",").map((path) => path.split("-").map(decodeURIComponent));
   const found = readGraphText(JSON.stringify({ nodes: [], links: paths.flatMap((path) => path.slice(1).map((name, k) => [path[k], name])) }));
   return { names: found.names, edges: found.edges };

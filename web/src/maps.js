@@ -5,10 +5,12 @@ import { edgesOf, facesOf } from "./pictures.js";
 
 const MOST_PLACE = 1 << 20; // coordinates that are judged reach to this
 
-// A map by its lists, with vertices from 1; `names` are what its vertices are called.
+// A map by its lists, with vertices from 1; `names` are what its vertices are called, and `origin` has the number that each
+// had in the map that was given.
 export class PlaneMap {
-  constructor(calls, lists, names = lists.map((_, k) => String(k + 1))) {
-    Object.assign(this, { calls, lists, names, count: lists.length, arrays: arraysOf(lists), made: new Map() });
+  constructor(calls, lists, names, origin = lists.map((_, k) => k + 1)) {
+    Object.assign(this, { calls, lists, origin, count: lists.length, arrays: arraysOf(lists), made: new Map() });
+    this.names = names || origin.map(String);
     this.edges = edgesOf(lists);
     this.faces = facesOf(lists);
   }
@@ -102,9 +104,10 @@ export class PlaneMap {
     return this.ask("check", x, y, size, size);
   }
 
-  // Judges the edges between places alone, as a drawing that was moved by hand; places may be below 0.
+  // Judges the edges between places alone, as a drawing that was moved by hand; the places may be anywhere within the reach.
   judgeEdges(places) {
-    const [x, y] = coordinates(places);
+    const low = [0, 1].map((k) => Math.min(0, ...places.map((place) => place[k])));
+    const [x, y] = coordinates(places.map((place) => place.map((value, k) => Math.min(MOST_PLACE, value - low[k]))));
     if (this.calls.has("check_drawing")) return this.calls.call("check_drawing", edgeArray(this.edges), x, y);
     return this.ask("check", x, y, MOST_PLACE, MOST_PLACE);
   }
@@ -115,7 +118,8 @@ export class PlaneMap {
     const lists = this.lists.map((_, k) => this.lists[other(k + 1) - 1].map(other));
     const at = lists[0].indexOf(other(u));
     lists[0] = [...lists[0].slice(at), ...lists[0].slice(0, at)];
-    return new PlaneMap(this.calls, lists, this.names.map((_, k) => this.names[other(k + 1) - 1]));
+    const moved = (list) => list.map((_, k) => list[other(k + 1) - 1]);
+    return new PlaneMap(this.calls, lists, moved(this.names), moved(this.origin));
   }
 
   // Returns the number of the first face that has the most vertices.

@@ -1,31 +1,29 @@
 // What the drawing methods do on the way, from the orders and trees that the module has: so that each step can be seen.
 
-// Returns the steps of the shift method over a canonical order of lists in clockwise order. Step k has the first k + 2
-// vertices of the order: the `contour` from the first to the second vertex, what `comes`, the contour's vertices that it
-// covers or touches (`touched`), the vertices that move by one and by two (`ones`, `twos`), and `places` of all so far.
-export function shiftSteps(order, lists) {
+// Returns a step of the shift method over a canonical order of lists in clockwise order. Step k, from 0 to n - 2, has the
+// first k + 2 vertices of the order: the `contour` from the first to the second vertex, what `comes`, the contour's vertices
+// that it covers or touches (`touched`), those that move by one and by two (`ones`, `twos`), and `places` of all so far.
+export function shiftStep(order, lists, k) {
   const [left, right, ...rest] = order;
   const places = new Map([[left, [0, 0]], [right, [2, 0]]]);
   const below = new Map([[left, [left]], [right, [right]]]); // who moves with a vertex of the contour
-  const steps = [{ contour: [left, right], comes: 0, touched: [], ones: [], twos: [], places: new Map(places) }];
-  let contour = [left, right];
-  rest.forEach((v, k) => {
+  let found = { contour: [left, right], comes: 0, touched: [], ones: [], twos: [] };
+  rest.slice(0, k).forEach((v, number) => {
+    const { contour } = found;
     const isThere = new Set(lists[v - 1]);
-    const at = contour.map((u, i) => (isThere.has(u) ? i : -1)).filter((i) => i >= 0);
-    const [p, q] = [at[0], at[at.length - 1]];
-    const covered = contour.slice(p + 1, q);
-    const ones = k ? covered.flatMap((u) => below.get(u)) : [];
-    const twos = k ? contour.slice(q).flatMap((u) => below.get(u)) : [];
+    const p = contour.findIndex((u) => isThere.has(u));
+    const q = contour.findLastIndex((u) => isThere.has(u));
+    const covered = contour.slice(p + 1, q).flatMap((u) => below.get(u));
+    const ones = number ? covered : [];
+    const twos = number ? contour.slice(q).flatMap((u) => below.get(u)) : [];
     for (const u of ones) places.get(u)[0] += 1;
     for (const u of twos) places.get(u)[0] += 2;
     const [[x1, y1], [x2, y2]] = [places.get(contour[p]), places.get(contour[q])];
     places.set(v, [(x1 + x2 + y2 - y1) / 2, (x2 - x1 + y1 + y2) / 2]);
-    below.set(v, [v, ...covered.flatMap((u) => below.get(u))]);
-    const touched = contour.slice(p, q + 1);
-    contour = [...contour.slice(0, p + 1), v, ...contour.slice(q)];
-    steps.push({ contour, comes: v, touched, ones, twos, places: new Map([...places].map(([u, place]) => [u, [...place]])) });
+    below.set(v, [v, ...covered]);
+    found = { contour: [...contour.slice(0, p + 1), v, ...contour.slice(q)], comes: v, touched: contour.slice(p, q + 1), ones, twos };
   });
-  return steps;
+  return { ...found, places };
 }
 
 // Returns the three paths of a vertex: from it along the parents of each colour to a root.

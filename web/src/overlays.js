@@ -79,20 +79,33 @@ function tinted(walk, spots, colour, look) {
   return `<polygon points="${points}" ${look.paint({ fill: colour })} fill-opacity="0.22"/>`;
 }
 
-// Lays a regular edge labelling over a drawing: edges that go up in one colour, and those that go right in another.
+// Lays a regular edge labelling over a drawing: edges that go up in one colour, and those that go right in another. Over
+// rectangles an edge is a short arrow through the side that its two have in common.
 export function labelOverlay(map) {
-  return ({ spots }, look) => {
+  return ({ spots, boxes }, look) => {
     const above = [];
     const width = 1.1 * look.size("line", map.count);
     map.labels().forEach((list, k) =>
       list.forEach((label, i) => {
-        const to = spots[map.lists[k][i] - 1];
-        if (label === "up") above.push(arrow(spots[k], to, width, "even", look));
-        if (label === "right") above.push(arrow(spots[k], to, width, "dot", look));
+        if (label !== "up" && label !== "right") return;
+        const u = map.lists[k][i] - 1;
+        const ends = boxes ? through(boxes[k], boxes[u], label === "up", 12 * look.scale) : [spots[k], spots[u]];
+        above.push(arrow(...ends, width, label === "up" ? "even" : "dot", look));
       }),
     );
     return { above };
   };
+}
+
+// Returns the ends of an arrow from one box into another, upwards or to the right, through the middle of their common side.
+function through([x1, y1, width1, height1], [x2, y2, width2, height2], isUp, most) {
+  const middle = (a, size, b, other) => (Math.max(a, b) + Math.min(a + size, b + other)) / 2;
+  if (isUp) {
+    const [x, length] = [middle(x1, width1, x2, width2), Math.min(most, 0.42 * height1, 0.42 * height2)];
+    return [[x, y1 + length], [x, y1 - length]];
+  }
+  const [y, length] = [middle(y1, height1, y2, height2), Math.min(most, 0.42 * width1, 0.42 * width2)];
+  return [[x2 - length, y], [x2 + length, y]];
 }
 
 // Lays a step of a canonical order over a drawing: the vertices so far, their contour, and the edges to the one that comes.

@@ -2,15 +2,23 @@
 
 import { plural } from "./answers.js";
 import { asBytes, asText, startsAt } from "./bytes.js";
+import { Calls } from "./calls.js";
 import { drawAll, redraw, saveSvg, showRecords, zoom } from "./cards.js";
 import { $, copy, element, page } from "./dom.js";
+import { Engine } from "./engine.js";
 import { madeMap } from "./figures.js";
 import { recognized } from "./formats.js";
+import { GraphFault, readGraphText } from "./graphs.js";
+import { readLink } from "./links.js";
 import { Machine } from "./machine.js";
 import { readable } from "./parts.js";
 import { halt, runJob, show, showJobs, stopRun } from "./runs.js";
+import { closeSheet, listenToSheet, openSheet, showStudy } from "./sheet.js";
+import { drawViews } from "./view_cards.js";
 
 const GZIP = [0x1f, 0x8b];
+const MOST_TEXT = 1 << 22; // bytes of a text that is read as a graph
+const WAIT = 200; // milliseconds behind a key until what is typed is drawn
 
 async function unpacked(bytes) {
   const stream = new Blob([bytes]).stream().pipeThrough(new DecompressionStream("gzip"));
@@ -25,9 +33,6 @@ function fromBase64(text) {
 async function take(files) {
   page.input = { files: [], name: files.map(({ name }) => name).join(", ") };
   $("format").value = "";
-  $("run").hidden = false;
-  // What is answered comes below: it is to be seen.
-  if ($("run").getBoundingClientRect().bottom > 0.7 * innerHeight) $("run").scrollIntoView();
   const found = [];
   for (const { bytes, name } of files) {
     const isPacked = startsAt(bytes, 0, GZIP);
@@ -35,7 +40,43 @@ async function take(files) {
     found.push({ name, bytes: plain, notes: plain === bytes ? [] : ["unpacked"] });
   }
   page.input.files = found;
+  fold(page.input.name);
+  if (found.length === 1 && recognized(found[0].bytes).kind === "none" && openGraph(found[0])) return;
+  closeSheet();
+  $("run").hidden = false;
   await readAs("");
+}
+
+// Folds the input to a line, so that the answers stand in sight.
+function fold(name) {
+  $("input").open = false;
+  $("fold").textContent = `Input: ${name}. Open to give another one.`;
+  document.body.classList.add("used");
+  scrollTo(0, 0);
+}
+
+// Opens the sheet of a text that is one graph, or says that it is none.
+function openGraph({ bytes, name }) {
+  if (bytes.length > MOST_TEXT || !hasSheet()) return false;
+  try {
+    const graph = readGraphText(new TextDecoder().decode(bytes));
+    page.answers = null;
+    openSheet(graph, graphTitle(graph, name));
+    return true;
+  } catch (fault) {
+    if (!(fault instanceof GraphFault)) throw fault;
+    page.graphFault = fault;
+    return false;
+  }
+}
+
+// Says whether the module has the calls that a sheet is made of.
+function hasSheet() {
+  return ["embed", "schnyder", "check"].every((name) => page.calls.has(name));
+}
+
+function graphTitle({ format, dropped }, name) {
+  return `${name}, read as ${format}${dropped ? `; ${plural(dropped, "loop or repeated edge", "loops or repeated edges")} left out` : ""}`;
 }
 
 // Reads the input as its first bytes say, or as `asked`: a kind, and for maps the order of bytes.
@@ -52,7 +93,8 @@ async function readAs(asked) {
   $("jobs").hidden = $("hint").hidden = $("progress").hidden = first < 0;
   if (first < 0) {
     $("source").textContent = files.map(({ name, bytes }) => `${name}: ${plural(bytes.length, "byte")}.`).join(" ");
-    $("fault").textContent = known.map(({ reason }, k) => (files.length > 1 ? `${files[k].name}: ${reason}` : reason)).join(" ");
+    const asGraph = files.length === 1 && page.graphFault && page.graphFault.line ? ` As a graph: ${page.graphFault.message}` : "";
+    $("fault").textContent = known.map(({ reason }, k) => (files.length > 1 ? `${files[k].name}: ${reason}` : reason)).join(" ") + asGraph;
     return;
   }
   page.kind = known[first].kind;
@@ -91,6 +133,10 @@ function listenToInputs() {
     $("file").value = "";
   };
   $("read").onclick = () => takeText($("paste").value);
+  $("paste").oninput = () => {
+    clearTimeout(page.waits);
+    page.waits = setTimeout(drawTyped, WAIT);
+  };
   $("make").onsubmit = (event) => {
     event.preventDefault();
     const [size, number] = [Number($("size").value), Number($("number").value)];
@@ -119,6 +165,37 @@ function listenToInputs() {
   }
 }
 
+// Draws what is typed where it is one graph, and says so where it is none; the box stays open.
+function drawTyped() {
+  const text = $("paste").value.trim();
+  const { kind } = recognized(asBytes(text));
+  $("typed").textContent = "";
+  if (!text || !hasSheet() || kind === "figures" || (kind === "graphs" && text.includes("\n"))) return;
+  try {
+    const graph = readGraphText(text);
+    page.answers = null;
+    document.body.classList.add("used");
+    openSheet(graph, graphTitle(graph, "What is typed"));
+  } catch (fault) {
+    $("typed").textContent = fault.message;
+  }
+}
+
+// Opens the sheet that the address of the page names.
+function openLink() {
+  if (!location.hash || location.hash === "#about" || !hasSheet()) return;
+  try {
+    const given = readLink(location.hash);
+    if (!given) return;
+    page.answers = null;
+    fold("a link");
+    openSheet(given, given.lists ? "A map by link" : "A graph by link");
+  } catch (fault) {
+    $("run").hidden = false;
+    $("fault").textContent = `The link is not understood: ${fault.message}`;
+  }
+}
+
 function listenToRuns() {
   $("format").onchange = () => page.input && readAs($("format").value);
   $("jobs").onchange = ({ target }) => {
@@ -126,10 +203,13 @@ function listenToRuns() {
     runJob();
   };
   for (const id of ["equilateral", "faces"])
-    $(id).onchange = ({ target }) => {
-      page.look[id] = target.checked;
-      if (page.answers) showRecords();
-    };
+    for (const one of ["", "-one"])
+      $(id + one).onchange = ({ target }) => {
+        page.look[id] = target.checked;
+        $(id).checked = $(`${id}-one`).checked = target.checked;
+        if (page.study) showStudy();
+        if (page.answers) showRecords();
+      };
   $("stop").onclick = halt;
   $("filter").onchange = () => {
     Object.assign(page, { filter: $("filter").value, isAsked: true, from: 0 });
@@ -154,7 +234,7 @@ function listenToPictures() {
     if ($("large").open && (key === "+" || key === "-")) zoom(key === "+" ? 2 : 0.5);
     else if (key === "Escape" && !$("large").open) halt();
   };
-  addEventListener("beforeprint", drawAll);
+  addEventListener("beforeprint", () => (drawAll(), drawViews()));
 }
 
 function takeText(text) {
@@ -174,11 +254,16 @@ async function takeFiles(given) {
 // Starts the program, which stands packed in this page.
 async function begin() {
   try {
-    page.machine = new Machine(await unpacked(fromBase64($("module").textContent)), $("worker").textContent);
-    page.take = take;
+    const module = await unpacked(fromBase64($("module").textContent));
+    page.machine = new Machine(module, $("worker").textContent);
+    page.calls = new Calls(await Engine.of(module));
+    Object.assign(page, { take, open: openSheet });
     listenToInputs();
     listenToRuns();
     listenToPictures();
+    listenToSheet();
+    openLink();
+    addEventListener("hashchange", openLink);
     document.body.dataset.ready = "yes";
   } catch (fault) {
     $("run").hidden = false;

@@ -24,10 +24,10 @@ export function variable(paints) {
 // and lines, dots and numbers are `fine` times as large as the side asks for. From `dense` vertices on all dots are one
 // path, and all lines one, without titles and numbers. `names` are what stands at the vertices in place of numbers.
 // `overlay` returns of a scene what is drawn `below` the lines and `above` them, the `colours` of vertices, and whether the
-// picture `hasNoLines` of its own.
+// picture `hasNoLines` of its own. `frame` has places that the picture has room for besides.
 export class Look {
-  constructor({ side, equilateral = false, faces = false, paint = plain, least = 0, fine = 1, dense = Infinity, names = null, overlay }) {
-    Object.assign(this, { side, equilateral, faces, paint, least, fine, dense, names, overlay: overlay || (() => ({})) });
+  constructor({ side, equilateral = false, faces = false, paint = plain, least = 0, fine = 1, dense = Infinity, names = null, overlay, frame = [] }) {
+    Object.assign(this, { side, equilateral, faces, paint, least, fine, dense, names, frame, overlay: overlay || (() => ({})) });
     this.scale = side / UNIT;
     this.margin = STYLE.margin * this.scale * Math.min(1, fine);
   }
@@ -79,7 +79,7 @@ export function lines(ends, width, colour, look) {
 export function arrow(from, to, width, colour, look, isDotted = false) {
   const [dx, dy] = [to[0] - from[0], to[1] - from[1]];
   const length = Math.hypot(dx, dy) || 1;
-  const [along, size] = [[dx / length, dy / length], Math.min(3.2 * width + 2, length / 3)];
+  const [along, size] = [[dx / length, dy / length], Math.min(1.8 * width + 3, length / 3)];
   const [x, y] = [from[0] + 0.6 * dx, from[1] + 0.6 * dy];
   const corner = (ahead, aside) => `${num(x + ahead * size * along[0] - aside * size * along[1])} ${num(y + ahead * size * along[1] + aside * size * along[0])}`;
   const dash = isDotted ? ` stroke-dasharray="${num(width)} ${num(2 * width)}"` : "";
@@ -107,7 +107,8 @@ export function dots(places, lists, edges, look, colours = []) {
   const count = places.length;
   if (count > look.dense) return [denseDots(places, look)];
   const size = look.size("number", count);
-  const inner = count < 100 ? within(places, edges, size, look.scale, look.names) : null;
+  const isShort = count < 100 && (!look.names || look.names.every((name) => name.length < 3));
+  const inner = isShort ? within(places, edges, size, look.scale) : null;
   const isInner = inner && inner.height >= look.least;
   const radius = isInner ? inner.radius : dotRadius(places, edges, look.size("dot", count));
   const rim = `stroke-width="${num(0.3 * look.size("line", count) + 0.25 * look.scale)}"`;
@@ -137,7 +138,7 @@ function denseDots(places, look) {
 // Returns places in pixels, with y downwards, and the width and the height of the picture.
 export function placed(places, look) {
   let [left, right, low, high] = [Infinity, -Infinity, Infinity, -Infinity];
-  for (const [x, y] of places) {
+  for (const [x, y] of [...places, ...look.frame]) {
     left = Math.min(left, x);
     right = Math.max(right, x);
     low = Math.min(low, y);

@@ -51,8 +51,8 @@ export function equilateral(job, places) {
 
 function drawGrid(figure, look) {
   const isDrawing = isMap(figure);
-  // A drawing that was given to be judged is shown as it is.
-  const isMapped = look.equilateral && !figure.isGiven;
+  // A drawing that was given to be judged is shown as it is, and a round one is no triangle.
+  const isMapped = look.equilateral && !figure.isGiven && figure.job !== "round";
   const [spots, box] = placed(isMapped ? equilateral(figure.job, figure.places) : figure.places, look);
   const edges = edgesOf(figure.lists).filter(([, u]) => u <= figure.count);
   const pairs = edges.map(([v, u]) => [spots[v - 1], spots[u - 1]]);

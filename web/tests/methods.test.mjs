@@ -3,7 +3,7 @@ import assert from "node:assert/strict";
 import test from "node:test";
 import { Calls } from "../src/calls.js";
 import { Engine } from "../src/engine.js";
-import { convexWood, pathsOf, shiftSteps } from "../src/methods.js";
+import { convexWood, pathsOf, shiftStep } from "../src/methods.js";
 import { completedWood, facesWood, partsOf } from "../src/overlays.js";
 import { moduleBytes } from "./module.mjs";
 import { maps, mapOf } from "./small_maps.mjs";
@@ -15,8 +15,7 @@ const all = () => [...maps(calls)];
 test("the last step of the shift method has the places of the proved drawing", { skip: lacks("canonical_order") }, () => {
   for (const map of all()) {
     const { order, lists } = map.order();
-    const steps = shiftSteps(order, lists);
-    const { places, contour } = steps[steps.length - 1];
+    const { places, contour } = shiftStep(order, lists, map.count - 2);
     assert.deepEqual(map.lists.map((_, k) => places.get(k + 1)), map.figure("shift").places);
     assert.equal(contour.length, 3);
   }
@@ -25,11 +24,13 @@ test("the last step of the shift method has the places of the proved drawing", {
 test("each step of the shift method has its contour in slopes of one, up or down", { skip: lacks("canonical_order") }, () => {
   for (const map of all().slice(0, 500)) {
     const { order, lists } = map.order();
-    for (const { contour, places } of shiftSteps(order, lists).slice(1))
+    for (let k = 1; k <= map.count - 2; k++) {
+      const { contour, places } = shiftStep(order, lists, k);
       contour.slice(1).forEach((v, k) => {
         const [[x1, y1], [x2, y2]] = [places.get(contour[k]), places.get(v)];
         assert.ok(x2 > x1 && Math.abs(y2 - y1) === x2 - x1);
       });
+    }
   }
 });
 
