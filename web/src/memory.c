@@ -6,7 +6,7 @@ typedef unsigned __int128 wide;
 typedef struct { long ok; void *at; } tried;
 
 extern byte __heap_base;
-enum { PAGE = 65536, STEP = 256, MOST = 65536 }; /* bytes of a page, pages that are added at once, pages of 32 bits */
+enum { PAGE = 65536, LEAST = 16, MOST = 65536 }; /* bytes of a page, pages that are added at once, pages of 32 bits */
 
 static word top, end;     /* the memory that was given out, and that there is */
 static void *freed[33];   /* blocks that came back, by the logarithm of their size */
@@ -24,7 +24,9 @@ static void *fresh(word size) {
     if (!end) end = __builtin_wasm_memory_size(0) * PAGE;
     if (size > end - top) {
         word pages = (size - (end - top) + PAGE - 1) / PAGE;
-        if (!grows(pages < STEP ? STEP : pages) && !grows(pages)) return 0;
+        word step = end / PAGE / 4; /* so that a large memory grows seldom, and a small one is made at once */
+        if (step < LEAST) step = LEAST;
+        if (!grows(pages < step ? step : pages) && !grows(pages)) return 0;
     }
     top += size;
     return (void *)(top - size);
