@@ -2,15 +2,19 @@
 """The tests of inputs of any size: `python3 python/test_parallel.py` from anywhere.
 
 What `all` writes is compared with what one run of the program writes, on inputs of below 16 MiB that are cut into many
-parts. The program is found as the package finds it.
+parts; where it mends an input, with a run on the mended one. The program is found as the package finds it.
 """
 import gzip
 import io
 import itertools
+import json
 import os
+import re
+import signal
 import subprocess
 import sys
 import tempfile
+import time
 import unittest
 import unittest.mock
 
@@ -41,6 +45,13 @@ def in_parts(words, data, processes=2):
     return status, sink.getvalue()
 
 
+def mended(job, data):
+    """What the program gets for lines, by docs/FORMATS.md, in the plainest way."""
+    lines = (data.replace(b">>graph6<<", b"\n") if job == "embed" else data).split(b"\n")
+    closed = [line[:-1] if line.endswith(b"\r") else line for line in lines[:-1]]
+    return b"".join(line + b"\n" for line in [*closed, lines[-1]] if line)
+
+
 def wide(lists):
     numbers = [len(lists)] + [u for us in lists for u in [*us, 0]]
     return b"\0" + b"".join(u.to_bytes(2, "big") for u in numbers)
@@ -56,7 +67,8 @@ def planar_code():
 
 class Parts(unittest.TestCase):
     def assert_same(self, words, data):
-        self.assertEqual(in_parts(words, data), one_run(words, data), f"{words} on {data[:60]!r}.. of {len(data)} bytes")
+        read = mended(words[0], data) if words[0] in ("embed", "verify") else data
+        self.assertEqual(in_parts(words, data), one_run(words, read), f"{words} on {data[:60]!r}.. of {len(data)} bytes")
 
     def test_maps(self):
         for data in planar_code():
@@ -74,7 +86,7 @@ class Parts(unittest.TestCase):
             self.assert_same(["shift", "--form=svg"], data + b"\0\0\0")
             self.assert_same(["count"], data + b"\0\0")
             self.assert_same(["count"], data[:middle] + bytes(range(256)) + data[middle:])
-            self.assert_same(["count"], b">>planar_code le<<" + data)
+            self.assert_same(["count"], b">>planar_code xe<<" + data)
 
     def test_graphs(self):
         lines = [pigale.write_graph6((n, itertools.combinations(range(1, n + 1), 2))) for n in range(0, 12)] * 8
@@ -97,6 +109,8 @@ class Parts(unittest.TestCase):
         for end in (b"figure", b"figure 1 shift 3", b"figure 1 shift 3\n", b"x\n", b"stop", b"figure 1 shift 4096\n", b"\n"):
             self.assert_same(["verify"], text + end)
             self.assert_same(["verify"], text + end + FIGURE * 20)
+        for end in (b"figure 1 shift 3\r\n1 at 2 0: 2 3\r\n", b"count me\r\nx\r\n", b"count \rx\r"):
+            self.assert_same(["verify"], text + end)
         for at in (0, 1, 7, 40, len(lines) - 50, len(lines) - 2):
             self.assert_same(["verify"], b"\n".join(lines[:at] + lines[at + 1:]))
             self.assert_same(["verify"], b"\n".join(lines[:at] + [b"count 1"] + lines[at:]))
@@ -106,6 +120,26 @@ class Parts(unittest.TestCase):
         short = FIGURE.replace(b"shift 3", b"shift 4")
         for data in (short + FIGURE, FIGURE + short + FIGURE * 30, short + b"figure 2 sh", short + b"end\n", short):
             self.assert_same(["verify"], data)
+
+
+class Mended(unittest.TestCase):
+    def test_the_list_of_all_that_is_mended(self):
+        for case in json.loads(content("mended.json")):
+            given, read = case["given"].encode("latin-1"), case["read"].encode("latin-1")
+            status, text = one_run([case["job"]], read)
+            if "stop" in case:
+                text = re.sub(rb"stop .*\n\Z", f"{case['stop']}\n".encode(), text)
+            for data in [gzip.compress(given)] if case.get("gzip") else [given, gzip.compress(given)]:
+                self.assertEqual(in_parts([case["job"]], data), (status, text), case["name"])
+                sink = io.BytesIO()
+                self.assertEqual((pigale.run_all([case["job"]], io.BytesIO(data), sink), sink.getvalue()), (status, text), case["name"])
+
+    def test_bad_lines_among_many_empty_ones(self):
+        lines = [line for figure in range(30) for line in (b"", *FIGURE.split(b"\n")[:3], b"\r", FIGURE.split(b"\n")[3])]
+        for at in range(1, len(lines), 7):
+            if lines[at].strip():
+                text = b"\n".join([*lines[:at], b"x", *lines[at:], b""])
+                self.assertEqual(in_parts(["verify"], text)[1].split(b"\n")[-2], b"stop BadLine %d" % (at + 1))
 
 
 class Joined(unittest.TestCase):
@@ -163,15 +197,121 @@ class Faults(unittest.TestCase):
             pigale.run_all(["gen"], io.BytesIO(), io.BytesIO())
         self.assertEqual(in_parts(["count", "--form=svg"], planar_code()[0]), (2, b"stop BadWords\n"))
 
-    def test_a_program_that_dies(self):
+    def with_program(self, body, *words, data=None, processes=2):
+        """The status, the text and the trouble of a run in which `body`, a script, stands for the program."""
         with tempfile.TemporaryDirectory() as folder:
             path = os.path.join(folder, "pigale")
-            for body, wanted in (("echo count 1 n; exit 6", (6, b"count 1 n\n")), ("kill -9 $$", (137, b"")), ("exit 5", (5, b""))):
+            with open(path, "w", encoding="ascii") as file:
+                file.write(f"#!/bin/bash\nreal='{pigale.program()}' folder='{folder}'\n{body}\n")
+            os.chmod(path, 0o755)
+            sink, troubles = io.BytesIO(), []
+            with unittest.mock.patch.dict(os.environ, PIGALE=path), unittest.mock.patch.multiple(pigale.parallel, **SMALL):
+                status = pigale.run_all(words or ["count"], io.BytesIO(planar_code()[0] if data is None else data), sink, processes,
+                                        lambda progress: troubles.append(progress.trouble))
+            return status, sink.getvalue(), troubles[-1]
+
+    def test_a_program_that_dies(self):
+        for body, status, text, trouble in (("echo count 1 n; exit 6", 6, b"count 1 n\n", "not enough memory, on the part that begins with record 1 at byte 0"),
+                                            ("kill -9 $$", 137, b"", "ended by signal 9, 3 times, on the part that begins with record 1 at byte 0"),
+                                            ("exit 137", 137, b"", "signal 9"), ("exit 5", 5, b"", "a write failed"),
+                                            ("echo count 1 n 2; exit 0", 5, b"count 1 n 2\n", "status 0 and without its last line"),
+                                            ("exit 1", 5, b"", "status 1 and without its last line"), ("kill -15 $$", 143, b"", "signal 15")):
+            found = self.with_program(body)
+            self.assertEqual(found[:2], (status, text), body)
+            self.assertIn(trouble, found[2])
+
+    def test_a_part_is_tried_again(self):
+        whole = one_run(["count"], planar_code()[0])
+        # each third program is killed, before it writes or behind its first line
+        often = '( flock 9; n=$(cat "$folder/n" 2>/dev/null); echo $((n + 1)) >"$folder/n"; exit $((n % 3)) ) 9>"$folder/lock"'
+        for how in ("kill -9 $$", '"$real" "$@" | head -1; kill -9 $$'):
+            self.assertEqual(self.with_program(f'{often}\nif [ $? -eq 1 ]; then {how}; fi\nexec "$real" "$@"'), (*whole, ""))
+
+    def test_a_part_that_kills_each_program(self):
+        """The answers to the parts before it come, and it is named by its first record and byte."""
+        maps = [pigale.stacked(12, k) for k in range(40)]
+        before, after = pigale.write_planar_code(maps), pigale.write_planar_code([pigale.cycle(7), *maps], False)
+        lines = one_run(["count"], before)[1].split(b"\n")
+        status, text, trouble = self.with_program('cp /dev/stdin "$folder/in.$$"; grep -qUaP "\\x07\\x02\\x07\\x00\\x03" "$folder/in.$$" 2>/dev/null && kill -11 $$\n'
+                                                  'exec "$real" "$@" <"$folder/in.$$"', data=before + after)
+        self.assertEqual(status, 139)
+        number, byte = map(int, re.search(r"signal 11, 3 times, on the part that begins with record (\d+) at byte (\d+);", trouble).groups())
+        self.assertEqual(text.split(b"\n"), [*lines[:number - 1], b""])
+        self.assertEqual(byte, len(pigale.write_planar_code(maps[:number - 1])))
+        self.assertGreater(number, 20)
+
+    def test_a_sink_that_takes_a_part_at_a_time(self):
+        class Raw(io.RawIOBase):
+            def __init__(self):
+                self.taken = []
+
+            def writable(self):
+                return True
+
+            def write(self, data):
+                self.taken.append(bytes(data)[:7])
+                return min(7, len(data))
+
+        class Plain:
+            def __init__(self):
+                self.taken = []
+
+            def write(self, data):
+                self.taken.append(data)
+
+        wanted = one_run(["shift"], planar_code()[0])
+        for sink in (Raw(), Plain()):
+            self.assertEqual((pigale.run_all(["shift"], io.BytesIO(planar_code()[0]), sink), b"".join(sink.taken)), wanted)
+
+    def test_a_pipe_without_a_buffer_and_without_waiting(self):
+        """Standard output takes parts where Python's own is unbuffered, and nothing at times where it does not wait."""
+        data = pigale.write_planar_code([pigale.stacked(40, k) for k in range(600)])
+        wanted = one_run(["shift"], data)[1]
+        for is_waiting in (True, False):
+            reading, writing = os.pipe()
+            os.set_blocking(writing, is_waiting)
+            running = subprocess.Popen([sys.executable, os.path.join(HERE, "pigale.py"), "all", "shift", "-j", "4"], stdin=subprocess.PIPE, stdout=writing,
+                                       env={**os.environ, "PYTHONUNBUFFERED": "1"})
+            os.close(writing)
+            running.stdin.write(data)
+            running.stdin.close()
+            with open(reading, "rb", buffering=0) as file:
+                found = b"".join(iter(lambda: file.read(3000), b""))
+            self.assertEqual((running.wait(), found), (0, wanted))
+
+    def test_a_signal(self):
+        """It ends the programs that were started, and the command by itself, without a traceback."""
+        for number in (signal.SIGTERM, signal.SIGHUP, signal.SIGINT):
+            with tempfile.TemporaryDirectory() as folder:
+                path = os.path.join(folder, "pigale")
                 with open(path, "w", encoding="ascii") as file:
-                    file.write(f"#!/bin/sh\n{body}\n")
+                    file.write(f"#!/bin/sh\ntouch '{folder}/'$$\nexec sleep 60\n")
                 os.chmod(path, 0o755)
-                with unittest.mock.patch.dict(os.environ, PIGALE=path):
-                    self.assertEqual(in_parts(["count"], planar_code()[0]), wanted)
+                running = subprocess.Popen([sys.executable, os.path.join(HERE, "pigale.py"), "all", "count", "-j", "3"], stdin=subprocess.PIPE,
+                                           stdout=subprocess.PIPE, stderr=subprocess.PIPE, env={**os.environ, "PIGALE": path})
+                running.stdin.write(pigale.HEADER + planar_code()[0][15:] * 20)
+                running.stdin.flush()
+                while len(os.listdir(folder)) < 3:
+                    time.sleep(0.02)
+                running.send_signal(number)
+                out, said = running.communicate()
+                self.assertEqual((running.returncode, out, said), (-number, b"", b""))
+                for name in os.listdir(folder):
+                    if name.isdecimal():
+                        with self.assertRaises(ProcessLookupError):
+                            os.kill(int(name), 0)
+
+    def test_closed_streams(self):
+        """They end it as they end the program, with a sentence."""
+        for words, ending, status, sentence in (("all count", "<&-", 4, "standard input is closed"), ("picture", "<&-", 4, "standard input"),
+                                                ("all count", ">&-", 5, "standard output is closed"), ("all count", ">/dev/full", 5, "closed or full"),
+                                                ("recode", ">/dev/full", 5, "standard output"), ("stacked 9 1", ">&-", 5, "standard output"),
+                                                ("page count", "<&-", 4, "standard input")):
+            done = subprocess.run(["bash", "-c", f"'{sys.executable}' '{HERE}/pigale.py' {words} {ending}"], cwd=HERE, check=False,
+                                  input=planar_code()[0], stdout=subprocess.PIPE, stderr=subprocess.PIPE)
+            said = done.stderr.decode()
+            self.assertEqual((done.returncode, said.count("\n")), (status, 1), (words, ending, said))
+            self.assertIn(sentence, said)
 
     def test_a_closed_pipe(self):
         command = f"'{sys.executable}' '{HERE}/pigale.py' all count | head -1"

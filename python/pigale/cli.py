@@ -4,7 +4,7 @@ import os
 import sys
 import time
 import zlib
-from typing import Callable, List, Optional, Sequence
+from typing import BinaryIO, Callable, List, Optional, Sequence, cast
 
 from . import __version__
 from .checks import check, read_drawing, scaled
@@ -15,12 +15,19 @@ from .parallel import Progress, run_all
 from .parts import unpacked
 from .pictures import STYLES, picture
 from .runs import HINTS, READING_JOBS, PigaleError, run
+from .streams import (Ended, InputFault, OutputFault, end_by, forget_output, put, read_input, require_output, signals_end,
+                      standard_input)
 
 Arguments = argparse.Namespace
 
 
 def main(words: Optional[Sequence[str]] = None) -> int:
-    """Runs a command; returns its status: 0, 1 after a no or a refusal, 2 for wrong words, 3 where something failed."""
+    """Runs a command; returns its status.
+
+    That is 0, 1 after a no or a refusal, 2 for wrong words, 3 where something failed, 4 where standard input and 5 where
+    standard output did. `all` besides has the other statuses of the program. A signal that asks for the end ends the
+    command by itself, once the programs that it started are ended.
+    """
     parser = _parser()
     try:
         arguments = parser.parse_args(words)
@@ -31,16 +38,23 @@ def main(words: Optional[Sequence[str]] = None) -> int:
         return 2
     command: Callable[[Arguments], int] = arguments.command
     try:
-        return command(arguments)
+        with signals_end():
+            require_output()
+            return command(arguments)
+    except Ended as end:
+        return end_by(end.number)
     except (ValueError, OSError, PigaleError) as fault:
+        if isinstance(fault, OutputFault):
+            forget_output()
         print(f"pigale: {fault}", file=sys.stderr)
-        return 3
+        return 4 if isinstance(fault, InputFault) else 5 if isinstance(fault, OutputFault) else 3
 
 
 def _parser() -> argparse.ArgumentParser:
     parser = argparse.ArgumentParser(
         prog="pigale", description="Maps, figures and pictures of the program pigale.",
-        epilog="Each command has a --help of its own. Statuses: 0, 1 after a no or a refusal, 2 for wrong words, 3 for what failed.")
+        epilog="Each command has a --help of its own. Statuses: 0, 1 after a no or a refusal, 2 for wrong words, 3 for what failed, "
+               "4 where standard input and 5 where standard output fails.")
     parser.add_argument("--version", action="version", version=f"pigale {__version__}")
     parser.set_defaults(command=None)
     commands = parser.add_subparsers(metavar="COMMAND")
@@ -85,45 +99,51 @@ def _positive(text: str) -> int:
 
 def _all(arguments: Arguments) -> int:
     words = [arguments.job] + (["--form", arguments.form] if arguments.form else [])
-    meter = _Meter() if sys.stderr.isatty() else None
+    meter = _Meter(sys.stderr.isatty())
     try:
-        status = run_all(words, sys.stdin.buffer, sys.stdout.buffer, arguments.j, meter.tell if meter else None)
-        sys.stdout.buffer.flush()
-    except BrokenPipeError:
-        # what is still in the buffer has nowhere to go
-        os.dup2(os.open(os.devnull, os.O_WRONLY), sys.stdout.fileno())
-        status = 5
-    if meter:
+        status = run_all(words, standard_input(), cast(BinaryIO, _Output()), arguments.j, meter.tell)
+    finally:
         meter.end()
     if status > 1:
-        print(f"pigale: {HINTS.get(status, 'a program was ended from outside')}", file=sys.stderr)
+        print(f"pigale: {meter.trouble or HINTS[status]}", file=sys.stderr)
     return status
 
 
-class _Meter:
-    """Says on a terminal how far a run is, five times a second."""
+class _Output:
+    """Standard output, as a file that takes all of what it is given."""
 
-    def __init__(self) -> None:
+    def write(self, data: bytes) -> int:
+        put(data)
+        return len(data)
+
+
+class _Meter:
+    """Says on a terminal how far a run is, five times a second, and keeps what went wrong."""
+
+    def __init__(self, is_shown: bool) -> None:
         self.begun = self.told = time.monotonic()
-        self.line = ""
+        self.is_shown = is_shown
+        self.line = self.trouble = ""
 
     def tell(self, progress: Progress) -> None:
         now = time.monotonic()
+        self.trouble = progress.trouble
         self.line = f"{progress.answered:,} records answered, {progress.read / 1e6:,.1f} MB read, {now - self.begun:.1f} s"
-        if now - self.told > 0.2:
+        if self.is_shown and now - self.told > 0.2:
             self.told = now
             print(f"\r{self.line}", end="", file=sys.stderr, flush=True)
 
     def end(self) -> None:
-        print(f"\r{self.line}", file=sys.stderr)
+        if self.is_shown and self.line:
+            print(f"\r{self.line}", file=sys.stderr)
 
 
 def _recode(_: Arguments) -> int:
     try:
-        data = unpacked(sys.stdin.buffer)(-1)
+        data = unpacked(standard_input())(-1)
     except (EOFError, zlib.error) as fault:
         raise ValueError(f"the data packed by gzip are not whole: {fault}") from fault
-    sys.stdout.buffer.write(write_planar_code(read_planar_code(data)))
+    put(write_planar_code(read_planar_code(data)))
     return 0
 
 
@@ -131,26 +151,26 @@ def _check_file(arguments: Arguments) -> int:
     with open(arguments.file, encoding="utf-8") as file:
         places, edges = read_drawing(arguments.file, file.read())
     answer = check(scaled(places) if arguments.scale else places, edges)
-    print(answer)
+    put(f"{answer}\n")
     return 0 if answer else 1
 
 
 def _stacked(arguments: Arguments) -> int:
-    sys.stdout.buffer.write(write_planar_code([stacked(arguments.size, arguments.number)]))
+    put(write_planar_code([stacked(arguments.size, arguments.number)]))
     return 0
 
 
 def _picture(arguments: Arguments) -> int:
-    figures = read_figures(sys.stdin.buffer.read())
+    figures = read_figures(read_input())
     if not 1 <= arguments.figure <= len(figures):
         raise ValueError("the text has no figure" if not figures else
                          f"the text has {len(figures)} figures, and none with the place {arguments.figure}")
-    print(picture(figures[arguments.figure - 1], arguments.side, not arguments.no_numbers, arguments.style), end="")
+    put(picture(figures[arguments.figure - 1], arguments.side, not arguments.no_numbers, arguments.style))
     return 0
 
 
 def _page(arguments: Arguments) -> int:
-    data = sys.stdin.buffer.read()
+    data = read_input()
     try:
         result = run(arguments.job, data)
     except PigaleError as fault:
@@ -164,7 +184,7 @@ def _page(arguments: Arguments) -> int:
         if len(result.answers) > 1000:
             print(f"pigale: a page of {len(result.answers)} answers is slow to open; with --to FOLDER it becomes several",
                   file=sys.stderr)
-        print(page(result, *look), end="")
+        put(page(result, *look))
     else:
         os.makedirs(arguments.to, exist_ok=True)
         for k, text in enumerate(pages(result, *look)):

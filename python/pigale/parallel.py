@@ -9,31 +9,39 @@ from __future__ import annotations
 import io
 import os
 import re
+import signal
 import subprocess
 import tempfile
+import threading
 import zlib
 from collections import deque
 from concurrent.futures import Future, ThreadPoolExecutor
-from contextlib import suppress
-from typing import IO, Any, BinaryIO, Callable, Deque, Iterable, Iterator, Optional, Sequence, Set, Tuple, Union, cast
+from contextlib import closing
+from typing import IO, Any, BinaryIO, Callable, Deque, Generator, Iterable, Iterator, Optional, Sequence, Set, Tuple, Union, cast
 
 from .formats import Answer, End, Stop, read_blocks
 from .parts import Part, Read, Size, joined, parts_of, unpacked
-from .runs import READING_JOBS, PigaleError, Records, Run, encoded, program, readable
+from .runs import HINTS, READING_JOBS, PigaleError, Records, Run, encoded, program, readable
+from .streams import INPUT_LOST, write_all
 
 NUMBERED = (b"figure ", b"count ", b"verdict ", b"refused ", b"<!-- refused ")
 LAST = re.compile(rb"(<!-- )?(?:end records (\d+) refused (\d+)|stop (\w+)(?: (\d+))?)( -->)?\n")
 LEAST_PART, MOST_PART, MOST_COUNTED = 1 << 14, 1 << 18, 1 << 20
+TRIES = 3  # of a part whose program is ended by a signal
 
 Written = Tuple[int, "IO[bytes]"]
 
 
 class Progress:
-    """How far a run over all processors has come: the bytes that were read and the records that were answered."""
+    """How far a run over all processors has come: the bytes that were read, and the records that were answered.
+
+    `trouble` says in words what ended the run, where it was no bad place of the input.
+    """
 
     def __init__(self) -> None:
         self.read = 0
         self.answered = 0
+        self.trouble = ""
 
 
 def run_all(words: Sequence[str], source: BinaryIO, sink: BinaryIO, processes: Optional[int] = None,
@@ -41,17 +49,23 @@ def run_all(words: Sequence[str], source: BinaryIO, sink: BinaryIO, processes: O
     """Answers an input of any size; returns the worst status of its runs.
 
     `words` are a job that reads and its options. `source` is a binary file of what the job reads: packed by gzip or not,
-    one file or several that were joined. The text goes to `sink`. As many programs run side by side as `processes` says,
-    or else as there are processors. `tell` is called each time that answers were written.
+    one file or several that were joined. The text goes to `sink`, which may be a raw file. As many programs run side by
+    side as `processes` says, or else as there are processors. `tell` is called each time that answers were written, and
+    at the end.
 
-    Where a read fails, the text ends behind the answers to the records before that, and the status is 4. Raises OSError
-    where `sink` cannot be written, and ValueError where the words name no job that reads.
+    A part of the input whose program is ended by a signal is given to another one, three times in all. Then the text ends
+    before the answers to it, and the status is 128 and the number of the signal. Where a read fails, the text ends behind
+    the answers to the records before that, and the status is 4. Raises OSError where `sink` cannot be written, and
+    ValueError where the words name no job that reads.
     """
     over = _Over(words, processes, source)
-    for text in over.texts():
-        sink.write(text)
-        if tell:
-            tell(over.progress)
+    with closing(over.texts()) as texts:
+        for text in texts:
+            write_all(sink, text)
+            if tell:
+                tell(over.progress)
+    if tell:
+        tell(over.progress)
     return over.status
 
 
@@ -65,12 +79,13 @@ def stream(job: str, records: Union[Records, BinaryIO], processes: Optional[int]
     if isinstance(records, (bytes, str)):
         records = io.BytesIO(encoded(job, records))
     over = _Over([job], processes, records)
-    for text in over.texts():
-        blocks = readable(text.decode("ascii"))
-        yield from (block for block in blocks if not isinstance(block, (End, Stop)))
+    with closing(over.texts()) as texts:
+        for text in texts:
+            blocks = readable(text.decode("ascii"))
+            yield from (block for block in blocks if not isinstance(block, (End, Stop)))
     if over.status > 1:
         last = over.last_line.decode("ascii")
-        raise PigaleError(Run(job, over.status, last, read_blocks(last)))
+        raise PigaleError(Run(job, over.status, last, read_blocks(last)), over.progress.trouble)
 
 
 class _Source:
@@ -92,6 +107,35 @@ class _Source:
         return found
 
 
+class _Programs:
+    """The programs that run side by side, so that all of them can be ended."""
+
+    def __init__(self, words: Sequence[str]) -> None:
+        self.words = words
+        self.lock = threading.Lock()
+        self.running: Set["subprocess.Popen[bytes]"] = set()
+        self.are_ended = False
+
+    def run(self, given: "IO[bytes]", out: "IO[bytes]") -> int:
+        """Runs the program from one file to another; returns its status, 128 and more where a signal ended it."""
+        with self.lock:
+            if self.are_ended:
+                return 128 + signal.SIGTERM
+            running = subprocess.Popen(self.words, stdin=given, stdout=out)
+            self.running.add(running)
+        status = running.wait()
+        with self.lock:
+            self.running.discard(running)
+        return status if status >= 0 else 128 - status
+
+    def end(self) -> None:
+        """Ends all programs, and lets none begin."""
+        with self.lock:
+            self.are_ended = True
+            for running in self.running:
+                running.kill()
+
+
 class _Over:
     """A run over all processors. `status` and `last_line` are known once its texts have come."""
 
@@ -99,7 +143,7 @@ class _Over:
         job = next((word for word in words if word in READING_JOBS), None)
         if job is None:
             raise ValueError(f"no job that reads is among the words: {' '.join(words)}")
-        self.words, self.program = [program(), *words], program()
+        self.programs = _Programs([program(), *words])
         self.count = processes or _processors()
         self.progress = Progress()
         size = _size(job, self.count)
@@ -111,9 +155,8 @@ class _Over:
             self.parts = joined(job, (encoded(job, [record], k, False) for k, record in enumerate(given, 1)), size)
         self.status = self.refused = 0
         self.last_line, self.frame = b"", (b"", b"")
-        self.running: Set["subprocess.Popen[bytes]"] = set()
 
-    def texts(self) -> Iterator[bytes]:
+    def texts(self) -> Generator[bytes, None, None]:
         """Yields the text of each part, as it is in the whole, and last the last line."""
         runs: Deque[Tuple[Part, "Future[Written]"]] = deque()
         with ThreadPoolExecutor(self.count) as pool:
@@ -129,28 +172,28 @@ class _Over:
             finally:
                 for _, run in runs:
                     run.cancel()
-                for running in list(self.running):
-                    with suppress(ProcessLookupError):
-                        running.kill()
+                self.programs.end()
         if self.last_line:
             yield self.last_line
         elif self.status < 2 and self.source and self.source.fault:
             self.status = 4
+            self.progress.trouble = f"{INPUT_LOST} ({self.source.fault})"
         elif self.status < 2:
             self._end(b"end records %d refused %d" % (self.progress.answered, self.refused))
             yield self.last_line
 
     def _answer(self, part: Part) -> Written:
-        """Runs the program on a part; returns its status, and the file of its text."""
-        out = tempfile.TemporaryFile()
+        """Runs the program on a part, and again where a signal ended it; returns its status, and the file of its text."""
         with tempfile.TemporaryFile() as given:
-            given.write(part.data)
-            given.seek(0)
-            with subprocess.Popen(self.words, stdin=given, stdout=out) as running:
-                self.running.add(running)
-                status = running.wait()
-                self.running.discard(running)
-        return status if status >= 0 else 128 - status, out
+            write_all(given, part.data)
+            for tries_left in reversed(range(TRIES)):
+                out = tempfile.TemporaryFile()
+                given.seek(0)
+                status = self.programs.run(given, out)
+                if status <= 128 or not tries_left:
+                    break
+                out.close()
+        return status, out
 
     def _first_text(self, runs: Deque[Tuple[Part, "Future[Written]"]]) -> bytes:
         """The text of the first of some runs, without its last line, which is taken into the sums."""
@@ -161,10 +204,9 @@ class _Over:
             text = out.read()
         at = text.rfind(b"\n", 0, -1) + 1
         last = LAST.fullmatch(text, at)
-        self.progress.answered = part.first + part.records
         if last is None:
-            self.status = status
-            return _renumbered(text, part.first)
+            return self._broken_text(part, status, text)
+        self.progress.answered = part.first + part.records
         self.frame = last[1] or b"", last[6] or b""
         if last[2]:
             if int(last[2]) != part.records:
@@ -176,6 +218,23 @@ class _Over:
             self.status = status
             self._end(_stop_line(part, last[4], last[5], runs[0][0] if runs else None))
         return _renumbered(text[:at], part.first)
+
+    def _broken_text(self, part: Part, status: int, text: bytes) -> bytes:
+        """What is taken of the text of a run without its last line; sets the status and says what happened.
+
+        Where a signal ended the program three times, that is nothing: its text may end anywhere.
+        """
+        where = f"the part that begins with record {part.first + 1} at byte {part.byte}"
+        self.progress.answered = part.first
+        # a run that says that it ended well did not write all that it wrote
+        self.status = status if status > 3 else 5
+        if status > 128:
+            self.progress.trouble = (f"a program was ended by signal {status - 128}, {TRIES} times, on {where}; what was written "
+                                     "are the answers to the records before that")
+            return b""
+        cause = HINTS.get(status, f"the program ended with status {status} and without its last line")
+        self.progress.trouble = f"{cause}, on {where}; what was written is the beginning of the answers"
+        return _renumbered(text, part.first)
 
     def _end(self, line: bytes) -> None:
         self.last_line = self.frame[0] + line + self.frame[1] + b"\n"

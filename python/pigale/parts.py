@@ -4,7 +4,8 @@ A part is some whole records that stand one after another. The program reads it 
 its records what it would answer within the whole. The last part has what is left where an input ends badly, so that the
 program names the bad place. Only what has not been cut off yet is kept of an input.
 
-Files that were joined are read as one: a header where a record may begin is passed over.
+What is mended on the way stands in docs/FORMATS.md, "What is mended": headers of files that were joined and the byte orders
+that they name, line ends, empty lines, and a last line that is not closed.
 """
 from __future__ import annotations
 
@@ -13,35 +14,39 @@ import gzip
 import re
 from bisect import bisect_right
 from dataclasses import dataclass, field
-from typing import Any, BinaryIO, Callable, Iterable, Iterator, List, NamedTuple, Optional, Tuple
+from typing import Any, BinaryIO, Callable, Iterable, Iterator, List, Literal, NamedTuple, Optional, Tuple
 
 from .formats import HEADER, MOST_BYTES, MOST_VERTICES, PLANAR_JOBS
 
 GRAPH_HEADER = b">>graph6<<"
+PLANAR_HEADER = re.compile(rb">>planar_code *(le|be)? *<<")
 # what a line begins with outside a figure
 HEADS = (b"figure ", b"count ", b"refused ", b"verdict ", b"end ", b"stop ")
 
 Read = Callable[[int], bytes]
 Size = Callable[[], int]
+Order = Literal["big", "little"]  # of the bytes of a wide number: which of them is first
 
 
 @dataclass
 class Part:
     """A part of an input, as the program is to read it.
 
-    `records` is the number of its whole records, and `first` that of all records before it. `place` is what stands before
-    it in the numbers of bad places: bytes of planar_code, graphs of graph6, lines of figures. `headers` has where in
-    `data` headers of planar_code were left out.
+    `records` is the number of its whole records, and `first` that of all records before it. `byte` is where it begins in
+    the input, and `place` what stands before it in the numbers of bad places: bytes of planar_code, graphs of graph6,
+    lines of figures. `left_out` has an entry for each byte of a header of planar_code, and for each empty line of
+    figures, that was left out of `data`: where it stood, in rising order.
     """
     data: bytes
     records: int
     first: int
     place: int
-    headers: List[int] = field(default_factory=list)
+    byte: int
+    left_out: List[int] = field(default_factory=list)
 
     def place_of(self, number: int) -> int:
         """Where in the whole input a bad place is that the program names by `number` in this part."""
-        return self.place + number + len(HEADER) * bisect_right(self.headers, number)
+        return self.place + number + bisect_right(self.left_out, number)
 
 
 def parts_of(job: str, read: Read, size: Size) -> Iterator[Part]:
@@ -58,15 +63,16 @@ def parts_of(job: str, read: Read, size: Size) -> Iterator[Part]:
 def joined(job: str, records: Iterable[bytes], size: Size) -> Iterator[Part]:
     """The parts of an input whose records are given one by one, as bytes that belong to no header; one part at least."""
     pieces: List[bytes] = []
-    first = length = 0
+    first = length = byte = 0
     # what stands behind the header that `write_planar_code` writes
     place = len(HEADER) if job in PLANAR_JOBS else 0
 
     def part() -> Part:
-        nonlocal pieces, first, place, length
+        nonlocal pieces, first, place, length, byte
         data = (GRAPH_HEADER + b"\n" if job == "embed" else b"") + b"".join(pieces)
-        made = Part(data, len(pieces), first, place)
+        made = Part(data, len(pieces), first, place, byte)
         first += len(pieces)
+        byte += length
         place += {"embed": len(pieces), "verify": data.count(b"\n")}.get(job, length)
         pieces, length = [], 0
         return made
@@ -111,74 +117,106 @@ class _File:
 # planar_code
 
 class _Whole(NamedTuple):
-    """The whole records at the front of some data: where they end, their number, their bytes, where headers were left
-    out of these, and whether a bad count follows."""
+    """The whole records at the front of some data: where they end, their number, their bytes as the program reads them,
+    where bytes of headers were left out of these, and whether a bad count follows."""
     end: int
     records: int
     data: bytes
-    headers: List[int]
+    left_out: List[int]
     is_bad: bool
 
 
 def planar_parts(read: Read, size: Size) -> Iterator[Part]:
     """The parts of planar_code."""
-    data, first, place, is_uniform, is_first = b"", 0, 0, True, True
+    data, first, place, is_first, records = b"", 0, 0, True, _Records()
     while True:
         limit = size()
         chunk = read(max(limit, len(data)))
         data += chunk
         while len(data) >= limit or not chunk:
-            whole, is_uniform = _whole_records(data, limit, is_uniform)
+            whole = records.whole(data, limit)
             if whole.end:
-                yield Part(whole.data, whole.records, first, place, whole.headers)
+                yield Part(whole.data, whole.records, first, place, place, whole.left_out)
                 is_first = False
             data, first, place = data[whole.end:], first + whole.records, place + whole.end
             if whole.is_bad:
-                yield Part(data[:3], 0, first, place)
+                yield Part(records.plain(data[:3]), 0, first, place, place)
                 return
             if not whole.end:
                 break
         if len(data) > MOST_BYTES:
-            yield Part(data[:MOST_BYTES + 1], 0, first, place)
+            yield Part(records.plain(data[:MOST_BYTES + 1]), 0, first, place, place)
             return
         if not chunk:
             # some bytes of a record that does not end do not end either
             if data or is_first:
-                yield Part(data[:3], 0, first, place)
+                yield Part(records.plain(data[:3]), 0, first, place, place)
             return
 
 
-def _whole_records(data: bytes, limit: int, is_uniform: bool) -> Tuple[_Whole, bool]:
-    """The whole records that begin before a limit, and whether the next ones may all have one number of vertices."""
-    at = kept = records = 0
-    pieces: List[bytes] = []
-    headers: List[int] = []
-    limit = min(limit, len(data))
-    is_bad = False
-    while at < limit:
-        count = data[at]
-        if count == HEADER[0] and data.startswith(HEADER, at):
-            pieces.append(data[kept:at])
-            headers.append(at - len(HEADER) * len(headers))
-            at = kept = at + len(HEADER)
-            continue
-        if count and count != HEADER[0] and is_uniform and limit - at > 4096:
-            length, number = _uniform_records(data[at:limit], count)
-            if number:
-                at, records = at + length, records + number
+class _Records:
+    """Cuts whole records off the front of planar_code.
+
+    It keeps what the records so far say of later ones: the byte order of wide ones, and whether all may have one number
+    of vertices.
+    """
+
+    def __init__(self) -> None:
+        self.order: Order = "big"
+        self.is_uniform = True
+
+    def plain(self, record: bytes) -> bytes:
+        """Returns a record, or the first bytes of one, with the greater byte of each wide number first."""
+        if self.order == "big" or not record.startswith(b"\0"):
+            return record
+        numbers = record[1:len(record) - (len(record) - 1) % 2]
+        swapped = bytearray(numbers)
+        swapped[::2], swapped[1::2] = numbers[1::2], numbers[::2]
+        return b"\0" + bytes(swapped) + record[1 + len(numbers):]
+
+    def whole(self, data: bytes, limit: int) -> _Whole:
+        """Returns the whole records that begin before a limit."""
+        at = kept = records = taken = 0
+        pieces: List[bytes] = []
+        left_out: List[int] = []
+        limit = min(limit, len(data))
+        is_bad = False
+
+        def keep(until: int, plain: bytes) -> None:
+            nonlocal kept, taken
+            pieces.append(plain)
+            taken += len(plain)
+            kept = until
+
+        while at < limit:
+            count = data[at]
+            header = PLANAR_HEADER.match(data, at) if count == HEADER[0] else None
+            if header:
+                keep(at, data[kept:at])
+                left_out += [taken] * len(header[0])
+                at = kept = header.end()
+                self.order = "little" if header[1] == b"le" else "big"
                 continue
-            is_uniform = False
-        if count:
-            found = _narrow_record(count)(data, at)
-            end: Optional[int] = found.end() if found else 0
-        else:
-            end = _wide_end(data, at)
-            is_bad = end is None
-        if not end:
-            break
-        at, records = end, records + 1
-    pieces.append(data[kept:at])
-    return _Whole(at, records, b"".join(pieces), headers, is_bad), is_uniform
+            if count and count != HEADER[0] and self.is_uniform and limit - at > 4096:
+                length, number = _uniform_records(data[at:limit], count)
+                if number:
+                    at, records = at + length, records + number
+                    continue
+                self.is_uniform = False
+            if count:
+                found = _narrow_record(count)(data, at)
+                end: Optional[int] = found.end() if found else 0
+            else:
+                end = _wide_end(data, at, self.order)
+                is_bad = end is None
+            if not end:
+                break
+            if not count and self.order == "little":
+                keep(at, data[kept:at])
+                keep(end, self.plain(data[at:end]))
+            at, records = end, records + 1
+        keep(at, data[kept:at])
+        return _Whole(at, records, b"".join(pieces), left_out, is_bad)
 
 
 def _uniform_records(data: bytes, count: int) -> Tuple[int, int]:
@@ -197,11 +235,11 @@ def _narrow_record(count: int) -> Callable[[bytes, int], Optional["re.Match[byte
     return re.compile(rb"(?:[^\0]*\0){%d}" % count).match
 
 
-def _wide_end(data: bytes, at: int) -> Optional[int]:
+def _wide_end(data: bytes, at: int, order: Order) -> Optional[int]:
     """Where the wide record ends that begins at a place: 0 where the data end before that, None where its count is bad."""
     if len(data) < at + 3:
         return 0
-    count, at = int.from_bytes(data[at + 1:at + 3], "big"), at + 3
+    count, at = int.from_bytes(data[at + 1:at + 3], order), at + 3
     if not 1 <= count <= MOST_VERTICES:
         return None
     size = 32 * count
@@ -222,21 +260,47 @@ def _wide_end(data: bytes, at: int) -> Optional[int]:
 
 def graph_parts(read: Read, size: Size) -> Iterator[Part]:
     """The parts of graph6, each behind a header, so that no line of it can be one."""
-    first = 0
-    for data in _pieces(read, size, _line_end):
-        if GRAPH_HEADER in data:
-            data = re.sub(rb"^>>graph6<<\n?", b"", data, flags=re.MULTILINE)
-        yield Part(GRAPH_HEADER + b"\n" + data, data.count(b"\n"), first, first)
-        first += data.count(b"\n")
+    first = byte = 0
+    for piece in _pieces(read, size, _line_end):
+        data = _plain_lines(piece.replace(GRAPH_HEADER, b"\n"), len(piece) <= MOST_BYTES)
+        yield Part(GRAPH_HEADER + b"\n" + data, data.count(b"\n"), first, first, byte)
+        first, byte = first + data.count(b"\n"), byte + len(piece)
 
 
 def figure_parts(read: Read, size: Size) -> Iterator[Part]:
     """The parts of a text of figures, each of which begins with a line that stands outside figures."""
-    first = lines = 0
-    for data in _pieces(read, size, _head):
+    first = lines = byte = 0
+    for piece in _pieces(read, size, _head):
+        data = _plain_lines(piece, len(piece) <= MOST_BYTES)
         figures = data.count(b"\nfigure ") + data.startswith(b"figure ")
-        yield Part(data, figures, first, lines)
-        first, lines = first + figures, lines + data.count(b"\n")
+        yield Part(data, figures, first, lines, byte, _empty_lines(piece))
+        first, lines, byte = first + figures, lines + piece.count(b"\n"), byte + len(piece)
+
+
+def _plain_lines(text: bytes, is_whole: bool) -> bytes:
+    """The lines of a text without empty ones, each ended by one byte 10.
+
+    Where the text `is_whole`, its last line is closed; else it goes on until it is longer than an input may be.
+    """
+    text = text.replace(b"\r\n", b"\n")
+    if b"\n\n" in text or text.startswith(b"\n"):
+        text = re.sub(rb"\n\n+", b"\n", text).lstrip(b"\n")
+    if not is_whole:
+        return text + bytes(max(0, MOST_BYTES + 1 - len(text)))
+    return text if text.endswith(b"\n") or not text else text + b"\n"
+
+
+def _empty_lines(text: bytes) -> List[int]:
+    """For each empty line of a text, how many other lines there are until the next one of these, that one counted."""
+    if not re.search(rb"(?:^|\n)\r?\n", text):
+        return []
+    found, others = [], 1
+    for line in text.split(b"\n")[:-1]:
+        if line in (b"", b"\r"):
+            found.append(others)
+        else:
+            others += 1
+    return found
 
 
 def _pieces(read: Read, size: Size, cut: Callable[[bytes, int], int]) -> Iterator[bytes]:

@@ -18,12 +18,13 @@ Records = Union[str, bytes, Iterable[Map], Iterable[Union[str, Graph]], Iterable
 
 
 class PigaleError(Exception):
-    """The program ended with a status above 1. `run` is what it wrote until then, as a `Run`."""
+    """The program ended with a status above 1. `run` is what it wrote until then, as a `Run`; `trouble` says why, if known."""
 
-    def __init__(self, run: "Run") -> None:
+    def __init__(self, run: "Run", trouble: str = "") -> None:
         self.run = run
         last = str(run.blocks[-1]) if run.blocks else "nothing written"
-        hint = HINTS.get(run.status, "")
+        killed = f"signal {run.status - 128} ended the program" if run.status > 128 else ""
+        hint = trouble or HINTS.get(run.status, killed)
         super().__init__(f"pigale {run.job} ended with status {run.status} ({last}){hint and ': ' + hint}")
 
 
@@ -38,7 +39,10 @@ HINTS = {
 
 @dataclass
 class Run:
-    """A run of the program: the job, its status from 0 to 6, its text, and the blocks of the text."""
+    """A run of the program: the job, its status, its text, and the blocks of the text.
+
+    The status is one from 0 to 6 of docs/FORMATS.md, or 128 and the number of the signal that ended the program.
+    """
     job: str
     status: int
     text: str
@@ -83,24 +87,26 @@ def run(job: str, records: Records = (), size: Optional[int] = None, number: Opt
     words = [job]
     for name, value in (("--size", size), ("--number", number)):
         words += [] if value is None else [name, str(value)]
-    status, text = _answered(words, encoded(job, records), processes)
+    status, text, trouble = _answered(words, encoded(job, records), processes)
     result = Run(job, status, text, read_blocks(text) if status < 2 else readable(text))
     if status not in (0, 1):
-        raise PigaleError(result)
+        raise PigaleError(result, trouble)
     return result
 
 
-def _answered(words: Sequence[str], data: bytes, processes: Optional[int]) -> Tuple[int, str]:
-    """The status and the text of a run, or of as many side by side as there have to be."""
+def _answered(words: Sequence[str], data: bytes, processes: Optional[int]) -> Tuple[int, str, str]:
+    """The status and the text of a run, or of as many side by side as there have to be, and what went wrong, in words."""
     if words[0] in READING_JOBS and (processes or len(data) > MOST_BYTES):
         from .parallel import run_all
-        sink = io.BytesIO()
-        return run_all(words, io.BytesIO(data), sink, processes), sink.getvalue().decode("ascii")
+        sink, troubles = io.BytesIO(), [""]
+        status = run_all(words, io.BytesIO(data), sink, processes, lambda progress: troubles.append(progress.trouble))
+        return status, sink.getvalue().decode("ascii"), troubles[-1]
     within = library()
     if within:
-        return answered(within, words, data)
+        return (*answered(within, words, data), "")
     done = subprocess.run([program(), *words], input=data, stdout=subprocess.PIPE, check=False)
-    return done.returncode, done.stdout.decode("ascii")
+    status = done.returncode if done.returncode >= 0 else 128 - done.returncode
+    return status, done.stdout.decode("ascii"), ""
 
 
 def readable(text: str) -> List[Block]:

@@ -15,6 +15,7 @@ from typing import Any, Iterable, Optional, Sequence, Type, Union
 from .checks import Checked, Places, Rotations, _checked, _prepared
 from .formats import MOST_BYTES, Figure, Refused, Stop, Verdict, read_blocks
 from .runs import PigaleError, Run, program
+from .streams import write_all
 
 
 HEAD = re.compile(r"figure \S+ (?:(shift|schnyder|convex|rect|bars) ([0-9]+)|witness (K5|K33) \S+)")
@@ -68,7 +69,7 @@ class Session:
         given, out = self._running.stdin, self._running.stdout
         assert given and out
         try:
-            given.write(text)
+            write_all(given, text)
             given.flush()
         except BrokenPipeError:
             # it stopped before the end of the text, and says why
