@@ -11,6 +11,7 @@ import math
 import os
 import platform
 import random
+import re
 import shutil
 import struct
 import subprocess
@@ -136,6 +137,69 @@ class Texts(unittest.TestCase):
                      "figure 1 bars 1\n1 y 0 x 0 0:\n", "verdict x yes\n", "\n", "figure 1 witness K6 D~{\n"):
             with self.assertRaises(ValueError):
                 pigale.read_blocks(text)
+
+
+class AsTheProgram(unittest.TestCase):
+    """What `read_figures` takes is what `verify` takes, and what `read_blocks` takes it writes again."""
+    PIECES = ["0", "1", "-", "+", "01", " ", "  ", ":", "\n", "x", "\u0663", "65536", "1048577", "-1048577", "4096", "count ", "branch",
+              "path", "foo", "-0", "at", "16777217", "~", "\r", "figure 1 shift 1\n1 at 0 0:\n", "1_0", "D~|", "K5"]
+
+    def says(self, text, words):
+        with self.assertRaisesRegex(ValueError, words):
+            pigale.read_figures(text)
+        with self.assertRaisesRegex(ValueError, words):
+            pigale.read_blocks(text)
+
+    def test_figures_that_are_nearly_right(self):
+        house, witness = content("house.txt").decode(), content("witnesses.txt").decode()
+        lines = house.split("\n")
+        self.says("\n".join([lines[0], lines[2], lines[1], *lines[3:]]), "line 2 has another shape")
+        for old, new in ((" at ", " at 1_0"), (" at ", " at +2"), (" at ", " at 0"), (" at ", " at \u0663"), (" at ", " on "), (":", " :"), (": ", ":  ")):
+            self.says(house.replace(old, new, 1), "line 2 has another shape")
+        self.says(house.replace(": ", ": 65536 ", 1), "line 2 has a number out of its range")
+        self.says(house.replace(": ", ": 0 ", 1), "line 2 has a number out of its range")
+        self.says(house.replace(lines[1].split(" ")[2], "1048577", 1), "line 2 has a number out of its range")
+        self.says(house[:-1], "line 1 begins a figure of")
+        self.says("figure 1 shift 4096\n1 at 0 0:\n", "line 1 has a number of vertices")
+        self.says("figure 0 shift 1\n1 at 0 0:\n", "line 1 has a number of the figure|is not from 1")
+        self.says(witness.replace("branch", "foo", 1), "line 2 has another shape")
+        self.says(witness.replace("D~{", "D~|", 1), "line 1 has a graph")
+        self.says(witness.replace("path 1 2\n", "path\n", 1), "line 3 has another shape")
+
+    def test_lines_that_are_nearly_right(self):
+        for line in ("count 1 n 6 m 12 f 8 c 1 genus -1", "count 1 n 6 m 12 f 8 c 1 faces 0", "refused 1 1 Loop 2", "refused 1 2 Loop", "refused 1 2 Loop 2 3",
+                     "verdict 1 Crossed 1 2", "verdict 1 Cross 1 2 3", "verdict 1 yes 3", "stop BadLine", "stop Here 1", "end records 1", "end records 01 refused 0"):
+            with self.assertRaisesRegex(ValueError, "line 1 is none"):
+                pigale.read_blocks(f"{line}\n")
+
+    def test_texts_of_another_kind(self):
+        for text, kind in ((">>planar_code<<\3\2", "planar_code"), (">>graph6<<\nC~\n", "graph6"), ("D~{\n", "graph6"), ("<svg>\n", "picture"),
+                           ('{"nodes": []}', "JSON"), (b"\x1f\x8b\x08", "gzip"), (pigale.write_planar_code([pigale.cycle(5)], False), "planar_code")):
+            self.says(text, kind)
+
+    def test_mutated_figures(self):
+        source, taken = random.Random(5), 0
+        texts = [content(name).decode() for name in ("house.txt", "platonic-bars.txt", "quadrangles-rect.txt", "witnesses.txt", "graphs-embed.txt")]
+        for _ in range(300):
+            text = source.choice(texts)
+            for _ in range(source.randrange(1, 3)):
+                at, lines = source.randrange(len(text)), text.split("\n")
+                one, other = source.randrange(len(lines)), source.randrange(len(lines))
+                lines[one], lines[other] = lines[other], lines[one]
+                text = source.choice([text[:at] + source.choice(self.PIECES) + text[at + source.randrange(2):], text[:at] + text[at + 2:], "\n".join(lines)]) or "x"
+            done = subprocess.run([pigale.program(), "verify"], input=text.encode(), stdout=subprocess.PIPE, check=False)
+            last = done.stdout.decode().split("\n")[-2].split(" ")
+            try:
+                self.assertEqual(len(pigale.read_figures(text.encode())), int(last[2]), text)
+                taken += 1
+            except ValueError as fault:
+                self.assertEqual(re.findall(r"line (\d+)", str(fault))[0], last[-1], (text, last))
+                self.assertEqual(done.returncode, 3, text)
+            try:
+                self.assertEqual("".join(f"{block}\n" for block in pigale.read_blocks(text)), text)
+            except ValueError:
+                pass
+        self.assertGreater(taken, 10)
 
 
 class Runs(unittest.TestCase):

@@ -374,81 +374,200 @@ def read_blocks(text: Text) -> List[Block]:
     `text` is text or bytes. Each prints itself as the program does, so the lines are those of the text again. Raises
     ValueError, with the number of the line, where a line is none that the program writes.
     """
-    return _blocks(text, ())
+    return _blocks(text, is_given=False)
 
 
 def read_figures(text: Text) -> List[Figure]:
     """The figures of a text, as a list.
 
-    `text` is text or bytes. Lines between figures that begin with `count`, `refused`, `verdict`, `end` or `stop` are
-    passed over, as `verify` does. Raises ValueError, with the number of the line, where another line is no figure's.
+    `text` is text or bytes. Lines between figures that begin with `count`, `refused`, `verdict`, `end` or `stop` and a
+    space are passed over, as `verify` does. Raises ValueError, with the number of the line, where another line is no
+    figure's: just where `verify` reads no further.
     """
-    found = _blocks(text, ("count", "refused", "verdict", "end", "stop"))
-    return [block for block in found if isinstance(block, FIGURES)]
+    return [block for block in _blocks(text, is_given=True) if isinstance(block, FIGURES)]
 
 
-def _blocks(text: Text, passed_over: Tuple[str, ...]) -> List[Block]:
-    """The blocks of a text, but for those that begin with a word that is passed over."""
+MOST_NUMBERED = 1 << 24  # of a figure that the program reads
+FARTHEST = 1 << 20  # coordinate from 0 that the program reads
+MOST_NAMED = 65535  # of the neighbours that the program reads
+NOTES = ("count ", "refused ", "verdict ", "end ", "stop ")
+REFUSALS = {"OutOfRange": (1, 2), "Loop": (2, 1), "Repeated": (3, 2), "OneSided": (4, 2), "Small": (5, 1), "Genus": (6, 1),
+            "NotConnected": (7, 0), "CutVertex": (8, 1), "SeparatingPair": (9, 2), "OuterNotQuad": (10, 0), "NotTriangle": (11, 2),
+            "SeparatingTriangle": (12, 3), "NoInner": (13, 0)}  # the number of each, and how many numbers it has
+VERDICTS = {"yes": 0, "yes sum": 2, "OutOfGrid": 1, "SamePlace": 2, "OnEdge": 3, "Cross": 4, "Turned": 1, "Inside": 2, "BadShape": 0,
+            "BadHeight": 1, "BadBar": 1, "BadColumn": 2, "Through": 3, "Bent": 3, "OuterBent": 0, "BadRect": 1, "Meet": 2, "Gap": 0,
+            "Contact": 2, "NoFrame": 0, "Frame": 1, "BadBranch": 1, "NotEdge": 2, "Shared": 3}  # how many numbers each has
+STOPS = {"EndInRecord": 1, "BadCount": 1, "TooLong": 0, "BadLine": 1, "Limit": 1, "EndInFigure": 1, "BadWords": 0}
+
+
+class _BadLine(Exception):
+    """A line, counted from the first of a figure, that is none of the program's, and why."""
+
+    def __init__(self, line: int, reason: str) -> None:
+        super().__init__(reason)
+        self.line = line
+
+
+def _blocks(text: Text, is_given: bool) -> List[Block]:
+    """The blocks of a text that the program wrote, or the figures of one that is given to it."""
     lines = _text(text).split("\n")
-    if lines[-1]:
-        raise ValueError(f"line {len(lines)} is not closed")
     blocks: List[Block] = []
     at = 0
     while at < len(lines) - 1:
-        if lines[at].split(" ")[0] in passed_over:
+        if is_given and lines[at].startswith(NOTES):
             at += 1
             continue
         try:
-            block, at = _block(lines, at)
-        except (ValueError, IndexError, KeyError) as fault:
-            raise ValueError(f"line {at + 1}, or the figure that begins there, is none of the program's: "
-                             f"{lines[at][:60]}") from fault
+            block, end = _block(lines, at, is_given)
+        except _BadLine as fault:
+            bad = at + fault.line
+            raise ValueError(f"line {bad + 1} {fault}: {lines[bad][:60]}{_kind_hint(text) if bad == 0 else ''}") from fault
         blocks.append(block)
+        at = end
+    if lines[-1]:
+        raise ValueError(f"line {len(lines)} is not closed by a line end{_kind_hint(text)}")
     return blocks
+
+
+def _kind_hint(text: Text) -> str:
+    """Says what a text may be in place of one of figures, by its beginning; nothing where that tells nothing."""
+    head = _text(text)[:200]
+    for pattern, kind in (("\x1f", "what gzip packed"), (r">>planar_code|[\0-\x08]", "planar_code, for the jobs that draw maps"), (r"\s*<", "a picture or a page"),
+                          (r"\s*[{\[]", "JSON, for check"), (r">>graph6<<|[?-~]+\n", "graph6, for embed"), (r":|>>sparse6<<", "sparse6")):
+        if re.match(pattern, head):
+            return f" (this looks like {kind}, and not like the text of figures)"
+    return ""
 
 
 def _text(text: Text) -> str:
     return text.decode("ascii", "surrogateescape") if isinstance(text, bytes) else text
 
 
-def _block(lines: List[str], at: int) -> Tuple[Block, int]:
-    """The block that begins at line `at`, and the line behind it."""
-    words = lines[at].split(" ")
-    if words[0] == "figure":
-        return _figure(words, lines, at)
-    if words[0] == "count":
-        return Count(*(int(word) for word in [words[1], *words[3::2]])), at + 1
-    if words[0] == "refused":
-        return Refused(int(words[1]), int(words[2]), words[3], _numbers(words[4:])), at + 1
-    if words[0] == "verdict":
-        name = words[2:4] if words[3:4] == ["sum"] else words[2:3]
-        return Verdict(int(words[1]), " ".join(name), _numbers(words[2 + len(name):])), at + 1
-    if words[0] == "end":
-        return End(int(words[2]), int(words[4])), at + 1
-    if words[0] == "stop":
-        return Stop(words[1], _numbers(words[2:])), at + 1
-    raise ValueError(words[0])
+def _block(lines: List[str], at: int, is_given: bool) -> Tuple[Block, int]:
+    """The block that begins at line `at`, and the line behind it. Raises _BadLine where it is none."""
+    if not lines[at].startswith("figure "):
+        if is_given:
+            raise _BadLine(0, "is no first line of a figure, and no note")
+        return _answer_line(lines[at]), at + 1
+    size = _figure_size(lines[at], is_given)
+    end = at + 1 + size
+    figure: Optional[Figure] = None
+    if end <= len(lines) - 1:
+        try:
+            figure = _figure(lines[at].split(" "), lines, at)
+        except (ValueError, IndexError):
+            pass
+        # what was read is all that stands there exactly where it is written like that
+        if figure is not None and _is_in_range(figure) and str(figure).split("\n") == lines[at:end]:
+            return figure, end
+    shapes = _line_shapes(lines[at].split(" "))
+    for k, shape in enumerate(shapes[:len(lines) - 2 - at], 1):
+        if not re.fullmatch(shape, lines[at + k], re.ASCII):
+            raise _BadLine(k, "has another shape than is due there")
+        if not _has_numbers_in_range(lines[at + k]):
+            raise _BadLine(k, "has a number out of its range")
+    raise _BadLine(0, f"begins a figure of {size + 1} lines, of which {len(lines) - 1 - at} are there")
 
 
-def _numbers(words: Iterable[str]) -> Tuple[int, ...]:
-    return tuple(int(word) for word in words)
+_NUMBER, _SIGNED = "(?:0|[1-9][0-9]*)", "(?:0|-?[1-9][0-9]*)"
 
 
-def _figure(words: List[str], lines: List[str], at: int) -> Tuple[Figure, int]:
+def _answer_line(line: str) -> Block:
+    """What a line says that belongs to no figure."""
+    words = line.split(" ")
+    block: Optional[Block] = None
+    try:
+        numbers = {k: int(word) for k, word in enumerate(words) if re.fullmatch(_NUMBER, word, re.ASCII)}
+        if words[0] == "count":
+            block = Count(*(numbers[k] for k in (1, 3, 5, 7, 9, 11)))
+        elif words[0] == "refused" and REFUSALS.get(words[3]) == (numbers[2], len(words) - 4):
+            block = Refused(numbers[1], numbers[2], words[3], tuple(numbers[k] for k in range(4, len(words))))
+        elif words[0] == "verdict":
+            name = " ".join(words[2:4] if words[3:4] == ["sum"] else words[2:3])
+            first = 3 + (name == "yes sum")
+            if VERDICTS.get(name) == len(words) - first:
+                block = Verdict(numbers[1], name, tuple(numbers[k] for k in range(first, len(words))))
+        elif words[0] == "end":
+            block = End(numbers[2], numbers[4])
+        elif words[0] == "stop" and STOPS.get(words[1]) == len(words) - 2:
+            block = Stop(words[1], tuple(numbers[k] for k in range(2, len(words))))
+    except (KeyError, IndexError):
+        pass
+    if block is None or str(block) != line:
+        raise _BadLine(0, "is none that the program writes")
+    return block
+
+
+def _figure_size(head: str, is_given: bool) -> int:
+    """How many lines stand behind the first line of a figure."""
+    found = re.fullmatch(rf"figure ({_NUMBER}) (?:(shift|schnyder|convex|bars|rect) ({_NUMBER})|witness (K5|K33) (\S+))", head, re.ASCII)
+    if not found:
+        raise _BadLine(0, "is no first line of a figure")
+    number, job, count, kind, graph = found.groups()
+    if not 1 <= int(number) <= (MOST_NUMBERED if is_given else int(number)):
+        raise _BadLine(0, f"has a number of the figure that is not from 1 to {MOST_NUMBERED}")
+    if kind:
+        try:
+            n, edges = read_graph6(graph)
+            if n > 255 or write_graph6((n, edges)) != graph:
+                raise ValueError
+        except ValueError:
+            raise _BadLine(0, "has a graph that is no line of graph6 of up to 255 vertices") from None
+        return {"K5": 11, "K33": 10}[kind]
+    if not 1 <= int(count) <= MOST_VERTICES:
+        raise _BadLine(0, f"has a number of vertices that is not from 1 to {MOST_VERTICES}")
+    return int(count) + (job == "bars")
+
+
+def _line_shapes(words: List[str]) -> List[str]:
+    """The shapes of the lines behind the first line of a figure, which has these words."""
+    some = f"(?: {_NUMBER})"
+    if words[2] == "witness":
+        count = 5 if words[3] == "K5" else 6
+        return [f"branch{some}{{{count}}}", *[f"path{some}+"] * (10 if count == 5 else 9)]
+    front = {"bars": f"y {_SIGNED} x {_SIGNED} {_SIGNED}", "rect": f"x {_SIGNED} {_SIGNED} y {_SIGNED} {_SIGNED}"}
+    lines = [f"{v} {front.get(words[2], f'at {_SIGNED} {_SIGNED}')}:{some}*" for v in range(1, int(words[3]) + 1)]
+    return lines + ([f"columns(?: {_SIGNED})*"] if words[2] == "bars" else [])
+
+
+def _has_numbers_in_range(line: str) -> bool:
+    head, colon, rest = line.partition(":")
+    if line.startswith("columns"):
+        return all(-FARTHEST <= int(word) <= FARTHEST for word in line.split(" ")[1:])
+    if not colon:
+        head, rest = "", line.partition(" ")[2]
+    places = [int(word) for word in head.split(" ")[1:] if word[-1:].isdigit()]
+    return all(-FARTHEST <= x <= FARTHEST for x in places) and all(1 <= int(word) <= MOST_NAMED for word in rest.split())
+
+
+def _is_in_range(figure: Figure) -> bool:
+    """Whether the numbers of a figure are ones that the program reads."""
+    if isinstance(figure, WitnessFigure):
+        lists, places = [figure.branches, *figure.paths], []
+        if len(figure.branches) != (5 if figure.kind == "K5" else 6) or not all(figure.paths):
+            return False
+    elif isinstance(figure, BarFigure):
+        lists, places = figure.lists, [*figure.heights, *figure.columns, *(x for span in figure.spans for x in span)]
+    else:
+        lists = figure.lists
+        places = [x for box in figure.boxes for x in box] if isinstance(figure, RectFigure) else [x for place in figure.places for x in place]
+    return (all(1 <= min(us) and max(us) <= MOST_NAMED for us in lists if us)
+            and (not places or -FARTHEST <= min(places) and max(places) <= FARTHEST))
+
+
+def _figure(words: List[str], lines: List[str], at: int) -> Figure:
+    """The figure whose first line has these words, read without a look at the words between its numbers."""
     number, job = int(words[1]), words[2]
     if job == "witness":
-        end = at + {"K5": 12, "K33": 11}[words[3]]
-        branches, *paths = [list(_numbers(line.split(" ")[1:])) for line in lines[at + 1:end]]
-        return WitnessFigure(number, words[3], words[4], branches, paths), end
+        branches, *paths = [list(map(int, line.split(" ")[1:])) for line in lines[at + 1:at + {"K5": 12, "K33": 11}[words[3]]]]
+        return WitnessFigure(number, words[3], words[4], branches, paths)
     end = at + 1 + int(words[3])
     rows = [line.split(":") for line in lines[at + 1:end]]
     heads: List[List[Any]] = [head.split(" ") for head, _ in rows]
-    lists = [list(_numbers(rest.split())) for _, rest in rows]
-    if job in GRID_JOBS:
-        return GridFigure(number, job, [(int(x), int(y)) for _, _, x, y in heads], lists), end
+    lists = [list(map(int, rest.split())) for _, rest in rows]
     if job == "rect":
-        return RectFigure(number, [(int(a), int(b), int(c), int(d)) for _, _, a, b, _, c, d in heads], lists), end
-    if job == "bars" and lines[end].startswith("columns"):
+        return RectFigure(number, [(int(a), int(b), int(c), int(d)) for _, _, a, b, _, c, d in heads], lists)
+    if job == "bars":
         heights, spans = [int(head[2]) for head in heads], [(int(head[4]), int(head[5])) for head in heads]
-        return BarFigure(number, heights, spans, lists, list(_numbers(lines[end].split(" ")[1:]))), end + 1
-    raise ValueError(job)
+        return BarFigure(number, heights, spans, lists, list(map(int, lines[end].split(" ")[1:])))
+    return GridFigure(number, job, [(int(x), int(y)) for _, _, x, y in heads], lists)
