@@ -622,6 +622,14 @@ class Pictures(unittest.TestCase):
         names = [name for name in examples(".txt") if name != "commands.txt"]
         return [figure for name in names for figure in pigale.read_figures(content(name))]
 
+    def test_labels_are_a_flag(self):
+        figure = pigale.draw([pigale.cycle(3)])[0]
+        for labels in (["a", "b", "c"], {1: "a"}, "abc", 1, None):
+            with self.assertRaisesRegex(ValueError, "labels is True or False"):
+                pigale.picture(figure, labels=labels)
+            with self.assertRaisesRegex(ValueError, "labels is True or False"):
+                pigale.page(pigale.run("schnyder", [pigale.cycle(3)]), labels=labels)
+
     def test_pictures_are_xml(self):
         space = "{http://www.w3.org/2000/svg}"
         for figure in [*self.figures(), pigale.draw([pigale.stacked(255, 1)])[0]]:

@@ -5,7 +5,7 @@ from typing import Iterator, List, Optional, Sequence
 
 from .formats import FIGURES, Answer, End, Figure, Refused, Stop, Verdict, WitnessFigure, join_words
 from .maps import edges_of
-from .pictures import STYLE, Style, sketch, styles_of, variable
+from .pictures import STYLE, Style, require_look, sketch, styles_of, variable
 from .runs import Run
 
 CARDS = 300  # on a page of `pages`
@@ -108,6 +108,7 @@ def _page(result: Run, answers: Sequence[Answer], start: int, figures: Sequence[
           labels: bool, style: Style, nav: str) -> str:
     """A page of the answers from the one at `start` on."""
     style = styles_of(style)
+    require_look(side, labels)
     refused = [answer for answer in answers if isinstance(answer, Refused) and _is_folded(answer, figures)]
     cards = []
     for k, answer in enumerate(answers, start):

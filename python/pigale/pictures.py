@@ -90,12 +90,19 @@ def styles_of(style: Style) -> FrozenSet[str]:
     return frozenset(words)
 
 
+def require_look(side: Optional[float], labels: bool) -> None:
+    """Raises ValueError where the side of a picture is out of its range, or `labels` is no flag."""
+    if not isinstance(labels, bool):
+        raise ValueError(f"labels is True or False, and not {str(labels)[:60]}")
+    if side is not None and not 1 <= side <= 100000:
+        raise ValueError(f"the longer side of a picture is from 1 to 100000 pixels, not {side}")
+
+
 def sketch(figure: Figure, side: Optional[float], labels: bool, style: Style, paint: Callable[..., str]) -> Sketch:
     """The width and the height of a picture in pixels, and what is in it. Raises ValueError as `picture` does."""
     if not isinstance(figure, FIGURES):
         raise ValueError(f"there is a picture of a figure, and not of {type(figure).__name__}: {str(figure)[:80]}")
-    if side is not None and not 1 <= side <= 100000:
-        raise ValueError(f"the longer side of a picture is from 1 to 100000 pixels, not {side}")
+    require_look(side, labels)
     try:
         count = read_graph6(figure.graph6)[0] if isinstance(figure, WitnessFigure) else len(figure.lists)
         look = Look(side or default_side(count), labels, styles_of(style), paint)
