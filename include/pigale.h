@@ -57,7 +57,7 @@ enum {
 
     /* Faults of a drawing with convex faces. */
     PIGALE_BENT = 40,               /* a face bends inwards at `second`, between `first` and `third` */
-    PIGALE_OUTER_BENT = 41,         /* the outer face is no triangle */
+    PIGALE_OUTER_BENT = 41,         /* the outer face is no triangle, or vertex 0 has no neighbour (before any bend) */
 
     /* Faults of bars. */
     PIGALE_BAD_SHAPE = 48,          /* there are not as many columns as edges */
@@ -71,7 +71,7 @@ enum {
     /* Faults of rectangles. */
     PIGALE_BAD_RECT = 64,           /* the rectangle of `first` is empty or not within n - 2 by n - 2 */
     PIGALE_MEET = 65,               /* the rectangles of `first` and `second` overlap */
-    PIGALE_GAP = 66,                /* the rectangles do not fill the one that they span */
+    PIGALE_GAP = 66,                /* the rectangles do not fill the one from (0, 0) to their greatest sides */
     PIGALE_CONTACT = 67,            /* `first` and `second` share a side, and no edge joins them, or the other way round */
     PIGALE_NO_FRAME = 68,           /* the outer face is no quadrangle */
     PIGALE_FRAME = 69,              /* the rectangle of `first`, of the outer face, is not at its end */
@@ -151,7 +151,8 @@ pigale_status pigale_embed(uint16_t vertex_count, const pigale_edge *edges, size
 /* Judges a straight-line drawing in the grid from (0, 0) to (width, height): PIGALE_OK exactly where it is plane, keeps
  * the rotations and stays in the grid; else its first fault, by the least number from 32 to 36, and of that fault the one
  * with the least vertices. Coordinates are from -1048576 to 1048576. Lists that are no simple map have a status from 1 to
- * 4. */
+ * 4. Which face is outside is not asked: a drawing with another outer face than that of vertex 0's first dart, of which
+ * the program says `Inside`, is PIGALE_OK here. */
 pigale_status pigale_check(const size_t *ends, size_t vertex_count, const uint16_t *neighbours, size_t neighbour_count,
                            const int32_t *x, size_t x_count, const int32_t *y, size_t y_count,
                            int32_t width, int32_t height, pigale_numbers *found);
