@@ -1,4 +1,8 @@
-"""Tests of the library within Python: its answers are the program's. Where tools/library has not made it they are skipped."""
+#!/usr/bin/env python3
+"""The tests of the library within Python: its answers are the program's.
+
+Where tools/library has not made it they are left out, which is said; where all are, the status is 77.
+"""
 import os
 import subprocess
 import sys
@@ -42,5 +46,15 @@ class Library(unittest.TestCase):
                 os.environ["PIGALE_LIBRARY"] = kept
 
 
+def main() -> int:
+    suite = unittest.defaultTestLoader.loadTestsFromModule(sys.modules["__main__"])
+    result = unittest.TextTestRunner(stream=sys.stdout, verbosity=0).run(suite)
+    failed, left_out = len(result.failures) + len(result.errors), len(result.skipped)
+    for line in sorted({f"{test.id().rpartition('.')[2]}: {cause}" for test, cause in result.skipped}):
+        print(f"left out: {line}")
+    print(f"{result.testsRun - failed - left_out} passed, {failed} failed, {left_out} skipped")
+    return 1 if failed else 77 if left_out == result.testsRun else 0
+
+
 if __name__ == "__main__":
-    unittest.main()
+    sys.exit(main())
