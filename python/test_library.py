@@ -4,20 +4,72 @@
 Where tools/library has not made it they are left out, which is said; where all are, the status is 77.
 """
 import os
+import shutil
 import subprocess
 import sys
+import tempfile
 import unittest
 
 ROOT = os.path.dirname(os.path.dirname(os.path.realpath(__file__)))
 sys.path.insert(0, os.path.join(ROOT, "python"))
 
 import pigale
-from pigale.library import answered, library
+from pigale.library import answered, library, made_library
 
 LIBRARY = os.path.join(ROOT, "out", "library", "libpigale.so")
+MEMORY = os.path.join(ROOT, "library", "memory.c")
+SIZES = """
+#include <stdio.h>
+int main(void)
+{
+    tried none = rattle_alloc(0, 8), some = rattle_alloc(16, 8);
+    if (!none.ok || !some.ok) return 1;
+    some.at[0] = 7;
+    some = rattle_realloc(some.at, 16, 0, 8);
+    if (!some.ok) return 2;
+    some = rattle_realloc(some.at, 0, 32, 8);
+    if (!some.ok) return 3;
+    some.at[31] = 7;
+    rattle_dealloc(some.at);
+    rattle_dealloc(none.at);
+    return 0;
+}
+"""
 RUNS = [("count", "platonic.plc"), ("shift", "platonic.plc"), ("schnyder --form svg", "platonic.plc"), ("bars", "platonic.plc"),
         ("convex", "platonic.plc"), ("rect", "quadrangles.plc"), ("embed", "graphs.g6"), ("verify", "crossing.txt"),
         ("count", "refused.plc"), ("count", "graphs.g6"), ("draw", "graphs.g6"), ("gen --size 9 --number 4", "graphs.g6")]
+
+
+class OfTheseSources(unittest.TestCase):
+    def test_a_library_of_other_sources_is_not_taken(self) -> None:
+        with tempfile.TemporaryDirectory() as top:
+            for folder in ("tools", "out/library"):
+                os.makedirs(os.path.join(top, folder))
+            with open(os.path.join(top, "tools", "sources"), "w", encoding="ascii") as file:
+                file.write("#!/bin/sh\necho sum-of-$1\n")
+            os.chmod(file.name, 0o755)
+            made = os.path.join(top, "out", "library", "libpigale.so")
+            for noted, wanted in ((None, None), ("another", None), ("sum-of-pigale_c\n", made), ("", None)):
+                made_library.cache_clear()
+                open(made, "w", encoding="ascii").close()
+                if noted is not None:
+                    with open(os.path.join(top, "out", "library", "sources"), "w", encoding="ascii") as file:
+                        file.write(noted)
+                self.assertEqual(made_library(top), wanted)
+            os.remove(made)
+            made_library.cache_clear()
+            self.assertIsNone(made_library(top))
+
+
+@unittest.skipUnless(shutil.which("cc"), "there is no C compiler")
+class Memory(unittest.TestCase):
+    def test_no_bytes_are_memory_too(self) -> None:
+        with tempfile.TemporaryDirectory() as folder:
+            source, program = os.path.join(folder, "sizes.c"), os.path.join(folder, "sizes")
+            with open(source, "w", encoding="ascii") as file:
+                file.write(f'#include "{MEMORY}"\n{SIZES}')
+            subprocess.run(["cc", "-Wall", "-o", program, source], check=True)
+            self.assertEqual(subprocess.run([program], check=False).returncode, 0)
 
 
 @unittest.skipUnless(os.path.exists(LIBRARY), "tools/library has not made the library")

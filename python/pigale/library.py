@@ -2,8 +2,11 @@
 import ctypes
 import functools
 import os
+import platform
+import subprocess
 from typing import Optional, Sequence, Tuple
 
+LIBRARY_NAMES = {"Darwin": "libpigale.dylib", "Windows": "pigale.dll"}  # of a system whose library is called otherwise
 
 @functools.lru_cache(maxsize=None)
 def _loaded(path: str) -> ctypes.CDLL:
@@ -19,16 +22,30 @@ def library() -> Optional[str]:
     """The path of the library, or None where the program is to be run.
 
     The environment variable PIGALE_LIBRARY names it. Where that is not set, and PIGALE names no program either, it is the
-    one that tools/library made in this repository.
+    one beside this package, as in a wheel, or else the one that tools/library made in this repository of its sources.
     """
     named = os.environ.get("PIGALE_LIBRARY")
     if named is not None:
         return named or None
     if os.environ.get("PIGALE"):
         return None
-    top = os.path.join(os.path.dirname(os.path.realpath(__file__)), "..", "..")
-    made = os.path.abspath(os.path.join(top, "out", "library", "libpigale.so"))
-    return made if os.path.exists(made) else None
+    here = os.path.dirname(os.path.realpath(__file__))
+    beside = os.path.join(here, LIBRARY_NAMES.get(platform.system(), "libpigale.so"))
+    return beside if os.path.exists(beside) else made_library(os.path.abspath(os.path.join(here, "..", "..")))
+
+
+@functools.lru_cache(maxsize=None)
+def made_library(top: str) -> Optional[str]:
+    """The path of the library that tools/library made in a repository, or None where it is not of the sources there now."""
+    folder = os.path.join(top, "out", "library")
+    try:
+        with open(os.path.join(folder, "sources"), encoding="ascii") as file:
+            noted = file.read().split()
+        found = subprocess.run([os.path.join(top, "tools", "sources"), "pigale_c"], stdout=subprocess.PIPE, check=True).stdout
+    except (OSError, ValueError, subprocess.CalledProcessError):
+        return None
+    made = os.path.join(folder, "libpigale.so")
+    return made if noted == found.decode("ascii").split() and os.path.exists(made) else None
 
 
 def answered(path: str, words: Sequence[str], data: bytes, capacity: Optional[int] = None) -> Tuple[int, str]:

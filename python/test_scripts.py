@@ -1,0 +1,81 @@
+#!/usr/bin/env python3
+"""The tests of ./pigale and ./install: `python3 python/test_scripts.py` from anywhere.
+
+What they say beside the program, by copies of the scripts in a folder in which the rest of the repository is linked. The
+program is found as the package finds it.
+"""
+import os
+import shutil
+import subprocess
+import sys
+import tempfile
+import unittest
+
+HERE = os.path.dirname(os.path.abspath(__file__))
+TOP = os.path.dirname(HERE)
+sys.path.insert(0, HERE)
+import pigale  # noqa: E402
+
+LINKED = ("crates", "crates.txt", "release", "tools", "man", "completions", "include", "library", "python")
+
+
+class Scripts(unittest.TestCase):
+    def setUp(self):
+        self.folder = tempfile.mkdtemp()
+        self.addCleanup(shutil.rmtree, self.folder)
+        for name in LINKED:
+            os.symlink(os.path.join(TOP, name), os.path.join(self.folder, name))
+        for name in ("install", "pigale"):
+            shutil.copy(os.path.join(TOP, name), self.folder)
+
+    def ran(self, *words, **named):
+        """The status, the output and what a script says besides."""
+        done = subprocess.run(words, cwd=self.folder, stdout=subprocess.PIPE, stderr=subprocess.PIPE, check=False, **named)
+        return done.returncode, done.stdout, done.stderr.decode()
+
+
+class Install(Scripts):
+    def installed(self, *words, noted=None):
+        """What is installed below a prefix, and what is said, where a library is there whose sources are noted so."""
+        made = os.path.join(self.folder, "out", "library")
+        os.makedirs(made, exist_ok=True)
+        for name in ("libpigale.so", "libpigale.a"):
+            open(os.path.join(made, name), "w", encoding="ascii").close()
+        if noted is not None:
+            with open(os.path.join(made, "sources"), "w", encoding="ascii") as file:
+                file.write(noted)
+        prefix = os.path.join(self.folder, "prefix")
+        shutil.rmtree(prefix, ignore_errors=True)
+        status, _, said = self.ran("./install", "--stale", *words, prefix)
+        self.assertEqual(status, 0, said)
+        return os.listdir(os.path.join(prefix, "lib")) if os.path.exists(os.path.join(prefix, "lib")) else [], said
+
+    def test_a_library_of_these_sources(self):
+        sources = subprocess.run([os.path.join(TOP, "tools", "sources"), "pigale_c"], stdout=subprocess.PIPE, check=True).stdout.decode()
+        files, said = self.installed(noted=sources)
+        self.assertIn("libpigale.so.1", files)
+        self.assertIn("the library that was made here of these sources", said)
+
+    def test_a_library_of_other_sources(self):
+        """Without --stale it is left out, and that is said."""
+        for noted in (None, "another\n"):
+            files, said = self.installed(noted=noted)
+            self.assertIn("libpigale.so.1", files)
+            self.assertIn("of other sources than these", said)
+        # without --stale the program has to be of these sources, so that is asked of the real one
+        status, _, said = self.ran("./install", os.path.join(self.folder, "prefix-2"))
+        if status == 0:
+            self.assertFalse(os.path.exists(os.path.join(self.folder, "prefix-2", "lib")))
+            self.assertIn("left out; tools/library makes it anew", said)
+
+
+def main():
+    suite = unittest.defaultTestLoader.loadTestsFromModule(sys.modules["__main__"])
+    result = unittest.TextTestRunner(stream=sys.stdout, verbosity=0).run(suite)
+    failed = len(result.failures) + len(result.errors)
+    print(f"{result.testsRun - failed} passed, {failed} failed")
+    return 1 if failed else 0
+
+
+if __name__ == "__main__":
+    sys.exit(main())
