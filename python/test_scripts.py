@@ -1,8 +1,8 @@
 #!/usr/bin/env python3
-"""The tests of ./pigale and ./install: `python3 python/test_scripts.py` from anywhere.
+"""The tests of ./pigale, ./install and tools/unrun: `python3 python/test_scripts.py` from anywhere.
 
-What they say beside the program, by copies of the scripts in a folder in which the rest of the repository is linked. The
-program is found as the package finds it.
+What the first two say beside the program, by copies of the scripts in a folder in which the rest of the repository is
+linked; and which calls the third finds in small crates. The program is found as the package finds it.
 """
 import os
 import shutil
@@ -67,6 +67,74 @@ class Install(Scripts):
         if status == 0:
             self.assertFalse(os.path.exists(os.path.join(self.folder, "prefix-2", "lib")))
             self.assertIn("left out; tools/library makes it anew", said)
+
+
+class Unrun(unittest.TestCase):
+    """Which public calls are found that nothing runs."""
+    LOW = """pub type Answer = Result<u16, AllocError>;
+pub struct Table { }
+impl Table {
+    pub fn of(alloc: Global) -> Result<Self, AllocError> {
+        Ok(Table {})
+    }
+    pub fn grown(&mut self) -> Result<(), AllocError> {
+        Ok(())
+    }
+}
+pub fn parts(alloc: Global) -> Result<u16, AllocError> {
+    Ok(1)
+}
+pub fn maybe(alloc: Global) -> Option<u16> {
+    None
+}
+pub fn aliased(alloc: Global) -> Answer {
+    Ok(1)
+}
+pub fn first(table: &Table) -> Option<u16> {
+    None
+}
+"""
+    HIGH = """mod inner;
+pub use low::parts as low_parts;
+pub fn parts(alloc: Global) -> Result<u16, AllocError> {
+    low_parts(alloc)
+}
+"""
+
+    def missing(self, body, uses="use low::Table;"):
+        """The calls that nothing runs, by the names of their crates and their own, where `main` has this body."""
+        with tempfile.TemporaryDirectory() as top:
+            with open(os.path.join(top, "crates.txt"), "w", encoding="ascii") as file:
+                file.write("low:\nhigh: low\nrows: low high\n")
+            for crate, name, text in (("low", "lib", self.LOW), ("high", "lib", self.HIGH), ("rows", "main", f"{uses}\nfn main() {{\n    {body}\n}}\n")):
+                folder = os.path.join(top, "crates", crate, "src")
+                os.makedirs(folder)
+                with open(os.path.join(folder, f"{name}.rt"), "w", encoding="ascii") as file:
+                    file.write(text)
+            done = subprocess.run([sys.executable, os.path.join(TOP, "tools", "unrun"), top], stdout=subprocess.PIPE, check=False)
+        lines = done.stdout.decode().split("\n")
+        self.assertEqual(done.returncode, 1 if len(lines) > 2 else 0)
+        return [line.split(" ", 1)[1].split(" can")[0] for line in lines[:-2]]
+
+    ALL = ["high: parts", "low: Table::grown", "low: Table::of", "low: aliased", "low: maybe", "low: parts"]
+
+    def without(self, *names):
+        return [name for name in self.ALL if name not in names]
+
+    def test_nothing_is_run(self):
+        self.assertEqual(self.missing("let x = 1;"), self.ALL)
+
+    def test_a_name_is_that_of_its_crate(self):
+        self.assertEqual(self.missing("parts(alloc);", "use low::parts;"), self.without("low: parts"))
+        self.assertEqual(self.missing("parts(alloc);", "use high::parts;"), self.without("low: parts", "high: parts"))
+        self.assertEqual(self.missing("low::parts(alloc);"), self.without("low: parts"))
+        self.assertEqual(self.missing("low_parts(alloc);", "use high::{low_parts};"), self.without("low: parts"))
+        self.assertEqual(self.missing("many(alloc);", "use high::{parts as many, inner};"), self.without("low: parts", "high: parts"))
+
+    def test_options_aliases_and_methods(self):
+        self.assertEqual(self.missing("maybe(alloc); aliased(alloc);", "use low::{maybe, aliased};"), self.without("low: maybe", "low: aliased"))
+        self.assertEqual(self.missing("let mut table = Table::of(alloc)?; table.grown()?;"), self.without("low: Table::of", "low: Table::grown"))
+        self.assertEqual(self.missing("each(low::maybe, 3);"), self.without("low: maybe"))
 
 
 def main():
