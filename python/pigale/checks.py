@@ -7,6 +7,7 @@ from dataclasses import dataclass
 from typing import Any, Dict, Iterable, List, Mapping, Optional, Sequence, Tuple, Union
 
 from .formats import MOST_BYTES, MOST_VERTICES, Edge, GridFigure, Lists, Place, Refused, Verdict, join_words, pair_of
+from .kinds import looks_like
 from .maps import rotations_of
 from .runs import run
 
@@ -196,6 +197,11 @@ def read_drawing(name: str, text: str) -> Drawing:
 def _json_drawing(text: str) -> Drawing:
     try:
         data = json.loads(text)
+    except json.JSONDecodeError as fault:
+        found = looks_like(text[:1000].encode(), "json")
+        raise ValueError(f"check reads a drawing as JSON (nodes with id, x and y; edges with source and target) or GraphML: "
+                         f"{found or f'this is no JSON: {fault}'}") from fault
+    try:
         places = {node["id"]: (node["x"] + 0, node["y"] + 0) for node in data["nodes"]}
         links = data["edges"] if "edges" in data else data["links"]
         return places, [(link["source"], link["target"]) for link in links]

@@ -4,6 +4,8 @@ from collections.abc import Sequence as SequenceType
 from dataclasses import dataclass
 from typing import IO, Any, Iterable, List, Literal, Optional, Sequence, Tuple, Union, cast
 
+from .kinds import looks_like
+
 HEADER = b">>planar_code<<"
 MOST_BYTES = 1 << 24  # of an input that the program reads
 MOST_VERTICES = 4095  # of a map that the program reads
@@ -46,7 +48,8 @@ def read_planar_code(data: Union[bytes, IO[bytes]], order: Optional[str] = None)
         else:
             found = _wide_lists(data, at + 1, "little" if (header_order or order) == "le" else "big")
         if found is None:
-            raise ValueError(f"the data end inside record {len(maps) + 1}, which begins at byte {at}")
+            hint = looks_like(data[:1000], "planar_code")
+            raise ValueError(f"the data end inside record {len(maps) + 1}, which begins at byte {at}{hint and '; ' + hint}")
         lists, at = found
         if not lists:
             raise ValueError(f"record {len(maps) + 1} has no vertices")
@@ -60,7 +63,7 @@ def _after_header(data: bytes, at: int) -> Tuple[int, str]:
     if not found:
         return at, ""
     if found.group(1) != b"planar_code":
-        raise ValueError(f"the header is that of {found.group(1).decode()}, and not of planar_code")
+        raise ValueError(f"the header is that of {found.group(1).decode()}, and not of planar_code; {looks_like(data[at:at + 40], 'planar_code')}")
     return at + found.end(), (found.group(2) or b"").decode()
 
 
@@ -421,7 +424,8 @@ def _blocks(text: Text, is_given: bool) -> List[Block]:
             block, end = _block(lines, at, is_given)
         except _BadLine as fault:
             bad = at + fault.line
-            raise ValueError(f"line {bad + 1} {fault}: {lines[bad][:60]}{_kind_hint(text) if bad == 0 else ''}") from fault
+            shown = lines[bad][:60] if lines[bad].isprintable() else ascii(lines[bad][:20])
+            raise ValueError(f"line {bad + 1} {fault}: {shown}{_kind_hint(text) if bad == 0 else ''}") from fault
         blocks.append(block)
         at = end
     if lines[-1]:
@@ -430,13 +434,9 @@ def _blocks(text: Text, is_given: bool) -> List[Block]:
 
 
 def _kind_hint(text: Text) -> str:
-    """Says what a text may be in place of one of figures, by its beginning; nothing where that tells nothing."""
-    head = _text(text)[:200]
-    for pattern, kind in (("\x1f", "what gzip packed"), (r">>planar_code|[\0-\x08]", "planar_code, for the jobs that draw maps"), (r"\s*<", "a picture or a page"),
-                          (r"\s*[{\[]", "JSON, for check"), (r">>graph6<<|[?-~]+\n", "graph6, for embed"), (r":|>>sparse6<<", "sparse6")):
-        if re.match(pattern, head):
-            return f" (this looks like {kind}, and not like the text of figures)"
-    return ""
+    """Says what a text is in place of one of figures, by its beginning; nothing where that tells nothing."""
+    found = looks_like(text[:1000] if isinstance(text, bytes) else text[:1000].encode("utf-8", "surrogateescape"), "figures")
+    return f"; {found}" if found else ""
 
 
 def _text(text: Text) -> str:

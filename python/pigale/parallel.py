@@ -20,8 +20,9 @@ from contextlib import closing
 from typing import IO, Any, BinaryIO, Callable, Deque, Generator, Iterable, Iterator, Optional, Sequence, Set, Tuple, Union, cast
 
 from .formats import Answer, End, Stop, read_blocks
+from .kinds import reading_hint
 from .parts import Part, Read, Size, joined, parts_of, unpacked
-from .runs import HINTS, READING_JOBS, PigaleError, Records, Run, encoded, program, readable
+from .runs import HINTS, READING_JOBS, WHAT_WENT_WRONG, PigaleError, Records, Run, encoded, program, readable
 from .streams import INPUT_LOST, write_all
 
 NUMBERED = (b"figure ", b"count ", b"verdict ", b"refused ", b"<!-- refused ")
@@ -95,6 +96,7 @@ class _Source:
         self.source, self.progress = source, progress
         self.fault: Optional[Exception] = None
         self.unpacked: Optional[Read] = None
+        self.head = b""
 
     def read(self, size: int) -> bytes:
         try:
@@ -104,6 +106,7 @@ class _Source:
             self.fault = fault
             return b""
         self.progress.read += len(found)
+        self.head = (self.head + found)[:1000] if len(self.head) < 1000 else self.head
         return found
 
 
@@ -143,6 +146,7 @@ class _Over:
         job = next((word for word in words if word in READING_JOBS), None)
         if job is None:
             raise ValueError(f"no job that reads is among the words: {' '.join(words)}")
+        self.job = job
         self.programs = _Programs([program(), *words])
         self.count = processes or _processors()
         self.progress = Progress()
@@ -217,6 +221,7 @@ class _Over:
             # of what could not be read to its end the ending says nothing
             self.status = status
             self._end(_stop_line(part, last[4], last[5], runs[0][0] if runs else None))
+            self._explain(last[4])
         return _renumbered(text[:at], part.first)
 
     def _broken_text(self, part: Part, status: int, text: bytes) -> bytes:
@@ -235,6 +240,14 @@ class _Over:
         cause = HINTS.get(status, f"the program ended with status {status} and without its last line")
         self.progress.trouble = f"{cause}, on {where}; what was written is the beginning of the answers"
         return _renumbered(text, part.first)
+
+    def _explain(self, ending: bytes) -> None:
+        """Says what the job reads, and what the input is if that is something else, where it ended badly."""
+        reads, found = reading_hint(self.job, self.source.head if self.source else b"\0")
+        if ending == b"TooLong":
+            self.progress.trouble = f"a record by itself has more than 16 MiB, which the program does not read; {reads}"
+        elif ending != b"BadWords":
+            self.progress.trouble = f"{reads}; {found}" if found else f"the input has a bad place: {reads} ({WHAT_WENT_WRONG})"
 
     def _end(self, line: bytes) -> None:
         self.last_line = self.frame[0] + line + self.frame[1] + b"\n"

@@ -5,7 +5,7 @@ import platform
 import shutil
 import subprocess
 from dataclasses import dataclass
-from typing import Iterable, List, Optional, Sequence, Tuple, Union, cast
+from typing import Iterable, Iterator, List, Optional, Sequence, Tuple, Union, cast
 
 from .formats import (FIGURES, MOST_BYTES, MOST_VERTICES, PLANAR_JOBS, Answer, Block, End, Figure, Graph, GridFigure, Map, Refused, Stop,
                       WitnessFigure, as_maps, check_line, read_blocks, write_graph6, write_planar_code)
@@ -28,9 +28,10 @@ class PigaleError(Exception):
         super().__init__(f"pigale {run.job} ended with status {run.status} ({last}){hint and ': ' + hint}")
 
 
+WHAT_WENT_WRONG = 'docs/FORMATS.md, "What went wrong?"'
 HINTS = {
     2: "the job or an option is none of the program's",
-    3: "the input has a bad place (docs/FORMATS.md, \"What went wrong?\")",
+    3: f"the input has a bad place ({WHAT_WENT_WRONG})",
     4: "a read failed",
     5: "a write failed",
     6: "there was not enough memory",
@@ -64,10 +65,30 @@ def program() -> str:
     for place in places:
         if place and os.access(place, os.X_OK):
             return os.path.abspath(place)
-    found = shutil.which("pigale")
+    found = next((path for path in _on_path("pigale") if not _is_own_command(path)), None)
     if not found:
-        raise FileNotFoundError("the program pigale is not built here nor on the path; PIGALE may name it")
+        held = sorted(name[len("pigale-"):] for name in os.listdir(here) if name.startswith("pigale-"))
+        has = f"this package has a program for {' and '.join(held)}, and none" if held else "there is no program"
+        raise FileNotFoundError(f"{has} for this system, {platform.machine()}-{platform.system().lower()}, nor is one on the path; PIGALE may name one")
     return found
+
+
+def _on_path(name: str) -> Iterator[str]:
+    """The commands of a name on the path, in order."""
+    for folder in os.environ.get("PATH", os.defpath).split(os.pathsep):
+        found = shutil.which(os.path.abspath(os.path.join(folder, name))) if folder else None
+        if found:
+            yield found
+
+
+def _is_own_command(path: str) -> bool:
+    """Whether a command is the one that pip makes of this package, which runs the program in turn."""
+    try:
+        with open(path, "rb") as file:
+            head = file.read(2000)
+    except OSError:
+        return False
+    return head.startswith(b"#!") and b"pigale" in head and b"import" in head
 
 
 def run(job: str, records: Records = (), size: Optional[int] = None, number: Optional[int] = None,
