@@ -140,7 +140,7 @@ pub record IsRectangularDual (lists : Lists) (fig : RectFigure) : Type 0 where
   pub rects : (v : ℕ) → v < length lists → IsRect (length lists) fig v
   -- no two have a point inside of both
   pub apart : (u v : ℕ) → u < v → v < length lists → ¬ DoMeet fig u v
-  -- they fill the rectangle that they span
+  -- they fill the rectangle from (0, 0) to their greatest sides
   pub areas : area_of fig (length lists) ≡ (width_of fig *ℤ height_of fig)
   -- two share a side exactly where their vertices are adjacent
   pub contacts : (u v : ℕ) → u < v → v < length lists → ShareSide fig u v ↔ HasDart lists u v

@@ -17,7 +17,7 @@ AreRects lists fig = (v : ℕ) → v < length lists → IsRect (length lists) fi
 abbrev pub NoneMeet : Lists → RectFigure → Type 0
 NoneMeet lists fig = (u v : ℕ) → u < v → v < length lists → ¬ DoMeet fig u v
 
--- they fill the rectangle that they span
+-- they fill the rectangle from (0, 0) to their greatest sides
 abbrev pub DoFill : Lists → RectFigure → Type 0
 DoFill lists fig = area_of fig (length lists) ≡ (width_of fig *ℤ height_of fig)
 

@@ -1,4 +1,4 @@
-//! Whether the areas of the rectangles sum to that of the rectangle that they span.
+//! Whether the areas of the rectangles sum to that of the rectangle from (0, 0) to their greatest sides.
 ghost use Rattle.std.specs.Prelude.{◌≡◌, ◌+◌, ◌<◌, ◌↔◌, IsTrue, length, take, ◌≤ℤ◌, ◌-ℤ◌, ◌*ℤ◌, pos};
 ghost use Rattle.std.specs.Int.{int_max};
 ghost use Rattle.drawings.specs.Duals.{IsSpan, area_at, area_of, greatest as the_greatest};
@@ -73,7 +73,7 @@ impl Rects<'_> {
         total
     }
 
-    // Says whether the areas of the rectangles sum to that of the rectangle that they span.
+    // Says whether the areas of the rectangles sum to that of the rectangle from (0, 0) to their greatest sides.
     pub(crate) fn do_fill(&self) -> bool
         ensures { IsTrue result ↔ DoFill self.now.map.now.lists self.now.fig.now }
     {

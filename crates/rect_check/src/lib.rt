@@ -1,6 +1,7 @@
 //! The check of rectangular duals: each vertex is a rectangle, and two share a side exactly where their vertices are
-//! adjacent. It says whether the rectangles fill the one that they span, without overlap, whether all contacts are
-//! edges and all edges contacts, and whether the outer face is the frame. Where not, it says which fault comes first.
+//! adjacent. It says whether the rectangles fill the one from (0, 0) to their greatest sides, without overlap, whether
+//! all contacts are edges and all edges contacts, and whether the outer face is the frame. Where not, it says which
+//! fault comes first.
 #![tactic(auto)]
 
 ghost use Rattle.rect_check.specs.Laws.{YesIsDual};

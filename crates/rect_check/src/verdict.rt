@@ -10,7 +10,7 @@ pub enum RectVerdict {
     BadRect(VertexId),
     /// The interiors of the rectangles of the two vertices, the lesser first, meet.
     Meet(VertexId, VertexId),
-    /// The areas do not sum to that of the rectangle which they span.
+    /// The areas do not sum to that of the rectangle from (0, 0) to the greatest right and upper sides.
     Gap,
     /// The rectangles of the two vertices, the lesser first, share a side of positive length, and the
     /// vertices are not adjacent; or the other way round.
