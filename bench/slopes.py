@@ -10,6 +10,7 @@ Counted by valgrind, with what the job takes on an empty input taken off; glibc'
 valgrind counts it by bytes. Not part of the gate.
 """
 import functools
+import math
 import os
 import random
 import re
@@ -176,26 +177,61 @@ def one_column(side):
     return (f"figure 1 bars {2 * side}\n" + "\n".join(lines) + "\ncolumns" + " 0" * side ** 2 + "\n").encode()
 
 
-def fans(columns, rows, hubs, heads, low):
-    """A grid with diagonals in the gap between the heads of some hubs, which have their heads in common."""
-    inner = columns * rows
-    n = inner + hubs + heads
+def hubs_and_heads(columns, rows, corner, hubs, heads):
+    """A grid with diagonals from a corner on, and edges from each of some places for hubs to each of some for heads."""
+    inner, n = columns * rows, columns * rows + len(hubs) + len(heads)
     cell = {(i, j): i * rows + j for i in range(columns) for j in range(rows)}
-    lists = [[] for _ in range(n)]
+    lists = [[] for _ in range(inner)]
     for (i, j), v in cell.items():
         for beside in ((i + 1, j), (i, j + 1), (i + 1, j + 1)):
             if beside in cell:
                 lists[v].append(cell[beside] + 1)
                 lists[cell[beside]].append(v + 1)
-    for v in range(inner, inner + hubs):
-        lists[v] = list(range(inner + hubs + 1, n + 1))
-    for v in range(inner + hubs, n):
-        lists[v] = list(range(inner + 1, inner + hubs + 1))
-    middle, behind = (n - 2 - hubs) // 2, n - 1 - heads
-    places = [(2700 + i, low + j) for i, j in cell]
-    places += [(0, middle + j) for j in range(hubs)] + [(3000, j if j < heads // 2 else behind + j) for j in range(heads)]
+    lists += [list(range(inner + len(hubs) + 1, n + 1))] * len(hubs) + [list(range(inner + 1, inner + len(hubs) + 1))] * len(heads)
+    places = [(corner[0] + i, corner[1] + j) for i, j in cell] + hubs + heads
     lines = [f"{v} at {x} {y}: {' '.join(map(str, us))}" for v, ((x, y), us) in enumerate(zip(places, lists), 1)]
     return (f"figure 1 shift {n}\n" + "\n".join(lines) + "\n").encode()
+
+
+def fans(columns, rows, hubs, heads, low):
+    """A grid with diagonals in the gap between the heads of some hubs, which have their heads in common."""
+    n = columns * rows + hubs + heads
+    middle, behind = (n - 2 - hubs) // 2, n - 1 - heads
+    return hubs_and_heads(columns, rows, (2700, low), [(0, middle + j) for j in range(hubs)],
+                          [(3000, j if j < heads // 2 else behind + j) for j in range(heads)])
+
+
+def wedge(columns, rows, hubs, heads):
+    """A grid beside the heads of some hubs, which are seen from there in one narrow wedge, some near and some far."""
+    n = columns * rows + hubs + heads
+    width, height = 2 * n - 4, n - 2
+    posts, found, seen, source = [(0, j) for j in range(hubs)], [], [set() for _ in range(hubs)], random.Random(1)
+    while len(found) < heads:
+        if len(found) < heads // 2:
+            place = width - source.randrange(width // 8), int(height * 0.86) + source.randrange(int(height * 0.14))
+        else:
+            x = int(width * 0.3) + source.randrange(int(width * 0.15))
+            place = x, int(x * (0.425 + 0.085 * source.random()))
+        ways = [(place[0] // d, (place[1] - j) // d) for j in range(hubs) for d in [math.gcd(place[0], place[1] - j)]]
+        if not any(way in of_hub for way, of_hub in zip(ways, seen)):
+            found.append(place)
+            for way, of_hub in zip(ways, seen):
+                of_hub.add(way)
+    return hubs_and_heads(columns, rows, (int(width * 0.7), int(height * 0.36)), posts, found)
+
+
+def two_rows(hubs, n):
+    """Two rows of vertices, of which some at the left end of each have edges to some at the right end of the other."""
+    half = n // 2
+    columns = list(range(hubs)) + [hubs + 5 + i for i in range(half - 2 * hubs)] + [2 * n - 3 - hubs + i for i in range(hubs)]
+    order = list(range(hubs)) + list(range(half - hubs, half)) + list(range(hubs, half - hubs))
+    number = {(c, y): 2 * k + y + 1 for k, c in enumerate(order) for y in (0, 1)}
+    lines = []
+    for c in order:
+        for y in (0, 1):
+            ends = range(half - hubs, half) if c < hubs else range(hubs) if c >= half - hubs else ()
+            lines.append(f"{number[c, y]} at {columns[c]} {y}: {' '.join(str(number[d, 1 - y]) for d in ends)}".rstrip())
+    return (f"figure 1 shift {2 * half}\n" + "\n".join(lines) + "\n").encode()
 
 
 def limits():
@@ -213,6 +249,10 @@ def limits():
     yield "verify: a grid of 2,002 vertices between the heads of eight hubs with 2,000 each", cost("verify", fans(13, 154, 8, 2000, 1300)), 300
     yield "verify: a strip of 1,500 vertices, and K(400,400) behind it", cost("verify", hostile(1500, 400)), 1500
     yield "verify: a grid of 1,560 vertices in the gaps of K(400,400)", cost("verify", gaps(13, 120, 400)), 6000
+    text = wedge(60, 57, 150, 525)
+    yield "verify: a grid of 3,420 vertices beside a narrow wedge of 150 hubs with 525 heads each", cost("verify", text), len(text) * 0.003
+    text = two_rows(200, 4094)
+    yield "verify: two rows of 2,047, of which 200 at each end are joined with the other row", cost("verify", text), len(text) * 0.003
     yield "verify: 4,095 points at random", cost("verify", points(4095, 1)), 250
     squares = count.record(families.shuffled(families.crossed_square(4095)))
     yield "verify: a grid with diagonals, its last two vertices exchanged", cost("verify", late_crossing(answer("shift", squares))), 100
@@ -237,7 +277,7 @@ def main():
     if "--limits" in sys.argv[1:]:
         print("| Input | Million instructions | At most |\n|---|---|---|")
         for what, found, most in limits():
-            print(f"| {what} | {found / 1e6:.1f}{'!' if found > most * 1e6 else ''} | {most} |", flush=True)
+            print(f"| {what} | {found / 1e6:.1f}{'!' if found > most * 1e6 else ''} | {most:g} |", flush=True)
     else:
         slopes(sys.argv[1:])
 
