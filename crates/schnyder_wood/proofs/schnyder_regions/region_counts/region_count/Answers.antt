@@ -31,7 +31,7 @@ returns c =
     let d = kind c.args.colour in
     let path = c.in_ok-path.path in
     IfOk-weaker c.count.result _ _ (λ k h base is.
-    h base (parent_in wood) d c.args.v.0 (c.base_dart-start.ensures ∙ ap Some (base_is c.args.tri.now.lists base wood is c.facts-2.ensures))
-    (has_edges c.args.tri.now.lists base wood is c.facts-2.ensures known.simple c.args.v.0 c.requires.inner d path c.in_ok-path.ensures)
-    (has_vertices c.args.tri.now.lists base wood is c.facts-2.ensures known.simple c.args.v.0 c.requires.inner d path c.in_ok-path.ensures))
+    h base (parent_in wood) d c.args.v.0 (c.base_dart-start.ensures ∙ ap Some (base_is c.args.tri.now.lists base wood is c.facts.ensures))
+    (has_edges c.args.tri.now.lists base wood is c.facts.ensures known.simple c.args.v.0 c.requires.inner d path c.in_ok-path.ensures)
+    (has_vertices c.args.tri.now.lists base wood is c.facts.ensures known.simple c.args.v.0 c.requires.inner d path c.in_ok-path.ensures))
     c.count.ensures

@@ -24,7 +24,7 @@ pub order_map-requires-clause-live : goal.order_map-requires-clause-live
 order_map-requires-clause-live c =
     let tri = c.complete_map.new.map in
     let base =
-    base_of_choice c.args.map.now tri c.first_dart-first.result c.base_dart-base.result c.facts-2.ensures.is_dart c.first_dart-first.ensures.dart c.in_ok-made.ensures.ids c.base_dart-base.ensures.given c.base_dart-base.ensures.least c.first_dart-first.ensures.not_isolated in
+    base_of_choice c.args.map.now tri c.first_dart-first.result c.base_dart-base.result tri.known.is_dart c.first_dart-first.ensures.dart c.in_ok-made.ensures.ids c.base_dart-base.ensures.given c.base_dart-base.ensures.least c.first_dart-first.ensures.not_isolated in
     rw base.dart refl
 
 pub returns-clause-order : goal.returns-clause-order
@@ -33,7 +33,7 @@ returns-clause-order c =
     let made = c.in_ok-made.ensures in
     let tri = c.complete_map.new.map in
     let base =
-    base_of_choice c.args.map.now tri c.first_dart-first.result c.base_dart-base.result c.facts-2.ensures.is_dart c.first_dart-first.ensures.dart made.ids c.base_dart-base.ensures.given c.base_dart-base.ensures.least c.first_dart-first.ensures.not_isolated in
+    base_of_choice c.args.map.now tri c.first_dart-first.result c.base_dart-base.result tri.known.is_dart c.first_dart-first.ensures.dart made.ids c.base_dart-base.ensures.given c.base_dart-base.ensures.least c.first_dart-first.ensures.not_isolated in
     record {
       simple = subst IsSimpleMap is c.args.map.now.known.simple;
       triangulation = made.triangulation;
