@@ -3,7 +3,7 @@
 #![tactic(auto)]
 
 mod answers;
-mod graphs;
+mod bare_graphs;
 mod searches;
 mod witnesses;
 

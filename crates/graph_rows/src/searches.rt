@@ -1,7 +1,7 @@
 //! Answers test rows on planarity searches: single graphs, lists of graphs, and all graphs of a size, by two methods.
 ghost use Rattle.std.specs.Prelude.{◌<◌, ◌≤◌};
 
-use crate::graphs::over_line;
+use crate::bare_graphs::over_line;
 use crate::witnesses::name_of;
 use embed_graph::contracted_embeddings::embed_by_sides;
 use embed_graph::embed;

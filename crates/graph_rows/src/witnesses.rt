@@ -2,7 +2,7 @@
 ghost use Rattle.std.specs.Prelude.{◌≡◌, true};
 ghost use Rattle.graphs.specs.Graphs.{has_edge};
 
-use crate::graphs::edge_of;
+use crate::bare_graphs::edge_of;
 use embed_witnesses::contracted_graphs::contract;
 use embed_witnesses::lifted_witnesses::lift;
 use graphs::Graph;
