@@ -624,10 +624,10 @@ class Pictures(unittest.TestCase):
 
     def test_labels_are_a_flag(self):
         figure = pigale.draw([pigale.cycle(3)])[0]
-        for labels in (["a", "b", "c"], {1: "a"}, "abc", 1, None):
-            with self.assertRaisesRegex(ValueError, "labels is True or False"):
+        for labels in ("abc", 1, None):
+            with self.assertRaisesRegex(ValueError, "labels is True, False"):
                 pigale.picture(figure, labels=labels)
-            with self.assertRaisesRegex(ValueError, "labels is True or False"):
+            with self.assertRaisesRegex(ValueError, "labels is True, False"):
                 pigale.page(pigale.run("schnyder", [pigale.cycle(3)]), labels=labels)
 
     def test_pictures_are_xml(self):

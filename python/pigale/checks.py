@@ -8,8 +8,10 @@ from typing import Any, Dict, Iterable, List, Mapping, Optional, Sequence, Tuple
 
 from .formats import MOST_BYTES, MOST_VERTICES, Edge, GridFigure, Lists, Place, Refused, Verdict, join_words, pair_of
 from .kinds import looks_like
+from .library import library
 from .maps import rotations_of
 from .runs import run
+from .typed import FARTHEST, checked
 
 Places = Union[Mapping[Any, Sequence[float]], Sequence[Sequence[float]]]
 Rotations = Mapping[Any, Iterable[Any]]
@@ -40,7 +42,7 @@ def check(places: Places, edges: Iterable[Sequence[Any]], rotations: Optional[Ro
     `places` gives each vertex its point: a mapping from names to (x, y), or a list, whose vertices are then called 0,
     1, .. `edges` has pairs of names. Coordinates are whole numbers, of any sign (a float such as 3.0 is one); for
     others use `scaled` first. After what both axes' steps have in common is divided out, the drawing may be 8186 by
-    4092, or 4092 by 8186, with up to 4094 vertices. Whether y grows upwards or downwards changes no answer, unless
+    4092, or 4092 by 8186, with up to 4094 vertices; by the library 1048576 by 1048576, with up to 4095. Whether y grows upwards or downwards changes no answer, unless
     `rotations` are given.
 
     The answer is "yes" where no two vertices stand at one place, none stands on an edge of which it is no end, and no
@@ -60,6 +62,8 @@ def check(places: Places, edges: Iterable[Sequence[Any]], rotations: Optional[Ro
 
 def check_all(drawings: Iterable[Sequence[Any]]) -> List[Checked]:
     """As `check`, for a list of drawings, (places, edges) or (places, edges, rotations), in as few runs as may be."""
+    if library():
+        return [_judged(*drawing) for drawing in drawings]
     prepared = [_prepared(*drawing) for drawing in drawings]
     texts = _joined([f"{figure}\n" for figure, _ in prepared])
     answers = [answer for text in texts for answer in run("verify", text).answers]
@@ -90,6 +94,31 @@ def _prepared(places: Places, edges: Iterable[Sequence[Any]],
     These make the map disconnected, so that the outer face is not asked, and they widen the grid, which is 2N - 4 by
     N - 2 for N vertices.
     """
+    points, lists, names = _placed(places, edges, rotations)
+    width = max((x for x, _ in points), default=0)
+    height = max((y for _, y in points), default=0)
+    count = max(len(points) + 1, _vertices_for(width, height))
+    if count > MOST_VERTICES:
+        raise ValueError(f"{len(points)} vertices on a grid of {width} by {height}: at most {MOST_VERTICES - 1} "
+                         f"vertices within {WIDTH} by {HEIGHT} can be judged")
+    above = [(k, count - 2) for k in range(count - len(points))]
+    return GridFigure(1, "shift", points + above, lists + [[] for _ in above]), names
+
+
+def _judged(places: Places, edges: Iterable[Sequence[Any]], rotations: Optional[Rotations] = None) -> Checked:
+    """The verdict of the library on a drawing."""
+    points, lists, names = _placed(places, edges, rotations)
+    size = max((max(point) for point in points), default=0)
+    if len(points) > MOST_VERTICES or size > FARTHEST:
+        raise ValueError(f"{len(points)} vertices on a grid of {size}: at most {MOST_VERTICES} vertices within {FARTHEST} by {FARTHEST} can be judged")
+    verdict = checked(lists, points, size, size) if points else ("yes", ())
+    assert verdict is not None
+    return Checked(verdict[0], tuple(names[v - 1] for v in verdict[1]))
+
+
+def _placed(places: Places, edges: Iterable[Sequence[Any]],
+            rotations: Optional[Rotations] = None) -> Tuple[List[Place], Lists, List[Any]]:
+    """The points of a drawing from (0, 0) on, the lists of the map that it shows or has to keep, and the names of its vertices."""
     named = _named(places)
     names = list(named)
     number = {name: v for v, name in enumerate(names, 1)}
@@ -101,14 +130,7 @@ def _prepared(places: Places, edges: Iterable[Sequence[Any]],
         lists = [[_number(number, u) for u in rotations.get(name, ())] for name in names]
         if {frozenset(pair) for pair in pairs} != {frozenset((v, u)) for v, us in enumerate(lists, 1) for u in us}:
             raise ValueError("the rotations have other edges than the drawing")
-    width = max((x for x, _ in points), default=0)
-    height = max((y for _, y in points), default=0)
-    count = max(len(points) + 1, _vertices_for(width, height))
-    if count > MOST_VERTICES:
-        raise ValueError(f"{len(points)} vertices on a grid of {width} by {height}: at most {MOST_VERTICES - 1} "
-                         f"vertices within {WIDTH} by {HEIGHT} can be judged")
-    above = [(k, count - 2) for k in range(count - len(points))]
-    return GridFigure(1, "shift", points + above, lists + [[] for _ in above]), names
+    return points, lists, names
 
 
 def _named(places: Places) -> Dict[Any, Tuple[float, float]]:

@@ -1,6 +1,8 @@
-"""The commands of `python3 -m pigale` and `python3 python/pigale.py`."""
+"""The commands of `python3 -m pigale` and `python3 python/pigale.py`, and pip's command `pigale`, which runs the program too."""
 import argparse
 import os
+import signal
+import subprocess
 import sys
 import time
 import zlib
@@ -8,13 +10,15 @@ from typing import BinaryIO, Callable, List, Optional, Sequence, cast
 
 from . import __version__
 from .checks import check, read_drawing, scaled
+from .drawing_commands import add_commands
 from .formats import Figure, read_figures, read_planar_code, write_planar_code
 from .makers import stacked
 from .pages import page, page_name, pages
 from .parallel import Progress, run_all
 from .parts import unpacked
 from .pictures import STYLES, picture
-from .runs import HINTS, READING_JOBS, PigaleError, run
+from .runs import HINTS, READING_JOBS, PigaleError, program, run
+from .slips import explained
 from .streams import (Ended, InputFault, OutputFault, end_by, forget_output, put, read_input, require_output, signals_end,
                       standard_input)
 
@@ -50,11 +54,37 @@ def main(words: Optional[Sequence[str]] = None) -> int:
         return 4 if isinstance(fault, InputFault) else 5 if isinstance(fault, OutputFault) else 3
 
 
+COMMANDS = ("all", "check", "draw", "make", "page", "picture", "recode", "stacked")
+
+
+def door() -> int:
+    """Is pip's command `pigale`: runs a command of the package, or hands all other words to the program.
+
+    The program has the words, standard input and standard output as they are, and its status is returned. What there is
+    to say of another status than 0 goes to standard error.
+    """
+    words = sys.argv[1:]
+    if not words or words[0] in (*COMMANDS, "--help", "-h", "--version"):
+        return main(words)
+    try:
+        status = subprocess.call([program(), *words])
+    except FileNotFoundError as fault:
+        print(f"pigale: {fault}", file=sys.stderr)
+        return 3
+    except KeyboardInterrupt:
+        return end_by(signal.SIGINT)
+    status = status if status >= 0 else 128 - status
+    for line in explained(words, status):
+        print(f"pigale: {line}", file=sys.stderr)
+    return status
+
+
 def _parser() -> argparse.ArgumentParser:
     parser = argparse.ArgumentParser(
         prog="pigale", description="Maps, figures and pictures of the program pigale.",
         epilog="Each command has a --help of its own. Statuses: 0, 1 after a no or a refusal, 2 for wrong words, 3 for what failed, "
-               "4 where standard input and 5 where standard output fails.")
+               "4 where standard input and 5 where standard output fails. As pip's command `pigale` it also runs the jobs of the program, as in "
+               "`pigale count < maps.plc`: count, shift, schnyder, bars, convex, rect, embed, verify and gen.")
     parser.add_argument("--version", action="version", version=f"pigale {__version__}")
     parser.set_defaults(command=None)
     commands = parser.add_subparsers(metavar="COMMAND")
@@ -72,7 +102,8 @@ def _parser() -> argparse.ArgumentParser:
     checked = add("check", _check_file, "prints the verdict on the drawing in a file of JSON or GraphML")
     checked.add_argument("--scale", action="store_true", help="round the places to whole numbers first")
     checked.add_argument("file", metavar="FILE", help="JSON with nodes (id, x, y) and edges (source, target), or GraphML (.graphml)")
-    made = add("stacked", _stacked, "writes planar_code of the map that `pigale gen --size S --number N` makes")
+    add_commands(add)
+    made = add("stacked", _stacked, "is `make stacked`, by its first name: the map that `pigale gen --size S --number N` makes")
     made.add_argument("size", metavar="S", type=int)
     made.add_argument("number", metavar="N", type=int)
     shown = add("picture", _picture, "reads a text of figures and writes a picture of one of them as SVG")

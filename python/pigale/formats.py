@@ -293,7 +293,7 @@ class _Shown:
 
 @dataclass
 class GridFigure(_Shown):
-    """A straight-line drawing by `job` ("shift", "schnyder" or "convex").
+    """A straight-line drawing by `job` ("shift", "schnyder" or "convex"; "round" or "tutte" where `draw_named` made it).
 
     `places` has (x, y) for each vertex, `lists` its neighbours clockwise.
     """

@@ -9,7 +9,7 @@ from typing import Optional, Sequence, Tuple
 LIBRARY_NAMES = {"Darwin": "libpigale.dylib", "Windows": "pigale.dll"}  # of a system whose library is called otherwise
 
 @functools.lru_cache(maxsize=None)
-def _loaded(path: str) -> ctypes.CDLL:
+def loaded(path: str) -> ctypes.CDLL:
     """The library at a path, with the types of the call that is used here."""
     library = ctypes.CDLL(path)
     size = ctypes.c_size_t
@@ -53,7 +53,7 @@ def answered(path: str, words: Sequence[str], data: bytes, capacity: Optional[in
 
     `capacity` is the room for the text at first; where the text is longer the run is made once more.
     """
-    call, command, length = _loaded(path).pigale_run, " ".join(words).encode(), ctypes.c_size_t()
+    call, command, length = loaded(path).pigale_run, " ".join(words).encode(), ctypes.c_size_t()
     room = capacity or 65536 + 32 * len(data)
     while True:
         text = ctypes.create_string_buffer(room)

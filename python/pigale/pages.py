@@ -5,7 +5,7 @@ from typing import Iterator, List, Optional, Sequence
 
 from .formats import FIGURES, Answer, End, Figure, Refused, Stop, Verdict, WitnessFigure, join_words
 from .maps import edges_of
-from .pictures import STYLE, Style, require_look, sketch, styles_of, variable
+from .pictures import STYLE, Labels, Style, require_look, sketch, styles_of, variable
 from .runs import Run
 
 CARDS = 300  # on a page of `pages`
@@ -48,7 +48,7 @@ summary{{cursor:pointer}}
 """
 
 
-def page(result: Run, figures: Sequence[Figure] = (), side: Optional[float] = None, labels: bool = True,
+def page(result: Run, figures: Sequence[Figure] = (), side: Optional[float] = None, labels: Labels = True,
          style: Style = ()) -> str:
     """A run as one HTML page, as text, that needs nothing from elsewhere.
 
@@ -61,7 +61,7 @@ def page(result: Run, figures: Sequence[Figure] = (), side: Optional[float] = No
     return _page(result, result.answers, 0, figures, side, labels, style, "")
 
 
-def pages(result: Run, figures: Sequence[Figure] = (), side: Optional[float] = None, labels: bool = True,
+def pages(result: Run, figures: Sequence[Figure] = (), side: Optional[float] = None, labels: Labels = True,
           style: Style = (), cards: int = CARDS) -> Iterator[str]:
     """A run as HTML pages of up to `cards` pictures or lines each, as `page` makes one.
 
@@ -105,7 +105,7 @@ def _nav(k: int, cuts: Sequence[int]) -> str:
 
 
 def _page(result: Run, answers: Sequence[Answer], start: int, figures: Sequence[Figure], side: Optional[float],
-          labels: bool, style: Style, nav: str) -> str:
+          labels: Labels, style: Style, nav: str) -> str:
     """A page of the answers from the one at `start` on."""
     style = styles_of(style)
     require_look(side, labels)
@@ -150,7 +150,7 @@ def _caption(figure: Figure) -> str:
     return f"{figure.number}: {figure.job}, {vertices} {'vertex' if vertices == 1 else 'vertices'}, {edges} edge{'s' * (edges != 1)}"
 
 
-def _card(caption: str, figure: Optional[Figure], side: Optional[float], labels: bool, style: Style, kind: str = "") -> str:
+def _card(caption: str, figure: Optional[Figure], side: Optional[float], labels: Labels, style: Style, kind: str = "") -> str:
     words = html.escape(caption)
     body = ""
     if figure is not None:

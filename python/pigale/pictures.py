@@ -3,13 +3,16 @@
 style.json has their colours and sizes. A picture by itself has plain colours, which every viewer knows; a page of
 pictures (`pages`) has variables, so that it is light or dark as its reader wants.
 """
+import html
 import json
 import math
 import os
+import unicodedata
+from collections.abc import Sequence as SequenceType
 from dataclasses import dataclass
-from typing import Any, Callable, Dict, FrozenSet, Iterable, List, Optional, Sequence, Set, Tuple, Union
+from typing import Any, Callable, Dict, FrozenSet, Iterable, List, Mapping, Optional, Sequence, Set, Tuple, Union
 
-from .formats import (FIGURES, BarFigure, Edge, Figure, GridFigure, Lists, RectFigure, WitnessFigure, join_words,
+from .formats import (FIGURES, GRID_JOBS, BarFigure, Edge, Figure, GridFigure, Lists, RectFigure, WitnessFigure, join_words,
                       read_graph6)
 from .maps import edges_of, faces_of, witness_graph
 
@@ -17,21 +20,35 @@ Dot = Tuple[float, float]
 Box = Tuple[float, float, float, float]
 Sketch = Tuple[int, int, str]  # the width and the height of a picture, and what is in it
 Style = Union[str, Iterable[str]]
+Labels = Union[bool, Sequence[Any], Mapping[int, Any]]
 
 with open(os.path.join(os.path.dirname(os.path.abspath(__file__)), "style.json"), encoding="ascii") as _file:
     STYLE: Dict[str, Any] = json.load(_file)
 STYLES = ("equilateral", "faces")
 UNIT = 400  # the sizes of style.json are for a picture whose longer side is this
 DIGIT = 0.6  # the width of a digit, in its height
+MOST_WITHIN = 1.3  # the width of a label within a dot, in its height
 
 
 @dataclass(frozen=True)
 class Look:
-    """How a picture is to look: its longer side, whether it has numbers, its styles, and how it names its colours."""
+    """How a picture is to look: its longer side, whether it has labels and which, its styles, and how it names its colours.
+
+    Without `names` the labels are the numbers of the vertices.
+    """
     side: float
     labels: bool
     styles: FrozenSet[str]
     paint: Callable[..., str]
+    names: Tuple[str, ...] = ()
+
+    def label(self, v: int) -> str:
+        """What vertex v is called."""
+        return self.names[v - 1] if self.names else str(v)
+
+    def is_short(self, v: int) -> bool:
+        """Whether the label of vertex v has room within a dot."""
+        return not self.names or text_width(self.names[v - 1]) <= MOST_WITHIN
 
     @property
     def scale(self) -> float:
@@ -49,13 +66,29 @@ class Look:
         return float(min(size["most"], size["root"] / math.sqrt(max(count, 1)))) * self.scale
 
 
-def picture(figure: Figure, side: Optional[float] = None, labels: bool = True, style: Style = ()) -> str:
+def text_width(text: str) -> float:
+    """About how wide a text is, in its height; digits are as wide as they are in Helvetica, and other letters a little more."""
+    width = 0.0
+    for letter in text:
+        if letter.isdigit() and letter.isascii():
+            width += DIGIT
+        elif unicodedata.combining(letter):
+            continue
+        elif unicodedata.east_asian_width(letter) in "WF":
+            width += 1.05
+        else:
+            width += 0.32 if letter in "ijltfrI.,;:'|!()[] " else 0.92 if letter in "mwMW@%" else 0.74 if letter.isupper() else 0.6
+    return width
+
+
+def picture(figure: Figure, side: Optional[float] = None, labels: Labels = True, style: Style = ()) -> str:
     """A figure as one SVG document on a white ground, as text.
 
     `side` is the length of the longer side in pixels, by default 400 to 1000 by the number of vertices; of bars it is
-    the width. Dots, lines and numbers grow with it. `labels` says whether vertices carry their numbers: within the
-    dots where all have room there, and else beside them. Where there is no room for a number, it is left out; each
-    vertex has a title with its number and its neighbours.
+    the width. Dots, lines and numbers grow with it. `labels` says whether vertices carry their numbers, or has a label
+    for each vertex: a list of texts in the order of the vertices, or a dictionary by their numbers. They stand within the
+    dots where all have room there, and else beside them. Where there is no room for one, it is left out; each vertex has a
+    title with its label and those of its neighbours.
 
     `style` has words, as a list or joined by commas. "equilateral" maps the triangle of a drawing by `shift`,
     `schnyder` or `convex` to one with three like sides. The map is affine, so edges stay straight, and no crossing and
@@ -90,22 +123,33 @@ def styles_of(style: Style) -> FrozenSet[str]:
     return frozenset(words)
 
 
-def require_look(side: Optional[float], labels: bool) -> None:
-    """Raises ValueError where the side of a picture is out of its range, or `labels` is no flag."""
-    if not isinstance(labels, bool):
-        raise ValueError(f"labels is True or False, and not {str(labels)[:60]}")
+def label_names(labels: Labels, count: int) -> Tuple[str, ...]:
+    """The labels of a picture's vertices, where they are others than their numbers."""
+    if isinstance(labels, bool):
+        return ()
+    if isinstance(labels, Mapping):
+        return tuple(str(labels.get(v, "")) for v in range(1, count + 1))
+    if len(labels) != count:
+        raise ValueError(f"there are {len(labels)} labels for {count} vertices")
+    return tuple(map(str, labels))
+
+
+def require_look(side: Optional[float], labels: Labels) -> None:
+    """Raises ValueError where the side of a picture is out of its range, or `labels` is neither a flag nor a label for each vertex."""
+    if not isinstance(labels, (bool, Mapping)) and (isinstance(labels, (str, bytes)) or not isinstance(labels, SequenceType)):
+        raise ValueError(f"labels is True, False, a list or a dictionary of labels, and not {str(labels)[:60]}")
     if side is not None and not 1 <= side <= 100000:
         raise ValueError(f"the longer side of a picture is from 1 to 100000 pixels, not {side}")
 
 
-def sketch(figure: Figure, side: Optional[float], labels: bool, style: Style, paint: Callable[..., str]) -> Sketch:
+def sketch(figure: Figure, side: Optional[float], labels: Labels, style: Style, paint: Callable[..., str]) -> Sketch:
     """The width and the height of a picture in pixels, and what is in it. Raises ValueError as `picture` does."""
     if not isinstance(figure, FIGURES):
         raise ValueError(f"there is a picture of a figure, and not of {type(figure).__name__}: {str(figure)[:80]}")
     require_look(side, labels)
     try:
         count = read_graph6(figure.graph6)[0] if isinstance(figure, WitnessFigure) else len(figure.lists)
-        look = Look(side or default_side(count), labels, styles_of(style), paint)
+        look = Look(side or default_side(count), labels is not False, styles_of(style), paint, label_names(labels, count))
         if isinstance(figure, BarFigure):
             return _bar_sketch(figure, look)
         if isinstance(figure, RectFigure):
@@ -126,14 +170,16 @@ def default_side(count: int) -> float:
 # Straight-line drawings
 
 def _grid_sketch(figure: GridFigure, look: Look) -> Sketch:
-    places: Sequence[Dot] = figure.places
-    if "equilateral" in look.styles:
-        places = _equilateral(figure)
-    dots, box = _placed(places, look)
+    dots, box = _placed(straight_places(figure, look), look)
     edges = edges_of(figure.lists)
     body = _faces(figure, dots, look) if "faces" in look.styles else []
     body += _lines([(dots[v - 1], dots[u - 1]) for v, u in edges], look.size("line", len(dots)), "line", look)
-    return (*box, _joined(body + _dots(dots, figure.lists, edges, look)))
+    return _framed(box, body, *_dots(dots, figure.lists, edges, look), look)
+
+
+def straight_places(figure: GridFigure, look: Look) -> Sequence[Dot]:
+    """The places of a straight-line drawing, with three like sides where that is asked for."""
+    return _equilateral(figure) if "equilateral" in look.styles and figure.job in GRID_JOBS else list(figure.places)
 
 
 def _equilateral(figure: GridFigure) -> List[Dot]:
@@ -182,7 +228,7 @@ def _faces(figure: GridFigure, dots: List[Dot], look: Look) -> List[str]:
     for _, face in sorted(found, key=lambda pair: -pair[0]):
         points = " ".join(f"{_n(x)},{_n(y)}" for x, y in (dots[v - 1] for v in face))
         colour = f"face-{len(face)}" if len(face) <= 10 else "face-more"
-        title = f"<title>face of {len(face)}: {join_words(*face)}</title>"
+        title = f"<title>face of {len(face)}: {html.escape(join_words(*map(look.label, face)), False)}</title>"
         body.append(f'<polygon points="{points}" {look.paint(fill=colour)}>{title}</polygon>')
     return body
 
@@ -215,7 +261,7 @@ def _texts(numbers: List[Tuple[int, Dot, float]], colour: str, look: Look, halo:
     if not numbers:
         return []
     font = f'font-family="{STYLE["font"]}" text-anchor="middle"'
-    lines = [f'<text x="{_n(x)}" y="{_n(y)}" dy="0.35em" font-size="{_n(size)}">{v}</text>' for v, (x, y), size in numbers]
+    lines = [f'<text x="{_n(x)}" y="{_n(y)}" dy="0.35em" font-size="{_n(size)}">{html.escape(look.label(v), False)}</text>' for v, (x, y), size in numbers]
     beneath: List[str] = []
     if halo:
         width = 0.28 * max(size for _, _, size in numbers)
@@ -224,15 +270,29 @@ def _texts(numbers: List[Tuple[int, Dot, float]], colour: str, look: Look, halo:
     return [*beneath, f"<g {look.paint(fill=colour)} {font}>", *lines, "</g>"]
 
 
-def _title(v: int, us: List[int]) -> str:
-    return f"<title>{join_words(f'{v}:', *us)}</title>"
+def _title(v: int, us: List[int], look: Look) -> str:
+    if not look.names:
+        return f"<title>{join_words(f'{v}:', *us)}</title>"
+    return f"<title>{html.escape(f'{look.label(v)}: ' + ', '.join(map(look.label, us)), False)}</title>"
 
 
-def _dots(dots: List[Dot], lists: Lists, edges: List[Edge], look: Look, colours: Optional[List[str]] = None) -> List[str]:
-    """Dots with titles, and their numbers: within all dots where each has room, and else beside those that have room."""
+def _framed(box: Tuple[int, int], lines: List[str], dots: List[str], reach: Tuple[float, float], look: Look) -> Sketch:
+    """A picture of lines and dots, wider where labels reach from one place across to another beyond it."""
+    room = 0.25 * look.margin
+    left, right = max(0, math.ceil(room - reach[0])), max(0, math.ceil(reach[1] + room - box[0]))
+    body = _joined(lines + dots)
+    return box[0] + left + right, box[1], f'<g transform="translate({left})">\n{body}</g>\n' if left else body
+
+
+def _dots(dots: List[Dot], lists: Lists, edges: List[Edge], look: Look,
+          colours: Optional[List[str]] = None) -> Tuple[List[str], Tuple[float, float]]:
+    """Dots with titles, and their labels: within all dots where each has room, and else beside those that have room.
+
+    Returns them with where the leftmost label begins and the rightmost one ends, if there are labels other than numbers.
+    """
     count = len(dots)
     size, within = look.size("number", count), None
-    if look.labels and count < 100:
+    if look.labels and count < 100 and all(map(look.is_short, range(1, count + 1))):
         within = _size_within(dots, edges, size, look)
     radius = within * _ROUND if within else _radius(dots, edges, look)
     paints = [look.paint(fill=colour, stroke="ground") for colour in colours or ["dot"] * count]
@@ -242,13 +302,18 @@ def _dots(dots: List[Dot], lists: Lists, edges: List[Edge], look: Look, colours:
         if paints[v] != last:
             body += ["</g>"] * bool(last) + [f"<g {paints[v]} {rim}>"]
             last = paints[v]
-        body.append(f'<circle cx="{_n(x)}" cy="{_n(y)}" r="{_n(radius)}">{_title(v + 1, lists[v])}</circle>')
+        body.append(f'<circle cx="{_n(x)}" cy="{_n(y)}" r="{_n(radius)}">{_title(v + 1, lists[v], look)}</circle>')
     body += ["</g>"] * bool(last)
+    reach = (look.margin, look.margin)
     if within:
-        return body + _texts([(v, dot, within) for v, dot in enumerate(dots, 1)], "on-dot", look)
+        return body + _texts([(v, dot, within) for v, dot in enumerate(dots, 1)], "on-dot", look), reach
     if look.labels:
-        return body + _texts([(v, at, size) for v, at in _label_places(dots, edges, radius, size)], "number", look, halo=True)
-    return body
+        found = _label_places(dots, edges, radius, size, look)
+        if look.names and found:
+            halves = [text_width(look.label(v)) / 2 * size for v, _ in found]
+            reach = min(x - half for (_, (x, _)), half in zip(found, halves)), max(x + half for (_, (x, _)), half in zip(found, halves))
+        return body + _texts([(v, at, size) for v, at in found], "number", look, halo=True), reach
+    return body, reach
 
 
 _ROUND = 0.8  # the radius of a dot with a number within, in the height of the number
@@ -340,8 +405,8 @@ def _crosses(box: Box, one: Dot, other: Dot) -> bool:
     return least <= most
 
 
-def _label_places(dots: List[Dot], edges: List[Edge], radius: float, size: float) -> List[Tuple[int, Dot]]:
-    """The numbers of vertices that have room beside their dots, each with its middle.
+def _label_places(dots: List[Dot], edges: List[Edge], radius: float, size: float, look: Look) -> List[Tuple[int, Dot]]:
+    """The labels of vertices that have room beside their dots, each with its middle.
 
     Of sixteen directions round a dot those that cover fewest lines come first, and of these the ones farthest from the
     dot's own lines; a number is left out where it would cover a dot or a number each time. Of more than 100 vertices
@@ -360,7 +425,7 @@ def _label_places(dots: List[Dot], edges: List[Edge], radius: float, size: float
         cells.put((x - apart, y - apart, x + apart, y + apart), v)
     found = []
     for v, (x, y) in enumerate(dots, 1):
-        half = DIGIT / 2 * size * len(str(v)) + 0.06 * size
+        half = text_width(look.label(v)) / 2 * size + 0.06 * size
         choices = []
         for k in range(16):
             turn = k * math.pi / 8
@@ -400,8 +465,8 @@ def _bar_sketch(figure: BarFigure, look: Look) -> Sketch:
         (x1, middle), (x2, _) = spot(a, y), spot(b, y)
         x1, x2 = x1 - 0.36 * across, x2 + 0.36 * across
         body.append(f'<rect x="{_n(x1)}" y="{_n(middle - thick / 2)}" width="{_n(x2 - x1)}" height="{_n(thick)}" '
-                    f'rx="{_n(min(thick, x2 - x1) / 5)}">{_title(v, figure.lists[v - 1])}</rect>')
-        numbers.append((v, ((x1 + x2) / 2, middle), min(13 * scale, 0.92 * thick, (x2 - x1) / (DIGIT * len(str(v)) + 0.15))))
+                    f'rx="{_n(min(thick, x2 - x1) / 5)}">{_title(v, figure.lists[v - 1], look)}</rect>')
+        numbers.append((v, ((x1 + x2) / 2, middle), min(13 * scale, 0.92 * thick, (x2 - x1) / (text_width(look.label(v)) + 0.15))))
     body.append("</g>")
     body += _texts(_legible(numbers, look), "on-dot", look)
     return _whole(across * columns + 2 * margin), _whole(upwards * (count - 1) + 2 * margin), _joined(body)
@@ -420,8 +485,8 @@ def _rect_sketch(figure: RectFigure, look: Look) -> Sketch:
     for v, tint in enumerate(tints_of(figure.lists), 1):
         (x1, y2), (x2, y1) = dots[2 * v - 2], dots[2 * v - 1]
         body.append(f'<rect x="{_n(x1)}" y="{_n(y1)}" width="{_n(x2 - x1)}" height="{_n(y2 - y1)}" '
-                    f'{look.paint(fill=f"tint-{tint}")}>{_title(v, figure.lists[v - 1])}</rect>')
-        size = min(most, 0.8 * (y2 - y1), (x2 - x1) / (DIGIT * len(str(v)) + 0.3))
+                    f'{look.paint(fill=f"tint-{tint}")}>{_title(v, figure.lists[v - 1], look)}</rect>')
+        size = min(most, 0.8 * (y2 - y1), (x2 - x1) / (text_width(look.label(v)) + 0.3))
         numbers.append((v, ((x1 + x2) / 2, (y1 + y2) / 2), size))
     body.append("</g>")
     return (*box, _joined(body + _texts(_legible(numbers, look), "number", look)))
@@ -448,7 +513,7 @@ def tints_of(lists: Lists) -> List[int]:
 def _witness_sketch(figure: WitnessFigure, look: Look) -> Sketch:
     """Branch vertices in two rows or on a circle, paths straight between them, and the other edges thin."""
     count, edges = read_graph6(figure.graph6)
-    places = _witness_places(figure, count)
+    places = witness_places(figure, count)
     dots, box = _placed([places[v] for v in range(1, count + 1)], look)
     own = witness_graph(figure)[1]
     rest = sorted(set(edges) - set(own))
@@ -461,10 +526,10 @@ def _witness_sketch(figure: WitnessFigure, look: Look) -> Sketch:
         lists[v - 1].append(u)
     half = figure.branches[:3] if figure.kind == "K33" else figure.branches
     colours = ["even" if v in half else "odd" if v in figure.branches else "dot" for v in range(1, count + 1)]
-    return (*box, _joined(body + _dots(dots, lists, own, look, colours)))
+    return _framed(box, body, *_dots(dots, lists, own, look, colours), look)
 
 
-def _witness_places(figure: WitnessFigure, count: int) -> Dict[int, Dot]:
+def witness_places(figure: WitnessFigure, count: int) -> Dict[int, Dot]:
     """A place for each vertex of a witness's graph; those that it does not pass stand in a row below.
 
     Between two rows inner vertices stand at heights of their own, since paths meet half-way.
