@@ -1,4 +1,14 @@
-# Completion of pigale's words in bash. A file's name is completed where one may stand: behind < or >.
+# Completion of pigale's words in bash. A file's name is completed where one may stand: behind < or >, and of draw and check.
+_pigale_words() {
+    case $1 in
+        --to) echo svg pdf png tex json graphml csv txt ;;
+        --from) echo planar_code graph6 sparse6 ascii edges adjacency matrix graphml gexf gml dot pajek json ;;
+        --method) echo round tutte schnyder shift convex bars rect ;;
+        --labels) echo names numbers none ;;
+        --style) echo equilateral faces round tutte ;;
+    esac
+}
+
 _pigale() {
     local word=${COMP_WORDS[COMP_CWORD]} before=${COMP_WORDS[COMP_CWORD - 1]} job= given=" " options= it
     COMPREPLY=()
@@ -9,16 +19,25 @@ _pigale() {
     [ "$word" = = ] && word=
     case $before in
         --form) COMPREPLY=($(compgen -W "text svg" -- "$word")); return ;;
-        --size | --number) return ;;
+        --size | --number | --side | --figure | --scale | --outer | -j) return ;;
+        --to | --from | --method | --labels | --style) COMPREPLY=($(compgen -W "$(_pigale_words "$before")" -- "$word")); return ;;
+        -o | --output) compopt -o default; return ;;
     esac
     for it in "${COMP_WORDS[@]:1:COMP_CWORD-1}"; do
         case $it in
-            count | shift | schnyder | bars | convex | rect | embed | gen | verify) job=$it ;;
+            count | shift | schnyder | bars | convex | rect | embed | gen | verify) job=${job:-$it} ;;
+            draw | check | picture | page | all | recode | make) job=${job:-$it} ;;
             --*) given+="$it " ;;
         esac
     done
     case $job in
-        "") options="count shift schnyder bars convex rect embed gen verify" ;;
+        "") options="count shift schnyder bars convex rect embed gen verify draw check picture page all recode make" ;;
+        draw) options="-o --to --from --method --outer --style --labels --side"; [[ $word == -* ]] || compopt -o default ;;
+        check) options="--scale"; [[ $word == -* ]] || compopt -o default ;;
+        picture) options="--figure --side --no-numbers --style" ;;
+        page) options="count shift schnyder bars convex rect embed verify --to --side --no-numbers --style" ;;
+        all) options="count shift schnyder bars convex rect embed verify --form -j" ;;
+        make) options="complete cycle grid path prism quadrangle stacked tree triangulation wheel" ;;
         shift | schnyder | bars | convex | rect | embed) options="--form" ;;
         gen) options="--size --number" ;;
     esac

@@ -130,7 +130,7 @@ def files():
         (figure,) = pigale.run(job, inputs[source]).answers
         yield f"gallery/{name}.svg", pigale.picture(figure, style=style).encode("ascii")
         option = style and f" --style {style}"
-        command = f"./pigale {job} < docs/gallery/{source} | python3 python/pigale.py picture{option} > {name}.svg"
+        command = f"./pigale {job} < docs/gallery/{source} | ./pigale picture{option} > {name}.svg"
         sections.append(f"\n## {heading}\n\n    {command}\n\n![{text}](gallery/{name}.svg)\n")
     yield "gallery.md", (HEAD + "".join(sections)).encode("utf-8")
 

@@ -16,13 +16,17 @@ Sage are imported where a function is called that speaks of them.
 Where PIGALE_LIBRARY names the library libpigale, or PIGALE names no program and tools/library has made the library in this
 repository, `run` and what stands on it ask that, within this process, in place of the program; the answers are the same.
 
-Its modules: `formats` (planar_code, graph6 and the program's text), `runs` (of the program), `library` (the same within this process), `parts` and `parallel`
-(inputs of any size), `maps`, `makers`, `checks`, `graphs` (networkx and Sage), `pictures`, `pages` and `cli` (the
+`read_graphs` reads graphs of many formats with their names, `draw_named` draws them, and `written` writes the drawings.
+
+Its modules: `formats` (planar_code, graph6 and the program's text), `runs` (of the program), `library` and `typed` (the same within
+this process), `parts` and `parallel` (inputs of any size), `maps`, `makers`, `checks`, `graphs` (networkx and Sage), `kinds` and
+`readers` (other formats), `drawn` and `rounds` (drawings of named graphs), `pictures`, `tikz`, `writers` and `pages`, and `cli` (the
 commands). All that they offer is here by one name.
 """
 __version__ = "1.0.0"
 
 from .checks import HEIGHT, WIDTH, Checked, check, check_all, read_drawing, scaled
+from .drawn import METHODS, Drawn, draw_named
 from .formats import (FIGURES, GRID_JOBS, HEADER, MOST_BYTES, MOST_VERTICES, PLANAR_JOBS, BarFigure, Count, End,
                       GridFigure, RectFigure, Refused, Stop, Verdict, WitnessFigure, read_blocks, read_figures,
                       read_graph6, read_planar_code, write_graph6, write_planar_code)
@@ -32,15 +36,20 @@ from .maps import dual, edges_of, faces_of, outside, rotations_of, without_edge,
 from .pages import page, pages
 from .parallel import Progress, run_all, stream
 from .pictures import STYLES, picture
+from .readers import Named, ReadFault, graphs_of, read_graphs
 from .runs import PigaleError, Run, draw, embed, program, run
 from .session import Session
+from .tikz import tikz, tikz_document
+from .writers import Look, written
 
 __all__ = [
-    "BarFigure", "Checked", "Count", "End", "FIGURES", "GRID_JOBS", "GridFigure", "HEADER", "HEIGHT", "MOST_BYTES",
-    "MOST_VERTICES", "PLANAR_JOBS", "PigaleError", "Progress", "RectFigure", "Refused", "Run", "STYLES", "Session", "Stop", "Verdict",
-    "WIDTH", "WitnessFigure", "check", "check_all", "complete", "cycle", "draw", "dual", "edges_of", "embed",
-    "faces_of", "from_networkx", "graph_of_networkx", "grid", "outside", "page", "pages", "path", "picture", "prism",
-    "program", "quadrangle", "read_blocks", "read_drawing", "read_figures", "read_graph6", "read_planar_code",
-    "renumbered", "rotations_of", "run", "run_all", "scaled", "stacked", "stream", "to_networkx", "to_sage", "tree",
-    "triangulation", "wheel", "without_edge", "witness_graph", "write_graph6", "write_planar_code",
+    "BarFigure", "Checked", "Count", "Drawn", "End", "FIGURES", "GRID_JOBS", "GridFigure", "HEADER", "HEIGHT", "Look",
+    "METHODS", "MOST_BYTES", "MOST_VERTICES", "Named", "PLANAR_JOBS", "PigaleError", "Progress", "ReadFault",
+    "RectFigure", "Refused", "Run", "STYLES", "Session", "Stop", "Verdict", "WIDTH", "WitnessFigure", "check",
+    "check_all", "complete", "cycle", "draw", "draw_named", "dual", "edges_of", "embed", "faces_of", "from_networkx",
+    "graph_of_networkx", "graphs_of", "grid", "outside", "page", "pages", "path", "picture", "prism", "program",
+    "quadrangle", "read_blocks", "read_drawing", "read_figures", "read_graph6", "read_graphs", "read_planar_code",
+    "renumbered", "rotations_of", "run", "run_all", "scaled", "stacked", "stream", "tikz", "tikz_document",
+    "to_networkx", "to_sage", "tree", "triangulation", "wheel", "without_edge", "witness_graph", "write_graph6",
+    "write_planar_code", "written",
 ]

@@ -105,7 +105,7 @@ def draw_named(graphs: Sequence[Named], method: str = "round", outer: Outer = No
     that is tried, the proved drawing with convex faces or Schnyder's is shown; "tutte" is the plain barycentric drawing.
     The others are the program's jobs. Of a bare graph the program finds a map, or a witness that it has none.
 
-    `outer` chooses the outer face: "largest", or names of vertices that lie on it; without it, it is that of the map, and
+    `outer` chooses the outer face: "largest", or names of vertices that lie on it, of several faces the smallest; without it, it is that of the map, and
     for "round" and "tutte" the largest. Raises ValueError where no face has these vertices, where a graph of more than 255
     vertices is no map and networkx is not there, and where the method is none.
     """
@@ -185,7 +185,7 @@ def turned_outside(lists: Lists, outer: Outer, graph: Named) -> Turned:
         have = [face for face in faces if {numbers[name] for name in wanted} <= set(face)]
         if not have:
             raise ValueError(f"{graph.source}: no face of the map has {', '.join(wanted)}")
-        face = max(have, key=len)
+        face = min(have, key=len)
     v, u = face[0], face[1]
     return outside(lists, v, u), {**same, 1: v, v: 1}
 
