@@ -9,6 +9,7 @@ from page import PAGE, ROOT, bytes_of, encoded, text_of
 from page_tests import asked_of, differ, given_runs
 from runs import answer
 import chromium
+import firefox
 import page_sheet_tests
 import pigale
 
@@ -21,6 +22,22 @@ def opened():
         return chromium.Page(f"file://{PAGE}") if chromium.found() else None
     except (OSError, EOFError, StopIteration):
         return None
+
+
+def in_firefox(program):
+    """Compares what the page answers in Firefox with the program, and drives the sheet there; returns how many fail, or None
+    where Firefox does not start."""
+    try:
+        browser = firefox.Page(f"file://{PAGE}") if firefox.found() else None
+    except (OSError, EOFError):
+        browser = None
+    if not browser:
+        return None
+    with browser as page:
+        page.wait("document.body && document.body.dataset.ready", 30)
+        runs, wanted = given_runs(program)
+        found = page.run(f"(async () => {{ const all = []; for (const run of {asked_of(runs)}) all.push(await answered(...run)); return all; }})()")
+        return differ("the page in Firefox", runs, wanted, found) + page_sheet_tests.test_sheet(page, page_sheet_tests.PLAIN, "Firefox")
 
 
 def test_page(page, program):

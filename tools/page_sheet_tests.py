@@ -25,17 +25,17 @@ def has_calls(page):
 
 def show(page, link):
     """Opens the sheet of a link, and waits until all its pictures are made."""
-    page.run(f"page.study = null; location.hash = ''; location.hash = {json.dumps(link)}")
+    page.run(f"[page.study = null, location.hash = '', location.hash = {json.dumps(link)}].length")
     page.wait("page.study")
-    page.run("drawViews()")
+    page.run("Boolean(drawViews())")
     page.wait(DRAWN)
 
 
 def type_text(page, text):
     """Types a text into the box, and waits until it is answered."""
-    page.run(f"page.study = null; $('typed').textContent = ''; $('input').open = true; $('paste').value = {json.dumps(text)}; $('paste').oninput()")
+    page.run(f"[page.study = null, $('typed').textContent = '', $('input').open = true, $('paste').value = {json.dumps(text)}, $('paste').oninput()].length")
     page.wait("page.study || $('typed').textContent")
-    page.run("page.study && drawViews()")
+    page.run("Boolean(page.study && drawViews())")
 
 
 def place_of(page, view, script):
@@ -84,7 +84,7 @@ def test_faces(page):
     is_true(page, "the link says so", "location.hash.includes('out=')")
     page.run("$('given').click()")
     is_true(page, "the given face is back", "!location.hash.includes('out=')")
-    page.run("$('outer').value = 3; $('outer').onchange({ target: $('outer') })")
+    page.run("[$('outer').value = 3, $('outer').onchange({ target: $('outer') })].length")
     is_true(page, "a face is chosen from the list", "location.hash.includes('out=')")
 
 
@@ -117,9 +117,9 @@ def test_steps(page):
     """The slider goes from the base to the whole drawing, and a step says what comes and what moves."""
     show(page, ICOSAHEDRON + "&show=shift")
     for value, words in ((0, "the base"), (5, "comes over")):
-        page.run(f"$('step').value = {value}; $('step').oninput()")
+        page.run(f"[$('step').value = {value}, $('step').oninput()].length")
         is_true(page, words, f"cardOf('shift').querySelector('.said').textContent.includes('{words}')")
-    page.run("$('step').value = $('step').max; $('step').oninput()")
+    page.run("[$('step').value = $('step').max, $('step').oninput()].length")
     is_true(page, "the whole grid", "cardOf('shift').querySelector('.said').textContent === '20 by 10'")
     page.run("[...cardOf('shift').querySelectorAll('.controls button')].find((it) => it.textContent === 'Play').click()")
     page.wait("page.study.step >= 2", 10)
@@ -148,15 +148,15 @@ def test_keys(page):
     is_true(page, "the second vertex", "page.study.focus.v === 2 && $('told').textContent.startsWith('Vertex')")
     page.press("Escape")
     is_true(page, "none", "!page.study.focus")
-    page.run("page.study.face = 4; walkBy(page.study, { key: 'Enter' })")
+    page.run("[page.study.face = 4, walkBy(page.study, { key: 'Enter' })].length")
     is_true(page, "a face outside", "location.hash.includes('out=')")
 
 
 def test_graph_files(page):
     """Each format of graphs is read from a file, with its names."""
     for name, text in FILES.items():
-        page.run("page.study = null")
-        page.run(f"takeFiles([new File([fromBase64('{encoded(text.encode())}')], '{name}')])")
+        page.run("[page.study = null].length")
+        page.run(f"Boolean(takeFiles([new File([fromBase64('{encoded(text.encode())}')], '{name}')]))")
         page.wait("page.study || $('fault').textContent")
         is_true(page, f"{name} is a square", "page.study && $('facts').textContent.startsWith('4 vertices, 4 edges, 2 faces')")
 
@@ -187,21 +187,23 @@ def test_saving(page):
         raise AssertionError(f"the picture has {size}")
 
 
+# what needs neither a mouse nor keys
+PLAIN = (test_link, test_steps, test_typing, test_graph_files, test_saving)
 TESTS = (test_link, test_faces, test_pointer, test_drag, test_steps, test_typing, test_keys, test_graph_files, test_records, test_saving)
 
 
-def test_sheet(page):
-    """Runs the tests of the sheet, and returns how many fail."""
+def test_sheet(page, tests=TESTS, browser="Chromium"):
+    """Runs tests of the sheet, and returns how many fail."""
     if not has_calls(page):
         print("web: the sheet of one graph: skipped, since the module has no typed calls")
         return 0
     failed = 0
-    for test in TESTS:
+    for test in tests:
         try:
             test(page)
         except (AssertionError, RuntimeError) as fault:
             failed += 1
             print(f"web: {test.__name__}: {fault}")
-    print(f"web: the sheet of one graph: {len(TESTS)} tests in Chromium, {failed} fail")
+    print(f"web: the sheet of one graph: {len(tests)} tests in {browser}, {failed} fail")
     return failed
 

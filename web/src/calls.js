@@ -4,12 +4,13 @@
 const STATUS = {
   0: "OK", 1: "OutOfRange", 2: "Loop", 3: "Repeated", 4: "OneSided", 5: "Small", 6: "Genus", 7: "NotConnected",
   8: "CutVertex", 9: "SeparatingPair", 10: "OuterNotQuad", 11: "NotTriangle", 12: "SeparatingTriangle", 13: "NoInner",
-  16: "NoMemory", 17: "BadArgument", 32: "OutOfGrid", 33: "SamePlace", 34: "OnEdge", 35: "Cross", 36: "Turned",
+  16: "NoMemory", 17: "BadArgument", 20: "NoVertex", 21: "SelfLoop", 22: "Twice", 32: "OutOfGrid", 33: "SamePlace",
+  34: "OnEdge", 35: "Cross", 36: "Turned", 37: "Inside",
   40: "Bent", 41: "OuterBent", 48: "BadShape", 49: "BadHeight", 50: "BadBar", 51: "BadColumn", 52: "Through",
   54: "Turned", 64: "BadRect", 65: "Meet", 66: "Gap", 67: "Contact", 68: "NoFrame", 69: "Frame", 80: "K5", 81: "K33",
 };
 // How many of the numbers beside a status are vertices; of `Small` and `Genus` the first is a count.
-const VERTICES = { 1: 1, 2: 1, 3: 2, 4: 2, 8: 1, 9: 2, 11: 2, 12: 3, 32: 1, 33: 2, 34: 3, 35: 4, 36: 1 };
+const VERTICES = { 1: 1, 2: 1, 3: 2, 4: 2, 8: 1, 9: 2, 11: 2, 12: 3, 32: 1, 33: 2, 34: 3, 35: 4, 36: 1, 37: 2 };
 
 export class Calls {
   // `engine` runs the module; it is the one that answers texts, or one of the calls' own.

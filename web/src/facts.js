@@ -75,7 +75,7 @@ export function told(map, { v, e, f }, places = null, rank = null) {
   const name = (u) => map.names[u - 1];
   if (v) {
     const list = map.lists[v - 1];
-    const at = places && places[v - 1] ? ` At (${places[v - 1].join(", ")}).` : "";
+    const at = places && places[v - 1] ? ` By Schnyder’s method at (${places[v - 1].join(", ")}).` : "";
     const order = rank ? ` Number ${rank[v - 1]} of the canonical order.` : "";
     return `Vertex ${name(v)}: ${plural(list.length, "neighbour")}${list.length ? `, clockwise ${listed(list.map(name), 40)}` : ""}.${at}${order}`;
   }

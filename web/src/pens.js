@@ -79,7 +79,7 @@ export function lines(ends, width, colour, look) {
 export function arrow(from, to, width, colour, look, isDotted = false) {
   const [dx, dy] = [to[0] - from[0], to[1] - from[1]];
   const length = Math.hypot(dx, dy) || 1;
-  const [along, size] = [[dx / length, dy / length], Math.min(1.8 * width + 3, length / 3)];
+  const [along, size] = [[dx / length, dy / length], Math.min(2.2 * width + 2 * look.scale, length / 3)];
   const [x, y] = [from[0] + 0.6 * dx, from[1] + 0.6 * dy];
   const corner = (ahead, aside) => `${num(x + ahead * size * along[0] - aside * size * along[1])} ${num(y + ahead * size * along[1] + aside * size * along[0])}`;
   const dash = isDotted ? ` stroke-dasharray="${num(width)} ${num(2 * width)}"` : "";

@@ -238,6 +238,6 @@ function acts(study, view) {
     button("JSON", () => saveFile([jsonOf(made().figure, names())], `${name}json`));
   }
   button("Copy", ({ target }) => copy(svgDocument(made()), target));
-  box.append(element("a", "the method", { href: documentOf(view), title: "What is defined and proved of it" }));
+  box.append(element("a", "method", { href: documentOf(view), title: "What is defined and proved of it" }));
   return box;
 }

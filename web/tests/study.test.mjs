@@ -114,7 +114,7 @@ test("what lies at a place is found: a vertex, an edge, a face", { skip }, () =>
 
 test("a vertex, an edge and a face are told in names", { skip }, () => {
   const { map } = study("a-b-c-a, a-d, b-d, c-d");
-  assert.match(told(map, { v: 1 }, [[0, 2]]), /^Vertex .: 3 neighbours, clockwise .*At \(0, 2\)\.$/);
+  assert.match(told(map, { v: 1 }, [[0, 2]]), /^Vertex .: 3 neighbours, clockwise .*at \(0, 2\)\.$/);
   assert.match(told(map, { e: 0 }), /^Edge .–., between faces of 3 and 3\.$/);
   assert.match(told(map, { f: 0 }), /lies outside/);
   assert.match(told(map, { f: 1 }), /click/);
