@@ -4,7 +4,7 @@ import { $, copy, element, page } from "./dom.js";
 import { factsOf, told, witnessFacts } from "./facts.js";
 import { linkOf } from "./links.js";
 import { Study } from "./study.js";
-import { viewsOf } from "./views.js";
+import { rectFace, viewsOf } from "./views.js";
 import { makeView, markAll, redrawView, SPARSE } from "./view_cards.js";
 
 const CHOICES = 4095; // vertices and faces that are named for choice, at most
@@ -50,7 +50,7 @@ function factsNow(study) {
   const { names, edges } = study.given;
   if (study.witness) return witnessFacts(names, edges, study.witness);
   const why = { BadArgument: "it has more vertices than the program takes", Small: "it has fewer than three vertices", NoMemory: "there is not enough memory" };
-  return `No drawing: ${why[study.refused.name] || study.refused.name}.`;
+  return `No drawing: ${why[study.refused] || study.refused}.`;
 }
 
 // Says which edge of a witness can go, so that the graph is planar.
@@ -73,18 +73,9 @@ function showChoices({ map, focus }) {
   $("vertex").replaceChildren(option("none", "0", !focus), ...(isFew ? map.names.map((name, k) => option(name, k + 1, focus && focus.v === k + 1)) : []));
   const faces = map.faces.slice(0, CHOICES);
   const words = (walk) => walk.slice(0, 8).map((v) => map.names[v - 1]).join(" ") + (walk.length > 8 ? " …" : "");
-  const canBeOuter = rectFaces(map);
-  $("outer").replaceChildren(...faces.map((walk, f) => option(`${words(walk)}${canBeOuter.has(f) ? " (rect fits)" : ""}`, f, f === 0)));
+  const fitting = rectFace(map);
+  $("outer").replaceChildren(...faces.map((walk, f) => option(`${words(walk)}${f === fitting ? " (for rectangles)" : ""}`, f, f === 0)));
   $("names").value = map.names.every((name, k) => name === String(map.origin[k])) ? "" : namesGiven(map).join(", ");
-}
-
-// Returns the faces that can be the outer one of `rect`: a quadrangle, where all others are triangles.
-function rectFaces(map) {
-  const others = map.faces.map((walk, f) => (walk.length === 3 ? -1 : f)).filter((f) => f >= 0);
-  const [f] = others;
-  if (others.length !== 1 || map.faces[f].length !== 4) return new Set();
-  const turned = f ? map.outside(map.faces[f][0], map.faces[f][1]) : map;
-  return new Set(turned.figure("rect").refused ? [] : [f]);
 }
 
 // Returns the names in the order of the numbers that were given.

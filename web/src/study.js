@@ -16,7 +16,7 @@ export class Study {
     if (lists) this.first = new PlaneMap(calls, lists, names);
     else {
       const found = embedded(calls, names, edges);
-      Object.assign(this, { first: found.map, witness: found.witness, refused: found.refused && found });
+      Object.assign(this, { first: found.map, witness: found.witness, refused: found.refused || "" });
     }
     this.map = this.first;
     if (!this.map) return;

@@ -4,7 +4,7 @@ import { $, copy, element, page, saveFile } from "./dom.js";
 import { plain, variable } from "./pens.js";
 import { jsonOf, pngOf, svgDocument, tikzOf } from "./saving.js";
 import { Scene } from "./scenes.js";
-import { aboutOf, documentOf, hasLayer, LAYERS, titleOf, viewOf } from "./views.js";
+import { aboutOf, documentOf, hasLayer, LAYERS, rectFace, titleOf, viewOf } from "./views.js";
 
 export const SPARSE = 600; // vertices from which on a picture has neither numbers nor what is laid over
 const SIDE = { small: 400, large: 860 }; // pixels of a picture, also of one in front
@@ -69,6 +69,10 @@ export function redrawView(study, view) {
   card.figure = made.figure;
   const pane = card.querySelector(".pane");
   card.scene = null;
+  if (made.fitting > 0) {
+    const names = study.map.faces[made.fitting].map((v) => study.map.names[v - 1]).join(" ");
+    said.append(" ", element("button", `Put ${names} outside`, { type: "button", onclick: () => page.sheet.choose({ f: made.fitting }) }));
+  }
   if (made.isRefused) return pane.replaceChildren();
   const { width, height, body } = made;
   pane.innerHTML = `<svg viewBox="0 0 ${width} ${height}" role="img" aria-label="${titleOf(view)}">${body}<g class="mark"></g></svg>`;
@@ -85,8 +89,10 @@ export function markAll(study, thing) {
 function mark(card, study, thing) {
   const layer = card.querySelector("g.mark");
   if (!layer || !card.scene) return;
-  const apart = card.dataset.view === "round" ? (study.marked || []).map((v) => card.scene.spot(v)).join("") : "";
-  layer.innerHTML = `<g class="apart">${apart}</g>${thing ? card.scene.mark(thing) : ""}`;
+  const isRound = card.dataset.view === "round";
+  const apart = isRound ? (study.marked || []).map((v) => card.scene.spot(v)).join("") : "";
+  const fitting = isRound && rectFace(study.map) > 0 ? card.scene.mark({ f: rectFace(study.map) }) : "";
+  layer.innerHTML = `<g class="fits">${fitting}</g><g class="apart">${apart}</g>${thing ? card.scene.mark(thing) : ""}`;
 }
 
 function toFront(study, view) {

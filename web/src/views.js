@@ -56,9 +56,20 @@ export function viewOf(study, view, look) {
   if (view === "round") return roundView(study, look);
   if (view === "witness") return { figure: study.witnessFigure(), ...picture(study.witnessFigure(), { ...look, names: study.given.names }), said: "" };
   const figure = study.map.figure(view);
-  if (figure.refused) return { said: refusalOf(figure, study.map.names), isRefused: true };
+  if (figure.refused) return { said: refusalOf(figure, study.map.names), isRefused: true, fitting: view === "rect" ? rectFace(study.map) : -1 };
   const [given, said] = WAYS[view](study, figure, { ...look, names: study.map.names });
   return { figure, said, ...picture(given.figure || figure, given) };
+}
+
+// Returns the face that can be the outer one of rectangles, the quadrangle of a map whose other faces are triangles; or -1.
+export function rectFace(map) {
+  return map.once("rect face", () => {
+    const others = map.faces.flatMap((walk, f) => (walk.length === 3 ? [] : [f]));
+    const [f] = others;
+    if (others.length !== 1 || map.faces[f].length !== 4) return -1;
+    const turned = f ? map.outside(map.faces[f][0], map.faces[f][1]) : map;
+    return turned.figure("rect").refused ? -1 : f;
+  });
 }
 
 const size = (x, y) => `${x.toLocaleString("en")} by ${y.toLocaleString("en")}`;

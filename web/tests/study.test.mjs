@@ -131,6 +131,21 @@ test("pictures are saved as SVG, TikZ and JSON with names", { skip }, () => {
   }
 });
 
+test("the face that can be the outer one of rectangles is found", { skip }, () => {
+  const found = study("1-2-3-4-1, 5-1, 5-2, 5-3, 5-4");
+  const inner = found.map.faces.findIndex((walk) => walk.length === 3);
+  found.putFaceOutside(inner);
+  const { isRefused, fitting } = viewOf(found, "rect", LOOK);
+  assert.ok(isRefused && found.map.faces[fitting].length === 4);
+  found.putFaceOutside(fitting);
+  assert.ok(!viewOf(found, "rect", LOOK).isRefused);
+  assert.equal(viewOf(study(CUBE), "rect", LOOK).fitting, -1);
+});
+
+test("a graph that is too small or too large is refused by name", { skip }, () => {
+  assert.equal(study("a-b").refused, "Small");
+});
+
 test("each step of the shift method is a picture of its own", { skip: skip || (!calls.has("canonical_order") && "no order") }, () => {
   const found = study(CUBE);
   const seen = new Set();
