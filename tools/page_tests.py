@@ -12,6 +12,7 @@ import pigale
 MOST = 1 << 20  # bytes of an input that the page is given to answer in one piece
 MOST_PAGE = 700 * 1024  # bytes of the page
 NEAR = 0.11  # pixels by which numbers of two pictures may be apart, as their last digits are rounded
+NAMES = ["ann", "Bob & co", "x", "Ł", "m1", "山", "<i>", "zo\u0301e"]
 EQUILATERAL = {"equilateral": True, "faces": True}
 
 # what is written on what
@@ -133,15 +134,24 @@ def figures():
                         yield name, job, found
 
 
+def names_of(figure):
+    """Returns names for the vertices of a figure, short and long ones, of several scripts, and with marks that SVG escapes."""
+    count = pigale.formats.read_graph6(figure.graph6)[0] if hasattr(figure, "graph6") else len(figure.lists)
+    return [NAMES[k % len(NAMES)] + (str(k) if k >= len(NAMES) else "") for k in range(count)]
+
+
 def test_pictures():
     """Compares the pictures that the page saves with those of the Python package, shape by shape."""
-    asked = [(*it, style, look) for it in figures() for style, look in (("equilateral,faces", EQUILATERAL), ("", {}))]
+    ways = [({"style": "equilateral,faces"}, EQUILATERAL), ({}, {})]
+    asked = [(*it, python, look) for it in figures() for python, look in ways]
+    if hasattr(pigale.pictures, "text_width"):
+        asked += [(*it, {"labels": names_of(it[2])}, {"names": names_of(it[2])}) for it in figures()]
     made = script(PICTURES, given=json.dumps([[f"{figure}\n", look] for _, _, figure, _, look in asked]))
     wrong = 0
-    for (name, job, figure, style, _), found in zip(asked, made):
-        if not are_near(pigale.picture(figure, style=style), found):
+    for (name, job, figure, python, _), found in zip(asked, made):
+        if not are_near(pigale.picture(figure, **python), found):
             wrong += 1
-            print(f"web: a picture is another than the package's: {job} of {name}, style {style or 'plain'}")
+            print(f"web: a picture is another than the package's: {job} of {name}, {python or 'plain'}")
     print(f"web: {len(asked)} pictures compared with the package's, {wrong} differ")
     return wrong
 

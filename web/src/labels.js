@@ -4,6 +4,22 @@ export const DIGIT = 0.6; // the width of a digit, in its height
 const ROUND = 0.8; // the radius of a dot with a number within, in the height of the number
 const LEAST_WITHIN = 7.6; // the least height of a number within a dot, in a picture whose longer side is 400
 
+const NARROW = "ijltfrI.,;:'|!()[] ";
+const BROAD = "mwMW@%";
+const FULL = /[\u1100-\u115f\u2e80-\u303e\u3041-\ua4cf\uac00-\ud7a3\uf900-\ufaff\ufe30-\ufe6f\uff01-\uff60\uffe0-\uffe6]|\p{Emoji_Presentation}/u;
+
+// Returns about how wide a text is, in its height; digits are as wide as they are in Helvetica, other letters a little more.
+export function textWidth(text) {
+  const widthOf = (letter) => {
+    if (/[0-9]/.test(letter)) return DIGIT;
+    if (/\p{M}/u.test(letter)) return 0;
+    if (FULL.test(letter)) return 1.05;
+    if (NARROW.includes(letter)) return 0.32;
+    return BROAD.includes(letter) ? 0.92 : /\p{Lu}/u.test(letter) ? 0.74 : 0.6;
+  };
+  return [...text].reduce((sum, letter) => sum + widthOf(letter), 0);
+}
+
 // Returns the least distance of two dots, and that of a dot and a line which does not end there.
 function rooms(dots, edges) {
   let apart = Infinity;
@@ -129,7 +145,7 @@ export function labelPlaces(dots, edges, names, radius, size) {
   dots.forEach(([x, y], k) => cells.put([x - apart, y - apart, x + apart, y + apart], k + 1));
   const found = [];
   dots.forEach(([x, y], k) => {
-    const half = (DIGIT / 2) * size * names[k].length + 0.06 * size;
+    const half = (textWidth(names[k]) / 2) * size + 0.06 * size;
     let best = null;
     for (let i = 0; i < 16; i++) {
       const turn = (i * Math.PI) / 8;

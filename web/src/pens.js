@@ -1,9 +1,10 @@
 // The parts that pictures are made of, as SVG text: lines, dots, numbers, and how a picture is to look.
 
-import { labelPlaces, dotRadius, within } from "./labels.js";
+import { labelPlaces, dotRadius, textWidth, within } from "./labels.js";
 import { STYLE } from "./style.js";
 
 const UNIT = 400; // the sizes of the style are for a picture whose longer side is this
+const MOST_WITHIN = 1.3; // the width of a name within a dot, in its height
 const LEAST_NUMBER = 2.4; // the least height of numbers in bars and rectangles, in a picture of that side
 
 // Returns attributes with the light colours of names, as `fill="#ffffff"`.
@@ -56,11 +57,12 @@ export function num(value) {
 }
 
 export function escaped(text) {
-  return String(text).replace(/[&<>"]/g, (it) => ({ "&": "&amp;", "<": "&lt;", ">": "&gt;", '"': "&quot;" })[it]);
+  return String(text).replace(/[&<>]/g, (it) => ({ "&": "&amp;", "<": "&lt;", ">": "&gt;" })[it]);
 }
 
 export function title(look, v, list) {
-  return `<title>${[`${look.name(v)}:`, ...list.map((u) => look.name(u))].map(escaped).join(" ")}</title>`;
+  const names = list.map((u) => look.name(u));
+  return `<title>${escaped(look.names ? `${look.name(v)}: ${names.join(", ")}` : [`${v}:`, ...names].join(" "))}</title>`;
 }
 
 // Returns straight lines of one width and colour; `ends` are pairs of places.
@@ -102,12 +104,15 @@ export function texts(given, colour, look, hasHalo = false) {
   return [...(hasHalo ? [open, ...each, "</g>"] : []), `<g ${look.paint({ fill: colour })} ${font}>`, ...each, "</g>"];
 }
 
-// Returns dots with titles, and their numbers: within all dots where each has room, and else beside those that have room.
+// Returns dots with titles, and their names: within all dots where each has room, and else beside those that have room. With
+// names that are no numbers `reach` says where the leftmost one begins and the rightmost one ends.
 export function dots(places, lists, edges, look, colours = []) {
   const count = places.length;
-  if (count > look.dense) return [denseDots(places, look)];
+  const reach = [look.margin, look.margin];
+  if (count > look.dense) return { lines: [denseDots(places, look)], reach };
   const size = look.size("number", count);
-  const isShort = count < 100 && (!look.names || look.names.every((name) => name.length < 3));
+  const names = places.map((_, k) => look.name(k + 1));
+  const isShort = count < 100 && (!look.names || names.every((name) => textWidth(name) <= MOST_WITHIN));
   const inner = isShort ? within(places, edges, size, look.scale) : null;
   const isInner = inner && inner.height >= look.least;
   const radius = isInner ? inner.radius : dotRadius(places, edges, look.size("dot", count));
@@ -121,11 +126,26 @@ export function dots(places, lists, edges, look, colours = []) {
     body.push(`<circle cx="${num(x)}" cy="${num(y)}" r="${num(radius)}">${title(look, k + 1, lists[k])}</circle>`);
   });
   if (last) body.push("</g>");
-  const names = places.map((_, k) => look.name(k + 1));
-  if (isInner) return [...body, ...texts(places.map((at, k) => [names[k], at, inner.height]), "on-dot", look)];
-  if (size < look.least) return body;
-  const beside = labelPlaces(places, edges, names, radius, size).map(([k, at]) => [names[k], at, size]);
-  return [...body, ...texts(beside, "number", look, true)];
+  if (isInner) return { lines: [...body, ...texts(places.map((at, k) => [names[k], at, inner.height]), "on-dot", look)], reach };
+  if (size < look.least) return { lines: body, reach };
+  const beside = labelPlaces(places, edges, names, radius, size);
+  const ends = beside.map(([k, [x]]) => [x, (textWidth(names[k]) / 2) * size]);
+  const isWide = look.names && ends.length;
+  return {
+    lines: [...body, ...texts(beside.map(([k, at]) => [names[k], at, size]), "number", look, true)],
+    reach: isWide ? [Math.min(...ends.map(([x, half]) => x - half)), Math.max(...ends.map(([x, half]) => x + half))] : reach,
+  };
+}
+
+// Returns a picture of lines and dots with its scene, wider where names reach beyond it.
+export function framed([width, height], body, { lines: dotted, reach }, look, scene) {
+  const room = 0.25 * look.margin;
+  const [left, right] = [Math.max(0, Math.ceil(room - reach[0])), Math.max(0, Math.ceil(reach[1] + room - width))];
+  const all = [...body, ...dotted];
+  if (!left) return [[width + right, height], all, scene];
+  const moved = ([x, y]) => [x + left, y];
+  const shifted = { spots: scene.spots.map(moved), pairs: scene.pairs.map((pair) => pair.map(moved)) };
+  return [[width + left + right, height], [`<g transform="translate(${left})">`, ...all, "</g>"], shifted];
 }
 
 function denseDots(places, look) {

@@ -1,8 +1,8 @@
 // Pictures of figures as SVG. Shapes, places, tints and labels are those of the Python package's pictures.
 
 import { isMap, readGraph } from "./figures.js";
-import { DIGIT } from "./labels.js";
-import { dots, lines, Look, num, placed, plain, texts, title, whole } from "./pens.js";
+import { textWidth } from "./labels.js";
+import { dots, escaped, framed, lines, Look, num, placed, plain, texts, title, whole } from "./pens.js";
 import { STYLE } from "./style.js";
 
 // Returns the picture of a figure: its width, its height, its SVG and its `scene`, which says where vertices and edges stand
@@ -61,7 +61,7 @@ function drawGrid(figure, look) {
   const scene = { spots, pairs };
   const { below = [], above = [], colours, hasNoLines } = look.overlay(scene, look);
   const line = hasNoLines ? [] : lines(pairs, look.size("line", figure.count), "line", look);
-  return [box, [...faces, ...below, ...line, ...above, ...dots(spots, known, edges, look, colours)], scene];
+  return framed(box, [...faces, ...below, ...line, ...above], dots(spots, known, edges, look, colours), look, scene);
 }
 
 // Fills the inner faces by their lengths; where one stands within another, it comes after it. A face's walk is
@@ -78,7 +78,7 @@ function fillFaces(figure, spots, look) {
     .map(([, face]) => {
       const points = face.map((v) => `${num(spots[v - 1][0])},${num(spots[v - 1][1])}`).join(" ");
       const colour = face.length > 10 ? "face-more" : `face-${face.length}`;
-      const words = `face of ${face.length}: ${face.map((v) => look.name(v)).join(" ")}`;
+      const words = escaped(`face of ${face.length}: ${face.map((v) => look.name(v)).join(" ")}`);
       return `<polygon points="${points}" ${look.paint({ fill: colour })}><title>${words}</title></polygon>`;
     });
 }
@@ -128,7 +128,7 @@ function drawBars(figure, look) {
         `rx="${num(Math.min(thick, width) / 5)}">${count > look.dense ? "" : title(look, k + 1, figure.lists[k])}</rect>`,
     );
     const name = look.name(k + 1);
-    const size = Math.min(13 * scale, 0.92 * thick, width / (DIGIT * name.length + 0.15));
+    const size = Math.min(13 * scale, 0.92 * thick, width / (textWidth(name) + 0.15));
     numbers.push([name, [from + width / 2, middle], size]);
   });
   const scene = { boxes, pairs };
@@ -150,7 +150,7 @@ function drawRects(figure, look) {
         `${look.paint({ fill: `tint-${tint}` })}>${count > look.dense ? "" : title(look, k + 1, figure.lists[k])}</rect>`,
     );
     const name = look.name(k + 1);
-    numbers.push([name, [(x1 + x2) / 2, (y1 + y2) / 2], Math.min(most, 0.8 * (y2 - y1), (x2 - x1) / (DIGIT * name.length + 0.3))]);
+    numbers.push([name, [(x1 + x2) / 2, (y1 + y2) / 2], Math.min(most, 0.8 * (y2 - y1), (x2 - x1) / (textWidth(name) + 0.3))]);
   });
   const middles = boxes.map(([x, y, width, height]) => [x + width / 2, y + height / 2]);
   const pairs = edgesOf(figure.lists).map(([v, u]) => [middles[v - 1], middles[u - 1]]);
@@ -196,7 +196,7 @@ function drawWitness(figure, look) {
   const colours = [];
   figure.branches.forEach((v, k) => (colours[v - 1] = figure.kind === "K33" && k > 2 ? "odd" : "even"));
   const body = [...lines(pairs(rest), line, "thin", look), ...lines(pairs(ours), 1.6 * line, "line", look)];
-  return [box, [...body, ...dots(spots, lists, ours, look, colours)], { spots, pairs: pairs(edgesOf(lists)) }];
+  return framed(box, body, dots(spots, lists, ours, look, colours), look, { spots, pairs: pairs(edgesOf(lists)) });
 }
 
 // Returns a place for each vertex of a witness's graph; those that it does not pass stand in a row below. Between two
