@@ -5,8 +5,6 @@ import { barsOverlay, completedWood, facesWood, labelOverlay, orderOverlay, part
 import { lines } from "./pens.js";
 import { equilateral, picture } from "./pictures.js";
 
-const DOCUMENTS = "../docs/";
-
 // What can be laid over the round drawing, by its word in links.
 export const LAYERS = {
   "": "plain",
@@ -49,7 +47,7 @@ export function viewsOf(study) {
 
 export const titleOf = (view) => METHODS[view];
 export const aboutOf = (view) => ABOUT[view];
-export const documentOf = (view) => `${DOCUMENTS}${view === "witness" ? "FORMATS.md" : "DEFINITIONS.md"}`;
+export const documentOf = (view) => `../docs/PAGE.md#${titleOf(view).toLowerCase().replace(/[^a-z ]/g, "").replace(/ /g, "-")}`;
 
 // Returns the picture of a view, with its scene, its figure, and what is said of it; or where there is none only why not.
 export function viewOf(study, view, look) {
