@@ -104,12 +104,12 @@ export function texts(given, colour, look, hasHalo = false) {
   return [...(hasHalo ? [open, ...each, "</g>"] : []), `<g ${look.paint({ fill: colour })} ${font}>`, ...each, "</g>"];
 }
 
-// Returns dots with titles, and their names: within all dots where each has room, and else beside those that have room. With
-// names that are no numbers `reach` says where the leftmost one begins and the rightmost one ends.
+// Returns dots with titles and their `radius`, and their names: within all dots where each has room, and else beside those
+// that have room. With names that are no numbers `reach` says where the leftmost one begins and the rightmost one ends.
 export function dots(places, lists, edges, look, colours = []) {
   const count = places.length;
   const reach = [look.margin, look.margin];
-  if (count > look.dense) return { lines: [denseDots(places, look)], reach };
+  if (count > look.dense) return { lines: [denseDots(places, look)], reach, radius: 0 };
   const size = look.size("number", count);
   const names = places.map((_, k) => look.name(k + 1));
   const isShort = count < 100 && (!look.names || names.every((name) => textWidth(name) <= MOST_WITHIN));
@@ -126,25 +126,27 @@ export function dots(places, lists, edges, look, colours = []) {
     body.push(`<circle cx="${num(x)}" cy="${num(y)}" r="${num(radius)}">${title(look, k + 1, lists[k])}</circle>`);
   });
   if (last) body.push("</g>");
-  if (isInner) return { lines: [...body, ...texts(places.map((at, k) => [names[k], at, inner.height]), "on-dot", look)], reach };
-  if (size < look.least) return { lines: body, reach };
+  if (isInner) return { lines: [...body, ...texts(places.map((at, k) => [names[k], at, inner.height]), "on-dot", look)], reach, radius };
+  if (size < look.least) return { lines: body, reach, radius };
   const beside = labelPlaces(places, edges, names, radius, size);
   const ends = beside.map(([k, [x]]) => [x, (textWidth(names[k]) / 2) * size]);
   const isWide = look.names && ends.length;
   return {
     lines: [...body, ...texts(beside.map(([k, at]) => [names[k], at, size]), "number", look, true)],
     reach: isWide ? [Math.min(...ends.map(([x, half]) => x - half)), Math.max(...ends.map(([x, half]) => x + half))] : reach,
+    radius,
   };
 }
 
 // Returns a picture of lines and dots with its scene, wider where names reach beyond it.
-export function framed([width, height], body, { lines: dotted, reach }, look, scene) {
+export function framed([width, height], body, { lines: dotted, reach, radius }, look, given) {
   const room = 0.25 * look.margin;
   const [left, right] = [Math.max(0, Math.ceil(room - reach[0])), Math.max(0, Math.ceil(reach[1] + room - width))];
   const all = [...body, ...dotted];
+  const scene = { ...given, radius };
   if (!left) return [[width + right, height], all, scene];
   const moved = ([x, y]) => [x + left, y];
-  const shifted = { spots: scene.spots.map(moved), pairs: scene.pairs.map((pair) => pair.map(moved)) };
+  const shifted = { radius, spots: scene.spots.map(moved), pairs: scene.pairs.map((pair) => pair.map(moved)) };
   return [[width + left + right, height], [`<g transform="translate(${left})">`, ...all, "</g>"], shifted];
 }
 

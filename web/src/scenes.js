@@ -61,9 +61,14 @@ export class Scene {
     return `<polygon points="${walk.map((u) => this.spots[u - 1].map(num).join(",")).join(" ")}"/>`;
   }
 
+  // Returns the line of an edge, from dot to dot.
   line(k) {
     const [p, q] = this.pairs[k] || [];
-    return p ? `<line x1="${num(p[0])}" y1="${num(p[1])}" x2="${num(q[0])}" y2="${num(q[1])}"/>` : "";
+    if (!p) return "";
+    const length = Math.hypot(q[0] - p[0], q[1] - p[1]) || 1;
+    const part = this.boxes ? 0 : Math.min(0.4, (this.radius || 0) / length);
+    const [x, y] = [part * (q[0] - p[0]), part * (q[1] - p[1])];
+    return `<line x1="${num(p[0] + x)}" y1="${num(p[1] + y)}" x2="${num(q[0] - x)}" y2="${num(q[1] - y)}"/>`;
   }
 
   spot(v) {
@@ -72,7 +77,7 @@ export class Scene {
       return `<rect x="${num(x)}" y="${num(y)}" width="${num(width)}" height="${num(height)}"/>`;
     }
     const [x, y] = this.spots[v - 1];
-    return `<circle cx="${num(x)}" cy="${num(y)}" r="${NEAR}"/>`;
+    return `<circle cx="${num(x)}" cy="${num(y)}" r="${num(Math.max(NEAR, (this.radius || 0) + 3))}"/>`;
   }
 }
 
