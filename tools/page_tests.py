@@ -1,6 +1,7 @@
 """Tests of the page web/pigale.html: its sources, and its scripts in node, held to the program and to the Python package."""
 import json
 import os
+import random
 import re
 import subprocess
 import tempfile
@@ -37,6 +38,14 @@ const { pictureDocument } = await import('file://' + process.argv[1] + '/picture
 const { blocksOf, readFigure } = await import('file://' + process.argv[1] + '/figures.js');
 const asked = JSON.parse(fs.readFileSync(0, 'utf8'));
 process.stdout.write(JSON.stringify(asked.map(([text, look]) => pictureDocument(readFigure(blocksOf(text)[0]), look))));
+"""
+
+
+ROUNDS = """
+import fs from 'node:fs';
+const { roundFloats, rounded } = await import('file://' + process.argv[1] + '/round.js');
+const asked = JSON.parse(fs.readFileSync(0, 'utf8'));
+process.stdout.write(JSON.stringify(asked.map(([lists, pull, isFilled, size]) => rounded(roundFloats(lists, pull, isFilled), size))));
 """
 
 
@@ -153,6 +162,33 @@ def test_pictures():
             wrong += 1
             print(f"web: a picture is another than the package's: {job} of {name}, {python or 'plain'}")
     print(f"web: {len(asked)} pictures compared with the package's, {wrong} differ")
+    return wrong
+
+
+def is_connected(lists):
+    """Says whether a map hangs together."""
+    seen, front = {1}, [1]
+    while front:
+        front = [u for u in {u for v in front for u in lists[v - 1]} if u not in seen]
+        seen.update(front)
+    return len(seen) == len(lists)
+
+
+def test_rounds():
+    """Compares the places of round drawings with those of the Python package: they are the same whole numbers."""
+    try:
+        from pigale import rounds
+    except ImportError:
+        print("web: round drawings: skipped, since the Python package has none")
+        return 0
+    source = random.Random(3)
+    maps = {str(it.lists): it.lists for _, job, it in figures() if job == "shift"}.values()
+    maps = [it for it in maps if is_connected(it)] + [pigale.triangulation(n, source) for n in (5, 12, 30, 80)] + [pigale.tree(20, source)]
+    asked = [(lists, pull, is_filled, size) for lists in maps for pull in rounds.PULLS for is_filled in (False, True) for size in (1000, 1000000)]
+    made = script(ROUNDS, given=json.dumps(asked))
+    wrong = sum([list(place) for place in rounds.rounded(rounds.round_floats(lists, pull, is_filled), size)] != found
+                for (lists, pull, is_filled, size), found in zip(asked, made))
+    print(f"web: {len(asked)} round drawings compared with the package's, {wrong} differ")
     return wrong
 
 
