@@ -49,6 +49,22 @@ process.stdout.write(JSON.stringify(asked.map(([lists, pull, isFilled, size]) =>
 """
 
 
+READERS = """
+import fs from 'node:fs';
+const { readGraphText } = await import('file://' + process.argv[1] + '/graphs.js');
+const asked = JSON.parse(fs.readFileSync(0, 'utf8')).map((text) => readGraphText(text));
+process.stdout.write(JSON.stringify(asked.map(({ names, edges }) => [names, edges])));
+"""
+
+# texts of graphs, each with what the package calls its kind
+TEXTS = [
+    ("edges", "10 9\n9 2\n"), ("edges", "a b\nb c\nd\n"), ("edges", "c a 2.5\nb c 3.5\n"), ("edges", "# none\nx y # one\n"),
+    ("matrix", "0 1 1\n1 0 0\n1 0 0\n"), ("matrix", "0110\n1010\n1101\n0010\n"), ("adjacency", "a b c\nb c\nd a\n"),
+    ("sparse6", ":Cda\n"), ("graph6", "IheA@GUAo\n"),
+    ("json", '{"nodes": [{"id": "z"}, {"id": "a"}], "links": [{"source": "z", "target": "a"}]}'),
+]
+
+
 def script(program, *words, given=None):
     """Returns what a script says in node, which is given the folder of the page's scripts as its first word."""
     asked = ["node", "--input-type=module", "--eval", program, SOURCES, *words]
@@ -189,6 +205,24 @@ def test_rounds():
     wrong = sum([list(place) for place in rounds.rounded(rounds.round_floats(lists, pull, is_filled), size)] != found
                 for (lists, pull, is_filled, size), found in zip(asked, made))
     print(f"web: {len(asked)} round drawings compared with the package's, {wrong} differ")
+    return wrong
+
+
+def test_readers():
+    """Compares what the page reads of texts of graphs with what the Python package does: the same names and edges, in order."""
+    try:
+        from pigale.readers import graphs_of
+    except ImportError:
+        print("web: texts of graphs: skipped, since the Python package reads none")
+        return 0
+    made = script(READERS, given=json.dumps([text for _, text in TEXTS]))
+    wrong = 0
+    for (kind, text), found in zip(TEXTS, made):
+        graph = graphs_of(text.encode(), "a text", kind)[0]
+        if [[str(name) for name in graph.names], sorted(map(list, graph.edges))] != found:
+            wrong += 1
+            print(f"web: the page reads another graph than the package: {text!r}")
+    print(f"web: {len(TEXTS)} texts of graphs compared with the package's graphs, {wrong} differ")
     return wrong
 
 

@@ -52,6 +52,7 @@ function simple({ names = [], pairs, format }) {
     seen.add(key);
     edges.push([v, u]);
   }
+  edges.sort((p, q) => p[0] - q[0] || p[1] - q[1]);
   return { names: all, edges, format, dropped: pairs.length - edges.length };
 }
 
@@ -104,13 +105,14 @@ function codeLines(text) {
   return text.split("\n").map((line, k) => [line.replace(/(^|\s)[#%].*|\/\/.*/, "").trim(), k + 1]).filter(([line]) => line);
 }
 
-// Returns the graph of lines such as `1: 2 3`, or where lines have other than two names, such as `1 2 3`; or null.
+// Returns the graph of lines such as `1: 2 3`, or where a line has more than two names, such as `1 2 3`; or null.
 function readAdjacency(text) {
   const lines = codeLines(text);
   const hasColons = lines.every(([line]) => /^[^\s:,{}()[\]]+\s*:/.test(line));
   const split = lines.map(([line]) => line.split(/[\s,;]+/).filter(Boolean));
-  const isBare = lines.length > 1 && lines.every(([line]) => /^[\w.]+(\s+[\w.]+)*$/.test(line)) && split.some((words) => words.length !== 2);
-  if (!hasColons && (!isBare || split.every((words) => words.length === 3 && /^-?\d*\.\d+$/.test(words[2])))) return null;
+  const isWeighted = (words) => words.length === 3 && /^-?\d*\.\d+$/.test(words[2]);
+  const isBare = lines.length > 1 && lines.every(([line]) => /^[\w.]+(\s+[\w.]+)*$/.test(line));
+  if (!hasColons && !(isBare && split.some((words) => words.length > 2 && !isWeighted(words)))) return null;
   const rows = hasColons ? lines.map(([line]) => line.split(/\s*:\s*/, 2)).map(([head, tail]) => [head, ...tail.split(/[\s,;{}()[\]]+/).filter(Boolean)]) : split;
   // Each edge stands in both lists: the second time is no repetition.
   const seen = new Set();
@@ -124,7 +126,7 @@ function readAdjacency(text) {
       seen.add(`${head} ${name}`);
       pairs.push([head, name]);
     }
-  return { format: "adjacency lists", names: rows.map(([head]) => head), pairs };
+  return { format: "adjacency lists", names: rows.flat(), pairs };
 }
 
 // Returns the graph of pairs in brackets, or of lines and pieces such as `1 2`, `a -- b` and `a-b-c`.
@@ -138,8 +140,8 @@ function readEdges(text) {
     for (const piece of line.replace(/\{[^}]*\}\s*$/, "").split(/[,;]/).map((it) => it.trim()).filter(Boolean)) {
       const path = DASH.test(piece) ? piece.split(DASH) : piece.split(/\s+/).slice(0, /^\S+\s+\S+\s+-?[\d.]+$/.test(piece) ? 2 : undefined);
       if (path.some((name) => !name)) throw new GraphFault(`“${piece.slice(0, 40)}” lacks a vertex at a dash.`, number);
-      if (path.length === 1) names.push(path[0]);
-      else if (path.length > 2 && !DASH.test(piece)) throw new GraphFault(`“${piece.slice(0, 40)}” is no edge. An edge is two names, as in 1 2, a-b or {0,1}.`, number);
+      names.push(...path);
+      if (path.length > 2 && !DASH.test(piece)) throw new GraphFault(`“${piece.slice(0, 40)}” is no edge. An edge is two names, as in 1 2, a-b or {0,1}.`, number);
       for (let k = 1; k < path.length; k++) pairs.push([path[k - 1], path[k]]);
     }
   if (!pairs.length) throw new GraphFault("There is no edge in it. An edge is two names, as in 1 2, a-b or {0,1}.");
