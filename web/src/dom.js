@@ -2,12 +2,13 @@
 
 export const $ = (id) => document.getElementById(id);
 
-// `machine` runs the program, `input` is what it was given, `answers` is what it said, `list` has the numbers of the
-// records that are looked through, and `from` and `to` say which of these are on the screen. `look` says how drawings look.
-// `calls` are the module's typed calls, `study` is what the sheet shows, and `sheet` has what it does on behalf of its cards.
+// `machine` runs the program, `input` is what it was given, `answers` is what it said, `list` has the numbers of the records
+// that are looked through, and `from` and `to` say which of these are on the screen. `look` says how drawings look, and `tones`
+// has the colours that the reader chose. `calls` are the module's typed calls, `study` is what the sheet shows, and `sheet` has
+// what it does on behalf of its cards.
 export const page = {
   machine: null, input: null, answers: null, filter: "all", list: [], from: 0, to: 0, turn: 0, job: {},
-  look: { equilateral: true, faces: true },
+  look: { equilateral: true, faces: true }, tones: {},
 };
 
 export function element(tag, text = "", more = {}) {

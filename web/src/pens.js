@@ -7,10 +7,10 @@ const UNIT = 400; // the sizes of the style are for a picture whose longer side 
 const MOST_WITHIN = 1.3; // the width of a name within a dot, in its height
 const LEAST_NUMBER = 2.4; // the least height of numbers in bars and rectangles, in a picture of that side
 
-// Returns attributes with the light colours of names, as `fill="#ffffff"`.
-export function plain(paints) {
+// Returns attributes with the light colours of names, as `fill="#ffffff"`; `own` has colours in place of some of these.
+export function plain(paints, own = {}) {
   return Object.entries(paints)
-    .map(([attribute, name]) => `${attribute}="${STYLE.light[name]}"`)
+    .map(([attribute, name]) => `${attribute}="${own[name] || STYLE.light[name]}"`)
     .join(" ");
 }
 

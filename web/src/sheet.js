@@ -138,6 +138,14 @@ export function listenToSheet() {
   $("vertex").onchange = ({ target }) => choose(Number(target.value) ? { v: Number(target.value) } : null);
   $("outer").onchange = ({ target }) => choose({ f: Number(target.value) });
   $("names").onchange = ({ target }) => rename(target.value);
+  for (const choice of document.querySelectorAll("[data-tone]")) {
+    const name = choice.dataset.tone;
+    choice.value = getComputedStyle(document.documentElement).getPropertyValue(`--${name}`).trim();
+    choice.oninput = () => {
+      page.tones[name] = choice.value;
+      $("views").style.setProperty(`--${name}`, choice.value);
+    };
+  }
 }
 
 // Gives the vertices names, in the order of their numbers; those that are not named keep their numbers.

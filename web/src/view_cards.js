@@ -235,7 +235,7 @@ function acts(study, view) {
   const box = element("div", "", { className: "acts" });
   const button = (text, act) => box.append(element("button", text, { type: "button", onclick: act }));
   const names = () => (study.map ? study.map.names : study.given.names);
-  const made = () => viewOf(study, view, { ...lookOf(study, view, Number($("side").value) || SIDE.large), paint: plain, dense: Infinity, least: 0 });
+  const made = () => viewOf(study, view, { ...lookOf(study, view, Number($("side").value) || SIDE.large), paint: (paints) => plain(paints, page.tones), dense: Infinity, least: 0 });
   const name = `${view}.`;
   button("SVG", () => saveFile([svgDocument(made())], `${name}svg`));
   button("PNG", async () => saveFile([await pngOf(svgDocument(made()), made())], `${name}png`));
