@@ -19,8 +19,8 @@ DRAWN = "[...document.querySelectorAll('.view')].every((it) => it.classList.cont
 
 
 def has_calls(page):
-    """Says whether the page's module has the calls that a sheet is made of."""
-    return page.run("hasSheet() && page.calls.has('canonical_order')")
+    """Says whether the page's module has the calls that a sheet is made of, and whether it has those of what is inside too."""
+    return page.run("[hasSheet(), page.calls.has('canonical_order') && page.calls.has('schnyder_wood')]")
 
 
 def show(page, link):
@@ -189,14 +189,20 @@ def test_saving(page):
 
 # what needs neither a mouse nor keys
 PLAIN = (test_link, test_steps, test_typing, test_graph_files, test_saving)
+# what needs the orders and trees of the methods
+INNER = (test_link, test_steps)
 TESTS = (test_link, test_faces, test_pointer, test_drag, test_steps, test_typing, test_keys, test_graph_files, test_records, test_saving)
 
 
 def test_sheet(page, tests=TESTS, browser="Chromium"):
     """Runs tests of the sheet, and returns how many fail."""
-    if not has_calls(page):
+    has_sheet, has_inner = has_calls(page)
+    if not has_sheet:
         print("web: the sheet of one graph: skipped, since the module has no typed calls")
         return 0
+    if not has_inner:
+        print("web: the methods at work: skipped, since the module has no orders and trees")
+        tests = [it for it in tests if it not in INNER]
     failed = 0
     for test in tests:
         try:

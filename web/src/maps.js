@@ -1,6 +1,7 @@
 // Plane maps with what the module says of them: drawings, orders, woods, labellings, and the judgement of places.
 
 import { arraysOf, edgeArray, listsOf } from "./calls.js";
+import { rectLabels } from "./methods.js";
 import { edgesOf, facesOf } from "./pictures.js";
 
 const MOST_PLACE = 1 << 20; // coordinates that are judged reach to this
@@ -83,13 +84,11 @@ export class PlaneMap {
     });
   }
 
-  // Returns the label of each entry of the lists in a regular edge labelling: "" for the frame, "up", "down", "right", "left".
+  // Returns the label of each entry of the lists in the regular edge labelling of the rectangles, or null where there are none.
   labels() {
     return this.once("labels", () => {
-      const labels = new Uint8Array(this.arrays[1].length);
-      const { name } = this.inside("edge_labelling", labels);
-      let k = 0;
-      return name === "OK" ? this.lists.map((list) => list.map(() => ["", "up", "down", "right", "left"][labels[k++]])) : null;
+      const { refused, rects } = this.figure("rect");
+      return refused ? null : rectLabels(this.lists, rects, this.faces[0]);
     });
   }
 

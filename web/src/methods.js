@@ -98,3 +98,18 @@ export function convexWood(lists, places) {
     }),
   );
 }
+
+// Returns the label of each entry of the lists of a rectangular dual: "up" or "down" where the two rectangles share a level
+// side, "right" or "left" where they share an upright one, and "" for the edges of the outer face.
+export function rectLabels(lists, rects, outer) {
+  const frame = new Set(outer.flatMap((v, k) => [`${v} ${outer[(k + 1) % 4]}`, `${outer[(k + 1) % 4]} ${v}`]));
+  return lists.map((list, k) =>
+    list.map((u) => {
+      const [one, other] = [rects[k], rects[u - 1]];
+      if (frame.has(`${k + 1} ${u}`)) return "";
+      if (one.d === other.c) return "up";
+      if (one.c === other.d) return "down";
+      return one.b === other.a ? "right" : "left";
+    }),
+  );
+}

@@ -6,7 +6,7 @@ import { Engine } from "../src/engine.js";
 import { convexWood, pathsOf, shiftStep } from "../src/methods.js";
 import { completedWood, facesWood, partsOf } from "../src/overlays.js";
 import { moduleBytes } from "./module.mjs";
-import { maps, mapOf } from "./small_maps.mjs";
+import { maps } from "./small_maps.mjs";
 
 const calls = new Calls(await Engine.of(moduleBytes()));
 const lacks = (...names) => names.some((name) => !calls.has(name)) && "the module lacks a call";
@@ -94,6 +94,14 @@ test("each vertex has one edge of each colour in the wood of a convex drawing", 
   }
 });
 
+test("heights of bars are the module's st-numbers", { skip: lacks("st_order") }, () => {
+  for (const map of all()) {
+    const { refused, bars } = map.figure("bars");
+    const rank = new Uint16Array(map.count);
+    if (!refused && map.ask("st_order", rank).name === "OK") assert.deepEqual(bars.map(({ y }) => y), [...rank]);
+  }
+});
+
 test("heights of bars are st-numbers: each vertex but two has neighbours on both sides", { skip: lacks("bars") }, () => {
   for (const map of all()) {
     const { refused, bars } = map.figure("bars");
@@ -107,10 +115,8 @@ test("heights of bars are st-numbers: each vertex but two has neighbours on both
   }
 });
 
-test("a regular edge labelling goes round each inner vertex in four intervals", { skip: lacks("edge_labelling") }, () => {
-  const map = mapOf(calls, "E}lw");
-  const walk = map.faces.find((it) => it.length === 4) || map.faces[0];
-  assert.ok(walk);
+test("a regular edge labelling goes round each inner vertex in four intervals, and is the module's own", { skip: lacks("rect") }, () => {
+  const NAMES = ["", "up", "down", "right", "left"];
   let count = 0;
   for (const given of all())
     for (const face of given.faces.filter((it) => it.length === 4)) {
@@ -118,6 +124,9 @@ test("a regular edge labelling goes round each inner vertex in four intervals", 
       const labels = turned.labels();
       if (!labels) continue;
       count++;
+      const own = new Uint8Array(turned.lists.flat().length);
+      if (calls.has("edge_labelling") && turned.ask("edge_labelling", own).name === "OK")
+        assert.deepEqual(labels.flat(), Array.from(own, (it) => NAMES[it]));
       turned.lists.forEach((list, k) => {
         if (turned.faces[0].includes(k + 1)) return;
         const runs = labels[k].filter((label, i) => label !== labels[k][(i + 1) % list.length]);
