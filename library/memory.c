@@ -1,28 +1,27 @@
-/* Memory for the library, from malloc. */
-#include <stdbool.h>
-#include <stddef.h>
-#include <stdlib.h>
+/* Memory for the library, from malloc. It includes no header, since it is compiled for systems whose headers are not here. */
+typedef __SIZE_TYPE__ word;
+
+void *malloc(word);
+void *realloc(void *, word);
+void free(void *);
 
 /* Whether there was memory, and where; nothing is written to what stands for none. */
 typedef struct {
-    bool ok;
+    word ok;
     unsigned char *at;
 } tried;
 
 static unsigned char none;
 
-static tried given(void *at) { return at ? (tried){true, at} : (tried){false, &none}; }
+static tried given(void *at) { return at ? (tried){1, at} : (tried){0, &none}; }
 
-tried rattle_alloc(size_t size, size_t align)
-{
-    (void)align;
-    return given(malloc(size));
-}
+/* A request for nothing is one for as much as its alignment, so null always says that there is no memory. */
+tried rattle_alloc(word size, word align) { return given(malloc(size ? size : align)); }
 
-tried rattle_realloc(unsigned char *at, size_t kept, size_t size, size_t align)
+tried rattle_realloc(unsigned char *at, word kept, word size, word align)
 {
-    (void)kept, (void)align;
-    return given(realloc(at, size));
+    (void)kept;
+    return given(realloc(at, size ? size : align));
 }
 
 void rattle_dealloc(unsigned char *at) { free(at); }

@@ -1,4 +1,4 @@
-"""Runs of the program that need no more than words and input: those of examples/, and the rows of pigale_rows."""
+"""Runs of the program that need no more than words and input: those of examples/, of the gallery, and the rows of pigale_rows."""
 import os
 import subprocess
 from importlib.machinery import SourceFileLoader
@@ -16,7 +16,7 @@ def answer(program, words, given):
 
 def all_runs():
     """Returns the words and the input of each run, each once and in order."""
-    return sorted({*examples(), *rows()})
+    return sorted({*examples(), *gallery(), *rows()})
 
 
 def examples():
@@ -26,6 +26,17 @@ def examples():
     for words, name in sorted({(words, given.split()[0]) for _, words, given in lines}):
         with open(f"{ROOT}/examples/{name}", "rb") as file:
             yield tuple(words.split()), file.read()
+
+
+def gallery():
+    """Yields the words of each job that reads maps or graphs, and each map and graph of the gallery as its input."""
+    drawing = [(job, *form) for job in ("shift", "schnyder", "bars", "convex", "rect") for form in ((), ("--form", "svg"))]
+    folder = f"{ROOT}/docs/gallery"
+    for name in sorted(os.listdir(folder)):
+        jobs = {"plc": [("count",), *drawing], "g6": [("embed",), ("embed", "--form", "svg")]}.get(name.rpartition(".")[2], ())
+        for words in jobs:
+            with open(f"{folder}/{name}", "rb") as file:
+                yield words, file.read()
 
 
 def rows():

@@ -1,20 +1,30 @@
-"""Builds of the proved program for each system that it is released for.
+"""Builds of the proved program and library for each system that they are released for.
 
 A copy of the program's crates takes over the libraries that the gate proved, and `rattle build` proves and compiles the
-crate on top once for each target. A kit that keeps on the machine what passed hands them over itself, in a minute, and
-proves what no gate did, which takes long. Of another kit the libraries are those that the gate left in out/; it fails
-where one is missing, or older than a source."""
+crate on top once for each target of the kit. A kit that keeps on the machine what passed hands them over itself, in a
+minute, and proves what no gate did, which takes long. Of another kit the libraries are those that the gate left in out/; it
+fails where one is missing, or older than a source.
+
+For Windows and macOS the kit has no target. There the LLVM module that the kit's clang is given for Linux, on the same
+processor, is compiled again for that system, with the same options, by the same clang. The memory of the library is
+compiled to LLVM for Linux first and then goes the same way, so both sides agree on how a value of two words is returned."""
+import glob
 import os
 import re
 import shutil
 import subprocess
 import tempfile
+from dataclasses import dataclass
+
+import calls
 
 ROOT = os.path.dirname(os.path.dirname(os.path.realpath(__file__)))
 TOOLS = f"{ROOT}/tools"
 ARM = "aarch64-linux-gnu"
 WEB = ("--enable-memory64", "--enable-bulk-memory", "--enable-mutable-globals", "--enable-sign-ext")
-EXPORTS = ("pigale_run", "memory_for", "memory_back")
+LINUX = {"x86_64": "x86_64-unknown-linux-gnu", "aarch64": "aarch64-unknown-linux-gnu"}
+MINGW = "x86_64-w64-mingw32"
+STACK = 1 << 20  # bytes of stack that the module sets aside, as many as the header says that a call wants
 
 
 class Failed(Exception):
@@ -139,10 +149,15 @@ def gate_program(copy):
     return f"{copy.folder}/crates/pigale/out/pigale"
 
 
+def tool(name):
+    """Returns the path of a tool of the kit's toolchain."""
+    return f"{kit()}/toolchain/bin/{name}"
+
+
 def static_program(copy, to):
     """Links the program for x86-64 with all that it needs, and returns its target and the last line of its proof."""
     with tempfile.TemporaryDirectory() as room:
-        target = "x86_64-unknown-linux-gnu"
+        target = LINUX["x86_64"]
         verdict = copy.build("pigale", f"{room}/pigale.o", "--target", target)
         parts = [f"{room}/pigale.o", f"{kit()}/c/libos_c.a", f"{kit()}/c/liblibc_c.a"]
         call(f"{kit()}/bin/rattle-link", "--target", target, "--toolchain", f"{kit()}/toolchain",
@@ -157,42 +172,154 @@ def static_program(copy, to):
 def arm_program(copy, to):
     """Links the program for arm64 with all that it needs, and returns its target and the last line of its proof."""
     with tempfile.TemporaryDirectory() as room:
-        target = "aarch64-unknown-linux-gnu"
+        target = LINUX["aarch64"]
         verdict = copy.build("pigale", f"{room}/pigale.o", "--target", target)
         call(f"{ARM}-gcc", "-O2", "-static", "-Wl,--gc-sections", "-s", "-o", to, f"{room}/pigale.o", f"{TOOLS}/arm64.c")
     return target, verdict
 
 
-def module(copy, to):
-    """Makes the WebAssembly module of the C library, and returns its target and the last line of its proof."""
-    with tempfile.TemporaryDirectory() as room:
-        verdict = copy.build("pigale_c", f"{room}/library.a", "--crate-type", "staticlib", "--jobs", "2",
-                             toolchain=keeping(room))
-        clang, wasm = f"{kit()}/toolchain/bin/clang", "--target=wasm64-unknown-unknown"
-        call(clang, wasm, "-O2", "-w", "-c", "-x", "ir", f"{room}/module.bc", "-o", f"{room}/module.o")
-        call(clang, wasm, "-O2", "-Wall", "-mbulk-memory", "-fno-builtin", "-c", f"{ROOT}/web/src/memory.c",
-             "-o", f"{room}/memory.o")
-        call(f"{kit()}/toolchain/bin/ld.lld", "-flavor", "wasm", "-mwasm64", "--no-entry", "--gc-sections",
-             "--stack-first", "-z", "stack-size=8388608", *[f"--export={it}" for it in EXPORTS],
-             f"{room}/module.o", f"{room}/memory.o", "-o", f"{room}/wide.wasm")
-        # 64-bit memories are of late browsers only: addresses are made of 32 bits
-        call("wasm-opt", "--memory64-lowering", *WEB, "-O1", "--strip-debug", "--strip-producers",
-             f"{room}/wide.wasm", "-o", to)
-    return "wasm32", verdict
+@dataclass
+class Built:
+    """The library as the kit built it for Linux: the processor, a folder with its archive, its LLVM module and the options
+    of clang, and the last line of its proof."""
+    machine: str
+    folder: str
+    verdict: str
+
+    @property
+    def target(self):
+        return LINUX[self.machine]
+
+    def options(self):
+        """Returns the options that clang was given, but for the target and the files."""
+        with open(f"{self.folder}/options", encoding="utf-8") as file:
+            words = file.read().split("\0")[:-1]
+        at = words.index("-o")
+        words = words[:at] + words[at + 2:]
+        return [it for it in words if not it.startswith("--target=") and not it.endswith(".bc")]
 
 
-def keeping(room):
-    """Returns a toolchain that is the kit's and keeps in `room` the module that its clang is given."""
-    to = f"{room}/toolchain"
+def built_library(copy, machine, folder):
+    """Builds the library for Linux on a processor into a folder, and keeps the module of which clang made it."""
+    os.makedirs(folder)
+    verdict = copy.build("pigale_c", f"{folder}/library.a", "--crate-type", "staticlib", "--target", LINUX[machine],
+                         "--jobs", "2", toolchain=keeping(folder))
+    return Built(machine, folder, verdict)
+
+
+def keeping(folder):
+    """Returns a toolchain that is the kit's, and keeps in a folder the module and the options that its clang is given."""
+    to = f"{folder}/toolchain"
     os.makedirs(f"{to}/bin")
     os.symlink(f"{kit()}/toolchain/lib", f"{to}/lib")
     for it in os.listdir(f"{kit()}/toolchain/bin"):
-        os.symlink(f"{kit()}/toolchain/bin/{it}", f"{to}/bin/{it}")
+        os.symlink(tool(it), f"{to}/bin/{it}")
     os.remove(f"{to}/bin/clang")
     with open(f"{to}/bin/clang", "w", encoding="utf-8") as file:
         file.write(f"""#!/bin/bash
-for it in "$@"; do case $it in *.bc) cp "$it" '{room}/module.bc' ;; esac; done
-exec -a "$0" '{kit()}/toolchain/bin/clang' "$@"
+for it in "$@"; do case $it in *.bc) cp "$it" '{folder}/module.bc' && printf '%s\\0' "$@" >'{folder}/options' ;; esac; done
+exec -a "$0" '{tool("clang")}' "$@"
 """)
     os.chmod(f"{to}/bin/clang", 0o755)
     return to
+
+
+def linux_memory(machine, to, *kind):
+    """Compiles the memory of the library for Linux on a processor, to an object or what else `kind` asks clang for."""
+    call(tool("clang"), f"--target={LINUX[machine]}", "-O2", "-fPIC", "-fvisibility=hidden", "-ffreestanding", "-Wall", "-Werror",
+         *(kind or ("-c",)), f"{ROOT}/library/memory.c", "-o", to)
+
+
+def archive(to, kind, *objects):
+    """Makes a static library, of GNU's kind or of Darwin's."""
+    call(tool("llvm-ar"), f"--format={kind}", "rcsD", to, *objects)
+
+
+def objects_of(built, room):
+    """Returns the objects of the library's archive, taken out of it."""
+    os.makedirs(room)
+    call(tool("llvm-ar"), "x", f"{built.folder}/library.a", cwd=room)
+    return sorted(glob.glob(f"{room}/*"))
+
+
+def linux_library(built, to):
+    """Makes the static and the shared library for Linux in a folder. They ask for no version of any C library: what the
+    shared one calls is found in the program that loads it."""
+    os.makedirs(to)
+    linux_memory(built.machine, f"{built.folder}/memory.o")
+    parts = [*objects_of(built, f"{built.folder}/objects"), f"{built.folder}/memory.o"]
+    archive(f"{to}/libpigale.a", "gnu", *parts)
+    call(tool("ld.lld"), "-shared", "-soname", "libpigale.so.1", "-Bsymbolic", "--version-script", f"{ROOT}/library/exports.map",
+         "--gc-sections", "-s", "-z", "noexecstack", "-z", "relro", "-z", "now", *parts, "-o", f"{to}/libpigale.so.1")
+    os.symlink("libpigale.so.1", f"{to}/libpigale.so")
+
+
+def foreign_objects(built, target, room):
+    """Compiles the module of the library, and its memory, for a system that the kit has no target for."""
+    os.makedirs(room)
+    clang = tool("clang")
+    call(clang, "-S", "-emit-llvm", "-x", "ir", "-Xclang", "-disable-llvm-passes", f"{built.folder}/module.bc", "-w",
+         "--no-default-config", "-o", f"{room}/module.ll")
+    linux_memory(built.machine, f"{room}/memory.ll", "-S", "-emit-llvm")
+    options = [it for it in built.options() if it not in ("-fPIC", "-fPIE")] + ["-w", "-O3"]
+    if target.endswith("windows-gnu"):
+        # a probe of the stack that is written out is none of this system: the target's own probe comes in its place
+        call("sed", "-i", 's/"probe-stack"="inline-asm"//', f"{room}/module.ll")
+    else:
+        options.append("-fPIC")
+    for name in ("module", "memory"):
+        call(clang, *options, f"--target={target}", f"{room}/{name}.ll", "-o", f"{room}/{name}.o")
+    return [f"{room}/module.o", f"{room}/memory.o"]
+
+
+def windows(built, to):
+    """Makes the program, the static and the shared library for Windows in a folder, by the compiler mingw-w64."""
+    with tempfile.TemporaryDirectory() as room:
+        parts = foreign_objects(built, "x86_64-pc-windows-gnu", f"{room}/objects")
+        os.makedirs(to)
+        archive(f"{to}/libpigale.a", "gnu", *parts)
+        with open(f"{to}/pigale.def", "w", encoding="utf-8") as file:
+            file.write("LIBRARY pigale.dll\nEXPORTS\n" + "".join(f"    {name}\n" for name in calls.names()))
+        how = ["-Wl,--gc-sections", "-Wl,--no-insert-timestamp", "-static-libgcc", "-s"]
+        call(f"{MINGW}-gcc", *how, "-shared", *parts, f"{to}/pigale.def", f"-Wl,--out-implib,{to}/libpigale.dll.a", "-o", f"{to}/pigale.dll")
+        call(f"{MINGW}-gcc", *how, "-O2", "-Wall", "-Werror", f"-I{ROOT}/include", f"{ROOT}/library/program.c", *parts, "-o", f"{to}/pigale.exe")
+
+
+def macos(built, to):
+    """Makes the program, the static and the shared library for macOS 11 in a folder, by the kit's own linker."""
+    processor = {"aarch64": "arm64"}.get(built.machine, built.machine)
+    target = f"{processor}-apple-macos11"
+    with tempfile.TemporaryDirectory() as room:
+        parts = foreign_objects(built, target, f"{room}/objects")
+        os.makedirs(to)
+        archive(f"{to}/libpigale.a", "darwin", *parts)
+        link = [tool("ld.lld"), "-flavor", "darwin", "-arch", processor, "-platform_version", "macos", "11.0", "11.0", "-dead_strip", "-S", "-x"]
+        system = f"{ROOT}/library/libSystem.tbd"
+        call(*link, "-dylib", "-install_name", "@rpath/libpigale.1.dylib", "-exported_symbol", "_pigale_*", *parts, system,
+             "-o", f"{to}/libpigale.1.dylib")
+        os.symlink("libpigale.1.dylib", f"{to}/libpigale.dylib")
+        headers = call("gcc", "-print-file-name=include").strip()
+        call(tool("clang"), f"--target={target}", "-O2", "-ffreestanding", "-Wall", "-Werror", "-isystem", headers, f"-I{ROOT}/include",
+             "-c", f"{ROOT}/library/program.c", "-o", f"{room}/program.o")
+        call(*link, "-e", "_main", f"{room}/program.o", *parts, system, "-o", f"{to}/pigale")
+
+
+def module(copy, to):
+    """Makes the WebAssembly module of the C library, and returns its target and the last line of its proof."""
+    with tempfile.TemporaryDirectory() as room:
+        target = "wasm64-unknown-unknown"
+        verdict = copy.build("pigale_c", f"{room}/library.a", "--crate-type", "staticlib", "--target", target, "--jobs", "2")
+        link_module([f"{room}/library.a"], to)
+    return target, verdict
+
+
+def link_module(parts, to):
+    """Links objects for WebAssembly with 64-bit addresses to a module with all calls, and lowers its addresses to 32 bits."""
+    with tempfile.TemporaryDirectory() as room:
+        call(tool("clang"), "--target=wasm64-unknown-unknown", "-O2", "-Wall", "-mbulk-memory", "-fno-builtin", "-c",
+             f"{ROOT}/web/src/memory.c", "-o", f"{room}/memory.o")
+        exports = [f"--export={it}" for it in (*calls.names(), "memory_for", "memory_back")]
+        call(tool("ld.lld"), "-flavor", "wasm", "-mwasm64", "--no-entry", "--gc-sections", "--stack-first", "-z", f"stack-size={STACK}",
+             *exports, *parts, f"{room}/memory.o", "-o", f"{room}/wide.wasm")
+        # 64-bit memories are of late browsers only
+        call("wasm-opt", "--memory64-lowering", *WEB, "-O1", "--strip-debug", "--strip-producers", f"{room}/wide.wasm", "-o", to)
