@@ -48,6 +48,10 @@ def body_of(module):
     body = re.sub(r"^static void init_data_instances\(.*?^}\n|^ *init_data_instances\([^\n]*\n", "", body, flags=re.M | re.S)
     for name in ("memory", "memory_back"):
         body = re.sub(rf"^[^\n]* Z_pigaleZ_{name}\(.*?^}}\n", "", body, flags=re.M | re.S)
+    # the first global is the top of the stack
+    body, tops = re.subn(r"^( *)(instance->w2c_g0) = (\w+);$", r"\g<0>\n\1STACK_CHECK(\3);", body, flags=re.M)
+    if not tops or "w2c_g1" in body:
+        sys.exit("c_source: the module has not one global, the top of its stack")
     # only the calls of the header are seen from outside
     return instance + re.sub(rf"^((?:void|u32|u64|wasm_rt_memory_t\*) {NAMES}\()", r"static \1", body, flags=re.M)
 

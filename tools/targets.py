@@ -243,15 +243,25 @@ def objects_of(built, room):
 
 
 def linux_library(built, to):
-    """Makes the static and the shared library for Linux in a folder. They ask for no version of any C library: what the
-    shared one calls is found in the program that loads it."""
-    os.makedirs(to)
+    """Makes what is packed for Linux in a folder: the static and the shared library. They ask for no version of any C library:
+    what the shared one calls is found in the program that loads it."""
+    lib = with_common(to)
     linux_memory(built.machine, f"{built.folder}/memory.o")
     parts = [*objects_of(built, f"{built.folder}/objects"), f"{built.folder}/memory.o"]
-    archive(f"{to}/libpigale.a", "gnu", *parts)
+    archive(f"{lib}/libpigale.a", "gnu", *parts)
     call(tool("ld.lld"), "-shared", "-soname", "libpigale.so.1", "-Bsymbolic", "--version-script", f"{ROOT}/library/exports.map",
-         "--gc-sections", "-s", "-z", "noexecstack", "-z", "relro", "-z", "now", *parts, "-o", f"{to}/libpigale.so.1")
-    os.symlink("libpigale.so.1", f"{to}/libpigale.so")
+         "--gc-sections", "-s", "-z", "noexecstack", "-z", "relro", "-z", "now", *parts, "-o", f"{lib}/libpigale.so.1")
+    os.symlink("libpigale.so.1", f"{lib}/libpigale.so")
+
+
+def with_common(to):
+    """Makes a folder with what each system has: the header, the text for pkg-config, the licence; returns its folder `lib`."""
+    for it in ("include", "lib/pkgconfig"):
+        os.makedirs(f"{to}/{it}")
+    shutil.copy(f"{ROOT}/include/pigale.h", f"{to}/include")
+    shutil.copy(f"{ROOT}/library/pigale.pc", f"{to}/lib/pkgconfig")
+    shutil.copy(f"{ROOT}/LICENSE", to)
+    return f"{to}/lib"
 
 
 def foreign_objects(built, target, room):
@@ -273,35 +283,37 @@ def foreign_objects(built, target, room):
 
 
 def windows(built, to):
-    """Makes the program, the static and the shared library for Windows in a folder, by the compiler mingw-w64."""
+    """Makes what is packed for Windows in a folder, by the compiler mingw-w64: the program, and both libraries."""
     with tempfile.TemporaryDirectory() as room:
         parts = foreign_objects(built, "x86_64-pc-windows-gnu", f"{room}/objects")
-        os.makedirs(to)
-        archive(f"{to}/libpigale.a", "gnu", *parts)
-        with open(f"{to}/pigale.def", "w", encoding="utf-8") as file:
+        lib, program = with_common(to), f"{to}/bin"
+        os.makedirs(program)
+        archive(f"{lib}/libpigale.a", "gnu", *parts)
+        with open(f"{lib}/pigale.def", "w", encoding="utf-8") as file:
             file.write("LIBRARY pigale.dll\nEXPORTS\n" + "".join(f"    {name}\n" for name in calls.names()))
         how = ["-Wl,--gc-sections", "-Wl,--no-insert-timestamp", "-static-libgcc", "-s"]
-        call(f"{MINGW}-gcc", *how, "-shared", *parts, f"{to}/pigale.def", f"-Wl,--out-implib,{to}/libpigale.dll.a", "-o", f"{to}/pigale.dll")
-        call(f"{MINGW}-gcc", *how, "-O2", "-Wall", "-Werror", f"-I{ROOT}/include", f"{ROOT}/library/program.c", *parts, "-o", f"{to}/pigale.exe")
+        call(f"{MINGW}-gcc", *how, "-shared", *parts, f"{lib}/pigale.def", f"-Wl,--out-implib,{lib}/libpigale.dll.a", "-o", f"{program}/pigale.dll")
+        call(f"{MINGW}-gcc", *how, "-O2", "-Wall", "-Werror", f"-I{ROOT}/include", f"{ROOT}/library/program.c", *parts, "-o", f"{program}/pigale.exe")
 
 
 def macos(built, to):
-    """Makes the program, the static and the shared library for macOS 11 in a folder, by the kit's own linker."""
+    """Makes what is packed for macOS 11 in a folder, by the kit's own linker: the program, and both libraries."""
     processor = {"aarch64": "arm64"}.get(built.machine, built.machine)
     target = f"{processor}-apple-macos11"
     with tempfile.TemporaryDirectory() as room:
         parts = foreign_objects(built, target, f"{room}/objects")
-        os.makedirs(to)
-        archive(f"{to}/libpigale.a", "darwin", *parts)
+        lib, program = with_common(to), f"{to}/bin"
+        os.makedirs(program)
+        archive(f"{lib}/libpigale.a", "darwin", *parts)
         link = [tool("ld.lld"), "-flavor", "darwin", "-arch", processor, "-platform_version", "macos", "11.0", "11.0", "-dead_strip", "-S", "-x"]
         system = f"{ROOT}/library/libSystem.tbd"
         call(*link, "-dylib", "-install_name", "@rpath/libpigale.1.dylib", "-exported_symbol", "_pigale_*", *parts, system,
-             "-o", f"{to}/libpigale.1.dylib")
-        os.symlink("libpigale.1.dylib", f"{to}/libpigale.dylib")
+             "-o", f"{lib}/libpigale.1.dylib")
+        os.symlink("libpigale.1.dylib", f"{lib}/libpigale.dylib")
         headers = call("gcc", "-print-file-name=include").strip()
         call(tool("clang"), f"--target={target}", "-O2", "-ffreestanding", "-Wall", "-Werror", "-isystem", headers, f"-I{ROOT}/include",
              "-c", f"{ROOT}/library/program.c", "-o", f"{room}/program.o")
-        call(*link, "-e", "_main", f"{room}/program.o", *parts, system, "-o", f"{to}/pigale")
+        call(*link, "-e", "_main", f"{room}/program.o", *parts, system, "-o", f"{program}/pigale")
 
 
 def module(copy, to):

@@ -1,9 +1,9 @@
 /* What the translation asks of C: numbers of given widths, a memory, and an answer to a fault. The names are those of wasm2c.
  *
  * A memory is the module's own: addresses are offsets in it, and numbers stand in it with the lesser byte first, whatever the
- * processor has. Each access is compared with its size. A fault (an access outside, no memory for the stack) ends the call
- * that runs, which then answers that there is not enough memory. With PIGALE_UNCHECKED no access is compared: the code that
- * was translated is proved to stay inside, but for the depth of its stack. */
+ * processor has. The code that was translated is proved to stay inside, but for the depth of its stack: that is looked at
+ * wherever it grows. A fault ends the call that runs, which then answers that there is not enough memory. With
+ * PIGALE_CHECKED each access is compared with the size of the memory too, which takes half the time again. */
 #include "pigale.h"
 
 #include <setjmp.h>
@@ -53,10 +53,13 @@ NO_RETURN static void trap(void) { longjmp(*fault, 1); }
 #define RANGE_CHECK(mem, at, length) \
     if (UNLIKELY((u64)(at) + (u64)(length) > (mem)->size)) trap()
 
-#if defined(PIGALE_UNCHECKED)
-#define ACCESS_CHECK(mem, at, length)
-#else
+#define STACK_CHECK(top) \
+    if (UNLIKELY((s64)(top) < 0)) trap() /* the stack lies below all else, and ends at 0 */
+
+#if defined(PIGALE_CHECKED)
 #define ACCESS_CHECK RANGE_CHECK
+#else
+#define ACCESS_CHECK(mem, at, length)
 #endif
 
 static void wasm_rt_allocate_memory(wasm_rt_memory_t *mem, u32 pages, u32 most)
