@@ -65,8 +65,21 @@ class Install(Scripts):
         # without --stale the program has to be of these sources, so that is asked of the real one
         status, _, said = self.ran("./install", os.path.join(self.folder, "prefix-2"))
         if status == 0:
-            self.assertFalse(os.path.exists(os.path.join(self.folder, "prefix-2", "lib")))
-            self.assertIn("left out; tools/library makes it anew", said)
+            self.assertEqual("the released library" in said, os.path.exists(os.path.join(self.folder, "prefix-2", "lib")))
+            self.assertIn("the library in out/library is of other sources than these", said)
+
+    def test_the_released_library(self):
+        """What release/ has for this system is unpacked, and a program in C is compiled and linked with it by pkg-config."""
+        prefix = os.path.join(self.folder, "prefix")
+        status, _, said = self.ran("./install", "--stale", prefix)
+        self.assertEqual(status, 0, said)
+        if "the released library" not in said or not shutil.which("cc") or not shutil.which("pkg-config"):
+            self.skipTest("release/ has no library for this system, or there is no compiler or pkg-config")
+        environment = {**os.environ, "PKG_CONFIG_PATH": os.path.join(prefix, "lib", "pkgconfig")}
+        words = subprocess.run(["pkg-config", "--cflags", "--libs", "pigale"], env=environment, stdout=subprocess.PIPE, check=True).stdout
+        program = os.path.join(self.folder, "draw")
+        subprocess.run(["cc", os.path.join(TOP, "examples", "c", "draw.c"), *words.decode().split(), "-o", program], check=True)
+        self.assertEqual(self.ran(program)[0], 0)
 
 
 class Unrun(unittest.TestCase):
