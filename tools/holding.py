@@ -7,6 +7,7 @@ import platform
 import shutil
 import subprocess
 import tempfile
+from concurrent.futures import ThreadPoolExecutor
 
 import answers
 import packing
@@ -77,7 +78,8 @@ def hold_windows(path):
         return None, wants
     words = [] if on_windows else ["wine"]
     with tempfile.TemporaryDirectory() as room:
-        os.environ.setdefault("WINEPREFIX", f"{room}/wine")
+        if words:
+            os.environ.setdefault("WINEPREFIX", f"{tempfile.gettempdir()}/pigale-wine-{os.getuid()}")
         os.environ.setdefault("WINEDEBUG", "-all")
         folder = packing.unpack(path, room)
         # wine makes its folders at its first start, and says so
@@ -124,6 +126,13 @@ def hold_module(path):
         return None, "node"
     ran = subprocess.run(["node", f"{ROOT}/npm/test.mjs", path], check=False)
     return "node", int(ran.returncode != 0)
+
+
+def all_held(held):
+    """Holds files side by side, each given by its name, its path and what holds it. Returns by name what that returns."""
+    with ThreadPoolExecutor(min(4, os.cpu_count())) as pool:
+        waiting = {name: pool.submit(hold, path) for name, path, hold in held}
+    return {name: it.result() for name, it in waiting.items()}
 
 
 def hold_page(_):
