@@ -1,0 +1,3 @@
+-- Lists of numbers by links.
+pub mod Chains
+pub mod Held

@@ -1,0 +1,3 @@
+-- Blocks of edges, and what forks demand of sides.
+pub mod Blocks
+pub mod Ties

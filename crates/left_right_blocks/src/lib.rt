@@ -1,0 +1,4 @@
+//! Blocks.
+#![tactic(auto)]
+
+mod ties;
