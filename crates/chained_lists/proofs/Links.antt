@@ -383,6 +383,11 @@ module _ (next first last : List ℕ) (lists : ℕ → List ℕ) (h : AreLinked 
       (subst (λ u. AreLinked next (set (set first p u) q none) (set last p (Z q)) (put q [] (put p (lists p ++ lists q) lists))) f.0
       (joined_into p q l (in_list q x rest e) ne f.1 none far ends (omega (arith, is, off))))
 
+  -- with tables that are as after the first write
+  pub joins_by : (next' first' last' new : List ℕ) (p q w none : ℕ) (lists' : ℕ → List ℕ) → next' ≡ new → first' ≡ first → last' ≡ last → AreLinked new (set first q none) (set last p w) lists' → AreLinked next' (set first' q none) (set last' p w) lists'
+  joins_by next' first' last' new p q w none lists' a b c m =
+      subst (λ u. AreLinked u (set first' q none) (set last' p w) lists') (sym a) (subst (λ u. AreLinked new (set u q none) (set last' p w) lists') (sym b) (subst (λ u. AreLinked new (set first q none) (set u p w) lists') (sym c) m))
+
   -- where a list with a number ends
   pub ends_in : (p y z : ℕ) → p < length first → y ≡ F p → y < length next → z ≡ Z p → z < length next
   ends_in p y z l is near is_z = let a = last_in p l (omega (arith, is, near)) in omega (arith, is_z, a)

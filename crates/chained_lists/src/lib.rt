@@ -24,7 +24,7 @@ pub struct ChainedLists {
 }
 
 impl ChainedLists {
-    ghost use Rattle.std.specs.Prelude.{◌≡◌, ◌≢◌, ◌<◌, ◌↔◌, ◌+◌, ◌++◌, ◌∷◌, ℕ, List, [], length, IsTrue, IfOk, MatchOption, Contains};
+    ghost use Rattle.std.specs.Prelude.{◌≡◌, ◌≢◌, ◌<◌, ◌↔◌, ◌+◌, ◌++◌, ◌∷◌, ℕ, List, [], length, IsTrue, IfOk, IfSome, slice_set, MatchOption, Contains};
     ghost use Rattle.chained_lists.specs.Chains.{put, singles};
     ghost use Rattle.chained_lists.specs.Held.{Holds, IsPopped, BeginsWith};
 
@@ -56,7 +56,8 @@ impl ChainedLists {
 
     /// Returns the first number of list `p`, or None where it is empty or there is no such list.
     pub fn first(&self, p: usize) -> Option<u16>
-        ensures { (lists : ℕ → List ℕ) → Holds self.now lists → MatchOption result (lists p ≡ []) (BeginsWith (lists p)) }
+        ensures number { IfSome result (λ x. (x < length self.now.next.items) × (p < length self.now.first.items)) }
+        ensures first { (lists : ℕ → List ℕ) → Holds self.now lists → MatchOption result (lists p ≡ []) (BeginsWith (lists p)) }
     {
         if p >= self.first.len() {
             return None;
@@ -67,7 +68,7 @@ impl ChainedLists {
 
     /// Takes the first number from list `p` and returns it, or None where the list is empty.
     pub fn pop(&mut self, p: usize) -> Option<u16>
-        requires held { (lists : ℕ → List ℕ) × Holds self.old lists }
+        ensures number { IfSome result (λ x. x < length self.old.next.items) }
         ensures popped { (lists : ℕ → List ℕ) → Holds self.old lists → MatchOption result (Holds self.new lists × (lists p ≡ [])) (IsPopped self.new lists p) }
         ensures count { length self.new.first.items ≡ length self.old.first.items }
         ensures numbers { length self.new.next.items ≡ length self.old.next.items }
@@ -101,12 +102,22 @@ impl ChainedLists {
         self.last[p] = x;
     }
 
-    /// Moves the numbers of list `q` behind those of the list `p`.
+    // Puts `x` behind the number `before` in its list, or does nothing if `before` is no number.
+    fn link(&mut self, before: u16, x: u16)
+        ensures next { self.new.next.items ≡ slice_set self.old.next.items before x }
+        ensures first { self.new.first.items ≡ self.old.first.items }
+        ensures last { self.new.last.items ≡ self.old.last.items }
+    {
+        let before = usize::from(before);
+        if before < self.next.len() {
+            self.next[before] = x;
+        }
+    }
+
+    /// Moves the numbers of list `q` behind those of another list `p`. Where the two are one list, nothing is promised.
     pub fn join(&mut self, p: usize, q: usize)
-        requires held { (lists : ℕ → List ℕ) × Holds self.old lists }
         requires room { p < length self.old.first.items }
-        requires apart { p ≢ q }
-        ensures joined { (lists : ℕ → List ℕ) → Holds self.old lists → Holds self.new (put q [] (put p (lists p ++ lists q) lists)) }
+        ensures joined { (lists : ℕ → List ℕ) → Holds self.old lists → p ≢ q → Holds self.new (put q [] (put p (lists p ++ lists q) lists)) }
         ensures count { length self.new.first.items ≡ length self.old.first.items }
         ensures numbers { length self.new.next.items ≡ length self.old.next.items }
     {
@@ -117,7 +128,7 @@ impl ChainedLists {
         let end = self.last[q];
         if self.is_number(begin) {
             let before = self.last[p];
-            self.next[usize::from(before)] = x;
+            self.link(before, x);
             self.first[q] = NONE;
             self.last[p] = end;
             return;

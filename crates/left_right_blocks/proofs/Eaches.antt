@@ -36,16 +36,16 @@ pub each_itself : {X : Type 0} (xs : List X) → Each (Contains xs) xs
 each_itself xs = each_from (Contains xs) xs (λ x c. c)
 
 -- ---- the edges of blocks
-pub edges_append : (as bs : List Block) → edges_in (as ++ bs) ≡ edges_in as ++ edges_in bs
+pub edges_append : (ds bs : List Block) → edges_in (ds ++ bs) ≡ edges_in ds ++ edges_in bs
 edges_append [] bs = refl
-edges_append (a ∷ as) bs = ap (λ xs. edges_of a ++ xs) (edges_append as bs) ∙ sym (append_assoc (edges_of a) (edges_in as) (edges_in bs))
+edges_append (a ∷ ds) bs = ap (λ xs. edges_of a ++ xs) (edges_append ds bs) ∙ sym (append_assoc (edges_of a) (edges_in ds) (edges_in bs))
 
-module _ (P : ℕ → Type 0) (as bs : List Block) where
-  pub each_edges : Each P (edges_in as) → Each P (edges_in bs) → Each P (edges_in (as ++ bs))
-  each_edges a b = subst (Each P) (sym (edges_append as bs)) (each_joined P (edges_in as) (edges_in bs) a b)
+module _ (P : ℕ → Type 0) (ds bs : List Block) where
+  pub each_edges : Each P (edges_in ds) → Each P (edges_in bs) → Each P (edges_in (ds ++ bs))
+  each_edges a b = subst (Each P) (sym (edges_append ds bs)) (each_joined P (edges_in ds) (edges_in bs) a b)
 
-  pub each_edges_left : Each P (edges_in (as ++ bs)) → Each P (edges_in as)
-  each_edges_left h = each_left P (edges_in as) (edges_in bs) (subst (Each P) (edges_append as bs) h)
+  pub each_edges_left : Each P (edges_in (ds ++ bs)) → Each P (edges_in ds)
+  each_edges_left h = each_left P (edges_in ds) (edges_in bs) (subst (Each P) (edges_append ds bs) h)
 
-  pub each_edges_right : Each P (edges_in (as ++ bs)) → Each P (edges_in bs)
-  each_edges_right h = each_right P (edges_in as) (edges_in bs) (subst (Each P) (edges_append as bs) h)
+  pub each_edges_right : Each P (edges_in (ds ++ bs)) → Each P (edges_in bs)
+  each_edges_right h = each_right P (edges_in ds) (edges_in bs) (subst (Each P) (edges_append ds bs) h)

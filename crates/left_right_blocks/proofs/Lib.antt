@@ -3,3 +3,8 @@ pub mod Eaches
 pub mod ShortDemands
 -- Blocks put into one another.
 pub mod Merged
+pub mod Shaped
+-- Ties.
+pub mod Kept
+-- Steps.
+pub mod Steps

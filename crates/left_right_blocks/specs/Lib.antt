@@ -1,3 +1,6 @@
 -- Blocks of edges, and what forks demand of sides.
 pub mod Blocks
 pub mod Ties
+pub mod Parts
+pub mod Found
+pub mod Steps

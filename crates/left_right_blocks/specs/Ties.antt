@@ -16,6 +16,10 @@ abbrev pub AreInTurn : List Tie → Type 0
 AreInTurn [] = Unit {0}
 AreInTurn (t ∷ ts) = (t.edge ≢ t.to) × (Each (λ (u : Tie). (t.edge ≢ u.edge) × (t.edge ≢ u.to)) ts × AreInTurn ts)
 
--- the edges of ties are numbers below a bound that are in no list
-abbrev pub AreGone : ℕ → (ℕ → List ℕ) → List Tie → Type 0
-AreGone bound lists ties = Each (λ (t : Tie). (t.edge < bound) × ((p : ℕ) → ¬ Contains (lists p) t.edge)) ties
+-- the edges of ties are numbers below a bound
+abbrev pub AreBelow : ℕ → List Tie → Type 0
+AreBelow bound ties = Each (λ (t : Tie). t.edge < bound) ties
+
+-- the edges of ties are in no list
+abbrev pub AreGone : (ℕ → List ℕ) → List Tie → Type 0
+AreGone lists ties = Each (λ (t : Tie). (p : ℕ) → ¬ Contains (lists p) t.edge) ties

@@ -2,8 +2,8 @@ use Rattle.std.proofs.Common.{refl, ◌<◌, ◌∷◌, length, slice_index, ap,
 use Rattle.chained_lists.proofs.Links.{begins, read}
 use Rattle.chained_lists.proofs.ChainedLists.first.Goals as goal
 
-pub returns-then-is_number : goal.returns-then-is_number
-returns-then-is_number c = λ lists h.
+pub returns-then-is_number-clause-first : goal.returns-then-is_number-clause-first
+returns-then-is_number-clause-first c = λ lists h.
     let s = c.args.self.now in
     let l : c.args.p < length s.first.items = omega (arith, c.if-p-len.false, c.len.ensures, s.first.ok.0) in
     let is = read s.first.items c.args.p c.index-x.result.now l c.index-x.ensures in
