@@ -8,3 +8,5 @@ pub mod Shaped
 pub mod Kept
 -- Steps.
 pub mod Steps
+pub mod Merging
+pub mod Dropping

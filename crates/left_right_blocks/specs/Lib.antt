@@ -4,3 +4,4 @@ pub mod Ties
 pub mod Parts
 pub mod Found
 pub mod Steps
+pub mod Trims

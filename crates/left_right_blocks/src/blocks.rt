@@ -23,7 +23,7 @@ enum Taken {
     /// No block has an edge that is deep enough.
     Nothing,
     /// The block that all that was taken is in, on one side.
-    Block(u16),
+    First(u16),
     /// Two edges have to be on one side that a block has on different ones.
     Clash,
 }
@@ -53,12 +53,14 @@ fn height(heights: &[u16], x: u16) -> u16
 }
 
 impl Blocks {
-    ghost use Rattle.std.specs.Prelude.{◌≡◌, ◌≢◌, ◌+◌, ◌<◌, ◌≤◌, ◌↔◌, ◌||◌, Bool, true, ℕ, List, [], ◌∷◌, length, slice_index, IfSome, IfOk, IsTrue, MatchOption, MatchBool, Contains};
+    ghost use Rattle.std.specs.Prelude.{◌≡◌, ◌≢◌, ◌+◌, ◌<◌, ◌≤◌, ◌↔◌, ◌||◌, Bool, true, ℕ, List, [], ◌∷◌, ◌++◌, length, slice_index, IfSome, IfOk, IsTrue, MatchOption, MatchBool, Contains};
     ghost use Rattle.chained_lists.specs.Chains.{put};
     ghost use Rattle.chained_lists.specs.Held.{Holds, IsPopped, BeginsWith};
     ghost use Rattle.left_right_blocks.specs.Found.{is_deep};
     ghost use Rattle.left_right_blocks.specs.Parts.{block_of, blocks_of};
-    ghost use Rattle.left_right_blocks.specs.Steps.{IsSame, IsNoneAbove, IsTwoSided, IsTaken, AreTaken, HasTwoSided, IsPut, ArePut, HasTwoDeep};
+    ghost use Rattle.left_right_blocks.specs.Blocks.{IsPart};
+    ghost use Rattle.left_right_blocks.specs.Trims.{ties_of, AreTied, IsEnded, AreDropped, AreBlockDropped, HasEdge, IsEmpty, IsTrimmed};
+    ghost use Rattle.left_right_blocks.specs.Steps.{IsSame, IsNoneAbove, IsTwoSided, IsTaken, AreTaken, HasTwoSided, IsPut, ArePut, HasTwoDeep, IsWithin, MatchTaken, AreParts, MatchMerged};
 
     // Returns the number of the second list of block `b`.
     fn other(&self, b: u16) -> usize
@@ -156,5 +158,157 @@ impl Blocks {
             self.lists.join(into, other);
         }
         true
+    }
+
+    // Takes all blocks of the stack `fork.from` with an edge that ends deeper than `fork.limit`, and moves their edges to
+    // the second list of the first of them.
+    fn take(&mut self, heights: &[u16], fork: Fork) -> Taken
+        ensures same { IsSame self.old self.new }
+        ensures within { IsWithin self.old.edges result }
+        ensures taken { (lists stacks : ℕ → List ℕ) → Holds self.old.lists lists → Holds self.old.stacks stacks → MatchTaken (slice_index heights.now) self.old.edges fork.limit fork.from lists stacks self.new result }
+    {
+        let Some(first) = self.pop_above(heights, fork.from, fork.limit) else {
+            return Taken::Nothing;
+        };
+        if self.is_two_sided(first) {
+            return Taken::Clash;
+        }
+        let into = self.other(first);
+        self.lists.join(into, usize::from(first));
+        if self.take_more(heights, fork, first) {
+            Taken::First(first)
+        } else {
+            Taken::Clash
+        }
+    }
+
+    /// Puts the blocks of the stack `fork.from` into those of the stack `fork.into`, as the fork demands of their sides.
+    /// Returns false where there are no such sides. The blocks of each are those of all that returns by an edge of the
+    /// fork, and the edges are in nesting order. `heights` has for each edge the depth of its end.
+    pub fn merge(&mut self, heights: &[u16], fork: Fork) -> bool
+        requires { fork.into < length self.old.stacks.first.items }
+        ensures same { IsSame self.old self.new }
+        ensures merged { (lists stacks : ℕ → List ℕ) → Holds self.old.lists lists → Holds self.old.stacks stacks → AreParts (slice_index heights.now) self.old.edges fork.limit fork.low fork.into fork.from lists stacks → MatchMerged (slice_index heights.now) self.old.edges fork.limit fork.low fork.into fork.from lists stacks self.new result }
+    {
+        match self.take(heights, fork) {
+            Taken::Clash => false,
+            Taken::Nothing => {
+                self.stacks.join(fork.into, fork.from);
+                true
+            }
+            Taken::First(first) => {
+                if !self.put_more(heights, fork, first) {
+                    return false;
+                }
+                self.stacks.join(fork.into, fork.from);
+                self.stacks.push(fork.into, first);
+                true
+            }
+        }
+    }
+
+    // Takes the first edge from `list`, if it ends at `depth` or deeper.
+    fn pop_end(&mut self, heights: &[u16], list: usize, depth: u16) -> Option<u16>
+        ensures same { IsSame self.old self.new }
+        ensures stacks { self.new.stacks ≡ self.old.stacks }
+        ensures popped { (lists : ℕ → List ℕ) → Holds self.old.lists lists → MatchOption result (Holds self.new.lists lists × IsEnded (slice_index heights.now) depth (lists list)) (λ x. IsPopped self.new.lists lists list x × (depth ≤ slice_index heights.now x)) }
+    {
+        let x = self.lists.first(list)?;
+        if height(heights, x) < depth {
+            return None;
+        }
+        self.lists.pop(list)
+    }
+
+    // Ties the edge `x`, which was in list `one`, to the first edge there, or else to the first edge of list `other`, on
+    // the other side. It fails only when out of memory.
+    fn tie(&mut self, x: u16, one: usize, other: usize) -> Result<(), AllocError>
+        ensures edges { self.new.edges ≡ self.old.edges }
+        ensures lists { self.new.lists ≡ self.old.lists }
+        ensures stacks { self.new.stacks ≡ self.old.stacks }
+        ensures tied { (lists : ℕ → List ℕ) → Holds self.old.lists lists → IfOk result (λ _. self.new.ties.items ≡ self.old.ties.items ++ ties_of x (lists one) (lists other)) }
+    {
+        if let Some(to) = self.lists.first(one) {
+            self.ties.push(Tie {
+                edge: x,
+                to,
+                turn: false,
+            })?;
+            return Ok(());
+        }
+        if let Some(to) = self.lists.first(other) {
+            self.ties.push(Tie {
+                edge: x,
+                to,
+                turn: true,
+            })?;
+        }
+        Ok(())
+    }
+
+    // Drops the first edges of list `one` that end at `depth` or deeper, and ties each to one that is left there or in
+    // list `other`. It fails only when out of memory.
+    fn drop_ends(
+        &mut self,
+        heights: &[u16],
+        one: usize,
+        other: usize,
+        depth: u16,
+    ) -> Result<(), AllocError>
+        ensures edges { self.new.edges ≡ self.old.edges }
+        ensures stacks { self.new.stacks ≡ self.old.stacks }
+        ensures dropped { (lists : ℕ → List ℕ) → Holds self.old.lists lists → AreTied self.old.edges lists self.old.ties.items → one ≢ other → IfOk result (λ _. AreDropped (slice_index heights.now) self.old.edges depth one other lists self.new.lists self.old.ties.items self.new.ties.items) }
+    {
+        for _ in 0..self.edges {
+            let Some(x) = self.pop_end(heights, one, depth) else {
+                return Ok(());
+            };
+            self.tie(x, one, other)?;
+        }
+        Ok(())
+    }
+
+    // Drops the edges of block `b` that end at `depth` or deeper, and says whether it has others. Fails only when out of
+    // memory.
+    fn drop_block(&mut self, heights: &[u16], b: u16, depth: u16) -> Result<bool, AllocError>
+        ensures edges { self.new.edges ≡ self.old.edges }
+        ensures stacks { self.new.stacks ≡ self.old.stacks }
+        ensures dropped { (lists : ℕ → List ℕ) → Holds self.old.lists lists → AreTied self.old.edges lists self.old.ties.items → b < self.old.edges → IfOk result (λ left. AreBlockDropped (slice_index heights.now) self.old.edges depth b lists self.new.lists self.old.ties.items self.new.ties.items left) }
+    {
+        let one = usize::from(b);
+        let other = self.other(b);
+        self.drop_ends(heights, one, other, depth)?;
+        self.drop_ends(heights, other, one, depth)?;
+        let left = self.has_edge(b);
+        Ok(left)
+    }
+
+    // Says whether block `b` has an edge.
+    fn has_edge(&self, b: u16) -> bool
+        ensures { (lists : ℕ → List ℕ) → Holds self.now.lists lists → MatchBool result (HasEdge (block_of self.now.edges lists b)) (IsEmpty (block_of self.now.edges lists b)) }
+    {
+        if self.lists.first(usize::from(b)).is_some() {
+            return true;
+        }
+        self.lists.first(self.other(b)).is_some()
+    }
+
+    /// Drops all edges that end at `depth` or deeper from the blocks of `stack`. Each is tied to one that was left then in
+    /// its block, if there was one. It fails only when out of memory.
+    pub fn trim(&mut self, heights: &[u16], stack: usize, depth: u16) -> Result<(), AllocError>
+        ensures edges { self.new.edges ≡ self.old.edges }
+        ensures count { length self.new.stacks.first.items ≡ length self.old.stacks.first.items }
+        ensures trimmed { (lists stacks : ℕ → List ℕ) (low : ℕ) → Holds self.old.lists lists → Holds self.old.stacks stacks → AreTied self.old.edges lists self.old.ties.items → IsPart (slice_index heights.now) low (blocks_of self.old.edges lists (stacks stack)) → IfOk result (λ _. IsTrimmed (slice_index heights.now) self.old.edges depth low stack lists stacks self.new.lists self.new.stacks self.old.ties.items self.new.ties.items) }
+    {
+        for _ in 0..self.edges {
+            let Some(b) = self.stacks.first(stack) else {
+                return Ok(());
+            };
+            if self.drop_block(heights, b, depth)? {
+                return Ok(());
+            }
+            self.stacks.pop(stack);
+        }
+        Ok(())
     }
 }

@@ -33,11 +33,11 @@ loop-preserved c =
     record {
       same = record { edges = is; ties = now.ties ∙ old.ties; count = now.count ∙ old.count };
       taken = λ lists0 stacks0 lists stacks ids a b h.
-          takes_step (slice_index c.args.heights.now) c.args.self.now.edges lists0 stacks0 c.args.first c.args.fork.limit c.args.fork.from c.loop.counter c.in-Some.b c.other-into.result c.other-other.result c.from.result c.loop.self.lists c.loop.self.stacks c.pop_above.new.self.lists c.pop_above.new.self.stacks c.join.new.self c.join-2.new.self c.pop_above.ensures.lists
+          takes_step (slice_index c.args.heights.now) c.args.self.now.edges lists0 stacks0 c.args.first c.args.fork.limit c.args.fork.from c.loop.counter c.in-Some.b c.other-into.result c.other-other.result c.from.result c.loop.self.lists c.loop.self.stacks c.pop_above.new.self.lists c.pop_above.new.self.stacks c.join.new.self c.join-in-loop.new.self c.pop_above.ensures.lists
           (c.other-into.ensures ∙ ap (λ e. c.args.first + e) is) (c.other-other.ensures ∙ ap (λ e. c.in-Some.b + e) is) c.from.ensures
           (subst (PopsAbove (slice_index c.args.heights.now) c.args.fork.limit c.loop.self.lists c.loop.self.stacks c.pop_above.new.self.stacks c.args.fork.from c.in-Some.b) c.loop.invariant.same.edges c.in-Some.ensures.popped)
           (λ ls held two. true≢false (sym ((c.is_two_sided.ensures ls held).1 (subst (λ e. IsTwoSided (block_of e ls c.in-Some.b)) (sym is) two)) ∙ c.if-is_two_sided.false))
-          c.join.ensures.joined c.join-2.ensures.joined
+          c.join.ensures.joined c.join-in-loop.ensures.joined
           (c.loop.invariant.taken lists0 stacks0 lists stacks ids a b h);
     }
 
