@@ -1,11 +1,13 @@
 -- Edges dropped one by one from the lists of a block.
 use Rattle.std.proofs.Common.{◌≡◌, ◌≢◌, ◌⊎◌, ◌↔◌, ℕ, ◌+◌, ◌<◌, ◌≤◌, Bool, true, false, not, List, [], ◌∷◌, ◌++◌, length, Contains, refl, sym, ap, ap₂, ◌∙◌, subst, inl, inr, arith, append_assoc, length-append}
 use Rattle.std.specs.List.{AllByRecursion as Each}
-use Rattle.std.proofs.lemmas.Bool.{cases_eq}
+use Rattle.std.specs.Prelude.{Option, Some, None, MatchOption}
+use Rattle.std.specs.Option.{is_some}
+use Rattle.std.proofs.lemmas.Bool.{cases_eq, true≢false}
 use Rattle.std.proofs.lemmas.List.{append-nil}
 use Rattle.std.proofs.lemmas.List.Elements.{Contains-append_cases, Contains-append_left, Contains-append_right}
 use Rattle.chained_lists.specs.Chains.{put, IsOnce, AreApart}
-use Rattle.chained_lists.specs.Held.{Holds, IsPopped}
+use Rattle.chained_lists.specs.Held.{Holds, IsPopped, BeginsWith}
 use Rattle.chained_lists.specs.declared.ChainedLists.{ChainedLists}
 use Rattle.chained_lists.proofs.Links.{in_none, in_first, in_rest, in_cases, put_here, put_other}
 use Rattle.left_right_blocks.specs.Blocks.{Block, AllOn, Agrees}
@@ -169,3 +171,8 @@ module _ (height : ℕ → ℕ) (edges depth one other : ℕ) (lists0 : ℕ → 
       ended : (ys : List ℕ) → length ys ≤ 0 → IsEnded height depth ys
       ended [] l = tt
       ended (y ∷ ys) l = absurd (omega arith)
+
+-- a first number that was found begins its list
+pub begins_some : (found : Option ℕ) (xs : List ℕ) → MatchOption found (xs ≡ []) (BeginsWith xs) → is_some found ≡ true → (x : ℕ) × BeginsWith xs x
+begins_some None xs h t = absurd (true≢false (sym t))
+begins_some (Some x) xs h t = (x, h)

@@ -10,3 +10,4 @@ pub mod Kept
 pub mod Steps
 pub mod Merging
 pub mod Dropping
+pub mod Trimming
