@@ -11,3 +11,5 @@ pub mod Steps
 pub mod Merging
 pub mod Dropping
 pub mod Trimming
+pub mod Deepest
+pub mod Stated

@@ -1,5 +1,6 @@
 -- Edges dropped from both lists of a block, and from the blocks of a stack.
 use Rattle.std.proofs.Common.{◌≡◌, ◌≢◌, ◌⊎◌, ◌↔◌, ℕ, ◌+◌, ◌<◌, ◌≤◌, Bool, true, false, List, [], ◌∷◌, ◌++◌, length, Contains, refl, sym, ap, ap₂, ◌∙◌, subst, inl, inr, arith, append_assoc, length-append}
+use Rattle.std.specs.Prelude.{Option, Some, None, MatchOption}
 use Rattle.std.specs.Bool.{MatchBool}
 use Rattle.std.specs.List.{AllByRecursion as Each}
 use Rattle.std.proofs.lemmas.Bool.{cases_eq}
@@ -377,3 +378,11 @@ module _ (height : ℕ → ℕ) (edges depth stack : ℕ) (lists0 stacks0 : ℕ 
             ),
           ),
         )
+
+-- what was popped from a list that begins with b
+pub popped_first : (sc' : ChainedLists) (stacks : ℕ → List ℕ) (stack b : ℕ) (found : Option ℕ) → MatchOption found (Holds sc' stacks × (stacks stack ≡ [])) (IsPopped sc' stacks stack) → BeginsWith (stacks stack) b → IsPopped sc' stacks stack b
+popped_first sc' stacks stack b None h begin = absurd (let e = ap length (sym begin.1 ∙ h.1) in omega arith)
+popped_first sc' stacks stack b (Some y) h begin =
+    let e : y ∷ h.0 ≡ b ∷ begin.0 = sym h.1.0 ∙ begin.1 in
+    let same : y ≡ b = cc in
+    subst (IsPopped sc' stacks stack) same h

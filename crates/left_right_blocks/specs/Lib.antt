@@ -5,3 +5,5 @@ pub mod Parts
 pub mod Found
 pub mod Steps
 pub mod Trims
+pub mod Begun
+pub mod States

@@ -1,6 +1,7 @@
 //! Stacks of blocks of edges: what is left of each part of a graph below a vertex, put together at forks.
 ghost use Rattle.std.specs.Prelude.{◌≡◌, ◌+◌, ◌<◌, length, slice_index};
 
+use crate::sides::tied_sides;
 use crate::ties::Tie;
 use chained_lists::ChainedLists;
 use std::alloc::{AllocError, Global};
@@ -53,12 +54,14 @@ fn height(heights: &[u16], x: u16) -> u16
 }
 
 impl Blocks {
-    ghost use Rattle.std.specs.Prelude.{◌≡◌, ◌≢◌, ◌+◌, ◌<◌, ◌≤◌, ◌↔◌, ◌||◌, Bool, true, ℕ, List, [], ◌∷◌, ◌++◌, length, slice_index, IfSome, IfOk, IsTrue, MatchOption, MatchBool, Contains};
+    ghost use Rattle.std.specs.Prelude.{◌≡◌, ◌≢◌, ◌+◌, ◌<◌, ◌≤◌, ◌↔◌, ◌||◌, Bool, true, ℕ, List, [], ◌∷◌, ◌++◌, length, slice_index, slice_index_or, false, IfSome, IfOk, IsTrue, MatchOption, MatchBool, Contains};
     ghost use Rattle.chained_lists.specs.Chains.{put};
     ghost use Rattle.chained_lists.specs.Held.{Holds, IsPopped, BeginsWith};
     ghost use Rattle.left_right_blocks.specs.Found.{is_deep};
     ghost use Rattle.left_right_blocks.specs.Parts.{block_of, blocks_of};
-    ghost use Rattle.left_right_blocks.specs.Blocks.{IsPart};
+    ghost use Rattle.left_right_blocks.specs.Blocks.{IsPart, edges_in};
+    ghost use Rattle.left_right_blocks.specs.Ties.{AreKept};
+    ghost use Rattle.left_right_blocks.specs.Begun.{IsBegun, first_height, IsDeepest};
     ghost use Rattle.left_right_blocks.specs.Trims.{ties_of, AreTied, IsEnded, AreDropped, AreBlockDropped, HasEdge, IsEmpty, IsTrimmed};
     ghost use Rattle.left_right_blocks.specs.Steps.{IsSame, IsNoneAbove, IsTwoSided, IsTaken, AreTaken, HasTwoSided, IsPut, ArePut, HasTwoDeep, IsWithin, MatchTaken, AreParts, MatchMerged};
 
@@ -310,5 +313,60 @@ impl Blocks {
             self.stacks.pop(stack);
         }
         Ok(())
+    }
+
+    /// Returns a block for each of `edges` edges, in a stack of its own with the edge's number, and behind these stacks
+    /// `more` empty ones. It fails only when out of memory.
+    pub fn new(alloc: Global, edges: u16, more: u16) -> Result<Self, AllocError>
+        ensures held { IfOk result (λ blocks. IsBegun edges more blocks) }
+    {
+        let lists = ChainedLists::new(alloc, edges, edges)?;
+        let stacks = ChainedLists::new(alloc, edges, more)?;
+        Ok(Blocks {
+            lists,
+            stacks,
+            ties: Vec::new(alloc),
+            edges,
+        })
+    }
+
+    /// Moves all blocks of stack `from` behind those of the stack `into`.
+    pub fn append(&mut self, into: usize, from: usize)
+        requires { into < length self.old.stacks.first.items }
+        ensures same { IsSame self.old self.new }
+        ensures lists { self.new.lists ≡ self.old.lists }
+        ensures stacks { (stacks : ℕ → List ℕ) → Holds self.old.stacks stacks → into ≢ from → Holds self.new.stacks (put from [] (put into (stacks into ++ stacks from) stacks)) }
+    {
+        self.stacks.join(into, from);
+    }
+
+    // Returns the depth of the end of the first edge of `list`, or 0 where it is empty.
+    fn first_height(&self, heights: &[u16], list: usize) -> u16
+        ensures { (lists : ℕ → List ℕ) → Holds self.now.lists lists → result ≡ first_height (slice_index heights.now) (lists list) }
+    {
+        match self.lists.first(list) {
+            Some(x) => height(heights, x),
+            None => 0,
+        }
+    }
+
+    /// Returns the depth at which the deepest edge of the blocks of `stack` ends, or None if it has none.
+    pub fn deepest(&self, heights: &[u16], stack: usize) -> Option<u16>
+        ensures { (lists stacks : ℕ → List ℕ) (low : ℕ) → Holds self.now.lists lists → Holds self.now.stacks stacks → IsPart (slice_index heights.now) low (blocks_of self.now.edges lists (stacks stack)) → MatchOption result (stacks stack ≡ []) (IsDeepest (slice_index heights.now) (edges_in (blocks_of self.now.edges lists (stacks stack)))) }
+    {
+        let b = self.stacks.first(stack)?;
+        let one = self.first_height(heights, usize::from(b));
+        let other = self.first_height(heights, self.other(b));
+        let deepest = one.max(other);
+        Some(deepest)
+    }
+
+    /// Returns for each edge whether it is on the left, so that all ties are kept. It fails only when out of memory.
+    pub fn sides(&self, alloc: Global) -> Result<Vec<bool>, AllocError>
+        requires { (lists : ℕ → List ℕ) × AreTied self.now.edges lists self.now.ties.items }
+        ensures { IfOk result (λ sides. AreKept (λ x. slice_index_or sides.items x false) self.now.ties.items) }
+    {
+        let sides = tied_sides(alloc, &self.ties, self.edges)?;
+        Ok(sides)
     }
 }
