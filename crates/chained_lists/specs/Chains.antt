@@ -1,5 +1,5 @@
 -- Lists of numbers, each number in one list at most, by the number behind each and the two ends of each list.
-use Rattle.std.specs.Prelude.{ℕ, ◌<◌, ◌≤◌, ◌≡◌, Bool, cond, eqb, ltb, List, [], ◌∷◌, length, slice_index, Contains}
+use Rattle.std.specs.Prelude.{ℕ, ◌<◌, ◌≤◌, ◌≡◌, cond, eqb, ltb, List, [], ◌∷◌, length, slice_index, Contains}
 
 -- lists with another one in one place
 abbrev pub put : ℕ → List ℕ → (ℕ → List ℕ) → ℕ → List ℕ

@@ -1,10 +1,10 @@
 -- The deepest edge of blocks, by the first edges of the first block.
-use Rattle.std.proofs.Common.{◌≡◌, ◌⊎◌, ℕ, ◌+◌, ◌<◌, ◌≤◌, max, List, [], ◌∷◌, ◌++◌, length, Contains, refl, sym, ap, ◌∙◌, subst, inl, inr, arith}
+use Rattle.std.proofs.Common.{◌≡◌, ℕ, ◌≤◌, max, List, [], ◌∷◌, ◌++◌, length, Contains, ap, subst, inl, inr, arith}
 use Rattle.std.specs.List.{AllByRecursion as Each}
 use Rattle.std.proofs.lemmas.Bool.{cases_lt}
 use Rattle.std.proofs.lemmas.List.Elements.{Contains-append_left, Contains-append_right}
 use Rattle.chained_lists.proofs.Links.{in_first}
-use Rattle.left_right_blocks.specs.Blocks.{Block, edges_of, edges_in, Falls, IsBlock, IsPart}
+use Rattle.left_right_blocks.specs.Blocks.{Block, edges_of, edges_in, Falls, IsPart}
 use Rattle.left_right_blocks.specs.Begun.{first_height, IsDeepest}
 use Rattle.left_right_blocks.proofs.Eaches.{each_joined, each_weaker, each_in}
 

@@ -5,17 +5,16 @@ use Rattle.std.specs.Prelude.{Option, Some, None, MatchOption}
 use Rattle.std.specs.Option.{is_some}
 use Rattle.std.proofs.lemmas.Bool.{cases_eq, true≢false}
 use Rattle.std.proofs.lemmas.List.{append-nil}
-use Rattle.std.proofs.lemmas.List.Elements.{Contains-append_cases, Contains-append_left, Contains-append_right}
 use Rattle.chained_lists.specs.Chains.{put, IsOnce, AreApart}
 use Rattle.chained_lists.specs.Held.{Holds, IsPopped, BeginsWith}
 use Rattle.chained_lists.specs.declared.ChainedLists.{ChainedLists}
-use Rattle.chained_lists.proofs.Links.{in_none, in_first, in_rest, in_cases, put_here, put_other}
-use Rattle.left_right_blocks.specs.Blocks.{Block, AllOn, Agrees}
+use Rattle.chained_lists.proofs.Links.{in_first, in_rest, put_here, put_other}
+use Rattle.left_right_blocks.specs.Blocks.{AllOn, Agrees}
 use Rattle.left_right_blocks.specs.Parts.{IsFrom}
-use Rattle.left_right_blocks.specs.Ties.{IsKept, AreKept, AreInTurn, AreBelow, AreGone}
+use Rattle.left_right_blocks.specs.Ties.{IsKept, AreKept, AreGone}
 use Rattle.left_right_blocks.specs.Trims.{ties_of, AreTied, IsEnded, IsDropped, AreDropped}
 use Rattle.left_right_blocks.specs.declared.ties.Tie.{Tie}
-use Rattle.left_right_blocks.proofs.Eaches.{each_joined, each_left, each_right, each_weaker, each_in, each_from}
+use Rattle.left_right_blocks.proofs.Eaches.{each_joined, each_left, each_right}
 use Rattle.left_right_blocks.proofs.ShortDemands.{twice}
 use Rattle.left_right_blocks.proofs.Kept.{turn_more}
 use Rattle.left_right_blocks.proofs.Steps.{once_few, from_over}

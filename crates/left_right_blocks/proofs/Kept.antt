@@ -1,7 +1,7 @@
 -- Sides that keep ties, found from the last tie to the first.
-use Rattle.std.proofs.Common.{drop-cons, ◌≡◌, ◌≢◌, ℕ, zero, suc, ◌<◌, Bool, false, not, cond, drop, List, [], ◌∷◌, ◌++◌, length, get_or, set, refl, sym, ap, ◌∙◌, subst, arith, get_or-set_same, get_or-set_other}
+use Rattle.std.proofs.Common.{drop-cons, ◌≡◌, ◌≢◌, ℕ, zero, suc, ◌<◌, Bool, false, not, cond, drop, List, [], ◌∷◌, ◌++◌, length, get_or, set, sym, ap, ◌∙◌, subst, arith, get_or-set_same, get_or-set_other}
 use Rattle.std.specs.List.{AllByRecursion as Each}
-use Rattle.left_right_blocks.specs.Ties.{IsKept, AreKept, AreInTurn, AreBelow}
+use Rattle.left_right_blocks.specs.Ties.{AreKept, AreInTurn, AreBelow}
 use Rattle.left_right_blocks.specs.declared.ties.Tie.{Tie}
 
 abbrev pub by_table : List Bool → ℕ → Bool
@@ -12,8 +12,7 @@ pub kept_more : (sides : List Bool) (t : Tie) (ts : List Tie) → t.edge < lengt
 kept_more sides t ts l turn kept =
     let v = cond t.turn (not (get_or sides t.to false)) (get_or sides t.to false) in
     let new = set sides t.edge v in
-    let other : (x : ℕ) → t.edge ≢ x → get_or new x false ≡ get_or sides x false = λ x ne. get_or-set_other sides t.edge x v false (λ e. ne (sym e)) in
-    (
+    let other : (x : ℕ) → t.edge ≢ x → get_or new x false ≡ get_or sides x false = λ x ne. get_or-set_other sides t.edge x v false (λ e. ne (sym e)) in (
       get_or-set_same sides t.edge v false l ∙ ap (λ z. cond t.turn (not z) z) (sym (other t.to turn.0)),
       rest new other ts turn.1.0 kept,
     )

@@ -13,3 +13,5 @@ pub mod Dropping
 pub mod Trimming
 pub mod Deepest
 pub mod Stated
+pub mod Forking
+pub mod Gathering

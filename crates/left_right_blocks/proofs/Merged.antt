@@ -1,12 +1,12 @@
 -- The blocks of one edge of a fork put into those of earlier ones.
-use Rattle.std.proofs.Common.{◌≡◌, ◌⊎◌, ◌↔◌, ℕ, ◌<◌, ◌≤◌, Bool, true, false, not, cond, ltb, List, [], ◌∷◌, ◌++◌, refl, sym, ap, ap₂, ◌∙◌, subst, inl, inr, arith, append_assoc}
+use Rattle.std.proofs.Common.{◌≡◌, ◌⊎◌, ℕ, ◌<◌, ◌≤◌, Bool, true, false, not, List, [], ◌∷◌, ◌++◌, refl, sym, ap, ◌∙◌, subst, inl, inr, arith, append_assoc}
 use Rattle.std.specs.List.{AllByRecursion as Each}
 use Rattle.std.proofs.lemmas.Bool.{cases_Bool, cond-true, cond-false, true≢false, lt-ltb, ltb-true, cases_lt}
 use Rattle.std.proofs.lemmas.List.{append-nil}
-use Rattle.left_right_blocks.specs.Blocks.{Block, edges_of, edges_in, AllOn, Agrees, AllAgree, IsShort, Falls, IsOver, AreStacked, IsBlock, IsPart}
+use Rattle.left_right_blocks.specs.Blocks.{Block, edges_of, edges_in, AllOn, Agrees, AllAgree, IsShort, Falls}
 use Rattle.left_right_blocks.specs.Found.{IsOneSided, taken, is_deep, hit_of, off_of, hits, offs, IsHit, IsFound, merged}
-use Rattle.left_right_blocks.proofs.Eaches.{each_joined, each_left, each_right, each_weaker, each_turned, edges_append, each_edges, each_edges_left, each_edges_right}
-use Rattle.left_right_blocks.proofs.ShortDemands.{twice, same_not}
+use Rattle.left_right_blocks.proofs.Eaches.{each_joined, each_left, each_right, each_weaker, each_turned, each_edges, each_edges_left}
+use Rattle.left_right_blocks.proofs.ShortDemands.{twice}
 
 -- ---- blocks with one list
 pub taken_more : (ts : List Block) (t : Block) → taken (ts ++ t ∷ []) ≡ (taken ts ++ t.other) ++ t.one
@@ -89,8 +89,7 @@ module _ (height : ℕ → ℕ) where
     hit_agrees s [] a b = tt
     hit_agrees s (t ∷ ts) a b =
         let hit = each_left (λ x. side x ≡ s) (hit_of height low t) (hits height low ts) a in
-        let off = each_left (λ x. side x ≡ not s) (off_of height low t) (offs height low ts) b in
-        (
+        let off = each_left (λ x. side x ≡ not s) (off_of height low t) (offs height low ts) b in (
           elim (in_two low t) [
             | inl e ↦ (s, (subst (AllOn side s) e.0 hit, subst (AllOn side (not s)) e.1 off))
             | inr e ↦ (not s, (subst (AllOn side (not s)) e.1 off, subst (λ z. AllOn side z t.other) (sym (twice s)) (subst (AllOn side s) e.0 hit)))
@@ -103,8 +102,7 @@ module _ (height : ℕ → ℕ) where
     sided_agrees s (t ∷ ts) sided h =
         let here = each_left (λ x. side x ≡ s) (edges_of t) (edges_in ts) h in
         let one = each_left (λ x. side x ≡ s) t.one t.other here in
-        let other = each_right (λ x. side x ≡ s) t.one t.other here in
-        (
+        let other = each_right (λ x. side x ≡ s) t.one t.other here in (
           elim sided.0 [
             | inl e ↦ (not s, (subst (AllOn side (not s)) (sym e) tt, subst (λ z. AllOn side z t.other) (sym (twice s)) other))
             | inr e ↦ (s, (one, subst (AllOn side (not s)) (sym e) tt))
@@ -154,8 +152,7 @@ module _ (height : ℕ → ℕ) where
           let others : Each (λ x. limit < height x → side x ≡ not s) (edges_in (ts ++ qs)) =
           each_edges (λ x. limit < height x → side x ≡ not s) ts qs
           (each_weaker (λ x. side x ≡ not s) (λ x. limit < height x → side x ≡ not s) (λ x e _. e) (edges_in ts) far)
-          (each_weaker (λ x. height x ≤ limit) (λ x. limit < height x → side x ≡ not s) (λ x m l. absurd (omega arith)) (edges_in qs) f.level) in
-          (
+          (each_weaker (λ x. height x ≤ limit) (λ x. limit < height x → side x ≡ not s) (λ x m l. absurd (omega arith)) (edges_in qs) f.level) in (
             (
               subst (AllAgree side) (sym f.p_is) (each_joined (Agrees side) hs ps (hit_agrees s hs on off) (each_left (Agrees side) ps qs h.1)),
               subst (AllAgree side) (sym f.q_is) (each_joined (Agrees side) ts qs (sided_agrees (not s) ts f.sided far) (each_right (Agrees side) ps qs h.1)),
@@ -178,8 +175,7 @@ module _ (height : ℕ → ℕ) where
           let others = subst (λ bs. Each (λ x. limit < height x → side x ≡ s) (edges_in bs)) f.q_is short.1.0 in
           let ones = subst (λ bs. Each (λ y. low < height y → side y ≡ not s) (edges_in bs)) f.p_is short.1.1 in
           let far : AllOn side s (edges_in ts) = meets s (edges_in ts) f.above (each_edges_left (λ x. limit < height x → side x ≡ s) ts qs others) in
-          let two = all_sides (not s) hs f.hit (each_left (Agrees side) hs ps a') (each_edges_left (λ y. low < height y → side y ≡ not s) hs ps ones) in
-          (
+          let two = all_sides (not s) hs f.hit (each_left (Agrees side) hs ps a') (each_edges_left (λ y. low < height y → side y ≡ not s) hs ps ones) in (
             (not s, (two.0, each_joined (λ x. side x ≡ not (not s)) (taken ts) (offs height low hs) (each_weaker (λ x. side x ≡ s) (λ x. side x ≡ not (not s)) (λ x e. e ∙ sym (twice s)) (taken ts) (each_taken (λ x. side x ≡ s) ts far)) two.1)),
             each_joined (Agrees side) ps qs (each_right (Agrees side) hs ps a') (each_right (Agrees side) ts qs b'),
           )

@@ -1,22 +1,22 @@
 -- Two parts of a fork put together in stacks and chained lists.
-use Rattle.std.proofs.Common.{◌≡◌, ◌≢◌, ◌⊎◌, ℕ, ◌+◌, ◌<◌, ◌≤◌, Bool, true, false, List, [], ◌∷◌, ◌++◌, length, Contains, refl, sym, ap, ap₂, ◌∙◌, subst, inl, inr, arith}
+use Rattle.std.proofs.Common.{◌≡◌, ◌≢◌, ℕ, ◌+◌, ◌<◌, ◌≤◌, Bool, true, false, List, [], ◌∷◌, ◌++◌, Contains, refl, sym, ap, ap₂, ◌∙◌, subst, inl, inr, arith}
 use Rattle.std.specs.Prelude.{◌||◌}
 use Rattle.std.specs.List.{AllByRecursion as Each}
 use Rattle.std.proofs.lemmas.Bool.{cases_eq, or_cases}
 use Rattle.std.proofs.lemmas.List.{append-nil}
-use Rattle.std.proofs.lemmas.List.Elements.{Contains-append_cases, Contains-append_left, Contains-append_right}
+use Rattle.std.proofs.lemmas.List.Elements.{Contains-append_left, Contains-append_right}
 use Rattle.chained_lists.specs.Chains.{put, IsOnce, AreApart}
-use Rattle.chained_lists.specs.Held.{Holds, IsPopped}
+use Rattle.chained_lists.specs.Held.{Holds}
 use Rattle.chained_lists.specs.declared.ChainedLists.{ChainedLists}
-use Rattle.chained_lists.proofs.Links.{in_none, in_first, in_rest, in_cases, put_here, put_other}
+use Rattle.chained_lists.proofs.Links.{in_none, in_first, in_cases, put_here, put_other}
 use Rattle.left_right_blocks.specs.Blocks.{Block, edges_of, edges_in, AllAgree, IsShort, AreStacked, IsBlock, IsPart}
-use Rattle.left_right_blocks.specs.Found.{is_deep, IsOneSided, taken, hit_of, off_of, hits, offs, IsHit, IsFound, merged}
-use Rattle.left_right_blocks.specs.Parts.{block_of, blocks_of, IsFrom, IsUnion}
+use Rattle.left_right_blocks.specs.Found.{is_deep, off_of, hits, offs, IsHit, IsFound, merged}
+use Rattle.left_right_blocks.specs.Parts.{block_of, blocks_of, IsUnion}
 use Rattle.left_right_blocks.specs.Steps.{IsNoneAbove, IsTwoSided, IsTaken, HasTwoSided, IsStruck, IsPut, HasTwoDeep, IsMerged}
-use Rattle.left_right_blocks.proofs.Eaches.{each_joined, each_left, each_right, each_weaker, each_in}
+use Rattle.left_right_blocks.proofs.Eaches.{each_joined, each_left, each_right, each_weaker}
 use Rattle.left_right_blocks.proofs.Merged.{in_two, some_deep, none_deep}
 use Rattle.left_right_blocks.proofs.Shaped.{stacked_right, union_some, union_none, two_sided, two_deep}
-use Rattle.left_right_blocks.proofs.Steps.{once_left, once_across, joined_at, joined_other, joined_from, from_over, blocks_append, block_same, blocks_same, one_sided, PopsAbove}
+use Rattle.left_right_blocks.proofs.Steps.{joined_at, joined_other, joined_from, from_over, blocks_append, blocks_same, one_sided}
 
 module _ (height : ℕ → ℕ) where
   -- ---- blocks by their first edges

@@ -199,8 +199,7 @@ module _ (height : ℕ → ℕ) (limit low : ℕ) (p q : List Block) (a : IsPart
     each_old P h =
         let block = each_left P (A ++ (M ++ B)) (edges_in (ps ++ qs)) h in
         let rest = each_right P (A ++ (M ++ B)) (edges_in (ps ++ qs)) h in
-        let mid = each_right P A (M ++ B) block in
-        (
+        let mid = each_right P A (M ++ B) block in (
           subst (λ bs. Each P (edges_in bs)) (sym f.p_is) (each_edges P hs ps (each_found height P low hs (each_left P A (M ++ B) block) (each_right P M B mid)) (each_edges_left P ps qs rest)),
           subst (λ bs. Each P (edges_in bs)) (sym f.q_is) (each_edges P ts qs (each_untaken P ts (each_left P M B mid)) (each_edges_right P ps qs rest)),
         )

@@ -2,20 +2,20 @@
 use Rattle.std.proofs.Common.{◌≡◌, ◌≢◌, ◌↔◌, ℕ, ◌+◌, ◌<◌, ◌≤◌, Bool, true, false, List, [], ◌∷◌, ◌++◌, length, ltb, Contains, refl, sym, ap, ap₂, ◌∙◌, subst, inl, inr, arith}
 use Rattle.std.specs.Bool.{MatchBool}
 use Rattle.std.specs.List.{AllByRecursion as Each}
-use Rattle.std.proofs.lemmas.Bool.{cases_eq, cases_lt, cond-true, cond-false, lt-ltb, le-ltb}
+use Rattle.std.proofs.lemmas.Bool.{cases_eq, cond-true, cond-false, lt-ltb, le-ltb}
 use Rattle.chained_lists.specs.Chains.{put, singles}
 use Rattle.chained_lists.specs.Held.{Holds}
 use Rattle.left_right_blocks.specs.Blocks.{Block, edges_in, AllAgree, IsShort, IsPart}
 use Rattle.left_right_blocks.specs.Parts.{blocks_of, IsFrom, IsUnion}
-use Rattle.left_right_blocks.specs.Ties.{AreKept, AreGone}
+use Rattle.left_right_blocks.specs.Ties.{AreGone}
 use Rattle.left_right_blocks.specs.Trims.{AreTied, IsTrimmed}
-use Rattle.left_right_blocks.specs.Steps.{IsSame, IsMerged, AreParts, MatchMerged}
+use Rattle.left_right_blocks.specs.Steps.{IsSame, AreParts, MatchMerged}
 use Rattle.left_right_blocks.specs.Begun.{IsBegun}
 use Rattle.left_right_blocks.specs.States.{IsState, Obeys, Merges, Drops, Moves}
 use Rattle.left_right_blocks.specs.declared.ties.Tie.{Tie}
 use Rattle.left_right_blocks.specs.declared.blocks.Blocks.{Blocks}
-use Rattle.left_right_blocks.proofs.Steps.{joined_at, joined_other, joined_from}
-use Rattle.chained_lists.proofs.Links.{in_none, put_here}
+use Rattle.left_right_blocks.proofs.Steps.{joined_at, joined_other}
+use Rattle.chained_lists.proofs.Links.{put_here}
 
 gone_from : (old new : ℕ → List ℕ) (ties : List Tie) → IsFrom old new → AreGone old ties → AreGone new ties
 gone_from old new [] f h = tt
@@ -97,8 +97,7 @@ module _ (height : ℕ → ℕ) (old new : Blocks) (P : ℕ → List Block) (s :
   state_trimmed depth low stack e trimmed part =
       let t = trimmed s.lists s.stacks low s.lists_held s.stacks_held s.tied (subst (IsPart height low) (s.are stack) part) in
       let P' : ℕ → List Block = λ p. blocks_of old.edges t.lists (t.stacks p) in
-      let others : (p : ℕ) → p ≢ stack → P' p ≡ P p = λ p off. t.others p off ∙ sym (s.are p) in
-      (
+      let others : (p : ℕ) → p ≢ stack → P' p ≡ P p = λ p off. t.others p off ∙ sym (s.are p) in (
         P',
         (
           record {
@@ -130,8 +129,7 @@ module _ (height : ℕ → ℕ) (old new : Blocks) (P : ℕ → List Block) (s :
   state_moved into from same ls moved ne bare =
       let S' = put from [] (put into (s.stacks into ++ s.stacks from) s.stacks) in
       let P' : ℕ → List Block = λ p. blocks_of old.edges s.lists (S' p) in
-      let none : s.stacks into ≡ [] = no_blocks (s.stacks into) (sym (s.are into) ∙ bare) in
-      (
+      let none : s.stacks into ≡ [] = no_blocks (s.stacks into) (sym (s.are into) ∙ bare) in (
         P',
         (
           record {

@@ -1,12 +1,11 @@
 -- Steps that take blocks from stacks, and move their lists.
-use Rattle.std.proofs.Common.{◌≡◌, ◌≢◌, ◌⊎◌, ℕ, zero, suc, ◌+◌, ◌<◌, ◌≤◌, Bool, true, false, List, [], ◌∷◌, ◌++◌, length, get_or, map, AllPairs, Contains, refl, sym, ap, ap₂, ◌∙◌, subst, inl, inr, arith, append_assoc, length-append}
+use Rattle.std.proofs.Common.{◌≡◌, ◌≢◌, ℕ, zero, suc, ◌+◌, ◌<◌, ◌≤◌, true, false, List, [], ◌∷◌, ◌++◌, length, AllPairs, Contains, refl, sym, ap, ap₂, ◌∙◌, subst, inl, inr, arith, append_assoc, length-append}
 use Rattle.std.specs.Prelude.{◌||◌}
 use Rattle.std.specs.List.{AllByRecursion as Each}
-use Rattle.std.proofs.lemmas.Bool.{cases_eq, cases_lt, cases_Bool, cond-true, cond-false, true≢false, or_cases}
-use Rattle.std.proofs.lemmas.List.{append-nil}
+use Rattle.std.proofs.lemmas.Bool.{cases_eq, cond-true, cond-false, true≢false, or_cases}
 use Rattle.std.proofs.lemmas.List.Elements.{Contains-get_or, Contains-append_cases, Contains-append_left, Contains-append_right}
 use Rattle.map_theory.proofs.DartCounts.{length-le-below}
-use Rattle.chained_lists.specs.Chains.{put, IsOnce, AreApart}
+use Rattle.chained_lists.specs.Chains.{put, IsOnce}
 use Rattle.chained_lists.proofs.Links.{in_none, in_first, in_rest, in_cases, put_here, put_other}
 use Rattle.left_right_blocks.specs.Blocks.{Block}
 use Rattle.left_right_blocks.specs.Found.{is_deep, IsOneSided, taken, hit_of, off_of, hits, offs}
@@ -356,8 +355,7 @@ module _ (height : ℕ → ℕ) (edges : ℕ) (lists0 stacks0 : ℕ → List ℕ
       let next = subst (λ x. (lists : ℕ → List ℕ) → Holds lc1 lists → x ≢ one → Holds lc2 (put one [] (put x (lists x ++ lists one) lists))) e1 j2 in
       let next' = subst (λ y. (lists : ℕ → List ℕ) → Holds lc1 lists → first + edges ≢ y → Holds lc2 (put y [] (put (first + edges) (lists (first + edges) ++ lists y) lists))) e3 next in
       let one_held = after' lists held' n1 in
-      let two_held = next' (put (b + edges) [] (put (first + edges) (lists (first + edges) ++ lists (b + edges)) lists)) one_held n2 in
-      (
+      let two_held = next' (put (b + edges) [] (put (first + edges) (lists (first + edges) ++ lists (b + edges)) lists)) one_held n2 in (
         new,
         (
           put from rest stacks,
@@ -427,8 +425,7 @@ module _ (height : ℕ → ℕ) (edges : ℕ) (lists0 stacks0 : ℕ → List ℕ
         let c = subst (λ x. (lists : ℕ → List ℕ) → Holds lc1 lists → x ≢ other → Holds lc2 (put other [] (put x (lists x ++ lists other) lists))) e3 j2 in
         let c' = subst (λ y. (lists : ℕ → List ℕ) → Holds lc1 lists → first + edges ≢ y → Holds lc2 (put y [] (put (first + edges) (lists (first + edges) ++ lists y) lists))) e2 c in
         let held1 = a' L held_now (λ e. ne (sym e)) in
-        let held2 = c' (put b [] (put first (L first ++ L b) L)) held1 (λ e. ne (omega arith)) in
-        (
+        let held2 = c' (put b [] (put first (L first ++ L b) L)) held1 (λ e. ne (omega arith)) in (
           one_moved height edges low into lists0 stacks0 L S first Ids H b Popped.0.0 Popped.0.1.0,
           (put into Popped.0.0 S, (Ids ++ b ∷ [], (held2, (Popped.0.1.1, (puts_one height edges low into lists0 stacks0 L S first Ids H b Popped.0.0 Popped.0.1.0 (deep L held_now) (shallow L held_now), more))))),
         )
@@ -444,8 +441,7 @@ module _ (height : ℕ → ℕ) (edges : ℕ) (lists0 stacks0 : ℕ → List ℕ
         let c = subst (λ x. (lists : ℕ → List ℕ) → Holds lc1 lists → x ≢ one → Holds lc2 (put one [] (put x (lists x ++ lists one) lists))) e3 j2 in
         let c' = subst (λ y. (lists : ℕ → List ℕ) → Holds lc1 lists → first + edges ≢ y → Holds lc2 (put y [] (put (first + edges) (lists (first + edges) ++ lists y) lists))) e1 c in
         let held1 = a' L held_now (λ e. omega arith) in
-        let held2 = c' (put (b + edges) [] (put first (L first ++ L (b + edges)) L)) held1 (λ e. omega arith) in
-        (
+        let held2 = c' (put (b + edges) [] (put first (L first ++ L (b + edges)) L)) held1 (λ e. omega arith) in (
           other_moved height edges low into lists0 stacks0 L S first Ids H b Popped.0.0 Popped.0.1.0,
           (put into Popped.0.0 S, (Ids ++ b ∷ [], (held2, (Popped.0.1.1, (puts_other height edges low into lists0 stacks0 L S first Ids H b Popped.0.0 Popped.0.1.0 (shallow L held_now) Popped.1, more))))),
         )

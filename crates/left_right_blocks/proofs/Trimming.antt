@@ -1,11 +1,10 @@
 -- Edges dropped from both lists of a block, and from the blocks of a stack.
-use Rattle.std.proofs.Common.{◌≡◌, ◌≢◌, ◌⊎◌, ◌↔◌, ℕ, ◌+◌, ◌<◌, ◌≤◌, Bool, true, false, List, [], ◌∷◌, ◌++◌, length, Contains, refl, sym, ap, ap₂, ◌∙◌, subst, inl, inr, arith, append_assoc, length-append}
+use Rattle.std.proofs.Common.{◌≡◌, ◌≢◌, ◌↔◌, ℕ, ◌+◌, ◌<◌, ◌≤◌, Bool, true, false, List, [], ◌∷◌, ◌++◌, length, Contains, refl, sym, ap, ap₂, ◌∙◌, subst, inl, inr, arith, append_assoc, length-append}
 use Rattle.std.specs.Prelude.{Option, Some, None, MatchOption}
 use Rattle.std.specs.Bool.{MatchBool}
 use Rattle.std.specs.List.{AllByRecursion as Each}
-use Rattle.std.proofs.lemmas.Bool.{cases_eq}
 use Rattle.std.proofs.lemmas.List.{append-nil}
-use Rattle.std.proofs.lemmas.List.Elements.{Contains-append_cases, Contains-append_left, Contains-append_right}
+use Rattle.std.proofs.lemmas.List.Elements.{Contains-append_left, Contains-append_right}
 use Rattle.chained_lists.specs.Chains.{put, IsOnce, AreApart}
 use Rattle.chained_lists.specs.Held.{Holds, IsPopped, BeginsWith}
 use Rattle.chained_lists.specs.declared.ChainedLists.{ChainedLists}
@@ -13,11 +12,11 @@ use Rattle.chained_lists.proofs.Links.{in_none, in_first, in_rest, in_cases, put
 use Rattle.left_right_blocks.specs.Blocks.{Block, edges_of, edges_in, Agrees, AllAgree, Falls, IsOver, AreStacked, IsBlock, IsPart}
 use Rattle.left_right_blocks.specs.Parts.{block_of, blocks_of, IsFrom}
 use Rattle.left_right_blocks.specs.Ties.{AreKept}
-use Rattle.left_right_blocks.specs.Trims.{AreTied, IsEnded, IsDropped, AreDropped, IsBlockDropped, AreBlockDropped, HasEdge, IsEmpty, IsTrimmed}
+use Rattle.left_right_blocks.specs.Trims.{AreTied, IsEnded, AreDropped, IsBlockDropped, AreBlockDropped, HasEdge, IsEmpty, IsTrimmed}
 use Rattle.left_right_blocks.specs.declared.ties.Tie.{Tie}
-use Rattle.left_right_blocks.proofs.Eaches.{each_joined, each_left, each_right, each_weaker, each_in, each_itself, each_edges, each_edges_left, each_edges_right, edges_append}
-use Rattle.left_right_blocks.proofs.Shaped.{over_sub, stacked_right}
-use Rattle.left_right_blocks.proofs.Steps.{once_left, once_across, once_few, from_over, blocks_append, block_same, blocks_same}
+use Rattle.left_right_blocks.proofs.Eaches.{each_joined, each_left, each_right, each_weaker, each_in, each_itself, each_edges, each_edges_right}
+use Rattle.left_right_blocks.proofs.Shaped.{stacked_right}
+use Rattle.left_right_blocks.proofs.Steps.{once_across, once_few, from_over, blocks_append, block_same, blocks_same}
 use Rattle.left_right_blocks.proofs.Dropping.{agrees_turned}
 
 -- ---- both lists of a block
@@ -35,8 +34,7 @@ module _ (height : ℕ → ℕ) (edges depth b one other : ℕ) (e1 : one ≡ b)
       let l1 = a'.0 in
       let l2 = c.0 in
       let one_kept : l2 b ≡ l1 b = k.others b far in
-      let other_kept : l1 (b + edges) ≡ lists0 (b + edges) = d.others (b + edges) (λ e. far (sym e)) in
-      (
+      let other_kept : l1 (b + edges) ≡ lists0 (b + edges) = d.others (b + edges) (λ e. far (sym e)) in (
         l2,
         (
           a'.1.0,
@@ -244,15 +242,15 @@ module _ (height : ℕ → ℕ) (edges depth stack : ℕ) (lists0 stacks0 : ℕ 
 
       -- it has some left
       rest_off : (x : ℕ) → Contains rest x → (¬ Contains ids x) × (x ≢ b)
-      rest_off x c =
-          (
-            (λ i. across ids (b ∷ rest) x (subst IsOnce was (apart.once stack)) i (in_rest b x rest c)),
-            (λ e. (after ids (b ∷ rest) (subst IsOnce was (apart.once stack))).0 (subst (Contains rest) e c)),
-          )
+      rest_off x c = (
+        (λ i. across ids (b ∷ rest) x (subst IsOnce was (apart.once stack)) i (in_rest b x rest c)),
+        (λ e. (after ids (b ∷ rest) (subst IsOnce was (apart.once stack))).0 (subst (Contains rest) e c)),
+      )
         where
           across : (us vs : List ℕ) (x : ℕ) → IsOnce (us ++ vs) → Contains us x → ¬ Contains vs x
           across [] vs x o c k = in_none x c
           across (u ∷ us) vs x o c k = elim (in_cases u x us c) [ inl e ↦ o.0 (subst (Contains (us ++ vs)) (sym e) (Contains-append_right us vs x k)) | inr c' ↦ across us vs x o.1 c' k ]
+
           after : (us vs : List ℕ) → IsOnce (us ++ vs) → IsOnce vs
           after [] vs o = o
           after (u ∷ us) vs o = after us vs o.1
@@ -358,8 +356,7 @@ module _ (height : ℕ → ℕ) (edges depth stack : ℕ) (lists0 stacks0 : ℕ 
         let h = head t.1.0 t.1.1.1.1.0 in
         let p = popped t.1.0 (subst (λ (z : ChainedLists). Holds z t.1.0) (sym same) t.1.1.1.1.0) in
         let e : y ∷ p.0 ≡ b ∷ h.0 = sym p.1.0 ∙ h.1 in
-        let e' : p.0 ≡ h.0 = cc in
-        (
+        let e' : p.0 ≡ h.0 = cc in (
           D.0,
           (
             put stack h.0 t.1.0,

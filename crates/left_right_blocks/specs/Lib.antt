@@ -7,3 +7,4 @@ pub mod Steps
 pub mod Trims
 pub mod Begun
 pub mod States
+pub mod Forks

@@ -1,7 +1,5 @@
 -- Stacks of blocks as chained lists hold them.
-use Rattle.std.specs.Prelude.{ℕ, Bool, ◌+◌, ◌<◌, ◌≤◌, ◌≡◌, ◌⊎◌, ◌↔◌, List, [], ◌∷◌, length, slice_index, map, Contains}
-use Rattle.std.specs.List.{AllByRecursion as Each}
-use Rattle.chained_lists.specs.Chains.{AreApart}
+use Rattle.std.specs.Prelude.{ℕ, Bool, ◌+◌, ◌⊎◌, ◌↔◌, List, map, Contains}
 use Rattle.left_right_blocks.specs.Blocks.{Block, edges_in, AllAgree, IsShort, IsPart}
 
 -- block b of some edges: list b, and the one behind the lists of all edges

@@ -6,7 +6,7 @@ use Rattle.chained_lists.specs.Chains.{AreApart}
 use Rattle.chained_lists.specs.Held.{Holds, BeginsWith}
 use Rattle.left_right_blocks.specs.Blocks.{Block, edges_in, AllAgree, IsShort, IsPart}
 use Rattle.left_right_blocks.specs.Found.{is_deep, IsOneSided, taken, hit_of, off_of, hits, offs}
-use Rattle.left_right_blocks.specs.Parts.{block_of, blocks_of, IsFrom, IsUnion}
+use Rattle.left_right_blocks.specs.Parts.{blocks_of, IsFrom, IsUnion}
 use Rattle.chained_lists.specs.declared.ChainedLists.{ChainedLists}
 use Rattle.left_right_blocks.specs.declared.blocks.Blocks.{Blocks}
 use Rattle.left_right_blocks.specs.declared.blocks.Taken.{Taken}

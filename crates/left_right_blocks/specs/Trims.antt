@@ -2,7 +2,6 @@
 use Rattle.std.specs.Prelude.{ℕ, ◌+◌, ◌<◌, ◌≤◌, ◌≡◌, ◌≢◌, ◌⊎◌, ◌↔◌, Bool, true, false, List, [], ◌∷◌, ◌++◌, Contains}
 use Rattle.std.specs.Bool.{MatchBool}
 use Rattle.std.specs.List.{AllByRecursion as Each}
-use Rattle.chained_lists.specs.Chains.{AreApart}
 use Rattle.chained_lists.specs.Held.{Holds, BeginsWith}
 use Rattle.chained_lists.specs.declared.ChainedLists.{ChainedLists}
 use Rattle.left_right_blocks.specs.Blocks.{Block, edges_in, Agrees, AllAgree, IsPart}

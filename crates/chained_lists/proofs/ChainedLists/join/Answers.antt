@@ -1,5 +1,5 @@
-use Rattle.std.proofs.Common.{refl, ◌∙◌, ◌<◌, length, arith}
-use Rattle.chained_lists.proofs.Links.{at_least, read, in_list, ends_in, joined_none, joins_by, joins_behind, joins_into}
+use Rattle.std.proofs.Common.{refl, arith}
+use Rattle.chained_lists.proofs.Links.{at_least, read, in_list, joined_none, joins_by, joins_behind, joins_into}
 use Rattle.chained_lists.proofs.ChainedLists.join.Goals as goal
 
 pub returns-in_default-clause-joined : goal.returns-in_default-clause-joined

@@ -1,4 +1,4 @@
-use Rattle.std.proofs.Common.{◌<◌, length, slice_index, ap, ◌∙◌, arith}
+use Rattle.std.proofs.Common.{slice_index, ap, ◌∙◌, arith}
 use Rattle.chained_lists.proofs.Links.{read, in_list, is_first, takes_last, takes_more}
 use Rattle.chained_lists.proofs.ChainedLists.pop.Goals as goal
 

@@ -1,6 +1,6 @@
 use Rattle.std.proofs.Common.{◌≡◌, ℕ, suc, ◌+◌, ◌-◌, ◌<◌, Bool, false, not, cond, drop, List, length, get_or, set, sym, ap, ◌∙◌, subst, arith, length-set}
 use Rattle.std.proofs.lemmas.List.{get_or_default}
-use Rattle.left_right_blocks.specs.Ties.{AreKept, AreInTurn}
+use Rattle.left_right_blocks.specs.Ties.{AreKept}
 use Rattle.left_right_blocks.specs.declared.ties.Tie.{Tie}
 use Rattle.left_right_blocks.proofs.Kept.{by_table, kept_at, below_at}
 use Rattle.left_right_blocks.proofs.sides.tied_sides.Goals as goal

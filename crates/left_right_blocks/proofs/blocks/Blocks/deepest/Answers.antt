@@ -1,4 +1,4 @@
-use Rattle.std.proofs.Common.{◌≡◌, ◌+◌, ◌∷◌, max, ℕ, List, ap, ap₂, ◌∙◌, sym, subst, slice_index}
+use Rattle.std.proofs.Common.{◌≡◌, ◌+◌, ◌∷◌, max, ap, ap₂, ◌∙◌, sym, subst, slice_index}
 use Rattle.left_right_blocks.specs.Blocks.{edges_in, IsPart}
 use Rattle.left_right_blocks.specs.Parts.{block_of, blocks_of}
 use Rattle.left_right_blocks.specs.Begun.{first_height, IsDeepest}

@@ -1,4 +1,4 @@
-use Rattle.std.proofs.Common.{◌≡◌, ◌≢◌, ◌+◌, ℕ, List, ap, ◌∙◌, sym, subst, arith, slice_index}
+use Rattle.std.proofs.Common.{◌≢◌, ℕ, List, ◌∙◌, subst, arith, slice_index}
 use Rattle.std.specs.Bool.{MatchBool}
 use Rattle.chained_lists.specs.Held.{Holds}
 use Rattle.left_right_blocks.specs.Parts.{block_of}

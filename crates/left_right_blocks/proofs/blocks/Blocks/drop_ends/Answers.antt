@@ -1,7 +1,7 @@
-use Rattle.std.proofs.Common.{◌≡◌, ◌+◌, ◌++◌, ℕ, List, ap, ◌∙◌, sym, subst, arith, slice_index}
+use Rattle.std.proofs.Common.{◌+◌, ◌++◌, ap, ◌∙◌, sym, subst, arith, slice_index}
 use Rattle.chained_lists.specs.declared.ChainedLists.{ChainedLists}
 use Rattle.left_right_blocks.specs.Trims.{ties_of}
-use Rattle.left_right_blocks.proofs.Dropping.{DropsTo, drops_begin, drops_step, drops_done, drops_full}
+use Rattle.left_right_blocks.proofs.Dropping.{DropsTo, drops_step, drops_full}
 use Rattle.left_right_blocks.proofs.blocks.Blocks.drop_ends.Goals as goal
 
 pub loop-preserved : goal.loop-preserved

@@ -1,4 +1,4 @@
-use Rattle.std.proofs.Common.{ℕ, ap, ◌∙◌, sym, subst, inl}
+use Rattle.std.proofs.Common.{ℕ, ◌∙◌, sym, subst, inl}
 use Rattle.chained_lists.specs.Held.{BeginsWith}
 use Rattle.left_right_blocks.proofs.Dropping.{begins_some}
 use Rattle.left_right_blocks.proofs.blocks.Blocks.has_edge.Goals as goal

@@ -1,5 +1,4 @@
-use Rattle.std.proofs.Common.{◌≡◌, ◌<◌, ℕ, List, [], Contains, ap, ◌∙◌, sym, subst, refl, arith, slice_index}
-use Rattle.chained_lists.specs.Held.{Holds}
+use Rattle.std.proofs.Common.{◌<◌, ℕ, [], Contains, sym, subst, slice_index}
 use Rattle.left_right_blocks.specs.Parts.{blocks_of}
 use Rattle.left_right_blocks.specs.Steps.{IsPut, ArePut, HasTwoDeep}
 use Rattle.left_right_blocks.proofs.Merging.{put_begin, same_p, end_fresh, merged_some, merged_none, clash_taken, clash_put}

@@ -1,4 +1,4 @@
-use Rattle.std.proofs.Common.{◌≡◌, ◌+◌, ◌≤◌, ℕ, List, [], ap, ◌∙◌, sym, subst, refl, arith, length, slice_index}
+use Rattle.std.proofs.Common.{◌≡◌, ◌+◌, ap, ◌∙◌, sym, subst, refl, arith, slice_index}
 use Rattle.left_right_blocks.specs.Found.{is_deep}
 use Rattle.left_right_blocks.proofs.Steps.{PopsAbove, PopsNone, puts_step_one, puts_step_other, puts_clash, puts_full, puts_done}
 use Rattle.left_right_blocks.proofs.blocks.Blocks.put_more.Goals as goal

@@ -1,4 +1,4 @@
-use Rattle.std.proofs.Common.{◌≡◌, ◌+◌, ◌<◌, ℕ, List, [], ◌∷◌, ◌++◌, Contains, ap, ◌∙◌, sym, subst, refl, arith, slice_index}
+use Rattle.std.proofs.Common.{◌+◌, ◌<◌, [], ◌∷◌, ◌++◌, ap, ◌∙◌, sym, subst, slice_index}
 use Rattle.std.proofs.lemmas.Bool.{true≢false}
 use Rattle.chained_lists.specs.Chains.{put}
 use Rattle.chained_lists.specs.Held.{Holds}

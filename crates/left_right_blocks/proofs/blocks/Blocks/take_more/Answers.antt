@@ -1,5 +1,4 @@
-use Rattle.std.proofs.Common.{◌≡◌, ◌+◌, ℕ, List, ap, ◌∙◌, sym, subst, refl, arith, slice_index}
-use Rattle.chained_lists.specs.Held.{Holds}
+use Rattle.std.proofs.Common.{◌≡◌, ◌+◌, ap, ◌∙◌, sym, subst, refl, arith, slice_index}
 use Rattle.left_right_blocks.specs.Parts.{block_of}
 use Rattle.left_right_blocks.specs.Steps.{IsTwoSided}
 use Rattle.std.proofs.lemmas.Bool.{true≢false}

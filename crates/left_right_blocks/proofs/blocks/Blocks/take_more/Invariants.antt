@@ -1,4 +1,4 @@
-use Rattle.std.proofs.Common.{◌≡◌, ℕ, List, slice_index}
+use Rattle.std.proofs.Common.{ℕ, List, slice_index}
 use Rattle.chained_lists.specs.Held.{Holds}
 use Rattle.left_right_blocks.specs.Steps.{IsSame, IsTaken}
 use Rattle.left_right_blocks.proofs.Steps.{TakesTo}

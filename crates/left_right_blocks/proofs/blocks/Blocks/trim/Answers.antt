@@ -1,8 +1,8 @@
-use Rattle.std.proofs.Common.{◌≡◌, ◌<◌, ℕ, List, Contains, ap, ◌∙◌, sym, subst, arith, length, slice_index}
-use Rattle.chained_lists.specs.Held.{Holds, BeginsWith}
+use Rattle.std.proofs.Common.{◌<◌, ℕ, List, ap, ◌∙◌, subst, arith, length, slice_index}
+use Rattle.chained_lists.specs.Held.{Holds}
 use Rattle.chained_lists.specs.declared.ChainedLists.{ChainedLists}
 use Rattle.left_right_blocks.specs.Trims.{AreTied, AreBlockDropped}
-use Rattle.left_right_blocks.proofs.Trimming.{trims_begin, trims_none, trims_some, trims_step, trims_full, popped_first}
+use Rattle.left_right_blocks.proofs.Trimming.{trims_none, trims_some, trims_step, trims_full, popped_first}
 use Rattle.left_right_blocks.proofs.blocks.Blocks.trim.Goals as goal
 
 pub returns-in_default-clause-trimmed : goal.returns-in_default-clause-trimmed
