@@ -1,5 +1,6 @@
 -- Sides that keep ties, found from the last tie to the first.
-use Rattle.std.proofs.Common.{drop-cons, ◌≡◌, ◌≢◌, ℕ, zero, suc, ◌<◌, Bool, false, not, cond, drop, List, [], ◌∷◌, ◌++◌, length, get_or, set, sym, ap, ◌∙◌, subst, arith, get_or-set_same, get_or-set_other}
+use Rattle.std.proofs.Common.{take, drop-cons, ◌≡◌, ◌≢◌, ℕ, zero, suc, ◌<◌, Bool, false, not, cond, drop, List, [], ◌∷◌, ◌++◌, length, get_or, set, sym, ap, ◌∙◌, subst, arith, get_or-set_same, get_or-set_other}
+use Rattle.std.proofs.Math.Seq.{take-append_seam}
 use Rattle.std.specs.List.{AllByRecursion as Each}
 use Rattle.left_right_blocks.specs.Ties.{AreKept, AreInTurn, AreBelow}
 use Rattle.left_right_blocks.specs.declared.ties.Tie.{Tie}
@@ -51,3 +52,7 @@ kept_at sides ties k t bound v side l read same long below turn is kept =
     (subst (AreKept (by_table (set sides t.edge side))) (sym rest)
     (subst (λ s. AreKept (by_table (set sides t.edge s)) (t ∷ drop (suc k) ties)) (sym is)
     (kept_more sides t (drop (suc k) ties) inside (subst AreInTurn rest (turn_drop ties k turn)) kept)))
+
+-- a table that was lent whole
+pub lent_whole : (new rest : List Bool) (n : ℕ) → n ≡ length new → take n (new ++ rest) ≡ new
+lent_whole new rest n e = ap (λ k. take k (new ++ rest)) e ∙ take-append_seam new rest

@@ -92,8 +92,7 @@ impl Blocks {
 
     /// Returns for each edge whether it is on the left, so that all ties are kept. It fails only when out of memory.
     pub fn sides(&self, alloc: Global) -> Result<Vec<bool>, AllocError>
-        requires { (lists : ℕ → List ℕ) × AreTied self.now.edges lists self.now.ties.items }
-        ensures { IfOk result (λ sides. AreKept (λ x. slice_index_or sides.items x false) self.now.ties.items) }
+        ensures { (lists : ℕ → List ℕ) → AreTied self.now.edges lists self.now.ties.items → IfOk result (λ sides. AreKept (λ x. slice_index_or sides.items x false) self.now.ties.items) }
     {
         let sides = tied_sides(alloc, &self.ties, self.edges)?;
         Ok(sides)

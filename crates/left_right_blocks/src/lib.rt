@@ -15,5 +15,4 @@ mod trims;
 
 pub use blocks::{Blocks, Fork};
 pub use fork_edges::ForkEdge;
-pub use sides::tied_sides;
 pub use ties::Tie;

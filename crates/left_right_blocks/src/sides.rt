@@ -20,18 +20,27 @@ fn turned(turn: bool, side: bool) -> bool
     if turn { !side } else { side }
 }
 
-/// Returns for each of the first `edges` edges whether it is on the left, so that `ties` are kept. The edge of a tie
-/// is not in a later one. It fails only when out of memory.
-pub fn tied_sides(alloc: Global, ties: &[Tie], edges: u16) -> Result<Vec<bool>, AllocError>
-    requires turn { AreInTurn ties.now }
-    requires below { AreBelow edges ties.now }
-    ensures { IfOk result (λ sides. AreKept (λ x. slice_index_or sides.items x false) ties.now) }
+// Puts the edges of `ties`, from the last to the first, on the sides in `sides` that the ties demand.
+fn keep_all(sides: &mut [bool], ties: &[Tie])
+    ensures { AreInTurn ties.now → AreBelow (length sides.old) ties.now → AreKept (λ x. slice_index_or sides.new x false) ties.now }
 {
-    let mut sides = vec![in alloc; true; usize::from(edges)]?;
     for i in 0..ties.len() {
         let tie = ties[ties.len() - 1 - i];
-        let side = turned(tie.turn, side_of(&sides, tie.to));
-        sides[usize::from(tie.edge)] = side;
+        let side = turned(tie.turn, side_of(sides, tie.to));
+        let edge = usize::from(tie.edge);
+        if edge >= sides.len() {
+            continue;
+        }
+        sides[edge] = side;
     }
+}
+
+/// Returns for each of the first `edges` edges whether it is on the left, so that `ties` are kept, where the edge of each
+/// is not in a later one. It fails only when out of memory.
+pub(crate) fn tied_sides(alloc: Global, ties: &[Tie], edges: u16) -> Result<Vec<bool>, AllocError>
+    ensures { AreInTurn ties.now → AreBelow edges ties.now → IfOk result (λ sides. AreKept (λ x. slice_index_or sides.items x false) ties.now) }
+{
+    let mut sides = vec![in alloc; true; usize::from(edges)]?;
+    keep_all(&mut sides, ties);
     Ok(sides)
 }

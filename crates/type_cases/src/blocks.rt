@@ -17,21 +17,25 @@ fn lists_are_joined(rt: HostRuntime) -> Result<(), Fail> {
     Ok(())
 }
 
-// Tests the sides of a fork: of three edges that end at depths 0, 1 and 1 the last returns by another edge of the vertex
-// than the second, and so on the other side.
+// Returns an edge of a fork.
+fn edge(stack: usize, low: u16, mixed: bool) -> ForkEdge {
+    ForkEdge { stack, low, mixed }
+}
+
+// Tests the sides of three edges, which end at depths 0, 2 and 1. The first two return by one edge of a vertex and the
+// third by another, so the second and the third are on different sides.
 #[test]
 fn forks_part_edges(rt: HostRuntime) -> Result<(), Fail> {
-    let heights = [0u16, 1, 1];
-    let mut blocks = Blocks::new(rt.alloc(), 3, 1)?;
-    let edges = [0usize, 1, 2].map(|stack| ForkEdge {
-        stack,
-        low: heights[stack],
-        mixed: false,
-    });
-    assert!(rt; blocks.gather(&heights, 3, &edges));
-    assert!(rt; blocks.deepest(&heights, 3) == Some(1));
-    blocks.trim(&heights, 3, 1)?;
-    blocks.trim(&heights, 3, 0)?;
-    assert!(rt; blocks.deepest(&heights, 3).is_none());
+    let heights = [0, 2, 1];
+    let mut blocks = Blocks::new(rt.alloc(), 3, 2)?;
+    assert!(rt; blocks.gather(&heights, 3, &[edge(0, 0, false), edge(1, 2, false)]));
+    assert!(rt; blocks.gather(&heights, 4, &[edge(3, 0, true), edge(2, 1, false)]));
+    assert!(rt; blocks.deepest(&heights, 4) == Some(2));
+    blocks.trim(&heights, 4, 2)?;
+    assert!(rt; blocks.deepest(&heights, 4) == Some(1));
+    blocks.trim(&heights, 4, 0)?;
+    assert!(rt; blocks.deepest(&heights, 4).is_none());
+    let sides = blocks.sides(rt.alloc())?;
+    assert!(rt; sides.as_slice() == [true, false, true].as_slice());
     Ok(())
 }
