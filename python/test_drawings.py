@@ -100,10 +100,14 @@ class Formats(unittest.TestCase):
                 self.assertEqual({frozenset(map(str, edge)) for edge in edges_by_name(found[0])}, wanted, kind)
 
     def test_first_bytes_and_endings_say_the_format(self):
+        def as_json(graph, path):
+            with open(path, "w", encoding="utf-8") as file:
+                json.dump(networkx.node_link_data(graph), file)
+
         graph = networkx.florentine_families_graph()
         with tempfile.TemporaryDirectory() as folder:
             for ending, write in (("graphml", networkx.write_graphml), ("gexf", networkx.write_gexf), ("gml", networkx.write_gml), ("net", networkx.write_pajek),
-                                  ("s6", networkx.write_sparse6), ("json", lambda g, path: open(path, "w").write(json.dumps(networkx.node_link_data(g))))):
+                                  ("s6", networkx.write_sparse6), ("json", as_json)):
                 path = os.path.join(folder, f"graph.{ending}")
                 write(graph, path)
                 with open(path, "rb") as file:

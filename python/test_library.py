@@ -4,11 +4,13 @@
 Where tools/library has not made it they are left out, which is said; where all are, the status is 77.
 """
 import os
+import random
 import shutil
 import subprocess
 import sys
 import tempfile
 import unittest
+import unittest.mock
 
 ROOT = os.path.dirname(os.path.dirname(os.path.realpath(__file__)))
 sys.path.insert(0, os.path.join(ROOT, "python"))
@@ -16,7 +18,7 @@ sys.path.insert(0, os.path.join(ROOT, "python"))
 import pigale
 from pigale.library import answered, library, made_library
 
-LIBRARY = os.path.join(ROOT, "out", "library", "libpigale.so")
+LIBRARY = os.environ.get("PIGALE_LIBRARY") or os.path.join(ROOT, "out", "library", "libpigale.so")
 MEMORY = os.path.join(ROOT, "library", "memory.c")
 SIZES = """
 #include <stdio.h>
@@ -81,6 +83,35 @@ class Library(unittest.TestCase):
             done = subprocess.run([pigale.program(), *words.split()], input=data, stdout=subprocess.PIPE, check=False)
             for capacity in (None, 1, len(done.stdout)):
                 self.assertEqual(answered(LIBRARY, words.split(), data, capacity), (done.returncode, done.stdout.decode()))
+
+    def test_calls_answer_as_the_program(self) -> None:
+        """Figures, witnesses, refusals and verdicts by typed calls are those that the program writes."""
+        source = random.Random(6)
+        maps = [pigale.stacked(n, n) for n in range(3, 30)] + [pigale.prism(5), pigale.grid(4, 5), pigale.wheel(7), pigale.path(4), pigale.cycle(3), [[]], [[2], [1]],
+                pigale.quadrangle(3, 4), pigale.tree(9, source), pigale.complete(5), [[2], []], [[1]], [[2, 2], [1]], [[5], []]]
+        graphs = [(n, [(u, v) for v in range(1, n + 1) for u in range(1, v) if source.random() < 0.5]) for n in range(0, 12) for _ in range(6)]
+        drawings = []
+        for _ in range(200):
+            places = [(source.randrange(-9, 9), source.randrange(9)) for _ in range(6)]
+            drawings.append((places, source.sample([(u, v) for v in range(6) for u in range(v)], 5)))
+        answers = []
+        for path in ("", LIBRARY):
+            with unittest.mock.patch.dict(os.environ, PIGALE_LIBRARY=path):
+                answers.append([[str(figure) for job in ("shift", "schnyder", "bars", "convex", "rect") for figure in pigale.draw(maps, job)],
+                                [str(figure) for figure in pigale.embed(graphs)], pigale.check_all(drawings)])
+        for one, other in zip(*answers):
+            self.assertEqual(one, other)
+
+    def test_drawings_that_only_the_library_judges(self) -> None:
+        with unittest.mock.patch.dict(os.environ, PIGALE_LIBRARY=LIBRARY):
+            places = [(0, 0), (1048576, 1), (1, 1048576), (524288, 3)]
+            self.assertTrue(pigale.check(places, [(0, 1), (1, 2), (2, 0)]))
+            self.assertEqual(str(pigale.check([(0, 0), (1048576, 0), (3, 1), (524289, 0)], [(0, 1), (2, 3)])), "OnEdge 3 0 1")
+            with self.assertRaisesRegex(ValueError, "within 1048576 by 1048576"):
+                pigale.check([(0, 0), (1048577, 1), (1, 0)], [])
+            for call, words in ((lambda: pigale.draw([[[0]]]), "a neighbour of vertex 1"), (lambda: pigale.draw([[]]), "1 to 65535"), (lambda: pigale.draw([[[300]]]), "a neighbour of vertex 1"),
+                                (lambda: pigale.embed([(3, [(1, 4)])]), "1 4 is no edge"), (lambda: pigale.embed([(3, [(2, 2)])]), "2 2 is no edge"), (lambda: pigale.embed([(256, [])]), "up to 255")):
+                self.assertRaisesRegex(ValueError, words, call)
 
     def test_run_asks_the_library_that_is_named(self) -> None:
         kept = os.environ.get("PIGALE_LIBRARY")

@@ -332,6 +332,9 @@ def is_plane(places, edges):
                    for one, other in itertools.combinations(edges, 2))
 
 
+BY_PROGRAM = unittest.mock.patch.dict(os.environ, PIGALE_LIBRARY="")
+
+
 class Drawings(unittest.TestCase):
     def test_verdicts_have_your_names(self):
         rows = [(SQUARE, SIDES, "yes"), (SQUARE, [*SIDES, ("a", "c")], "yes"), ({}, [], "yes"), ({"a": (5, 5)}, [], "yes"),
@@ -354,6 +357,7 @@ class Drawings(unittest.TestCase):
             self.assertTrue(pigale.check(places, SIDES))
             self.assertEqual(str(pigale.check(places, crossed)), "Cross a c b d")
 
+    @BY_PROGRAM
     def test_many_drawings_take_several_runs(self):
         crossed = [*SIDES, ("a", "c"), ("b", "d")]
         drawings = [(SQUARE, SIDES if k % 3 else crossed) for k in range(10)]
@@ -363,6 +367,7 @@ class Drawings(unittest.TestCase):
         self.assertEqual([bool(answer) for answer in answers], [k % 3 > 0 for k in range(10)])
         self.assertGreater(runs.call_count, 1)
 
+    @BY_PROGRAM
     def test_limits(self):
         for far in ((8186, 1), (8186, 4092), (1, 8186), (4092, 8186)):
             places = {"a": (0, 0), "b": far, "c": (1, 0), "d": (0, 1)}

@@ -62,8 +62,9 @@ def check(places: Places, edges: Iterable[Sequence[Any]], rotations: Optional[Ro
 
 def check_all(drawings: Iterable[Sequence[Any]]) -> List[Checked]:
     """As `check`, for a list of drawings, (places, edges) or (places, edges, rotations), in as few runs as may be."""
-    if library():
-        return [_judged(*drawing) for drawing in drawings]
+    within = library()
+    if within:
+        return [_judged(within, *drawing) for drawing in drawings]
     prepared = [_prepared(*drawing) for drawing in drawings]
     texts = _joined([f"{figure}\n" for figure, _ in prepared])
     answers = [answer for text in texts for answer in run("verify", text).answers]
@@ -105,15 +106,14 @@ def _prepared(places: Places, edges: Iterable[Sequence[Any]],
     return GridFigure(1, "shift", points + above, lists + [[] for _ in above]), names
 
 
-def _judged(places: Places, edges: Iterable[Sequence[Any]], rotations: Optional[Rotations] = None) -> Checked:
-    """The verdict of the library on a drawing."""
+def _judged(path: str, places: Places, edges: Iterable[Sequence[Any]], rotations: Optional[Rotations] = None) -> Checked:
+    """The verdict of the library at a path on a drawing."""
     points, lists, names = _placed(places, edges, rotations)
     size = max((max(point) for point in points), default=0)
     if len(points) > MOST_VERTICES or size > FARTHEST:
         raise ValueError(f"{len(points)} vertices on a grid of {size}: at most {MOST_VERTICES} vertices within {FARTHEST} by {FARTHEST} can be judged")
-    verdict = checked(lists, points, size, size) if points else ("yes", ())
-    assert verdict is not None
-    return Checked(verdict[0], tuple(names[v - 1] for v in verdict[1]))
+    name, vertices = checked(path, lists, points, size, size) if points else ("yes", ())
+    return Checked(name, tuple(names[v - 1] for v in vertices))
 
 
 def _placed(places: Places, edges: Iterable[Sequence[Any]],

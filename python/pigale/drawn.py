@@ -233,20 +233,19 @@ class _Judge:
     """Has drawings of maps judged by the library, or by a program that stays."""
 
     def __init__(self) -> None:
-        self.is_within = library() is not None
+        self.path = library()
         self.session: Any = None
 
     @property
     def sizes(self) -> Sequence[int]:
         """The sizes of grids that can be judged, in the order in which they are tried."""
-        return (1000, 1000000) if self.is_within else (1000, HEIGHT)
+        return (1000, 1000000) if self.path else (1000, HEIGHT)
 
     def says_yes(self, lists: Map, places: Sequence[Place]) -> bool:
         """Whether a drawing is plane and keeps the lists."""
         size = max(max(place) for place in places)
-        if self.is_within:
-            verdict = checked(lists, places, size, size)
-            return verdict is not None and verdict[0] == "yes"
+        if self.path:
+            return checked(self.path, lists, places, size, size)[0] == "yes"
         if not self.session:
             from .session import Session
             self.session = Session()
@@ -291,7 +290,7 @@ def _parts_drawing(lists: Lists, parts: Sequence[Sequence[int]], judge: _Judge, 
         drawings.append(drawing)
     places = _packed(parts, drawings)
     is_small = all(x <= WIDTH and y <= HEIGHT for x, y in places)
-    return places if (judge.is_within or is_small) and judge.says_yes(lists, places) else None
+    return places if (judge.path or is_small) and judge.says_yes(lists, places) else None
 
 
 def _part_drawing(lists: Lists, judge: _Judge, method: str) -> Optional[List[Place]]:

@@ -7,8 +7,8 @@ import subprocess
 from dataclasses import dataclass
 from typing import Iterable, Iterator, List, Optional, Sequence, Tuple, Union, cast
 
-from .formats import (FIGURES, MOST_BYTES, MOST_VERTICES, PLANAR_JOBS, Answer, Block, End, Figure, Graph, GridFigure, Map, Refused, Stop,
-                      WitnessFigure, as_maps, check_line, read_blocks, write_graph6, write_planar_code)
+from .formats import (FIGURES, MOST_BYTES, MOST_VERTICES, PLANAR_JOBS, Answer, Block, Edge, End, Figure, Graph, GridFigure, Map, Refused, Stop,
+                      WitnessFigure, as_maps, check_line, pair_of, read_blocks, write_graph6, write_planar_code)
 from .library import answered, library
 
 READING_JOBS = (*PLANAR_JOBS, "embed", "verify")
@@ -150,11 +150,15 @@ def encoded(job: str, records: Records, first: int = 1, header: bool = True) -> 
         return "".join(f"{line}\n" for line in _lines(cast(Iterable[Union[str, Graph]], records), first)).encode("ascii")
     if job == "verify":
         return "".join(f"{figure}\n" for figure in _figures(cast(Iterable[Figure], records), first)).encode("ascii", "surrogateescape")
-    maps = as_maps(cast(Iterable[Map], records))
+    return write_planar_code(_sized(as_maps(cast(Iterable[Map], records)), first), header)
+
+
+def _sized(maps: List[Map], first: int) -> List[Map]:
+    """The maps. Raises ValueError where one has more vertices than the program reads, by its number from `first` on."""
     for k, lists in enumerate(maps, first):
         if len(lists) > MOST_VERTICES:
             raise ValueError(f"map {k} has {len(lists)} vertices: the program reads up to {MOST_VERTICES}")
-    return write_planar_code(maps, header)
+    return maps
 
 
 def _lines(graphs: Iterable[Union[str, Graph]], first: int) -> Iterable[str]:
@@ -177,6 +181,16 @@ def _lines(graphs: Iterable[Union[str, Graph]], first: int) -> Iterable[str]:
         yield line
 
 
+def _pairs(n: int, edges: Iterable[Edge], number: int) -> List[Edge]:
+    """The edges of a graph as pairs. Raises ValueError where one is none, or the graph has more vertices than `embed` reads."""
+    if not isinstance(n, int) or not 0 <= n <= MOST_EMBEDDED:
+        raise ValueError(f"graph {number} has {n} vertices: embed reads up to {MOST_EMBEDDED}")
+    try:
+        return [pair_of(edge) for edge in edges]
+    except (TypeError, ValueError) as fault:
+        raise ValueError(f"graph {number}: {fault}") from fault
+
+
 def _figures(figures: Iterable[Figure], first: int) -> Iterable[Figure]:
     if isinstance(figures, FIGURES):
         raise ValueError("this is one figure: give a list of figures, as [figure] for one")
@@ -195,6 +209,10 @@ def draw(maps: Union[bytes, Iterable[Map]], job: str = "schnyder",
     """
     if job not in PLANAR_JOBS[1:]:
         raise ValueError(f"{job} is no job that draws maps")
+    path = None if processes or isinstance(maps, bytes) else library()
+    if path:
+        from .typed import drawn
+        return [drawn(path, lists, job, k) for k, lists in enumerate(_sized(as_maps(cast(Iterable[Map], maps)), 1), 1)]
     return cast(List[Union[Figure, Refused]], run(job, maps, processes=processes).answers)
 
 
@@ -205,4 +223,8 @@ def embed(graphs: Union[str, bytes, Iterable[Union[str, Graph]]],
     A graph is (n, edges) or a line of graph6, with up to 255 vertices; one of fewer than three has a `Refused` in its
     place. `processes` is as in `run`. Raises as `run` does.
     """
+    path = None if processes else library()
+    if path and isinstance(graphs, list) and all(isinstance(graph, tuple) and len(graph) == 2 for graph in graphs):
+        from .typed import embedded
+        return [embedded(path, n, _pairs(n, edges, k), k) for k, (n, edges) in enumerate(cast(List[Graph], graphs), 1)]
     return cast(List[Union[GridFigure, WitnessFigure, Refused]], run("embed", graphs, processes=processes).answers)
