@@ -394,7 +394,7 @@ class Door(unittest.TestCase):
     """pip's command `pigale`."""
 
     def ran(self, *words, data=b"", path=None):
-        code = f"import sys; sys.path.insert(0, {HERE!r}); from pigale.cli import door; sys.exit(door())"
+        code = f"import sys; sys.path.insert(0, {HERE!r}); from pigale.cli import main; sys.exit(main())"
         given = {"stdin": open(path, "rb")} if path else {"input": data}
         done = subprocess.run([sys.executable, "-c", code, *words], stdout=subprocess.PIPE, stderr=subprocess.PIPE, check=False, **given)
         if path:

@@ -830,9 +830,10 @@ class Commands(unittest.TestCase):
             self.assertIn("2 pages", said)
 
     def test_other_words(self):
-        for words in ((), ("help",)):
-            status, out, said = command(*words)
-            self.assertEqual((status, out, "recode" in said), (2, b"", True))
+        status, out, said = command()
+        self.assertEqual((status, out, "recode" in said), (2, b"", True))
+        status, out, said = command("help")
+        self.assertEqual((status, out, "'help' is no job" in said), (2, b"stop BadWords\n", True))
         for words in (["picture", "--side", "x"], ["page"], ["stacked", "x", "1"], ["page", "shift", "more"]):
             self.assertEqual(command(*words)[:2], (2, b""))
         status, out, _ = command("--help")

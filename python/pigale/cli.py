@@ -1,4 +1,4 @@
-"""The commands of `python3 -m pigale` and `python3 python/pigale.py`, and pip's command `pigale`, which runs the program too."""
+"""The command `pigale`, which is `python3 -m pigale` and `python3 python/pigale.py` too."""
 import argparse
 import os
 import signal
@@ -25,13 +25,21 @@ from .streams import (Ended, InputFault, OutputFault, end_by, forget_output, put
 Arguments = argparse.Namespace
 
 
-def main(words: Optional[Sequence[str]] = None) -> int:
-    """Runs a command; returns its status.
+COMMANDS = ("all", "check", "draw", "make", "page", "picture", "recode", "stacked")
 
-    That is 0, 1 after a no or a refusal, 2 for wrong words, 3 where something failed, 4 where standard input and 5 where
-    standard output did. `all` besides has the other statuses of the program. A signal that asks for the end ends the
-    command by itself, once the programs that it started are ended.
+
+def main(given: Optional[Sequence[str]] = None) -> int:
+    """Is the command `pigale`: runs a command of the package, or hands all other words to the program; returns the status.
+
+    The program has the words, standard input and standard output as they are, and its status is returned. What there is to
+    say of another status than 0 goes to standard error. The status of a command is 0, 1 after a no or a refusal, 2 for
+    wrong words, 3 where something failed, 4 where standard input and 5 where standard output did. `all` besides has the
+    other statuses of the program. A signal that asks for the end ends a command by itself, once the programs that it
+    started are ended.
     """
+    words = list(sys.argv[1:] if given is None else given)
+    if words and words[0] not in (*COMMANDS, "--help", "-h", "--version"):
+        return _of_program(words)
     parser = _parser()
     try:
         arguments = parser.parse_args(words)
@@ -54,18 +62,8 @@ def main(words: Optional[Sequence[str]] = None) -> int:
         return 4 if isinstance(fault, InputFault) else 5 if isinstance(fault, OutputFault) else 3
 
 
-COMMANDS = ("all", "check", "draw", "make", "page", "picture", "recode", "stacked")
-
-
-def door() -> int:
-    """Is pip's command `pigale`: runs a command of the package, or hands all other words to the program.
-
-    The program has the words, standard input and standard output as they are, and its status is returned. What there is
-    to say of another status than 0 goes to standard error.
-    """
-    words = sys.argv[1:]
-    if not words or words[0] in (*COMMANDS, "--help", "-h", "--version"):
-        return main(words)
+def _of_program(words: Sequence[str]) -> int:
+    """Runs the program with words; returns its status, and says on standard error what there is to say of it."""
     try:
         status = subprocess.call([program(), *words])
     except FileNotFoundError as fault:
@@ -83,7 +81,7 @@ def _parser() -> argparse.ArgumentParser:
     parser = argparse.ArgumentParser(
         prog="pigale", description="Maps, figures and pictures of the program pigale.",
         epilog="Each command has a --help of its own. Statuses: 0, 1 after a no or a refusal, 2 for wrong words, 3 for what failed, "
-               "4 where standard input and 5 where standard output fails. As pip's command `pigale` it also runs the jobs of the program, as in "
+               "4 where standard input and 5 where standard output fails. The jobs of the program are run too, as in "
                "`pigale count < maps.plc`: count, shift, schnyder, bars, convex, rect, embed, verify and gen.")
     parser.add_argument("--version", action="version", version=f"pigale {__version__}")
     parser.set_defaults(command=None)
