@@ -19,7 +19,7 @@ repository, `run` and what stands on it ask that, within this process, in place 
 `read_graphs` reads graphs of many formats with their names, `draw_named` draws them, and `written` writes the drawings.
 
 Its modules: `formats` (planar_code, graph6 and the program's text), `runs` (of the program), `library` and `typed` (the same within
-this process), `parts` and `parallel` (inputs of any size), `maps`, `makers`, `checks`, `graphs` (networkx and Sage), `kinds` and
+this process), `parts` and `parallel` (inputs of any size), `maps`, `makers`, `checks`, `graphs` and `networkx_backend` (networkx, igraph and Sage), `kinds` and
 `readers` (other formats), `drawn` and `rounds` (drawings of named graphs), `pictures`, `tikz`, `writers` and `pages`, and `cli` (the
 commands). All that they offer is here by one name.
 """
@@ -30,9 +30,10 @@ from .drawn import METHODS, Drawn, draw_named
 from .formats import (FIGURES, GRID_JOBS, HEADER, MOST_BYTES, MOST_VERTICES, PLANAR_JOBS, BarFigure, Count, End,
                       GridFigure, RectFigure, Refused, Stop, Verdict, WitnessFigure, read_blocks, read_figures,
                       read_graph6, read_planar_code, write_graph6, write_planar_code)
-from .graphs import from_networkx, graph_of_networkx, to_networkx, to_sage
+from .graphs import from_igraph, from_networkx, graph_of_networkx, to_networkx, to_sage
 from .makers import (complete, cycle, grid, path, prism, quadrangle, renumbered, stacked, tree, triangulation, wheel)
 from .maps import dual, edges_of, faces_of, outside, rotations_of, without_edge, witness_graph
+from .networkx_backend import check_planarity, is_planar, planar_layout
 from .pages import page, pages
 from .parallel import Progress, run_all, stream
 from .pictures import STYLES, picture
@@ -46,10 +47,10 @@ __all__ = [
     "BarFigure", "Checked", "Count", "Drawn", "End", "FIGURES", "GRID_JOBS", "GridFigure", "HEADER", "HEIGHT", "Look",
     "METHODS", "MOST_BYTES", "MOST_VERTICES", "Named", "PLANAR_JOBS", "PigaleError", "Progress", "ReadFault",
     "RectFigure", "Refused", "Run", "STYLES", "Session", "Stop", "Verdict", "WIDTH", "WitnessFigure", "check",
-    "check_all", "complete", "cycle", "draw", "draw_named", "dual", "edges_of", "embed", "faces_of", "from_networkx",
-    "graph_of_networkx", "graphs_of", "grid", "outside", "page", "pages", "path", "picture", "prism", "program",
-    "quadrangle", "read_blocks", "read_drawing", "read_figures", "read_graph6", "read_graphs", "read_planar_code",
-    "renumbered", "rotations_of", "run", "run_all", "scaled", "stacked", "stream", "tikz", "tikz_document",
-    "to_networkx", "to_sage", "tree", "triangulation", "wheel", "without_edge", "witness_graph", "write_graph6",
-    "write_planar_code", "written",
+    "check_all", "check_planarity", "complete", "cycle", "draw", "draw_named", "dual", "edges_of", "embed", "faces_of",
+    "from_igraph", "from_networkx", "graph_of_networkx", "graphs_of", "grid", "is_planar", "outside", "page", "pages",
+    "path", "picture", "planar_layout", "prism", "program", "quadrangle", "read_blocks", "read_drawing", "read_figures",
+    "read_graph6", "read_graphs", "read_planar_code", "renumbered", "rotations_of", "run", "run_all", "scaled",
+    "stacked", "stream", "tikz", "tikz_document", "to_networkx", "to_sage", "tree", "triangulation", "wheel",
+    "without_edge", "witness_graph", "write_graph6", "write_planar_code", "written",
 ]

@@ -1,4 +1,4 @@
-"""Maps and graphs of networkx and Sage, which are imported where a function is called that speaks of them."""
+"""Maps and graphs of networkx, igraph and Sage, which are imported where a function is called that speaks of them."""
 import importlib
 from typing import Any, Hashable, List, Optional, Sequence, Tuple
 
@@ -36,6 +36,17 @@ def graph_of_networkx(graph: Any) -> Tuple[Tuple[int, List[Edge]], List[Hashable
     names = list(graph)
     number = {name: v for v, name in enumerate(names, 1)}
     return (len(names), list(dict.fromkeys((number[u], number[v]) for u, v in graph.edges()))), names
+
+
+def from_igraph(graph: Any) -> Tuple[Tuple[int, List[Edge]], List[Hashable]]:
+    """A graph of igraph as (n, edges), and the names of its vertices: ((n, edges), names).
+
+    The names are the vertices' attribute `name`, or where there is none their numbers from 0. Directions do not matter;
+    edges between the same two vertices become one.
+    """
+    names: List[Hashable] = list(graph.vs["name"]) if "name" in graph.vs.attributes() else list(range(graph.vcount()))
+    pairs = dict.fromkeys((min(u, v) + 1, max(u, v) + 1) for u, v in graph.get_edgelist())
+    return (graph.vcount(), list(pairs)), names
 
 
 def to_sage(lists: Map, places: Optional[Sequence[Place]] = None) -> Any:
