@@ -128,6 +128,10 @@ class Formats(unittest.TestCase):
         found = Named.of_networkx(graph)
         self.assertEqual(edges_by_name(found), {frozenset("ab"), frozenset("bc")})
 
+    def test_adjacency_lists_with_colons(self):
+        found = graphs_of(b"1: 2 3\n2: 1 3\n3: 1 2\n", kind="adjacency")[0]
+        self.assertEqual((found.names, len(found.edges)), (["1", "2", "3"], 3))
+
     def test_labels_are_names(self):
         graph = networkx.Graph([(1, 2)])
         networkx.set_node_attributes(graph, {1: "one", 2: "two"}, "label")
@@ -382,6 +386,23 @@ class Commands(unittest.TestCase):
             self.assertEqual(found, status, (words, said))
             self.assertIn(sentence, said)
             self.assertNotIn("Traceback", said)
+
+    def test_table_of_counts(self):
+        maps = [pigale.prism(3)] * 3 + [pigale.wheel(6), pigale.complete(5), [[2], []]]
+        for words in (("count", "--table"), ("--table", "count")):
+            status, out, said = command(*words, data=pigale.write_planar_code(maps))
+            self.assertEqual((status, said), (1, ""))
+            self.assertEqual([line.split() for line in out.decode().split("\n")[:-1]],
+                             [["n", "m", "f", "c", "genus", "records"], ["5", "10", "3", "1", "2", "1"], ["6", "9", "5", "1", "0", "3"], ["6", "10", "6", "1", "0", "1"],
+                              ["refused", "OneSided", "1"], ["end", "records", "6", "refused", "1"]])
+        status, out, said = command("count", "--table", data=b"C~\n")
+        self.assertEqual((status, out.decode().split("\n")[-2], "graph6" in said), (3, "stop EndInRecord 0", True))
+
+    def test_dictionaries(self):
+        figures = [*pigale.draw([pigale.prism(3)], "convex"), *pigale.draw([pigale.prism(3)], "bars"), *pigale.embed(["D~{"])]
+        for figure in figures:
+            found = json.loads(figure.to_json())
+            self.assertEqual((found["job"], found["number"]), (figure.job, figure.number))
 
     def test_make(self):
         for words, lists in ((("stacked", "9", "5"), pigale.stacked(9, 5)), (("grid", "3", "4"), pigale.grid(3, 4)), (("prism", "5"), pigale.prism(5)), (("quadrangle", "2", "3"), pigale.quadrangle(2, 3)),

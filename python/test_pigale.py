@@ -675,7 +675,8 @@ class Pictures(unittest.TestCase):
                     subprocess.run(["rsvg-convert", "-w", "150", "-o", image, os.path.join(docs, path)], check=True)
                     bright = [colour for colour in colours(image) if max(colour[:3]) - min(colour[:3]) > 60]
                     self.assertGreater(len(bright), 2, path)
-        self.assertEqual({path for path in found if path.endswith(".svg")},
+        unread = set() if networkx else {"gallery/florence-round.svg"}
+        self.assertEqual({path for path in found if path.endswith(".svg")} | unread,
                          {f"gallery/{name}" for name in os.listdir(os.path.join(docs, "gallery")) if name.endswith(".svg")})
 
     def test_the_triangle_is_equilateral(self):

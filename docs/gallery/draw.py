@@ -1,10 +1,13 @@
 #!/usr/bin/env python3
-"""Makes docs/gallery.md, and in docs/gallery/ the maps and pictures that it shows.
+"""Makes docs/gallery.md, and in docs/gallery/ the graphs, maps and pictures that it shows.
 
   python3 docs/gallery/draw.py
 
-Each picture is the figure that its command writes, shown by the package pigale, which also finds the program.
+Each picture is the figure that its command writes, shown by the package pigale, which also finds the program. Without
+networkx, which reads GraphML, the pictures of it and the page are left as they are.
 """
+import importlib.util
+import json
 import os
 import random
 import sys
@@ -20,7 +23,7 @@ PETERSEN = "IheA@GUAo"
 
 HEAD = """# Gallery
 
-Twelve figures, each with the command that makes it, run from the top of the repository. The last part of a command, `picture`, turns the text of a figure into a picture with numbers at the vertices; the program's own pictures, by `--form svg`, have none. `--style equilateral` gives the triangle of a drawing three like sides, by an affine map, which keeps edges straight, faces convex and crossings away. `--style faces` fills each face by its length. `docs/gallery/draw.py` makes the maps, the pictures and this page. That a figure is what its job promises is proved; that a picture shows the figure is not.
+Twenty figures, each with the command that makes it, run from the top of the repository. `draw` reads a graph of any usual format with its names and draws it round, where the program judges what floats propose to be plane; or it shows the witness that it has no drawing. In the other commands the last part, `picture`, turns the text of a figure into a picture with numbers at the vertices; the program's own pictures, by `--form svg`, have none. `--style equilateral` gives the triangle of a drawing three like sides, by an affine map, which keeps edges straight, faces convex and crossings away. `--style faces` fills each face by its length. `docs/gallery/draw.py` makes the maps, the pictures and this page. That a figure is what its job promises is proved, and that a round drawing is plane is what the proved program says of it; that a picture shows the figure is not.
 """
 
 
@@ -75,6 +78,75 @@ def rectangles():
     return pigale.quadrangle(7, 8, lambda i, j: rising[i, j])
 
 
+def halin():
+    """A tree without vertices of degree two, and a cycle through its leaves."""
+    source, parents, leaves = random.Random(4), {}, [1]
+    while len(parents) < 25:
+        v = leaves.pop(source.randrange(len(leaves)))
+        children = [len(parents) + 2 + k for k in range(3 if v == 1 else source.choice((2, 3)))]
+        parents.update(dict.fromkeys(children, v))
+        leaves += children
+
+    def below(v):
+        children = [u for u, w in parents.items() if w == v]
+        return [leaf for u in children for leaf in below(u)] if children else [v]
+
+    ring = below(1)
+    return [*((v, u) for u, v in parents.items()), *zip(ring, ring[1:] + ring[:1])]
+
+
+def tree():
+    """A tree of forty vertices, each joined to one of the last few before it."""
+    source = random.Random(7)
+    return [(source.randrange(max(1, v // 3), v), v) for v in range(2, 41)]
+
+
+# The marriages among families of Florence in the fifteenth century, by Padgett and Ansell 1993.
+MARRIAGES = """Acciaiuoli-Medici Castellani-Peruzzi Castellani-Strozzi Castellani-Barbadori Medici-Barbadori Medici-Ridolfi Medici-Tornabuoni
+Medici-Albizzi Medici-Salviati Salviati-Pazzi Peruzzi-Strozzi Peruzzi-Bischeri Strozzi-Ridolfi Strozzi-Bischeri Ridolfi-Tornabuoni
+Tornabuoni-Guadagni Albizzi-Ginori Albizzi-Guadagni Bischeri-Guadagni Guadagni-Lamberteschi"""
+
+
+def graphml(pairs):
+    names = list(dict.fromkeys(name for pair in pairs for name in pair))
+    lines = [f'    <node id="{name}"/>' for name in names] + [f'    <edge source="{u}" target="{v}"/>' for u, v in pairs]
+    body = "\n".join(lines)
+    return f'<?xml version="1.0" encoding="UTF-8"?>\n<graphml xmlns="http://graphml.graphdrawing.org/xmlns">\n  <graph edgedefault="undirected">\n{body}\n  </graph>\n</graphml>\n'
+
+
+def wells():
+    """Three houses and three wells, with a path from each house to each well."""
+    houses, wells_ = ["north house", "south house", "mill"], ["old well", "new well", "spring"]
+    links = [{"source": house, "target": well} for house in houses for well in wells_]
+    return json.dumps({"nodes": [{"id": name} for name in houses + wells_], "links": links}, indent=1) + "\n"
+
+
+def edge_list(pairs):
+    return "".join(f"{u} {v}\n" for u, v in pairs)
+
+
+GRAPHS = {
+    "halin.edges": lambda: edge_list(halin()),
+    "tree.edges": lambda: edge_list(tree()),
+    "florence.graphml": lambda: graphml([pair.split("-") for pair in MARRIAGES.split()]),
+    "wells.json": wells,
+}
+
+# The picture's name, its input, its style, the heading and the alternative text.
+DRAWN = [
+    ("buckminster-round", "buckminster.plc", "faces", "A fullerene of 60 vertices",
+     "The truncated icosahedron with a hexagon outside: red pentagons among blue hexagons"),
+    ("florence-round", "florence.graphml", "", "Marriages among the families of Florence",
+     "A graph of fifteen names, Medici in the midst, drawn without a crossing"),
+    ("grid-round", "grid.plc", "faces", "A grid of six by six", "Twenty-five green squares in a circle, bulging like a cushion"),
+    ("halin-round", "halin.edges", "faces", "A Halin graph", "A tree whose leaves are joined by a circle round it"),
+    ("dodecahedron-round", "dodecahedron.plc", "faces", "The dodecahedron", "Eleven red pentagons within a twelfth"),
+    ("tutte-round", "tutte.plc", "faces", "Tutte's graph", "Tutte's graph of 46 vertices in a circle of ten, its faces in colours by their lengths"),
+    ("tree-round", "tree.edges", "", "A tree of forty vertices", "Forty dots with lines that branch outwards"),
+    ("wells-witness", "wells.json", "", "Three houses and three wells, and no map of their paths",
+     "Three red houses above three green wells by name, each joined to each, with crossings"),
+]
+
 MAPS = {
     "tutte": tutte,
     "dodecahedron": lambda: pigale.dual(platonic(1)),
@@ -123,8 +195,15 @@ def files():
     """Each file of the gallery, as its path from docs/ on and its bytes."""
     inputs = {f"{name}.plc": pigale.write_planar_code([make()]) for name, make in MAPS.items()}
     inputs["petersen.g6"] = f"{PETERSEN}\n".encode("ascii")
+    inputs.update({name: make().encode("utf-8") for name, make in GRAPHS.items()})
     yield from ((f"gallery/{name}", data) for name, data in inputs.items())
     sections = []
+    for name, source, style, heading, text in DRAWN:
+        option = style and f" --style {style}"
+        sections.append(f"\n## {heading}\n\n    ./pigale draw docs/gallery/{source}{option} -o {name}.svg\n\n![{text}](gallery/{name}.svg)\n")
+        if not source.endswith(".graphml") or importlib.util.find_spec("networkx"):
+            drawn = pigale.draw_named(pigale.graphs_of(inputs[source], f"docs/gallery/{source}"))
+            yield f"gallery/{name}.svg", pigale.written(drawn, "svg", pigale.Look(style=style))
     for name, job, source, style, heading, text in PICTURES:
         source = f"{source}.{'g6' if job == 'embed' else 'plc'}"
         (figure,) = pigale.run(job, inputs[source]).answers

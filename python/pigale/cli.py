@@ -6,7 +6,8 @@ import subprocess
 import sys
 import time
 import zlib
-from typing import BinaryIO, Callable, List, Optional, Sequence, cast
+from collections import Counter
+from typing import BinaryIO, Callable, Dict, List, Optional, Sequence, Tuple, cast
 
 from . import __version__
 from .checks import check, read_drawing, scaled
@@ -38,7 +39,9 @@ def main(given: Optional[Sequence[str]] = None) -> int:
     started are ended.
     """
     words = list(sys.argv[1:] if given is None else given)
-    if words and words[0] not in (*COMMANDS, "--help", "-h", "--version"):
+    if sorted(words) == ["--table", "count"]:
+        words = ["table"]
+    elif words and words[0] not in (*COMMANDS, "--help", "-h", "--version"):
         return _of_program(words)
     parser = _parser()
     try:
@@ -100,6 +103,8 @@ def _parser() -> argparse.ArgumentParser:
     checked = add("check", _check_file, "prints the verdict on the drawing in a file of JSON or GraphML")
     checked.add_argument("--scale", action="store_true", help="round the places to whole numbers first")
     checked.add_argument("file", metavar="FILE", help="JSON with nodes (id, x, y) and edges (source, target), or GraphML (.graphml)")
+    table = commands.add_parser("table")  # by its one name `count --table`
+    table.set_defaults(command=_table)
     add_commands(add)
     made = add("stacked", _stacked, "is `make stacked`, by its first name: the map that `pigale gen --size S --number N` makes")
     made.add_argument("size", metavar="S", type=int)
@@ -133,6 +138,45 @@ def _all(arguments: Arguments) -> int:
         status = run_all(words, standard_input(), cast(BinaryIO, _Output()), arguments.j, meter.tell)
     finally:
         meter.end()
+    if status > 1:
+        print(f"pigale: {meter.trouble or HINTS[status]}", file=sys.stderr)
+    return status
+
+
+class _Tally:
+    """A file that takes what `count` writes, and keeps how many records have the same counts or the same refusal."""
+
+    def __init__(self) -> None:
+        self.counts: Dict[Tuple[int, ...], int] = Counter()
+        self.refusals: Dict[str, int] = Counter()
+        self.last = ""
+
+    def write(self, data: bytes) -> int:
+        for line in data.decode("ascii").split("\n"):
+            words = line.split(" ")
+            if words[0] == "count":
+                self.counts[tuple(map(int, words[3::2]))] += 1
+            elif words[0] == "refused":
+                self.refusals[words[3]] += 1
+            elif line:
+                self.last = line
+        return len(data)
+
+    def __str__(self) -> str:
+        rows = [("n", "m", "f", "c", "genus", "records"), *((*map(str, counts), str(records)) for counts, records in sorted(self.counts.items()))]
+        wide = [max(map(len, column)) for column in zip(*rows)]
+        lines = ["  ".join(word.rjust(width) for word, width in zip(row, wide)) for row in rows]
+        lines += [f"refused {name} {records}" for name, records in sorted(self.refusals.items())]
+        return "".join(f"{line}\n" for line in [*lines, *([self.last] if self.last else [])])
+
+
+def _table(_: Arguments) -> int:
+    tally, meter = _Tally(), _Meter(sys.stderr.isatty())
+    try:
+        status = run_all(["count"], standard_input(), cast(BinaryIO, tally), None, meter.tell)
+    finally:
+        meter.end()
+    put(str(tally))
     if status > 1:
         print(f"pigale: {meter.trouble or HINTS[status]}", file=sys.stderr)
     return status

@@ -1,8 +1,9 @@
 """planar_code, graph6 and the text that the program writes: reads and writes them."""
+import json
 import re
 from collections.abc import Sequence as SequenceType
-from dataclasses import dataclass
-from typing import IO, Any, Iterable, List, Literal, Optional, Sequence, Tuple, Union, cast
+from dataclasses import asdict, dataclass
+from typing import IO, Any, Dict, Iterable, List, Literal, Optional, Sequence, Tuple, Union, cast
 
 from .kinds import looks_like
 
@@ -280,7 +281,15 @@ class Stop:
 
 
 class _Shown:
-    """What a notebook shows as its picture."""
+    """What a notebook shows as its picture, and what has a form in JSON."""
+
+    def to_dict(self) -> Dict[str, Any]:
+        """Its job and all that it has, as lists and dictionaries of what JSON has."""
+        return {"job": getattr(self, "job"), **asdict(cast(Any, self))}
+
+    def to_json(self) -> str:
+        """The same as one line of JSON."""
+        return json.dumps(self.to_dict())
 
     def _repr_svg_(self) -> Optional[str]:
         """The picture of the figure, or nothing where it names a vertex that it does not have."""

@@ -230,8 +230,8 @@ def _matrix(data: bytes, path: str) -> List[Named]:
 
 def _adjacency(data: bytes, path: str) -> List[Named]:
     networkx = _networkx(path, "adjacency")
-    lines = [" ".join(words) for _, words in _rows(data, path)]
-    # each edge may stand at both of its ends
+    # a colon may stand behind the vertex, and each edge at both of its ends
+    lines = [" ".join([words[0].rstrip(":"), *words[1:]]) for _, words in _rows(data, path)]
     graph = networkx.parse_adjlist(lines)
     return [Named.of_networkx(graph, path)]
 
