@@ -115,7 +115,7 @@ def as_maps(maps: Iterable[Map]) -> List[Map]:
     found = list(maps)
     for k, lists in enumerate(found, 1):
         _no_networkx(lists, "from_networkx(embedding)[0] is a map of a PlanarEmbedding")
-        if not _is_list(lists) or not all(_is_list(us) for us in lists):
+        if not _is_list(lists) or not {list, tuple}.issuperset(map(type, lists)) and not all(_is_list(us) for us in lists):
             is_map = _is_list(lists) and all(isinstance(u, int) for u in lists)
             hint = ": give a list of maps, as [lists] for one" if is_map else ""
             raise ValueError(f"map {k} is no list with a list of neighbours for each vertex{hint}")
@@ -123,7 +123,7 @@ def as_maps(maps: Iterable[Map]) -> List[Map]:
 
 
 def _is_list(value: object) -> bool:
-    return isinstance(value, SequenceType) and not isinstance(value, (str, bytes))
+    return type(value) in (list, tuple) or isinstance(value, SequenceType) and not isinstance(value, (str, bytes))
 
 
 def _no_networkx(value: object, hint: str) -> None:

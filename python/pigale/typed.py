@@ -7,6 +7,7 @@ from __future__ import annotations
 import ctypes
 import functools
 from array import array
+from itertools import accumulate
 from typing import Any, List, Optional, Sequence, Tuple, Union
 
 from .formats import MOST_VERTICES, REFUSALS, BarFigure, Edge, Figure, GridFigure, Lists, Map, Place, RectFigure, Refused, WitnessFigure, write_graph6, write_planar_code
@@ -26,11 +27,9 @@ class Map16:
     """The lists of a map as two arrays: where each list ends, and all neighbours one behind another, from 0."""
 
     def __init__(self, lists: Map) -> None:
-        self.ends, self.neighbours = array(_ENDS), array("H")
         try:
-            for us in lists:
-                self.neighbours.extend([u - 1 for u in us])
-                self.ends.append(len(self.neighbours))
+            self.neighbours = array("H", [u - 1 for us in lists for u in us])
+            self.ends = array(_ENDS, accumulate(map(len, lists)))
         except (OverflowError, TypeError):
             write_planar_code([lists])  # which says what is wrong
             raise
