@@ -38,7 +38,7 @@ from .pages import page, pages
 from .parallel import Progress, run_all, stream
 from .pictures import STYLES, picture
 from .readers import Named, ReadFault, graphs_of, read_graphs
-from .runs import PigaleError, Run, draw, embed, program, run
+from .runs import PigaleError, Run, count, draw, embed, program, run
 from .session import Session
 from .tikz import tikz, tikz_document
 from .writers import Look, written
@@ -47,10 +47,10 @@ __all__ = [
     "BarFigure", "Checked", "Count", "Drawn", "End", "FIGURES", "GRID_JOBS", "GridFigure", "HEADER", "HEIGHT", "Look",
     "METHODS", "MOST_BYTES", "MOST_VERTICES", "Named", "PLANAR_JOBS", "PigaleError", "Progress", "ReadFault",
     "RectFigure", "Refused", "Run", "STYLES", "Session", "Stop", "Verdict", "WIDTH", "WitnessFigure", "check",
-    "check_all", "check_planarity", "complete", "cycle", "draw", "draw_named", "dual", "edges_of", "embed", "faces_of",
-    "from_igraph", "from_networkx", "graph_of_networkx", "graphs_of", "grid", "is_planar", "outside", "page", "pages",
-    "path", "picture", "planar_layout", "prism", "program", "quadrangle", "read_blocks", "read_drawing", "read_figures",
-    "read_graph6", "read_graphs", "read_planar_code", "renumbered", "rotations_of", "run", "run_all", "scaled",
-    "stacked", "stream", "tikz", "tikz_document", "to_networkx", "to_sage", "tree", "triangulation", "wheel",
-    "without_edge", "witness_graph", "write_graph6", "write_planar_code", "written",
+    "check_all", "check_planarity", "complete", "count", "cycle", "draw", "draw_named", "dual", "edges_of", "embed",
+    "faces_of", "from_igraph", "from_networkx", "graph_of_networkx", "graphs_of", "grid", "is_planar", "outside",
+    "page", "pages", "path", "picture", "planar_layout", "prism", "program", "quadrangle", "read_blocks",
+    "read_drawing", "read_figures", "read_graph6", "read_graphs", "read_planar_code", "renumbered", "rotations_of",
+    "run", "run_all", "scaled", "stacked", "stream", "tikz", "tikz_document", "to_networkx", "to_sage", "tree",
+    "triangulation", "wheel", "without_edge", "witness_graph", "write_graph6", "write_planar_code", "written",
 ]

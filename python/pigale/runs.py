@@ -7,7 +7,7 @@ import subprocess
 from dataclasses import dataclass
 from typing import Iterable, Iterator, List, Optional, Sequence, Tuple, Union, cast
 
-from .formats import (FIGURES, MOST_BYTES, MOST_VERTICES, PLANAR_JOBS, Answer, Block, Edge, End, Figure, Graph, GridFigure, Map, Refused, Stop,
+from .formats import (FIGURES, MOST_BYTES, MOST_VERTICES, PLANAR_JOBS, Answer, Block, Count, Edge, End, Figure, Graph, GridFigure, Map, Refused, Stop,
                       WitnessFigure, as_maps, check_line, pair_of, read_blocks, write_graph6, write_planar_code)
 from .library import answered, library
 
@@ -198,6 +198,14 @@ def _figures(figures: Iterable[Figure], first: int) -> Iterable[Figure]:
         if not isinstance(figure, FIGURES):
             raise ValueError(f"entry {k} is no figure to verify, but {type(figure).__name__}: {str(figure)[:60]}")
         yield figure
+
+
+def count(maps: Union[bytes, Iterable[Map]], processes: Optional[int] = None) -> List[Union[Count, Refused]]:
+    """The numbers of vertices, edges, faces and components and the genus of each map, in order.
+
+    Lists that are no simple map have a `Refused` in their place. `processes` is as in `run`. Raises as `run` does.
+    """
+    return cast(List[Union[Count, Refused]], run("count", maps, processes=processes).answers)
 
 
 def draw(maps: Union[bytes, Iterable[Map]], job: str = "schnyder",
