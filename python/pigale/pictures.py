@@ -330,8 +330,10 @@ def _rooms(dots: List[Dot], edges: List[Edge]) -> Tuple[float, float]:
         square = dx * dx + dy * dy
         if not square:
             continue
+        # what is farther from the line, carried on, than the least so far, is farther from it too
+        most = aside * math.sqrt(square) * 1.000001
         for v, (x, y) in enumerate(dots, 1):
-            if v not in (a, b):
+            if abs((x - x1) * dy - (y - y1) * dx) <= most and v not in (a, b):
                 part = min(1.0, max(0.0, ((x - x1) * dx + (y - y1) * dy) / square))
                 aside = min(aside, math.hypot(x - x1 - part * dx, y - y1 - part * dy))
     return apart, aside
@@ -394,14 +396,19 @@ class _Cells:
 def _crosses(box: Box, one: Dot, other: Dot) -> bool:
     """Whether a line has a point in a box."""
     least, most = 0.0, 1.0
-    for k in (0, 1):
-        start, step = one[k], other[k] - one[k]
+    for start, end, low, high in ((one[0], other[0], box[0], box[2]), (one[1], other[1], box[1], box[3])):
+        if start < low and end < low or start > high and end > high:
+            return False
+        step = end - start
         if step == 0:
-            if not box[k] <= start <= box[k + 2]:
-                return False
             continue
-        near, far = sorted(((box[k] - start) / step, (box[k + 2] - start) / step))
-        least, most = max(least, near), min(most, far)
+        near, far = (low - start) / step, (high - start) / step
+        if near > far:
+            near, far = far, near
+        if near > least:
+            least = near
+        if far < most:
+            most = far
     return least <= most
 
 
@@ -432,11 +439,18 @@ def _label_places(dots: List[Dot], edges: List[Edge], radius: float, size: float
             at = (x + math.cos(turn) * (radius + half + 0.1 * size), y + math.sin(turn) * (radius + 0.48 * size))
             box = (at[0] - half, at[1] - 0.42 * size, at[0] + half, at[1] + 0.42 * size)
             if cells.is_free(box, v):
-                covered = sum(_crosses(box, dots[edges[e][0] - 1], dots[edges[e][1] - 1]) for e in cells.lines_near(box))
                 aside = min((abs(math.remainder(turn - other, 2 * math.pi)) for other in around[v - 1]), default=4)
-                choices.append((covered, -aside, at, box))
+                choices.append((-aside, at, box))
+        fewest = len(edges) + 1
+        # the first that covers no line is the best, and else the first that covers fewest
+        for _, at, box in sorted(choices):
+            covered = sum(_crosses(box, dots[edges[e][0] - 1], dots[edges[e][1] - 1]) for e in cells.lines_near(box))
+            if covered < fewest:
+                fewest, best = covered, (at, box)
+                if not covered:
+                    break
         if choices:
-            _, _, at, box = min(choices)
+            at, box = best
             cells.put(box, v)
             found.append((v, at))
     return found
