@@ -1,6 +1,7 @@
 """The edges and faces of a map, and maps made from others."""
 import functools
-from typing import Dict, List, Sequence, Set, Tuple
+import math
+from typing import Any, Callable, Dict, List, Sequence, Set, Tuple
 
 from .formats import Edge, Lists, Map, Place, WitnessFigure, read_graph6
 
@@ -15,11 +16,22 @@ def rotations_of(points: Sequence[Place], edges: Sequence[Edge]) -> Lists:
     for u, v in edges:
         lists[u - 1].append(v)
         lists[v - 1].append(u)
-    by_turn = functools.cmp_to_key(_clockwise)
+    is_small = all(-NEAR <= x <= NEAR and -NEAR <= y <= NEAR for x, y in points)
+    by_turn: Callable[[Place], Any] = _turn if is_small else functools.cmp_to_key(_clockwise)
     for (x, y), us in zip(points, lists):
-        towards = {u: (points[u - 1][0] - x, points[u - 1][1] - y) for u in us}
-        us.sort(key=lambda u: by_turn(towards[u]))
+        if len(us) > 1:
+            towards = {u: by_turn((points[u - 1][0] - x, points[u - 1][1] - y)) for u in us}
+            us.sort(key=towards.__getitem__)
     return lists
+
+
+NEAR = 1 << 20  # of points as near as this to (0, 0) the angles of two directions differ by more than their rounding
+
+
+def _turn(direction: Place) -> float:
+    """The angle from west to a direction, clockwise."""
+    turn = math.atan2(direction[1], -direction[0])
+    return turn if turn >= 0 else turn + 2 * math.pi
 
 
 def _clockwise(one: Place, other: Place) -> int:
