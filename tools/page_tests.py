@@ -36,8 +36,10 @@ PICTURES = """
 import fs from 'node:fs';
 const { pictureDocument } = await import('file://' + process.argv[1] + '/pictures.js');
 const { blocksOf, readFigure } = await import('file://' + process.argv[1] + '/figures.js');
+const { tikzOf } = await import('file://' + process.argv[1] + '/tikz.js');
 const asked = JSON.parse(fs.readFileSync(0, 'utf8'));
-process.stdout.write(JSON.stringify(asked.map(([text, look]) => pictureDocument(readFigure(blocksOf(text)[0]), look))));
+const made = asked.map(([text, look, isTex]) => (isTex ? tikzOf : pictureDocument)(readFigure(blocksOf(text)[0]), look));
+process.stdout.write(JSON.stringify(made));
 """
 
 
@@ -166,17 +168,21 @@ def names_of(figure):
 
 
 def test_pictures():
-    """Compares the pictures that the page saves with those of the Python package, shape by shape."""
-    ways = [({"style": "equilateral,faces"}, EQUILATERAL), ({}, {})]
-    asked = [(*it, python, look) for it in figures() for python, look in ways]
+    """Compares the pictures that the page saves with those of the Python package, as SVG and as TikZ, shape by shape."""
+    ways = [(pigale.picture, {"style": "equilateral,faces"}, EQUILATERAL, False), (pigale.picture, {}, {}, False)]
+    asked = [(*it, *way) for it in figures() for way in ways]
     if hasattr(pigale.pictures, "text_width"):
-        asked += [(*it, {"labels": names_of(it[2])}, {"names": names_of(it[2])}) for it in figures()]
-    made = script(PICTURES, given=json.dumps([[f"{figure}\n", look] for _, _, figure, _, look in asked]))
+        from pigale.tikz import tikz
+        for it in figures():
+            names = names_of(it[2])
+            asked += [(*it, pigale.picture, {"labels": names}, {"names": names}, False), (*it, tikz, {"labels": names}, {"names": names}, True),
+                      (*it, tikz, {"style": "equilateral,faces"}, EQUILATERAL, True)]
+    made = script(PICTURES, given=json.dumps([[f"{figure}\n", look, is_tex] for _, _, figure, _, _, look, is_tex in asked]))
     wrong = 0
-    for (name, job, figure, python, _), found in zip(asked, made):
-        if not are_near(pigale.picture(figure, **python), found):
+    for (name, job, figure, draw, python, _, is_tex), found in zip(asked, made):
+        if not are_near(draw(figure, **python), found, 0.002 if is_tex else NEAR):
             wrong += 1
-            print(f"web: a picture is another than the package's: {job} of {name}, {python or 'plain'}")
+            print(f"web: a picture is another than the package's: {job} of {name}, {python or 'plain'}{', TikZ' * is_tex}")
     print(f"web: {len(asked)} pictures compared with the package's, {wrong} differ")
     return wrong
 
@@ -226,10 +232,10 @@ def test_readers():
     return wrong
 
 
-def are_near(one, other):
-    """Says whether two pictures have the same words, and numbers that differ in their last digit at most."""
+def are_near(one, other, near):
+    """Says whether two pictures have the same words, and numbers that differ by less than `near`."""
     number = r"-?\d+(?:\.\d+)?"
     if re.sub(number, "0", one) != re.sub(number, "0", other):
         return False
     pairs = zip(re.findall(number, one), re.findall(number, other))
-    return all(abs(float(p) - float(q)) < NEAR for p, q in pairs)
+    return all(abs(float(p) - float(q)) < near for p, q in pairs)

@@ -4,7 +4,7 @@ import { labelPlaces, dotRadius, textWidth, within } from "./labels.js";
 import { STYLE } from "./style.js";
 
 const UNIT = 400; // the sizes of the style are for a picture whose longer side is this
-const MOST_WITHIN = 1.3; // the width of a name within a dot, in its height
+export const MOST_WITHIN = 1.3; // the width of a name within a dot, in its height
 const LEAST_NUMBER = 2.4; // the least height of numbers in bars and rectangles, in a picture of that side
 
 // Returns attributes with the light colours of names, as `fill="#ffffff"`; `own` has colours in place of some of these.

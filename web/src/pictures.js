@@ -201,7 +201,7 @@ function drawWitness(figure, look) {
 
 // Returns a place for each vertex of a witness's graph; those that it does not pass stand in a row below. Between two
 // rows inner vertices stand at heights of their own, since paths meet half-way.
-function witnessPlaces(figure, count) {
+export function witnessPlaces(figure, count) {
   const turns = [0, 1, 2, 3, 4].map((k) => Math.PI / 2 - (2 * Math.PI * k) / 5);
   const corners =
     figure.kind === "K33"

@@ -2,8 +2,9 @@
 
 import { $, copy, element, page, saveFile } from "./dom.js";
 import { plain, variable } from "./pens.js";
-import { jsonOf, pngOf, svgDocument, tikzOf } from "./saving.js";
+import { jsonOf, pngOf, svgDocument } from "./saving.js";
 import { Scene } from "./scenes.js";
+import { tikzDocument, tikzOf } from "./tikz.js";
 import { aboutOf, documentOf, hasLayer, LAYERS, rectFace, titleOf, viewOf } from "./views.js";
 
 export const SPARSE = 600; // vertices from which on a picture has neither numbers nor what is laid over
@@ -239,10 +240,8 @@ function acts(study, view) {
   const name = `${view}.`;
   button("SVG", () => saveFile([svgDocument(made())], `${name}svg`));
   button("PNG", async () => saveFile([await pngOf(svgDocument(made()), made())], `${name}png`));
-  if (view !== "witness") {
-    button("TikZ", () => saveFile([tikzOf(made().figure, names(), page.look)], `${name}tex`));
-    button("JSON", () => saveFile([jsonOf(made().figure, names())], `${name}json`));
-  }
+  button("TikZ", () => saveFile([tikzDocument(tikzOf(made().figure, { ...page.look, names: names() }), page.tones)], `${name}tex`));
+  if (view !== "witness") button("JSON", () => saveFile([jsonOf(made().figure, names())], `${name}json`));
   button("Copy", ({ target }) => copy(svgDocument(made()), target));
   box.append(element("a", "method", { href: documentOf(view), title: "What is defined and proved of it" }));
   return box;

@@ -7,9 +7,10 @@ import { factsOf, refusalOf, told, witnessFacts } from "../src/facts.js";
 import { readGraphText } from "../src/graphs.js";
 import { linkOf, readLink } from "../src/links.js";
 import { plain } from "../src/pens.js";
-import { jsonOf, svgDocument, tikzOf } from "../src/saving.js";
+import { jsonOf, svgDocument } from "../src/saving.js";
 import { Scene } from "../src/scenes.js";
 import { Study } from "../src/study.js";
+import { tikzDocument, tikzOf } from "../src/tikz.js";
 import { viewOf, viewsOf } from "../src/views.js";
 import { moduleBytes } from "./module.mjs";
 
@@ -125,7 +126,7 @@ test("pictures are saved as SVG, TikZ and JSON with names", { skip }, () => {
   for (const view of ["round", "schnyder", "bars"]) {
     const made = viewOf(found, view, LOOK);
     assert.match(svgDocument(made), /^<svg [^]*a&amp;b[^]*<\/svg>\n$/);
-    assert.match(tikzOf(made.figure, found.map.names), /^\\begin\{tikzpicture\}[^]*a\\&b[^]*\\end\{tikzpicture\}\n$/);
+    assert.match(tikzDocument(tikzOf(made.figure, { names: found.map.names })), /\\begin\{tikzpicture\}[^]*a\\&b[^]*\\end\{tikzpicture\}\n\\end\{document\}\n$/);
     const data = JSON.parse(jsonOf(made.figure, found.map.names));
     assert.deepEqual([data.vertices.length, data.edges.length], [4, 6]);
   }
