@@ -59,7 +59,7 @@ process.stdout.write(JSON.stringify(asked.map(({ names, edges }) => [names, edge
 """
 
 # texts of graphs, each with what the package calls its kind
-TEXTS = [
+GRAPHS = [
     ("edges", "10 9\n9 2\n"), ("edges", "a b\nb c\nd\n"), ("edges", "c a 2.5\nb c 3.5\n"), ("edges", "# none\nx y # one\n"),
     ("matrix", "0 1 1\n1 0 0\n1 0 0\n"), ("matrix", "0110\n1010\n1101\n0010\n"), ("adjacency", "a b c\nb c\nd a\n"),
     ("sparse6", ":Cda\n"), ("graph6", "IheA@GUAo\n"),
@@ -221,14 +221,14 @@ def test_readers():
     except ImportError:
         print("web: texts of graphs: skipped, since the Python package reads none")
         return 0
-    made = script(READERS, given=json.dumps([text for _, text in TEXTS]))
+    made = script(READERS, given=json.dumps([text for _, text in GRAPHS]))
     wrong = 0
-    for (kind, text), found in zip(TEXTS, made):
+    for (kind, text), found in zip(GRAPHS, made):
         graph = graphs_of(text.encode(), "a text", kind)[0]
         if [[str(name) for name in graph.names], sorted(map(list, graph.edges))] != found:
             wrong += 1
             print(f"web: the page reads another graph than the package: {text!r}")
-    print(f"web: {len(TEXTS)} texts of graphs compared with the package's graphs, {wrong} differ")
+    print(f"web: {len(GRAPHS)} texts of graphs compared with the package's graphs, {wrong} differ")
     return wrong
 
 
