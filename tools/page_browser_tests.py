@@ -168,6 +168,10 @@ def test_files(page):
     assert_is(page.run("$('fault').textContent.startsWith('In two.plc: The input ends inside the record')"), True)
     give(page, ("one.g6", b">>graph6<<C~"), ("two.g6", b"D~{\n"))
     assert_is(page.run("page.answers.pieces('embed').join('').split('\\n').slice(-2)[0]"), "end records 2 refused 0")
+    give(page, ("many.s6", b":Cda\n:BcN\n"))
+    assert_is(page.run("[page.kind, page.answers.records, $('source').textContent.includes('turned from sparse6')]"), ["graphs", 2, True])
+    give(page, ("two.dot", b"graph { a -- b }\ngraph { c -- d }"))
+    assert_is(page.run("$('fault').textContent.includes('Line 2: another graph follows') && $('input').open"), True)
     give(page, ("one.txt", b"no format"), ("two.txt", b""))
     assert_is(page.run("$('fault').textContent.includes('two.txt: It is empty.')"), True)
 

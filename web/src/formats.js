@@ -21,16 +21,16 @@ export function recognized(bytes) {
     }
     if (header[1] === "graph6") return { kind: "graphs", name: "graph6" };
     if (header[1] === "sparse6")
-      return none("This is sparse6. Turn it into graph6 with “nauty-copyg -g”, or into maps with “nauty-planarg -p”.");
+      return none("This is sparse6 with a fault.");
     return none(`The header names ${header[1]}, which Pigale does not read. It reads planar_code, graph6 and its own figures.`);
   }
   if (/^(figure|count|refused|verdict|end|stop) /.test(head)) return { kind: "figures", name: "figures as text" };
-  if (/^\s*(<\?xml|<!--|<svg|<!DOCTYPE|<html|<graphml)/i.test(head))
+  if (/^\s*(<\?xml|<!--|<svg|<!DOCTYPE|<html)/i.test(head) && !/<(\w+:)?graphml\b/.test(head))
     return none("This is a picture or a page. Pigale judges the text of a figure, which “./pigale shift” writes without “--form svg”.");
   if (/^(PK\x03\x04|BZh|\xfd7zXZ|7z\xbc\xaf|\x28\xb5\x2f\xfd)/.test(head) || /^%PDF|^\x89PNG/.test(head))
     return none("This is an archive or a document. Unpack it first; only gzip is unpacked here.");
   if (/^:/.test(head))
-    return none("This is sparse6. Turn it into graph6 with “nauty-copyg -g”, or into maps with “nauty-planarg -p”.");
+    return none("This is sparse6 with a fault.");
   if (/^[&;]/.test(head)) return none("This is digraph6 or incremental sparse6. Pigale reads undirected graphs as graph6.");
   if (bytes.includes(0)) return { kind: "maps", order: hasSwappedWords(bytes, 0) ? "le" : "be", name: "planar_code" };
   const end = lineEnd(bytes, start);
@@ -39,11 +39,11 @@ export function recognized(bytes) {
   if (/^\d+ [a-z]+(,[a-z]*)+$/m.test(head))
     return none("This is the ASCII code of plantri. Run plantri without -a, so that it writes planar_code.");
   if (/^\s*[{[]/.test(head))
-    return none("This is JSON. “python3 python/pigale.py check FILE” of the repository has such a drawing judged.");
+    return none("This JSON is no graph. “python3 python/pigale.py check FILE” of the repository has a drawing in JSON judged.");
   if (/^\s*\d+[ ,\t]+\d+\s*$/m.test(head))
-    return none("This looks like a list of edges. Turn it into graph6, for instance with networkx (write_graph6) or with nauty’s amtog.");
+    return none("This looks like a list of edges, but is no graph.");
   if (/[^\x09\x0a\x0d\x20-\x7e]/.test(head)) return { kind: "maps", order: "be", name: "planar_code" };
-  return none("This text is neither graph6 nor a figure. Pigale reads planar_code, graph6 and its own figures.");
+  return none("This text is neither a graph nor a figure. Pigale reads planar_code, graph6, its own figures, and graphs in the formats named above.");
 }
 
 // Says whether a line is as long as its first byte says, and in the bytes of graph6.

@@ -80,6 +80,7 @@ export function readDot(text, Fault) {
   };
   while (at < words.length && !is("}")) readStatement();
   if (at >= words.length) throw new Fault("the last bracket } is missing.");
+  if (words[at + 1]) throw new Fault("another graph follows; one at a time is read.", words[at + 1].line);
   return { names, pairs };
 }
 
@@ -88,6 +89,8 @@ export function readGraphml(text, Fault) {
   const names = [];
   const pairs = [];
   const plain = text.replace(/<!--[^]*?-->/g, (it) => it.replace(/[^\n]/g, ""));
+  const [, second] = plain.matchAll(/<(?:\w+:)?graph\b/g);
+  if (second) throw new Fault("another graph follows; one at a time is read.", plain.slice(0, second.index).split("\n").length);
   for (const found of plain.matchAll(/<(?:\w+:)?(node|edge)\b([^>]*)>/g)) {
     const value = (name) => {
       const [, one, other] = new RegExp(`\\b${name}\\s*=\\s*(?:"([^"]*)"|'([^']*)')`).exec(found[2]) || [];

@@ -20,7 +20,7 @@ export function readGraphText(text) {
   const plain = text.replace(/^\uFEFF/, "").replace(/\r\n?/g, "\n").trim();
   if (!plain) throw new GraphFault("There is no graph yet.");
   const found =
-    /^(>>sparse6<<)?:/.test(plain) ? readSparse6(plain.replace(/^>>sparse6<</, ""))
+    /^(>>sparse6<<)?:/.test(plain) ? readSparse6(plain.replace(/^>>sparse6<<\n?/, ""))
     : /^(strict\s+)?(di)?graph\b[^\n]*\{/i.test(plain) ? { format: "DOT", ...readDot(plain, GraphFault) }
     : /^<[^>]*[?!g]/.test(plain) && /<(\w+:)?graphml\b/.test(plain) ? { format: "GraphML", ...readGraphml(plain, GraphFault) }
     : /^[{[]/.test(plain) && isJson(plain) ? readJson(JSON.parse(plain), GraphFault)
@@ -65,13 +65,30 @@ function numbers(count, from) {
   return Array.from({ length: count }, (_, k) => k + from);
 }
 
+// Returns graph6 of the graphs of lines of sparse6, a graph a line; or null where the text is not of several such lines.
+export function sparse6Lines(text) {
+  const lines = text.replace(/\r\n?/g, "\n").replace(/^>>sparse6<<\n?/, "").split("\n");
+  if (!lines[0].startsWith(":") || lines.filter(Boolean).length < 2) return null;
+  const found = lines.map((line, k) => {
+    if (line && !line.startsWith(":")) throw new GraphFault("it is no sparse6, which begins with a colon.", k + 1);
+    return line && graphLine(readSparse6(line, k + 1));
+  });
+  return `${found.filter(Boolean).join("\n")}\n`;
+}
+
+function graphLine(found) {
+  const { names, edges } = simple(found);
+  return writeGraph6(names.length, edges);
+}
+
 // Returns the graph of a line of sparse6: a bit that goes on to the next vertex, and a vertex, again and again.
-function readSparse6(text) {
-  const line = text.split("\n")[0].slice(1);
-  const six = [...line].map((it) => it.charCodeAt(0) - 63);
-  if (six.some((it) => it < 0 || it > 63)) throw new GraphFault("a byte is none of sparse6.", 1);
+function readSparse6(text, number = 1) {
+  const [line, ...more] = text.trim().split("\n");
+  if (more.length) throw new GraphFault("another graph follows; one at a time is read.", number + 1);
+  const six = [...line.slice(1)].map((it) => it.charCodeAt(0) - 63);
+  if (six.some((it) => it < 0 || it > 63)) throw new GraphFault("a byte is none of sparse6.", number);
   const wide = six[0] === 63;
-  if (!six.length || (wide && (six.length < 4 || six[1] === 63))) throw new GraphFault("the number of vertices is cut off, or too large.", 1);
+  if (!six.length || (wide && (six.length < 4 || six[1] === 63))) throw new GraphFault("the number of vertices is cut off, or too large.", number);
   const count = wide ? (six[1] << 12) | (six[2] << 6) | six[3] : six[0];
   const bits = six.slice(wide ? 4 : 1).flatMap((it) => [5, 4, 3, 2, 1, 0].map((k) => (it >> k) & 1));
   const width = Math.max(1, Math.ceil(Math.log2(Math.max(count, 1))));

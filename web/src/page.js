@@ -8,7 +8,7 @@ import { $, copy, element, page } from "./dom.js";
 import { Engine } from "./engine.js";
 import { madeMap } from "./figures.js";
 import { recognized } from "./formats.js";
-import { GraphFault, readGraphText } from "./graphs.js";
+import { GraphFault, readGraphText, sparse6Lines } from "./graphs.js";
 import { readLink } from "./links.js";
 import { Machine } from "./machine.js";
 import { readable } from "./parts.js";
@@ -40,11 +40,26 @@ async function take(files) {
     found.push({ name, bytes: plain, notes: plain === bytes ? [] : ["unpacked"] });
   }
   page.input.files = found;
+  page.graphFault = null;
   fold(page.input.name);
+  found.forEach(unfoldSparse6);
   if (found.length === 1 && recognized(found[0].bytes).kind === "none" && openGraph(found[0])) return;
   closeSheet();
   $("run").hidden = false;
   await readAs("");
+}
+
+// Turns a file of several lines of sparse6 into graph6.
+function unfoldSparse6(file) {
+  try {
+    const lines = /^(>>sparse6<<)?:/.test(asText(file.bytes.subarray(0, 20))) && sparse6Lines(asText(file.bytes));
+    if (!lines) return;
+    file.bytes = asBytes(lines);
+    file.notes.push("turned from sparse6 into graph6");
+  } catch (fault) {
+    if (!(fault instanceof GraphFault)) throw fault;
+    page.graphFault = fault;
+  }
 }
 
 // Folds the input to a line, so that the answers stand in sight.
@@ -92,6 +107,7 @@ async function readAs(asked) {
   $("status").textContent = "";
   $("jobs").hidden = $("hint").hidden = $("progress").hidden = first < 0;
   if (first < 0) {
+    $("input").open = true;
     $("source").textContent = files.map(({ name, bytes }) => `${name}: ${plural(bytes.length, "byte")}.`).join(" ");
     const asGraph = files.length === 1 && page.graphFault && page.graphFault.line ? ` As a graph: ${page.graphFault.message}` : "";
     $("fault").textContent = known.map(({ reason }, k) => (files.length > 1 ? `${files[k].name}: ${reason}` : reason)).join(" ") + asGraph;

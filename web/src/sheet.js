@@ -7,6 +7,7 @@ import { Study } from "./study.js";
 import { rectFace, viewsOf } from "./views.js";
 import { makeView, markAll, redrawView, SPARSE } from "./view_cards.js";
 
+const MOST_LINK = 60000; // letters of an address that is kept
 const CHOICES = 4095; // vertices and faces that are named for choice, at most
 
 // Opens the sheet of a graph: `given` is as for `Study`, and `title` what it is called.
@@ -122,7 +123,7 @@ export function choose(thing) {
 export function keepLink() {
   const { study } = page;
   const link = linkOf(study.shown());
-  if (link.length < 60000) history.replaceState(null, "", link);
+  history.replaceState(null, "", link.length < MOST_LINK ? link : location.pathname + location.search);
 }
 
 export function listenToSheet() {
@@ -152,8 +153,7 @@ export function listenToSheet() {
 function rename(text) {
   const { study } = page;
   const names = text.split(",").map((it) => it.trim());
-  const { origin } = study.map;
   study.given = { ...study.given, names: study.given.names.map((_, k) => names[k] || String(k + 1)) };
   for (const map of new Set([study.map, study.first])) map.names = map.origin.map((number) => names[number - 1] || String(number));
-  if (origin.length) showStudy();
+  showStudy();
 }

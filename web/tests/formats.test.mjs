@@ -22,6 +22,7 @@ const REASONS = [
   ["\n\n", /empty lines/],
   [">>sparse6<<:Fa@x^\n", /sparse6/],
   ["<svg>", /picture/],
+  ["<graphml>", /graph/],
   ["PK\x03\x04", /archive/],
   ["&DOB\n", /digraph6/],
   ["7 bcdef,afgc\n", /plantri/],

@@ -1,7 +1,7 @@
 // Graphs as people write them: each format gives the same graph, and what is none is named with its place.
 import assert from "node:assert/strict";
 import test from "node:test";
-import { GraphFault, readGraphText, writeGraph6 } from "../src/graphs.js";
+import { GraphFault, readGraphText, sparse6Lines, writeGraph6 } from "../src/graphs.js";
 import { linkOf, readLink } from "../src/links.js";
 
 const TRIANGLE = [[1, 2], [1, 3], [2, 3]];
@@ -50,6 +50,12 @@ test("names are kept, and numbers are in their order", () => {
   assert.deepEqual(readGraphText("a: c b\nb: c\n").names, ["a", "c", "b"]);
 });
 
+test("lines of sparse6 become lines of graph6", () => {
+  assert.equal(sparse6Lines(">>sparse6<<:Cda\n\n:BcN\n"), "Cl\nBw\n");
+  assert.equal(sparse6Lines(":Cda\n"), null);
+  assert.throws(() => sparse6Lines(":Cda\nCl\n"), /Line 2/);
+});
+
 test("loops and repeated edges are counted", () => assert.equal(readGraphText("1 2\n2 1\n3 3\n2 3").dropped, 2));
 
 const FAULTS = [
@@ -61,6 +67,9 @@ const FAULTS = [
   ["graph { a -- b", /bracket/],
   ['{"nodes": [], "links": [{"source": 1}]}', /edge 1/],
   [":\x01", /sparse6/],
+  ["graph { a -- b }\ngraph { c -- d }", /Line 2: another graph/],
+  ["<graphml><graph></graph>\n<graph></graph></graphml>", /Line 2: another graph/],
+  [":Cda\n:Cda", /Line 2: another graph/],
 ];
 for (const [text, words] of FAULTS)
   test(`${JSON.stringify(text)} is named as no graph`, () =>
