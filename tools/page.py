@@ -19,6 +19,7 @@ EXAMPLES = (
     ("A fullerene", "docs/gallery/buckminster.plc"),
     ("Sixty rectangles", "docs/gallery/rectangles.plc"),
     ("Graphs: K5, Petersen and more", "examples/graphs.g6"),
+    ("Houses and wells, by name", "examples/wells.dot"),
     ("A house, judged", "examples/house.txt"),
     ("A crossing, judged", "examples/crossing.txt"),
     ("Witnesses, judged", "examples/witnesses.txt"),

@@ -21,12 +21,17 @@ export function readGraphText(text) {
   if (!plain) throw new GraphFault("There is no graph yet.");
   const found =
     /^(>>sparse6<<)?:/.test(plain) ? readSparse6(plain.replace(/^>>sparse6<<\n?/, ""))
-    : /^(strict\s+)?(di)?graph\b[^\n]*\{/i.test(plain) ? { format: "DOT", ...readDot(plain, GraphFault) }
+    : isDot(plain) ? { format: "DOT", ...readDot(plain, GraphFault) }
     : /^<[^>]*[?!g]/.test(plain) && /<(\w+:)?graphml\b/.test(plain) ? { format: "GraphML", ...readGraphml(plain, GraphFault) }
     : /^[{[]/.test(plain) && isJson(plain) ? readJson(JSON.parse(plain), GraphFault)
     : isGraphLine(plain.replace(/^>>graph6<<\n?/, "")) ? readGraph6(plain.replace(/^>>graph6<<\n?/, ""))
     : readMatrix(plain) || readAdjacency(plain) || readEdges(plain);
   return simple(found);
+}
+
+// Says whether a text is DOT: behind comments it begins with a graph and a bracket.
+function isDot(text) {
+  return /^(strict\s+)?(di)?graph\b[^{;]*\{/i.test(text.replace(/^(\s|\/\/[^\n]*\n|#[^\n]*\n|\/\*[^]*?\*\/)+/, ""));
 }
 
 function isJson(text) {

@@ -25,6 +25,7 @@ const WAYS = {
   "graph6 with a header": ">>graph6<<Bw",
   "sparse6": ":BcN",
   "DOT": 'graph "G" {\n  node [shape=circle];\n  a -- b -- c; // two\n  c -- a [color="red; blue"]\n}',
+  "DOT behind comments": "/* a\ngraph { */\n// triangle\ngraph\nT\n{ a--b--c--a }",
   "DOT with groups": "strict digraph { a -> {b c}; subgraph cluster_x { b -> c } rankdir=LR }",
   "GraphML": '<?xml version="1.0"?>\n<graphml xmlns="x"><graph edgedefault="undirected">\n<node id="a"/><node id="b"/><node id=\'c\'/>' +
     '<edge source="a" target="b"/><edge target="c" source="b"/><edge source="a" target="c"/></graph></graphml>',
