@@ -4,6 +4,7 @@ import { arraysOf, edgeArray, listsOf } from "./calls.js";
 import { rectLabels } from "./methods.js";
 import { edgesOf, facesOf } from "./pictures.js";
 
+const MOST_VERTICES = 4095; // of a graph or a map
 const MOST_PLACE = 1 << 20; // coordinates that are judged reach to this
 
 // A map by its lists, with vertices from 1; `names` are what its vertices are called, and `origin` has the number that each
@@ -141,6 +142,7 @@ function coordinates(places) {
 // Returns the plane map of a graph of `names` and edges of vertices from 1, or the paths of a witness that it has none.
 export function embedded(calls, names, edges) {
   const n = names.length;
+  if (n > MOST_VERTICES) return { refused: "BadArgument", numbers: [] };
   const [ends, entries] = [new BigUint64Array(Math.max(10, n)), new Uint16Array(Math.max(2 * edges.length, 10 * n))];
   const { name, numbers } = calls.call("embed", n, edgeArray(edges), ends, entries, new Int32Array(n), new Int32Array(n));
   if (name === "OK") return { map: new PlaneMap(calls, listsOf(ends.subarray(0, n), entries), names) };

@@ -272,7 +272,8 @@ async function begin() {
   try {
     const module = await unpacked(fromBase64($("module").textContent));
     page.machine = new Machine(module, $("worker").textContent);
-    page.calls = new Calls(await Engine.of(module));
+    // Some browsers run no module of this size beside the worker; then there are no sheets.
+    page.calls = new Calls(await Engine.of(module).catch(() => ({ calls: {} })));
     Object.assign(page, { take, open: openSheet });
     listenToInputs();
     listenToRuns();

@@ -145,6 +145,8 @@ test("the face that can be the outer one of rectangles is found", { skip }, () =
 
 test("a graph that is too small or too large is refused by name", { skip }, () => {
   assert.equal(study("a-b").refused, "Small");
+  const path = Array.from({ length: 70000 }, (_, k) => k + 1).join("-");
+  assert.equal(study(path).refused, "BadArgument");
 });
 
 test("each step of the shift method is a picture of its own", { skip: skip || (!calls.has("canonical_order") && "no order") }, () => {
