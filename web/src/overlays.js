@@ -115,7 +115,7 @@ export function orderOverlay(map, step) {
     const at = (v) => spots[v - 1];
     const contour = step.contour.slice(1).map((v, k) => [at(step.contour[k]), at(v)]);
     const reach = step.touched.map((u) => [at(step.comes), at(u)]);
-    const colours = map.lists.map((_, k) => (!step.places.has(k + 1) ? "thin" : k + 1 === step.comes ? "even" : "dot"));
+    const colours = map.lists.map((_, k) => (!step.places.has(k + 1) ? "soft" : k + 1 === step.comes ? "even" : "dot"));
     return { above: [...lines(contour, 3 * width, "odd", look), ...lines(reach, 2 * width, "even", look)], colours };
   };
 }
