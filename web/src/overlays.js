@@ -131,6 +131,8 @@ export function barsOverlay(figure) {
     const columns = new Map(figure.columns.map((x, k) => [x, pairs[k] && pairs[k][0][0]]));
     const below = [...columns].filter(([, at]) => at !== undefined).map(([x, at]) => text(at, low, x));
     const before = figure.bars.map(({ y }, k) => text(boxes[k][0] - 0.9 * size, boxes[k][1] + boxes[k][3] / 2, y + 1));
-    return { above: [...before, ...(columns.size < 60 ? below : [])] };
+    // The widest number has two thirds of its height for a digit.
+    const reach = Math.min(...boxes.map(([x]) => x)) - 0.9 * size - 0.33 * size * String(boxes.length).length;
+    return { above: [...before, ...(columns.size < 60 ? below : [])], room: Math.max(0, Math.ceil(-reach)) };
   };
 }

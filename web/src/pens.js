@@ -25,7 +25,7 @@ export function variable(paints) {
 // and lines, dots and numbers are `fine` times as large as the side asks for. From `dense` vertices on all dots are one
 // path, and all lines one, without titles and numbers. `names` are what stands at the vertices in place of numbers.
 // `overlay` returns of a scene what is drawn `below` the lines and `above` them, the `colours` of vertices, and whether the
-// picture `hasNoLines` of its own. `frame` has places that the picture has room for besides.
+// picture `hasNoLines` of its own, and the `room` that bars need on their left. `frame` has places that the picture has room for besides.
 export class Look {
   constructor({ side, equilateral = false, faces = false, paint = plain, least = 0, fine = 1, dense = Infinity, names = null, overlay, frame = [] }) {
     Object.assign(this, { side, equilateral, faces, paint, least, fine, dense, names, frame, overlay: overlay || (() => ({})) });
@@ -143,11 +143,16 @@ export function framed([width, height], body, { lines: dotted, reach, radius }, 
   const room = 0.25 * look.margin;
   const [left, right] = [Math.max(0, Math.ceil(room - reach[0])), Math.max(0, Math.ceil(reach[1] + room - width))];
   const all = [...body, ...dotted];
-  const scene = { ...given, radius };
-  if (!left) return [[width + right, height], all, scene];
-  const moved = ([x, y]) => [x + left, y];
-  const shifted = { radius, spots: scene.spots.map(moved), pairs: scene.pairs.map((pair) => pair.map(moved)) };
-  return [[width + left + right, height], [`<g transform="translate(${left})">`, ...all, "</g>"], shifted];
+  return widened([width + right, height], all, { ...given, radius }, left);
+}
+
+// Returns a picture and its scene with room more on the left.
+export function widened([width, height], body, scene, left) {
+  if (!left) return [[width, height], body, scene];
+  const moved = ([x, ...rest]) => [x + left, ...rest];
+  const { spots, boxes, pairs } = scene;
+  const shifted = { ...scene, spots: spots && spots.map(moved), boxes: boxes && boxes.map(moved), pairs: pairs.map((pair) => pair.map(moved)) };
+  return [[width + left, height], [`<g transform="translate(${left})">`, ...body, "</g>"], shifted];
 }
 
 function denseDots(places, look) {

@@ -2,7 +2,7 @@
 
 import { isMap, readGraph } from "./figures.js";
 import { textWidth } from "./labels.js";
-import { dots, escaped, framed, lines, Look, num, placed, plain, texts, title, whole } from "./pens.js";
+import { dots, escaped, framed, lines, Look, num, placed, plain, texts, title, whole, widened } from "./pens.js";
 import { STYLE } from "./style.js";
 
 // Returns the picture of a figure: its width, its height, its SVG and its `scene`, which says where vertices and edges stand
@@ -132,8 +132,9 @@ function drawBars(figure, look) {
     numbers.push([name, [from + width / 2, middle], size]);
   });
   const scene = { boxes, pairs };
-  body.push("</g>", ...(look.overlay(scene, look).above || []), ...texts(look.legible(numbers), "on-dot", look));
-  return [[whole(across * right + 2 * margin), whole(upwards * Math.max(count - 1, top) + 2 * margin)], body, scene];
+  const { above = [], room: left = 0 } = look.overlay(scene, look);
+  body.push("</g>", ...above, ...texts(look.legible(numbers), "on-dot", look));
+  return widened([whole(across * right + 2 * margin), whole(upwards * Math.max(count - 1, top) + 2 * margin)], body, scene, left);
 }
 
 function drawRects(figure, look) {
