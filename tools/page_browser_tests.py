@@ -47,7 +47,7 @@ def test_page(page, program):
     asked = f"const all = []; for (const run of {asked_of(runs)}) all.push(await answered(...run)); return all;"
     failed = differ("the page in Chromium", runs, wanted, page.run(f"(async () => {{ {asked} }})()"))
     failed += compare_inputs(page, program)
-    for test in (test_files, test_printing, test_memory):
+    for test in (test_examples, test_files, test_printing, test_memory):
         try:
             test(page)
         except (AssertionError, RuntimeError) as fault:
@@ -174,6 +174,21 @@ def test_files(page):
     assert_is(page.run("$('fault').textContent.includes('Line 2: another graph follows') && $('input').open"), True)
     give(page, ("one.txt", b"no format"), ("two.txt", b""))
     assert_is(page.run("$('fault').textContent.includes('two.txt: It is empty.')"), True)
+
+
+def test_examples(page):
+    """Each example is answered, by each job that its input has."""
+    for k in range(page.run("document.querySelectorAll('#examples button').length")):
+        label = page.run(f"document.querySelectorAll('#examples button')[{k}].textContent")
+        page.run(f"page.answers = page.study = null; $('fault').textContent = ''; document.querySelectorAll('#examples button')[{k}].click()")
+        page.wait("page.study || !page.isRunning && (page.answers || $('fault').textContent)")
+        if page.run("Boolean(page.study) || !hasSheet() && Boolean($('fault').textContent)"):
+            continue
+        for job in page.run("[...document.querySelectorAll('[name=job]')].map((it) => it.value)"):
+            page.run(f"document.querySelector('[name=job][value={job}]').click()")
+            page.wait("!page.isRunning && page.answers")
+            if not page.run("page.answers.records && document.querySelectorAll('.record').length"):
+                raise AssertionError(f"{label} has no records by {job}")
 
 
 def test_printing(page):
