@@ -581,7 +581,9 @@ class Package(unittest.TestCase):
 
     def test_one_version(self):
         for line, path in ((f"version: {pigale.__version__}", ["CITATION.cff"]), (f'version = "{pigale.__version__}"', ["pyproject.toml"]),
-                           (f"version {pigale.__version__}", ["release", "MANIFEST"])):
+                           (f"version {pigale.__version__}", ["release", "MANIFEST"]), (f"Version: {pigale.__version__}", ["library", "pigale.pc"]),
+                           (f'  "version": "{pigale.__version__}",', ["npm", "package.json"]),
+                           (f'version = "{pigale.__version__}"', ["examples", "rust", "pigale-sys", "Cargo.toml"])):
             self.assertIn(line, self.text(*path).split("\n"), path)
 
     def test_all_names(self):

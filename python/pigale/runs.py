@@ -59,7 +59,8 @@ def program() -> str:
     """The path of the program. Raises FileNotFoundError where there is none (the package's text says where it looks)."""
     here = os.path.dirname(os.path.realpath(__file__))
     top = os.path.join(here, "..", "..")
-    released = f"pigale-{platform.machine()}-{platform.system().lower()}"
+    system = platform.system().lower()
+    released = f"pigale-{platform.machine()}-{system}{'.exe' if system == 'windows' else ''}"
     places = [os.environ.get("PIGALE"), os.path.join(here, released), os.path.join(top, "crates", "pigale", "out", "pigale"),
               os.path.join(top, "release", released)]
     for place in places:
