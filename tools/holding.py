@@ -117,7 +117,17 @@ def hold_source(path):
             running.append((compiler, folder, subprocess.Popen(["make", "-s", "-C", folder, f"CC={compiler}", f"CFLAGS={flags}"])))
         for compiler, folder, it in running:
             wrong += 1 if it.wait() else answers.hold([f"{folder}/pigale"], f"the C source by {compiler}")
+        program = own_program()
+        if program and not wrong:
+            # each call, and not the program alone
+            wrong += subprocess.run([f"{ROOT}/tools/check_library", program, f"{running[0][1]}/libpigale.a"], check=False).returncode != 0
     return " and ".join(compilers), wrong
+
+
+def own_program():
+    """Returns the program that was built here, or else the released one for this machine; None where there is neither."""
+    places = (f"{ROOT}/crates/pigale/out/pigale", f"{ROOT}/release/pigale-{platform.machine()}-linux")
+    return next((it for it in places if os.path.exists(it) and not emulator(platform.machine())[1]), None)
 
 
 def hold_module(path):
@@ -137,7 +147,7 @@ def all_held(held):
 
 def hold_page(_):
     """The page, in node and in Chromium; the released program's answers are compared with the page's."""
-    program = next((it for it in (f"{ROOT}/crates/pigale/out/pigale", f"{ROOT}/release/pigale-{platform.machine()}-linux") if os.path.exists(it)), None)
+    program = own_program()
     if not program:
         return None, "a program"
     ran = subprocess.run([f"{ROOT}/tools/web", "--check", program], capture_output=True, text=True, check=False)

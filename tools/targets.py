@@ -23,6 +23,7 @@ TOOLS = f"{ROOT}/tools"
 ARM = "aarch64-linux-gnu"
 WEB = ("--enable-memory64", "--enable-bulk-memory", "--enable-mutable-globals", "--enable-sign-ext")
 LINUX = {"x86_64": "x86_64-unknown-linux-gnu", "aarch64": "aarch64-unknown-linux-gnu"}
+WASM = "wasm64-unknown-unknown"
 MINGW = "x86_64-w64-mingw32"
 STACK = 1 << 20  # bytes of stack that the module sets aside, as many as the header says that a call wants
 
@@ -122,7 +123,14 @@ class Copy:
 
     def build(self, name, to, *more, toolchain=None):
         """Builds the object or the archive of a crate, and returns the last line of its proof."""
-        words = [f"{kit()}/bin/rattle", "build", "--crate-name", name, *more]
+        return self.rattle("build", name, *more, "--backend", "llvm", "--toolchain", toolchain or f"{kit()}/toolchain", "-o", to)
+
+    def check(self, name, *more):
+        """Checks a crate, and returns the last line of its proof."""
+        return self.rattle("check", name, *more)
+
+    def rattle(self, command, name, *more):
+        words = [f"{kit()}/bin/rattle", command, "--crate-name", name, *more]
         crate = f"{self.folder}/crates/{name}"
         words += [next(it for it in ("src/main.rt", "src/lib.rt") if os.path.exists(f"{crate}/{it}"))]
         for it in ("std", *self.lines[name][1]):
@@ -130,8 +138,7 @@ class Copy:
         words += ["-L", f"dependency={kit()}/rlibs"]
         for it in below(self.lines, self.lines[name][1]):
             words += ["-L", f"dependency={os.path.dirname(self.library(it))}"]
-        words += ["--antt-project", f"{kit()}/rattle/logic/antt-project.json", "--logic-built", f"{kit()}/logic_built"]
-        words += ["--links", f"{name}=", "--backend", "llvm", "--toolchain", toolchain or f"{kit()}/toolchain", "-o", to]
+        words += ["--antt-project", f"{kit()}/rattle/logic/antt-project.json", "--logic-built", f"{kit()}/logic_built", "--links", f"{name}="]
         said = call(*words, cwd=crate)
         proved = re.findall(r"^logic=proved .*$", said, re.M)
         if not proved:
@@ -316,19 +323,23 @@ def macos(built, to):
         call(*link, "-e", "_main", f"{room}/program.o", *parts, system, "-o", f"{program}/pigale")
 
 
-def module(copy, to):
-    """Makes the WebAssembly module of the C library, and returns its target and the last line of its proof."""
+def module_verdict(copy):
+    """Returns the last line of the proof of the library for WebAssembly. The kit proves it for that target, and does not build
+    it, since it takes its memory from C."""
+    return copy.check("pigale_c", "--crate-type", "staticlib", "--target", WASM)
+
+
+def module(built, to):
+    """Makes the WebAssembly module of the library from what clang was given for Linux."""
     with tempfile.TemporaryDirectory() as room:
-        target = "wasm64-unknown-unknown"
-        verdict = copy.build("pigale_c", f"{room}/library.a", "--crate-type", "staticlib", "--target", target, "--jobs", "2")
-        link_module([f"{room}/library.a"], to)
-    return target, verdict
+        call(tool("clang"), f"--target={WASM}", "-O2", "-w", "-c", "-x", "ir", f"{built.folder}/module.bc", "-o", f"{room}/module.o")
+        link_module([f"{room}/module.o"], to)
 
 
 def link_module(parts, to):
     """Links objects for WebAssembly with 64-bit addresses to a module with all calls, and lowers its addresses to 32 bits."""
     with tempfile.TemporaryDirectory() as room:
-        call(tool("clang"), "--target=wasm64-unknown-unknown", "-O2", "-Wall", "-mbulk-memory", "-fno-builtin", "-c",
+        call(tool("clang"), f"--target={WASM}", "-O2", "-Wall", "-mbulk-memory", "-fno-builtin", "-c",
              f"{ROOT}/web/src/memory.c", "-o", f"{room}/memory.o")
         exports = [f"--export={it}" for it in (*calls.names(), "memory_for", "memory_back")]
         call(tool("ld.lld"), "-flavor", "wasm", "-mwasm64", "--no-entry", "--gc-sections", "--stack-first", "-z", f"stack-size={STACK}",
