@@ -103,7 +103,7 @@ export function embed(graphs: (Graph | string)[] | string | Uint8Array): Promise
 export function verify(figures: (AnyFigure | string)[] | string | Uint8Array): Promise<Verdict[]>;
 
 /** Returns the picture of a figure as an SVG document. */
-export function svg(figure: AnyFigure, look?: { side?: number; labels?: boolean }): string;
+export function svg(figure: AnyFigure, look?: { side?: number; names?: string[]; equilateral?: boolean; faces?: boolean }): string;
 
 /** Returns graph6 of a graph. */
 export function graph6(graph: Graph): string;

@@ -102,7 +102,8 @@ export const embed = (graphs) => answers("embed", linesOf(graphs, (it) => (typeo
 // Judges figures, as `draw` returns them or as text: whether each is valid, or its first fault.
 export const verify = (figures) => answers("verify", linesOf(figures, (it) => (typeof it === "string" ? it.trimEnd() : it.lines.join("\n"))));
 
-// Returns the picture of a figure as an SVG document; `look` may have its `side` in pixels and `labels`.
+// Returns the picture of a figure as an SVG document. `look` may have its `side` in pixels, `names`, a list of what vertices
+// are called, and whether it is `equilateral` and has `faces` painted.
 export const svg = (figure, look) => pictureDocument(figure, look);
 
 // Places the nodes of any graph so that no two links cross, on a grid. Nodes are ids or have an `id`; the ends of links are

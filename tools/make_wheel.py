@@ -97,6 +97,12 @@ def metadata():
     return "\n".join(["Metadata-Version: 2.1", *lines, "", ""]).encode() + content("python", "README.md")
 
 
+def entry_points():
+    """What pyproject.toml names for the command line and for other packages, as a wheel says it."""
+    found = re.findall(r'^\[project\.(?:scripts|entry-points\."([\w.]+)")\]\n((?:\w.*\n)+)', content("pyproject.toml").decode(), re.MULTILINE)
+    return "\n".join(f"[{group or 'console_scripts'}]\n" + lines.replace('"', "") for group, lines in found)
+
+
 def sources():
     """The files of the package, as path in the repository."""
     return [f"python/pigale/{name}" for name in sorted(os.listdir(PACKAGE)) if name.endswith((".py", ".json", ".typed"))]
@@ -114,7 +120,7 @@ def files(tags, binaries):
     yield f"{about}/METADATA", metadata(), False
     lines = "".join(f"Tag: py3-none-{part}\n" for part in tags.split("."))
     yield f"{about}/WHEEL", f"Wheel-Version: 1.0\nGenerator: pigale\nRoot-Is-Purelib: {str(not binaries).lower()}\n{lines}".encode(), False
-    yield f"{about}/entry_points.txt", f"[console_scripts]\npigale = {project('pigale')}\n".encode(), False
+    yield f"{about}/entry_points.txt", entry_points().encode(), False
     yield f"{about}/LICENSE", content("LICENSE"), False
 
 
