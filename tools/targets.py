@@ -279,14 +279,28 @@ def foreign_objects(built, target, room):
          "--no-default-config", "-o", f"{room}/module.ll")
     linux_memory(built.machine, f"{room}/memory.ll", "-S", "-emit-llvm")
     options = [it for it in built.options() if it not in ("-fPIC", "-fPIE")] + ["-w", "-O3"]
-    if target.endswith("windows-gnu"):
-        # a probe of the stack that is written out is none of this system: the target's own probe comes in its place
-        call("sed", "-i", 's/"probe-stack"="inline-asm"//', f"{room}/module.ll")
-    else:
+    if not target.endswith("windows-gnu"):
         options.append("-fPIC")
+    adapt(f"{room}/module.ll", target)
     for name in ("module", "memory"):
         call(clang, *options, f"--target={target}", f"{room}/{name}.ll", "-o", f"{room}/{name}.o")
     return [f"{room}/module.o", f"{room}/memory.o"]
+
+
+def adapt(path, target):
+    """Changes in the text of a module what another system has otherwise than Linux.
+
+    On macOS who calls may rely on that a result of 8 or 16 bits fills 32. For Windows a probe of the stack that is written out
+    goes: the target's own comes in its place."""
+    exports = re.compile(rf"^(define (?!.*\bzeroext\b)[^@]*)(\bi(?:8|16) @(?:{'|'.join(calls.names())})\()")
+    with open(path, encoding="utf-8", errors="surrogateescape") as file, open(f"{path}.new", "w", encoding="utf-8", errors="surrogateescape") as to:
+        for line in file:
+            if line.startswith("define"):
+                line = exports.sub(r"\1zeroext \2", line)
+            elif target.endswith("windows-gnu") and line.startswith("attributes"):
+                line = line.replace('"probe-stack"="inline-asm"', "")
+            to.write(line)
+    os.replace(f"{path}.new", path)
 
 
 def windows(built, to):
