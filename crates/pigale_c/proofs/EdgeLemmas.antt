@@ -1,11 +1,14 @@
 -- Arrays of edges.
-use Rattle.std.proofs.Common.{◌<◌, ◌≤◌, ◌↔◌, Bool, IsTrue, ℕ, zero, suc, List, [], ◌∷◌, inl, inr, refl, map, get_or, arith}
-use Rattle.std.specs.List.{All, AllPairs}
-use Rattle.std.proofs.lemmas.List.Elements.{All-nil, All-cons, All-head, All-tail}
+use Rattle.std.proofs.Common.{◌<◌, ◌≤◌, ◌≡◌, ℕ, zero, suc, List, [], ◌∷◌, inl, inr, refl, ap, ap₂, ◌∙◌, subst, map, get_or, arith}
+use Rattle.std.specs.List.{All, AllPairs, Contains}
+use Rattle.std.proofs.lemmas.List.{length-map}
+use Rattle.std.proofs.lemmas.List.Elements.{All-nil, All-cons, All-head, All-tail, All-contains}
 use Rattle.std.proofs.lemmas.List.Kept.{AllPairs-cons}
 use Rattle.graphs.specs.Graphs.{Edge, IsGraph, AreEdges, ComesBefore}
 use Rattle.plane_drawings.proofs.Pairs.{AllPairs-nil, AllPairs-head, AllPairs-tail}
-use Rattle.pigale_c.specs.Embedded.{edge_at, graph_in, RiseFrom}
+use Rattle.pigale_c.specs.EdgeFailures.{IsGraphOf}
+use Rattle.pigale_c.specs.EdgeLists.{edge_at, AreEdgesOf, Joins, RiseFrom}
+use Rattle.pigale_c.specs.Embedded.{graph_in}
 use Rattle.pigale_c.specs.declared.edges.EdgeEnds.{EdgeEnds}
 
 -- before all edges
@@ -66,14 +69,49 @@ lesser_first n last [] h = All-nil (λ (e : EdgeEnds). e.a < e.b)
 lesser_first n last (e ∷ edges) h = All-cons (λ (e : EdgeEnds). e.a < e.b) e edges h.0.0.0 (lesser_first n e edges h.1)
 
 -- ---- graphs
-pub graph-rise : (n : ℕ) (edges : List EdgeEnds) → n ≤ 255 → RiseFrom n no_edge edges → IsGraph (graph_in n edges)
+graph-rise : (n : ℕ) (edges : List EdgeEnds) → n ≤ 255 → RiseFrom n no_edge edges → IsGraph (graph_in n edges)
 graph-rise n edges few rise = record { few = few; edges = AreEdges-rise n edges rise }
 
-pub rise-graph : (n : ℕ) (edges : List EdgeEnds) → IsGraph (graph_in n edges) → RiseFrom n no_edge edges
-rise-graph n edges graph = rise-AreEdges n edges graph.edges
+from_map : (edges : List EdgeEnds) (a b : ℕ) → Contains (map edge_at edges) (a, b) → (e : EdgeEnds) × Contains edges e × (e.a ≡ a) × (e.b ≡ b)
+from_map [] a b h = absurd (omega (arith, h.1))
+from_map (e ∷ edges) a b (zero, l, is) = (e, (zero, omega arith, refl), ap (λ (f : Edge). f.0) is, ap (λ (f : Edge). f.1) is)
+from_map (e ∷ edges) a b (suc i, l, is) =
+    let r = from_map edges a b (i, omega (arith, l), is) in
+    (r.0, (suc r.1.0, omega (arith, r.1.1), r.1.2), r.2, r.3)
 
-pub lesser_first-graph : (n : ℕ) (edges : List EdgeEnds) → IsGraph (graph_in n edges) → All (λ (e : EdgeEnds). e.a < e.b) edges
-lesser_first-graph n edges graph = lesser_first n no_edge edges (rise-graph n edges graph)
+to_map : (edges : List EdgeEnds) (e : EdgeEnds) → Contains edges e → Contains (map edge_at edges) (edge_at e)
+to_map [] e h = absurd (omega (arith, h.1))
+to_map (f ∷ edges) e (zero, l, is) = (zero, omega arith, ap edge_at is)
+to_map (f ∷ edges) e (suc i, l, is) =
+    let r = to_map edges e (i, omega (arith, l), is) in
+    (suc r.0, omega (arith, r.1), r.2)
 
-pub is_graph-iff : (n : ℕ) (edges : List EdgeEnds) (answer : Bool) → n ≤ 255 → (IsTrue answer ↔ RiseFrom n no_edge edges) → IsTrue answer ↔ IsGraph (graph_in n edges)
-is_graph-iff n edges answer few rise = (λ yes. graph-rise n edges few (rise.0 yes), λ graph. rise.1 (rise-graph n edges graph))
+-- the graph of edges that rise is that of the array
+pub IsGraphOf-rise : (n : ℕ) (edges : List EdgeEnds) → n ≤ 255 → RiseFrom n no_edge edges → IsGraphOf n edges (graph_in n edges)
+IsGraphOf-rise n edges few rise = record {
+  graph_is = graph-rise n edges few rise;
+  vertices = refl;
+  same = λ a b. (there a b, back a b);
+  count = length-map edges edge_at;
+}
+  where
+    lesser : (e : EdgeEnds) → Contains edges e → e.a < e.b
+    lesser e has = All-contains (λ (f : EdgeEnds). f.a < f.b) edges e (lesser_first n no_edge edges rise) has
+
+    there : (a b : ℕ) → Contains (map edge_at edges) (a, b) → (a < b) × Joins edges a b
+    there a b h =
+        let r = from_map edges a b h in
+        (omega (arith, lesser r.0 r.1, r.2, r.3), (r.0, r.1, inl (r.2, r.3)))
+
+    back : (a b : ℕ) → (a < b) × Joins edges a b → Contains (map edge_at edges) (a, b)
+    back a b (l, (e, has, inl is)) = subst (λ (f : Edge). Contains (map edge_at edges) f) (ap₂ (λ (x y : ℕ). (x, y)) is.0 is.1) (to_map edges e has)
+    back a b (l, (e, has, inr is)) = absurd (omega (arith, l, lesser e has, is.0, is.1))
+
+-- and so is that of its edges in order
+pub IsGraphOf-sorted : (n : ℕ) (edges sorted : List EdgeEnds) → n ≤ 255 → RiseFrom n no_edge sorted → AreEdgesOf n edges sorted → IsGraphOf n edges (graph_in n sorted)
+IsGraphOf-sorted n edges sorted few rise h = record {
+  graph_is = graph-rise n sorted few rise;
+  vertices = refl;
+  same = h.same;
+  count = length-map sorted edge_at ∙ h.count;
+}

@@ -1,7 +1,11 @@
--- Lemmas on maps and points as arrays, and on runs.
+-- Lemmas on maps, edges and points as arrays, and on runs.
 mod ArrayLemmas
+mod EdgeFaultLemmas
 mod EdgeLemmas
+mod EdgeListLemmas
+mod EmbedLemmas
 mod FailureLemmas
+mod ManyLemmas
 mod Refused
 mod RunLemmas
 mod WordLemmas

@@ -1,5 +1,7 @@
 -- What the calls for C answer.
 pub mod Arrays
+pub mod Written
+pub mod EdgeLists
 pub mod Failures
 pub mod Numbers
 pub mod Counted
@@ -10,3 +12,9 @@ pub mod RectArrays
 pub mod Words
 pub mod Run
 pub mod Embedded
+pub mod EdgeFailures
+pub mod EdgeDrawings
+pub mod Ordered
+pub mod Wooded
+pub mod StNumbers
+pub mod ManyMaps

@@ -4,6 +4,8 @@ use Rattle.refusals.specs.declared.conditions.Refusal.{Refusal}
 use Rattle.refusals.specs.declared.conditions.Refusal.TheVariants.{OutOfRange, Loop, Repeated, OneSided, Small, Genus, NotConnected, CutVertex, SeparatingPair, OuterNotQuad, NotTriangle, SeparatingTriangle, NoInner}
 use Rattle.draw_check.specs.declared.verdict.Verdict.{Verdict}
 use Rattle.draw_check.specs.declared.verdict.Verdict.TheVariants.{OutOfGrid, SamePlace, OnEdge, Cross, Turned, Yes}
+use Rattle.draw_check.specs.declared.verdict.OuterVerdict.{OuterVerdict}
+use Rattle.draw_check.specs.declared.verdict.OuterVerdict.TheVariants.{Inside, Yes as IsOuter}
 use Rattle.convex_check.specs.declared.verdict.ConvexVerdict.{ConvexVerdict}
 use Rattle.convex_check.specs.declared.verdict.ConvexVerdict.TheVariants.{Bent, OuterBent, Yes as NoBend}
 use Rattle.bar_check.specs.declared.verdict.BarVerdict.{BarVerdict}
@@ -11,10 +13,12 @@ use Rattle.bar_check.specs.declared.verdict.BarVerdict.TheVariants.{BadShape, Ba
 use Rattle.rect_check.specs.declared.verdict.RectVerdict.{RectVerdict}
 use Rattle.rect_check.specs.declared.verdict.RectVerdict.TheVariants.{BadRect, Meet, Gap, Contact, NoFrame, Frame, Yes as NoRectFault}
 use Rattle.kuratowski.specs.declared.witness.Kind.TheVariants.{K5, K33}
+use Rattle.pigale_c.specs.declared.outcome.EdgeFault.{EdgeFault}
+use Rattle.pigale_c.specs.declared.outcome.EdgeFault.TheVariants.{NoVertex, SelfLoop, Twice}
 use Rattle.pigale_c.specs.declared.outcome.Failure.{Failure}
-use Rattle.pigale_c.specs.declared.outcome.Failure.TheVariants.{Refused, NoMemory, BadArgument}
+use Rattle.pigale_c.specs.declared.outcome.Failure.TheVariants.{BadEdge, Refused, NoMemory, BadArgument}
 use Rattle.pigale_c.specs.declared.outcome.Outcome.{Outcome}
-use Rattle.pigale_c.specs.declared.outcome.Outcome.TheVariants.{Served, Failed, Drawing, Convex, Bars, Rects, NotPlanar}
+use Rattle.pigale_c.specs.declared.outcome.Outcome.TheVariants.{Served, Failed, Drawing, Convex, Bars, Rects, Outer, NotPlanar}
 use Rattle.pigale_c.specs.declared.outcome.Numbers.{Numbers}
 use Rattle.pigale_c.specs.declared.outcome.Answer.{Answer}
 
@@ -54,6 +58,12 @@ refusal_answer_of (NotTriangle v u) = told 11 (two v.0 u.0)
 refusal_answer_of (SeparatingTriangle a b c) = told 12 (three a.0 b.0 c.0)
 refusal_answer_of NoInner = told 13 none
 
+-- a fault of edges, by their numbers in the array
+abbrev pub edge_answer_of : EdgeFault → Answer
+edge_answer_of (NoVertex i) = told 20 (one i)
+edge_answer_of (SelfLoop i) = told 21 (one i)
+edge_answer_of (Twice i j) = told 22 (two i j)
+
 -- a verdict on a straight-line drawing: of an edge the lesser end comes first
 abbrev pub drawing_answer_of : Verdict → Answer
 drawing_answer_of (OutOfGrid v) = told 32 (one v.0)
@@ -62,6 +72,11 @@ drawing_answer_of (OnEdge v e) = told 34 (three v.0 e.a.0 e.b.0)
 drawing_answer_of (Cross e f) = told 35 (four e.a.0 e.b.0 f.a.0 f.b.0)
 drawing_answer_of (Turned v) = told 36 (one v.0)
 drawing_answer_of Yes = told 0 none
+
+-- a verdict on the outer face
+abbrev pub outer_answer_of : OuterVerdict → Answer
+outer_answer_of (Inside v u) = told 37 (two v.0 u.0)
+outer_answer_of IsOuter = told 0 none
 
 -- a verdict on bends
 abbrev pub convex_answer_of : ConvexVerdict → Answer
@@ -92,6 +107,7 @@ rects_answer_of NoRectFault = told 0 none
 
 -- a failure
 abbrev pub failure_answer_of : Failure → Answer
+failure_answer_of (BadEdge fault) = edge_answer_of fault
 failure_answer_of (Refused refusal) = refusal_answer_of refusal
 failure_answer_of NoMemory = told 16 none
 failure_answer_of BadArgument = told 17 none
@@ -104,6 +120,7 @@ answer_of (Drawing verdict) = drawing_answer_of verdict
 answer_of (Convex verdict) = convex_answer_of verdict
 answer_of (Bars verdict) = bars_answer_of verdict
 answer_of (Rects verdict) = rects_answer_of verdict
+answer_of (Outer verdict) = outer_answer_of verdict
 answer_of (NotPlanar K5) = told 80 none
 answer_of (NotPlanar K33) = told 81 none
 

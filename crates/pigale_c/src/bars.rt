@@ -13,7 +13,7 @@ use bar_check::check_bars;
 use half_edges::HalfMap;
 use pg_plane::{BarFigure, Ints};
 use std::alloc::{AllocError, Global};
-use visibility::bar_figures::bar_figure;
+use visibility::bar_figures::BarDrawer;
 
 // The arrays of bars, as they are given: heights, left ends, right ends and columns.
 #[derive(Clone, Copy)]
@@ -103,7 +103,8 @@ fn drawn(given: &MapArrays<'_>, bars: &BarArrays<'_>) -> Result<BarFigure, Failu
     if bars.column.len() != lists.total() / 2 {
         return Err(Failure::BadArgument);
     }
-    let figure = bar_figure(given.alloc, &lists)?;
+    let mut drawer = BarDrawer::new(given.alloc);
+    let figure = drawer.figure(&lists)?;
     Ok(figure)
 }
 

@@ -1,19 +1,19 @@
-//! Calls for C that judge straight-line drawings of maps, also those that are to be convex.
+//! Calls for C that judge straight-line drawings of maps, also those that are to be convex, and their outer faces.
 ghost use Rattle.std.specs.Prelude.{◌≡◌, Some, None, IfOk, IfErr};
 ghost use Rattle.simple_maps.specs.Faults.{first_fault};
 ghost use Rattle.refusals.specs.Conditions.{fault_refusal};
 ghost use Rattle.plane_drawings.specs.Drawing.{HasPlaces};
 ghost use Rattle.pigale_c.specs.Arrays.{lists_in, points_in, IsGivenDrawing};
-ghost use Rattle.pigale_c.specs.Judged.{IsBendVerdict, IsJudged, IsJudgedConvex};
+ghost use Rattle.pigale_c.specs.Judged.{IsBendVerdict, IsJudged, IsJudgedConvex, IsJudgedOuter};
 ghost use Rattle.pigale_c.specs.Failures.{Fails};
 ghost use Rattle.pigale_c.specs.Numbers.{Reports, outcome_of};
 
 use crate::map_arrays::{MapArrays, lists_of, points_of};
 use crate::outcome::{Failure, Numbers, Outcome, report};
 use convex_check::{ConvexVerdict, check_convex_points};
-use draw_check::{Verdict, check_points};
+use draw_check::{OuterVerdict, Verdict, check_outer, check_points};
 use half_edges::{HalfMap, VertexId};
-use pg_plane::{Point, Points};
+use pg_plane::{GridFigure, Point, Points};
 use std::alloc::{AllocError, Global};
 
 // A map, and a point for each of its vertices.
@@ -137,4 +137,44 @@ pub extern "C" fn pigale_check_convex(
         neighbours,
     };
     report(judged_convex(&given, x, y, corner), found)
+}
+
+// Returns the verdict on the outer face of the drawing of the map `given` at the points of `x` and `y`, which is to be
+// that of the first dart of vertex 0. `Err` says why there is none: bad arrays, no simple map, or no memory.
+fn judged_outer(given: &MapArrays<'_>, x: &[i32], y: &[i32]) -> Result<Outcome, Failure>
+    ensures { IsJudgedOuter given.now.ends.now given.now.neighbours.now x.now y.now (outcome_of result) }
+{
+    let drawing = drawing_of(given, x, y)?;
+    let Some(base) = drawing.map.first_dart(VertexId(0)) else {
+        return Ok(Outcome::Outer(OuterVerdict::Yes));
+    };
+    let figure = GridFigure {
+        points: drawing.points,
+        width: 0,
+        height: 0,
+    };
+    let verdict = check_outer(given.alloc, &drawing.map, base, &figure)?;
+    Ok(Outcome::Outer(verdict))
+}
+
+/// Judges whether a straight-line drawing of a connected map (`neighbours` cut into lists at `ends`), vertex v at
+/// (`x[v]`, `y[v]`), has the face of vertex 0's first dart outside. Returns the verdict's status, and writes the dart
+/// that it names to `found`.
+#[unsafe(no_mangle)]
+pub extern "C" fn pigale_check_outer(
+    alloc: Global,
+    ends: &[usize],
+    neighbours: &[u16],
+    x: &[i32],
+    y: &[i32],
+    found: &mut Numbers,
+) -> u8
+    ensures { Reports (IsJudgedOuter ends.now neighbours.now x.now y.now) result found.new }
+{
+    let given = MapArrays {
+        alloc,
+        ends,
+        neighbours,
+    };
+    report(judged_outer(&given, x, y), found)
 }

@@ -1,21 +1,24 @@
 //! Graphs read from the caller's arrays of edges.
-ghost use Rattle.std.specs.Prelude.{◌≡◌, ◌<◌, ◌↔◌, map, All, IsTrue, IfOk, IfErr};
-ghost use Rattle.graphs.specs.Graphs.{IsGraph, ComesBefore, edge_of};
-ghost use Rattle.pigale_c.specs.Embedded.{edge_at, graph_in, IsEdge, RiseFrom};
-ghost use Rattle.pigale_c.specs.Failures.{IsBadOnly};
+ghost use Rattle.std.specs.Prelude.{◌≡◌, ◌<◌, ◌≤◌, ◌↔◌, map, length, All, IsTrue, IfOk, IfErr};
+ghost use Rattle.graphs.specs.Graphs.{ComesBefore, edge_of};
+ghost use Rattle.pigale_c.specs.EdgeFailures.{AreFew, IsEdgeFailure, IsGraphOf};
+ghost use Rattle.pigale_c.specs.EdgeLists.{edge_at, AreEdgesOf, IsEdge, RiseFrom};
+ghost use Rattle.pigale_c.specs.Embedded.{graph_in};
 
+use crate::edge_faults::{first_improper, first_twice};
+use crate::edge_orders::{repeated_in, sorted_edges};
 use crate::outcome::Failure;
 use graphs::Graph;
 use map_lists::{Ends, VertexId};
 use std::alloc::{AllocError, Global};
 
-/// An edge of a graph, by its lesser end and then its greater.
+/// An edge of a graph, by its two ends, in either order.
 #[repr(C)]
 #[derive(Clone, Copy)]
 pub struct EdgeEnds {
-    /// The lesser end.
+    /// The one end.
     pub a: u16,
-    /// The greater end.
+    /// The other end.
     pub b: u16,
 }
 
@@ -56,13 +59,6 @@ fn stored_edges(alloc: Global, edges: &[EdgeEnds]) -> Result<Vec<Ends>, AllocErr
     Ok(list)
 }
 
-// Says whether `n` is at most 255 and `edges` are those of a graph on `n` vertices, in order and each once.
-fn is_given(n: u16, edges: &[EdgeEnds]) -> bool
-    ensures { IsTrue result ↔ IsGraph (graph_in n edges.now) }
-{
-    n <= 255 && are_edges(n, edges)
-}
-
 /// The arrays of a graph, as they are given: its number of vertices, and its edges.
 #[derive(Clone, Copy)]
 pub(crate) struct GraphArrays<'a> {
@@ -71,16 +67,62 @@ pub(crate) struct GraphArrays<'a> {
     pub(crate) edges: &'a [EdgeEnds],
 }
 
-/// Returns the graph of `given`, or `BadArgument` where the arrays describe none. It also fails when out of memory.
-pub(crate) fn graph_of(given: &GraphArrays<'_>) -> Result<Graph, Failure>
-    ensures graph { IfOk result (λ graph. graph ≡ graph_in given.now.n given.now.edges.now) }
-    ensures given { IfOk result (λ graph. IsGraph (graph_in given.now.n given.now.edges.now)) }
-    ensures failed { IfErr result (IsBadOnly (IsGraph (graph_in given.now.n given.now.edges.now))) }
+// Returns the graph on `n` vertices, at most 255, with these `edges`, in order and each once. Fails only when out of
+// memory.
+fn graph_in_order(alloc: Global, n: u16, edges: &[EdgeEnds]) -> Result<Graph, AllocError>
+    requires few { n ≤ 255 }
+    requires rise { RiseFrom n (record { a = 0; b = 0 }) edges.now }
+    ensures { IfOk result (λ graph. graph ≡ graph_in n edges.now) }
 {
-    if !is_given(given.n, given.edges) {
+    let list = stored_edges(alloc, edges)?;
+    let graph = Graph::of_edges(alloc, n, &list)?;
+    Ok(graph)
+}
+
+/// Returns `edges`, between `n` vertices, each with its lesser end first, in order and each once. It fails with the
+/// first edge that is none between two vertices, or with two that join the same, and when out of memory.
+pub(crate) fn rising_edges(
+    alloc: Global,
+    n: u16,
+    edges: &[EdgeEnds],
+) -> Result<Vec<EdgeEnds>, Failure>
+    requires few { n < 4096 }
+    requires size { length edges.now < 16777216 }
+    ensures sorted { IfOk result (λ sorted. AreEdgesOf n edges.now sorted.items) }
+    ensures rise { IfOk result (λ sorted. RiseFrom n (record { a = 0; b = 0 }) sorted.items) }
+    ensures failed { IfErr result (IsEdgeFailure (Unit {0}) n edges.now) }
+{
+    if let Some(fault) = first_improper(n, edges) {
+        return Err(Failure::BadEdge(fault));
+    }
+    let sorted = sorted_edges(alloc, n, edges)?;
+    if are_edges(n, &sorted) {
+        return Ok(sorted);
+    }
+    let twin = repeated_in(n, &sorted);
+    match first_twice(n, edges, twin.a, twin.b) {
+        Some(fault) => Err(Failure::BadEdge(fault)),
+        // what stands twice in order stands twice in the array
+        None => unreachable!(),
+    }
+}
+
+/// Returns the graph of `given`, whose edges come in any order and either way round. It fails with `BadArgument` where
+/// there are more than 255 vertices or 2^24 edges or more, with a fault of the edges, and when out of memory.
+pub(crate) fn graph_of(given: &GraphArrays<'_>) -> Result<Graph, Failure>
+    ensures graph { IfOk result (IsGraphOf given.now.n given.now.edges.now) }
+    ensures given { IfOk result (λ graph. AreFew given.now.n given.now.edges.now) }
+    ensures failed { IfErr result (IsEdgeFailure (AreFew given.now.n given.now.edges.now) given.now.n given.now.edges.now) }
+{
+    let (alloc, n) = (given.alloc, given.n);
+    if n > 255 || given.edges.len() >= 16_777_216 {
         return Err(Failure::BadArgument);
     }
-    let list = stored_edges(given.alloc, given.edges)?;
-    let graph = Graph::of_edges(given.alloc, given.n, &list)?;
+    if are_edges(n, given.edges) {
+        let graph = graph_in_order(alloc, n, given.edges)?;
+        return Ok(graph);
+    }
+    let sorted = rising_edges(alloc, n, given.edges)?;
+    let graph = graph_in_order(alloc, n, &sorted)?;
     Ok(graph)
 }

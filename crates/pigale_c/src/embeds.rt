@@ -1,12 +1,12 @@
 //! The call for C that embeds a graph: a plane map with its drawing, or a Kuratowski witness, in arrays.
 ghost use Rattle.std.specs.Prelude.{◌≡◌, ◌≤◌, map, IfOk, IfErr};
 ghost use Rattle.embed_graph.specs.Figures.{IsEmbedFigure};
-ghost use Rattle.pigale_c.specs.Embedded.{graph_in, number, IsGivenGraph, IsSmall, IsEmbedded};
-ghost use Rattle.pigale_c.specs.Failures.{Fails};
+ghost use Rattle.pigale_c.specs.EdgeFailures.{FailsOnEdges};
+ghost use Rattle.pigale_c.specs.Embedded.{number, IsGivenGraph, IsSmall, IsEmbedded, OfGraph};
 ghost use Rattle.pigale_c.specs.Numbers.{Reports};
 
 use crate::edges::{EdgeEnds, GraphArrays, graph_of};
-use crate::map_arrays::{put_front, put_points};
+use crate::map_arrays::{put_lists, put_points};
 use crate::outcome::{Failure, Numbers, Outcome, report};
 use embed_graph::embed_figures::{EmbedFigure, Embedder};
 use map_lists::VertexId;
@@ -17,8 +17,8 @@ use std::alloc::{AllocError, Global};
 fn figure_of(given: &GraphArrays<'_>, x: &[i32], y: &[i32]) -> Result<EmbedFigure, Failure>
     ensures given { IfOk result (λ figure. IsGivenGraph given.now.n given.now.edges.now x.now y.now) }
     ensures enough { IfOk result (λ figure. 3 ≤ given.now.n) }
-    ensures figure { IfOk result (IsEmbedFigure (graph_in given.now.n given.now.edges.now)) }
-    ensures failed { IfErr result (Fails (IsGivenGraph given.now.n given.now.edges.now x.now y.now) (IsSmall given.now.n)) }
+    ensures figure { IfOk result (λ figure. OfGraph given.now.n given.now.edges.now (λ graph. IsEmbedFigure graph figure)) }
+    ensures failed { IfErr result (FailsOnEdges (IsGivenGraph given.now.n given.now.edges.now x.now y.now) given.now.n given.now.edges.now (IsSmall given.now.n)) }
 {
     let n = given.n;
     if x.len() != usize::from(n) || y.len() != usize::from(n) {
@@ -33,8 +33,11 @@ fn figure_of(given: &GraphArrays<'_>, x: &[i32], y: &[i32]) -> Result<EmbedFigur
     Ok(figure)
 }
 
-// Copies the numbers of `vertices`. It fails only when out of memory.
-fn numbers_of_vertices(alloc: Global, vertices: &[VertexId]) -> Result<Vec<u16>, AllocError>
+/// Copies the numbers of `vertices`. It fails only when out of memory.
+pub(crate) fn numbers_of_vertices(
+    alloc: Global,
+    vertices: &[VertexId],
+) -> Result<Vec<u16>, AllocError>
     ensures { IfOk result (λ numbers. numbers.items ≡ map number vertices.now) }
 {
     let mut numbers = Vec::with_capacity(alloc, vertices.len())?;
@@ -44,9 +47,9 @@ fn numbers_of_vertices(alloc: Global, vertices: &[VertexId]) -> Result<Vec<u16>,
     Ok(numbers)
 }
 
-/// Writes a plane map of the graph of `n` vertices and sorted `edges` to `ends` and `neighbours`, as far as they have
-/// room. Its drawing, in the grid n - 2 by n - 2, goes to `x` and `y` of length n. Where the graph is not planar, the
-/// paths of a witness go to `ends` and `neighbours`. Returns a status, and writes the numbers beside it to `found`.
+/// Writes a plane map of the graph of `n` vertices and `edges` to `ends` and `neighbours`, which have room for it. Its
+/// drawing, in the grid n - 2 by n - 2, goes to `x` and `y` of length n. Where the graph is not planar, the paths of a
+/// witness go to `ends` and `neighbours`. Returns a status, and writes the numbers beside it to `found`.
 #[unsafe(no_mangle)]
 pub extern "C" fn pigale_embed(
     alloc: Global,
@@ -63,16 +66,18 @@ pub extern "C" fn pigale_embed(
     let given = GraphArrays { alloc, n, edges };
     match figure_of(&given, x, y) {
         Ok(EmbedFigure::Drawn(lists, figure)) => {
-            put_front(lists.ends(), ends);
-            put_front(lists.entries(), neighbours);
+            if !put_lists(lists.ends(), lists.entries(), ends, neighbours) {
+                return report(Err(Failure::BadArgument), found);
+            }
             put_points(figure.points.as_slice(), x, y);
             report(Ok(Outcome::Served), found)
         }
         Ok(EmbedFigure::NotPlanar(witness)) => {
             match numbers_of_vertices(alloc, witness.paths.entries()) {
                 Ok(vertices) => {
-                    put_front(witness.paths.ends(), ends);
-                    put_front(&vertices, neighbours);
+                    if !put_lists(witness.paths.ends(), &vertices, ends, neighbours) {
+                        return report(Err(Failure::BadArgument), found);
+                    }
                     report(Ok(Outcome::NotPlanar(witness.kind)), found)
                 }
                 Err(AllocError) => report(Err(Failure::NoMemory), found),

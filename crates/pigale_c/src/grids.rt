@@ -3,13 +3,12 @@ ghost use Rattle.std.specs.Prelude.{◌≡◌, ◌<◌, length, IfOk, IfErr};
 ghost use Rattle.pigale_c.specs.Arrays.{lists_in};
 ghost use Rattle.pigale_c.specs.Drawn.{IsGivenGrid, IsShiftDrawn, IsSchnyderDrawn, IsConvexDrawn};
 ghost use Rattle.pigale_c.specs.Failures.{IsBadOnly};
-ghost use Rattle.pigale_c.specs.Numbers.{Reports, outcome_of};
+ghost use Rattle.pigale_c.specs.Numbers.{Reports};
 
 use crate::map_arrays::{MapArrays, lists_of, put_points};
 use crate::outcome::{Failure, Numbers, Outcome, report};
-use convex_draw::convex_figures::convex_figure;
-use grid_figures::schnyder_figures::schnyder_figure;
-use grid_figures::shift_figures::shift_figure;
+use convex_draw::convex_figures::ConvexDrawer;
+use grid_figures::Drawer;
 use map_lists::Rotations;
 use std::alloc::Global;
 
@@ -29,37 +28,128 @@ fn lists_for_points(given: &MapArrays<'_>, x: &[i32], y: &[i32]) -> Result<Rotat
     Ok(lists)
 }
 
-// Writes the drawing of the map `given` by the shift method into `x` and `y`. Returns `Served`, or why there is none,
-// and then leaves both arrays as they were.
-fn shift(given: &MapArrays<'_>, x: &mut [i32], y: &mut [i32]) -> Result<Outcome, Failure>
-    ensures { IsShiftDrawn given.now.ends.now given.now.neighbours.now x.old y.old x.new y.new (outcome_of result) }
-{
-    let lists = lists_for_points(given, x, y)?;
-    let figure = shift_figure(given.alloc, &lists)?;
-    put_points(figure.points.as_slice(), x, y);
-    Ok(Outcome::Served)
+/// Draws one map after another into arrays, and keeps its memory for the next. No answer depends on what it holds.
+pub(crate) trait GridDrawer {
+    ghost use Rattle.std.specs.Prelude.{ℕ, ℤ, List};
+    ghost use Rattle.pigale_c.specs.declared.outcome.Outcome.{Outcome};
+    ghost use Rattle.pigale_c.specs.Numbers.{outcome_of};
+
+    // what is promised of the arrays of a map, and of two rows of coordinates before and after
+    ghost draws: { List ℕ → List ℕ → List ℤ → List ℤ → List ℤ → List ℤ → Outcome → Type 0 };
+
+    /// Writes the drawing of the map `given` into `x` and `y`. Returns `Served`, or why there is none, and then leaves
+    /// both arrays as they were.
+    fn draw(
+        &mut self,
+        given: &MapArrays<'_>,
+        x: &mut [i32],
+        y: &mut [i32],
+    ) -> Result<Outcome, Failure>
+        ensures { draws given.now.ends.now given.now.neighbours.now x.old y.old x.new y.new (outcome_of result) };
 }
 
-// Writes the drawing of the map `given` by Schnyder's method into `x` and `y`. Returns `Served`, or why there is none,
-// and then leaves both arrays as they were.
-fn schnyder(given: &MapArrays<'_>, x: &mut [i32], y: &mut [i32]) -> Result<Outcome, Failure>
-    ensures { IsSchnyderDrawn given.now.ends.now given.now.neighbours.now x.old y.old x.new y.new (outcome_of result) }
-{
-    let lists = lists_for_points(given, x, y)?;
-    let figure = schnyder_figure(given.alloc, &lists)?;
-    put_points(figure.points.as_slice(), x, y);
-    Ok(Outcome::Served)
+/// Draws maps by the shift method.
+#[derive(Drop)]
+pub(crate) struct ShiftGrids {
+    drawer: Drawer,
 }
 
-// Writes the convex drawing of the map `given` into `x` and `y`. Returns `Served`, or why there is none, and then
-// leaves both arrays as they were.
-fn convex(given: &MapArrays<'_>, x: &mut [i32], y: &mut [i32]) -> Result<Outcome, Failure>
-    ensures { IsConvexDrawn given.now.ends.now given.now.neighbours.now x.old y.old x.new y.new (outcome_of result) }
-{
-    let lists = lists_for_points(given, x, y)?;
-    let figure = convex_figure(given.alloc, &lists)?;
-    put_points(figure.points.as_slice(), x, y);
-    Ok(Outcome::Served)
+impl ShiftGrids {
+    /// Returns a drawer that has drawn nothing yet. It takes no memory.
+    pub(crate) fn new(alloc: Global) -> ShiftGrids {
+        ShiftGrids {
+            drawer: Drawer::new(alloc),
+        }
+    }
+}
+
+impl GridDrawer for ShiftGrids {
+    ghost use Rattle.pigale_c.specs.Drawn.{IsShiftDrawn};
+
+    ghost draws = { IsShiftDrawn };
+
+    // Draws the map `given`, as the trait says.
+    fn draw(
+        &mut self,
+        given: &MapArrays<'_>,
+        x: &mut [i32],
+        y: &mut [i32],
+    ) -> Result<Outcome, Failure> {
+        let lists = lists_for_points(given, x, y)?;
+        let figure = self.drawer.shift_figure(&lists)?;
+        put_points(figure.points.as_slice(), x, y);
+        self.drawer.keep_shift(figure);
+        Ok(Outcome::Served)
+    }
+}
+
+/// Draws maps by Schnyder's method.
+#[derive(Drop)]
+pub(crate) struct SchnyderGrids {
+    drawer: Drawer,
+}
+
+impl SchnyderGrids {
+    /// Returns a drawer that has drawn nothing yet. It takes no memory.
+    pub(crate) fn new(alloc: Global) -> SchnyderGrids {
+        SchnyderGrids {
+            drawer: Drawer::new(alloc),
+        }
+    }
+}
+
+impl GridDrawer for SchnyderGrids {
+    ghost use Rattle.pigale_c.specs.Drawn.{IsSchnyderDrawn};
+
+    ghost draws = { IsSchnyderDrawn };
+
+    // Draws the map `given`, as the trait says.
+    fn draw(
+        &mut self,
+        given: &MapArrays<'_>,
+        x: &mut [i32],
+        y: &mut [i32],
+    ) -> Result<Outcome, Failure> {
+        let lists = lists_for_points(given, x, y)?;
+        let figure = self.drawer.schnyder_figure(&lists)?;
+        put_points(figure.points.as_slice(), x, y);
+        self.drawer.keep_schnyder(figure);
+        Ok(Outcome::Served)
+    }
+}
+
+/// Draws maps with convex faces.
+#[derive(Drop)]
+pub(crate) struct ConvexGrids {
+    drawer: ConvexDrawer,
+}
+
+impl ConvexGrids {
+    /// Returns a drawer that has drawn nothing yet. It takes no memory.
+    pub(crate) fn new(alloc: Global) -> ConvexGrids {
+        ConvexGrids {
+            drawer: ConvexDrawer::new(alloc),
+        }
+    }
+}
+
+impl GridDrawer for ConvexGrids {
+    ghost use Rattle.pigale_c.specs.Drawn.{IsConvexDrawn};
+
+    ghost draws = { IsConvexDrawn };
+
+    // Draws the map `given`, as the trait says.
+    fn draw(
+        &mut self,
+        given: &MapArrays<'_>,
+        x: &mut [i32],
+        y: &mut [i32],
+    ) -> Result<Outcome, Failure> {
+        let lists = lists_for_points(given, x, y)?;
+        let figure = self.drawer.figure(&lists)?;
+        put_points(figure.points.as_slice(), x, y);
+        Ok(Outcome::Served)
+    }
 }
 
 /// Draws a plane map (`neighbours` cut into lists at `ends`) by the shift method, in the grid 2n - 4 by n - 2. Writes
@@ -80,7 +170,7 @@ pub extern "C" fn pigale_shift(
         ends,
         neighbours,
     };
-    report(shift(&given, x, y), found)
+    report(ShiftGrids::new(alloc).draw(&given, x, y), found)
 }
 
 /// Draws a plane map (`neighbours` cut into lists at `ends`) by Schnyder's method, in the grid n - 2 by n - 2. Writes
@@ -101,7 +191,7 @@ pub extern "C" fn pigale_schnyder(
         ends,
         neighbours,
     };
-    report(schnyder(&given, x, y), found)
+    report(SchnyderGrids::new(alloc).draw(&given, x, y), found)
 }
 
 /// Draws a three-connected plane map (`neighbours` cut into lists at `ends`) convex in the grid f - 1 by f - 1. Writes
@@ -122,5 +212,5 @@ pub extern "C" fn pigale_convex(
         ends,
         neighbours,
     };
-    report(convex(&given, x, y), found)
+    report(ConvexGrids::new(alloc).draw(&given, x, y), found)
 }

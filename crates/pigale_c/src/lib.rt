@@ -5,14 +5,23 @@
 #![tactic(auto)]
 
 pub mod bars;
+pub mod canonical_orders;
 pub mod checks;
 pub mod counts;
+pub mod edge_drawings;
+mod edge_faults;
+mod edge_lists;
+mod edge_orders;
 pub mod edges;
 pub mod embeds;
+pub mod graph_maps;
 pub mod grids;
+pub mod many_maps;
 mod map_arrays;
 pub mod outcome;
 pub mod ports;
 pub mod rects;
 pub mod run;
+pub mod st_numbers;
+pub mod woods;
 mod word_split;

@@ -1,9 +1,10 @@
 //! Maps and points read from the caller's arrays, and results written into arrays.
-ghost use Rattle.std.specs.Prelude.{◌≡◌, ◌<◌, ◌↔◌, ◌++◌, length, take, drop, pos, IsTrue, IfOk, IfErr};
+ghost use Rattle.std.specs.Prelude.{◌≡◌, ◌<◌, ◌≤◌, ◌↔◌, ◌++◌, length, take, drop, pos, IsTrue, IfOk, IfErr, MatchBool};
 ghost use Rattle.map_lists.specs.Cuts.{AreCuts};
 ghost use Rattle.pg_plane.specs.Range.{IsInRange, IsWithin};
 ghost use Rattle.pigale_c.specs.Arrays.{lists_in, points_in, IsGivenMap, AllInRange, ArePlaces};
 ghost use Rattle.pigale_c.specs.Failures.{IsBadOnly};
+ghost use Rattle.pigale_c.specs.Written.{AreWritten, HasNoRoom};
 
 use crate::outcome::Failure;
 use map_lists::{MOST_VERTICES, Rotations};
@@ -18,8 +19,8 @@ pub(crate) struct MapArrays<'a> {
     pub(crate) neighbours: &'a [u16],
 }
 
-// Says whether `ends` do not fall, and the last one, or 0 if there is none, is `total`.
-fn are_cuts(ends: &[usize], total: usize) -> bool
+/// Says whether `ends` do not fall, and the last one, or 0 if there is none, is `total`.
+pub(crate) fn are_cuts(ends: &[usize], total: usize) -> bool
     ensures { IsTrue result ↔ AreCuts 0 ends.now total }
 {
     let mut from = 0;
@@ -117,4 +118,31 @@ pub(crate) fn put_front<T: Copy>(from: &[T], to: &mut [T])
 {
     let count = to.len().min(from.len());
     to[..count].copy_from_slice(&from[..count]);
+}
+
+/// Copies `from` to the front of `to`, which is no shorter.
+fn put_whole<T: Copy>(from: &[T], to: &mut [T])
+    requires { length from.now ≤ length to.old }
+    ensures { to.new ≡ from.now ++ drop (length from.now) to.old }
+{
+    to[..from.len()].copy_from_slice(from);
+}
+
+/// Copies `bounds` and `entries`, the ends and the entries of lists, to the fronts of `ends` and `neighbours`. Where one
+/// of these is too short it leaves both as they were, and returns false.
+pub(crate) fn put_lists(
+    bounds: &[usize],
+    entries: &[u16],
+    ends: &mut [usize],
+    neighbours: &mut [u16],
+) -> bool
+    ensures { MatchBool result (AreWritten bounds.now entries.now ends.old neighbours.old ends.new neighbours.new)
+        (HasNoRoom bounds.now entries.now ends.old neighbours.old × (ends.new ≡ ends.old) × (neighbours.new ≡ neighbours.old)) }
+{
+    if ends.len() < bounds.len() || neighbours.len() < entries.len() {
+        return false;
+    }
+    put_whole(bounds, ends);
+    put_whole(entries, neighbours);
+    true
 }

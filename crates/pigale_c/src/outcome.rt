@@ -1,10 +1,10 @@
 //! How a call for C ends: verdicts, refusals and failures as the number of a status and up to four numbers beside it.
 ghost use Rattle.std.specs.Prelude.{◌≡◌};
-ghost use Rattle.pigale_c.specs.Numbers.{four as four_of, none as none_of, one as one_of, two as two_of, three as three_of, refusal_answer_of, drawing_answer_of, bars_answer_of, rects_answer_of, answer_of, outcome_of};
+ghost use Rattle.pigale_c.specs.Numbers.{four as four_of, none as none_of, one as one_of, two as two_of, three as three_of, refusal_answer_of, edge_answer_of, drawing_answer_of, outer_answer_of, bars_answer_of, rects_answer_of, answer_of, outcome_of};
 
 use bar_check::BarVerdict;
 use convex_check::ConvexVerdict;
-use draw_check::Verdict;
+use draw_check::{OuterVerdict, Verdict};
 use half_edges::MapFault;
 use kuratowski::Kind;
 use map_lists::{Ends, VertexId};
@@ -12,9 +12,22 @@ use rect_check::RectVerdict;
 use refusals::{Refusal, Unserved};
 use std::alloc::AllocError;
 
+/// Why edges are not those of a simple graph. An edge goes by its number in the array, from 0.
+#[derive(Clone, Copy)]
+pub enum EdgeFault {
+    /// The edge has an end that is no vertex.
+    NoVertex(u32),
+    /// The edge joins a vertex to itself.
+    SelfLoop(u32),
+    /// The two edges join the same vertices; the lesser number comes first.
+    Twice(u32, u32),
+}
+
 /// Why a call has no answer.
 #[derive(Clone, Copy)]
 pub enum Failure {
+    /// The edges are not those of a simple graph.
+    BadEdge(EdgeFault),
     /// The record is refused for this condition.
     Refused(Refusal),
     /// There was not enough memory.
@@ -78,6 +91,8 @@ pub enum Outcome {
     Bars(BarVerdict),
     /// Rectangles were judged.
     Rects(RectVerdict),
+    /// The outer face of a drawing was judged.
+    Outer(OuterVerdict),
     /// A graph has no plane map, by a subdivision of this kind.
     NotPlanar(Kind),
 }
@@ -179,6 +194,17 @@ fn refusal_answer(refusal: Refusal) -> Answer
     }
 }
 
+// Converts a fault of edges to a status and its numbers.
+fn edge_answer(fault: EdgeFault) -> Answer
+    ensures { result ≡ edge_answer_of fault }
+{
+    match fault {
+        EdgeFault::NoVertex(i) => answer_of(20, four(i, 0, 0, 0)),
+        EdgeFault::SelfLoop(i) => answer_of(21, four(i, 0, 0, 0)),
+        EdgeFault::Twice(i, j) => answer_of(22, four(i, j, 0, 0)),
+    }
+}
+
 // Converts a verdict on a straight-line drawing to a status and its numbers.
 fn drawing_answer(verdict: Verdict) -> Answer
     ensures { result ≡ drawing_answer_of verdict }
@@ -190,6 +216,16 @@ fn drawing_answer(verdict: Verdict) -> Answer
         Verdict::Cross(e, f) => answer_of(35, ends(e, f)),
         Verdict::Turned(v) => answer_of(36, one(v)),
         Verdict::Yes => answer_of(0, none()),
+    }
+}
+
+// Converts a verdict on the outer face of a drawing to a status and its numbers.
+fn outer_answer(verdict: OuterVerdict) -> Answer
+    ensures { result ≡ outer_answer_of verdict }
+{
+    match verdict {
+        OuterVerdict::Inside(v, u) => answer_of(37, two(v, u)),
+        OuterVerdict::Yes => answer_of(0, none()),
     }
 }
 
@@ -231,6 +267,7 @@ fn outcome_answer(outcome: Outcome) -> Answer
     match outcome {
         Outcome::Served => answer_of(0, none()),
         Outcome::Failed(Failure::Refused(refusal)) => refusal_answer(refusal),
+        Outcome::Failed(Failure::BadEdge(fault)) => edge_answer(fault),
         Outcome::Failed(Failure::NoMemory) => answer_of(16, none()),
         Outcome::Failed(Failure::BadArgument) => answer_of(17, none()),
         Outcome::Drawing(verdict) => drawing_answer(verdict),
@@ -239,6 +276,7 @@ fn outcome_answer(outcome: Outcome) -> Answer
         Outcome::Convex(ConvexVerdict::Yes) => answer_of(0, none()),
         Outcome::Bars(verdict) => bars_answer(verdict),
         Outcome::Rects(verdict) => rects_answer(verdict),
+        Outcome::Outer(verdict) => outer_answer(verdict),
         Outcome::NotPlanar(Kind::K5) => answer_of(80, none()),
         Outcome::NotPlanar(Kind::K33) => answer_of(81, none()),
     }

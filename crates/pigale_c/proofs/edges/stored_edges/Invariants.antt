@@ -1,6 +1,6 @@
 use Rattle.std.proofs.Common.{◌≡◌, take, map}
 use Rattle.graphs.specs.Graphs.{edge_of}
-use Rattle.pigale_c.specs.Embedded.{edge_at}
+use Rattle.pigale_c.specs.EdgeLists.{edge_at}
 use Rattle.pigale_c.proofs.edges.stored_edges.Given as goal
 
 abbrev pub invariant-loop-edge : goal.invariant-loop-edge
