@@ -12,8 +12,8 @@
  *
  * Arrays that are not as a call takes them (a length that does not fit, an end that falls, too many vertices, a coordinate
  * out of range) are answered by PIGALE_BAD_ARGUMENT, and nothing outside them is read or written. What the caller must
- * ensure: each pointer is to as many elements as the number behind it says, is aligned, and is not null, not even for no
- * elements; an array that is written overlaps no other. Calls take memory from malloc and return all of it; they keep
+ * ensure: each pointer is to as many elements as the number behind it says, and is aligned; one to no elements may be null;
+ * an array that is written overlaps no other. Calls take memory from malloc and return all of it; they keep
  * nothing between them, so threads may call at one time. They want up to 1 MB of the stack. */
 #ifndef PIGALE_H
 #define PIGALE_H
@@ -46,7 +46,12 @@ enum {
     PIGALE_NO_INNER = 13,           /* each vertex lies on the outer face */
 
     PIGALE_NO_MEMORY = 16,          /* there was not enough memory */
-    PIGALE_BAD_ARGUMENT = 17,       /* the arrays are not what the call takes */
+    PIGALE_BAD_ARGUMENT = 17,       /* the arrays are not what the call takes, or too short for the answer */
+
+    /* Faults of edges in an array, by their numbers in it, from 0. */
+    PIGALE_EDGE_OUT_OF_RANGE = 20,  /* edge number `first` has an end that is no vertex */
+    PIGALE_EDGE_LOOP = 21,          /* edge number `first` joins a vertex to itself */
+    PIGALE_EDGE_REPEATED = 22,      /* edges number `first` and `second` join the same vertices */
 
     /* Faults of a straight-line drawing. */
     PIGALE_OUT_OF_GRID = 32,        /* `first` lies outside the grid */
@@ -54,6 +59,8 @@ enum {
     PIGALE_ON_EDGE = 34,            /* `first` lies on the edge from `second` to `third` */
     PIGALE_CROSS = 35,              /* the edges from `first` to `second` and from `third` to `fourth` cross */
     PIGALE_TURNED = 36,             /* the edges of `first` do not go clockwise round it as its list does */
+    PIGALE_INSIDE = 37,             /* the face left of the dart from `first` to `second`, another than the one that is to be
+                                     * outside, is not walked round an area above zero */
 
     /* Faults of a drawing with convex faces. */
     PIGALE_BENT = 40,               /* a face bends inwards at `second`, between `first` and `third` */
@@ -91,7 +98,7 @@ typedef struct {
     uint32_t n, m, f, c, genus;
 } pigale_counts;
 
-/* An edge of a graph, by its lesser end and then its greater; vertices are numbered from 0. */
+/* An edge of a graph, by its two ends, in either order; vertices are numbered from 0. */
 typedef struct {
     uint16_t a, b;
 } pigale_edge;
@@ -133,8 +140,7 @@ pigale_status pigale_rect(const size_t *ends, size_t vertex_count, const uint16_
 
 /* Finds a plane map of a graph and draws it by Schnyder's method in the grid from (0, 0) to (n - 2, n - 2), or finds a
  * Kuratowski witness that it has none. The graph has `vertex_count` vertices, n of them, from 3 to 255, and `edge_count`
- * edges, m of them. They come by the lesser end and then by the greater, each once; else PIGALE_BAD_ARGUMENT is the answer.
- * x and y have n entries each.
+ * edges, m of them, in any order and either way round. x and y have n entries each.
  *
  * PIGALE_OK: `ends` and `neighbours` have a map of genus zero with exactly these edges, as above, and x and y its drawing.
  * PIGALE_K5 or PIGALE_K33: they have the paths of a subdivision in the graph, in place of lists. Path i ends before entry
@@ -142,11 +148,75 @@ pigale_status pigale_rect(const size_t *ends, size_t vertex_count, const uint16_
  * 1-2, 1-3, 1-4, 2-3, 2-4 and 3-4; the nine of K3,3 join 0-3, 0-4, 0-5, 1-3, 1-4, 1-5, 2-3, 2-4 and 2-5. Each path goes
  * along edges from the one branch to the other, and two share no vertex within. x and y are left as they were.
  *
- * `ends` and `neighbours` get as many entries as they have room for. Room for n entries, and at least ten, and for 2m is
- * enough. Else the status is PIGALE_SMALL. */
+ * What lies behind the map or the paths in `ends` and `neighbours` stays. Room for n entries, and at least ten, and for 2m is
+ * enough; where there is too little for the answer, it is PIGALE_BAD_ARGUMENT, and nothing is written. Else the status is
+ * PIGALE_SMALL, or from 20 to 22. */
 pigale_status pigale_embed(uint16_t vertex_count, const pigale_edge *edges, size_t edge_count, size_t *ends,
                            size_t end_count, uint16_t *neighbours, size_t neighbour_count, int32_t *x, size_t x_count,
                            int32_t *y, size_t y_count, pigale_numbers *found);
+
+/* Finds a plane map of a graph as pigale_embed does, or a witness, and draws nothing. */
+pigale_status pigale_map_of_graph(uint16_t vertex_count, const pigale_edge *edges, size_t edge_count, size_t *ends,
+                                  size_t end_count, uint16_t *neighbours, size_t neighbour_count, pigale_numbers *found);
+
+/* Tells whether such a graph is planar: PIGALE_OK if it is, else PIGALE_K5 or PIGALE_K33, or a status as above. */
+pigale_status pigale_is_planar(uint16_t vertex_count, const pigale_edge *edges, size_t edge_count, pigale_numbers *found);
+
+/* Completes a map, as pigale_schnyder takes it, to a triangulation by edges, and orders its vertices canonically, after de
+ * Fraysseix, Pach and Pollack: order[i] is the vertex that comes as number i, and vertex 0 comes second. `full_ends` and `full` get the
+ * arrays of the triangulation: n and 6n - 12 entries, of which those that are no edges of the map were added. `order` has n
+ * entries. Else the status is from 1 to 6; where `full_ends` or `full` is too short it is PIGALE_BAD_ARGUMENT. */
+pigale_status pigale_canonical_order(const size_t *ends, size_t vertex_count, const uint16_t *neighbours,
+                                     size_t neighbour_count, uint16_t *order, size_t order_count, size_t *full_ends,
+                                     size_t full_end_count, uint16_t *full, size_t full_count, pigale_numbers *found);
+
+/* Finds a Schnyder wood of the triangulation to which pigale_canonical_order completes a map: for each vertex its parent in
+ * each of three colours, along edges of the triangulation. A root, of which there is one a colour, and which are the first,
+ * the second and the last vertex of the order, is its own parent in all three. Each array has n entries. Round each other
+ * vertex come counterclockwise the edge to its parent one, those to vertices of which it is parent three, its parent two, those
+ * of which it is one, its parent three, and those of which it is two. Else the status is from 1 to 6. */
+pigale_status pigale_schnyder_wood(const size_t *ends, size_t vertex_count, const uint16_t *neighbours,
+                                   size_t neighbour_count, uint16_t *one, size_t one_count, uint16_t *two, size_t two_count,
+                                   uint16_t *three, size_t three_count, pigale_numbers *found);
+
+/* Numbers the vertices of a map, as pigale_bars takes it, from 0 to n - 1 in an st-order: rank[0] is 0, the first neighbour of
+ * vertex 0 has n - 1, and each other vertex has a neighbour with a lesser and one with a greater number. Else the status is
+ * from 1 to 8. */
+pigale_status pigale_st_order(const size_t *ends, size_t vertex_count, const uint16_t *neighbours, size_t neighbour_count,
+                              uint16_t *rank, size_t rank_count, pigale_numbers *found);
+
+/* Draw many maps in one call, each as the call for one does, with memory that is kept from one to the next.
+ *
+ * The maps stand one behind another. Map i has the lists from number map_ends[i - 1] (0 for the first) up to map_ends[i];
+ * `ends` and `neighbours` are as for one map that has the lists of all, with `ends` that go on from map to map, but each
+ * map's vertices are numbered from 0. So x and y have an entry for each list. statuses[i] is what the call for map i alone
+ * returns, and found[i] what it writes to `found`: a map that is refused, or has too many vertices, leaves its part of x and
+ * y as it was, and the others are drawn.
+ *
+ * PIGALE_OK: each map has its status. PIGALE_BAD_ARGUMENT: `map_ends` do not cut up all lists, `ends` not all neighbours, or
+ * an array has another length, and nothing is written. PIGALE_NO_MEMORY: only some maps may have their answers. */
+pigale_status pigale_shift_many(const size_t *map_ends, size_t map_count, const size_t *ends, size_t list_count,
+                                const uint16_t *neighbours, size_t neighbour_count, int32_t *x, size_t x_count, int32_t *y,
+                                size_t y_count, pigale_status *statuses, size_t status_count, pigale_numbers *found,
+                                size_t found_count);
+
+pigale_status pigale_schnyder_many(const size_t *map_ends, size_t map_count, const size_t *ends, size_t list_count,
+                                   const uint16_t *neighbours, size_t neighbour_count, int32_t *x, size_t x_count,
+                                   int32_t *y, size_t y_count, pigale_status *statuses, size_t status_count,
+                                   pigale_numbers *found, size_t found_count);
+
+pigale_status pigale_convex_many(const size_t *map_ends, size_t map_count, const size_t *ends, size_t list_count,
+                                 const uint16_t *neighbours, size_t neighbour_count, int32_t *x, size_t x_count, int32_t *y,
+                                 size_t y_count, pigale_status *statuses, size_t status_count, pigale_numbers *found,
+                                 size_t found_count);
+
+/* Judges a straight-line drawing of edges, in any order and either way round, with vertex v at (x[v], y[v]), from 1 to 4095
+ * of them: PIGALE_OK exactly where no two vertices stand at one point, none lies on an edge of which it is no end, and no two
+ * edges without a common end cross; else the first such fault, PIGALE_SAME_PLACE, PIGALE_ON_EDGE or PIGALE_CROSS, with the
+ * least vertices. Coordinates are from -1048576 to 1048576. Edges that are not those of a simple graph have a status from 20
+ * to 22. */
+pigale_status pigale_check_drawing(const pigale_edge *edges, size_t edge_count, const int32_t *x, size_t x_count,
+                                   const int32_t *y, size_t y_count, pigale_numbers *found);
 
 /* Judges a straight-line drawing in the grid from (0, 0) to (width, height): PIGALE_OK exactly where it is plane, keeps
  * the rotations and stays in the grid; else its first fault, by the least number from 32 to 36, and of that fault the one
@@ -162,6 +232,13 @@ pigale_status pigale_check(const size_t *ends, size_t vertex_count, const uint16
 pigale_status pigale_check_convex(const size_t *ends, size_t vertex_count, const uint16_t *neighbours,
                                   size_t neighbour_count, const int32_t *x, size_t x_count, const int32_t *y,
                                   size_t y_count, int32_t width, int32_t height, pigale_numbers *found);
+
+/* Judges whether a straight-line drawing of a connected map has the face left of vertex 0's first dart outside: PIGALE_OK
+ * exactly where each other face is walked round an area above zero, else PIGALE_INSIDE with the least dart of one that is
+ * not. Of a map that is not connected, or in which vertex 0 has no neighbour, nothing is asked, and it is PIGALE_OK. */
+pigale_status pigale_check_outer(const size_t *ends, size_t vertex_count, const uint16_t *neighbours,
+                                 size_t neighbour_count, const int32_t *x, size_t x_count, const int32_t *y,
+                                 size_t y_count, pigale_numbers *found);
 
 /* Judges bars, in the arrays that pigale_bars writes, within the width from 0 to `width`, of any simple map. */
 pigale_status pigale_check_bars(const size_t *ends, size_t vertex_count, const uint16_t *neighbours, size_t neighbour_count,

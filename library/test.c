@@ -346,7 +346,12 @@ static int call_at_random(long calls)
             for (size_t b = a + 1; b < m.n; b++)
                 if (any(2)) edges[count++] = (pigale_edge){(uint16_t)a, (uint16_t)b};
         if (count && !any(3)) edges[any((uint32_t)count)].b = (uint16_t)any(12);
-        switch (any(12)) {
+        uint16_t small[3][12];
+        size_t cut[12], maps = 1 + any(3), map_ends[4];
+        for (size_t i = 0; i < maps; i++) map_ends[i] = i + 1 == maps && any(8) ? m.n : any((uint32_t)m.n + 2);
+        pigale_status statuses[4];
+        pigale_numbers founds[4];
+        switch (any(22)) {
         case 0: status = pigale_count(m.ends, m.n, m.neighbours, m.k, &all, &found); break;
         case 1: status = pigale_shift(m.ends, m.n, m.neighbours, m.k, row[0], size[0], row[1], size[1], &found); break;
         case 2: status = pigale_schnyder(m.ends, m.n, m.neighbours, m.k, row[0], size[0], row[1], size[1], &found); break;
@@ -377,6 +382,31 @@ static int call_at_random(long calls)
         case 10:
             status = pigale_embed(any(9) ? (uint16_t)m.n : (uint16_t)any(65536), edges, count, m.ends, m.n, m.neighbours, m.k,
                 row[0], size[0], row[1], size[1], &found);
+            break;
+        case 11: status = pigale_map_of_graph((uint16_t)m.n, edges, count, m.ends, m.n, m.neighbours, m.k, &found); break;
+        case 12: status = pigale_is_planar(any(9) ? (uint16_t)m.n : (uint16_t)any(65536), edges, count, &found); break;
+        case 13:
+            status = pigale_canonical_order(m.ends, m.n, m.neighbours, m.k, small[0], any(5) ? m.n : any(12), cut, any(12),
+                small[1], any(12), &found);
+            break;
+        case 14:
+            status = pigale_schnyder_wood(m.ends, m.n, m.neighbours, m.k, small[0], any(5) ? m.n : any(12), small[1],
+                any(5) ? m.n : any(12), small[2], any(5) ? m.n : any(12), &found);
+            break;
+        case 15: status = pigale_st_order(m.ends, m.n, m.neighbours, m.k, small[0], any(5) ? m.n : any(12), &found); break;
+        case 16: status = pigale_check_drawing(edges, count, row[0], size[0], row[1], size[1], &found); break;
+        case 17: status = pigale_check_outer(m.ends, m.n, m.neighbours, m.k, row[0], size[0], row[1], size[1], &found); break;
+        case 18:
+            status = pigale_shift_many(map_ends, maps, m.ends, m.n, m.neighbours, m.k, row[0], size[0], row[1], size[1],
+                statuses, maps, founds, maps);
+            break;
+        case 19:
+            status = pigale_schnyder_many(map_ends, maps, m.ends, m.n, m.neighbours, m.k, row[0], size[0], row[1], size[1],
+                statuses, maps, founds, maps);
+            break;
+        case 20:
+            status = pigale_convex_many(map_ends, maps, m.ends, m.n, m.neighbours, m.k, row[0], size[0], row[1], size[1],
+                statuses, maps, founds, maps);
             break;
         default:
             for (size_t i = 0; i < sizeof words; i++) words[i] = any(2) ? (uint8_t)any(256) : (uint8_t)"count "[any(6)];
