@@ -5,7 +5,7 @@ _pigale_words() {
         --from) echo planar_code graph6 sparse6 ascii edges adjacency matrix graphml gexf gml dot pajek json ;;
         --method) echo round tutte schnyder shift convex bars rect ;;
         --labels) echo names numbers none ;;
-        --style) echo equilateral faces round tutte ;;
+        --style) echo equilateral faces dual round tutte ;;
     esac
 }
 
@@ -19,7 +19,7 @@ _pigale() {
     [ "$word" = = ] && word=
     case $before in
         --form) COMPREPLY=($(compgen -W "text svg" -- "$word")); return ;;
-        --size | --number | --side | --figure | --scale | --outer | -j) return ;;
+        --size | --number | --side | --figure | --outer | --mark | -j) return ;;
         --to | --from | --method | --labels | --style) COMPREPLY=($(compgen -W "$(_pigale_words "$before")" -- "$word")); return ;;
         -o | --output) compopt -o default; return ;;
     esac
@@ -32,7 +32,7 @@ _pigale() {
     done
     case $job in
         "") options="count shift schnyder bars convex rect embed gen verify draw check picture page all recode make" ;;
-        draw) options="-o --to --from --method --outer --style --labels --side"; [[ $word == -* ]] || compopt -o default ;;
+        draw) options="-o --to --from --method --outer --style --labels --mark --dual --side"; [[ $word == -* ]] || compopt -o default ;;
         check) options="--scale"; [[ $word == -* ]] || compopt -o default ;;
         picture) options="--figure --side --no-numbers --style" ;;
         page) options="count shift schnyder bars convex rect embed verify --to --side --no-numbers --style" ;;

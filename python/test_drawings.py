@@ -311,6 +311,21 @@ class Writers(unittest.TestCase):
             self.assertEqual({element.text for element in root.iter(f"{SVG}text")}, wanted)
         self.assertIn("judged plane by the proved program", root.find(f"{SVG}title").text)
 
+    def test_marked_vertices_and_the_dual(self):
+        root = ElementTree.fromstring(written([self.drawn], "svg", Look(marked=["ann", "bob", "dan"])))
+        red = pigale.pictures.STYLE["light"]["even"]
+        groups = [group for group in root.iter(f"{SVG}g") if red in (group.get("stroke"), group.get("fill"))]
+        self.assertEqual(sum(len(group.findall(f"{SVG}line")) for group in groups), 2)
+        self.assertEqual(sum(len(group.findall(f"{SVG}circle")) for group in groups), 3)
+        with self.assertRaisesRegex(ValueError, "no vertex is called zoe"):
+            written([self.drawn], "svg", Look(marked=["zoe"]))
+        (figure,) = pigale.draw([pigale.prism(4)], "convex")
+        root = ElementTree.fromstring(pigale.picture(figure, style="dual"))
+        lines = list(root.iter(f"{SVG}polyline"))
+        # over each of the twelve edges, of which four are those of the outer face
+        self.assertEqual(len(lines), 12)
+        self.assertIn("pigale-odd", tikz(figure, style="dual"))
+
     def test_tikz(self):
         self.assertEqual(escaped("a_b & 5% of {x} \\ ~^#$"), r"a\_b \& 5\% of \{x\} \textbackslash{} \textasciitilde{}\textasciicircum{}\#\$")
         figures = [*pigale.draw([pigale.prism(4)], "convex"), *pigale.draw([pigale.prism(4)], "bars"), *pigale.draw([pigale.quadrangle(3, 3)], "rect"), *pigale.embed(["D~{", "EFz_"])]

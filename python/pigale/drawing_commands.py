@@ -34,6 +34,8 @@ def add_commands(add: Callable[[str, Callable[[argparse.Namespace], int], str], 
     drawn.add_argument("--outer", metavar="V,U,W", help="names of vertices on the outer face, or largest")
     drawn.add_argument("--style", metavar="WORDS", default="", help=f"joined by commas: {', '.join(STYLES)}, and round or tutte, as --method has them")
     drawn.add_argument("--labels", choices=LABELS, default="names", help="of vertices in pictures; the numbers from 1 where a graph has no names")
+    drawn.add_argument("--mark", metavar="V,U,W", default="", help="names of vertices in another colour, with the edges between two that follow each other")
+    drawn.add_argument("--dual", action="store_true", help="lay the dual over a straight-line drawing")
     drawn.add_argument("--side", metavar="N", type=float, help="the longer side of a picture, in pixels")
     made = add("make", _make, "writes planar_code of a made map")
     made.add_argument("maker", metavar="MAP", choices=sorted(MAKERS), help="; ".join(f"{name} {' '.join(words)}" for name, (_, words) in sorted(MAKERS.items())))
@@ -43,7 +45,8 @@ def add_commands(add: Callable[[str, Callable[[argparse.Namespace], int], str], 
 def _draw(arguments: argparse.Namespace) -> int:
     words = [word for word in arguments.style.split(",") if word]
     method = next((word for word in words if word in ("round", "tutte")), arguments.method)
-    look = Look(arguments.labels, [word for word in words if word not in ("round", "tutte")], arguments.side)
+    styles = [word for word in words if word not in ("round", "tutte")] + ["dual"] * arguments.dual
+    look = Look(arguments.labels, styles, arguments.side, [name.strip() for name in arguments.mark.split(",") if name.strip()])
     form = _form_of(arguments)
     graphs: List[Named] = []
     for name in arguments.files or ["-"]:

@@ -10,7 +10,7 @@ import os
 import unicodedata
 from collections.abc import Sequence as SequenceType
 from dataclasses import dataclass
-from typing import Any, Callable, Dict, FrozenSet, Iterable, List, Mapping, Optional, Sequence, Set, Tuple, Union
+from typing import Any, Callable, Dict, FrozenSet, Iterable, List, Mapping, Optional, Sequence, Set, Tuple, Union, cast
 
 from .formats import (FIGURES, GRID_JOBS, BarFigure, Edge, Figure, GridFigure, Lists, RectFigure, WitnessFigure, join_words,
                       read_graph6)
@@ -24,7 +24,7 @@ Labels = Union[bool, Sequence[Any], Mapping[int, Any]]
 
 with open(os.path.join(os.path.dirname(os.path.abspath(__file__)), "style.json"), encoding="ascii") as _file:
     STYLE: Dict[str, Any] = json.load(_file)
-STYLES = ("equilateral", "faces")
+STYLES = ("equilateral", "faces", "dual")
 UNIT = 400  # the sizes of style.json are for a picture whose longer side is this
 DIGIT = 0.6  # the width of a digit, in its height
 MOST_WITHIN = 1.3  # the width of a label within a dot, in its height
@@ -34,13 +34,24 @@ MOST_WITHIN = 1.3  # the width of a label within a dot, in its height
 class Look:
     """How a picture is to look: its longer side, whether it has labels and which, its styles, and how it names its colours.
 
-    Without `names` the labels are the numbers of the vertices.
+    Without `names` the labels are the numbers of the vertices. The vertices `marked`, and the edges between two that follow
+    each other there, have another colour.
     """
     side: float
     labels: bool
     styles: FrozenSet[str]
     paint: Callable[..., str]
     names: Tuple[str, ...] = ()
+    marked: Tuple[int, ...] = ()
+
+    def marked_edges(self, edges: Sequence[Edge]) -> List[Edge]:
+        """The edges that join two marked vertices which follow each other."""
+        pairs = {frozenset(pair) for pair in zip(self.marked, self.marked[1:])}
+        return [edge for edge in edges if frozenset(edge) in pairs]
+
+    def colours(self, count: int) -> List[str]:
+        """The colour of each vertex."""
+        return ["even" if v in self.marked else "dot" for v in range(1, count + 1)]
 
     def label(self, v: int) -> str:
         """What vertex v is called."""
@@ -81,7 +92,7 @@ def text_width(text: str) -> float:
     return width
 
 
-def picture(figure: Figure, side: Optional[float] = None, labels: Labels = True, style: Style = ()) -> str:
+def picture(figure: Figure, side: Optional[float] = None, labels: Labels = True, style: Style = (), marked: Sequence[int] = ()) -> str:
     """A figure as one SVG document on a white ground, as text.
 
     `side` is the length of the longer side in pixels, by default 400 to 1000 by the number of vertices; of bars it is
@@ -92,14 +103,16 @@ def picture(figure: Figure, side: Optional[float] = None, labels: Labels = True,
 
     `style` has words, as a list or joined by commas. "equilateral" maps the triangle of a drawing by `shift`,
     `schnyder` or `convex` to one with three like sides. The map is affine, so edges stay straight, and no crossing and
-    no bend of a face comes or goes. "faces" fills the inner faces of these drawings by their lengths. Bars,
-    rectangles and witnesses are drawn the same with and without.
+    no bend of a face comes or goes. "faces" fills the inner faces of these drawings by their lengths. "dual" lays the dual
+    over them: a dot in each inner face, joined over each edge to the next. Bars, rectangles and witnesses are drawn the
+    same with and without. The vertices `marked` of a straight-line drawing have another colour, and so have the edges
+    between two that follow each other there, as on a path.
 
     A witness has its branch vertices in two rows (K3,3) or on a circle (K5), and the other edges of its graph thin: it
     is no drawing without crossings. Raises ValueError where the figure names a vertex that it does not have, where it
     is no figure (a refusal, say), and where a word of the style is none.
     """
-    width, height, body = sketch(figure, side, labels, style, plain)
+    width, height, body = sketch(figure, side, labels, style, plain, marked)
     return (f'<svg xmlns="http://www.w3.org/2000/svg" viewBox="0 0 {width} {height}" width="{width}" '
             f'height="{height}">\n<rect width="{width}" height="{height}" {plain(fill="ground")}/>\n{body}</svg>\n')
 
@@ -142,14 +155,14 @@ def require_look(side: Optional[float], labels: Labels) -> None:
         raise ValueError(f"the longer side of a picture is from 1 to 100000 pixels, not {side}")
 
 
-def sketch(figure: Figure, side: Optional[float], labels: Labels, style: Style, paint: Callable[..., str]) -> Sketch:
+def sketch(figure: Figure, side: Optional[float], labels: Labels, style: Style, paint: Callable[..., str], marked: Sequence[int] = ()) -> Sketch:
     """The width and the height of a picture in pixels, and what is in it. Raises ValueError as `picture` does."""
     if not isinstance(figure, FIGURES):
         raise ValueError(f"there is a picture of a figure, and not of {type(figure).__name__}: {str(figure)[:80]}")
     require_look(side, labels)
     try:
         count = read_graph6(figure.graph6)[0] if isinstance(figure, WitnessFigure) else len(figure.lists)
-        look = Look(side or default_side(count), labels is not False, styles_of(style), paint, label_names(labels, count))
+        look = Look(side or default_side(count), labels is not False, styles_of(style), paint, label_names(labels, count), tuple(marked))
         if isinstance(figure, BarFigure):
             return _bar_sketch(figure, look)
         if isinstance(figure, RectFigure):
@@ -173,8 +186,49 @@ def _grid_sketch(figure: GridFigure, look: Look) -> Sketch:
     dots, box = _placed(straight_places(figure, look), look)
     edges = edges_of(figure.lists)
     body = _faces(figure, dots, look) if "faces" in look.styles else []
-    body += _lines([(dots[v - 1], dots[u - 1]) for v, u in edges], look.size("line", len(dots)), "line", look)
-    return _framed(box, body, *_dots(dots, figure.lists, edges, look), look)
+    width, marked = look.size("line", len(dots)), look.marked_edges(edges)
+    body += _lines([(dots[v - 1], dots[u - 1]) for v, u in edges if (v, u) not in marked], width, "line", look)
+    body += _lines([(dots[v - 1], dots[u - 1]) for v, u in marked], 2 * width, "even", look)
+    body += _dual(figure, dots, look) if "dual" in look.styles else []
+    return _framed(box, body, *_dots(dots, figure.lists, edges, look, look.colours(len(dots)) if look.marked else None), look)
+
+
+def dual_lines(figure: GridFigure, dots: Sequence[Dot], reach: float) -> Tuple[List[Dot], List[List[Dot]]]:
+    """The middles of the inner faces of a drawing, and for each edge at one of them the line over it to what is beyond.
+
+    Beyond an edge of the outer face it ends outside, at most `reach` from it. Lists that are no map have no faces.
+    """
+    try:
+        faces = faces_of(figure.lists)
+    except KeyError:
+        faces = []
+    middles: Dict[Edge, Dot] = {}
+    found: List[Dot] = []
+    for face in faces:
+        corners = [figure.places[v - 1] for v in face]
+        if sum(x1 * y2 - x2 * y1 for (x1, y1), (x2, y2) in zip(corners, corners[1:] + corners[:1])) > 0:
+            spots = [dots[v - 1] for v in face]
+            middle = (sum(x for x, _ in spots) / len(spots), sum(y for _, y in spots) / len(spots))
+            found.append(middle)
+            middles.update(dict.fromkeys(zip(face, face[1:] + face[:1]), middle))
+    lines = []
+    for (v, u), middle in middles.items():
+        half = ((dots[v - 1][0] + dots[u - 1][0]) / 2, (dots[v - 1][1] + dots[u - 1][1]) / 2)
+        if (u, v) not in middles:
+            beyond = math.dist(half, middle) or 1.0
+            lines.append([middle, half, tuple(half[k] + (half[k] - middle[k]) / beyond * min(beyond, reach) for k in (0, 1))])
+        elif v < u:
+            lines.append([middle, half, middles[u, v]])
+    return found, cast(List[List[Dot]], lines)
+
+
+def _dual(figure: GridFigure, dots: List[Dot], look: Look) -> List[str]:
+    """The dual of a drawing, laid over it."""
+    middles, lines = dual_lines(figure, dots, 14 * look.scale)
+    body = [f'<g fill="none" {look.paint(stroke="odd")} stroke-width="{_n(look.size("line", len(dots)))}" stroke-linecap="round">']
+    body += [f'<polyline points="{" ".join(f"{_n(x)},{_n(y)}" for x, y in line)}"/>' for line in lines] + ["</g>"]
+    radius = _n(0.6 * look.size("dot", len(dots)))
+    return [*body, f'<g {look.paint(fill="odd")}>', *(f'<circle cx="{_n(x)}" cy="{_n(y)}" r="{radius}"/>' for x, y in middles), "</g>"]
 
 
 def straight_places(figure: GridFigure, look: Look) -> Sequence[Dot]:

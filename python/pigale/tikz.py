@@ -3,7 +3,7 @@ from typing import List, Sequence
 
 from .formats import BarFigure, Figure, GridFigure, RectFigure, WitnessFigure, read_graph6
 from .maps import edges_of, faces_of, witness_graph
-from .pictures import STYLE, Dot, Labels, Look, Style, label_names, straight_places, styles_of, tints_of, witness_places
+from .pictures import STYLE, Dot, Labels, Look, Style, dual_lines, label_names, straight_places, styles_of, tints_of, witness_places
 
 WIDTH = 8.0  # of a picture's longer side, in centimetres
 COLOURS = ("line", "thin", "dot", "even", "odd", *(f"tint-{k}" for k in range(6)), *(f"face-{k}" for k in range(3, 11)), "face-more")
@@ -15,15 +15,15 @@ HEAD = r"""\documentclass[tikz,border=4pt]{standalone}
 """
 
 
-def tikz(figure: Figure, labels: Labels = True, style: Style = (), width: float = WIDTH) -> str:
+def tikz(figure: Figure, labels: Labels = True, style: Style = (), width: float = WIDTH, marked: Sequence[int] = ()) -> str:
     """A figure as one `tikzpicture`, whose longer side is `width` centimetres.
 
-    `labels` and `style` are as for `picture`. The document needs the package tikz and the lines of `tikz_colours`. Raises
+    `labels`, `style` and `marked` are as for `picture`. The document needs the package tikz and the lines of `tikz_colours`. Raises
     ValueError as `picture` does.
     """
     try:
         count = read_graph6(figure.graph6)[0] if isinstance(figure, WitnessFigure) else len(figure.lists)
-        look = Look(1, labels is not False, styles_of(style), lambda **_: "", label_names(labels, count))
+        look = Look(1, labels is not False, styles_of(style), lambda **_: "", label_names(labels, count), tuple(marked))
         if isinstance(figure, BarFigure):
             body = _bars(figure, look, width)
         elif isinstance(figure, RectFigure):
@@ -94,8 +94,14 @@ def _straight(figure: GridFigure, look: Look, width: float) -> List[str]:
             if sum(x1 * y2 - x2 * y1 for (x1, y1), (x2, y2) in zip(corners, corners[1:] + corners[:1])) > 0:
                 colour = f"face-{len(face)}" if len(face) <= 10 else "face-more"
                 lines.append(f"\\fill[pigale-{colour}] {' -- '.join(map(_at, corners))} -- cycle;")
-    lines += [f"\\draw[edge] {_at(dots[u - 1])} -- {_at(dots[v - 1])};" for u, v in edges_of(figure.lists)]
-    return lines + _vertices(dots, look)
+    edges = edges_of(figure.lists)
+    marked = look.marked_edges(edges)
+    for u, v in edges:
+        colour = "[edge, draw=pigale-even, very thick]" if (u, v) in marked else "[edge]"
+        lines.append(f"\\draw{colour} {_at(dots[u - 1])} -- {_at(dots[v - 1])};")
+    if "dual" in look.styles:
+        lines += [f"\\draw[draw=pigale-odd] {' -- '.join(map(_at, line))};" for line in dual_lines(figure, dots, 0.04 * width)[1]]
+    return lines + _vertices(dots, look, look.colours(len(dots)))
 
 
 def _bars(figure: BarFigure, look: Look, width: float) -> List[str]:

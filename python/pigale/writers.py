@@ -24,10 +24,19 @@ XMLNS = "http://graphml.graphdrawing.org/xmlns"
 
 
 class Look:
-    """How drawings are to be shown: their labels by a word of `LABELS`, their styles, and the longer side of a picture in pixels."""
+    """How drawings are to be shown: their labels by a word of `LABELS`, their styles, the longer side of a picture in pixels,
+    and names of vertices that have another colour, as have the edges between two that follow each other there."""
 
-    def __init__(self, labels: str = "names", style: Style = (), side: Optional[float] = None) -> None:
-        self.labels, self.style, self.side = labels, style, side
+    def __init__(self, labels: str = "names", style: Style = (), side: Optional[float] = None, marked: Sequence[Any] = ()) -> None:
+        self.labels, self.style, self.side, self.marked = labels, style, side, marked
+
+    def marked_of(self, drawn: Drawn) -> List[int]:
+        """The marked vertices of a drawing by their numbers. Raises ValueError where a name is none of its vertices'."""
+        numbers = {str(name): v for v, name in enumerate(drawn.graph.names, 1)}
+        for name in self.marked:
+            if str(name) not in numbers:
+                raise ValueError(f"{drawn.graph.source}: no vertex is called {name}")
+        return [numbers[str(name)] for name in self.marked]
 
     def labels_of(self, drawn: Drawn) -> Labels:
         """The labels of a drawing, as `picture` takes them."""
@@ -51,7 +60,7 @@ def written(drawings: Sequence[Drawn], form: str, look: Look) -> bytes:
     if form == "txt":
         return "".join(f"{_numbered(drawn, k)}\n" for k, drawn in enumerate(shown, 1)).encode("ascii", "surrogateescape")
     if form == "tex":
-        return tikz_document([f"% {drawn.said()}\n{tikz(_figure(drawn), look.labels_of(drawn), look.style)}" for drawn in shown]).encode()
+        return tikz_document([f"% {drawn.said()}\n{tikz(_figure(drawn), look.labels_of(drawn), look.style, marked=look.marked_of(drawn))}" for drawn in shown]).encode()
     if not shown:
         raise ValueError("there is nothing to draw")
     if form == "graphml":
@@ -77,7 +86,7 @@ def _numbered(drawn: Drawn, number: int) -> str:
 
 def svg_of(drawn: Drawn, look: Look) -> str:
     """The picture of a drawing, which says by its title what it is and that it was judged."""
-    first, rest = picture(_figure(drawn), look.side, look.labels_of(drawn), look.style).split("\n", 1)
+    first, rest = picture(_figure(drawn), look.side, look.labels_of(drawn), look.style, look.marked_of(drawn)).split("\n", 1)
     return f"{first}\n<title>{html.escape(drawn.said(), False)}</title>\n{rest}"
 
 
