@@ -11,7 +11,7 @@ from .kinds import looks_like
 from .library import library
 from .maps import rotations_of
 from .runs import run
-from .typed import FARTHEST, checked
+from .typed import FARTHEST, checked, checked_edges, has_edge_check
 
 Places = Union[Mapping[Any, Sequence[float]], Sequence[Sequence[float]]]
 Rotations = Mapping[Any, Iterable[Any]]
@@ -95,7 +95,8 @@ def _prepared(places: Places, edges: Iterable[Sequence[Any]],
     These make the map disconnected, so that the outer face is not asked, and they widen the grid, which is 2N - 4 by
     N - 2 for N vertices.
     """
-    points, lists, names = _placed(places, edges, rotations)
+    points, pairs, names = _paired(places, edges)
+    lists = _lists(points, pairs, names, rotations)
     width = max((x for x, _ in points), default=0)
     height = max((y for _, y in points), default=0)
     count = max(len(points) + 1, _vertices_for(width, height))
@@ -108,29 +109,41 @@ def _prepared(places: Places, edges: Iterable[Sequence[Any]],
 
 def _judged(path: str, places: Places, edges: Iterable[Sequence[Any]], rotations: Optional[Rotations] = None) -> Checked:
     """The verdict of the library at a path on a drawing."""
-    points, lists, names = _placed(places, edges, rotations)
+    points, pairs, names = _paired(places, edges)
     size = max((max(point) for point in points), default=0)
     if len(points) > MOST_VERTICES or size > FARTHEST:
         raise ValueError(f"{len(points)} vertices on a grid of {size}: at most {MOST_VERTICES} vertices within {FARTHEST} by {FARTHEST} can be judged")
-    name, vertices = checked(path, lists, points, size, size) if points else ("yes", ())
+    if not points:
+        return Checked("yes")
+    if rotations is None and has_edge_check(path):
+        name, vertices = checked_edges(path, [(u - 1, v - 1) for u, v in pairs], points)
+    else:
+        name, vertices = checked(path, _lists(points, pairs, names, rotations), points, size, size)
     return Checked(name, tuple(names[v - 1] for v in vertices))
 
 
-def _placed(places: Places, edges: Iterable[Sequence[Any]],
-            rotations: Optional[Rotations] = None) -> Tuple[List[Place], Lists, List[Any]]:
-    """The points of a drawing from (0, 0) on, the lists of the map that it shows or has to keep, and the names of its vertices."""
+def _paired(places: Places, edges: Iterable[Sequence[Any]]) -> Tuple[List[Place], List[Edge], List[Any]]:
+    """The points of a drawing from (0, 0) on, its edges by the numbers of their ends, and the names of its vertices."""
     named = _named(places)
     names = list(named)
     number = {name: v for v, name in enumerate(names, 1)}
-    points = _fitted([(_whole(x, name), _whole(y, name)) for name, (x, y) in named.items()])
-    pairs = [(_number(number, u), _number(number, v)) for u, v in map(pair_of, edges)]
+    points = _fitted([(x if type(x) is int else _whole(x, name), y if type(y) is int else _whole(y, name)) for name, (x, y) in named.items()])
+    given = list(edges)
+    try:
+        return points, [(number[u], number[v]) for u, v in given], names
+    except (KeyError, TypeError, ValueError):
+        return points, [(_number(number, u), _number(number, v)) for u, v in map(pair_of, given)], names
+
+
+def _lists(points: List[Place], pairs: List[Edge], names: List[Any], rotations: Optional[Rotations]) -> Lists:
+    """The lists of the map that a drawing shows, or those that it has to keep."""
     if rotations is None:
-        lists = rotations_of(points, pairs)
-    else:
-        lists = [[_number(number, u) for u in rotations.get(name, ())] for name in names]
-        if {frozenset(pair) for pair in pairs} != {frozenset((v, u)) for v, us in enumerate(lists, 1) for u in us}:
-            raise ValueError("the rotations have other edges than the drawing")
-    return points, lists, names
+        return rotations_of(points, pairs)
+    number = {name: v for v, name in enumerate(names, 1)}
+    lists = [[_number(number, u) for u in rotations.get(name, ())] for name in names]
+    if {frozenset(pair) for pair in pairs} != {frozenset((v, u)) for v, us in enumerate(lists, 1) for u in us}:
+        raise ValueError("the rotations have other edges than the drawing")
+    return lists
 
 
 def _named(places: Places) -> Dict[Any, Tuple[float, float]]:

@@ -18,7 +18,7 @@ CHECKS = {0: ("yes", 0), 1: ("OutOfRange", 2), 2: ("Loop", 1), 3: ("Repeated", 2
           34: ("OnEdge", 3), 35: ("Cross", 4), 36: ("Turned", 1)}  # the name of each verdict, and how many numbers it has
 CONDITIONS = {number: (name, count) for name, (number, count) in REFUSALS.items()}
 NO_MEMORY, K5, K33 = 16, 80, 81
-ARRAYS = {"check": 4, "shift": 4, "schnyder": 4, "convex": 4, "bars": 6, "rect": 6}  # that each call takes
+ARRAYS = {"check": 4, "check_drawing": 3, "shift": 4, "schnyder": 4, "convex": 4, "bars": 6, "rect": 6}  # that each call takes
 _SIZE, _POINTER = ctypes.c_size_t, ctypes.c_void_p
 _ENDS = "Q" if ctypes.sizeof(_SIZE) == 8 else "L"
 
@@ -71,6 +71,22 @@ def checked(path: str, lists: Map, places: Sequence[Place], width: int, height: 
     given, found = Map16(lists), array("I", bytes(16))
     xs, ys = array("i", [x for x, _ in places]), array("i", [y for _, y in places])
     status = _call(path, "check")(*_words(given.ends, given.neighbours, xs, ys), width, height, found.buffer_info()[0])
+    _refuse(status)
+    name, count = CHECKS[status]
+    return name, tuple(number + 1 for number in found[:count])
+
+
+def has_edge_check(path: str) -> bool:
+    """Whether the library at a path judges drawings by their edges alone; older ones want lists."""
+    return hasattr(loaded(path), "pigale_check_drawing")
+
+
+def checked_edges(path: str, edges: Sequence[Edge], places: Sequence[Place]) -> Tuple[str, Tuple[int, ...]]:
+    """The verdict of the library on a straight-line drawing of edges, as pairs of numbers from 0 in any order."""
+    flat, found = array("H", [end for edge in edges for end in edge]), array("I", bytes(16))
+    xs, ys = array("i", [x for x, _ in places]), array("i", [y for _, y in places])
+    address = flat.buffer_info()[0] or _SOME.buffer_info()[0]
+    status = _call(path, "check_drawing")(address, len(edges), *_words(xs, ys), found.buffer_info()[0])
     _refuse(status)
     name, count = CHECKS[status]
     return name, tuple(number + 1 for number in found[:count])
