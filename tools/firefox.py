@@ -1,4 +1,4 @@
-"""Drives a page in headless Firefox by its remote protocol on this machine, as `chromium` does in Chromium: scripts and pictures."""
+"""Drives a page in headless Firefox by its remote protocol, on this machine alone: runs scripts, and keeps what is seen."""
 import base64
 import json
 import os
@@ -26,7 +26,8 @@ class Page:
             port = free.getsockname()[1]
         with open(f"{self.folder}/user.js", "w", encoding="utf-8") as file:
             file.write(f'user_pref("marionette.port", {port});\n')
-        words = [found(), "--headless", "--marionette", "--profile", self.folder, "--no-remote", f"--width={width}", f"--height={height}"]
+        words = [found(), "--headless", "--marionette", "--no-remote", "--profile", self.folder,
+                 f"--width={width}", f"--height={height}"]
         quiet = {"stdin": subprocess.DEVNULL, "stdout": subprocess.DEVNULL, "stderr": subprocess.DEVNULL}
         self.process = subprocess.Popen(words, env={**os.environ, "HOME": self.folder}, **quiet)
         self.socket, self.number = self._joined(port), 0
@@ -93,9 +94,11 @@ class Page:
             delete document.documentElement.dataset.said;
             document.head.append(element);
             element.remove();
-            const look = () => document.documentElement.dataset.said ? done(document.documentElement.dataset.said) : setTimeout(look, 5);
+            const said = document.documentElement.dataset;
+            const look = () => said.said ? done(said.said) : setTimeout(look, 5);
             look();"""
-        said = json.loads(self.ask("WebDriver:ExecuteAsyncScript", script=wrapped, args=[], scriptTimeout=SECONDS * 1000)["value"])
+        asked = {"script": wrapped, "args": [], "scriptTimeout": SECONDS * 1000}
+        said = json.loads(self.ask("WebDriver:ExecuteAsyncScript", **asked)["value"])
         if "fault" in said:
             raise RuntimeError(said["fault"])
         return said.get("value")

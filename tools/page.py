@@ -76,7 +76,8 @@ def bundle(top):
 
 def style_module():
     """Returns web/src/style.js, which has the style of pictures for scripts."""
-    return f"// Colours and sizes of pictures: what python/pigale/style.json has. tools/web --anew makes this file.\n\nexport const STYLE = {text_of(STYLE).strip()};\n"
+    head = "// Colours and sizes of pictures: what python/pigale/style.json has. tools/web --anew makes this file."
+    return f"{head}\n\nexport const STYLE = {text_of(STYLE).strip()};\n"
 
 
 def samples():

@@ -6,20 +6,24 @@ from page import encoded
 ICOSAHEDRON = "#g6=K%7CfJ%40cXBIK_%5E"
 CUBE = "1-2-3-4-1, 5-6-7-8-5, 1-5, 2-6, 3-7, 4-8"
 NOT_PLANAR = "ann-bob, ann-eve, ann-kim, dan-bob, dan-eve, dan-kim, joe-bob, joe-eve, joe-zoe, zoe-kim"
+SQUARE = ("ab", "bc", "cd", "da")
+LINKS = "".join(f'<edge source="{v}" target="{u}"/>' for v, u in SQUARE)
 FILES = {
     "edges.txt": "# a square\na b\nb c\nc d\nd a\n",
     "matrix.txt": "0 1 0 1\n1 0 1 0\n0 1 0 1\n1 0 1 0\n",
     "lists.txt": "a: b d\nb: c\nc: d\n",
     "square.s6": ":Cda\n",
     "square.dot": "graph { a -- b -- c -- d -- a }",
-    "square.graphml": "<graphml><graph>" + "".join(f"<edge source='{e[0]}' target='{e[1]}'/>" for e in ("ab", "bc", "cd", "da")) + "</graph></graphml>",
-    "square.json": json.dumps({"nodes": [{"id": v} for v in "abcd"], "links": [{"source": v, "target": u} for v, u in ("ab", "bc", "cd", "da")]}),
+    "square.graphml": f"<graphml><graph>{LINKS}</graph></graphml>",
+    "square.json": json.dumps({"nodes": [{"id": v} for v in "abcd"], "links": [{"source": v, "target": u} for v, u in SQUARE]}),
 }
+FACTS = "$('facts').textContent"
+OUTSIDE = "page.study.map.faces[0].map((v) => page.study.map.names[v - 1]).sort().join()"
 DRAWN = "[...document.querySelectorAll('.view')].every((it) => it.classList.contains('refused') || it.querySelector('svg'))"
 
 
 def has_calls(page):
-    """Says whether the page's module has the calls that a sheet is made of, and whether it has those of what is inside too."""
+    """Says whether the page's module has the calls that a sheet is made of, and those of what is inside besides."""
     return page.run("[hasSheet(), page.calls.has('canonical_order') && page.calls.has('schnyder_wood')]")
 
 
@@ -33,13 +37,14 @@ def show(page, link):
 
 def type_text(page, text):
     """Types a text into the box, and waits until it is answered."""
-    page.run(f"[page.study = null, $('typed').textContent = '', $('input').open = true, $('paste').value = {json.dumps(text)}, $('paste').oninput()].length")
+    page.run("[page.study = null, $('typed').textContent = '', $('input').open = true].length")
+    page.run(f"[$('paste').value = {json.dumps(text)}, $('paste').oninput()].length")
     page.wait("page.study || $('typed').textContent")
     page.run("Boolean(page.study && drawViews())")
 
 
 def place_of(page, view, script):
-    """Returns the place in the window of what a script finds as a place in a view's picture; `scene` and `map` are its own."""
+    """Returns where in the window stands what a script finds in a view's picture; `scene` and `map` are its own."""
     return page.run(f"""(() => {{
         const card = cardOf("{view}");
         card.scrollIntoView({{ block: "center" }});
@@ -48,13 +53,15 @@ def place_of(page, view, script):
         const box = card.querySelector("svg").getBoundingClientRect();
         const unit = Math.max(card.size.width / box.width, card.size.height / box.height);
         const [x, y] = {script};
-        return [box.left + (box.width - card.size.width / unit) / 2 + x / unit, box.top + (box.height - card.size.height / unit) / 2 + y / unit];
+        const [left, top] = [(box.width - card.size.width / unit) / 2, (box.height - card.size.height / unit) / 2];
+        return [box.left + left + x / unit, box.top + top + y / unit];
     }})()""")
 
 
 def middle_of(face):
     """Returns a script that finds the middle of a face."""
-    return f"[0, 1].map((k) => map.faces[{face}].reduce((sum, v) => sum + scene.spots[v - 1][k], 0) / map.faces[{face}].length)"
+    walk = f"map.faces[{face}]"
+    return f"[0, 1].map((k) => {walk}.reduce((sum, v) => sum + scene.spots[v - 1][k], 0) / {walk}.length)"
 
 
 def is_true(page, what, script):
@@ -64,23 +71,24 @@ def is_true(page, what, script):
 
 
 def test_link(page):
-    """A link opens a graph with its outer face, its vertex, its step and its view in front, and what is shown is in the address."""
+    """A link opens a graph with its vertex, its step and its view in front, and what is shown is in the address."""
     show(page, ICOSAHEDRON + "&show=schnyder&at=8&step=3&look=wood")
-    is_true(page, "the facts", "$('facts').textContent.startsWith('12 vertices, 30 edges, 20 faces; planar; three-connected')")
+    is_true(page, "the facts", f"{FACTS}.startsWith('12 vertices, 30 edges, 20 faces; planar; three-connected')")
     is_true(page, "six views", "document.querySelectorAll('.view').length === 6")
     is_true(page, "one is in front", "document.querySelector('.view.front').dataset.view === 'schnyder'")
     is_true(page, "the vertex is told", "$('told').textContent.startsWith('Vertex 8: 5 neighbours')")
     is_true(page, "the counts are told", "/regions have/.test(cardOf('schnyder').querySelector('.said').textContent)")
-    is_true(page, "the address has it all", "['show=schnyder', 'at=8', 'step=3', 'look=wood'].every((it) => location.hash.includes(it))")
+    for word in ("show=schnyder", "at=8", "step=3", "look=wood"):
+        is_true(page, f"the address has {word}", f"location.hash.includes('{word}')")
     is_true(page, "judged", "cardOf('round').querySelector('.said').textContent === 'judged: yes'")
 
 
 def test_faces(page):
     """A click on a face puts it outside, in all views, and the buttons put the longest or the given one there."""
     show(page, ICOSAHEDRON)
-    wanted = page.run("page.study.map.faces[7].map((v) => page.study.map.names[v - 1]).sort().join()")
+    wanted = page.run(OUTSIDE.replace("faces[0]", "faces[7]"))
     page.click(*place_of(page, "round", middle_of(7)))
-    is_true(page, "the face lies outside", f"page.study.map.faces[0].map((v) => page.study.map.names[v - 1]).sort().join() === '{wanted}'")
+    is_true(page, "the face lies outside", f"{OUTSIDE} === '{wanted}'")
     is_true(page, "the link says so", "location.hash.includes('out=')")
     page.run("$('given').click()")
     is_true(page, "the given face is back", "!location.hash.includes('out=')")
@@ -93,13 +101,14 @@ def test_pointer(page):
     show(page, ICOSAHEDRON)
     page.mouse("mouseMoved", *place_of(page, "round", "scene.spots[4]"))
     is_true(page, "the vertex is told", "$('told').textContent.startsWith('Vertex')")
-    is_true(page, "it is marked in each view", "[...document.querySelectorAll('g.mark')].every((it) => it.querySelectorAll('line').length === 5)")
+    lines = "[...document.querySelectorAll('g.mark')].map((it) => it.querySelectorAll('line').length)"
+    is_true(page, "it is marked in each view", f"{lines}.every((count) => count === 5)")
     page.mouse("mouseMoved", *place_of(page, "round", middle_of(9)))
     is_true(page, "the face is told", "$('told').textContent.startsWith('Face of 3')")
 
 
 def test_drag(page):
-    """A vertex that is dragged is judged at each move, the first fault is named and painted, and the moves can be undone."""
+    """A vertex that is dragged is judged at each move, the first fault is named, and the moves can be undone."""
     show(page, ICOSAHEDRON)
     inner = "page.study.map.names.findIndex((_, k) => !page.study.map.faces[0].includes(k + 1))"
     x, y = place_of(page, "round", f"scene.spots[{inner}]")
@@ -126,11 +135,11 @@ def test_steps(page):
 
 
 def test_typing(page):
-    """What is typed is drawn with its names, a graph that is not planar by its witness, and no graph is named with its place."""
+    """What is typed is drawn, a graph that is not planar by its witness, and what is no graph is named with its place."""
     type_text(page, CUBE)
     is_true(page, "the cube", "$('facts').textContent.startsWith('8 vertices, 12 edges, 6 faces')")
     type_text(page, NOT_PLANAR)
-    is_true(page, "the witness", "/not planar: it contains a subdivision of K3,3, by the paths .*ann/.test($('facts').textContent)")
+    is_true(page, "the witness", f"/not planar: it contains a subdivision of K3,3, by the paths .*ann/.test({FACTS})")
     is_true(page, "its names", "document.querySelector('.view svg').textContent.includes('zoe')")
     page.run("$('loose').querySelector('button').click()")
     is_true(page, "planar without an edge", "$('facts').textContent.includes('; planar;')")
@@ -158,7 +167,7 @@ def test_graph_files(page):
         page.run("[page.study = null].length")
         page.run(f"Boolean(takeFiles([new File([fromBase64('{encoded(text.encode())}')], '{name}')]))")
         page.wait("page.study || $('fault').textContent")
-        is_true(page, f"{name} is a square", "page.study && $('facts').textContent.startsWith('4 vertices, 4 edges, 2 faces')")
+        is_true(page, f"{name} is a square", f"page.study && {FACTS}.startsWith('4 vertices, 4 edges, 2 faces')")
 
 
 def test_records(page):
@@ -171,7 +180,8 @@ def test_records(page):
     page.ask("Page.printToPDF")
     is_true(page, "all pictures", DRAWN)
     page.run("$('records-back').click()")
-    is_true(page, "the records", "$('one').hidden && !$('found').hidden && document.querySelectorAll('.record').length === 3")
+    is_true(page, "the sheet is closed", "$('one').hidden && !$('found').hidden")
+    is_true(page, "the records", "document.querySelectorAll('.record').length === 3")
 
 
 def test_saving(page):
@@ -191,7 +201,7 @@ def test_saving(page):
 PLAIN = (test_link, test_steps, test_typing, test_graph_files, test_saving)
 # what needs the orders and trees of the methods
 INNER = (test_link, test_steps)
-TESTS = (test_link, test_faces, test_pointer, test_drag, test_steps, test_typing, test_keys, test_graph_files, test_records, test_saving)
+TESTS = (*PLAIN, test_faces, test_pointer, test_drag, test_keys, test_records)
 
 
 def test_sheet(page, tests=TESTS, browser="Chromium"):

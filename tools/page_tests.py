@@ -1,4 +1,5 @@
-"""Tests of the page web/pigale.html: its sources, and its scripts in node, held to the program and to the Python package."""
+"""Tests of the page web/pigale.html: its sources, and its scripts in node, held to the program and the Python package."""
+import itertools
 import json
 import os
 import random
@@ -13,6 +14,7 @@ import pigale
 MOST = 1 << 20  # bytes of an input that the page is given to answer in one piece
 MOST_PAGE = 700 * 1024  # bytes of the page
 NEAR = 0.11  # pixels by which numbers of two pictures may be apart, as their last digits are rounded
+JOBS = {".plc": ("shift", "schnyder", "bars", "convex", "rect"), ".g6": ("embed",)}  # by the ending of a file
 NAMES = ["ann", "Bob & co", "x", "Ł", "m1", "山", "<i>", "zo\u0301e"]
 EQUILATERAL = {"equilateral": True, "faces": True}
 
@@ -47,7 +49,8 @@ ROUNDS = """
 import fs from 'node:fs';
 const { roundFloats, rounded } = await import('file://' + process.argv[1] + '/round.js');
 const asked = JSON.parse(fs.readFileSync(0, 'utf8'));
-process.stdout.write(JSON.stringify(asked.map(([lists, pull, isFilled, size]) => rounded(roundFloats(lists, pull, isFilled), size))));
+const made = asked.map(([lists, pull, isFilled, size]) => rounded(roundFloats(lists, pull, isFilled), size));
+process.stdout.write(JSON.stringify(made));
 """
 
 
@@ -60,7 +63,8 @@ process.stdout.write(JSON.stringify(asked.map(({ names, edges }) => [names, edge
 
 # texts of graphs, each with what the package calls its kind
 GRAPHS = [
-    ("edges", "10 9\n9 2\n"), ("edges", "a b\nb c\nd\n"), ("edges", "c a 2.5\nb c 3.5\n"), ("edges", "# none\nx y # one\n"),
+    ("edges", "10 9\n9 2\n"), ("edges", "a b\nb c\nd\n"), ("edges", "c a 2.5\nb c 3.5\n"),
+    ("edges", "# none\nx y # one\n"),
     ("matrix", "0 1 1\n1 0 0\n1 0 0\n"), ("matrix", "0110\n1010\n1101\n0010\n"), ("adjacency", "a b c\nb c\nd a\n"),
     ("sparse6", ":Cda\n"), ("graph6", "IheA@GUAo\n"),
     ("json", '{"nodes": [{"id": "z"}, {"id": "a"}], "links": [{"source": "z", "target": "a"}]}'),
@@ -154,15 +158,14 @@ def figures():
     """Yields the figures of all files of the gallery and of examples, each with its file's name and its job."""
     for folder in ("docs/gallery", "examples"):
         for name in sorted(os.listdir(f"{ROOT}/{folder}")):
-            jobs = {".plc": ("shift", "schnyder", "bars", "convex", "rect"), ".g6": ("embed",)}.get(os.path.splitext(name)[1], ())
-            for job in jobs:
+            for job in JOBS.get(os.path.splitext(name)[1], ()):
                 for found in pigale.run(job, bytes_of(f"{ROOT}/{folder}/{name}")).answers:
                     if isinstance(found, pigale.formats.FIGURES):
                         yield name, job, found
 
 
 def names_of(figure):
-    """Returns names for the vertices of a figure, short and long ones, of several scripts, and with marks that SVG escapes."""
+    """Returns names for a figure's vertices: short and long ones, of several scripts, with marks that SVG escapes."""
     count = pigale.formats.read_graph6(figure.graph6)[0] if hasattr(figure, "graph6") else len(figure.lists)
     return [NAMES[k % len(NAMES)] + (str(k) if k >= len(NAMES) else "") for k in range(count)]
 
@@ -175,14 +178,17 @@ def test_pictures():
         from pigale.tikz import tikz
         for it in figures():
             names = names_of(it[2])
-            asked += [(*it, pigale.picture, {"labels": names}, {"names": names}, False), (*it, tikz, {"labels": names}, {"names": names}, True),
+            asked += [(*it, pigale.picture, {"labels": names}, {"names": names}, False),
+                      (*it, tikz, {"labels": names}, {"names": names}, True),
                       (*it, tikz, {"style": "equilateral,faces"}, EQUILATERAL, True)]
-    made = script(PICTURES, given=json.dumps([[f"{figure}\n", look, is_tex] for _, _, figure, _, _, look, is_tex in asked]))
+    given = [[f"{figure}\n", look, is_tex] for _, _, figure, _, _, look, is_tex in asked]
+    made = script(PICTURES, given=json.dumps(given))
     wrong = 0
     for (name, job, figure, draw, python, _, is_tex), found in zip(asked, made):
         if not are_near(draw(figure, **python), found, 0.002 if is_tex else NEAR):
             wrong += 1
-            print(f"web: a picture is another than the package's: {job} of {name}, {python or 'plain'}{', TikZ' * is_tex}")
+            how = f"{python or 'plain'}{', TikZ' * is_tex}"
+            print(f"web: a picture is another than the package's: {job} of {name}, {how}")
     print(f"web: {len(asked)} pictures compared with the package's, {wrong} differ")
     return wrong
 
@@ -205,8 +211,9 @@ def test_rounds():
         return 0
     source = random.Random(3)
     maps = {str(it.lists): it.lists for _, job, it in figures() if job == "shift"}.values()
-    maps = [it for it in maps if is_connected(it)] + [pigale.triangulation(n, source) for n in (5, 12, 30, 80)] + [pigale.tree(20, source)]
-    asked = [(lists, pull, is_filled, size) for lists in maps for pull in rounds.PULLS for is_filled in (False, True) for size in (1000, 1000000)]
+    maps = [it for it in maps if is_connected(it)]
+    maps += [pigale.triangulation(n, source) for n in (5, 12, 30, 80)] + [pigale.tree(20, source)]
+    asked = list(itertools.product(maps, rounds.PULLS, (False, True), (1000, 1000000)))
     made = script(ROUNDS, given=json.dumps(asked))
     wrong = sum([list(place) for place in rounds.rounded(rounds.round_floats(lists, pull, is_filled), size)] != found
                 for (lists, pull, is_filled, size), found in zip(asked, made))
@@ -215,7 +222,7 @@ def test_rounds():
 
 
 def test_readers():
-    """Compares what the page reads of texts of graphs with what the Python package does: the same names and edges, in order."""
+    """Compares what the page reads of texts of graphs with what the Python package does: the same names and edges."""
     try:
         from pigale.readers import graphs_of
     except ImportError:
