@@ -20,6 +20,11 @@
 
 #include <stddef.h>
 #include <stdint.h>
+#include <stdio.h>
+
+/* The version of this header and of the library. While its first number stays, so do all that is declared here and what it
+ * means; the second rises where something is added. A call for more than 4095 vertices would have another name. */
+#define PIGALE_VERSION "1.0.0"
 
 #ifdef __cplusplus
 extern "C" {
@@ -173,8 +178,8 @@ pigale_status pigale_canonical_order(const size_t *ends, size_t vertex_count, co
 /* Finds a Schnyder wood of the triangulation to which pigale_canonical_order completes a map: for each vertex its parent in
  * each of three colours, along edges of the triangulation. A root, of which there is one a colour, and which are the first,
  * the second and the last vertex of the order, is its own parent in all three. Each array has n entries. Round each other
- * vertex come counterclockwise the edge to its parent one, those to vertices of which it is parent three, its parent two, those
- * of which it is one, its parent three, and those of which it is two. Else the status is from 1 to 6. */
+ * vertex come counterclockwise its parent one, those of which it is parent three, its parent two, those of which it is one,
+ * its parent three, and those of which it is two. Else the status is from 1 to 6. */
 pigale_status pigale_schnyder_wood(const size_t *ends, size_t vertex_count, const uint16_t *neighbours,
                                    size_t neighbour_count, uint16_t *one, size_t one_count, uint16_t *two, size_t two_count,
                                    uint16_t *three, size_t three_count, pigale_numbers *found);
@@ -258,6 +263,111 @@ pigale_status pigale_check_rects(const size_t *ends, size_t vertex_count, const 
  * 3 bad input, 5 or 6 not enough memory. */
 pigale_status pigale_run(const uint8_t *words, size_t words_length, const uint8_t *input, size_t input_length,
                          uint8_t *text, size_t capacity, size_t *text_length);
+
+/* The name of a status without its first word, as "CUT_VERTEX", or "?" for a number that is none. What stands in this header
+ * as code is not proved. */
+static inline const char *pigale_status_name(pigale_status status)
+{
+    switch (status) {
+    case PIGALE_OK: return "OK";
+    case PIGALE_OUT_OF_RANGE: return "OUT_OF_RANGE";
+    case PIGALE_LOOP: return "LOOP";
+    case PIGALE_REPEATED: return "REPEATED";
+    case PIGALE_ONE_SIDED: return "ONE_SIDED";
+    case PIGALE_SMALL: return "SMALL";
+    case PIGALE_GENUS: return "GENUS";
+    case PIGALE_NOT_CONNECTED: return "NOT_CONNECTED";
+    case PIGALE_CUT_VERTEX: return "CUT_VERTEX";
+    case PIGALE_SEPARATING_PAIR: return "SEPARATING_PAIR";
+    case PIGALE_OUTER_NOT_QUAD: return "OUTER_NOT_QUAD";
+    case PIGALE_NOT_TRIANGLE: return "NOT_TRIANGLE";
+    case PIGALE_SEPARATING_TRIANGLE: return "SEPARATING_TRIANGLE";
+    case PIGALE_NO_INNER: return "NO_INNER";
+    case PIGALE_NO_MEMORY: return "NO_MEMORY";
+    case PIGALE_BAD_ARGUMENT: return "BAD_ARGUMENT";
+    case PIGALE_EDGE_OUT_OF_RANGE: return "EDGE_OUT_OF_RANGE";
+    case PIGALE_EDGE_LOOP: return "EDGE_LOOP";
+    case PIGALE_EDGE_REPEATED: return "EDGE_REPEATED";
+    case PIGALE_OUT_OF_GRID: return "OUT_OF_GRID";
+    case PIGALE_SAME_PLACE: return "SAME_PLACE";
+    case PIGALE_ON_EDGE: return "ON_EDGE";
+    case PIGALE_CROSS: return "CROSS";
+    case PIGALE_TURNED: return "TURNED";
+    case PIGALE_INSIDE: return "INSIDE";
+    case PIGALE_BENT: return "BENT";
+    case PIGALE_OUTER_BENT: return "OUTER_BENT";
+    case PIGALE_BAD_SHAPE: return "BAD_SHAPE";
+    case PIGALE_BAD_HEIGHT: return "BAD_HEIGHT";
+    case PIGALE_BAD_BAR: return "BAD_BAR";
+    case PIGALE_BAD_COLUMN: return "BAD_COLUMN";
+    case PIGALE_THROUGH: return "THROUGH";
+    case PIGALE_OVERLAP: return "OVERLAP";
+    case PIGALE_BARS_TURNED: return "BARS_TURNED";
+    case PIGALE_BAD_RECT: return "BAD_RECT";
+    case PIGALE_MEET: return "MEET";
+    case PIGALE_GAP: return "GAP";
+    case PIGALE_CONTACT: return "CONTACT";
+    case PIGALE_NO_FRAME: return "NO_FRAME";
+    case PIGALE_FRAME: return "FRAME";
+    case PIGALE_K5: return "K5";
+    case PIGALE_K33: return "K33";
+    default: return "?";
+    }
+}
+
+/* Writes a sentence on a status and its numbers to `text`, vertices from 0, and returns its length, as snprintf does: no more
+ * than `capacity` characters with the 0 at the end. */
+static inline int pigale_explain(pigale_status status, pigale_numbers found, char *text, size_t capacity)
+{
+    unsigned a = found.first, b = found.second, c = found.third, d = found.fourth;
+    switch (status) {
+    case PIGALE_OK: return snprintf(text, capacity, "done, or valid");
+    case PIGALE_OUT_OF_RANGE: return snprintf(text, capacity, "the list of %u holds the number %u, which is no vertex", a, b);
+    case PIGALE_LOOP: return snprintf(text, capacity, "the list of %u holds itself", a);
+    case PIGALE_REPEATED: return snprintf(text, capacity, "the list of %u holds %u twice", a, b);
+    case PIGALE_ONE_SIDED: return snprintf(text, capacity, "the list of %u holds %u, whose list does not hold it", a, b);
+    case PIGALE_SMALL: return snprintf(text, capacity, "there are too few vertices: %u", a);
+    case PIGALE_GENUS: return snprintf(text, capacity, "the map has the genus %u", a);
+    case PIGALE_NOT_CONNECTED: return snprintf(text, capacity, "the map is not connected");
+    case PIGALE_CUT_VERTEX: return snprintf(text, capacity, "%u is a cut vertex", a);
+    case PIGALE_SEPARATING_PAIR: return snprintf(text, capacity, "%u and %u are a separating pair", a, b);
+    case PIGALE_OUTER_NOT_QUAD: return snprintf(text, capacity, "the outer face is no quadrangle");
+    case PIGALE_NOT_TRIANGLE: return snprintf(text, capacity, "the face of the dart from %u to %u is no triangle", a, b);
+    case PIGALE_SEPARATING_TRIANGLE: return snprintf(text, capacity, "%u, %u and %u are a separating triangle", a, b, c);
+    case PIGALE_NO_INNER: return snprintf(text, capacity, "no vertex lies inside");
+    case PIGALE_NO_MEMORY: return snprintf(text, capacity, "there was not enough memory");
+    case PIGALE_BAD_ARGUMENT: return snprintf(text, capacity, "the arrays are not what the call takes, or too short");
+    case PIGALE_EDGE_OUT_OF_RANGE: return snprintf(text, capacity, "edge number %u has an end that is no vertex", a);
+    case PIGALE_EDGE_LOOP: return snprintf(text, capacity, "edge number %u joins a vertex to itself", a);
+    case PIGALE_EDGE_REPEATED: return snprintf(text, capacity, "edges number %u and %u join the same vertices", a, b);
+    case PIGALE_OUT_OF_GRID: return snprintf(text, capacity, "%u lies outside the grid", a);
+    case PIGALE_SAME_PLACE: return snprintf(text, capacity, "%u and %u stand at one point", a, b);
+    case PIGALE_ON_EDGE: return snprintf(text, capacity, "%u lies on the edge from %u to %u", a, b, c);
+    case PIGALE_CROSS: return snprintf(text, capacity, "the edges from %u to %u and from %u to %u cross", a, b, c, d);
+    case PIGALE_TURNED: return snprintf(text, capacity, "the edges of %u are not in the order of its list", a);
+    case PIGALE_INSIDE: return snprintf(text, capacity, "the face of the dart from %u to %u lies outside too", a, b);
+    case PIGALE_BENT: return snprintf(text, capacity, "a face bends inwards at the second of %u, %u and %u", a, b, c);
+    case PIGALE_OUTER_BENT: return snprintf(text, capacity, "the outer face is no triangle");
+    case PIGALE_BAD_SHAPE: return snprintf(text, capacity, "there are not as many columns as edges");
+    case PIGALE_BAD_HEIGHT: return snprintf(text, capacity, "the height of %u is out of range or taken", a);
+    case PIGALE_BAD_BAR: return snprintf(text, capacity, "the bar of %u is no bar within the width", a);
+    case PIGALE_BAD_COLUMN: return snprintf(text, capacity, "the column of the edge from %u to %u misses a bar", a, b);
+    case PIGALE_THROUGH: return snprintf(text, capacity, "the edge from %u to %u goes through the bar of %u", a, b, c);
+    case PIGALE_OVERLAP:
+        return snprintf(text, capacity, "the columns of the edges from %u to %u and from %u to %u overlap", a, b, c, d);
+    case PIGALE_BARS_TURNED: return snprintf(text, capacity, "the edges of %u are not in the order of its list", a);
+    case PIGALE_BAD_RECT: return snprintf(text, capacity, "the rectangle of %u is empty or out of range", a);
+    case PIGALE_MEET: return snprintf(text, capacity, "the rectangles of %u and %u overlap", a, b);
+    case PIGALE_GAP: return snprintf(text, capacity, "the rectangles leave a gap");
+    case PIGALE_CONTACT:
+        return snprintf(text, capacity, "%u and %u share a side without an edge, or have an edge and share none", a, b);
+    case PIGALE_NO_FRAME: return snprintf(text, capacity, "the outer face is no quadrangle");
+    case PIGALE_FRAME: return snprintf(text, capacity, "the rectangle of %u, of the outer face, is not at its end", a);
+    case PIGALE_K5: return snprintf(text, capacity, "the graph has a subdivision of K5");
+    case PIGALE_K33: return snprintf(text, capacity, "the graph has a subdivision of K3,3");
+    default: return snprintf(text, capacity, "status %u", (unsigned)status);
+    }
+}
 
 #ifdef __cplusplus
 }

@@ -582,6 +582,7 @@ class Package(unittest.TestCase):
     def test_one_version(self):
         for line, path in ((f"version: {pigale.__version__}", ["CITATION.cff"]), (f'version = "{pigale.__version__}"', ["pyproject.toml"]),
                            (f"version {pigale.__version__}", ["release", "MANIFEST"]), (f"Version: {pigale.__version__}", ["library", "pigale.pc"]),
+                           (f'#define PIGALE_VERSION "{pigale.__version__}"', ["include", "pigale.h"]),
                            (f'  "version": "{pigale.__version__}",', ["npm", "package.json"]),
                            (f'version = "{pigale.__version__}"', ["examples", "rust", "pigale-sys", "Cargo.toml"])):
             self.assertIn(line, self.text(*path).split("\n"), path)
