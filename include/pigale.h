@@ -168,9 +168,9 @@ pigale_status pigale_map_of_graph(uint16_t vertex_count, const pigale_edge *edge
 pigale_status pigale_is_planar(uint16_t vertex_count, const pigale_edge *edges, size_t edge_count, pigale_numbers *found);
 
 /* Completes a map, as pigale_schnyder takes it, to a triangulation by edges, and orders its vertices canonically, after de
- * Fraysseix, Pach and Pollack: order[i] is the vertex that comes as number i, and vertex 0 comes second. `full_ends` and `full` get the
- * arrays of the triangulation: n and 6n - 12 entries, of which those that are no edges of the map were added. `order` has n
- * entries. Else the status is from 1 to 6; where `full_ends` or `full` is too short it is PIGALE_BAD_ARGUMENT. */
+ * Fraysseix, Pach and Pollack: order[i] is the vertex that comes as number i, and vertex 0 comes second. `full_ends` and `full`
+ * get the arrays of the triangulation: n and 6n - 12 entries, of which those that are no edges of the map were added. `order`
+ * has n entries. Else the status is from 1 to 6; where `full_ends` or `full` is too short it is PIGALE_BAD_ARGUMENT. */
 pigale_status pigale_canonical_order(const size_t *ends, size_t vertex_count, const uint16_t *neighbours,
                                      size_t neighbour_count, uint16_t *order, size_t order_count, size_t *full_ends,
                                      size_t full_end_count, uint16_t *full, size_t full_count, pigale_numbers *found);
