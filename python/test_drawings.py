@@ -99,6 +99,24 @@ class Formats(unittest.TestCase):
                 self.assertEqual(set(map(str, found[0].names)), names, kind)
                 self.assertEqual({frozenset(map(str, edge)) for edge in edges_by_name(found[0])}, wanted, kind)
 
+    def test_drawings_written_for_networkx(self):
+        graphs = [Named.of_networkx(graph) for graph in random_graphs(500) if len(graph) > 2]
+        drawings = [drawn for drawn in draw_named(graphs, "schnyder") if drawn.is_drawing]
+        self.assertGreater(len(drawings), 250)
+        for drawn in drawings:
+            wanted = {frozenset(map(str, edge)) for edge in edges_by_name(drawn.graph)}
+            places = {str(name): place for name, place in zip(drawn.graph.names, drawn.figure.places)}
+            read = networkx.parse_graphml(written([drawn], "graphml", Look()).decode())
+            self.assertEqual({frozenset(edge) for edge in read.edges}, wanted)
+            self.assertEqual({name: (data["x"], data["y"]) for name, data in read.nodes(data=True)}, places)
+            found = json.loads(written([drawn], "json", Look()))
+            self.assertEqual({frozenset((str(link["source"]), str(link["target"]))) for link in found["links"]}, wanted)
+            self.assertEqual({str(node["id"]): (node["x"], node["y"]) for node in found["nodes"]}, places)
+            rows = list(csv.DictReader(io.StringIO(written([drawn], "csv", Look()).decode())))
+            self.assertEqual({row["vertex"]: (int(row["x"]), int(row["y"])) for row in rows}, places)
+            text = written([drawn], "txt", Look()).decode()
+            self.assertEqual(pigale.read_figures(text)[0].places, drawn.figure.places)
+
     def test_first_bytes_and_endings_say_the_format(self):
         def as_json(graph, path):
             with open(path, "w", encoding="utf-8") as file:
@@ -445,6 +463,11 @@ class Door(unittest.TestCase):
             with open(path, "rb") as file:
                 done = subprocess.run([pigale.program(), *words], stdin=file, stdout=subprocess.PIPE, check=False)
             self.assertEqual(self.ran(*words, path=path)[:2], (done.returncode, done.stdout), words)
+
+    def test_it_does_not_run_itself(self):
+        with unittest.mock.patch.dict(os.environ, PIGALE_HANDED_ON="1"):
+            status, out, said = self.ran("count")
+        self.assertEqual((status, out, "there is no program pigale" in said), (3, b"", True))
 
     def test_commands_are_the_package(self):
         self.assertEqual(self.ran("--version")[:2], (0, f"pigale {pigale.__version__}\n".encode()))

@@ -587,6 +587,17 @@ class Package(unittest.TestCase):
                            (f'version = "{pigale.__version__}"', ["examples", "rust", "pigale-sys", "Cargo.toml"])):
             self.assertIn(line, self.text(*path).split("\n"), path)
 
+    def test_there_is_no_program_for_the_system(self):
+        with unittest.mock.patch.dict(os.environ, PIGALE="", PATH=""), unittest.mock.patch("platform.machine", return_value="sparc"), \
+                unittest.mock.patch("os.access", return_value=False):
+            with self.assertRaisesRegex(FileNotFoundError, "no program for this system, sparc-"):
+                pigale.program()
+            with tempfile.TemporaryDirectory() as folder:
+                open(os.path.join(folder, "pigale-x86_64-linux"), "w", encoding="ascii").close()
+                with unittest.mock.patch("os.path.realpath", return_value=os.path.join(folder, "runs.py")):
+                    with self.assertRaisesRegex(FileNotFoundError, "this package has a program for x86_64-linux, and none for this system, sparc-"):
+                        pigale.program()
+
     def test_all_names(self):
         self.assertEqual(sorted(pigale.__all__), pigale.__all__)
         for name in pigale.__all__:

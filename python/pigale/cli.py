@@ -68,7 +68,10 @@ def main(given: Optional[Sequence[str]] = None) -> int:
 def _of_program(words: Sequence[str]) -> int:
     """Runs the program with words; returns its status, and says on standard error what there is to say of it."""
     try:
-        status = subprocess.call([program(), *words])
+        # what is found on the path may be this command once more, where its kind cannot be told
+        if os.environ.get("PIGALE_HANDED_ON"):
+            raise FileNotFoundError("there is no program pigale: what the path has is the command of this package")
+        status = subprocess.call([program(), *words], env={**os.environ, "PIGALE_HANDED_ON": "1"})
     except FileNotFoundError as fault:
         print(f"pigale: {fault}", file=sys.stderr)
         return 3
