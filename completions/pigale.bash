@@ -5,7 +5,7 @@ _pigale_words() {
         --from) echo planar_code graph6 sparse6 ascii edges adjacency matrix graphml gexf gml dot pajek json ;;
         --method) echo round tutte schnyder shift convex bars rect ;;
         --labels) echo names numbers none ;;
-        --style) echo equilateral faces dual round tutte ;;
+        --style) echo equilateral faces dual crossing round tutte ;;
     esac
 }
 

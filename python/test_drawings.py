@@ -23,6 +23,7 @@ HERE = os.path.dirname(os.path.abspath(__file__))
 TOP = os.path.dirname(HERE)
 sys.path.insert(0, HERE)
 import pigale  # noqa: E402
+from pigale.crossings import one_crossing  # noqa: E402
 from pigale.drawn import METHODS, draw_named  # noqa: E402
 from pigale.kinds import kind_of  # noqa: E402
 from pigale.pictures import text_width  # noqa: E402
@@ -343,6 +344,24 @@ class Writers(unittest.TestCase):
         # over each of the twelve edges, of which four are those of the outer face
         self.assertEqual(len(lines), 12)
         self.assertIn("pigale-odd", tikz(figure, style="dual"))
+
+    def test_witnesses_with_one_crossing(self):
+        source = random.Random(8)
+        graphs = [(8, source.sample([(u, v) for v in range(1, 9) for u in range(1, v)], 20)) for _ in range(12)]
+        for witness in pigale.embed(["D~{", "EFz_", "IheA@GUAo"] + [pigale.write_graph6(graph) for graph in graphs]):
+            if not isinstance(witness, pigale.WitnessFigure):
+                continue
+            drawing = one_crossing(witness)
+            edges = pigale.witness_graph(witness)[1]
+            self.assertEqual(set(drawing.places), {v for edge in edges for v in edge})
+            self.assertTrue(set(drawing.crossed) <= set(edges))
+            places = {**drawing.places, "crossing": drawing.at}
+            halves = [(end, "crossing") for edge in drawing.crossed for end in edge]
+            self.assertTrue(pigale.check(places, [edge for edge in edges if edge not in drawing.crossed] + halves))
+            root = ElementTree.fromstring(pigale.picture(witness, style="crossing"))
+            self.assertEqual(len(list(root.iter(f"{SVG}line"))), len(edges) + 2)
+            self.assertEqual(len(list(root.iter(f"{SVG}circle"))), len(drawing.places))
+            self.assertEqual(tikz(witness, style="crossing").count("draw["), len(edges))
 
     def test_tikz(self):
         self.assertEqual(escaped("a_b & 5% of {x} \\ ~^#$"), r"a\_b \& 5\% of \{x\} \textbackslash{} \textasciitilde{}\textasciicircum{}\#\$")

@@ -23,7 +23,7 @@ PETERSEN = "IheA@GUAo"
 
 HEAD = """# Gallery
 
-Twenty figures, each with the command that makes it, run from the top of the repository. `draw` reads a graph of any usual format with its names and draws it round, where the program judges what floats propose to be plane; or it shows the witness that it has no drawing. In the other commands the last part, `picture`, turns the text of a figure into a picture with numbers at the vertices; the program's own pictures, by `--form svg`, have none. `--style equilateral` gives the triangle of a drawing three like sides, by an affine map, which keeps edges straight, faces convex and crossings away. `--style faces` fills each face by its length. `docs/gallery/draw.py` makes the maps, the pictures and this page. That a figure is what its job promises is proved, and that a round drawing is plane is what the proved program says of it; that a picture shows the figure is not.
+Twenty-one figures, each with the command that makes it, run from the top of the repository. `draw` reads a graph of any usual format with its names and draws it round, where the program judges what floats propose to be plane; or it shows the witness that it has no drawing. In the other commands the last part, `picture`, turns the text of a figure into a picture with numbers at the vertices; the program's own pictures, by `--form svg`, have none. `--style equilateral` gives the triangle of a drawing three like sides, by an affine map, which keeps edges straight, faces convex and crossings away. `--style faces` fills each face by its length. `docs/gallery/draw.py` makes the maps, the pictures and this page. That a figure is what its job promises is proved, and that a round drawing is plane is what the proved program says of it; that a picture shows the figure is not.
 """
 
 
@@ -145,6 +145,8 @@ DRAWN = [
     ("tree-round", "tree.edges", "", "A tree of forty vertices", "Forty dots with lines that branch outwards"),
     ("wells-witness", "wells.json", "", "Three houses and three wells, and no map of their paths",
      "Three red houses above three green wells by name, each joined to each, with crossings"),
+    ("wells-crossing", "wells.json", "crossing", "The same with a single crossing",
+     "Three houses and three wells in a square, with two paths that cross in colours of their own"),
 ]
 
 MAPS = {

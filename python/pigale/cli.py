@@ -13,6 +13,7 @@ from . import __version__
 from .checks import check, read_drawing, scaled
 from .drawing_commands import add_commands
 from .formats import Figure, read_figures, read_planar_code, write_planar_code
+from .kinds import reading_hint
 from .makers import stacked
 from .pages import page, page_name, pages
 from .parallel import Progress, run_all
@@ -71,6 +72,7 @@ def _of_program(words: Sequence[str]) -> int:
         # what is found on the path may be this command once more, where its kind cannot be told
         if os.environ.get("PIGALE_HANDED_ON"):
             raise FileNotFoundError("there is no program pigale: what the path has is the command of this package")
+        _say_if_it_waits(words)
         status = subprocess.call([program(), *words], env={**os.environ, "PIGALE_HANDED_ON": "1"})
     except FileNotFoundError as fault:
         print(f"pigale: {fault}", file=sys.stderr)
@@ -81,6 +83,13 @@ def _of_program(words: Sequence[str]) -> int:
     for line in explained(words, status):
         print(f"pigale: {line}", file=sys.stderr)
     return status
+
+
+def _say_if_it_waits(words: Sequence[str]) -> None:
+    """Says what is awaited where a job reads and nothing is given but a terminal."""
+    job = next((word for word in words if word in READING_JOBS), None)
+    if job and sys.stdin is not None and sys.stdin.isatty():
+        print(f"pigale: {reading_hint(job, b'')[0]}, and waits for it from the terminal; a file stands behind <, as in: pigale {job} < FILE", file=sys.stderr)
 
 
 def _parser() -> argparse.ArgumentParser:
@@ -98,6 +107,7 @@ def _parser() -> argparse.ArgumentParser:
         found.set_defaults(command=command)
         return found
 
+    add_commands(add)
     whole = add("all", _all, "runs a job on an input of any size, also of gzip or of files that were joined, over all processors")
     whole.add_argument("job", metavar="JOB", choices=READING_JOBS, help=f"as of the program: {', '.join(READING_JOBS)}")
     whole.add_argument("--form", choices=("text", "svg"), help="of figures, as of the program")
@@ -108,7 +118,6 @@ def _parser() -> argparse.ArgumentParser:
     checked.add_argument("file", metavar="FILE", help="JSON with nodes (id, x, y) and edges (source, target), or GraphML (.graphml)")
     table = commands.add_parser("table")  # by its one name `count --table`
     table.set_defaults(command=_table)
-    add_commands(add)
     made = add("stacked", _stacked, "is `make stacked`, by its first name: the map that `pigale gen --size S --number N` makes")
     made.add_argument("size", metavar="S", type=int)
     made.add_argument("number", metavar="N", type=int)

@@ -49,6 +49,8 @@ def _draw(arguments: argparse.Namespace) -> int:
     look = Look(arguments.labels, styles, arguments.side, [name.strip() for name in arguments.mark.split(",") if name.strip()])
     form = _form_of(arguments)
     graphs: List[Named] = []
+    if not arguments.files and sys.stdin is not None and sys.stdin.isatty():
+        raise ValueError("no file is named and standard input is the terminal, as in: pigale draw graph.edges -o graph.svg")
     for name in arguments.files or ["-"]:
         graphs += graphs_of(read_input(), kind=arguments.kind or "") if name == "-" else read_graphs(name, arguments.kind or "")
     for graph in graphs:

@@ -9,7 +9,7 @@ import math
 import os
 import unicodedata
 from collections.abc import Sequence as SequenceType
-from dataclasses import dataclass
+from dataclasses import dataclass, replace
 from typing import Any, Callable, Dict, FrozenSet, Iterable, List, Mapping, Optional, Sequence, Set, Tuple, Union, cast
 
 from .formats import (FIGURES, GRID_JOBS, BarFigure, Edge, Figure, GridFigure, Lists, RectFigure, WitnessFigure, join_words,
@@ -24,7 +24,7 @@ Labels = Union[bool, Sequence[Any], Mapping[int, Any]]
 
 with open(os.path.join(os.path.dirname(os.path.abspath(__file__)), "style.json"), encoding="ascii") as _file:
     STYLE: Dict[str, Any] = json.load(_file)
-STYLES = ("equilateral", "faces", "dual")
+STYLES = ("equilateral", "faces", "dual", "crossing")
 UNIT = 400  # the sizes of style.json are for a picture whose longer side is this
 DIGIT = 0.6  # the width of a digit, in its height
 MOST_WITHIN = 1.3  # the width of a label within a dot, in its height
@@ -109,7 +109,7 @@ def picture(figure: Figure, side: Optional[float] = None, labels: Labels = True,
     between two that follow each other there, as on a path.
 
     A witness has its branch vertices in two rows (K3,3) or on a circle (K5), and the other edges of its graph thin: it
-    is no drawing without crossings. Raises ValueError where the figure names a vertex that it does not have, where it
+    is no drawing without crossings. By "crossing" its subdivision alone is drawn, so that just two of its edges cross. Raises ValueError where the figure names a vertex that it does not have, where it
     is no figure (a refusal, say), and where a word of the style is none.
     """
     width, height, body = sketch(figure, side, labels, style, plain, marked)
@@ -581,6 +581,11 @@ def tints_of(lists: Lists) -> List[int]:
 def _witness_sketch(figure: WitnessFigure, look: Look) -> Sketch:
     """Branch vertices in two rows or on a circle, paths straight between them, and the other edges thin."""
     count, edges = read_graph6(figure.graph6)
+    if "crossing" in look.styles:
+        from .crossings import one_crossing
+        drawing = one_crossing(figure)
+        if drawing:
+            return _crossing_sketch(figure, drawing, look)
     places = witness_places(figure, count)
     dots, box = _placed([places[v] for v in range(1, count + 1)], look)
     own = witness_graph(figure)[1]
@@ -592,9 +597,33 @@ def _witness_sketch(figure: WitnessFigure, look: Look) -> Sketch:
     for u, v in edges:
         lists[u - 1].append(v)
         lists[v - 1].append(u)
-    half = figure.branches[:3] if figure.kind == "K33" else figure.branches
-    colours = ["even" if v in half else "odd" if v in figure.branches else "dot" for v in range(1, count + 1)]
+    colours = branch_colours(figure, range(1, count + 1))
     return _framed(box, body, *_dots(dots, lists, own, look, colours), look)
+
+
+def branch_colours(figure: WitnessFigure, vertices: Iterable[int]) -> List[str]:
+    """The colour of each of some vertices of a witness: one for the branches of a side, and another for all others."""
+    half = figure.branches[:3] if figure.kind == "K33" else figure.branches
+    return ["even" if v in half else "odd" if v in figure.branches else "dot" for v in vertices]
+
+
+def _crossing_sketch(figure: WitnessFigure, drawing: Any, look: Look) -> Sketch:
+    """A witness with a single crossing, the two edges of which have another colour."""
+    vertices = sorted(drawing.places)
+    number = {v: k for k, v in enumerate(vertices, 1)}
+    dots, box = _placed([drawing.places[v] for v in vertices] + [drawing.at], look)
+    own = witness_graph(figure)[1]
+    line = look.size("line", len(vertices))
+    body = _lines([(dots[number[u] - 1], dots[number[v] - 1]) for u, v in own if (u, v) not in drawing.crossed], 1.6 * line, "line", look)
+    for edge, colour in zip(drawing.crossed, ("warn", "dot")):
+        body += _lines([(dots[number[end] - 1], dots[-1]) for end in edge], 1.6 * line, colour, look)
+    lists: Lists = [[] for _ in vertices]
+    for u, v in own:
+        lists[number[u] - 1].append(v)
+        lists[number[v] - 1].append(u)
+    colours = branch_colours(figure, vertices)
+    names = tuple(look.label(v) for v in vertices)
+    return _framed(box, body, *_dots(dots[:-1], [[number[u] for u in us] for us in lists], [(number[u], number[v]) for u, v in own], replace(look, names=names), colours), look)
 
 
 def witness_places(figure: WitnessFigure, count: int) -> Dict[int, Dot]:

@@ -1,9 +1,11 @@
 """Figures as pictures of TikZ, the drawing package of LaTeX."""
+from dataclasses import replace
 from typing import List, Sequence
 
+from .crossings import OneCrossing, one_crossing
 from .formats import BarFigure, Figure, GridFigure, RectFigure, WitnessFigure, read_graph6
 from .maps import edges_of, faces_of, witness_graph
-from .pictures import STYLE, Dot, Labels, Look, Style, dual_lines, label_names, straight_places, styles_of, tints_of, witness_places
+from .pictures import STYLE, Dot, Labels, Look, Style, branch_colours, dual_lines, label_names, straight_places, styles_of, tints_of, witness_places
 
 WIDTH = 8.0  # of a picture's longer side, in centimetres
 COLOURS = ("line", "thin", "dot", "even", "odd", *(f"tint-{k}" for k in range(6)), *(f"face-{k}" for k in range(3, 11)), "face-more")
@@ -130,11 +132,24 @@ def _rects(figure: RectFigure, look: Look, width: float) -> List[str]:
 
 
 def _witness(figure: WitnessFigure, count: int, look: Look, width: float) -> List[str]:
+    drawing = one_crossing(figure) if "crossing" in look.styles else None
+    if drawing:
+        return _crossing(figure, drawing, look, width)
     places = witness_places(figure, count)
     dots = _scaled([places[v] for v in range(1, count + 1)], width)
     own = witness_graph(figure)[1]
     rest = sorted(set(read_graph6(figure.graph6)[1]) - set(own))
     lines = [f"\\draw[draw=pigale-thin] {_at(dots[u - 1])} -- {_at(dots[v - 1])};" for u, v in rest]
     lines += [f"\\draw[edge, thick] {_at(dots[u - 1])} -- {_at(dots[v - 1])};" for u, v in own]
-    half = figure.branches[:3] if figure.kind == "K33" else figure.branches
-    return lines + _vertices(dots, look, ["even" if v in half else "odd" if v in figure.branches else "dot" for v in range(1, count + 1)])
+    return lines + _vertices(dots, look, branch_colours(figure, range(1, count + 1)))
+
+
+def _crossing(figure: WitnessFigure, drawing: OneCrossing, look: Look, width: float) -> List[str]:
+    """A witness with a single crossing."""
+    vertices = sorted(drawing.places)
+    dots = _scaled([drawing.places[v] for v in vertices] + [drawing.at], width)
+    spots = dict(zip(vertices, dots))
+    lines = [f"\\draw[edge, thick] {_at(spots[u])} -- {_at(spots[v])};" for u, v in witness_graph(figure)[1] if (u, v) not in drawing.crossed]
+    for (u, v), colour in zip(drawing.crossed, ("even", "dot")):
+        lines.append(f"\\draw[draw=pigale-{colour}, thick] {_at(spots[u])} -- {_at(dots[-1])} -- {_at(spots[v])};")
+    return lines + _vertices(dots[:-1], replace(look, names=tuple(map(look.label, vertices))), branch_colours(figure, vertices))
