@@ -31,7 +31,7 @@ MOST_WITHIN = 1.3  # the width of a label within a dot, in its height
 
 
 @dataclass(frozen=True)
-class Look:
+class PictureLook:
     """How a picture is to look: its longer side, whether it has labels and which, its styles, and how it names its colours.
 
     Without `names` the labels are the numbers of the vertices. The vertices `marked`, and the edges between two that follow
@@ -162,7 +162,7 @@ def sketch(figure: Figure, side: Optional[float], labels: Labels, style: Style, 
     require_look(side, labels)
     try:
         count = read_graph6(figure.graph6)[0] if isinstance(figure, WitnessFigure) else len(figure.lists)
-        look = Look(side or default_side(count), labels is not False, styles_of(style), paint, label_names(labels, count), tuple(marked))
+        look = PictureLook(side or default_side(count), labels is not False, styles_of(style), paint, label_names(labels, count), tuple(marked))
         if isinstance(figure, BarFigure):
             return _bar_sketch(figure, look)
         if isinstance(figure, RectFigure):
@@ -182,7 +182,7 @@ def default_side(count: int) -> float:
 
 # Straight-line drawings
 
-def _grid_sketch(figure: GridFigure, look: Look) -> Sketch:
+def _grid_sketch(figure: GridFigure, look: PictureLook) -> Sketch:
     dots, box = _placed(straight_places(figure, look), look)
     edges = edges_of(figure.lists)
     body = _faces(figure, dots, look) if "faces" in look.styles else []
@@ -222,7 +222,7 @@ def dual_lines(figure: GridFigure, dots: Sequence[Dot], reach: float) -> Tuple[L
     return found, cast(List[List[Dot]], lines)
 
 
-def _dual(figure: GridFigure, dots: List[Dot], look: Look) -> List[str]:
+def _dual(figure: GridFigure, dots: List[Dot], look: PictureLook) -> List[str]:
     """The dual of a drawing, laid over it."""
     middles, lines = dual_lines(figure, dots, 14 * look.scale)
     body = [f'<g fill="none" {look.paint(stroke="odd")} stroke-width="{_n(look.size("line", len(dots)))}" stroke-linecap="round">']
@@ -231,7 +231,7 @@ def _dual(figure: GridFigure, dots: List[Dot], look: Look) -> List[str]:
     return [*body, f'<g {look.paint(fill="odd")}>', *(f'<circle cx="{_n(x)}" cy="{_n(y)}" r="{radius}"/>' for x, y in middles), "</g>"]
 
 
-def straight_places(figure: GridFigure, look: Look) -> Sequence[Dot]:
+def straight_places(figure: GridFigure, look: PictureLook) -> Sequence[Dot]:
     """The places of a straight-line drawing, with three like sides where that is asked for."""
     return _equilateral(figure) if "equilateral" in look.styles and figure.job in GRID_JOBS else list(figure.places)
 
@@ -252,7 +252,7 @@ def _equilateral(figure: GridFigure) -> List[Dot]:
     return [(across + up / 2, up * math.sqrt(3) / 2) for across, up in parts]
 
 
-def _placed(places: Sequence[Dot], look: Look) -> Tuple[List[Dot], Tuple[int, int]]:
+def _placed(places: Sequence[Dot], look: PictureLook) -> Tuple[List[Dot], Tuple[int, int]]:
     """The places in pixels, with y downwards, and the width and height of the picture."""
     left, top = min(x for x, _ in places), max(y for _, y in places)
     width, height = max(x for x, _ in places) - left, top - min(y for _, y in places)
@@ -262,7 +262,7 @@ def _placed(places: Sequence[Dot], look: Look) -> Tuple[List[Dot], Tuple[int, in
     return dots, (_whole(unit * width + 2 * margin), _whole(unit * height + 2 * margin))
 
 
-def _faces(figure: GridFigure, dots: List[Dot], look: Look) -> List[str]:
+def _faces(figure: GridFigure, dots: List[Dot], look: PictureLook) -> List[str]:
     """The inner faces, filled by their lengths; where one stands within another, it comes after it.
 
     A face's walk is counterclockwise, and so has its area above zero, where the face is not the outer one of its part.
@@ -302,7 +302,7 @@ def _n(number: float) -> str:
     return f"{round(number, 2 if abs(number) < 10 else 1):g}"
 
 
-def _lines(ends: Iterable[Tuple[Dot, Dot]], width: float, colour: str, look: Look) -> List[str]:
+def _lines(ends: Iterable[Tuple[Dot, Dot]], width: float, colour: str, look: PictureLook) -> List[str]:
     """Straight lines of one width and colour."""
     lines = [f'<line x1="{_n(x1)}" y1="{_n(y1)}" x2="{_n(x2)}" y2="{_n(y2)}"/>' for (x1, y1), (x2, y2) in ends]
     if not lines:
@@ -310,7 +310,7 @@ def _lines(ends: Iterable[Tuple[Dot, Dot]], width: float, colour: str, look: Loo
     return [f'<g {look.paint(stroke=colour)} stroke-width="{_n(width)}" stroke-linecap="round">', *lines, "</g>"]
 
 
-def _texts(numbers: List[Tuple[int, Dot, float]], colour: str, look: Look, halo: bool = False) -> List[str]:
+def _texts(numbers: List[Tuple[int, Dot, float]], colour: str, look: PictureLook, halo: bool = False) -> List[str]:
     """Numbers, each about its place and with its height, and where asked for with a halo beneath them all."""
     if not numbers:
         return []
@@ -324,13 +324,13 @@ def _texts(numbers: List[Tuple[int, Dot, float]], colour: str, look: Look, halo:
     return [*beneath, f"<g {look.paint(fill=colour)} {font}>", *lines, "</g>"]
 
 
-def _title(v: int, us: List[int], look: Look) -> str:
+def _title(v: int, us: List[int], look: PictureLook) -> str:
     if not look.names:
         return f"<title>{join_words(f'{v}:', *us)}</title>"
     return f"<title>{html.escape(f'{look.label(v)}: ' + ', '.join(map(look.label, us)), False)}</title>"
 
 
-def _framed(box: Tuple[int, int], lines: List[str], dots: List[str], reach: Tuple[float, float], look: Look) -> Sketch:
+def _framed(box: Tuple[int, int], lines: List[str], dots: List[str], reach: Tuple[float, float], look: PictureLook) -> Sketch:
     """A picture of lines and dots, wider where labels reach from one place across to another beyond it."""
     room = 0.25 * look.margin
     left, right = max(0, math.ceil(room - reach[0])), max(0, math.ceil(reach[1] + room - box[0]))
@@ -338,7 +338,7 @@ def _framed(box: Tuple[int, int], lines: List[str], dots: List[str], reach: Tupl
     return box[0] + left + right, box[1], f'<g transform="translate({left})">\n{body}</g>\n' if left else body
 
 
-def _dots(dots: List[Dot], lists: Lists, edges: List[Edge], look: Look,
+def _dots(dots: List[Dot], lists: Lists, edges: List[Edge], look: PictureLook,
           colours: Optional[List[str]] = None) -> Tuple[List[str], Tuple[float, float]]:
     """Dots with titles, and their labels: within all dots where each has room, and else beside those that have room.
 
@@ -393,7 +393,7 @@ def _rooms(dots: List[Dot], edges: List[Edge]) -> Tuple[float, float]:
     return apart, aside
 
 
-def _size_within(dots: List[Dot], edges: List[Edge], size: float, look: Look) -> Optional[float]:
+def _size_within(dots: List[Dot], edges: List[Edge], size: float, look: PictureLook) -> Optional[float]:
     """The height of numbers within the dots, or nothing where these would touch each other or a line."""
     apart, aside = _rooms(dots, edges)
     room = min(apart / 2 - 0.8 * look.scale, aside - 1.6 * look.scale)
@@ -401,7 +401,7 @@ def _size_within(dots: List[Dot], edges: List[Edge], size: float, look: Look) ->
     return found if found >= _LEAST_WITHIN * look.scale else None
 
 
-def _radius(dots: List[Dot], edges: List[Edge], look: Look) -> float:
+def _radius(dots: List[Dot], edges: List[Edge], look: PictureLook) -> float:
     """The radius of dots by their count, less where lines pass close by, but so that they are still seen."""
     radius = look.size("dot", len(dots))
     if len(dots) > 100:
@@ -466,7 +466,7 @@ def _crosses(box: Box, one: Dot, other: Dot) -> bool:
     return least <= most
 
 
-def _label_places(dots: List[Dot], edges: List[Edge], radius: float, size: float, look: Look) -> List[Tuple[int, Dot]]:
+def _label_places(dots: List[Dot], edges: List[Edge], radius: float, size: float, look: PictureLook) -> List[Tuple[int, Dot]]:
     """The labels of vertices that have room beside their dots, each with its middle.
 
     Of sixteen directions round a dot those that cover fewest lines come first, and of these the ones farthest from the
@@ -512,7 +512,7 @@ def _label_places(dots: List[Dot], edges: List[Edge], radius: float, size: float
 
 # Bars and rectangles
 
-def _bar_sketch(figure: BarFigure, look: Look) -> Sketch:
+def _bar_sketch(figure: BarFigure, look: PictureLook) -> Sketch:
     """Bars and columns, each axis with a unit of its own, so that bars keep apart."""
     count, columns = len(figure.heights), max([b for _, b in figure.spans] + figure.columns + [1])
     scale, margin = look.scale, look.margin
@@ -540,12 +540,12 @@ def _bar_sketch(figure: BarFigure, look: Look) -> Sketch:
     return _whole(across * columns + 2 * margin), _whole(upwards * (count - 1) + 2 * margin), _joined(body)
 
 
-def _legible(numbers: List[Tuple[int, Dot, float]], look: Look) -> List[Tuple[int, Dot, float]]:
+def _legible(numbers: List[Tuple[int, Dot, float]], look: PictureLook) -> List[Tuple[int, Dot, float]]:
     """The numbers that are high enough to be read, where numbers are asked for."""
     return [number for number in numbers if look.labels and number[2] >= 2.4 * look.scale]
 
 
-def _rect_sketch(figure: RectFigure, look: Look) -> Sketch:
+def _rect_sketch(figure: RectFigure, look: PictureLook) -> Sketch:
     dots, box = _placed([(x, y) for a, b, c, d in figure.boxes for x, y in ((a, c), (b, d))], look)
     width = look.size("line", len(figure.boxes))
     most = min(13 * look.scale, max(6 * look.scale, 1.6 * look.size("number", len(figure.boxes))))
@@ -578,7 +578,7 @@ def tints_of(lists: Lists) -> List[int]:
 
 # Witnesses
 
-def _witness_sketch(figure: WitnessFigure, look: Look) -> Sketch:
+def _witness_sketch(figure: WitnessFigure, look: PictureLook) -> Sketch:
     """Branch vertices in two rows or on a circle, paths straight between them, and the other edges thin."""
     count, edges = read_graph6(figure.graph6)
     if "crossing" in look.styles:
@@ -607,7 +607,7 @@ def branch_colours(figure: WitnessFigure, vertices: Iterable[int]) -> List[str]:
     return ["even" if v in half else "odd" if v in figure.branches else "dot" for v in vertices]
 
 
-def _crossing_sketch(figure: WitnessFigure, drawing: Any, look: Look) -> Sketch:
+def _crossing_sketch(figure: WitnessFigure, drawing: Any, look: PictureLook) -> Sketch:
     """A witness with a single crossing, the two edges of which have another colour."""
     vertices = sorted(drawing.places)
     number = {v: k for k, v in enumerate(vertices, 1)}

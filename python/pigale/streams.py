@@ -4,6 +4,7 @@ import os
 import select
 import signal
 import sys
+import threading
 from contextlib import contextmanager
 from types import FrameType
 from typing import IO, Any, BinaryIO, Iterator, Optional, Union
@@ -94,8 +95,13 @@ SIGNALS = [getattr(signal, name) for name in ("SIGINT", "SIGTERM", "SIGHUP") if 
 def signals_end() -> Iterator[None]:
     """Has a signal that asks for the end raise Ended, once; a second one ends the command at once.
 
-    A signal that is ignored, as SIGHUP is under `nohup`, stays so.
+    A signal that is ignored, as SIGHUP is under `nohup`, stays so. Only the main thread gets signals; in another one nothing
+    is changed.
     """
+    if threading.current_thread() is not threading.main_thread():
+        yield
+        return
+
     def end(number: int, _: Optional[FrameType]) -> None:
         for other in found:
             signal.signal(other, signal.SIG_DFL)

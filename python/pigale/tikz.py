@@ -5,7 +5,7 @@ from typing import List, Sequence
 from .crossings import OneCrossing, one_crossing
 from .formats import BarFigure, Figure, GridFigure, RectFigure, WitnessFigure, read_graph6
 from .maps import edges_of, faces_of, witness_graph
-from .pictures import STYLE, Dot, Labels, Look, Style, branch_colours, dual_lines, label_names, straight_places, styles_of, tints_of, witness_places
+from .pictures import STYLE, Dot, Labels, PictureLook, Style, branch_colours, dual_lines, label_names, straight_places, styles_of, tints_of, witness_places
 
 WIDTH = 8.0  # of a picture's longer side, in centimetres
 COLOURS = ("line", "thin", "dot", "even", "odd", *(f"tint-{k}" for k in range(6)), *(f"face-{k}" for k in range(3, 11)), "face-more")
@@ -25,7 +25,7 @@ def tikz(figure: Figure, labels: Labels = True, style: Style = (), width: float 
     """
     try:
         count = read_graph6(figure.graph6)[0] if isinstance(figure, WitnessFigure) else len(figure.lists)
-        look = Look(1, labels is not False, styles_of(style), lambda **_: "", label_names(labels, count), tuple(marked))
+        look = PictureLook(1, labels is not False, styles_of(style), lambda **_: "", label_names(labels, count), tuple(marked))
         if isinstance(figure, BarFigure):
             body = _bars(figure, look, width)
         elif isinstance(figure, RectFigure):
@@ -71,7 +71,7 @@ def _scaled(places: Sequence[Dot], width: float) -> List[Dot]:
     return [(unit * (x - left), unit * (y - low)) for x, y in places]
 
 
-def _vertices(dots: Sequence[Dot], look: Look, colours: Sequence[str] = ()) -> List[str]:
+def _vertices(dots: Sequence[Dot], look: PictureLook, colours: Sequence[str] = ()) -> List[str]:
     """The vertices, with their labels within where all are short, and else beside."""
     count = len(dots)
     is_within = look.labels and count < 100 and all(map(look.is_short, range(1, count + 1)))
@@ -87,7 +87,7 @@ def _vertices(dots: Sequence[Dot], look: Look, colours: Sequence[str] = ()) -> L
     return lines
 
 
-def _straight(figure: GridFigure, look: Look, width: float) -> List[str]:
+def _straight(figure: GridFigure, look: PictureLook, width: float) -> List[str]:
     dots = _scaled(straight_places(figure, look), width)
     lines = []
     if "faces" in look.styles:
@@ -106,7 +106,7 @@ def _straight(figure: GridFigure, look: Look, width: float) -> List[str]:
     return lines + _vertices(dots, look, look.colours(len(dots)))
 
 
-def _bars(figure: BarFigure, look: Look, width: float) -> List[str]:
+def _bars(figure: BarFigure, look: PictureLook, width: float) -> List[str]:
     columns, rows = max([b for _, b in figure.spans] + figure.columns + [1]), max([*figure.heights, 1])
     across, up = min(1.0, width / columns), min(0.8, width / rows)
     lines = [f"\\draw[edge] ({_n(across * x)},{_n(up * figure.heights[u - 1])}) -- ({_n(across * x)},{_n(up * figure.heights[v - 1])});"
@@ -120,7 +120,7 @@ def _bars(figure: BarFigure, look: Look, width: float) -> List[str]:
     return lines
 
 
-def _rects(figure: RectFigure, look: Look, width: float) -> List[str]:
+def _rects(figure: RectFigure, look: PictureLook, width: float) -> List[str]:
     dots = _scaled([(x, y) for a, b, c, d in figure.boxes for x, y in ((a, c), (b, d))], width)
     lines = []
     for v, tint in enumerate(tints_of(figure.lists), 1):
@@ -131,7 +131,7 @@ def _rects(figure: RectFigure, look: Look, width: float) -> List[str]:
     return lines
 
 
-def _witness(figure: WitnessFigure, count: int, look: Look, width: float) -> List[str]:
+def _witness(figure: WitnessFigure, count: int, look: PictureLook, width: float) -> List[str]:
     drawing = one_crossing(figure) if "crossing" in look.styles else None
     if drawing:
         return _crossing(figure, drawing, look, width)
@@ -144,7 +144,7 @@ def _witness(figure: WitnessFigure, count: int, look: Look, width: float) -> Lis
     return lines + _vertices(dots, look, branch_colours(figure, range(1, count + 1)))
 
 
-def _crossing(figure: WitnessFigure, drawing: OneCrossing, look: Look, width: float) -> List[str]:
+def _crossing(figure: WitnessFigure, drawing: OneCrossing, look: PictureLook, width: float) -> List[str]:
     """A witness with a single crossing."""
     vertices = sorted(drawing.places)
     dots = _scaled([drawing.places[v] for v in vertices] + [drawing.at], width)
