@@ -24,7 +24,8 @@ export class Calls {
   }
 
   // Calls `name` with arrays, each as its address and its length, or as its address alone where it `isOne` thing, and with
-  // whole numbers of 32 bits. What the call writes comes back in the arrays. Returns the status as `name` and the numbers beside it as `numbers`, with vertices from 1.
+  // whole numbers of 32 bits. What the call writes comes back in the arrays. Returns the status as `name`, and the numbers
+  // beside it as `numbers`, with vertices from 1.
   call(name, ...given) {
     const { engine } = this;
     const found = new Uint32Array(4);

@@ -79,7 +79,9 @@ function shownRecord(number, noun) {
     } else {
       const figure = readFigure(lines);
       cards.append(card(figure, number));
-      if (job === "embed") words = figure.job === "witness" ? `not planar: it contains a subdivision of ${figure.kind === "K5" ? "K5" : "K3,3"}` : `planar: ${sizeOf(figure)}`;
+      const witness = figure.kind === "K5" ? "K5" : "K3,3";
+      if (figure.job === "witness") words = `not planar: it contains a subdivision of ${witness}`;
+      else if (job === "embed") words = `planar: ${sizeOf(figure)}`;
       else words ||= sizeOf(figure);
     }
   }
@@ -120,7 +122,8 @@ function card(figure, number) {
   const box = element("figure");
   const words = caption(figure);
   const isOne = page.answers.kind !== "figures" && page.calls.has("schnyder");
-  const shot = element("button", "", { type: "button", className: "shot", onclick: () => (isOne ? open(figure, number) : enlarge(figure, number)) });
+  const onclick = () => (isOne ? open(figure, number) : enlarge(figure, number));
+  const shot = element("button", "", { type: "button", className: "shot", onclick });
   shot.setAttribute("aria-label", `${isOne ? "Open" : "Enlarge"} ${words}`);
   shot.draw = () => {
     try {
@@ -151,7 +154,8 @@ function open(figure, number) {
   const graph = figure.job === "witness" ? readGraph(figure.graph) : { count: figure.count, edges: edgesOf(figure.lists) };
   const names = Array.from({ length: graph.count }, (_, k) => String(k + 1));
   const lists = figure.lists ? { lists: figure.lists } : {};
-  page.open({ names, edges: graph.edges, ...lists, show: page.answers.kind === "maps" ? figure.job : "" }, `${title[0].toUpperCase()}${title.slice(1)} of ${page.input.name}`);
+  const show = page.answers.kind === "maps" ? figure.job : "";
+  page.open({ names, edges: graph.edges, ...lists, show }, `${title[0].toUpperCase()}${title.slice(1)} of ${page.input.name}`);
   scrollTo(0, 0);
 }
 
@@ -173,9 +177,11 @@ export function redraw() {
   const room = Math.max(200, Math.min(sheet.clientWidth, sheet.clientHeight) - 24);
   try {
     const fine = 1 / Math.sqrt(zoom);
-    const { width, height, body } = picture(figure, { ...page.look, side: room * zoom, least: 7, fine, dense: DENSE * zoom, paint: variable });
+    const look = { ...page.look, side: room * zoom, least: 7, fine, dense: DENSE * zoom, paint: variable };
+    const { width, height, body } = picture(figure, look);
     const scale = zoom * Math.min((sheet.clientWidth - 24) / width, (sheet.clientHeight - 24) / height);
-    sheet.innerHTML = `<svg viewBox="0 0 ${width} ${height}" width="${width * scale}" height="${height * scale}" role="img" aria-label="${$("name").textContent}">${body}</svg>`;
+    const size = `viewBox="0 0 ${width} ${height}" width="${width * scale}" height="${height * scale}"`;
+    sheet.innerHTML = `<svg ${size} role="img" aria-label="${$("name").textContent}">${body}</svg>`;
   } catch {
     sheet.textContent = "No picture: the figure names a vertex that it does not have.";
   }

@@ -44,13 +44,13 @@ export function factsOf(map) {
   const { n, m, f, c, genus } = counts;
   const names = (vertices) => listed(vertices.map((v) => map.names[v - 1]));
   const cuts = map.cutVertices();
-  const bars = map.figure("bars");
   const convex = map.figure("convex");
   let [how, marked] = ["", []];
   if (c > 1) how = `${plural(c, "component")}`;
   else if (cuts.length) [how, marked] = [`connected, with the cut ${cuts.length > 1 ? "vertices" : "vertex"} ${names(cuts)}`, cuts];
   else if (genus || n < 3) how = "connected";
-  else if (!bars.refused && convex.refused === "SeparatingPair") [how, marked] = [`two-connected, with the separating pair ${names(convex.numbers)}`, convex.numbers];
+  else if (convex.refused === "SeparatingPair")
+    [how, marked] = [`two-connected, with the separating pair ${names(convex.numbers)}`, convex.numbers];
   else if (!convex.refused) how = "three-connected";
   else how = "two-connected";
   const size = `${plural(n, "vertex", "vertices")}, ${plural(m, "edge")}, ${plural(f, "face")}`;
@@ -65,7 +65,8 @@ export function witnessFacts(names, edges, { kind, paths }) {
   const top = (k) => (leader[k] === k ? k : (leader[k] = top(leader[k])));
   for (const [v, u] of edges) leader[top(v - 1)] = top(u - 1);
   const parts = new Set(names.map((_, k) => top(k))).size;
-  const size = `${plural(names.length, "vertex", "vertices")}, ${plural(edges.length, "edge")}${parts > 1 ? `, ${plural(parts, "component")}` : ""}`;
+  const apart = parts > 1 ? `, ${plural(parts, "component")}` : "";
+  const size = `${plural(names.length, "vertex", "vertices")}, ${plural(edges.length, "edge")}${apart}`;
   const ways = paths.map((path) => path.map((v) => names[v - 1]).join("–"));
   return `${size}; not planar: it contains a subdivision of ${kind === "K5" ? "K5" : "K3,3"}, by the paths ${ways.join(", ")}.`;
 }
@@ -77,7 +78,8 @@ export function told(map, { v, e, f }, places = null, rank = null) {
     const list = map.lists[v - 1];
     const at = places && places[v - 1] ? ` By Schnyder’s method at (${places[v - 1].join(", ")}).` : "";
     const order = rank ? ` Number ${rank[v - 1]} of the canonical order.` : "";
-    return `Vertex ${name(v)}: ${plural(list.length, "neighbour")}${list.length ? `, clockwise ${listed(list.map(name), 40)}` : ""}.${at}${order}`;
+    const round = list.length ? `, clockwise ${listed(list.map(name), 40)}` : "";
+    return `Vertex ${name(v)}: ${plural(list.length, "neighbour")}${round}.${at}${order}`;
   }
   if (e >= 0) {
     const [a, b] = map.edges[e];

@@ -26,7 +26,7 @@ export function recognized(bytes) {
   }
   if (/^(figure|count|refused|verdict|end|stop) /.test(head)) return { kind: "figures", name: "figures as text" };
   if (/^\s*(<\?xml|<!--|<svg|<!DOCTYPE|<html)/i.test(head) && !/<(\w+:)?graphml\b/.test(head))
-    return none("This is a picture or a page. Pigale judges the text of a figure, which “./pigale shift” writes without “--form svg”.");
+    return none("This is a picture or a page. Pigale judges the text of a figure, which jobs write without “--form svg”.");
   if (/^(PK\x03\x04|BZh|\xfd7zXZ|7z\xbc\xaf|\x28\xb5\x2f\xfd)/.test(head) || /^%PDF|^\x89PNG/.test(head))
     return none("This is an archive or a document. Unpack it first; only gzip is unpacked here.");
   if (/^:/.test(head))
@@ -43,7 +43,7 @@ export function recognized(bytes) {
   if (/^\s*\d+[ ,\t]+\d+\s*$/m.test(head))
     return none("This looks like a list of edges, but is no graph.");
   if (/[^\x09\x0a\x0d\x20-\x7e]/.test(head)) return { kind: "maps", order: "be", name: "planar_code" };
-  return none("This text is neither a graph nor a figure. Pigale reads planar_code, graph6, its own figures, and graphs in the formats named above.");
+  return none("This text is neither a graph nor a figure. What is read is named above.");
 }
 
 // Says whether a line is as long as its first byte says, and in the bytes of graph6.
@@ -157,7 +157,8 @@ function faultsOf(kind, bytes) {
   for (let at = 0; at < bytes.length; at++) {
     if (bytes[at] === 10 && (at === 0 || bytes[at - 1] === 10)) found.add("empty lines were taken out");
     else if (bytes[at] === 13 && bytes[at + 1] === 10) found.add("carriage returns were taken out");
-    else if (bytes[at] === MORE && kind === "graphs" && startsAt(bytes, at, GRAPH_HEADER)) found.add("headers of joined files were taken out");
+    else if (bytes[at] === MORE && kind === "graphs" && startsAt(bytes, at, GRAPH_HEADER))
+      found.add("headers of joined files were taken out");
   }
   if (bytes.length && bytes[bytes.length - 1] !== 10) found.add("the last line was closed");
   return [...found];

@@ -1,19 +1,24 @@
 // Graphs in the files of other programs: DOT of Graphviz, GraphML, and JSON of networkx and others.
 
+// What the words of DOT are.
+const GAP = /\s+|\/\/[^\n]*|\/\*[^]*?\*\/|^#[^\n]*/;
+const QUOTED = /"(?:\\[^]|[^"\\])*"/;
+const MARKUP = /<[^]*?>(?=\s*[;,\]}\s])/;
+const MARK = /--|->|[{}[\];,=:]/;
+const NAME = /[\w.\u0080-\uffff]+|-?\d*\.\d+|-\d+/;
+
 // Splits DOT into its words: names, edges, brackets and marks, each with its line.
 function dotWords(text, Fault) {
   const words = [];
-  const pattern = /(\s+|\/\/[^\n]*|\/\*[^]*?\*\/|^#[^\n]*)|"((?:\\[^]|[^"\\])*)"|(<[^]*?>(?=\s*[;,\]}\s]))|(--|->|[{}[\];,=:])|([\w.\u0080-\uffff]+|-?\d*\.\d+|-\d+)/gmy;
+  const kinds = [GAP, QUOTED, MARKUP, MARK, NAME].map(({ source }) => `(${source})`);
+  const pattern = new RegExp(kinds.join("|"), "gmy");
   for (let line = 1; pattern.lastIndex < text.length; ) {
     const at = pattern.lastIndex;
     const found = pattern.exec(text);
     if (!found) throw new Fault(`“${text.slice(at, at + 20).split("\n")[0]}” is not understood.`, line);
-    const [whole, gap, quoted, markup, mark, name] = found;
-    if (!gap) {
-      const isName = quoted !== undefined || markup || name;
-      words.push({ word: quoted !== undefined ? quoted.replace(/\\(["\\])/g, "$1") : whole, isName: Boolean(isName), isPlain: !quoted && Boolean(name), line });
-      if (mark) words[words.length - 1].isName = false;
-    }
+    const [whole, gap, quoted, , mark, name] = found;
+    const word = quoted ? quoted.slice(1, -1).replace(/\\(["\\])/g, "$1") : whole;
+    if (!gap) words.push({ word, isName: !mark, isPlain: Boolean(name), line });
     line += whole.split("\n").length - 1;
   }
   return words;
@@ -94,8 +99,9 @@ export function readGraphml(text, Fault) {
   for (const found of plain.matchAll(/<(?:\w+:)?(node|edge)\b([^>]*)>/g)) {
     const value = (name) => {
       const [, one, other] = new RegExp(`\\b${name}\\s*=\\s*(?:"([^"]*)"|'([^']*)')`).exec(found[2]) || [];
-      if (one === undefined && other === undefined) throw new Fault(`a ${found[1]} has no ${name}.`, plain.slice(0, found.index).split("\n").length);
-      return unescaped(one ?? other);
+      const given = one ?? other;
+      if (given === undefined) throw new Fault(`a ${found[1]} has no ${name}.`, plain.slice(0, found.index).split("\n").length);
+      return unescaped(given);
     };
     if (found[1] === "node") names.push(value("id"));
     else pairs.push([value("source"), value("target")]);
@@ -113,15 +119,19 @@ function unescaped(text) {
 // Returns the graph of JSON: node-link data, lists of neighbours by name, a matrix, pairs, or { n, edges }.
 export function readJson(data, Fault) {
   if (Array.isArray(data)) {
-    const isMatrix = data.length > 2 && data.every((row) => Array.isArray(row) && row.length === data.length && row.every((it) => it === 0 || it === 1));
-    if (isMatrix) return { format: "a matrix", names: data.map((_, k) => k + 1), pairs: data.flatMap((row, v) => row.flatMap((it, u) => (it && u >= v ? [[v + 1, u + 1]] : []))) };
+    const isRow = (row) => Array.isArray(row) && row.length === data.length && row.every((it) => it === 0 || it === 1);
+    if (data.length > 2 && data.every(isRow)) {
+      const pairs = data.flatMap((row, v) => row.flatMap((it, u) => (it && u >= v ? [[v + 1, u + 1]] : [])));
+      return { format: "a matrix", names: data.map((_, k) => k + 1), pairs };
+    }
     if (data.every(isPair)) return { format: "pairs", pairs: data.map(([one, other]) => [one, other]) };
     if (data.every(Array.isArray)) return listedNeighbours(data.map((list, v) => [v, list]));
     throw new Fault("The JSON is a list, and not of pairs, of a matrix's rows, or of neighbours.");
   }
   const links = data.links || data.edges;
   if (Array.isArray(links)) {
-    const ids = data.nodes ? data.nodes.map((node, k) => (node && typeof node === "object" ? (node.id ?? node.name ?? k) : node)) : Array.from({ length: data.n || 0 }, (_, k) => k + 1);
+    const idOf = (node, k) => (node && typeof node === "object" ? (node.id ?? node.name ?? k) : node);
+    const ids = data.nodes ? data.nodes.map(idOf) : Array.from({ length: data.n || 0 }, (_, k) => k + 1);
     const ends = (link) => (Array.isArray(link) ? link : [link.source ?? link.from ?? link.a, link.target ?? link.to ?? link.b]);
     const pairs = links.map(ends);
     const bad = pairs.findIndex((pair) => pair.length < 2 || pair.some((it) => it === undefined || it === null));

@@ -4,7 +4,11 @@ import { readGraph } from "./figures.js";
 import { isGraphLine } from "./formats.js";
 import { readDot, readGraphml, readJson } from "./graph_files.js";
 
+const NAMED = /\s*["']?([^\s,;(){}[\]"']+)["']?\s*/.source;
+const PAIR = new RegExp(`[({[]${NAMED}[,;\\s]${NAMED}(?:,\\s*\\{[^}]*\\}\\s*)?[)}\\]]`, "g"); // {0,1}, (a, b), (1, 2, {})
 const DASH = /\s*(?:<?-{1,2}>?|[–—→])\s*/;
+
+const EDGE = "An edge is two names, as in 1 2, a-b or {0,1}.";
 
 // Says why a text is no graph, and in which line.
 export class GraphFault extends Error {
@@ -93,7 +97,8 @@ function readSparse6(text, number = 1) {
   const six = [...line.slice(1)].map((it) => it.charCodeAt(0) - 63);
   if (six.some((it) => it < 0 || it > 63)) throw new GraphFault("a byte is none of sparse6.", number);
   const wide = six[0] === 63;
-  if (!six.length || (wide && (six.length < 4 || six[1] === 63))) throw new GraphFault("the number of vertices is cut off, or too large.", number);
+  const isCut = !six.length || (wide && (six.length < 4 || six[1] === 63));
+  if (isCut) throw new GraphFault("the number of vertices is cut off, or too large.", number);
   const count = wide ? (six[1] << 12) | (six[2] << 6) | six[3] : six[0];
   const bits = six.slice(wide ? 4 : 1).flatMap((it) => [5, 4, 3, 2, 1, 0].map((k) => (it >> k) & 1));
   const width = Math.max(1, Math.ceil(Math.log2(Math.max(count, 1))));
@@ -116,7 +121,8 @@ function readMatrix(text) {
   if (!isSquare) return null;
   rows.forEach((row, v) =>
     row.forEach((it, u) => {
-      if (it !== rows[u][v]) throw new GraphFault(`the matrix has ${it} in row ${v + 1}, column ${u + 1}, and ${rows[u][v]} the other way round.`);
+      const place = `row ${v + 1}, column ${u + 1}`;
+      if (it !== rows[u][v]) throw new GraphFault(`the matrix has ${it} in ${place}, and ${rows[u][v]} the other way round.`);
     }),
   );
   const pairs = rows.flatMap((row, v) => row.flatMap((it, u) => (it === "1" && u >= v ? [[v + 1, u + 1]] : [])));
@@ -135,7 +141,11 @@ function readAdjacency(text) {
   const isWeighted = (words) => words.length === 3 && /^-?\d*\.\d+$/.test(words[2]);
   const isBare = lines.length > 1 && lines.every(([line]) => /^[\w.]+(\s+[\w.]+)*$/.test(line));
   if (!hasColons && !(isBare && split.some((words) => words.length > 2 && !isWeighted(words)))) return null;
-  const rows = hasColons ? lines.map(([line]) => line.split(/\s*:\s*/, 2)).map(([head, tail]) => [head, ...tail.split(/[\s,;{}()[\]]+/).filter(Boolean)]) : split;
+  const parted = (line) => {
+    const [head, tail] = line.split(/\s*:\s*/, 2);
+    return [head, ...tail.split(/[\s,;{}()[\]]+/).filter(Boolean)];
+  };
+  const rows = hasColons ? lines.map(([line]) => parted(line)) : split;
   // Each edge stands in both lists: the second time is no repetition.
   const seen = new Set();
   const pairs = [];
@@ -153,9 +163,8 @@ function readAdjacency(text) {
 
 // Returns the graph of pairs in brackets, or of lines and pieces such as `1 2`, `a -- b` and `a-b-c`.
 function readEdges(text) {
-  const bracketed = [...text.matchAll(/[({[]\s*["']?([^\s,;(){}[\]"']+)["']?\s*[,;\s]\s*["']?([^\s,;(){}[\]"']+)["']?\s*(?:,\s*\{[^}]*\}\s*)?[)}\]]/g)];
-  const rest = text.replace(/[({[]\s*["']?[^\s,;(){}[\]"']+["']?\s*[,;\s]\s*["']?[^\s,;(){}[\]"']+["']?\s*(?:,\s*\{[^}]*\}\s*)?[)}\]]/g, "");
-  if (bracketed.length && !/[^\s,;(){}[\]=A-Za-z]/.test(rest)) return { format: "pairs", pairs: bracketed.map(([, one, other]) => [one, other]) };
+  const bracketed = [...text.matchAll(PAIR)].map(([, one, other]) => [one, other]);
+  if (bracketed.length && !/[^\s,;(){}[\]=A-Za-z]/.test(text.replace(PAIR, ""))) return { format: "pairs", pairs: bracketed };
   const pairs = [];
   const names = [];
   for (const [line, number] of codeLines(text))
@@ -163,10 +172,10 @@ function readEdges(text) {
       const path = DASH.test(piece) ? piece.split(DASH) : piece.split(/\s+/).slice(0, /^\S+\s+\S+\s+-?[\d.]+$/.test(piece) ? 2 : undefined);
       if (path.some((name) => !name)) throw new GraphFault(`“${piece.slice(0, 40)}” lacks a vertex at a dash.`, number);
       names.push(...path);
-      if (path.length > 2 && !DASH.test(piece)) throw new GraphFault(`“${piece.slice(0, 40)}” is no edge. An edge is two names, as in 1 2, a-b or {0,1}.`, number);
+      if (path.length > 2 && !DASH.test(piece)) throw new GraphFault(`“${piece.slice(0, 40)}” is no edge. ${EDGE}`, number);
       for (let k = 1; k < path.length; k++) pairs.push([path[k - 1], path[k]]);
     }
-  if (!pairs.length) throw new GraphFault("There is no edge in it. An edge is two names, as in 1 2, a-b or {0,1}.");
+  if (!pairs.length) throw new GraphFault(`There is no edge in it. ${EDGE}`);
   return { format: "edges", names, pairs };
 }
 

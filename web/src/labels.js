@@ -6,7 +6,8 @@ const LEAST_WITHIN = 7.6; // the least height of a number within a dot, in a pic
 
 const NARROW = "ijltfrI.,;:'|!()[] ";
 const BROAD = "mwMW@%";
-const FULL = /[\u1100-\u115f\u2e80-\u303e\u3041-\ua4cf\uac00-\ud7a3\uf900-\ufaff\ufe30-\ufe6f\uff01-\uff60\uffe0-\uffe6]|\p{Emoji_Presentation}/u;
+const EAST = "\u1100-\u115f\u2e80-\u303e\u3041-\ua4cf\uac00-\ud7a3\uf900-\ufaff\ufe30-\ufe6f\uff01-\uff60\uffe0-\uffe6";
+const FULL = new RegExp(`[${EAST}]|\\p{Emoji_Presentation}`, "u");
 
 // Returns about how wide a text is, in its height; digits are as wide as they are in Helvetica, other letters a little more.
 export function textWidth(text) {

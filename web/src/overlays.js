@@ -126,7 +126,8 @@ export function barsOverlay(figure) {
     const size = Math.min(11 * look.scale, boxes[0][3] * 0.8);
     if (size < Math.max(look.least * 0.8, 5)) return {};
     const text = (x, y, words) =>
-      `<text x="${num(x)}" y="${num(y)}" dy="0.35em" font-size="${num(size)}" text-anchor="middle" ${look.paint({ fill: "soft" })}>${words}</text>`;
+      `<text x="${num(x)}" y="${num(y)}" dy="0.35em" font-size="${num(size)}" text-anchor="middle" ` +
+      `${look.paint({ fill: "soft" })}>${words}</text>`;
     const low = Math.max(...boxes.map(([, y, , height]) => y + height)) + size;
     const columns = new Map(figure.columns.map((x, k) => [x, pairs[k] && pairs[k][0][0]]));
     const below = [...columns].filter(([, at]) => at !== undefined).map(([x, at]) => text(at, low, x));

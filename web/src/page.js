@@ -126,7 +126,7 @@ async function readAs(asked) {
 function taken({ name, bytes, notes }, found, isAsked) {
   const size = plural(bytes.length, "byte");
   if (found.kind !== page.kind) {
-    const reason = found.reason || `It has ${found.name}, and the first file ${{ maps: "maps", graphs: "graphs", figures: "figures" }[page.kind]}.`;
+    const reason = found.reason || `It has ${found.name}, and the first file ${page.kind}.`;
     return `${name} is left out: ${reason}`;
   }
   const input = { name, ...readable(found.kind, found.order, bytes) };

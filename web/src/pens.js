@@ -27,10 +27,11 @@ export function variable(paints) {
 // `overlay` returns of a scene what is drawn `below` the lines and `above` them, the `colours` of vertices, and whether the
 // picture `hasNoLines` of its own, and the `room` that bars need on their left. `frame` has places that the picture has room for besides.
 export class Look {
-  constructor({ side, equilateral = false, faces = false, paint = plain, least = 0, fine = 1, dense = Infinity, names = null, overlay, frame = [] }) {
-    Object.assign(this, { side, equilateral, faces, paint, least, fine, dense, names, frame, overlay: overlay || (() => ({})) });
-    this.scale = side / UNIT;
-    this.margin = STYLE.margin * this.scale * Math.min(1, fine);
+  constructor(given) {
+    Object.assign(this, { equilateral: false, faces: false, paint: plain, least: 0, fine: 1, dense: Infinity, names: null, frame: [] }, given);
+    this.overlay = given.overlay || (() => ({}));
+    this.scale = this.side / UNIT;
+    this.margin = STYLE.margin * this.scale * Math.min(1, this.fine);
   }
 
   // Returns the radius of a "dot", the width of a "line" or the height of a "number" in a picture of `count` vertices.
@@ -83,10 +84,12 @@ export function arrow(from, to, width, colour, look, isDotted = false) {
   const length = Math.hypot(dx, dy) || 1;
   const [along, size] = [[dx / length, dy / length], Math.min(2.2 * width + 2 * look.scale, length / 3)];
   const [x, y] = [from[0] + 0.6 * dx, from[1] + 0.6 * dy];
-  const corner = (ahead, aside) => `${num(x + ahead * size * along[0] - aside * size * along[1])} ${num(y + ahead * size * along[1] + aside * size * along[0])}`;
+  const [a, b] = [size * along[0], size * along[1]];
+  const corner = (ahead, aside) => `${num(x + ahead * a - aside * b)} ${num(y + ahead * b + aside * a)}`;
   const dash = isDotted ? ` stroke-dasharray="${num(width)} ${num(2 * width)}"` : "";
   return (
-    `<line x1="${num(from[0])}" y1="${num(from[1])}" x2="${num(to[0])}" y2="${num(to[1])}" ${look.paint({ stroke: colour })} stroke-width="${num(width)}"${dash}/>` +
+    `<line x1="${num(from[0])}" y1="${num(from[1])}" x2="${num(to[0])}" y2="${num(to[1])}" ` +
+    `${look.paint({ stroke: colour })} stroke-width="${num(width)}"${dash}/>` +
     `<path d="M${corner(1, 0)}L${corner(-0.8, 0.75)}L${corner(-0.8, -0.75)}Z" ${look.paint({ fill: colour })}/>`
   );
 }
@@ -150,8 +153,9 @@ export function framed([width, height], body, { lines: dotted, reach, radius }, 
 export function widened([width, height], body, scene, left) {
   if (!left) return [[width, height], body, scene];
   const moved = ([x, ...rest]) => [x + left, ...rest];
-  const { spots, boxes, pairs } = scene;
-  const shifted = { ...scene, spots: spots && spots.map(moved), boxes: boxes && boxes.map(moved), pairs: pairs.map((pair) => pair.map(moved)) };
+  const { spots, boxes } = scene;
+  const pairs = scene.pairs.map((pair) => pair.map(moved));
+  const shifted = { ...scene, spots: spots && spots.map(moved), boxes: boxes && boxes.map(moved), pairs };
   return [[width + left, height], [`<g transform="translate(${left})">`, ...body, "</g>"], shifted];
 }
 

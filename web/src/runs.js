@@ -115,7 +115,8 @@ function showStatus(time) {
   const records = plural(answers.records, NOUNS[answers.kind]);
   const seconds = time < 950 ? `${Math.max(1, Math.round(time))} ms` : `${(time / 1000).toFixed(1)} s`;
   const share = Math.floor((100 * answers.done) / Math.max(1, answers.size));
-  const joined = answers.headers ? ` ${plural(answers.headers, "header")} of joined files ${answers.headers === 1 ? "was" : "were"} passed over.` : "";
+  const were = answers.headers === 1 ? "was" : "were";
+  const joined = answers.headers ? ` ${plural(answers.headers, "header")} of joined files ${were} passed over.` : "";
   $("status").textContent = page.isRunning ? `${records} so far, ${share} % of the input, ${seconds}` : `${records} in ${seconds}.${joined}`;
   $("fault").textContent = answers.why;
 }
@@ -150,14 +151,16 @@ function showTotals() {
     const refused = [...answers.refused[job]].sort((p, q) => q[1] - p[1]);
     const count = refused.reduce((sum, it) => sum + it[1], 0);
     const good = { count: "counted", verify: "valid" }[job] || (job === "embed" ? "answered" : "drawn");
-    const why = count ? `, ${count.toLocaleString("en")} ${job === "verify" ? "with a fault" : "refused"}: ${refused.map(([name, it]) => `${name}${refused.length > 1 ? ` ${it.toLocaleString("en")}` : ""}`).join(", ")}` : "";
+    const named = refused.map(([name, it]) => (refused.length > 1 ? `${name} ${it.toLocaleString("en")}` : name)).join(", ");
+    const why = count ? `, ${count.toLocaleString("en")} ${job === "verify" ? "with a fault" : "refused"}: ${named}` : "";
     const row = element("div", "", { className: "total" });
     const words = element("span");
     words.append(element("strong", job), `: ${(answers.records - count).toLocaleString("en")} ${good}${why}`);
     const text = (act) => act(answers.pieces(job), `${job}.txt`);
+    const copied = (button) => text((pieces) => copy(pieces.join(""), button));
     row.append(
       words,
-      element("button", "Copy", { type: "button", title: `Copy the text of ${job}`, onclick: ({ target }) => text((pieces) => copy(pieces.join(""), target)) }),
+      element("button", "Copy", { type: "button", title: `Copy the text of ${job}`, onclick: ({ target }) => copied(target) }),
       element("button", "Save", { type: "button", title: `Save the text of ${job}`, onclick: () => text(saveFile) }),
     );
     return row;

@@ -24,7 +24,11 @@ export async function pngOf(svg, { width, height }, scale = 2) {
 // Returns a figure as JSON: its method, its vertices with their names and places, and its edges.
 export function jsonOf(figure, names) {
   const { job, lists, places, bars, rects, columns } = figure;
-  const at = (k) => (places ? { x: places[k][0], y: places[k][1] } : bars ? { y: bars[k].y, x1: bars[k].a, x2: bars[k].b } : { x1: rects[k].a, x2: rects[k].b, y1: rects[k].c, y2: rects[k].d });
+  const at = (k) => {
+    if (places) return { x: places[k][0], y: places[k][1] };
+    if (bars) return { y: bars[k].y, x1: bars[k].a, x2: bars[k].b };
+    return { x1: rects[k].a, x2: rects[k].b, y1: rects[k].c, y2: rects[k].d };
+  };
   const vertices = names.map((name, k) => ({ name, ...at(k), neighbours: lists[k].map((u) => names[u - 1]) }));
   const edges = edgesOf(lists).map(([v, u], k) => ({ ends: [names[v - 1], names[u - 1]], ...(columns ? { x: columns[k] } : {}) }));
   return `${JSON.stringify({ method: job, vertices, edges }, null, 1)}\n`;

@@ -27,7 +27,9 @@ export class Scene {
   }
 
   vertexAt([x, y], near) {
-    if (this.boxes) return this.boxes.findIndex(([left, top, width, height]) => x >= left - 1 && x <= left + width + 1 && y >= top - 1 && y <= top + height + 1) + 1;
+    const isWithin = (place, from, size) => place >= from - 1 && place <= from + size + 1;
+    if (this.boxes)
+      return this.boxes.findIndex(([left, top, width, height]) => isWithin(x, left, width) && isWithin(y, top, height)) + 1;
     let [found, least] = [0, near];
     this.spots.forEach(([a, b], k) => {
       const apart = Math.hypot(a - x, b - y);

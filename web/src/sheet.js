@@ -7,6 +7,13 @@ import { Study } from "./study.js";
 import { rectFace, viewsOf } from "./views.js";
 import { makeView, markAll, redrawView, SPARSE } from "./view_cards.js";
 
+// why a graph has neither a map nor a witness
+const WHY = {
+  BadArgument: "it has more vertices than the program takes",
+  Small: "it has fewer than three vertices",
+  NoMemory: "there is not enough memory",
+};
+const HELP = "Point at a vertex, an edge or a face. A click on a face puts it outside, and a vertex of the round drawing can be dragged.";
 const MOST_LINK = 60000; // letters of an address that is kept
 const CHOICES = 4095; // vertices and faces that are named for choice, at most
 
@@ -50,8 +57,7 @@ function factsNow(study) {
   }
   const { names, edges } = study.given;
   if (study.witness) return witnessFacts(names, edges, study.witness);
-  const why = { BadArgument: "it has more vertices than the program takes", Small: "it has fewer than three vertices", NoMemory: "there is not enough memory" };
-  return `No drawing: ${why[study.refused] || study.refused}.`;
+  return `No drawing: ${WHY[study.refused] || study.refused}.`;
 }
 
 // Says which edge of a witness can go, so that the graph is planar.
@@ -61,17 +67,20 @@ function showLoose(study) {
   const edge = study.looseEdge();
   const { names, edges } = study.given;
   $("loose").hidden = false;
-  $("loose").replaceChildren(edge ? `Without the edge ${names[edge[0] - 1]}–${names[edge[1] - 1]} it is planar. ` : "No single edge can go so that it is planar.");
+  $("loose").textContent = "No single edge can go so that it is planar.";
   if (!edge) return;
+  const called = edge.map((v) => names[v - 1]).join("–");
+  $("loose").textContent = `Without the edge ${called} it is planar. `;
   const rest = edges.filter(([v, u]) => v !== edge[0] || u !== edge[1]);
-  const leave = () => openSheet({ ...study.given, edges: rest, out: "", at: "", show: "" }, `${page.title}, without ${names[edge[0] - 1]}–${names[edge[1] - 1]}`);
+  const leave = () => openSheet({ ...study.given, edges: rest, out: "", at: "", show: "" }, `${page.title}, without ${called}`);
   $("loose").append(element("button", "Leave it out", { type: "button", onclick: leave }));
 }
 
 function showChoices({ map, focus }) {
   const option = (text, value, isChosen) => element("option", text, { value, selected: isChosen });
   const isFew = map.count <= CHOICES;
-  $("vertex").replaceChildren(option("none", "0", !focus), ...(isFew ? map.names.map((name, k) => option(name, k + 1, focus && focus.v === k + 1)) : []));
+  const vertices = isFew ? map.names.map((name, k) => option(name, k + 1, focus && focus.v === k + 1)) : [];
+  $("vertex").replaceChildren(option("none", "0", !focus), ...vertices);
   const faces = map.faces.slice(0, CHOICES);
   const words = (walk) => walk.slice(0, 8).map((v) => map.names[v - 1]).join(" ") + (walk.length > 8 ? " …" : "");
   const fitting = rectFace(map);
@@ -93,7 +102,7 @@ export function tell(thing = page.study && page.study.focus) {
   const order = study.map.order();
   const rank = order && thing && thing.v ? rankOf(order.order) : null;
   const drawn = study.map.figure("schnyder");
-  $("told").textContent = thing ? told(study.map, thing, drawn.places, rank) : "Point at a vertex, an edge or a face. A click on a face puts it outside, and a vertex of the round drawing can be dragged.";
+  $("told").textContent = thing ? told(study.map, thing, drawn.places, rank) : HELP;
   markAll(study, thing);
 }
 

@@ -84,10 +84,10 @@ export class Study {
   // Returns what the judge says of the round drawing: its words, and the vertices and edges of its first fault.
   verdict() {
     const found = this.rounded();
-    if (!found) return { words: "", isGood: false, vertices: [], edges: [] };
-    if (!this.moved) return { words: found.isRound ? "judged: yes" : `judged: no round one, so the proved drawing by ${found.job}`, isGood: true, vertices: [], edges: [] };
+    const good = (words) => ({ words, isGood: true, vertices: [], edges: [] });
+    if (!this.moved) return good(found.isRound ? "judged: yes" : `judged: no round one, so the proved drawing by ${found.job}`);
     const { name, numbers } = this.map.judgeEdges(this.moved);
-    if (name === "OK" || name === "Turned") return { words: "judged: yes, no two edges meet", isGood: true, vertices: [], edges: [] };
+    if (name === "OK" || name === "Turned") return good("judged: yes, no two edges meet");
     const names = numbers.map((v) => this.map.names[v - 1]);
     const words = {
       SamePlace: `${names[0]} and ${names[1]} ${FAULTS.SamePlace}`,
@@ -95,7 +95,8 @@ export class Study {
       Cross: `${names[0]}–${names[1]} and ${names[2]}–${names[3]} ${FAULTS.Cross}`,
     }[name];
     const edges = { OnEdge: [numbers.slice(1)], Cross: [numbers.slice(0, 2), numbers.slice(2)] }[name] || [];
-    return { words: `judged: no, ${words || name}`, isGood: false, vertices: name === "Cross" ? [] : numbers.slice(0, name === "OnEdge" ? 1 : 2), edges };
+    const vertices = { OnEdge: numbers.slice(0, 1), SamePlace: numbers }[name] || [];
+    return { words: `judged: no, ${words || name}`, isGood: false, vertices, edges };
   }
 
   // Returns the figure of the witness, as `readFigure` does.

@@ -10,7 +10,10 @@ const WIDTH = 8; // of a picture's longer side, in centimetres
 const TEX_COLOURS = ["line", "thin", "dot", "even", "odd", "tint-0", "tint-1", "tint-2", "tint-3", "tint-4", "tint-5"].concat(
   ["face-3", "face-4", "face-5", "face-6", "face-7", "face-8", "face-9", "face-10", "face-more"],
 );
-const SPECIAL = { "\\": "\\textbackslash{}", "~": "\\textasciitilde{}", "^": "\\textasciicircum{}", "<": "\\textless{}", ">": "\\textgreater{}", "|": "\\textbar{}" };
+const SPECIAL = {
+  "\\": "\\textbackslash{}", "~": "\\textasciitilde{}", "^": "\\textasciicircum{}",
+  "<": "\\textless{}", ">": "\\textgreater{}", "|": "\\textbar{}",
+};
 const HEAD = "\\documentclass[tikz,border=4pt]{standalone}\n\\usepackage[utf8]{inputenc}\n";
 
 // Returns a figure as one `tikzpicture`. What `given` says is as for `Look`.
@@ -22,7 +25,8 @@ export function tikzOf(figure, given = {}) {
 
 // Returns a LaTeX document by itself with a picture; `own` has colours in place of the style's.
 export function tikzDocument(picture, own = {}) {
-  const colours = TEX_COLOURS.map((name) => `\\definecolor{pigale-${name}}{HTML}{${(own[name] || STYLE.light[name]).slice(1).toUpperCase()}}`);
+  const codeOfColour = (name) => (own[name] || STYLE.light[name]).slice(1).toUpperCase();
+  const colours = TEX_COLOURS.map((name) => `\\definecolor{pigale-${name}}{HTML}{${codeOfColour(name)}}`);
   const styles =
     "\\tikzset{vertex/.style={circle, fill=pigale-dot, text=white, inner sep=1pt, minimum size=8pt, font=\\tiny},\n" +
     "  point/.style={circle, fill=pigale-dot, inner sep=1.2pt}, edge/.style={draw=pigale-line, line cap=round}}\n";
@@ -71,7 +75,8 @@ function texStraight(figure, look) {
   const spots = texScaled(isMapped ? equilateral(figure.job, figure.places) : figure.places);
   const faces = (look.faces ? facesOf(figure.lists) : []).flatMap((face) => {
     const corners = face.map((v) => spots[v - 1]);
-    const area = corners.reduce((sum, [x, y], k) => sum + x * corners[(k + 1) % corners.length][1] - corners[(k + 1) % corners.length][0] * y, 0);
+    const next = (k) => corners[(k + 1) % corners.length];
+    const area = corners.reduce((sum, [x, y], k) => sum + x * next(k)[1] - next(k)[0] * y, 0);
     const colour = face.length > 10 ? "face-more" : `face-${face.length}`;
     return area > 0 ? [`\\fill[pigale-${colour}] ${corners.map(texPlace).join(" -- ")} -- cycle;`] : [];
   });
@@ -81,7 +86,8 @@ function texStraight(figure, look) {
 
 function texBars({ bars, columns, lists }, look) {
   const most = (values) => values.reduce((found, it) => Math.max(found, it), 1);
-  const [across, up] = [Math.min(1, WIDTH / most([...bars.map(({ b }) => b), ...columns])), Math.min(0.8, WIDTH / most(bars.map(({ y }) => y)))];
+  const across = Math.min(1, WIDTH / most([...bars.map(({ b }) => b), ...columns]));
+  const up = Math.min(0.8, WIDTH / most(bars.map(({ y }) => y)));
   const edges = edgesOf(lists).map(([v, u], k) => {
     const [x, low, high] = [across * columns[k], up * bars[v - 1].y, up * bars[u - 1].y];
     return `\\draw[edge] ${texPlace([x, low])} -- ${texPlace([x, high])};`;

@@ -20,7 +20,8 @@ export function makeView(study, view) {
   const card = element("figure", "", { className: "view" });
   card.dataset.view = view;
   const head = element("figcaption");
-  const title = element("button", titleOf(view), { type: "button", className: "title", title: "Larger or smaller", onclick: () => toFront(study, view) });
+  const onclick = () => toFront(study, view);
+  const title = element("button", titleOf(view), { type: "button", className: "title", title: "Larger or smaller", onclick });
   head.append(title, element("span", aboutOf(view), { className: "said" }));
   const pane = element("div", "", { className: "pane", tabIndex: 0 });
   pane.setAttribute("role", "group");
@@ -29,7 +30,8 @@ export function makeView(study, view) {
   card.draw = () => {
     const isLate = view === "round" && study.map.count > LATE && !study.isAsked;
     if (!isLate) return redrawView(study, view);
-    pane.replaceChildren(element("button", "Draw it round", { type: "button", onclick: () => ((study.isAsked = true), redrawView(study, view)) }));
+    const ask = () => ((study.isAsked = true), redrawView(study, view));
+    pane.replaceChildren(element("button", "Draw it round", { type: "button", onclick: ask }));
   };
   listen(study, view, card, pane);
   if (study.show === view) card.classList.add("front");
@@ -215,7 +217,7 @@ function controls(study, view) {
     page.sheet.keepLink();
   };
   range.oninput = () => go(Number(range.value));
-  const button = (text, label, act) => box.append(Object.assign(element("button", text, { type: "button", onclick: act }), { ariaLabel: label }));
+  const button = (text, ariaLabel, onclick) => box.append(element("button", text, { type: "button", ariaLabel, onclick }));
   button("◀", "One step back", () => go((study.step ?? most) - 1));
   box.append(range);
   button("▶", "One step on", () => go((study.step ?? most) + 1));
@@ -236,7 +238,8 @@ function acts(study, view) {
   const box = element("div", "", { className: "acts" });
   const button = (text, act) => box.append(element("button", text, { type: "button", onclick: act }));
   const names = () => (study.map ? study.map.names : study.given.names);
-  const made = () => viewOf(study, view, { ...lookOf(study, view, Number($("side").value) || SIDE.large), paint: (paints) => plain(paints, page.tones), dense: Infinity, least: 0 });
+  const own = { paint: (paints) => plain(paints, page.tones), dense: Infinity, least: 0 };
+  const made = () => viewOf(study, view, { ...lookOf(study, view, Number($("side").value) || SIDE.large), ...own });
   const name = `${view}.`;
   button("SVG", () => saveFile([svgDocument(made())], `${name}svg`));
   button("PNG", async () => saveFile([await pngOf(svgDocument(made()), made())], `${name}png`));

@@ -52,9 +52,13 @@ export const documentOf = (view) => `../docs/PAGE.md#${titleOf(view).toLowerCase
 // Returns the picture of a view, with its scene, its figure, and what is said of it; or where there is none only why not.
 export function viewOf(study, view, look) {
   if (view === "round") return roundView(study, look);
-  if (view === "witness") return { figure: study.witnessFigure(), ...picture(study.witnessFigure(), { ...look, names: study.given.names }), said: "" };
+  if (view === "witness") {
+    const figure = study.witnessFigure();
+    return { figure, said: "", ...picture(figure, { ...look, names: study.given.names }) };
+  }
   const figure = study.map.figure(view);
-  if (figure.refused) return { said: refusalOf(figure, study.map.names), isRefused: true, fitting: view === "rect" ? rectFace(study.map) : -1 };
+  const fitting = figure.refused && view === "rect" ? rectFace(study.map) : -1;
+  if (figure.refused) return { said: refusalOf(figure, study.map.names), isRefused: true, fitting };
   const [given, said] = WAYS[view](study, figure, { ...look, names: study.map.names });
   return { figure, said, ...picture(given.figure || figure, given) };
 }
@@ -97,7 +101,10 @@ const WAYS = {
     if (!step) return [look, grid];
     return [{ ...look, ...partial(study.map, step, look) }, stepSaid(study.map, step)];
   },
-  bars: (study, figure, look) => [{ ...look, overlay: study.map.count <= look.dense ? barsOverlay(figure) : undefined }, "st-numbers beside the bars"],
+  bars(study, figure, look) {
+    const overlay = study.map.count <= look.dense ? barsOverlay(figure) : undefined;
+    return [{ ...look, overlay }, "st-numbers beside the bars"];
+  },
   rect(study, figure, look) {
     const isShown = study.map.labels() && study.map.count <= 200;
     return [{ ...look, overlay: isShown ? labelOverlay(study.map) : undefined }, isShown ? "upwards red, rightwards blue" : ""];
@@ -113,7 +120,8 @@ function counted(map, figure, { counts }, v, what) {
 function stepSaid(map, step) {
   const names = (vertices) => vertices.map((v) => map.names[v - 1]).join(", ");
   if (!step.comes) return `the base: ${names(step.contour)}`;
-  const moves = [["by one", step.ones], ["by two", step.twos]].filter(([, list]) => list.length).map(([words, list]) => `${names(list)} ${words}`);
+  const ways = [["by one", step.ones], ["by two", step.twos]].filter(([, list]) => list.length);
+  const moves = ways.map(([words, list]) => `${names(list)} ${words}`);
   return `${names([step.comes])} comes over ${names(step.touched)}${moves.length ? `; to the right move ${moves.join(", ")}` : ""}`;
 }
 
@@ -124,11 +132,13 @@ function partial(map, step, look) {
   const lists = here.map((v) => map.order().lists[v - 1].filter((u) => number.has(u)).map((u) => number.get(u)));
   const places = here.map((v) => step.places.get(v));
   const own = new Set(map.edges.map(String));
+  const corners = [[0, 0], [2 * map.count - 4, map.count - 2]];
   const overlay = ({ spots }, given) => {
     const width = given.size("line", map.count);
     const at = (v) => spots[number.get(v) - 1];
     const pairs = here.flatMap((v) => map.order().lists[v - 1].filter((u) => u > v && number.has(u)).map((u) => [v, u]));
-    const [ours, added] = [true, false].map((isOwn) => pairs.filter((pair) => own.has(String(pair)) === isOwn).map(([v, u]) => [at(v), at(u)]));
+    const ends = (isOwn) => pairs.filter((pair) => own.has(String(pair)) === isOwn).map(([v, u]) => [at(v), at(u)]);
+    const [ours, added] = [ends(true), ends(false)];
     const contour = step.contour.slice(1).map((v, k) => [at(step.contour[k]), at(v)]);
     const reach = step.touched.map((u) => [at(step.comes), at(u)]);
     const colours = here.map((v) => (v === step.comes ? "even" : step.twos.includes(v) || step.ones.includes(v) ? "odd" : "dot"));
@@ -138,7 +148,7 @@ function partial(map, step, look) {
   return {
     figure: { job: "shift", count: here.length, lists, places },
     names: here.map((v) => map.names[v - 1]),
-    frame: look.equilateral ? equilateral("shift", [[0, 0], [2 * map.count - 4, map.count - 2]]) : [[0, 0], [2 * map.count - 4, map.count - 2]],
+    frame: look.equilateral ? equilateral("shift", corners) : corners,
     faces: false,
     overlay,
     here,
@@ -150,7 +160,8 @@ function roundView(study, look) {
   if (!found) return { said: refusalOf(study.map.figure("schnyder"), study.map.names), isRefused: true };
   const { map } = study;
   const verdict = study.verdict();
-  const figure = { job: found.isRound || study.moved ? "round" : found.job, count: map.count, lists: map.lists, places: study.moved || found.places };
+  const job = found.isRound || study.moved ? "round" : found.job;
+  const figure = { job, count: map.count, lists: map.lists, places: study.moved || found.places };
   const overlay = verdict.isGood ? layer(study, look) : faulty(map, verdict);
   const made = picture(figure, { ...look, names: map.names, faces: look.faces && verdict.isGood, overlay });
   return { figure, said: verdict.words, isGood: verdict.isGood, isBad: !verdict.isGood, ...made };
