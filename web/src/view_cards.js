@@ -152,20 +152,28 @@ function listen(study, view, card, pane) {
   pane.onkeydown = (event) => walkBy(study, event);
 }
 
-// Returns how places of the round drawing become those of its picture: by a unit and two moves.
+// Returns how places of the round drawing become those of its picture: by a unit and two moves. Of all vertices the first and
+// the one that is farthest from it tell.
 function frameOf(study, card) {
-  const { places } = study.rounded();
-  const [a, b] = [0, places.findIndex(([x, y]) => Math.hypot(x - places[0][0], y - places[0][1]) > 1)];
+  const now = study.moved || study.rounded().places;
   const { spots } = card.scene;
-  const now = study.moved || places;
-  const unit = Math.hypot(spots[a][0] - spots[b][0], spots[a][1] - spots[b][1]) / Math.hypot(now[a][0] - now[b][0], now[a][1] - now[b][1]);
-  return { unit, left: spots[a][0] - unit * now[a][0], top: spots[a][1] + unit * now[a][1] };
+  const apart = (places, k) => Math.hypot(places[k][0] - places[0][0], places[k][1] - places[0][1]);
+  const far = now.reduce((best, _, k) => (apart(now, k) > apart(now, best) ? k : best), 0);
+  const unit = apart(spots, far) / apart(now, far);
+  return { unit, left: spots[0][0] - unit * now[0][0], top: spots[0][1] + unit * now[0][1] };
 }
 
 function drag(study, card, v, [x, y]) {
+  const found = study.rounded();
+  if (!study.moved) {
+    // A proved drawing in its stead is shown as it is from now on.
+    study.move(v, found.places[v - 1]);
+    redrawView(study, "round");
+    card.frame = frameOf(study, card);
+  }
   const { unit, left, top } = card.frame;
   card.isDragged = true;
-  const { size = study.map.faces.length } = study.rounded();
+  const size = found.size || Math.max(...found.places.flat());
   const whole = (value) => Math.max(Math.round(-size / 50), Math.min(Math.round(1.02 * size), Math.round(value)));
   study.move(v, [whole((x - left) / unit), whole((top - y) / unit)]);
   redrawView(study, "round");
