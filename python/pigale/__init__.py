@@ -18,10 +18,10 @@ repository, `run` and what stands on it ask that, within this process, in place 
 
 `read_graphs` reads graphs of many formats with their names, `draw_named` draws them, and `written` writes the drawings.
 
-Its modules: `formats` (planar_code, graph6 and the program's text), `runs` (of the program), `library` and `typed` (the same within
-this process), `parts` and `parallel` (inputs of any size), `maps`, `makers`, `checks`, `graphs` and `networkx_backend` (networkx, igraph and Sage), `kinds` and
-`readers` (other formats), `drawn` and `rounds` (drawings of named graphs), `pictures`, `tikz`, `writers` and `pages`, and `cli` (the
-commands). All that they offer is here by one name.
+Its modules: `formats` (planar_code, graph6 and the program's text), `runs` (of the program), `library` and `typed` (the same
+within this process), `parts` and `parallel` (inputs of any size), `maps`, `makers`, `checks`, `graphs` and `networkx_backend`
+(networkx, igraph and Sage), `kinds` and `readers` (other formats), `drawn`, `rounds` and `crossings` (drawings of named graphs),
+`pictures`, `tikz`, `writers` and `pages`, and `cli` (the commands). All that they offer is here by one name.
 """
 __version__ = "1.0.0"
 

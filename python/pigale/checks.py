@@ -42,8 +42,8 @@ def check(places: Places, edges: Iterable[Sequence[Any]], rotations: Optional[Ro
     `places` gives each vertex its point: a mapping from names to (x, y), or a list, whose vertices are then called 0,
     1, .. `edges` has pairs of names. Coordinates are whole numbers, of any sign (a float such as 3.0 is one); for
     others use `scaled` first. After what both axes' steps have in common is divided out, the drawing may be 8186 by
-    4092, or 4092 by 8186, with up to 4094 vertices; by the library 1048576 by 1048576, with up to 4095. Whether y grows upwards or downwards changes no answer, unless
-    `rotations` are given.
+    4092, or 4092 by 8186, with up to 4094 vertices; by the library 1048576 by 1048576, with up to 4095. Whether y grows
+    upwards or downwards changes no answer, unless `rotations` are given.
 
     The answer is "yes" where no two vertices stand at one place, none stands on an edge of which it is no end, and no
     two edges cross. Else it is the first of these faults, with vertices by your names, least in the order of
@@ -112,7 +112,8 @@ def _judged(path: str, places: Places, edges: Iterable[Sequence[Any]], rotations
     points, pairs, names = _paired(places, edges)
     size = max((max(point) for point in points), default=0)
     if len(points) > MOST_VERTICES or size > FARTHEST:
-        raise ValueError(f"{len(points)} vertices on a grid of {size}: at most {MOST_VERTICES} vertices within {FARTHEST} by {FARTHEST} can be judged")
+        raise ValueError(f"{len(points)} vertices on a grid of {size}: at most {MOST_VERTICES} vertices within {FARTHEST} by "
+                         f"{FARTHEST} can be judged")
     if not points:
         return Checked("yes")
     if rotations is None and has_edge_check(path):
@@ -127,7 +128,8 @@ def _paired(places: Places, edges: Iterable[Sequence[Any]]) -> Tuple[List[Place]
     named = _named(places)
     names = list(named)
     number = {name: v for v, name in enumerate(names, 1)}
-    points = _fitted([(x if type(x) is int else _whole(x, name), y if type(y) is int else _whole(y, name)) for name, (x, y) in named.items()])
+    points = _fitted([(x if type(x) is int else _whole(x, name), y if type(y) is int else _whole(y, name))
+                      for name, (x, y) in named.items()])
     given = list(edges)
     try:
         return points, [(number[u], number[v]) for u, v in given], names

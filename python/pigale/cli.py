@@ -89,7 +89,8 @@ def _say_if_it_waits(words: Sequence[str]) -> None:
     """Says what is awaited where a job reads and nothing is given but a terminal."""
     job = next((word for word in words if word in READING_JOBS), None)
     if job and sys.stdin is not None and sys.stdin.isatty():
-        print(f"pigale: {reading_hint(job, b'')[0]}, and waits for it from the terminal; a file stands behind <, as in: pigale {job} < FILE", file=sys.stderr)
+        print(f"pigale: {reading_hint(job, b'')[0]}, and waits for it from the terminal; a file stands behind <, as in: "
+              f"pigale {job} < FILE", file=sys.stderr)
 
 
 def _parser() -> argparse.ArgumentParser:
@@ -175,7 +176,8 @@ class _Tally:
         return len(data)
 
     def __str__(self) -> str:
-        rows = [("n", "m", "f", "c", "genus", "records"), *((*map(str, counts), str(records)) for counts, records in sorted(self.counts.items()))]
+        rows: List[Tuple[str, ...]] = [("n", "m", "f", "c", "genus", "records")]
+        rows += [(*map(str, counts), str(records)) for counts, records in sorted(self.counts.items())]
         wide = [max(map(len, column)) for column in zip(*rows)]
         lines = ["  ".join(word.rjust(width) for word, width in zip(row, wide)) for row in rows]
         lines += [f"refused {name} {records}" for name, records in sorted(self.refusals.items())]
@@ -275,5 +277,6 @@ def _page(arguments: Arguments) -> int:
         for k, text in enumerate(pages(result, *look)):
             with open(os.path.join(arguments.to, page_name(k)), "w", encoding="utf-8") as file:
                 file.write(text)
-        print(f"pigale: {k + 1} page{'s' * (k > 0)}, of which the first is {os.path.join(arguments.to, page_name(0))}", file=sys.stderr)
+        first = os.path.join(arguments.to, page_name(0))
+        print(f"pigale: {k + 1} page{'s' * (k > 0)}, of which the first is {first}", file=sys.stderr)
     return 0 if result.status < 2 else 3

@@ -15,9 +15,11 @@ from .writers import FORMS, LABELS, ONE_A_FILE, Look, written
 
 # each maker by its word, with the names of its numbers
 MAKERS: Dict[str, Tuple[Callable[..., Lists], Tuple[str, ...]]] = {
-    "stacked": (stacked, ("SIZE", "NUMBER")), "triangulation": (lambda n, seed: triangulation(n, Random(seed)), ("SIZE", "SEED")),
-    "tree": (lambda n, seed: tree(n, Random(seed)), ("SIZE", "SEED")), "path": (path, ("SIZE",)), "cycle": (cycle, ("SIZE",)), "complete": (complete, ("SIZE",)),
-    "wheel": (wheel, ("SIZE",)), "prism": (prism, ("SIDES",)), "grid": (grid, ("ROWS", "COLUMNS")), "quadrangle": (quadrangle, ("ROWS", "COLUMNS")),
+    "stacked": (stacked, ("SIZE", "NUMBER")),
+    "triangulation": (lambda n, seed: triangulation(n, Random(seed)), ("SIZE", "SEED")),
+    "tree": (lambda n, seed: tree(n, Random(seed)), ("SIZE", "SEED")),
+    "path": (path, ("SIZE",)), "cycle": (cycle, ("SIZE",)), "complete": (complete, ("SIZE",)), "wheel": (wheel, ("SIZE",)),
+    "prism": (prism, ("SIDES",)), "grid": (grid, ("ROWS", "COLUMNS")), "quadrangle": (quadrangle, ("ROWS", "COLUMNS")),
 }
 LEAST = {"stacked": 3, "triangulation": 3, "cycle": 3, "wheel": 4, "prism": 3}  # of a first number, where that is not 1
 
@@ -25,20 +27,28 @@ LEAST = {"stacked": 3, "triangulation": 3, "cycle": 3, "wheel": 4, "prism": 3}  
 def add_commands(add: Callable[[str, Callable[[argparse.Namespace], int], str], argparse.ArgumentParser]) -> None:
     """Adds the commands `draw` and `make`."""
     drawn = add("draw", _draw, "draws graphs and maps from files of many formats, each with its names")
-    drawn.add_argument("files", metavar="FILE", nargs="*", help="of any format of --from, also packed by gzip; standard input without one or for -")
-    drawn.add_argument("-o", "--output", metavar="OUT", help=f"a file whose ending says the form: {', '.join(FORMS)}; of several drawings OUT-1, OUT-2 and so on")
-    drawn.add_argument("--to", metavar="FORM", choices=FORMS, help="the form, where the ending of OUT does not say it; svg by default")
+    drawn.add_argument("files", metavar="FILE", nargs="*",
+                       help="of any format of --from, also packed by gzip; standard input without one or for -")
+    drawn.add_argument("-o", "--output", metavar="OUT",
+                       help=f"a file whose ending says the form: {', '.join(FORMS)}; of several drawings OUT-1, OUT-2 and so on")
+    drawn.add_argument("--to", metavar="FORM", choices=FORMS,
+                       help="the form, where the ending of OUT does not say it; svg by default")
     drawn.add_argument("--from", dest="kind", metavar="FORMAT", choices=READ_KINDS,
                        help=f"{', '.join(READ_KINDS)}; by default what the ending of FILE says, or its first bytes")
-    drawn.add_argument("--method", choices=METHODS, default="round", help="round (judged; else the proved convex or schnyder), tutte, or a job of the program")
+    drawn.add_argument("--method", choices=METHODS, default="round",
+                       help="round (judged; else the proved convex or schnyder), tutte, or a job of the program")
     drawn.add_argument("--outer", metavar="V,U,W", help="names of vertices on the outer face, or largest")
-    drawn.add_argument("--style", metavar="WORDS", default="", help=f"joined by commas: {', '.join(STYLES)}, and round or tutte, as --method has them")
-    drawn.add_argument("--labels", choices=LABELS, default="names", help="of vertices in pictures; the numbers from 1 where a graph has no names")
-    drawn.add_argument("--mark", metavar="V,U,W", default="", help="names of vertices in another colour, with the edges between two that follow each other")
+    drawn.add_argument("--style", metavar="WORDS", default="",
+                       help=f"joined by commas: {', '.join(STYLES)}, and round or tutte, as --method has them")
+    drawn.add_argument("--labels", choices=LABELS, default="names",
+                       help="of vertices in pictures; the numbers from 1 where a graph has no names")
+    drawn.add_argument("--mark", metavar="V,U,W", default="",
+                       help="names of vertices in another colour, with the edges between two that follow each other")
     drawn.add_argument("--dual", action="store_true", help="lay the dual over a straight-line drawing")
     drawn.add_argument("--side", metavar="N", type=float, help="the longer side of a picture, in pixels")
     made = add("make", _make, "writes planar_code of a made map")
-    made.add_argument("maker", metavar="MAP", choices=sorted(MAKERS), help="; ".join(f"{name} {' '.join(words)}" for name, (_, words) in sorted(MAKERS.items())))
+    made.add_argument("maker", metavar="MAP", choices=sorted(MAKERS),
+                      help="; ".join(f"{name} {' '.join(words)}" for name, (_, words) in sorted(MAKERS.items())))
     made.add_argument("numbers", metavar="N", nargs="+", type=int)
 
 
@@ -93,7 +103,8 @@ def _write(drawings: List[Drawn], form: str, look: Look, output: str) -> None:
             put(data)
         return
     if not output:
-        raise ValueError(f"there are {len(drawings)} drawings, and a file of {form} holds one: -o OUT.{form} makes OUT-1.{form} and so on")
+        raise ValueError(f"there are {len(drawings)} drawings, and a file of {form} holds one: -o OUT.{form} makes OUT-1.{form} "
+                         "and so on")
     front, ending = os.path.splitext(output)
     digits = len(str(len(drawings)))
     for k, drawing in enumerate(drawings, 1):
@@ -110,7 +121,8 @@ def _make(arguments: argparse.Namespace) -> int:
     make, names = MAKERS[arguments.maker]
     if len(arguments.numbers) != len(names):
         raise ValueError(f"{arguments.maker} takes {len(names)} numbers: {' '.join(names)}")
-    if min(arguments.numbers) < 0 or arguments.numbers[0] < LEAST.get(arguments.maker, 1) or "COLUMNS" in names and arguments.numbers[1] < 1:
-        raise ValueError(f"{arguments.maker} begins at {LEAST.get(arguments.maker, 1)}")
+    least = LEAST.get(arguments.maker, 1)
+    if min(arguments.numbers) < 0 or arguments.numbers[0] < least or "COLUMNS" in names and arguments.numbers[1] < 1:
+        raise ValueError(f"{arguments.maker} begins at {least}")
     put(write_planar_code([make(*arguments.numbers)]))
     return 0

@@ -15,14 +15,17 @@ from .typed import checked
 METHODS = ("round", "tutte", "schnyder", "shift", "convex", "bars", "rect")
 ROUND = {"round": "round", "tutte": "by Tutte's method"}
 JUDGED = "judged plane by the proved program"
-DRAWN = {"schnyder": "by Schnyder's method", "shift": "by the shift method", "convex": "with convex faces", "bars": "by bars", "rect": "by rectangles"}
+DRAWN = {"schnyder": "by Schnyder's method", "shift": "by the shift method", "convex": "with convex faces", "bars": "by bars",
+         "rect": "by rectangles"}
 Outer = Union[None, str, Sequence[Hashable]]
 
 WHY = {
-    "OutOfRange": "the list of {0} has a neighbour that is no vertex", "Loop": "{0} is its own neighbour", "Repeated": "the list of {0} has {1} twice",
+    "OutOfRange": "the list of {0} has a neighbour that is no vertex", "Loop": "{0} is its own neighbour",
+    "Repeated": "the list of {0} has {1} twice",
     "OneSided": "the list of {0} has {1}, whose list has not {0}", "Small": "it has fewer vertices than can be drawn ({0})",
     "Genus": "it is a map of genus {0}: its lists fit on no plane (draw --method round of the bare graph finds others)",
-    "NotConnected": "it has several components", "CutVertex": "{0} is a cut vertex", "SeparatingPair": "{0} and {1} are a separating pair",
+    "NotConnected": "it has several components", "CutVertex": "{0} is a cut vertex",
+    "SeparatingPair": "{0} and {1} are a separating pair",
     "OuterNotQuad": "the outer face is no quadrangle", "NotTriangle": "the face left of {0} to {1} is no triangle",
     "SeparatingTriangle": "{0}, {1} and {2} are a triangle that bounds no face", "NoInner": "each vertex lies on the outer face",
 }
@@ -61,7 +64,8 @@ class Drawn:
             numbers: List[Any] = list(self.figure.numbers)
             if self.figure.name not in ("Small", "Genus"):
                 numbers = [self.name(v) if 0 < v <= len(self.graph.names) else v for v in numbers]
-            return f"{where}{self.method} does not draw it: {WHY[self.figure.name].format(*numbers)} ({join_words(self.figure.name, *numbers)})"
+            why = WHY[self.figure.name].format(*numbers)
+            return f"{where}{self.method} does not draw it: {why} ({join_words(self.figure.name, *numbers)})"
         return f"{where}{self.note}"
 
     def to_dict(self) -> Dict[str, Any]:
@@ -70,7 +74,8 @@ class Drawn:
         if isinstance(self.figure, Refused):
             return {**graph, "refused": self.figure.name}
         nodes: List[Dict[str, Any]] = [{"id": _plain_name(name)} for name in self.graph.names]
-        links: List[Dict[str, Any]] = [{"source": _plain_name(self.name(u)), "target": _plain_name(self.name(v))} for u, v in self.graph.edges]
+        links: List[Dict[str, Any]] = [{"source": _plain_name(self.name(u)), "target": _plain_name(self.name(v))}
+                                       for u, v in self.graph.edges]
         if isinstance(self.figure, WitnessFigure):
             witness = {"kind": self.figure.kind, "branches": [_plain_name(self.name(v)) for v in self.figure.branches],
                        "paths": [[_plain_name(self.name(v)) for v in path] for path in self.figure.paths]}
@@ -105,15 +110,15 @@ def draw_named(graphs: Sequence[Named], method: str = "round", outer: Outer = No
     that is tried, the proved drawing with convex faces or Schnyder's is shown; "tutte" is the plain barycentric drawing.
     The others are the program's jobs. Of a bare graph the program finds a map, or a witness that it has none.
 
-    `outer` chooses the outer face: "largest", or names of vertices that lie on it, of several faces the smallest; without it, it is that of the map, and
-    for "round" and "tutte" the largest. Raises ValueError where no face has these vertices, where a graph of more than 255
-    vertices is no map and networkx is not there, and where the method is none.
+    `outer` chooses the outer face: "largest", or names of vertices that lie on it, of several faces the smallest; without it,
+    it is that of the map, and for "round" and "tutte" the largest. Raises ValueError where no face has these vertices, where
+    a graph of more than 255 vertices is no map and networkx is not there, and where the method is none.
     """
     if method not in METHODS:
         raise ValueError(f"{method} is no method: there are {', '.join(METHODS)}")
     found = _mapped(graphs)
-    ready = [(graph, turned_outside(lists, outer or ("largest" if method in ("round", "tutte") else None), graph)) if isinstance(lists, list) else (graph, None)
-             for graph, lists in zip(graphs, found)]
+    wanted = outer or ("largest" if method in ("round", "tutte") else None)
+    ready = [(graph, turned_outside(lists, wanted, graph) if isinstance(lists, list) else None) for graph, lists in zip(graphs, found)]
     drawings = iter(_draw_maps([turned[0] for _, turned in ready if turned], method))
     out = []
     for (graph, turned), lists in zip(ready, found):
@@ -147,7 +152,8 @@ def _large_map(graph: Named) -> Lists:
     try:
         networkx = importlib.import_module("networkx")
     except ImportError as fault:
-        raise ValueError(f"{said}, and networkx, which finds others, is not there (nauty's planarg -p makes planar_code of graph6)") from fault
+        raise ValueError(f"{said}, and networkx, which finds others, is not there (nauty's planarg -p makes planar_code of "
+                         "graph6)") from fault
     whole = networkx.Graph()
     whole.add_nodes_from(range(1, len(graph.names) + 1))
     whole.add_edges_from(graph.edges)
@@ -193,7 +199,8 @@ def turned_outside(lists: Lists, outer: Outer, graph: Named) -> Turned:
 def renamed_figure(figure: Union[Figure, Refused], number: Dict[int, int]) -> Union[Figure, Refused]:
     """A figure or a refusal of a map of which each vertex has another number, by a dictionary from one to the other."""
     if isinstance(figure, Refused):
-        return figure if figure.name in ("Small", "Genus") else replace(figure, numbers=tuple(number.get(v, v) for v in figure.numbers))
+        is_count = figure.name in ("Small", "Genus")
+        return figure if is_count else replace(figure, numbers=tuple(number.get(v, v) for v in figure.numbers))
     if isinstance(figure, WitnessFigure):
         return figure
     back = [v for _, v in sorted((new, old) for old, new in number.items())]

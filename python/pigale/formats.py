@@ -64,7 +64,8 @@ def _after_header(data: bytes, at: int) -> Tuple[int, str]:
     if not found:
         return at, ""
     if found.group(1) != b"planar_code":
-        raise ValueError(f"the header is that of {found.group(1).decode()}, and not of planar_code; {looks_like(data[at:at + 40], 'planar_code')}")
+        hint = looks_like(data[at:at + 40], "planar_code")
+        raise ValueError(f"the header is that of {found.group(1).decode()}, and not of planar_code{hint and '; ' + hint}")
     return at + found.end(), (found.group(2) or b"").decode()
 
 
@@ -509,7 +510,8 @@ def _answer_line(line: str) -> Block:
 
 def _figure_size(head: str, is_given: bool) -> int:
     """How many lines stand behind the first line of a figure."""
-    found = re.fullmatch(rf"figure ({_NUMBER}) (?:(shift|schnyder|convex|bars|rect) ({_NUMBER})|witness (K5|K33) (\S+))", head, re.ASCII)
+    found = re.fullmatch(rf"figure ({_NUMBER}) (?:(shift|schnyder|convex|bars|rect) ({_NUMBER})|witness (K5|K33) (\S+))",
+                         head, re.ASCII)
     if not found:
         raise _BadLine(0, "is no first line of a figure")
     number, job, count, kind, graph = found.groups()
@@ -559,7 +561,10 @@ def _is_in_range(figure: Figure) -> bool:
         lists, places = figure.lists, [*figure.heights, *figure.columns, *(x for span in figure.spans for x in span)]
     else:
         lists = figure.lists
-        places = [x for box in figure.boxes for x in box] if isinstance(figure, RectFigure) else [x for place in figure.places for x in place]
+        if isinstance(figure, RectFigure):
+            places = [x for box in figure.boxes for x in box]
+        else:
+            places = [x for place in figure.places for x in place]
     return (all(1 <= min(us) and max(us) <= MOST_NAMED for us in lists if us)
             and (not places or -FARTHEST <= min(places) and max(places) <= FARTHEST))
 

@@ -1,6 +1,6 @@
 """Says by its first bytes which format an input is of, and in words what reads it."""
 import re
-from typing import Tuple
+from typing import List, Tuple
 
 # each format by the word of --from, what it is called, and what is to be done with it where it is given to another reader
 KINDS = {
@@ -26,9 +26,10 @@ KINDS = {
     "": ("no format that is known here", "docs/FORMATS.md has those that are read"),
 }
 # the format of each ending of a file's name
-ENDINGS = {"plc": "planar_code", "pl": "planar_code", "planar_code": "planar_code", "g6": "graph6", "graph6": "graph6", "s6": "sparse6", "sparse6": "sparse6",
-           "graphml": "graphml", "gexf": "gexf", "gml": "gml", "dot": "dot", "gv": "dot", "net": "pajek", "pajek": "pajek", "json": "json",
-           "edges": "edges", "edgelist": "edges", "csv": "edges", "adj": "adjacency", "adjlist": "adjacency", "mat": "matrix", "matrix": "matrix"}
+ENDINGS = {"plc": "planar_code", "pl": "planar_code", "planar_code": "planar_code", "g6": "graph6", "graph6": "graph6",
+           "s6": "sparse6", "sparse6": "sparse6", "graphml": "graphml", "gexf": "gexf", "gml": "gml", "dot": "dot", "gv": "dot",
+           "net": "pajek", "pajek": "pajek", "json": "json", "edges": "edges", "edgelist": "edges", "csv": "edges",
+           "adj": "adjacency", "adjlist": "adjacency", "mat": "matrix", "matrix": "matrix"}
 HEADER_NAMES = {"planar_code": "planar_code", "graph6": "graph6", "sparse6": "sparse6", "digraph6": "digraph6"}
 
 
@@ -82,17 +83,20 @@ def _text_kind(text: str) -> str:
     if re.fullmatch(r"\d+ [a-z]+(,[a-z]*)+", first):
         return "ascii"
     rows = [re.split(r"[\s,;]+", line) for line in lines]
-    if len(rows) > 1 and all(len(row) == len(rows[0]) and set(row) <= {"0", "1"} for row in rows) and (len(rows[0]) >= len(rows) > 2 or len(rows[0]) == len(rows)):
-        return "matrix"
-    if len(rows) > 1 and all(re.fullmatch("[01]+", line) and len(line) == len(lines[0]) for line in lines) and len(lines[0]) >= len(lines):
+    if _is_matrix(rows) or _is_matrix([list(line) for line in lines]):
         return "matrix"
     if rows and all(len(row) == 2 for row in rows):
         return "edges"
     if rows and all(len(row) == 3 and _is_number(row[2]) for row in rows):
         return "edges"
-    if len({row[0] for row in rows}) == len(rows) and any(len(row) > 2 for row in rows) and all(re.fullmatch(r"[\w.:-]+", word) for row in rows for word in row):
-        return "adjacency"
-    return ""
+    is_one_each = len({row[0] for row in rows}) == len(rows) and any(len(row) > 2 for row in rows)
+    return "adjacency" if is_one_each and all(re.fullmatch(r"[\w.:-]+", word) for row in rows for word in row) else ""
+
+
+def _is_matrix(rows: List[List[str]]) -> bool:
+    """Says whether rows are of zeros and ones, all of one length, and no more than that."""
+    return (len(rows) > 1 and all(len(row) == len(rows[0]) and set(row) <= {"0", "1"} for row in rows)
+            and (len(rows[0]) == len(rows) or len(rows[0]) > len(rows) > 2))
 
 
 def is_graph6_line(line: str) -> bool:

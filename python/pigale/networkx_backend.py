@@ -146,5 +146,5 @@ def convert_to_nx(result: Any, *_: Any, **__: Any) -> Any:
 def get_info() -> Dict[str, Any]:
     """Returns what networkx shows of a backend."""
     calls = {call.__name__: {"additional_docs": inspect.getdoc(call)} for call in (check_planarity, is_planar)}
-    return {"backend_name": "pigale", "project": "pigale", "package": "pigale", "short_summary": "Planarity, by a program whose every answer is proved.",
-            "functions": calls}
+    return {"backend_name": "pigale", "project": "pigale", "package": "pigale", "functions": calls,
+            "short_summary": "Planarity, by a program whose every answer is proved."}

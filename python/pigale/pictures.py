@@ -92,7 +92,8 @@ def text_width(text: str) -> float:
     return width
 
 
-def picture(figure: Figure, side: Optional[float] = None, labels: Labels = True, style: Style = (), marked: Sequence[int] = ()) -> str:
+def picture(figure: Figure, side: Optional[float] = None, labels: Labels = True, style: Style = (),
+            marked: Sequence[int] = ()) -> str:
     """A figure as one SVG document on a white ground, as text.
 
     `side` is the length of the longer side in pixels, by default 400 to 1000 by the number of vertices; of bars it is
@@ -109,8 +110,10 @@ def picture(figure: Figure, side: Optional[float] = None, labels: Labels = True,
     between two that follow each other there, as on a path.
 
     A witness has its branch vertices in two rows (K3,3) or on a circle (K5), and the other edges of its graph thin: it
-    is no drawing without crossings. By "crossing" its subdivision alone is drawn, so that just two of its edges cross. Raises ValueError where the figure names a vertex that it does not have, where it
-    is no figure (a refusal, say), and where a word of the style is none.
+    is no drawing without crossings. By "crossing" its subdivision alone is drawn, so that just two of its edges cross.
+
+    Raises ValueError where the figure names a vertex that it does not have, where it is no figure (a refusal, say), and
+    where a word of the style is none.
     """
     width, height, body = sketch(figure, side, labels, style, plain, marked)
     return (f'<svg xmlns="http://www.w3.org/2000/svg" viewBox="0 0 {width} {height}" width="{width}" '
@@ -148,21 +151,23 @@ def label_names(labels: Labels, count: int) -> Tuple[str, ...]:
 
 
 def require_look(side: Optional[float], labels: Labels) -> None:
-    """Raises ValueError where the side of a picture is out of its range, or `labels` is neither a flag nor a label for each vertex."""
+    """Raises ValueError where the side of a picture is out of its range, or `labels` is neither a flag nor labels."""
     if not isinstance(labels, (bool, Mapping)) and (isinstance(labels, (str, bytes)) or not isinstance(labels, SequenceType)):
         raise ValueError(f"labels is True, False, a list or a dictionary of labels, and not {str(labels)[:60]}")
     if side is not None and not 1 <= side <= 100000:
         raise ValueError(f"the longer side of a picture is from 1 to 100000 pixels, not {side}")
 
 
-def sketch(figure: Figure, side: Optional[float], labels: Labels, style: Style, paint: Callable[..., str], marked: Sequence[int] = ()) -> Sketch:
+def sketch(figure: Figure, side: Optional[float], labels: Labels, style: Style, paint: Callable[..., str],
+           marked: Sequence[int] = ()) -> Sketch:
     """The width and the height of a picture in pixels, and what is in it. Raises ValueError as `picture` does."""
     if not isinstance(figure, FIGURES):
         raise ValueError(f"there is a picture of a figure, and not of {type(figure).__name__}: {str(figure)[:80]}")
     require_look(side, labels)
     try:
         count = read_graph6(figure.graph6)[0] if isinstance(figure, WitnessFigure) else len(figure.lists)
-        look = PictureLook(side or default_side(count), labels is not False, styles_of(style), paint, label_names(labels, count), tuple(marked))
+        look = PictureLook(side or default_side(count), labels is not False, styles_of(style), paint, label_names(labels, count),
+                           tuple(marked))
         if isinstance(figure, BarFigure):
             return _bar_sketch(figure, look)
         if isinstance(figure, RectFigure):
@@ -228,7 +233,8 @@ def _dual(figure: GridFigure, dots: List[Dot], look: PictureLook) -> List[str]:
     body = [f'<g fill="none" {look.paint(stroke="odd")} stroke-width="{_n(look.size("line", len(dots)))}" stroke-linecap="round">']
     body += [f'<polyline points="{" ".join(f"{_n(x)},{_n(y)}" for x, y in line)}"/>' for line in lines] + ["</g>"]
     radius = _n(0.6 * look.size("dot", len(dots)))
-    return [*body, f'<g {look.paint(fill="odd")}>', *(f'<circle cx="{_n(x)}" cy="{_n(y)}" r="{radius}"/>' for x, y in middles), "</g>"]
+    dots_of_faces = [f'<circle cx="{_n(x)}" cy="{_n(y)}" r="{radius}"/>' for x, y in middles]
+    return [*body, f'<g {look.paint(fill="odd")}>', *dots_of_faces, "</g>"]
 
 
 def straight_places(figure: GridFigure, look: PictureLook) -> Sequence[Dot]:
@@ -315,7 +321,8 @@ def _texts(numbers: List[Tuple[int, Dot, float]], colour: str, look: PictureLook
     if not numbers:
         return []
     font = f'font-family="{STYLE["font"]}" text-anchor="middle"'
-    lines = [f'<text x="{_n(x)}" y="{_n(y)}" dy="0.35em" font-size="{_n(size)}">{html.escape(look.label(v), False)}</text>' for v, (x, y), size in numbers]
+    lines = [f'<text x="{_n(x)}" y="{_n(y)}" dy="0.35em" font-size="{_n(size)}">{html.escape(look.label(v), False)}</text>'
+             for v, (x, y), size in numbers]
     beneath: List[str] = []
     if halo:
         width = 0.28 * max(size for _, _, size in numbers)
@@ -365,7 +372,8 @@ def _dots(dots: List[Dot], lists: Lists, edges: List[Edge], look: PictureLook,
         found = _label_places(dots, edges, radius, size, look)
         if look.names and found:
             halves = [text_width(look.label(v)) / 2 * size for v, _ in found]
-            reach = min(x - half for (_, (x, _)), half in zip(found, halves)), max(x + half for (_, (x, _)), half in zip(found, halves))
+            spans = [(x - half, x + half) for (_, (x, _)), half in zip(found, halves)]
+            reach = min(left for left, _ in spans), max(right for _, right in spans)
         return body + _texts([(v, at, size) for v, at in found], "number", look, halo=True), reach
     return body, reach
 
@@ -614,16 +622,17 @@ def _crossing_sketch(figure: WitnessFigure, drawing: Any, look: PictureLook) -> 
     dots, box = _placed([drawing.places[v] for v in vertices] + [drawing.at], look)
     own = witness_graph(figure)[1]
     line = look.size("line", len(vertices))
-    body = _lines([(dots[number[u] - 1], dots[number[v] - 1]) for u, v in own if (u, v) not in drawing.crossed], 1.6 * line, "line", look)
+    whole = [(dots[number[u] - 1], dots[number[v] - 1]) for u, v in own if (u, v) not in drawing.crossed]
+    body = _lines(whole, 1.6 * line, "line", look)
     for edge, colour in zip(drawing.crossed, ("warn", "dot")):
         body += _lines([(dots[number[end] - 1], dots[-1]) for end in edge], 1.6 * line, colour, look)
+    edges = [(number[u], number[v]) for u, v in own]
     lists: Lists = [[] for _ in vertices]
-    for u, v in own:
-        lists[number[u] - 1].append(v)
-        lists[number[v] - 1].append(u)
-    colours = branch_colours(figure, vertices)
-    names = tuple(look.label(v) for v in vertices)
-    return _framed(box, body, *_dots(dots[:-1], [[number[u] for u in us] for us in lists], [(number[u], number[v]) for u, v in own], replace(look, names=names), colours), look)
+    for u, v in edges:
+        lists[u - 1].append(v)
+        lists[v - 1].append(u)
+    own_look = replace(look, names=tuple(map(look.label, vertices)))
+    return _framed(box, body, *_dots(dots[:-1], lists, edges, own_look, branch_colours(figure, vertices)), own_look)
 
 
 def witness_places(figure: WitnessFigure, count: int) -> Dict[int, Dot]:

@@ -16,7 +16,8 @@ from .formats import Edge, Lists, read_graph6, read_planar_code
 from .kinds import KINDS, ending_kind, kind_of
 from .maps import edges_of
 
-READ_KINDS = ("planar_code", "graph6", "sparse6", "ascii", "edges", "adjacency", "matrix", "graphml", "gexf", "gml", "dot", "pajek", "json")
+READ_KINDS = ("planar_code", "graph6", "sparse6", "ascii", "edges", "adjacency", "matrix", "graphml", "gexf", "gml", "dot",
+              "pajek", "json")
 
 
 @dataclass
@@ -41,7 +42,8 @@ class Named:
         return cls(list(range(1, len(lists) + 1)), edges_of(lists), lists, source=source)
 
     @classmethod
-    def of_pairs(cls, names: Iterable[Hashable], pairs: Iterable[Tuple[Hashable, Hashable]], source: str = "", has_names: bool = True) -> "Named":
+    def of_pairs(cls, names: Iterable[Hashable], pairs: Iterable[Tuple[Hashable, Hashable]], source: str = "",
+                 has_names: bool = True) -> "Named":
         """A graph of pairs of names; loops, and edges between the same two, are left out, which is said."""
         known = {name: v for v, name in enumerate(dict.fromkeys(names), 1)}
         edges: Dict[Edge, None] = {}
@@ -53,13 +55,17 @@ class Named:
             repeated += edge in edges and u != v
             if u != v:
                 edges[edge] = None
-        said = [f"{count} {what}{'s' if count > 1 else ''}" for count, what in ((loops, "loop"), (repeated, "edge that is there already")) if count]
-        said = [text.replace("edge that is there alreadys", "edges that are there already") for text in said]
+        said = [f"{loops} loop{'s' * (loops > 1)}"] if loops else []
+        if repeated:
+            said.append(f"{repeated} edges that are there already" if repeated > 1 else "1 edge that is there already")
         return cls(list(known), sorted(edges), None, has_names, source, said)
 
     @classmethod
     def of_networkx(cls, graph: Any, source: str = "") -> "Named":
-        """A graph of networkx, with its names, or where each vertex has a `label` of its own with these; and the lists of a PlanarEmbedding."""
+        """A graph of networkx with its names, or with labels where each vertex has a `label` of its own.
+
+        A PlanarEmbedding has its lists too.
+        """
         nodes = list(graph)
         labels = [graph.nodes[node].get("label") for node in nodes]
         has_labels = bool(nodes) and all(isinstance(label, str) and label for label in labels) and len(set(labels)) == len(nodes)
@@ -101,13 +107,15 @@ def graphs_of(data: bytes, path: str = "standard input", kind: str = "") -> List
     kind = kind or found
     if kind not in READ_KINDS or found in ("picture", "archive", "empty") and kind != "json":
         called, cure = KINDS[found if found not in READ_KINDS else kind if kind in KINDS else ""]
-        raise ReadFault(f"{path}: {'there is ' if found == 'empty' else 'this is '}{called}; {cure}; --from names a format of {', '.join(READ_KINDS)}")
+        raise ReadFault(f"{path}: {'there is' if found == 'empty' else 'this is'} {called}; {cure}; --from names a format of "
+                        f"{', '.join(READ_KINDS)}")
     try:
         graphs = _READERS[kind](data, path)
     except ReadFault:
         raise
     except (ValueError, KeyError, IndexError, TypeError, AttributeError, SyntaxError) as fault:
-        other = f"; by its first bytes it looks like {KINDS[found][0]}: --from {found}" if found != kind and found in READ_KINDS else ""
+        is_other = found != kind and found in READ_KINDS
+        other = f"; by its first bytes it looks like {KINDS[found][0]}: --from {found}" if is_other else ""
         raise ReadFault(f"{path}: this is not {KINDS[kind][0]}: {_plain(fault)}{other}") from fault
     except Exception as fault:  # readers of networkx raise what they like
         raise ReadFault(f"{path}: this is not {KINDS[kind][0]}: {_plain(fault)}") from fault
@@ -118,7 +126,8 @@ def graphs_of(data: bytes, path: str = "standard input", kind: str = "") -> List
 
 def _plain(fault: BaseException) -> str:
     text = str(fault).strip().split("\n")[0]
-    return text if text and not isinstance(fault, (KeyError, IndexError)) else f"something is wanting in it ({type(fault).__name__} {text})"
+    is_plain = text and not isinstance(fault, (KeyError, IndexError))
+    return text if is_plain else f"something is wanting in it ({type(fault).__name__} {text})"
 
 
 def _networkx(path: str, kind: str) -> Any:
@@ -199,7 +208,8 @@ def _edges(data: bytes, path: str) -> List[Named]:
     pairs = []
     for k, words in _rows(data, path):
         if len(words) > 3:
-            raise ReadFault(f"{path}, line {k}: an edge is two names, and this line has {len(words)}; --from adjacency reads a vertex with its neighbours")
+            raise ReadFault(f"{path}, line {k}: an edge is two names, and this line has {len(words)}; --from adjacency reads a "
+                            "vertex with its neighbours")
         names.update(dict.fromkeys(words[:2]))
         pairs += [(words[0], words[1])] if len(words) > 1 else []
     ordered = sorted(names, key=int) if all(name.isascii() and name.isdigit() for name in names) else list(names)
@@ -222,8 +232,10 @@ def _matrix(data: bytes, path: str) -> List[Named]:
         for v in range(n):
             for u in range(n):
                 if block[v][1][u] != block[u][1][v]:
-                    raise ReadFault(f"{path}, line {block[v][0]}: entry {u + 1} of row {v + 1} is not that at the other side of the diagonal")
-        graphs.append(Named.of_pairs(range(1, n + 1), ((v + 1, u + 1) for v in range(n) for u in range(v, n) if block[v][1][u] == "1"), has_names=False))
+                    raise ReadFault(f"{path}, line {block[v][0]}: entry {u + 1} of row {v + 1} is not that at the other side "
+                                    "of the diagonal")
+        pairs = ((v + 1, u + 1) for v in range(n) for u in range(v, n) if block[v][1][u] == "1")
+        graphs.append(Named.of_pairs(range(1, n + 1), pairs, has_names=False))
         at += n
     return _numbered(graphs, path)
 
@@ -273,7 +285,8 @@ def _json(data: bytes, path: str) -> List[Named]:
 
 
 _READERS: Dict[str, Callable[[bytes, str], List[Named]]] = {
-    "planar_code": _planar_code, "graph6": _graph6, "sparse6": _sparse6, "ascii": _ascii, "edges": _edges, "matrix": _matrix, "adjacency": _adjacency, "json": _json,
+    "planar_code": _planar_code, "graph6": _graph6, "sparse6": _sparse6, "ascii": _ascii, "edges": _edges, "matrix": _matrix,
+    "adjacency": _adjacency, "json": _json,
     "graphml": _by_networkx("graphml", lambda networkx, data: networkx.parse_graphml(data.decode("utf-8-sig"))),
     "gexf": _by_networkx("gexf", lambda networkx, data: networkx.read_gexf(io.BytesIO(data))),
     "gml": _by_networkx("gml", _gml),

@@ -7,8 +7,8 @@ import subprocess
 from dataclasses import dataclass
 from typing import Iterable, Iterator, List, Optional, Sequence, Tuple, Union, cast
 
-from .formats import (FIGURES, MOST_BYTES, MOST_VERTICES, PLANAR_JOBS, Answer, Block, Count, Edge, End, Figure, Graph, GridFigure, Map, Refused, Stop,
-                      WitnessFigure, as_maps, check_line, pair_of, read_blocks, write_graph6, write_planar_code)
+from .formats import (FIGURES, MOST_BYTES, MOST_VERTICES, PLANAR_JOBS, Answer, Block, Count, Edge, End, Figure, Graph, GridFigure,
+                      Map, Refused, Stop, WitnessFigure, as_maps, check_line, pair_of, read_blocks, write_graph6, write_planar_code)
 from .library import answered, library
 
 READING_JOBS = (*PLANAR_JOBS, "embed", "verify")
@@ -70,7 +70,7 @@ def program() -> str:
     if not found:
         held = sorted(name[len("pigale-"):] for name in os.listdir(here) if name.startswith("pigale-"))
         has = f"this package has a program for {' and '.join(held)}, and none" if held else "there is no program"
-        raise FileNotFoundError(f"{has} for this system, {platform.machine()}-{platform.system().lower()}, nor is one on the path; PIGALE may name one")
+        raise FileNotFoundError(f"{has} for this system, {platform.machine()}-{system}, nor is one on the path; PIGALE may name one")
     return found
 
 
@@ -150,7 +150,8 @@ def encoded(job: str, records: Records, first: int = 1, header: bool = True) -> 
     if job == "embed":
         return "".join(f"{line}\n" for line in _lines(cast(Iterable[Union[str, Graph]], records), first)).encode("ascii")
     if job == "verify":
-        return "".join(f"{figure}\n" for figure in _figures(cast(Iterable[Figure], records), first)).encode("ascii", "surrogateescape")
+        figures = _figures(cast(Iterable[Figure], records), first)
+        return "".join(f"{figure}\n" for figure in figures).encode("ascii", "surrogateescape")
     return write_planar_code(_sized(as_maps(cast(Iterable[Map], records)), first), header)
 
 

@@ -1,4 +1,7 @@
-"""Says what was likely meant where the program ends with another status than 0: by its words, and by its input where that is a file."""
+"""Says what was likely meant where the program ends with another status than 0.
+
+It goes by the words, and by the input where that is a file.
+"""
 import os
 import re
 import sys

@@ -5,7 +5,8 @@ from typing import List, Sequence
 from .crossings import OneCrossing, one_crossing
 from .formats import BarFigure, Figure, GridFigure, RectFigure, WitnessFigure, read_graph6
 from .maps import edges_of, faces_of, witness_graph
-from .pictures import STYLE, Dot, Labels, PictureLook, Style, branch_colours, dual_lines, label_names, straight_places, styles_of, tints_of, witness_places
+from .pictures import (STYLE, Dot, Labels, PictureLook, Style, branch_colours, dual_lines, label_names, straight_places, styles_of,
+                       tints_of, witness_places)
 
 WIDTH = 8.0  # of a picture's longer side, in centimetres
 COLOURS = ("line", "thin", "dot", "even", "odd", *(f"tint-{k}" for k in range(6)), *(f"face-{k}" for k in range(3, 11)), "face-more")
@@ -116,7 +117,8 @@ def _bars(figure: BarFigure, look: PictureLook, width: float) -> List[str]:
         left, right = across * (a - 0.36), across * (b + 0.36)
         lines.append(f"\\fill[pigale-dot] ({_n(left)},{_n(up * y - thick / 2)}) rectangle ({_n(right)},{_n(up * y + thick / 2)});")
         if look.labels:
-            lines.append(f"\\node[text=white, font=\\tiny, inner sep=0pt] at ({_n((left + right) / 2)},{_n(up * y)}) {{{escaped(look.label(v))}}};")
+            middle = ((left + right) / 2, up * y)
+            lines.append(f"\\node[text=white, font=\\tiny, inner sep=0pt] at {_at(middle)} {{{escaped(look.label(v))}}};")
     return lines
 
 
@@ -149,7 +151,8 @@ def _crossing(figure: WitnessFigure, drawing: OneCrossing, look: PictureLook, wi
     vertices = sorted(drawing.places)
     dots = _scaled([drawing.places[v] for v in vertices] + [drawing.at], width)
     spots = dict(zip(vertices, dots))
-    lines = [f"\\draw[edge, thick] {_at(spots[u])} -- {_at(spots[v])};" for u, v in witness_graph(figure)[1] if (u, v) not in drawing.crossed]
+    whole = [edge for edge in witness_graph(figure)[1] if edge not in drawing.crossed]
+    lines = [f"\\draw[edge, thick] {_at(spots[u])} -- {_at(spots[v])};" for u, v in whole]
     for (u, v), colour in zip(drawing.crossed, ("even", "dot")):
         lines.append(f"\\draw[draw=pigale-{colour}, thick] {_at(spots[u])} -- {_at(dots[-1])} -- {_at(spots[v])};")
     return lines + _vertices(dots[:-1], replace(look, names=tuple(map(look.label, vertices))), branch_colours(figure, vertices))

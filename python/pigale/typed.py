@@ -10,7 +10,8 @@ from array import array
 from itertools import accumulate
 from typing import Any, List, Optional, Sequence, Tuple, Union
 
-from .formats import MOST_VERTICES, REFUSALS, BarFigure, Edge, Figure, GridFigure, Lists, Map, Place, RectFigure, Refused, WitnessFigure, write_graph6, write_planar_code
+from .formats import (MOST_VERTICES, REFUSALS, BarFigure, Edge, Figure, GridFigure, Lists, Map, Place, RectFigure, Refused,
+                      WitnessFigure, write_graph6, write_planar_code)
 from .library import loaded
 
 FARTHEST = 1 << 20  # coordinate from 0 that the library judges
@@ -134,7 +135,8 @@ def embedded(path: str, n: int, edges: Sequence[Edge], number: int) -> Union[Gri
     ends, neighbours = array(_ENDS, bytes(8 * max(n, 10))), array("H", bytes(4 * len(pairs) or 2))
     xs, ys, found = array("i", bytes(4 * n or 4)), array("i", bytes(4 * n or 4)), array("I", bytes(16))
     address = flat.buffer_info()[0] or _SOME.buffer_info()[0]
-    status = _call(path, "embed")(n, address, len(pairs), *_words(ends, neighbours), xs.buffer_info()[0], n, ys.buffer_info()[0], n, found.buffer_info()[0])
+    outputs = [*_words(ends, neighbours), xs.buffer_info()[0], n, ys.buffer_info()[0], n, found.buffer_info()[0]]
+    status = _call(path, "embed")(n, address, len(pairs), *outputs)
     if status in (K5, K33):
         return _witness(n, pairs, ends, neighbours, status == K33, number)
     if status:
@@ -152,5 +154,6 @@ def _lists(ends: Sequence[int], neighbours: Sequence[int]) -> Lists:
 
 def _witness(n: int, pairs: List[Edge], ends: array[int], neighbours: array[int], is_k33: bool, number: int) -> WitnessFigure:
     paths = _lists(ends[:9 if is_k33 else 10], neighbours)
-    branches = [paths[0][0], paths[3][0], paths[6][0], *(path[-1] for path in paths[:3])] if is_k33 else [paths[0][0], *(path[-1] for path in paths[:4])]
+    firsts, count = ([paths[0][0], paths[3][0], paths[6][0]], 3) if is_k33 else ([paths[0][0]], 4)
+    branches = [*firsts, *(path[-1] for path in paths[:count])]
     return WitnessFigure(number, "K33" if is_k33 else "K5", write_graph6((n, pairs)), branches, paths)

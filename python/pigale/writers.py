@@ -60,7 +60,7 @@ def written(drawings: Sequence[Drawn], form: str, look: Look) -> bytes:
     if form == "txt":
         return "".join(f"{_numbered(drawn, k)}\n" for k, drawn in enumerate(shown, 1)).encode("ascii", "surrogateescape")
     if form == "tex":
-        return tikz_document([f"% {drawn.said()}\n{tikz(_figure(drawn), look.labels_of(drawn), look.style, marked=look.marked_of(drawn))}" for drawn in shown]).encode()
+        return tikz_document([f"% {drawn.said()}\n{_tikz_of(drawn, look)}" for drawn in shown]).encode()
     if not shown:
         raise ValueError("there is nothing to draw")
     if form == "graphml":
@@ -75,12 +75,16 @@ def _figure(drawn: Drawn) -> Figure:
     return drawn.figure
 
 
+def _tikz_of(drawn: Drawn, look: Look) -> str:
+    return tikz(_figure(drawn), look.labels_of(drawn), look.style, marked=look.marked_of(drawn))
+
+
 def _numbered(drawn: Drawn, number: int) -> str:
     """The text of a figure, with its number among those that are written. Raises ValueError where it is by no job."""
     figure = _figure(drawn)
     if figure.job not in (*PLANAR_JOBS, "witness"):
-        raise ValueError(f"{drawn.graph.source}: the text is that of figures by the program's jobs, and a {drawn.method} drawing is by none: "
-                         "--method schnyder is, or json and csv have its places")
+        raise ValueError(f"{drawn.graph.source}: the text is that of figures by the program's jobs, and a {drawn.method} drawing "
+                         "is by none: --method schnyder is, or json and csv have its places")
     return str(replace(figure, number=number))
 
 
@@ -114,7 +118,8 @@ def converted(svg: str, form: str, side: Optional[float] = None) -> bytes:
                              "pip install cairosvg, or apt-get install librsvg2-bin; svg and tex need none")
         done = subprocess.run(words, stdout=subprocess.PIPE, stderr=subprocess.PIPE, check=False)
         if done.returncode or not os.path.exists(made):
-            raise ValueError(f"{words[0]} makes no {form.upper()} of the picture: {done.stderr.decode(errors='replace').strip()[:200]}")
+            said = done.stderr.decode(errors="replace").strip()[:200]
+            raise ValueError(f"{words[0]} makes no {form.upper()} of the picture: {said}")
         with open(made, "rb") as result:
             return result.read()
 
