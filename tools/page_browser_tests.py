@@ -13,6 +13,7 @@ import firefox
 import page_sheet_tests
 import pigale
 
+START = 300  # seconds for which the page may start, as on a machine that has much to do
 SHOWN = "page.answers && !page.isRunning && !$('found').hidden"
 
 
@@ -35,7 +36,7 @@ def in_firefox(program):
     if not browser:
         return None
     with browser as page:
-        page.wait("document.body && document.body.dataset.ready", 30)
+        page.wait("document.body && document.body.dataset.ready", START)
         runs, wanted = given_runs(program)
         failed = differ("the page in Firefox", runs, wanted, page.run(all_answers(runs)))
         return failed + page_sheet_tests.test_sheet(page, page_sheet_tests.PLAIN, "Firefox")
@@ -49,7 +50,7 @@ def all_answers(runs):
 
 def test_page(page, program):
     """Drives the page, and returns how many of its answers are wrong."""
-    page.wait("document.body && document.body.dataset.ready", 30)
+    page.wait("document.body && document.body.dataset.ready", START)
     runs, wanted = given_runs(program)
     failed = differ("the page in Chromium", runs, wanted, page.run(all_answers(runs)))
     failed += compare_inputs(page, program)
