@@ -13,8 +13,11 @@ typedef int transferred;
 #include <string.h>
 #include <unistd.h>
 typedef ssize_t transferred;
-#else /* compiled for a system whose headers are not here */
+#else /* compiled for a system whose headers are not here, so pigale.h, which includes one of them, is left out too */
 #include <stddef.h>
+#include <stdint.h>
+#define PIGALE_H
+uint8_t pigale_run(const uint8_t *, size_t, const uint8_t *, size_t, uint8_t *, size_t, size_t *);
 typedef ptrdiff_t transferred;
 void *malloc(size_t);
 void *realloc(void *, size_t);

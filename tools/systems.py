@@ -62,7 +62,7 @@ def foreign_objects(built, target, room):
     """Compiles the module of the library, and its memory, for a system that the kit has no target for."""
     os.makedirs(room)
     clang = tool("clang")
-    call(clang, "-S", "-emit-llvm", "-x", "ir", "-Xclang", "-disable-llvm-passes", f"{built.folder}/module.bc", "-w",
+    call(clang, "-S", "-emit-llvm", "-x", "ir", "-Xclang", "-disable-llvm-passes", f"{built.folder}/input", "-w",
          "--no-default-config", "-o", f"{room}/module.ll")
     linux_memory(built.machine, f"{room}/memory.ll", "-S", "-emit-llvm")
     options = [it for it in built.options() if it not in ("-fPIC", "-fPIE")] + ["-w", "-O3"]
@@ -127,7 +127,7 @@ def macos(built, to):
 def module(built, to):
     """Makes the WebAssembly module of the library from what clang was given for Linux."""
     with tempfile.TemporaryDirectory() as room:
-        call(tool("clang"), f"--target={WASM}", "-O2", "-w", "-c", "-x", "ir", f"{built.folder}/module.bc", "-o", f"{room}/module.o")
+        call(tool("clang"), f"--target={WASM}", "-O2", "-w", "-c", "-x", "ir", f"{built.folder}/input", "-o", f"{room}/module.o")
         link_module([f"{room}/module.o"], to)
 
 

@@ -179,8 +179,8 @@ def arm_program(copy, to):
 
 @dataclass
 class Built:
-    """The library as the kit built it for Linux: the processor, a folder with its archive, its LLVM module and the options
-    of clang, and the last line of its proof."""
+    """The library as the kit built it for Linux: the processor, a folder with its archive, the LLVM module `input` that clang
+    compiled last and the options of that, and the last line of its proof."""
     machine: str
     folder: str
     verdict: str
@@ -193,9 +193,11 @@ class Built:
         """Returns the options that clang was given, but for the target and the files."""
         with open(f"{self.folder}/options", encoding="utf-8") as file:
             words = file.read().split("\0")[:-1]
-        at = words.index("-o")
-        words = words[:at] + words[at + 2:]
-        return [it for it in words if not it.startswith("--target=") and not it.endswith(".bc")]
+        for it in ("-o", "-target"):
+            if it in words:
+                at = words.index(it)
+                words = words[:at] + words[at + 2:]
+        return [it for it in words if not it.startswith("--target=") and not it.endswith((".bc", ".ll"))]
 
 
 def built_library(copy, machine, folder):
@@ -207,7 +209,10 @@ def built_library(copy, machine, folder):
 
 
 def keeping(folder):
-    """Returns a toolchain that is the kit's, and keeps in a folder the module and the options that its clang is given."""
+    """Returns a toolchain that is the kit's, and keeps in a folder the module that its clang is given.
+
+    Of the modules that clang compiles to an object the last is `input`, and the options of that call are `options`: the kit
+    may have clang print its module `module.bc` first, and go on with a text."""
     to = f"{folder}/toolchain"
     os.makedirs(f"{to}/bin")
     os.symlink(f"{kit()}/toolchain/lib", f"{to}/lib")
@@ -216,7 +221,10 @@ def keeping(folder):
     os.remove(f"{to}/bin/clang")
     with open(f"{to}/bin/clang", "w", encoding="utf-8") as file:
         file.write(f"""#!/bin/bash
-for it in "$@"; do case $it in *.bc) cp "$it" '{folder}/module.bc' && printf '%s\\0' "$@" >'{folder}/options' ;; esac; done
+for it in "$@"; do
+    case $it in *.bc) cp "$it" '{folder}/module.bc' ;; esac
+    case "$it $* " in *.bc\\ *" -c "* | *.ll\\ *" -c "*) [ -f "$it" ] && cp "$it" '{folder}/input' && printf '%s\\0' "$@" >'{folder}/options' ;; esac
+done
 exec -a "$0" '{tool("clang")}' "$@"
 """)
     os.chmod(f"{to}/bin/clang", 0o755)
@@ -226,4 +234,4 @@ exec -a "$0" '{tool("clang")}' "$@"
 def module_verdict(copy):
     """Returns the last line of the proof of the library for WebAssembly. The kit proves it for that target, and does not build
     it, since it takes its memory from C."""
-    return copy.check("pigale_c", "--crate-type", "staticlib", "--target", WASM)
+    return copy.check("pigale_c", "--crate-type", "staticlib", "--target", WASM, "--jobs", "2")
