@@ -6,6 +6,7 @@
  * PIGALE_CHECKED each access is compared with the size of the memory too, which takes half the time again. */
 #include "pigale.h"
 
+#include <math.h>
 #include <setjmp.h>
 #include <stdlib.h>
 #include <string.h>
@@ -142,13 +143,14 @@ STORES(i64_store8, 8, u64)
 STORES(i64_store16, 16, u64)
 STORES(i64_store32, 32, u64)
 
-static inline f64 f64_load(const wasm_rt_memory_t *mem, u64 at)
+static inline f64 f64_reinterpret_i64(u64 bits)
 {
-    u64 bits = i64_load(mem, at);
     f64 x;
     memcpy(&x, &bits, sizeof x);
     return x;
 }
+
+static inline f64 f64_load(const wasm_rt_memory_t *mem, u64 at) { return f64_reinterpret_i64(i64_load(mem, at)); }
 
 static inline void f64_store(wasm_rt_memory_t *mem, u64 at, f64 x)
 {
