@@ -172,7 +172,7 @@ def test_graph_files(page):
 
 def test_records(page):
     """A record opens to its sheet, printing makes all its pictures, and the way back leads to the records."""
-    page.run("document.querySelector('#examples button').click()")
+    page.run("page.job = {}, document.querySelector('#examples button').click()")
     page.wait("page.answers && !page.isRunning && document.querySelector('.shot svg')")
     page.run("document.querySelector('.shot').click()")
     is_true(page, "the sheet", "page.study && !$('one').hidden && $('found').hidden")
