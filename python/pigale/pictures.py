@@ -8,8 +8,10 @@ import json
 import math
 import os
 import unicodedata
+from collections import defaultdict
 from collections.abc import Sequence as SequenceType
 from dataclasses import dataclass, replace
+from functools import lru_cache
 from typing import Any, Callable, Dict, FrozenSet, Iterable, List, Mapping, Optional, Sequence, Set, Tuple, Union, cast
 
 from .formats import (FIGURES, GRID_JOBS, BarFigure, Edge, Figure, GridFigure, Lists, RectFigure, WitnessFigure, join_words,
@@ -18,6 +20,7 @@ from .maps import edges_of, faces_of, witness_graph
 
 Dot = Tuple[float, float]
 Box = Tuple[float, float, float, float]
+Line = Tuple[float, float, float, float]
 Sketch = Tuple[int, int, str]  # the width and the height of a picture, and what is in it
 Style = Union[str, Iterable[str]]
 Labels = Union[bool, Sequence[Any], Mapping[int, Any]]
@@ -77,6 +80,7 @@ class PictureLook:
         return float(min(size["most"], size["root"] / math.sqrt(max(count, 1)))) * self.scale
 
 
+@lru_cache(maxsize=4096)
 def text_width(text: str) -> float:
     """About how wide a text is, in its height; digits are as wide as they are in Helvetica, and other letters a little more."""
     width = 0.0
@@ -303,6 +307,7 @@ def _whole(length: float) -> int:
     return max(1, round(length))
 
 
+@lru_cache(maxsize=4096)
 def _n(number: float) -> str:
     """A number of pixels, to a hundredth where it is small and to a tenth elsewhere."""
     return f"{round(number, 2 if abs(number) < 10 else 1):g}"
@@ -352,10 +357,8 @@ def _dots(dots: List[Dot], lists: Lists, edges: List[Edge], look: PictureLook,
     Returns them with where the leftmost label begins and the rightmost one ends, if there are labels other than numbers.
     """
     count = len(dots)
-    size, within = look.size("number", count), None
-    if look.labels and count < 100 and all(map(look.is_short, range(1, count + 1))):
-        within = _size_within(dots, edges, size, look)
-    radius = within * _ROUND if within else _radius(dots, edges, look)
+    size = look.size("number", count)
+    within, radius = _dot_sizes(dots, edges, size, look)
     paints = [look.paint(fill=colour, stroke="ground") for colour in colours or ["dot"] * count]
     rim = f'stroke-width="{_n(0.3 * look.size("line", count) + 0.25 * look.scale)}"'
     body, last = [], ""
@@ -382,10 +385,18 @@ _ROUND = 0.8  # the radius of a dot with a number within, in the height of the n
 _LEAST_WITHIN = 7.6  # the height of a number within a dot, at least, in a picture whose longer side is UNIT
 
 
-def _rooms(dots: List[Dot], edges: List[Edge]) -> Tuple[float, float]:
-    """The least distance of two dots, and that of a dot and a line which does not end there."""
-    apart = min((math.dist(one, other) for k, one in enumerate(dots) for other in dots[:k]), default=math.inf)
-    aside = math.inf
+def _rooms(dots: List[Dot], edges: List[Edge], enough: float, little: float) -> Tuple[float, float]:
+    """The least distance of two dots, and that of a dot and a line which does not end there, or `enough` where it is more.
+
+    Where a dot is as near as `little` to a line, the nearest one is not sought.
+    """
+    apart, aside = math.inf, enough
+    row = sorted(dots)
+    for k, (x, y) in enumerate(row):
+        for other in row[k + 1:]:
+            if other[0] - x >= apart:
+                break
+            apart = min(apart, math.dist((x, y), other))
     for a, b in edges:
         (x1, y1), (x2, y2) = dots[a - 1], dots[b - 1]
         dx, dy = x2 - x1, y2 - y1
@@ -395,83 +406,104 @@ def _rooms(dots: List[Dot], edges: List[Edge]) -> Tuple[float, float]:
         # what is farther from the line, carried on, than the least so far, is farther from it too
         most = aside * math.sqrt(square) * 1.000001
         for v, (x, y) in enumerate(dots, 1):
-            if abs((x - x1) * dy - (y - y1) * dx) <= most and v not in (a, b):
+            if -most <= (x - x1) * dy - (y - y1) * dx <= most and v != a and v != b:
                 part = min(1.0, max(0.0, ((x - x1) * dx + (y - y1) * dy) / square))
                 aside = min(aside, math.hypot(x - x1 - part * dx, y - y1 - part * dy))
+        if aside <= little:
+            break
     return apart, aside
 
 
-def _size_within(dots: List[Dot], edges: List[Edge], size: float, look: PictureLook) -> Optional[float]:
-    """The height of numbers within the dots, or nothing where these would touch each other or a line."""
-    apart, aside = _rooms(dots, edges)
-    room = min(apart / 2 - 0.8 * look.scale, aside - 1.6 * look.scale)
-    found = min(size, room / _ROUND)
-    return found if found >= _LEAST_WITHIN * look.scale else None
+def _dot_sizes(dots: List[Dot], edges: List[Edge], size: float, look: PictureLook) -> Tuple[Optional[float], float]:
+    """The height of numbers within the dots, or nothing where these would touch each other or a line, and the radius of dots.
 
-
-def _radius(dots: List[Dot], edges: List[Edge], look: PictureLook) -> float:
-    """The radius of dots by their count, less where lines pass close by, but so that they are still seen."""
-    radius = look.size("dot", len(dots))
+    Without numbers within, that is by their count, less where lines pass close by, but so that they are still seen.
+    """
+    radius, least = look.size("dot", len(dots)), _LEAST_WITHIN * look.scale
+    is_within = look.labels and len(dots) < 100 and all(map(look.is_short, range(1, len(dots) + 1)))
     if len(dots) > 100:
-        return radius
-    apart, aside = _rooms(dots, edges)
-    return max(0.6 * radius, min(radius, 0.45 * apart, 0.8 * aside))
+        return None, radius
+    enough = max(2 * radius, _ROUND * size + 2 * look.scale)
+    apart, aside = _rooms(dots, edges, enough, min(0.7 * radius, _ROUND * least))
+    if is_within:
+        found = min(size, min(apart / 2 - 0.8 * look.scale, aside - 1.6 * look.scale) / _ROUND)
+        if found >= least:
+            return found, found * _ROUND
+    return None, max(0.6 * radius, min(radius, 0.45 * apart, 0.8 * aside))
 
 
-class _Cells:
-    """Boxes and lines by the cells of a square lattice, so that those near a box are found at once."""
+class _Near:
+    """Boxes and lines by the cells of a square lattice: in each cell those that may meet a box with its middle there.
 
-    def __init__(self, cell: float) -> None:
-        self.cell = cell
-        self.boxes: Dict[Tuple[int, int], List[Tuple[Box, int]]] = {}
-        self.lines: Dict[Tuple[int, int], List[int]] = {}
+    Such a box reaches at most `half` to the left and to the right of its middle, and `tall` up and down.
+    """
 
-    def of(self, box: Box) -> List[Tuple[int, int]]:
-        """The cells that a box meets."""
-        xs, ys = (range(math.floor(box[k] / self.cell), math.floor(box[k + 2] / self.cell) + 1) for k in (0, 1))
-        return [(i, j) for i in xs for j in ys]
+    def __init__(self, cell: float, half: float, tall: float) -> None:
+        self.cell, self.half, self.tall = cell, half + 0.001 * cell, tall + 0.001 * cell
+        self.boxes: Dict[Tuple[int, int], List[Tuple[Box, int]]] = defaultdict(list)
+        self.lines: Dict[Tuple[int, int], List[Line]] = defaultdict(list)
+
+    def of(self, at: Dot) -> Tuple[int, int]:
+        """The cell of a middle."""
+        return math.floor(at[0] / self.cell), math.floor(at[1] / self.cell)
 
     def put(self, box: Box, v: int) -> None:
         """Puts a box that belongs to vertex v."""
-        for key in self.of(box):
-            self.boxes.setdefault(key, []).append((box, v))
+        (left, top), (right, bottom) = self.of((box[0] - self.half, box[1] - self.tall)), self.of((box[2] + self.half, box[3] + self.tall))
+        for i in range(left, right + 1):
+            for j in range(top, bottom + 1):
+                self.boxes[i, j].append((box, v))
 
-    def put_line(self, k: int, one: Dot, other: Dot) -> None:
-        """Puts line k, column by column of the cells."""
-        (x1, y1), (x2, y2) = sorted((one, other))
-        for i in range(math.floor(x1 / self.cell), math.floor(x2 / self.cell) + 1):
-            left, right = max(x1, i * self.cell), min(x2, (i + 1) * self.cell)
-            ys = sorted((y1, y2) if x1 == x2 else (y1 + (x - x1) * (y2 - y1) / (x2 - x1) for x in (left, right)))
-            for j in range(math.floor(ys[0] / self.cell), math.floor(ys[1] / self.cell) + 1):
-                self.lines.setdefault((i, j), []).append(k)
+    def put_line(self, one: Dot, other: Dot) -> None:
+        """Puts a line, column by column of the cells."""
+        cell, half, tall, lines, line = self.cell, self.half, self.tall, self.lines, (*one, *other)
+        (x1, y1), (x2, y2) = (one, other) if one <= other else (other, one)
+        slope = (y2 - y1) / (x2 - x1) if x2 > x1 else 0.0
+        for i in range(math.floor((x1 - half) / cell), math.floor((x2 + half) / cell) + 1):
+            left, right = i * cell - half, (i + 1) * cell + half
+            low = y1 if left <= x1 else y1 + (left - x1) * slope
+            high = y2 if right >= x2 else y1 + (right - x1) * slope
+            if low > high:
+                low, high = high, low
+            for j in range(math.floor((low - tall) / cell), math.floor((high + tall) / cell) + 1):
+                lines[i, j].append(line)
 
-    def is_free(self, box: Box, v: int) -> bool:
-        """Whether no box of another vertex meets this one."""
-        return not any(box[0] < other[2] and other[0] < box[2] and box[1] < other[3] and other[1] < box[3]
-                       for key in self.of(box) for other, u in self.boxes.get(key, ()) if u != v)
+    def is_free(self, box: Box, key: Tuple[int, int], v: int) -> bool:
+        """Whether no box of another vertex meets this one, the middle of which is in a cell."""
+        left, top, right, bottom = box
+        for (x1, y1, x2, y2), u in self.boxes.get(key, ()):
+            if left < x2 and x1 < right and top < y2 and y1 < bottom and u != v:
+                return False
+        return True
 
-    def lines_near(self, box: Box) -> Set[int]:
-        """The lines that meet a cell of the box."""
-        return {k for key in self.of(box) for k in self.lines.get(key, ())}
+    def covered(self, box: Box, key: Tuple[int, int], most: int) -> int:
+        """How many lines have a point in a box, the middle of which is in a cell; counted no further than to `most`."""
+        count = 0
+        for line in self.lines.get(key, ()):
+            if _crosses(box, line):
+                count += 1
+                if count == most:
+                    break
+        return count
 
 
-def _crosses(box: Box, one: Dot, other: Dot) -> bool:
+def _crosses(box: Box, line: Line) -> bool:
     """Whether a line has a point in a box."""
-    least, most = 0.0, 1.0
-    for start, end, low, high in ((one[0], other[0], box[0], box[2]), (one[1], other[1], box[1], box[3])):
-        if start < low and end < low or start > high and end > high:
-            return False
-        step = end - start
-        if step == 0:
-            continue
-        near, far = (low - start) / step, (high - start) / step
-        if near > far:
-            near, far = far, near
-        if near > least:
-            least = near
-        if far < most:
-            most = far
-    return least <= most
+    left, top, right, bottom = box
+    x1, y1, x2, y2 = line
+    if x1 < left and x2 < left or x1 > right and x2 > right or y1 < top and y2 < top or y1 > bottom and y2 > bottom:
+        return False
+    across, up = x2 - x1, y2 - y1
+    if not across or not up:
+        return True
+    # where the line is between left and right, and where between top and bottom, in its length
+    from_x, to_x = ((left - x1) / across, (right - x1) / across) if across > 0 else ((right - x1) / across, (left - x1) / across)
+    from_y, to_y = ((top - y1) / up, (bottom - y1) / up) if up > 0 else ((bottom - y1) / up, (top - y1) / up)
+    return from_y <= to_x and from_x <= to_y
+
+
+TURNS = [k * math.pi / 8 for k in range(16)]  # of the places of a label about its dot
+ROUNDS = [(math.cos(turn), math.sin(turn)) for turn in TURNS]
 
 
 def _label_places(dots: List[Dot], edges: List[Edge], radius: float, size: float, look: PictureLook) -> List[Tuple[int, Dot]]:
@@ -481,41 +513,46 @@ def _label_places(dots: List[Dot], edges: List[Edge], radius: float, size: float
     dot's own lines; a number is left out where it would cover a dot or a number each time. Of more than 100 vertices
     only those have numbers that stand apart.
     """
-    cells = _Cells(2 * size)
+    halves = [text_width(look.label(v)) / 2 * size + 0.06 * size for v in range(1, len(dots) + 1)]
+    near = _Near(2 * size, max(halves, default=0.0), 0.42 * size)
     apart = radius + (0.6 * size if len(dots) > 100 else 0.06 * size)
     around: List[List[float]] = [[] for _ in dots]
-    for k, (a, b) in enumerate(edges):
+    for a, b in edges:
         one, other = dots[a - 1], dots[b - 1]
-        cells.put_line(k, one, other)
+        near.put_line(one, other)
         turn = math.atan2(other[1] - one[1], other[0] - one[0])
         around[a - 1].append(turn)
         around[b - 1].append(turn + math.pi)
     for v, (x, y) in enumerate(dots, 1):
-        cells.put((x - apart, y - apart, x + apart, y + apart), v)
+        near.put((x - apart, y - apart, x + apart, y + apart), v)
     found = []
-    for v, (x, y) in enumerate(dots, 1):
-        half = text_width(look.label(v)) / 2 * size + 0.06 * size
-        choices = []
-        for k in range(16):
-            turn = k * math.pi / 8
-            at = (x + math.cos(turn) * (radius + half + 0.1 * size), y + math.sin(turn) * (radius + 0.48 * size))
-            box = (at[0] - half, at[1] - 0.42 * size, at[0] + half, at[1] + 0.42 * size)
-            if cells.is_free(box, v):
-                aside = min((abs(math.remainder(turn - other, 2 * math.pi)) for other in around[v - 1]), default=4)
-                choices.append((-aside, at, box))
-        fewest = len(edges) + 1
+    for v, (dot, half) in enumerate(zip(dots, halves), 1):
+        fewest, best = len(edges) + 1, None
         # the first that covers no line is the best, and else the first that covers fewest
-        for _, at, box in sorted(choices):
-            covered = sum(_crosses(box, dots[edges[e][0] - 1], dots[edges[e][1] - 1]) for e in cells.lines_near(box))
-            if covered < fewest:
-                fewest, best = covered, (at, box)
-                if not covered:
-                    break
-        if choices:
-            at, box = best
-            cells.put(box, v)
-            found.append((v, at))
+        for at in _places_about(dot, around[v - 1], radius + half + 0.1 * size, radius + 0.48 * size):
+            box = (at[0] - half, at[1] - 0.42 * size, at[0] + half, at[1] + 0.42 * size)
+            key = near.of(at)
+            if near.is_free(box, key, v):
+                covered = near.covered(box, key, fewest)
+                if covered < fewest:
+                    fewest, best = covered, (at, box)
+                    if not covered:
+                        break
+        if best:
+            near.put(best[1], v)
+            found.append((v, best[0]))
     return found
+
+
+def _places_about(dot: Dot, around: List[float], across: float, up: float) -> List[Dot]:
+    """Sixteen places round a dot, of which those come first that are farthest from the directions of its lines."""
+    x, y = dot
+    remainder, whole = math.remainder, 2 * math.pi
+    if around:
+        asides = [-min([abs(remainder(turn - other, whole)) for other in around]) for turn in TURNS]
+    else:
+        asides = [-4.0] * len(TURNS)
+    return [at for _, at in sorted(zip(asides, [(x + cos * across, y + sin * up) for cos, sin in ROUNDS]))]
 
 
 # Bars and rectangles
