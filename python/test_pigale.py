@@ -560,10 +560,9 @@ class Slips(unittest.TestCase):
                 return iter((1, 2))
 
         self.says("has no rotations", pigale.from_networkx, Graph())
-        self.says("graph_of_networkx", pigale.embed, Graph())
-        self.says("graph_of_networkx", pigale.embed, [Graph()])
-        for maps in (Graph(), [Graph()]):
-            self.says("from_networkx", pigale.draw, maps)
+        self.says(r"of networkx: give a list of graphs, as \[graph\] for one", pigale.embed, Graph())
+        self.says(r"a Graph of networkx: give a list of maps, as \[embedding\] for one", pigale.draw, Graph())
+        self.says("has rotations, and embed takes graphs without", pigale.draw, [Graph()])
         if networkx:
             self.says("check_planarity", pigale.from_networkx, networkx.cycle_graph(4))
             self.says("a Graph of networkx", pigale.draw, [networkx.cycle_graph(4)])

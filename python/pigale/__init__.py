@@ -25,6 +25,8 @@ within this process), `parts` and `parallel` (inputs of any size), `maps`, `make
 """
 __version__ = "1.0.0"
 
+from .answers import Counts, Embeddings, Figures
+from .arrays import Map, Maps
 from .checks import HEIGHT, WIDTH, Checked, check, check_all, read_drawing, scaled
 from .drawn import METHODS, Drawn, draw_named
 from .formats import (FIGURES, GRID_JOBS, HEADER, MOST_BYTES, MOST_VERTICES, PLANAR_JOBS, BarFigure, Count, End,
@@ -44,13 +46,14 @@ from .tikz import tikz, tikz_document
 from .writers import Look, written
 
 __all__ = [
-    "BarFigure", "Checked", "Count", "Drawn", "End", "FIGURES", "GRID_JOBS", "GridFigure", "HEADER", "HEIGHT", "Look",
-    "METHODS", "MOST_BYTES", "MOST_VERTICES", "Named", "PLANAR_JOBS", "PigaleError", "Progress", "ReadFault",
-    "RectFigure", "Refused", "Run", "STYLES", "Session", "Stop", "Verdict", "WIDTH", "WitnessFigure", "check",
-    "check_all", "check_planarity", "complete", "count", "cycle", "draw", "draw_named", "dual", "edges_of", "embed",
-    "faces_of", "from_igraph", "from_networkx", "graph_of_networkx", "graphs_of", "grid", "is_planar", "outside",
-    "page", "pages", "path", "picture", "planar_layout", "prism", "program", "quadrangle", "read_blocks",
-    "read_drawing", "read_figures", "read_graph6", "read_graphs", "read_planar_code", "renumbered", "rotations_of",
-    "run", "run_all", "scaled", "stacked", "stream", "tikz", "tikz_document", "to_networkx", "to_sage", "tree",
-    "triangulation", "wheel", "without_edge", "witness_graph", "write_graph6", "write_planar_code", "written",
+    "BarFigure", "Checked", "Count", "Counts", "Drawn", "Embeddings", "End", "FIGURES", "Figures", "GRID_JOBS",
+    "GridFigure", "HEADER", "HEIGHT", "Look", "METHODS", "MOST_BYTES", "MOST_VERTICES", "Map", "Maps", "Named",
+    "PLANAR_JOBS", "PigaleError", "Progress", "ReadFault", "RectFigure", "Refused", "Run", "STYLES", "Session", "Stop",
+    "Verdict", "WIDTH", "WitnessFigure", "check", "check_all", "check_planarity", "complete", "count", "cycle", "draw",
+    "draw_named", "dual", "edges_of", "embed", "faces_of", "from_igraph", "from_networkx", "graph_of_networkx",
+    "graphs_of", "grid", "is_planar", "outside", "page", "pages", "path", "picture", "planar_layout", "prism",
+    "program", "quadrangle", "read_blocks", "read_drawing", "read_figures", "read_graph6", "read_graphs",
+    "read_planar_code", "renumbered", "rotations_of", "run", "run_all", "scaled", "stacked", "stream", "tikz",
+    "tikz_document", "to_networkx", "to_sage", "tree", "triangulation", "wheel", "without_edge", "witness_graph",
+    "write_graph6", "write_planar_code", "written",
 ]

@@ -3,7 +3,9 @@ import functools
 import json
 import math
 import re
+from array import array
 from dataclasses import dataclass
+from itertools import chain
 from typing import Any, Dict, Iterable, List, Mapping, Optional, Sequence, Tuple, Union
 
 from .formats import MOST_BYTES, MOST_VERTICES, Edge, GridFigure, Lists, Place, Refused, Verdict, join_words, pair_of
@@ -11,7 +13,7 @@ from .kinds import looks_like
 from .library import library
 from .maps import rotations_of
 from .runs import run
-from .typed import FARTHEST, checked, checked_edges, has_edge_check
+from .typed import FARTHEST, checked, checked_edges
 
 Places = Union[Mapping[Any, Sequence[float]], Sequence[Sequence[float]]]
 Rotations = Mapping[Any, Iterable[Any]]
@@ -109,6 +111,11 @@ def _prepared(places: Places, edges: Iterable[Sequence[Any]],
 
 def _judged(path: str, places: Places, edges: Iterable[Sequence[Any]], rotations: Optional[Rotations] = None) -> Checked:
     """The verdict of the library at a path on a drawing."""
+    if rotations is None:
+        edges = edges if type(edges) in (list, tuple) else list(edges)
+        found = _verdict_of_numbers(path, places, edges)
+        if found:
+            return found
     points, pairs, names = _paired(places, edges)
     size = max((max(point) for point in points), default=0)
     if len(points) > MOST_VERTICES or size > FARTHEST:
@@ -116,11 +123,32 @@ def _judged(path: str, places: Places, edges: Iterable[Sequence[Any]], rotations
                          f"{FARTHEST} can be judged")
     if not points:
         return Checked("yes")
-    if rotations is None and has_edge_check(path):
-        name, vertices = checked_edges(path, [(u - 1, v - 1) for u, v in pairs], points)
-    else:
-        name, vertices = checked(path, _lists(points, pairs, names, rotations), points, size, size)
+    found = None if rotations else _verdict_of_numbers(path, points, [(u - 1, v - 1) for u, v in pairs], names)
+    if found:
+        return found
+    name, vertices = checked(path, _lists(points, pairs, names, rotations), points, size, size)
     return Checked(name, tuple(names[v - 1] for v in vertices))
+
+
+def _verdict_of_numbers(path: str, places: Any, edges: Any, names: Optional[Sequence[Any]] = None) -> Optional[Checked]:
+    """The verdict on a drawing in whole numbers, or None where something about it is to be looked at more closely."""
+    number: Optional[Dict[Any, int]] = None
+    if type(places) is dict:
+        names, places = list(places), list(places.values())
+        number = dict(zip(names, range(len(names))))
+    elif type(places) not in (list, tuple):
+        return None
+    try:
+        ends = list(chain.from_iterable(edges))
+        numbers = array("H", ends if number is None else list(map(number.__getitem__, ends)))
+        if max(map(len, edges), default=2) > 2 or len(ends) != 2 * len(edges):
+            return None
+    except (KeyError, OverflowError, TypeError):
+        return None
+    found = checked_edges(path, places, numbers)
+    if not found:
+        return None
+    return Checked(found[0], tuple(found[1] if names is None else map(names.__getitem__, found[1])))
 
 
 def _paired(places: Places, edges: Iterable[Sequence[Any]]) -> Tuple[List[Place], List[Edge], List[Any]]:

@@ -4,7 +4,7 @@ from dataclasses import dataclass, replace
 from typing import Any, Dict, Hashable, List, Optional, Sequence, Tuple, Union, cast
 
 from .checks import HEIGHT, WIDTH
-from .formats import (BarFigure, Edge, Figure, GridFigure, Lists, Map, Place, RectFigure, Refused, WitnessFigure, join_words)
+from .formats import (BarFigure, Edge, Figure, GridFigure, Lists, AnyMap, Place, RectFigure, Refused, WitnessFigure, join_words)
 from .library import library
 from .maps import edges_of, faces_of, outside
 from .readers import Named
@@ -248,7 +248,7 @@ class _Judge:
         """The sizes of grids that can be judged, in the order in which they are tried."""
         return (1000, 1000000) if self.path else (1000, HEIGHT)
 
-    def says_yes(self, lists: Map, places: Sequence[Place]) -> bool:
+    def says_yes(self, lists: AnyMap, places: Sequence[Place]) -> bool:
         """Whether a drawing is plane and keeps the lists."""
         size = max(max(place) for place in places)
         if self.path:
@@ -312,7 +312,7 @@ def _part_drawing(lists: Lists, judge: _Judge, method: str) -> Optional[List[Pla
     return places
 
 
-def _components(lists: Map) -> List[List[int]]:
+def _components(lists: AnyMap) -> List[List[int]]:
     """The components of a map, each with its vertices in rising order, the largest first."""
     seen = [False] * len(lists)
     parts = []

@@ -15,7 +15,7 @@ PLANAR_JOBS = ("count", "shift", "schnyder", "bars", "convex", "rect")
 GRID_JOBS = ("shift", "schnyder", "convex")
 
 Lists = List[List[int]]
-Map = Sequence[Sequence[int]]
+AnyMap = Sequence[Sequence[int]]
 Place = Tuple[int, int]
 Edge = Tuple[int, int]
 Graph = Tuple[int, Iterable[Edge]]
@@ -99,7 +99,7 @@ def _wide_lists(data: bytes, at: int, order: Literal["little", "big"]) -> Option
     return None if count is None else (lists, at)
 
 
-def write_planar_code(maps: Iterable[Map], header: bool = True) -> bytes:
+def write_planar_code(maps: Iterable[AnyMap], header: bool = True) -> bytes:
     """The maps as bytes of planar_code, as the program reads it.
 
     Maps of up to 255 vertices are narrow records, larger ones wide with the greater byte first. Raises ValueError
@@ -110,17 +110,30 @@ def write_planar_code(maps: Iterable[Map], header: bool = True) -> bytes:
     return (HEADER if header else b"") + b"".join(_record(lists) for lists in as_maps(maps))
 
 
-def as_maps(maps: Iterable[Map]) -> List[Map]:
-    """The maps as a list. Raises ValueError, with what may have been meant, where they are no maps."""
-    _no_networkx(maps, "from_networkx(embedding)[0] is a map, and [it] a list of one")
-    found = list(maps)
+def as_maps(maps: Iterable[AnyMap]) -> List[AnyMap]:
+    """The maps as a list of lists. Raises ValueError, with what may have been meant, where they are no maps.
+
+    One may be a `PlanarEmbedding` of networkx, an array of numpy with a row for each vertex, or have such an array for each.
+    """
+    _no_networkx(maps, "give a list of maps, as [embedding] for one")
+    found = list(map(_lists_of, maps))
     for k, lists in enumerate(found, 1):
-        _no_networkx(lists, "from_networkx(embedding)[0] is a map of a PlanarEmbedding")
+        _no_networkx(lists, "networkx.check_planarity(it)[1] has rotations, and embed takes graphs without")
         if not _is_list(lists) or not {list, tuple}.issuperset(map(type, lists)) and not all(_is_list(us) for us in lists):
             is_map = _is_list(lists) and all(isinstance(u, int) for u in lists)
             hint = ": give a list of maps, as [lists] for one" if is_map else ""
             raise ValueError(f"map {k} is no list with a list of neighbours for each vertex{hint}")
     return found
+
+
+def _lists_of(value: Any) -> Any:
+    """The lists of a `PlanarEmbedding` or of arrays of numpy, and all else as it is."""
+    if type(value) not in (list, tuple):
+        if hasattr(value, "neighbors_cw_order"):
+            from .graphs import from_networkx  # which reads this module
+            return from_networkx(value)[0]
+        return value.tolist() if hasattr(value, "tolist") else value
+    return value if {list, tuple}.issuperset(map(type, value)) else [us.tolist() if hasattr(us, "tolist") else us for us in value]
 
 
 def _is_list(value: object) -> bool:
@@ -133,7 +146,7 @@ def _no_networkx(value: object, hint: str) -> None:
         raise ValueError(f"this is a {type(value).__name__} of networkx: {hint}")
 
 
-def _record(lists: Map) -> bytes:
+def _record(lists: AnyMap) -> bytes:
     narrow = len(lists) < 256
     most = 255 if narrow else 65535
     if not 1 <= len(lists) <= 65535:

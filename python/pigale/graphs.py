@@ -2,7 +2,7 @@
 import importlib
 from typing import Any, Hashable, List, Optional, Sequence, Tuple
 
-from .formats import Edge, Lists, Map, Place
+from .formats import Edge, Lists, AnyMap, Place
 from .maps import edges_of
 
 
@@ -19,7 +19,7 @@ def from_networkx(embedding: Any) -> Tuple[Lists, List[Hashable]]:
     return [[number[u] for u in embedding.neighbors_cw_order(name)] for name in names], names
 
 
-def to_networkx(lists: Map, names: Optional[Sequence[Hashable]] = None) -> Any:
+def to_networkx(lists: AnyMap, names: Optional[Sequence[Hashable]] = None) -> Any:
     """A map as a `networkx.PlanarEmbedding`; vertices have the numbers from 1, or `names[v - 1]` for v."""
     known: Sequence[Hashable] = names or range(1, len(lists) + 1)
     embedding = importlib.import_module("networkx").PlanarEmbedding()
@@ -49,10 +49,17 @@ def from_igraph(graph: Any) -> Tuple[Tuple[int, List[Edge]], List[Hashable]]:
     return (graph.vcount(), list(pairs)), names
 
 
-def to_sage(lists: Map, places: Optional[Sequence[Place]] = None) -> Any:
+def to_sage(lists: AnyMap, places: Optional[Sequence[Place]] = None) -> Any:
     """A map as a Sage `Graph` with its embedding, and with positions where `places` has one for each vertex."""
     graph = importlib.import_module("sage.all").Graph([range(1, len(lists) + 1), edges_of(lists)], format="vertices_and_edges")
     graph.set_embedding({v: list(us) for v, us in enumerate(lists, 1)})
     if places:
         graph.set_pos(dict(enumerate(places, 1)))
     return graph
+
+
+def graph_of(graph: Any) -> Any:
+    """A graph of networkx or igraph as (n, edges), and all else as it is."""
+    if hasattr(graph, "nodes") and hasattr(graph, "edges"):
+        return graph_of_networkx(graph)[0]
+    return from_igraph(graph)[0] if hasattr(graph, "vcount") else graph

@@ -2,7 +2,7 @@
 from random import Random
 from typing import Callable, Optional, Tuple
 
-from .formats import Lists, Map
+from .formats import Lists, AnyMap
 from .maps import rotations_of
 
 
@@ -124,7 +124,7 @@ def quadrangle(rows: int, columns: int, is_rising: Callable[[int, int], bool] = 
     return lists
 
 
-def renumbered(lists: Map, source: Random) -> Lists:
+def renumbered(lists: AnyMap, source: Random) -> Lists:
     """The map with its vertices numbered anew by `source`, a `random.Random`."""
     number = list(range(1, len(lists) + 1))
     source.shuffle(number)

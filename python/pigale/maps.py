@@ -3,7 +3,7 @@ import functools
 import math
 from typing import Any, Callable, Dict, List, Sequence, Set, Tuple
 
-from .formats import Edge, Lists, Map, Place, WitnessFigure, read_graph6
+from .formats import Edge, Lists, AnyMap, Place, WitnessFigure, read_graph6
 
 
 def rotations_of(points: Sequence[Place], edges: Sequence[Edge]) -> Lists:
@@ -40,12 +40,12 @@ def _clockwise(one: Place, other: Place) -> int:
     return halves[0] - halves[1] or one[0] * other[1] - other[0] * one[1]
 
 
-def edges_of(lists: Map) -> List[Edge]:
+def edges_of(lists: AnyMap) -> List[Edge]:
     """The edges of a map, as pairs (v, u) with v below u, in the order of v and then u."""
     return sorted((v, u) for v, us in enumerate(lists, 1) for u in us if v < u)
 
 
-def faces_of(lists: Map) -> Lists:
+def faces_of(lists: AnyMap) -> Lists:
     """The faces of a map that have edges, each as the list of its vertices with the face on the left.
 
     The lists have to be a simple map. The first face is that of the dart from vertex 1 to the first of its list, which
@@ -66,7 +66,7 @@ def faces_of(lists: Map) -> Lists:
     return faces
 
 
-def dual(lists: Map) -> Lists:
+def dual(lists: AnyMap) -> Lists:
     """The dual of a three-connected map of genus zero: a vertex for each face, in the order of `faces_of`.
 
     Other maps may have a dual with loops or edges between the same two, which the program refuses.
@@ -77,7 +77,7 @@ def dual(lists: Map) -> Lists:
     return [[left[face[(k + 1) % len(face)], v] for k, v in enumerate(face)][::-1] for face in faces]
 
 
-def outside(lists: Map, v: int, u: int) -> Lists:
+def outside(lists: AnyMap, v: int, u: int) -> Lists:
     """The map with the face of the dart from v to its neighbour u outside, as the drawing jobs take it.
 
     Vertices v and 1 exchange their numbers, and the list of vertex 1 then begins with the neighbour that was u.
@@ -88,7 +88,7 @@ def outside(lists: Map, v: int, u: int) -> Lists:
     return [out[0][first:] + out[0][:first], *out[1:]]
 
 
-def without_edge(lists: Map, v: int, u: int) -> Lists:
+def without_edge(lists: AnyMap, v: int, u: int) -> Lists:
     """The map without the edge from v to u; its faces at both sides become one.
 
     Where u was the first of v's list, that face is the one on the left of the dart from v to what is first then. So of a

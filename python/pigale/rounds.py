@@ -8,7 +8,7 @@ import heapq
 import math
 from typing import Callable, Dict, List, NamedTuple, Optional, Sequence, Tuple
 
-from .formats import Lists, Map, Place
+from .formats import Lists, AnyMap, Place
 from .maps import faces_of
 
 PULLS = (1, 1.5, 2.2, 3)  # how many times more an edge weighs at each step towards the outer face
@@ -24,7 +24,7 @@ class Round(NamedTuple):
     pull: float
 
 
-def _depths(lists: Map, outer: Sequence[int]) -> List[int]:
+def _depths(lists: AnyMap, outer: Sequence[int]) -> List[int]:
     """The distance of each vertex from the outer walk."""
     depth = [-1] * len(lists)
     for v in outer:
@@ -41,7 +41,7 @@ def _depths(lists: Map, outer: Sequence[int]) -> List[int]:
     return depth
 
 
-def _weights(lists: Map, outer: Sequence[int], pull: float) -> Around:
+def _weights(lists: AnyMap, outer: Sequence[int], pull: float) -> Around:
     """The weight of each edge, by the distance of its nearer end from the outer walk."""
     depth = _depths(lists, outer)
     powers = [1.0]
@@ -86,7 +86,7 @@ def _eliminated(around: Around, is_outer: Sequence[bool]) -> List[Tuple[int, Lis
     return steps
 
 
-def _ringed(lists: Map) -> Tuple[Lists, List[int]]:
+def _ringed(lists: AnyMap) -> Tuple[Lists, List[int]]:
     """A map with what it is drawn within: lists, and the vertices on the circle.
 
     A walk that passes a vertex twice has a ring of new vertices round it, each joined to two that follow each other on the
@@ -117,7 +117,7 @@ def _filled(lists: Lists, faces: Lists) -> Lists:
     return found
 
 
-def round_floats(lists: Map, pull: float, is_filled: bool = False) -> List[Spot]:
+def round_floats(lists: AnyMap, pull: float, is_filled: bool = False) -> List[Spot]:
     """Places as floats, with the outer walk of `lists` on the circle about (0, 0) of radius 1."""
     given, outer = _ringed(lists)
     if is_filled:
@@ -143,11 +143,11 @@ def rounded(spots: Sequence[Spot], size: int) -> List[Place]:
     return [(math.floor((x + 1) / 2 * size + 0.5), math.floor((y + 1) / 2 * size + 0.5)) for x, y in spots]
 
 
-def _shortest_edge(lists: Map, spots: Sequence[Spot]) -> float:
+def _shortest_edge(lists: AnyMap, spots: Sequence[Spot]) -> float:
     return min(math.dist(spots[k], spots[u - 1]) for k, us in enumerate(lists) for u in us)
 
 
-def round_drawing(lists: Map, judge: Judge, sizes: Sequence[int], is_plain: bool = False) -> Optional[Round]:
+def round_drawing(lists: AnyMap, judge: Judge, sizes: Sequence[int], is_plain: bool = False) -> Optional[Round]:
     """A round drawing of a connected map to which `judge(places, size)` says yes, or None where there is none.
 
     It is made for each of the `sizes` of the grid in turn, first of the map as it is and then with its faces filled. Of

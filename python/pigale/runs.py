@@ -5,16 +5,18 @@ import platform
 import shutil
 import subprocess
 from dataclasses import dataclass
-from typing import Iterable, Iterator, List, Optional, Sequence, Tuple, Union, cast
+from typing import Any, Iterable, Iterator, List, Optional, Sequence, Tuple, Union, cast
 
 from .formats import (FIGURES, MOST_BYTES, MOST_VERTICES, PLANAR_JOBS, Answer, Block, Count, Edge, End, Figure, Graph, GridFigure,
-                      Map, Refused, Stop, WitnessFigure, as_maps, check_line, pair_of, read_blocks, write_graph6, write_planar_code)
+                      AnyMap, Refused, Stop, WitnessFigure, as_maps, check_line, pair_of, read_blocks, write_graph6, write_planar_code)
+from .graphs import graph_of
 from .library import answered, library
 
 READING_JOBS = (*PLANAR_JOBS, "embed", "verify")
 MOST_EMBEDDED = 255  # vertices of a graph that `embed` reads
+EDGE_FAULTS = {20, 21, 22}  # statuses of the library for an end that is no vertex, a loop, and an edge that is there twice
 
-Records = Union[str, bytes, Iterable[Map], Iterable[Union[str, Graph]], Iterable[Figure]]
+Records = Union[str, bytes, Iterable[AnyMap], Iterable[Union[str, Graph]], Iterable[Figure]]
 
 
 class PigaleError(Exception):
@@ -152,10 +154,10 @@ def encoded(job: str, records: Records, first: int = 1, header: bool = True) -> 
     if job == "verify":
         figures = _figures(cast(Iterable[Figure], records), first)
         return "".join(f"{figure}\n" for figure in figures).encode("ascii", "surrogateescape")
-    return write_planar_code(_sized(as_maps(cast(Iterable[Map], records)), first), header)
+    return write_planar_code(_sized(as_maps(cast(Iterable[AnyMap], records)), first), header)
 
 
-def _sized(maps: List[Map], first: int) -> List[Map]:
+def _sized(maps: List[AnyMap], first: int) -> List[AnyMap]:
     """The maps. Raises ValueError where one has more vertices than the program reads, by its number from `first` on."""
     for k, lists in enumerate(maps, first):
         if len(lists) > MOST_VERTICES:
@@ -166,7 +168,7 @@ def _sized(maps: List[Map], first: int) -> List[Map]:
 def _lines(graphs: Iterable[Union[str, Graph]], first: int) -> Iterable[str]:
     """Graphs as lines of graph6. Raises ValueError where one is none, or has more vertices than `embed` reads."""
     if hasattr(graphs, "nodes"):
-        raise ValueError("this is a graph of networkx: graph_of_networkx(graph)[0] is it as (n, edges), and [it] a list of one")
+        raise ValueError("this is a graph of networkx: give a list of graphs, as [graph] for one")
     if isinstance(graphs, tuple) and len(graphs) == 2 and isinstance(graphs[0], int):
         raise ValueError("this is one graph: give a list of graphs, as [graph] for one")
     for k, graph in enumerate(graphs, first):
@@ -175,22 +177,13 @@ def _lines(graphs: Iterable[Union[str, Graph]], first: int) -> Iterable[str]:
                 check_line(graph, MOST_EMBEDDED)
                 yield graph
                 continue
-            line = write_graph6(graph)
+            pair: Graph = graph_of(graph)
+            line = write_graph6(pair)
         except ValueError as fault:
             raise ValueError(f"graph {k}: {fault}") from fault
-        if graph[0] > MOST_EMBEDDED:
-            raise ValueError(f"graph {k} has {graph[0]} vertices: embed reads up to {MOST_EMBEDDED}")
+        if pair[0] > MOST_EMBEDDED:
+            raise ValueError(f"graph {k} has {pair[0]} vertices: embed reads up to {MOST_EMBEDDED}")
         yield line
-
-
-def _pairs(n: int, edges: Iterable[Edge], number: int) -> List[Edge]:
-    """The edges of a graph as pairs. Raises ValueError where one is none, or the graph has more vertices than `embed` reads."""
-    if not isinstance(n, int) or not 0 <= n <= MOST_EMBEDDED:
-        raise ValueError(f"graph {number} has {n} vertices: embed reads up to {MOST_EMBEDDED}")
-    try:
-        return [pair_of(edge) for edge in edges]
-    except (TypeError, ValueError) as fault:
-        raise ValueError(f"graph {number}: {fault}") from fault
 
 
 def _figures(figures: Iterable[Figure], first: int) -> Iterable[Figure]:
@@ -202,39 +195,101 @@ def _figures(figures: Iterable[Figure], first: int) -> Iterable[Figure]:
         yield figure
 
 
-def count(maps: Union[bytes, Iterable[Map]], processes: Optional[int] = None) -> List[Union[Count, Refused]]:
+def _maps(maps: Union[bytes, Iterable[Any]], processes: Optional[int]) -> Optional[Tuple[str, Any]]:
+    """The library's path and the maps as arrays, or None where the program is to be asked by text."""
+    path = None if processes else library()
+    if path is None:
+        return None
+    from .arrays import Maps, maps_of_planar_code
+    given = maps_of_planar_code(maps) if isinstance(maps, bytes) else Maps(maps)
+    return None if given is None else (path, given)
+
+
+def count(maps: Union[bytes, Iterable[Any]], processes: Optional[int] = None) -> Sequence[Union[Count, Refused]]:
     """The numbers of vertices, edges, faces and components and the genus of each map, in order.
 
-    Lists that are no simple map have a `Refused` in their place. `processes` is as in `run`. Raises as `run` does.
+    `maps` is as in `draw`. Lists that are no simple map have a `Refused` in their place. By the library the answer is a
+    `Counts`, in which each is made when someone looks, and else a list. `processes` is as in `run`. Raises as `run` does.
     """
+    given = _maps(maps, processes)
+    if given:
+        from .typed import counted_all
+        return counted_all(*given)
     return cast(List[Union[Count, Refused]], run("count", maps, processes=processes).answers)
 
 
-def draw(maps: Union[bytes, Iterable[Map]], job: str = "schnyder",
-         processes: Optional[int] = None) -> List[Union[Figure, Refused]]:
+def draw(maps: Union[bytes, Iterable[Any]], job: str = "schnyder",
+         processes: Optional[int] = None) -> Sequence[Union[Figure, Refused]]:
     """A figure for each map, in order, by "shift", "schnyder", "bars", "convex" or "rect".
 
-    A map that the job does not draw has a `Refused` in its place. `processes` is as in `run`. Raises ValueError for another
-    job, and as `run`.
+    `maps` has for each map its lists, an object of `Map`, or a `PlanarEmbedding` of networkx; or it is an object of `Maps`, or
+    bytes of planar_code. A map that the job does not draw has a `Refused` in its place. By the library the answer is a
+    `Figures`, which has all coordinates as arrays, and in which a figure is made when someone looks; else it is a list.
+    `processes` is as in `run`. Raises ValueError for another job, and as `run`.
     """
     if job not in PLANAR_JOBS[1:]:
         raise ValueError(f"{job} is no job that draws maps")
-    path = None if processes or isinstance(maps, bytes) else library()
-    if path:
-        from .typed import drawn
-        return [drawn(path, lists, job, k) for k, lists in enumerate(_sized(as_maps(cast(Iterable[Map], maps)), 1), 1)]
+    given = _maps(maps, processes)
+    if given:
+        from .typed import drawn_all
+        return drawn_all(*given, job)
     return cast(List[Union[Figure, Refused]], run(job, maps, processes=processes).answers)
 
 
-def embed(graphs: Union[str, bytes, Iterable[Union[str, Graph]]],
-          processes: Optional[int] = None) -> List[Union[GridFigure, WitnessFigure, Refused]]:
+def embed(graphs: Union[str, bytes, Iterable[Any]],
+          processes: Optional[int] = None) -> Sequence[Union[GridFigure, WitnessFigure, Refused]]:
     """For each graph a `GridFigure` of a map of it, or a `WitnessFigure` that tells why there is none of genus zero.
 
-    A graph is (n, edges) or a line of graph6, with up to 255 vertices; one of fewer than three has a `Refused` in its
-    place. `processes` is as in `run`. Raises as `run` does.
+    A graph is (n, edges), a line of graph6 or a graph of networkx, with up to 255 vertices; one of fewer than three has a
+    `Refused` in its place. By the library the answer is an `Embeddings`, in which each is made when someone looks, and else a
+    list. `processes` is as in `run`. Raises as `run` does.
     """
-    path = None if processes else library()
-    if path and isinstance(graphs, list) and all(isinstance(graph, tuple) and len(graph) == 2 for graph in graphs):
-        from .typed import embedded
-        return [embedded(path, n, _pairs(n, edges, k), k) for k, (n, edges) in enumerate(cast(List[Graph], graphs), 1)]
+    path = None if processes or isinstance(graphs, (str, bytes)) else library()
+    if path:
+        graphs = _list_of_graphs(graphs)
+        arrays = _graph_arrays(graphs)
+        if arrays is not None:
+            return _embedded(path, graphs, arrays)
     return cast(List[Union[GridFigure, WitnessFigure, Refused]], run("embed", graphs, processes=processes).answers)
+
+
+def _embedded(path: str, graphs: List[Any], arrays: Any) -> Sequence[Union[GridFigure, WitnessFigure, Refused]]:
+    """The drawings or witnesses of graphs, which are given as arrays too, by the library at a path."""
+    from .typed import embedded_all
+    found = embedded_all(path, arrays)
+    if EDGE_FAULTS & set(found.statuses):
+        for k, status in enumerate(found.statuses):
+            if status in EDGE_FAULTS:
+                # a loop or an end that is no vertex raises ValueError, and edges that are there twice become one
+                alone = _graph_arrays(list(_lines([graphs[k]], k + 1)))
+                found.take(k, embedded_all(path, alone))
+    return found
+
+
+def _list_of_graphs(graphs: Iterable[Any]) -> List[Any]:
+    """Graphs as a list. Raises ValueError where they are one graph."""
+    if hasattr(graphs, "nodes") or isinstance(graphs, tuple) and len(graphs) == 2 and isinstance(graphs[0], int):
+        return list(_lines(graphs, 1))  # which says what is wrong
+    return list(graphs)
+
+
+def _graph_arrays(graphs: List[Any]) -> Any:
+    """Graphs as arrays, or None where a line is none of graph6 of up to 255 vertices. Raises ValueError as `_lines` does."""
+    from .answers import Graphs, ends_of_edges, ends_of_line
+    counts: List[int] = []
+    edges: List[bytes] = []
+    for k, graph in enumerate(graphs, 1):
+        if not isinstance(graph, str):
+            graph = graphs[k - 1] = graph_of(graph)
+            ends = ends_of_edges(graph)
+            if ends is not None:
+                counts.append(graph[0])
+                edges.append(ends)
+                continue
+            graph = graphs[k - 1] = list(_lines([graph], k))[0]  # which says what is wrong
+        found = ends_of_line(graph)
+        if found is None:
+            return None
+        counts.append(found[0])
+        edges.append(found[1])
+    return Graphs(graphs, counts, edges)

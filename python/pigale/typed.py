@@ -1,75 +1,121 @@
 """Calls of the library libpigale over arrays, within this process.
 
-Where there is no library, the callers of this module ask the program by text in place of it.
+Where there is no library, the callers of this module ask the program by text in place of it. Where a library has no call for
+many maps, those of one map are asked in its place.
 """
 from __future__ import annotations
 
 import ctypes
 import functools
 from array import array
-from itertools import accumulate
-from typing import Any, List, Optional, Sequence, Tuple, Union
+from itertools import chain
+from typing import Any, Iterator, List, Mapping, Optional, Sequence, Tuple, Union, cast
 
-from .formats import (MOST_VERTICES, REFUSALS, BarFigure, Edge, Figure, GridFigure, Lists, Map, Place, RectFigure, Refused,
-                      WitnessFigure, write_graph6, write_planar_code)
+from .answers import COLUMNS, NUMBERS, ROOM, Counts, Embeddings, Figures, Graphs
+from .arrays import SIZE, SIZES, Map, Maps
+from .formats import MOST_VERTICES, AnyMap, Edge, Graph, GridFigure, Place, Refused, WitnessFigure
 from .library import loaded
 
 FARTHEST = 1 << 20  # coordinate from 0 that the library judges
 CHECKS = {0: ("yes", 0), 1: ("OutOfRange", 2), 2: ("Loop", 1), 3: ("Repeated", 2), 4: ("OneSided", 2), 32: ("OutOfGrid", 1), 33: ("SamePlace", 2),
           34: ("OnEdge", 3), 35: ("Cross", 4), 36: ("Turned", 1)}  # the name of each verdict, and how many numbers it has
-CONDITIONS = {number: (name, count) for name, (number, count) in REFUSALS.items()}
-NO_MEMORY, K5, K33 = 16, 80, 81
-ARRAYS = {"check": 4, "check_drawing": 3, "shift": 4, "schnyder": 4, "convex": 4, "bars": 6, "rect": 6}  # that each call takes
-_SIZE, _POINTER = ctypes.c_size_t, ctypes.c_void_p
-_ENDS = "Q" if ctypes.sizeof(_SIZE) == 8 else "L"
-
-
-class Map16:
-    """The lists of a map as two arrays: where each list ends, and all neighbours one behind another, from 0."""
-
-    def __init__(self, lists: Map) -> None:
-        try:
-            self.neighbours = array("H", [u - 1 for us in lists for u in us])
-            self.ends = array(_ENDS, accumulate(map(len, lists)))
-        except (OverflowError, TypeError):
-            write_planar_code([lists])  # which says what is wrong
-            raise
-        if not 1 <= len(lists) <= MOST_VERTICES or len(lists) < 256 and self.neighbours and max(self.neighbours) > 254:
-            write_planar_code([lists])
+NO_MEMORY, BAD_ARGUMENT = 16, 17
+_I32, _SIZE, _POINTER = ctypes.c_int32, ctypes.c_size_t, ctypes.c_void_p
+_PAIR: List[Any] = [_POINTER, _SIZE]
+_TYPES: Mapping[str, List[Any]] = {
+    "count": [*2 * _PAIR, _POINTER, _POINTER], "check": [*4 * _PAIR, _I32, _I32, _POINTER], "check_drawing": [*3 * _PAIR, _POINTER],
+    "bars": [*6 * _PAIR, _POINTER], "rect": [*6 * _PAIR, _POINTER], "embed": [ctypes.c_uint16, *5 * _PAIR, _POINTER],
+    **{job: [*4 * _PAIR, _POINTER] for job in ("shift", "schnyder", "convex")},
+    **{f"{job}_many": 7 * _PAIR for job in ("shift", "schnyder", "convex")},
+    "bars_many": 9 * _PAIR, "rect_many": 9 * _PAIR, "count_many": 6 * _PAIR, "embed_many": 9 * _PAIR}
+_SOME = array("Q", [0])  # what an array of no elements is at
 
 
 @functools.lru_cache(maxsize=None)
 def _call(path: str, name: str) -> Any:
-    """A call of the library at a path, with its types."""
-    call = getattr(loaded(path), f"pigale_{name}")
-    words: List[Any] = [_POINTER, _SIZE] * ARRAYS.get(name, 0)
-    if name == "check":
-        words += [ctypes.c_int32, ctypes.c_int32]
-    if name == "embed":
-        words = [ctypes.c_uint16] + [_POINTER, _SIZE] * 5
-    call.argtypes, call.restype = [*words, _POINTER], ctypes.c_uint8
+    """A call of the library at a path, with its types, or None where the library has none of this name."""
+    call = getattr(loaded(path), f"pigale_{name}", None) if name in _TYPES else None
+    if call is not None:
+        call.argtypes, call.restype = _TYPES[name], ctypes.c_uint8
     return call
 
 
 def _words(*arrays: array[int]) -> List[int]:
-    """The address and the length of each array; one of no elements has the address of some other, since a call wants one."""
-    found = []
-    for values in arrays:
-        address, count = values.buffer_info()
-        found += [address or _SOME.buffer_info()[0], count]
-    return found
+    """The address and the length of each array."""
+    return [word for values in arrays for word in (values.buffer_info()[0] or _SOME.buffer_info()[0], len(values))]
 
 
-_SOME = array("Q", [0])
+def _all(values: array[int], each: int) -> Tuple[int, int]:
+    """The address of an array, and how many elements of C it has, each of so many numbers."""
+    return values.buffer_info()[0] or _SOME.buffer_info()[0], len(values) // each
 
 
-def checked(path: str, lists: Map, places: Sequence[Place], width: int, height: int) -> Tuple[str, Tuple[int, ...]]:
+def _refuse(status: int) -> None:
+    """Raises what stands for a status that says nothing of the map."""
+    if status == NO_MEMORY:
+        raise MemoryError("there was not enough memory for the library")
+    if status == BAD_ARGUMENT:
+        raise ValueError("the library does not take the arrays")
+
+
+def _refuse_any(status: int, statuses: array[int], maps: Optional[Maps] = None) -> None:
+    """Raises what stands for a status of all, or of one, that says nothing of it."""
+    _refuse(status)
+    found = statuses.tobytes()
+    if NO_MEMORY in found:
+        _refuse(NO_MEMORY)
+    if BAD_ARGUMENT in found:
+        index = found.index(BAD_ARGUMENT)
+        first, end = maps.lists_of(index) if maps else (0, 0)
+        if end - first > MOST_VERTICES:
+            raise ValueError(f"map {index + 1} has {end - first} vertices: the program reads up to {MOST_VERTICES}")
+        _refuse(BAD_ARGUMENT)
+
+
+# Maps
+
+def drawn_all(path: str, maps: Maps, job: str) -> Figures:
+    """The figures of maps by a job of the library. Raises ValueError where a map has too many vertices."""
+    figures, call = Figures(job, maps), _call(path, f"{job}_many")
+    if call:
+        status = call(*_words(maps.map_ends, maps.ends, maps.neighbours, *figures.columns.values(), figures.statuses),
+                      *_all(figures.found, NUMBERS))
+    else:
+        status, call = 0, _call(path, job)
+        names = COLUMNS.get(job, ("x", "y"))
+        starts, found = [figures.columns[name].buffer_info()[0] for name in names], figures.found.buffer_info()[0]
+        for index, one in enumerate(maps):
+            first, end = maps.lists_of(index)
+            start = maps.ends[first - 1] if first else 0
+            places = [(at + 4 * (start // 2), len(one.neighbours) // 2) if name == "column" else (at + 4 * first, end - first)
+                      for name, at in zip(names, starts)]
+            figures.statuses[index] = call(*_words(one.ends, one.neighbours), *chain.from_iterable(places), found + 16 * index)
+    _refuse_any(status, figures.statuses, maps)
+    return figures
+
+
+def counted_all(path: str, maps: Maps) -> Counts:
+    """The counts of maps by the library. Raises ValueError where a map has too many vertices."""
+    counts, call = Counts(len(maps)), _call(path, "count_many")
+    if call:
+        status = call(*_words(maps.map_ends, maps.ends, maps.neighbours), *_all(counts.numbers, 5), *_words(counts.statuses),
+                      *_all(counts.found, NUMBERS))
+    else:
+        status, call = 0, _call(path, "count")
+        numbers, found = counts.numbers.buffer_info()[0], counts.found.buffer_info()[0]
+        for index, one in enumerate(maps):
+            counts.statuses[index] = call(*_words(one.ends, one.neighbours), numbers + 20 * index, found + 16 * index)
+    _refuse_any(status, counts.statuses, maps)
+    return counts
+
+
+def checked(path: str, lists: AnyMap, places: Sequence[Place], width: int, height: int) -> Tuple[str, Tuple[int, ...]]:
     """The verdict of the library on a straight-line drawing in the grid from (0, 0) to (width, height).
 
     It is the name of the verdict, and the vertices from 1 that belong to it: whether the drawing is plane, keeps the lists
     and stays in the grid. Coordinates are from -1048576 to 1048576.
     """
-    given, found = Map16(lists), array("I", bytes(16))
+    given, found = Map(lists), array("I", bytes(16))
     xs, ys = array("i", [x for x, _ in places]), array("i", [y for _, y in places])
     status = _call(path, "check")(*_words(given.ends, given.neighbours, xs, ys), width, height, found.buffer_info()[0])
     _refuse(status)
@@ -77,83 +123,43 @@ def checked(path: str, lists: Map, places: Sequence[Place], width: int, height: 
     return name, tuple(number + 1 for number in found[:count])
 
 
-def has_edge_check(path: str) -> bool:
-    """Whether the library at a path judges drawings by their edges alone; older ones want lists."""
-    return hasattr(loaded(path), "pigale_check_drawing")
+def checked_edges(path: str, places: Sequence[Any], ends: array[int]) -> Optional[Tuple[str, Tuple[int, ...]]]:
+    """The verdict of the library on a straight-line drawing of edges, given by their two ends, from 0, one behind another.
+
+    None where the places are none of whole numbers in the library's range, the edges are those of no simple graph, or an older
+    library has no such call.
+    """
+    call = _call(path, "check_drawing")
+    try:
+        flat, found = array("i", chain.from_iterable(places)), array("I", bytes(16))
+    except (OverflowError, TypeError):
+        return None
+    xs, ys = flat[::2], flat[1::2]
+    if call is None or len(flat) != 2 * len(places) or max(map(len, places), default=0) > 2:
+        return None
+    name, count = CHECKS.get(call(*_all(ends, 2), *_words(xs, ys), found.buffer_info()[0]), ("", 0))
+    return (name, tuple(found[:count])) if name else None
 
 
-def checked_edges(path: str, edges: Sequence[Edge], places: Sequence[Place]) -> Tuple[str, Tuple[int, ...]]:
-    """The verdict of the library on a straight-line drawing of edges, as pairs of numbers from 0 in any order."""
-    flat, found = array("H", [end for edge in edges for end in edge]), array("I", bytes(16))
-    xs, ys = array("i", [x for x, _ in places]), array("i", [y for _, y in places])
-    address = flat.buffer_info()[0] or _SOME.buffer_info()[0]
-    status = _call(path, "check_drawing")(address, len(edges), *_words(xs, ys), found.buffer_info()[0])
-    _refuse(status)
-    name, count = CHECKS[status]
-    return name, tuple(number + 1 for number in found[:count])
+# Graphs
 
+def embedded_all(path: str, graphs: Graphs) -> Embeddings:
+    """Maps of graphs with their drawings, or the witnesses that they have none, by the library.
 
-def _refuse(status: int) -> None:
-    """Raises what stands for a status that says nothing of the map."""
-    if status == NO_MEMORY:
-        raise MemoryError("there was not enough memory for the library")
-    if status == 17:
-        raise ValueError("the library does not take the arrays")
-
-
-def drawn(path: str, lists: Map, job: str, number: int) -> Union[Figure, Refused]:
-    """The figure of a map by a job of the library, or the first condition of the job that the map breaks."""
-    given, found = Map16(lists), array("I", bytes(16))
-    n = len(given.ends)
-    rows = [array("i", bytes(4 * n)) for _ in range(2 if ARRAYS[job] == 4 else 4)]
-    if job == "bars":
-        rows[3] = array("i", bytes(4 * (len(given.neighbours) // 2)))
-    status = _call(path, job)(*_words(given.ends, given.neighbours, *rows), found.buffer_info()[0])
-    if status:
-        return _refused(status, found, number)
-    own = [list(us) for us in lists]
-    if job == "bars":
-        return BarFigure(number, list(rows[0]), list(zip(rows[1], rows[2])), own, list(rows[3]))
-    if job == "rect":
-        return RectFigure(number, list(zip(rows[0], rows[1], rows[2], rows[3])), own)
-    return GridFigure(number, job, list(zip(rows[0], rows[1])), own)
-
-
-def _refused(status: int, found: array[int], number: int) -> Refused:
-    _refuse(status)
-    name, count = CONDITIONS[status]
-    more = 0 if name in ("Small", "Genus") else 1
-    return Refused(number, status, name, tuple(value + more for value in found[:count]))
-
-
-def embedded(path: str, n: int, edges: Sequence[Edge], number: int) -> Union[GridFigure, WitnessFigure, Refused]:
-    """A map of a graph with its drawing, or the witness that it has none, by the library."""
-    pairs = sorted({(u, v) if u < v else (v, u) for u, v in edges})
-    if pairs and not (1 <= pairs[0][0] and max(v for _, v in pairs) <= n and all(u < v for u, v in pairs)):
-        write_graph6((n, edges))  # which says what is wrong
-    flat = array("H", [end - 1 for pair in pairs for end in pair])
-    ends, neighbours = array(_ENDS, bytes(8 * max(n, 10))), array("H", bytes(4 * len(pairs) or 2))
-    xs, ys, found = array("i", bytes(4 * n or 4)), array("i", bytes(4 * n or 4)), array("I", bytes(16))
-    address = flat.buffer_info()[0] or _SOME.buffer_info()[0]
-    outputs = [*_words(ends, neighbours), xs.buffer_info()[0], n, ys.buffer_info()[0], n, found.buffer_info()[0]]
-    status = _call(path, "embed")(n, address, len(pairs), *outputs)
-    if status in (K5, K33):
-        return _witness(n, pairs, ends, neighbours, status == K33, number)
-    if status:
-        return _refused(status, found, number)
-    return GridFigure(number, "schnyder", list(zip(xs[:n], ys[:n])), _lists(ends[:n], neighbours))
-
-
-def _lists(ends: Sequence[int], neighbours: Sequence[int]) -> Lists:
-    lists, start = [], 0
-    for end in ends:
-        lists.append([u + 1 for u in neighbours[start:end]])
-        start = end
-    return lists
-
-
-def _witness(n: int, pairs: List[Edge], ends: array[int], neighbours: array[int], is_k33: bool, number: int) -> WitnessFigure:
-    paths = _lists(ends[:9 if is_k33 else 10], neighbours)
-    firsts, count = ([paths[0][0], paths[3][0], paths[6][0]], 3) if is_k33 else ([paths[0][0]], 4)
-    branches = [*firsts, *(path[-1] for path in paths[:count])]
-    return WitnessFigure(number, "K33" if is_k33 else "K5", write_graph6((n, pairs)), branches, paths)
+    A graph with a fault of its edges, as a loop, has a status from 20 to 22.
+    """
+    found, call = Embeddings(graphs), _call(path, "embed_many")
+    if call:
+        status = call(*_words(graphs.vertex_ends, graphs.edge_ends), *_all(graphs.edges, 2),
+                      *_words(found.ends, found.neighbours, found.x, found.y, found.statuses), *_all(found.found, NUMBERS))
+    else:
+        status, call = 0, _call(path, "embed")
+        edges, ends, neighbours, x, y, numbers = (values.buffer_info()[0] or _SOME.buffer_info()[0] for values in (
+            graphs.edges, found.ends, found.neighbours, found.x, found.y, found.found))
+        for index in range(len(graphs)):
+            (first, end), (start, stop) = graphs.vertices_of(index), graphs.edges_of(index)
+            n, m = end - first, stop - start
+            found.statuses[index] = call(n, edges + 4 * start, m, ends + SIZES[SIZE] * (first + ROOM * index), n + ROOM,
+                                         neighbours + 4 * start, 2 * m, x + 4 * first, n, y + 4 * first, n, numbers + 16 * index)
+    _refuse_any(status, found.statuses)
+    return found
