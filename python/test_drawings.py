@@ -30,7 +30,7 @@ from pigale.pictures import text_width  # noqa: E402
 from pigale.readers import Named, ReadFault, graphs_of, read_graphs  # noqa: E402
 from pigale.rounds import round_drawing, rounded  # noqa: E402
 from pigale.slips import blamed  # noqa: E402
-from pigale.tikz import escaped, tikz, tikz_document  # noqa: E402
+from pigale.tikz_pictures import escaped, tikz, tikz_document  # noqa: E402
 from pigale.writers import Look, written  # noqa: E402
 
 try:
@@ -449,6 +449,18 @@ class Commands(unittest.TestCase):
                               ["refused", "OneSided", "1"], ["end", "records", "6", "refused", "1"]])
         status, out, said = command("count", "--table", data=b"C~\n")
         self.assertEqual((status, out.decode().split("\n")[-2], "graph6" in said), (3, "stop EndInRecord 0", True))
+
+    def test_tables_of_other_jobs(self):
+        maps = pigale.write_planar_code([pigale.prism(3), pigale.path(4), pigale.wheel(5), [[2], []], pigale.cycle(3), pigale.path(5)])
+        figures = "".join(f"{figure}\n" for figure in [*pigale.draw([pigale.prism(3)] * 2, "shift"), pigale.GridFigure(1, "shift", [(0, 0), (0, 0)], [[], []])])
+        for words, data, status, lines in (
+                (("convex", "--table"), maps, 1, ["drawn 2", "refused CutVertex 2", "refused OneSided 1", "refused Small 1", "end records 6 refused 4"]),
+                (("--table", "bars"), maps, 1, ["drawn 3", "refused CutVertex 2", "refused OneSided 1", "end records 6 refused 3"]),
+                (("embed", "--table"), b"C~\nD~{\nA_\nEFz_\nDhc\n", 1, ["planar 2", "K33 1", "K5 1", "refused Small 1", "end records 5 refused 1"]),
+                (("verify", "--table"), figures.encode(), 1, ["yes 2", "SamePlace 1", "end records 3 refused 1"]),
+                (("embed", "--table"), b"", 0, ["end records 0 refused 0"])):
+            found, out, said = command(*words, data=data)
+            self.assertEqual((found, out.decode().split("\n")[:-1], said), (status, lines, ""), words)
 
     def test_dictionaries(self):
         figures = [*pigale.draw([pigale.prism(3)], "convex"), *pigale.draw([pigale.prism(3)], "bars"), *pigale.embed(["D~{"])]

@@ -175,7 +175,7 @@ def test_pictures():
     ways = [(pigale.picture, {"style": "equilateral,faces"}, EQUILATERAL, False), (pigale.picture, {}, {}, False)]
     asked = [(*it, *way) for it in figures() for way in ways]
     if hasattr(pigale.pictures, "text_width"):
-        from pigale.tikz import tikz
+        from pigale.tikz_pictures import tikz
         for it in figures():
             names = names_of(it[2])
             asked += [(*it, pigale.picture, {"labels": names}, {"names": names}, False),

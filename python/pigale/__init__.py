@@ -25,25 +25,70 @@ within this process), `parts` and `parallel` (inputs of any size), `maps`, `make
 """
 __version__ = "1.0.0"
 
-from .answers import Counts, Embeddings, Figures
-from .arrays import Map, Maps
-from .checks import HEIGHT, WIDTH, Checked, check, check_all, read_drawing, scaled
-from .drawn import METHODS, Drawn, draw_named
-from .formats import (FIGURES, GRID_JOBS, HEADER, MOST_BYTES, MOST_VERTICES, PLANAR_JOBS, BarFigure, Count, End,
-                      GridFigure, RectFigure, Refused, Stop, Verdict, WitnessFigure, read_blocks, read_figures,
-                      read_graph6, read_planar_code, write_graph6, write_planar_code)
-from .graphs import from_igraph, from_networkx, graph_of_networkx, to_networkx, to_sage
-from .makers import (complete, cycle, grid, path, prism, quadrangle, renumbered, stacked, tree, triangulation, wheel)
-from .maps import dual, edges_of, faces_of, outside, rotations_of, without_edge, witness_graph
-from .networkx_backend import check_planarity, is_planar, planar_layout
-from .pages import page, pages
-from .parallel import Progress, run_all, stream
-from .pictures import STYLES, picture
-from .readers import Named, ReadFault, graphs_of, read_graphs
-from .runs import PigaleError, Run, count, draw, embed, program, run
-from .session import Session
-from .tikz import tikz, tikz_document
-from .writers import Look, written
+import importlib
+from typing import TYPE_CHECKING, Any, List
+
+if TYPE_CHECKING:
+    from .answers import Counts, Embeddings, Figures
+    from .arrays import Map, Maps
+    from .checks import HEIGHT, WIDTH, Checked, check, check_all, read_drawing, scaled
+    from .drawn import METHODS, Drawn, draw_named
+    from .formats import (FIGURES, GRID_JOBS, HEADER, MOST_BYTES, MOST_VERTICES, PLANAR_JOBS, BarFigure, Count, End,
+                          GridFigure, RectFigure, Refused, Stop, Verdict, WitnessFigure, read_blocks, read_figures,
+                          read_graph6, read_planar_code, write_graph6, write_planar_code)
+    from .graphs import from_igraph, from_networkx, graph_of_networkx, to_networkx, to_sage
+    from .makers import (complete, cycle, grid, path, prism, quadrangle, renumbered, stacked, tree, triangulation, wheel)
+    from .maps import dual, edges_of, faces_of, outside, rotations_of, without_edge, witness_graph
+    from .networkx_backend import check_planarity, is_planar, planar_layout
+    from .page_texts import page, pages
+    from .parallel import Progress, run_all, stream
+    from .pictures import STYLES, picture
+    from .readers import Named, ReadFault, graphs_of, read_graphs
+    from .runs import PigaleError, Run, count, draw, embed, program, run
+    from .session import Session
+    from .tikz_pictures import tikz, tikz_document
+    from .writers import Look, written
+
+# the names that each module offers, which is imported when one of them is asked for
+OFFERED = {
+    "answers": "Counts Embeddings Figures",
+    "arrays": "Map Maps",
+    "checks": "HEIGHT WIDTH Checked check check_all read_drawing scaled",
+    "drawn": "METHODS Drawn draw_named",
+    "formats": ("FIGURES GRID_JOBS HEADER MOST_BYTES MOST_VERTICES PLANAR_JOBS BarFigure Count End GridFigure "
+        "RectFigure Refused Stop Verdict WitnessFigure read_blocks read_figures read_graph6 read_planar_code "
+        "write_graph6 write_planar_code"),
+    "graphs": "from_igraph from_networkx graph_of_networkx to_networkx to_sage",
+    "makers": "complete cycle grid path prism quadrangle renumbered stacked tree triangulation wheel",
+    "maps": "dual edges_of faces_of outside rotations_of without_edge witness_graph",
+    "networkx_backend": "check_planarity is_planar planar_layout",
+    "page_texts": "page pages",
+    "parallel": "Progress run_all stream",
+    "pictures": "STYLES picture",
+    "readers": "Named ReadFault graphs_of read_graphs",
+    "runs": "PigaleError Run count draw embed program run",
+    "session": "Session",
+    "tikz_pictures": "tikz tikz_document",
+    "writers": "Look written",
+}
+MODULE_OF = {name: module for module, names in OFFERED.items() for name in names.split()}
+MODULES = {*OFFERED, "cli", "crossings", "drawing_commands", "kinds", "library", "parts", "rounds", "slips", "streams", "typed"}
+
+
+def __getattr__(name: str) -> Any:
+    """Imports what is asked for by its name, so that `import pigale` itself takes no time."""
+    if name in MODULE_OF:
+        found = getattr(importlib.import_module(f".{MODULE_OF[name]}", __name__), name)
+        globals()[name] = found
+        return found
+    if name in MODULES:
+        return importlib.import_module(f".{name}", __name__)
+    raise AttributeError(f"module {__name__!r} has no attribute {name!r}")
+
+
+def __dir__() -> List[str]:
+    return sorted({*globals(), *__all__})
+
 
 __all__ = [
     "BarFigure", "Checked", "Count", "Counts", "Drawn", "Embeddings", "End", "FIGURES", "Figures", "GRID_JOBS",

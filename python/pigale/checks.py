@@ -1,6 +1,5 @@
 """Has a straight-line drawing of any kind judged by the program, and reads drawings from files."""
 import functools
-import json
 import math
 import re
 from array import array
@@ -260,6 +259,7 @@ def read_drawing(name: str, text: str) -> Drawing:
 
 
 def _json_drawing(text: str) -> Drawing:
+    import json
     try:
         data = json.loads(text)
     except json.JSONDecodeError as fault:

@@ -6,8 +6,7 @@ import subprocess
 import sys
 import time
 import zlib
-from collections import Counter
-from typing import BinaryIO, Callable, Dict, List, Optional, Sequence, Tuple, cast
+from typing import BinaryIO, Callable, List, Optional, Sequence, cast
 
 from . import __version__
 from .checks import check, read_drawing, scaled
@@ -15,7 +14,7 @@ from .drawing_commands import add_commands
 from .formats import Figure, read_figures, read_planar_code, write_planar_code
 from .kinds import reading_hint
 from .makers import stacked
-from .pages import page, page_name, pages
+from .page_texts import page, page_name, pages
 from .parallel import Progress, run_all
 from .parts import unpacked
 from .pictures import STYLES, picture
@@ -23,6 +22,7 @@ from .runs import HINTS, READING_JOBS, PigaleError, program, run
 from .slips import explained
 from .streams import (Ended, InputFault, OutputFault, end_by, forget_output, put, read_input, require_output, signals_end,
                       standard_input)
+from .tables import Tally
 
 Arguments = argparse.Namespace
 
@@ -40,8 +40,8 @@ def main(given: Optional[Sequence[str]] = None) -> int:
     started are ended.
     """
     words = list(sys.argv[1:] if given is None else given)
-    if sorted(words) == ["--table", "count"]:
-        words = ["table"]
+    if len(words) == 2 and "--table" in words and set(words) & set(READING_JOBS):
+        words = ["table", *(word for word in words if word != "--table")]
     elif words and words[0] not in (*COMMANDS, "--help", "-h", "--version"):
         return _of_program(words)
     parser = _parser()
@@ -117,7 +117,8 @@ def _parser() -> argparse.ArgumentParser:
     checked = add("check", _check_file, "prints the verdict on the drawing in a file of JSON or GraphML")
     checked.add_argument("--scale", action="store_true", help="round the places to whole numbers first")
     checked.add_argument("file", metavar="FILE", help="JSON with nodes (id, x, y) and edges (source, target), or GraphML (.graphml)")
-    table = commands.add_parser("table")  # by its one name `count --table`
+    table = commands.add_parser("table")  # by its one name `JOB --table`
+    table.add_argument("job")
     table.set_defaults(command=_table)
     made = add("stacked", _stacked, "is `make stacked`, by its first name: the map that `pigale gen --size S --number N` makes")
     made.add_argument("size", metavar="S", type=int)
@@ -156,38 +157,10 @@ def _all(arguments: Arguments) -> int:
     return status
 
 
-class _Tally:
-    """A file that takes what `count` writes, and keeps how many records have the same counts or the same refusal."""
-
-    def __init__(self) -> None:
-        self.counts: Dict[Tuple[int, ...], int] = Counter()
-        self.refusals: Dict[str, int] = Counter()
-        self.last = ""
-
-    def write(self, data: bytes) -> int:
-        for line in data.decode("ascii").split("\n"):
-            words = line.split(" ")
-            if words[0] == "count":
-                self.counts[tuple(map(int, words[3::2]))] += 1
-            elif words[0] == "refused":
-                self.refusals[words[3]] += 1
-            elif line:
-                self.last = line
-        return len(data)
-
-    def __str__(self) -> str:
-        rows: List[Tuple[str, ...]] = [("n", "m", "f", "c", "genus", "records")]
-        rows += [(*map(str, counts), str(records)) for counts, records in sorted(self.counts.items())]
-        wide = [max(map(len, column)) for column in zip(*rows)]
-        lines = ["  ".join(word.rjust(width) for word, width in zip(row, wide)) for row in rows]
-        lines += [f"refused {name} {records}" for name, records in sorted(self.refusals.items())]
-        return "".join(f"{line}\n" for line in [*lines, *([self.last] if self.last else [])])
-
-
-def _table(_: Arguments) -> int:
-    tally, meter = _Tally(), _Meter(sys.stderr.isatty())
+def _table(arguments: Arguments) -> int:
+    tally, meter = Tally(arguments.job), _Meter(sys.stderr.isatty())
     try:
-        status = run_all(["count"], standard_input(), cast(BinaryIO, tally), None, meter.tell)
+        status = run_all([arguments.job], standard_input(), cast(BinaryIO, tally), None, meter.tell, renumber=False)
     finally:
         meter.end()
     put(str(tally))

@@ -1,5 +1,4 @@
 """planar_code, graph6 and the text that the program writes: reads and writes them."""
-import json
 import re
 from collections.abc import Sequence as SequenceType
 from dataclasses import asdict, dataclass
@@ -303,6 +302,7 @@ class _Shown:
 
     def to_json(self) -> str:
         """The same as one line of JSON."""
+        import json
         return json.dumps(self.to_dict())
 
     def _repr_svg_(self) -> Optional[str]:

@@ -2,11 +2,10 @@
 import ctypes
 import functools
 import os
-import platform
-import subprocess
+import sys
 from typing import Optional, Sequence, Tuple
 
-LIBRARY_NAMES = {"Darwin": "libpigale.dylib", "Windows": "pigale.dll"}  # of a system whose library is called otherwise
+LIBRARY_NAMES = {"darwin": "libpigale.dylib", "win32": "pigale.dll"}  # of a system whose library is called otherwise
 
 @functools.lru_cache(maxsize=None)
 def loaded(path: str) -> ctypes.CDLL:
@@ -30,7 +29,7 @@ def library() -> Optional[str]:
     if os.environ.get("PIGALE"):
         return None
     here = os.path.dirname(os.path.realpath(__file__))
-    beside = os.path.join(here, LIBRARY_NAMES.get(platform.system(), "libpigale.so"))
+    beside = os.path.join(here, LIBRARY_NAMES.get(sys.platform, "libpigale.so"))
     return beside if os.path.exists(beside) else made_library(os.path.abspath(os.path.join(here, "..", "..")))
 
 
@@ -38,6 +37,9 @@ def library() -> Optional[str]:
 def made_library(top: str) -> Optional[str]:
     """The path of the library that tools/library made in a repository, or None where it is not of the sources there now."""
     folder = os.path.join(top, "out", "library")
+    if not os.path.exists(os.path.join(folder, "sources")):
+        return None
+    import subprocess
     try:
         with open(os.path.join(folder, "sources"), encoding="ascii") as file:
             noted = file.read().split()

@@ -46,20 +46,20 @@ class Progress:
 
 
 def run_all(words: Sequence[str], source: BinaryIO, sink: BinaryIO, processes: Optional[int] = None,
-            tell: Optional[Callable[[Progress], None]] = None) -> int:
+            tell: Optional[Callable[[Progress], None]] = None, renumber: bool = True) -> int:
     """Answers an input of any size; returns the worst status of its runs.
 
     `words` are a job that reads and its options. `source` is a binary file of what the job reads: packed by gzip or not,
     one file or several that were joined. The text goes to `sink`, which may be a raw file. As many programs run side by
     side as `processes` says, or else as there are processors. `tell` is called each time that answers were written, and
-    at the end.
+    at the end. Where `renumber` is False, records keep the numbers of their parts, which do for a table.
 
     A part of the input whose program is ended by a signal is given to another one, three times in all. Then the text ends
     before the answers to it, and the status is 128 and the number of the signal. Where a read fails, the text ends behind
     the answers to the records before that, and the status is 4. Raises OSError where `sink` cannot be written, and
     ValueError where the words name no job that reads.
     """
-    over = _Over(words, processes, source)
+    over = _Over(words, processes, source, renumber)
     with closing(over.texts()) as texts:
         for text in texts:
             write_all(sink, text)
@@ -142,11 +142,11 @@ class _Programs:
 class _Over:
     """A run over all processors. `status` and `last_line` are known once its texts have come."""
 
-    def __init__(self, words: Sequence[str], processes: Optional[int], given: Union[BinaryIO, Iterable[Any]]):
+    def __init__(self, words: Sequence[str], processes: Optional[int], given: Union[BinaryIO, Iterable[Any]], renumber: bool = True):
         job = next((word for word in words if word in READING_JOBS), None)
         if job is None:
             raise ValueError(f"no job that reads is among the words: {' '.join(words)}")
-        self.job = job
+        self.job, self.renumber = job, renumber
         self.programs = _Programs([program(), *words])
         self.count = processes or _processors()
         self.progress = Progress()
@@ -222,7 +222,7 @@ class _Over:
             self.status = status
             self._end(_stop_line(part, last[4], last[5], runs[0][0] if runs else None))
             self._explain(last[4])
-        return _renumbered(text[:at], part.first)
+        return _renumbered(text[:at], part.first if self.renumber else 0)
 
     def _broken_text(self, part: Part, status: int, text: bytes) -> bytes:
         """What is taken of the text of a run without its last line; sets the status and says what happened.
@@ -239,7 +239,7 @@ class _Over:
             return b""
         cause = HINTS.get(status, f"the program ended with status {status} and without its last line")
         self.progress.trouble = f"{cause}, on {where}; what was written is the beginning of the answers"
-        return _renumbered(text, part.first)
+        return _renumbered(text, part.first if self.renumber else 0)
 
     def _explain(self, ending: bytes) -> None:
         """Says what the job reads, and what the input is if that is something else, where it ended badly."""

@@ -1,9 +1,5 @@
 """Runs the program: its answers to maps, graphs and figures."""
-import io
 import os
-import platform
-import shutil
-import subprocess
 from dataclasses import dataclass
 from typing import Any, Iterable, Iterator, List, Optional, Sequence, Tuple, Union, cast
 
@@ -59,6 +55,7 @@ class Run:
 
 def program() -> str:
     """The path of the program. Raises FileNotFoundError where there is none (the package's text says where it looks)."""
+    import platform
     here = os.path.dirname(os.path.realpath(__file__))
     top = os.path.join(here, "..", "..")
     system = platform.system().lower()
@@ -78,6 +75,7 @@ def program() -> str:
 
 def _on_path(name: str) -> Iterator[str]:
     """The commands of a name on the path, in order."""
+    import shutil
     for folder in os.environ.get("PATH", os.defpath).split(os.pathsep):
         found = shutil.which(os.path.abspath(os.path.join(folder, name))) if folder else None
         if found:
@@ -121,6 +119,7 @@ def run(job: str, records: Records = (), size: Optional[int] = None, number: Opt
 def _answered(words: Sequence[str], data: bytes, processes: Optional[int]) -> Tuple[int, str, str]:
     """The status and the text of a run, or of as many side by side as there have to be, and what went wrong, in words."""
     if words[0] in READING_JOBS and (processes or len(data) > MOST_BYTES):
+        import io
         from .parallel import run_all
         sink, troubles = io.BytesIO(), [""]
         status = run_all(words, io.BytesIO(data), sink, processes, lambda progress: troubles.append(progress.trouble))
@@ -128,6 +127,7 @@ def _answered(words: Sequence[str], data: bytes, processes: Optional[int]) -> Tu
     within = library()
     if within:
         return (*answered(within, words, data), "")
+    import subprocess
     done = subprocess.run([program(), *words], input=data, stdout=subprocess.PIPE, check=False)
     status = done.returncode if done.returncode >= 0 else 128 - done.returncode
     return status, done.stdout.decode("ascii"), ""

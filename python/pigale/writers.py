@@ -15,7 +15,7 @@ from xml.etree import ElementTree
 from .drawn import Drawn, table_rows
 from .formats import PLANAR_JOBS, BarFigure, Figure, Refused, WitnessFigure
 from .pictures import Labels, Style, picture
-from .tikz import tikz, tikz_document
+from .tikz_pictures import tikz, tikz_document
 
 FORMS = ("svg", "pdf", "png", "tex", "json", "graphml", "csv", "txt")
 ONE_A_FILE = ("svg", "pdf", "png", "graphml")  # forms of which a file holds one drawing
