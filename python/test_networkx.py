@@ -33,6 +33,7 @@ tests = [f"{networkx.__path__[0]}/{name}" for name in ("algorithms/tests/test_pl
 sys.exit(pytest.main(["-q", "-p", "no:cacheprovider", *tests]))
 """
 BACKEND = """
+import warnings
 import networkx
 graph = networkx.petersen_graph()
 planar, shown = networkx.check_planarity(graph, counterexample=True, backend="pigale")
@@ -40,7 +41,12 @@ assert not planar and all(graph.has_edge(*edge) for edge in shown.edges)
 planar, embedding = networkx.check_planarity(networkx.cubical_graph(), backend="pigale")
 assert planar
 embedding.check_structure()
-assert networkx.is_planar(networkx.grid_2d_graph(3, 3), backend="pigale")
+grid = networkx.grid_2d_graph(3, 3)
+with warnings.catch_warnings():
+    warnings.simplefilter("error")
+    for _ in range(3):
+        assert networkx.is_planar(grid, backend="pigale")
+        assert networkx.check_planarity(grid, backend="pigale")[0]
 """
 
 
@@ -85,6 +91,14 @@ class Networkx(unittest.TestCase):
             pigale.planar_layout(networkx.path_graph(3), dim=3)
         with self.assertRaisesRegex(ValueError, "convex does not draw this graph: refused 1 8 CutVertex 2"):
             pigale.planar_layout(networkx.path_graph(4), method="convex")
+
+    def test_networkx_keeps_no_conversion(self):
+        graph = networkx.path_graph(4)
+        graph.__networkx_cache__ = {"backends": {"pigale": {"key": graph}, "other": {}}, "more": 1}
+        for call in (pigale.check_planarity, pigale.is_planar):
+            graph.__networkx_cache__["backends"]["pigale"] = {"key": graph}
+            call(graph)
+            self.assertEqual(graph.__networkx_cache__, {"backends": {"other": {}}, "more": 1})
 
     def test_more_vertices_than_embed_reads(self):
         planar, embedding = pigale.check_planarity(networkx.path_graph(300))

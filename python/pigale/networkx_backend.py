@@ -23,6 +23,7 @@ def check_planarity(G: Any, counterexample: bool = False) -> Tuple[bool, Any]:
     not matter.
     """
     networkx = importlib.import_module("networkx")
+    _forget_conversion(G)
     named = Named.of_networkx(_simple(networkx, G))
     if len(named.names) > MOST_EMBEDDED:
         answer: Tuple[bool, Any] = _own(networkx.check_planarity)(G, counterexample)
@@ -132,6 +133,14 @@ def _rescaled(places: List[Tuple[int, int]], scale: float, middle: Tuple[float, 
 
 
 # what networkx asks of a backend
+
+def _forget_conversion(graph: Any) -> None:
+    """Takes a graph out of networkx's memory of what backends made of graphs: here that is the graph itself.
+
+    Else networkx warns at the next call that the graph may have changed since.
+    """
+    getattr(graph, "__networkx_cache__", {}).get("backends", {}).pop("pigale", None)
+
 
 def convert_from_nx(graph: Any, *_: Any, **__: Any) -> Any:
     """Returns the graph as it is: the calls here take graphs of networkx."""
