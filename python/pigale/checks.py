@@ -7,12 +7,13 @@ from dataclasses import dataclass
 from itertools import chain
 from typing import Any, Dict, Iterable, List, Mapping, Optional, Sequence, Tuple, Union
 
+from .arrays import doubled
 from .formats import MOST_BYTES, MOST_VERTICES, Edge, GridFigure, Lists, Place, Refused, Verdict, join_words, pair_of
 from .kinds import looks_like
 from .library import library
 from .maps import rotations_of
 from .runs import run
-from .typed import FARTHEST, checked, checked_edges
+from .typed import FARTHEST, YES, checked, checked_edges
 
 Places = Union[Mapping[Any, Sequence[float]], Sequence[Sequence[float]]]
 Rotations = Mapping[Any, Iterable[Any]]
@@ -36,6 +37,8 @@ class Checked:
     def __str__(self) -> str:
         return join_words(self.name, *self.vertices)
 
+
+CHECKED_YES = Checked("yes")
 
 def check(places: Places, edges: Iterable[Sequence[Any]], rotations: Optional[Rotations] = None) -> Checked:
     """Whether a straight-line drawing is plane, judged by the program, as a `Checked`.
@@ -121,7 +124,7 @@ def _judged(path: str, places: Places, edges: Iterable[Sequence[Any]], rotations
         raise ValueError(f"{len(points)} vertices on a grid of {size}: at most {MOST_VERTICES} vertices within {FARTHEST} by "
                          f"{FARTHEST} can be judged")
     if not points:
-        return Checked("yes")
+        return CHECKED_YES
     found = None if rotations else _verdict_of_numbers(path, points, [(u - 1, v - 1) for u, v in pairs], names)
     if found:
         return found
@@ -138,15 +141,18 @@ def _verdict_of_numbers(path: str, places: Any, edges: Any, names: Optional[Sequ
     elif type(places) not in (list, tuple):
         return None
     try:
-        ends = list(chain.from_iterable(edges))
-        numbers = array("H", ends if number is None else list(map(number.__getitem__, ends)))
-        if max(map(len, edges), default=2) > 2 or len(ends) != 2 * len(edges):
+        ends = chain.from_iterable(edges)
+        named = ends if number is None else map(number.__getitem__, ends)
+        numbers = doubled(bytes(named)) if len(places) < 256 else array("H", list(named))
+        if max(map(len, edges), default=2) > 2 or len(numbers) != 2 * len(edges):
             return None
-    except (KeyError, OverflowError, TypeError):
+    except (KeyError, OverflowError, TypeError, ValueError):
         return None
     found = checked_edges(path, places, numbers)
     if not found:
         return None
+    if found is YES:
+        return CHECKED_YES
     return Checked(found[0], tuple(found[1] if names is None else map(names.__getitem__, found[1])))
 
 

@@ -28,6 +28,7 @@ _TYPES: Mapping[str, List[Any]] = {
     **{job: [*4 * _PAIR, _POINTER] for job in ("shift", "schnyder", "convex")},
     **{f"{job}_many": 7 * _PAIR for job in ("shift", "schnyder", "convex")},
     "bars_many": 9 * _PAIR, "rect_many": 9 * _PAIR, "count_many": 6 * _PAIR, "embed_many": 9 * _PAIR}
+YES: Tuple[str, Tuple[int, ...]] = ("yes", ())
 _SOME = array("Q", [0])  # what an array of no elements is at
 
 
@@ -131,13 +132,16 @@ def checked_edges(path: str, places: Sequence[Any], ends: array[int]) -> Optiona
     """
     call = _call(path, "check_drawing")
     try:
-        flat, found = array("i", chain.from_iterable(places)), array("I", bytes(16))
+        flat, found = array("i", list(chain.from_iterable(places))), array("I", bytes(16))
     except (OverflowError, TypeError):
         return None
     xs, ys = flat[::2], flat[1::2]
     if call is None or len(flat) != 2 * len(places) or max(map(len, places), default=0) > 2:
         return None
-    name, count = CHECKS.get(call(*_all(ends, 2), *_words(xs, ys), found.buffer_info()[0]), ("", 0))
+    status = call(*_all(ends, 2), *_words(xs, ys), found.buffer_info()[0])
+    if not status:
+        return YES
+    name, count = CHECKS.get(status, ("", 0))
     return (name, tuple(found[:count])) if name else None
 
 
