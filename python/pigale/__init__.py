@@ -6,8 +6,9 @@ and shows it. So a fault in this package can hand the program another map or dra
 wrongly, but it never makes up an answer.
 
 A map is a list of lists: entry v - 1 holds the neighbours of vertex v in clockwise order, and vertices are numbered
-from 1. A graph is a pair (n, edges), with pairs of numbers from 1 to n as edges. Names of your own stand in `check`
-and in the functions for networkx and Sage alone.
+from 1. `Map` and `Maps` hold one map and many in arrays, which are read as such lists; a `PlanarEmbedding` of networkx is a
+map too. A graph is a pair (n, edges), with pairs of numbers from 1 to n as edges, a line of graph6, or a graph of networkx.
+Names of your own stand in `check` and in the functions for networkx and Sage alone.
 
 The program is found by the environment variable PIGALE, else beside this package, else as it is built in this
 repository, else under release/, else on the path. The package needs Python 3.8 or later and nothing else; networkx and
@@ -15,13 +16,16 @@ Sage are imported where a function is called that speaks of them.
 
 Where PIGALE_LIBRARY names the library libpigale, or PIGALE names no program and tools/library has made the library in this
 repository, `run` and what stands on it ask that, within this process, in place of the program; the answers are the same.
+`draw`, `count` and `embed` then answer many maps or graphs in one call over arrays, and give figures that are made when
+someone looks (`Figures`, `Counts`, `Embeddings`).
 
 `read_graphs` reads graphs of many formats with their names, `draw_named` draws them, and `written` writes the drawings.
 
 Its modules: `formats` (planar_code, graph6 and the program's text), `runs` (of the program), `library` and `typed` (the same
-within this process), `parts` and `parallel` (inputs of any size), `maps`, `makers`, `checks`, `graphs` and `networkx_backend`
+within this process), `arrays` and `answers` (what `typed` takes and gives), `tables` (of many answers), `parts` and `parallel` (inputs of any size), `maps`, `makers`, `checks`, `graphs` and `networkx_backend`
 (networkx, igraph and Sage), `kinds` and `readers` (other formats), `drawn`, `rounds` and `crossings` (drawings of named graphs),
-`pictures`, `tikz`, `writers` and `pages`, and `cli` (the commands). All that they offer is here by one name.
+`pictures`, `tikz_pictures`, `writers` and `page_texts`, and `cli` (the commands). All that they offer is here by one name, and
+each is imported when something of it is asked for.
 """
 __version__ = "1.0.0"
 
