@@ -190,6 +190,15 @@ pigale_status pigale_schnyder_wood(const size_t *ends, size_t vertex_count, cons
 pigale_status pigale_st_order(const size_t *ends, size_t vertex_count, const uint16_t *neighbours, size_t neighbour_count,
                               uint16_t *rank, size_t rank_count, pigale_numbers *found);
 
+/* Walks along the faces of a simple map of any genus: face number i is walk[face_ends[i - 1]] up to walk[face_ends[i]], the
+ * vertices from which its darts go, each dart before its step: what follows the one end in the list of the other. A walk begins
+ * with its first dart in the order of the lists, and the faces stand in the order of these. `walk` gets as many entries as
+ * `neighbours` has, `face_ends` one for each face (pigale_count tells how many), and *face_count their number. Else the status is
+ * from 1 to 4, or PIGALE_BAD_ARGUMENT where an array is too short. */
+pigale_status pigale_faces(const size_t *ends, size_t vertex_count, const uint16_t *neighbours, size_t neighbour_count,
+                           size_t *face_ends, size_t face_end_count, uint16_t *walk, size_t walk_count, size_t *face_count,
+                           pigale_numbers *found);
+
 /* Draw many maps in one call, each as the call for one does, with memory that is kept from one to the next.
  *
  * The maps stand one behind another. Map i has the lists from number map_ends[i - 1] (0 for the first) up to map_ends[i];

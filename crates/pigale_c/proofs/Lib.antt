@@ -8,4 +8,5 @@ mod FailureLemmas
 mod ManyLemmas
 mod Refused
 mod RunLemmas
+mod WalkLemmas
 mod WordLemmas

@@ -18,3 +18,4 @@ pub mod Ordered
 pub mod Wooded
 pub mod StNumbers
 pub mod ManyMaps
+pub mod Walked

@@ -14,6 +14,7 @@ mod edge_lists;
 mod edge_orders;
 pub mod edges;
 pub mod embeds;
+pub mod face_walks;
 pub mod graph_maps;
 pub mod grids;
 pub mod many_maps;
