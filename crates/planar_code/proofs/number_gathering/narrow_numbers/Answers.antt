@@ -1,5 +1,5 @@
 -- The number of a byte joins the lists, and closes the last of them only where the loop is left.
-use Rattle.std.proofs.Common.{get_or, ◌∙◌, arith}
+use Rattle.std.proofs.Common.{◌∙◌, arith}
 use Rattle.planar_code.proofs.GatherLemmas.{narrow-gathers, still-some}
 use Rattle.planar_code.proofs.number_gathering.narrow_numbers.Goals as goal
 
