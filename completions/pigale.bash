@@ -21,7 +21,7 @@ _pigale() {
         --form) COMPREPLY=($(compgen -W "text svg" -- "$word")); return ;;
         --size | --number | --side | --figure | --outer | --mark | -j) return ;;
         --to | --from | --method | --labels | --style) COMPREPLY=($(compgen -W "$(_pigale_words "$before")" -- "$word")); return ;;
-        -o | --output) compopt -o default; return ;;
+        -o | --output | --log) compopt -o default; return ;;
     esac
     for it in "${COMP_WORDS[@]:1:COMP_CWORD-1}"; do
         case $it in
@@ -36,7 +36,7 @@ _pigale() {
         check) options="--scale"; [[ $word == -* ]] || compopt -o default ;;
         picture) options="--figure --side --no-numbers --style" ;;
         page) options="count shift schnyder bars convex rect embed verify --to --side --no-numbers --style" ;;
-        all) options="count shift schnyder bars convex rect embed verify --form -j" ;;
+        all) options="count shift schnyder bars convex rect embed verify --form -j --log --resume" ;;
         make) options="complete cycle grid path prism quadrangle stacked tree triangulation wheel" ;;
         shift | schnyder | bars | convex | rect | embed) options="--form" ;;
         gen) options="--size --number" ;;

@@ -10,6 +10,7 @@ import itertools
 import json
 import os
 import re
+import shutil
 import signal
 import subprocess
 import sys
@@ -285,7 +286,7 @@ class Faults(unittest.TestCase):
             with tempfile.TemporaryDirectory() as folder:
                 path = os.path.join(folder, "pigale")
                 with open(path, "w", encoding="ascii") as file:
-                    file.write(f"#!/bin/sh\ntouch '{folder}/'$$\nexec sleep 60\n")
+                    file.write(f"#!/bin/sh\ntouch '{folder}/'$$\nexec sleep 600\n")
                 os.chmod(path, 0o755)
                 running = subprocess.Popen([sys.executable, os.path.join(HERE, "pigale.py"), "all", "count", "-j", "3"], stdin=subprocess.PIPE,
                                            stdout=subprocess.PIPE, stderr=subprocess.PIPE, env={**os.environ, "PIGALE": path})
@@ -322,6 +323,115 @@ class Faults(unittest.TestCase):
                                   stderr=subprocess.PIPE, check=False)
         self.assertEqual((done.returncode, done.stdout), (5, b"count 1 n 3 m 3 f 2 c 1 genus 0\n"))
         self.assertNotIn(b"Traceback", done.stderr)
+
+
+IN_SMALL_PARTS = f"""
+import sys
+sys.path.insert(0, {HERE!r})
+import pigale.parallel
+pigale.parallel.LEAST_PART = pigale.parallel.MOST_PART = pigale.parallel.MOST_COUNTED = 4000
+sys.exit(pigale.cli.main())
+"""
+
+
+class Resumed(unittest.TestCase):
+    """Runs with a log, which go on behind it."""
+
+    def setUp(self):
+        self.folder = tempfile.mkdtemp()
+        self.addCleanup(shutil.rmtree, self.folder)
+        self.log, self.out, self.runs = (os.path.join(self.folder, name) for name in ("log", "out", "runs"))
+        counted = os.path.join(self.folder, "pigale")
+        with open(counted, "w", encoding="ascii") as file:
+            file.write(f"#!/bin/sh\necho >> '{self.runs}'\nexec '{pigale.program()}' \"$@\"\n")
+        os.chmod(counted, 0o755)
+        self.environment = {**os.environ, "PIGALE": counted}
+
+    def begun(self, *words, mode="ab"):
+        """The command `all` with a log, which appends to the file of the run."""
+        with open(self.out, mode) as out:
+            return subprocess.Popen([sys.executable, "-c", IN_SMALL_PARTS, "all", *words, "--log", self.log], env=self.environment,
+                                    stdin=subprocess.PIPE, stdout=out, stderr=subprocess.PIPE)
+
+    def ended(self, data, *words, mode="ab"):
+        """The status of that command, and what it says."""
+        running = self.begun(*words, mode=mode)
+        said = running.communicate(data)[1].decode()
+        return running.returncode, said
+
+    def lines(self, path):
+        if not os.path.exists(path):
+            return 0
+        with open(path, "rb") as file:
+            return file.read().count(b"\n")
+
+    def killed(self, data, *words):
+        """Gives the command a part of its input, and kills it once some parts more are done."""
+        before, running = self.lines(self.log), self.begun(*words)
+        running.stdin.write(data)
+        running.stdin.flush()
+        while self.lines(self.log) < before + 3:
+            self.assertIsNone(running.poll())
+            time.sleep(0.01)
+        running.kill()
+        running.communicate()
+
+    def test_killed_in_the_middle(self):
+        for words, data in ((("bars", "-j", "2"), pigale.write_planar_code([pigale.stacked(20, k) for k in range(1000)])),
+                            (("embed", "--form", "svg", "-j", "2"), b"".join(pigale.write_graph6((9, pigale.edges_of(pigale.stacked(9, k)))).encode() + b"\n" for k in range(30)) * 400)):
+            for path in (self.log, self.out, self.runs):
+                if os.path.exists(path):
+                    os.remove(path)
+            self.killed(data[:len(data) // 2], *words)
+            self.killed(data[:len(data) * 3 // 4], *words, "--resume")
+            done, run = self.lines(self.log), self.lines(self.runs)
+            with open(self.log, "ab") as file:
+                file.write(b"byte 7")  # a line that was cut off
+            with open(self.out, "ab") as file:
+                file.write(b"a text that was cut off")
+            status, said = self.ended(data, *words, "--resume")
+            with open(self.out, "rb") as file:
+                self.assertEqual((status, said, file.read()), (0, "", one_run(words[:-2], data)[1]))
+            self.assertEqual(self.lines(self.log) - done, self.lines(self.runs) - run)
+            self.assertGreaterEqual(done, 6)
+            # once more, when all is done
+            run = self.lines(self.runs)
+            self.assertEqual(self.ended(data, *words, "--resume"), (0, ""))
+            with open(self.out, "rb") as file:
+                self.assertEqual((self.lines(self.runs), file.read()), (run, one_run(words[:-2], data)[1]))
+
+    def test_what_it_does_not_go_on_behind(self):
+        data = planar_code()[0]
+        self.assertEqual(self.ended(data, "count"), (0, ""))
+        self.assertIn("is there already: with --resume", self.ended(data, "count")[1])
+        for given, words, mode, sentence in ((data, ("shift", "--resume"), "ab", "is no log of `pigale all shift`"), (data[:200], ("count", "--resume"), "ab", "the input is another"),
+                                             (data, ("count", "--resume"), "wb", "by >> and not by >")):
+            status, said = self.ended(given, *words, mode=mode)
+            self.assertEqual((status, said.count("\n")), (3, 1))
+            self.assertIn(sentence, said)
+        done = subprocess.run([sys.executable, os.path.join(HERE, "pigale.py"), "all", "count", "--log", self.log, "--resume"], input=data,
+                              stdout=subprocess.PIPE, stderr=subprocess.PIPE, check=False)
+        self.assertEqual((done.returncode, done.stdout), (3, b""))
+        self.assertIn(b"goes on in the file of what it wrote", done.stderr)
+        done = subprocess.run([sys.executable, os.path.join(HERE, "pigale.py"), "all", "count", "--resume"], input=data, stdout=subprocess.PIPE,
+                              stderr=subprocess.PIPE, check=False)
+        self.assertEqual((done.returncode, b"--log LOG names" in done.stderr), (3, True))
+
+    def test_a_part_that_failed(self):
+        """A part on which the program is killed each time is not in the log, and a later run answers it."""
+        data = pigale.write_planar_code([pigale.stacked(20, k) for k in range(1000)])
+        with open(self.environment["PIGALE"], encoding="ascii") as file:
+            script = file.read()
+        with open(self.environment["PIGALE"], "w", encoding="ascii") as file:
+            file.write(script.replace("exec", f"[ $(wc -l < '{self.runs}') -gt 4 ] && kill -9 $$; exec"))
+        status, said = self.ended(data, "count", "-j", "1")
+        self.assertEqual(status, 128 + 9)
+        self.assertRegex(said, "ended by signal 9, 3 times, on the part that begins with record [0-9]+ at byte [0-9]+")
+        with open(self.environment["PIGALE"], "w", encoding="ascii") as file:
+            file.write(script)
+        self.assertEqual(self.ended(data, "count", "--resume"), (0, ""))
+        with open(self.out, "rb") as file:
+            self.assertEqual(file.read(), one_run(["count"], data)[1])
 
 
 class Module(unittest.TestCase):

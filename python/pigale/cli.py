@@ -13,14 +13,15 @@ from .checks import check, read_drawing, scaled
 from .drawing_commands import add_commands
 from .formats import Figure, read_figures, read_planar_code, write_planar_code
 from .kinds import reading_hint
+from .logs import Log
 from .makers import stacked
 from .page_texts import page, page_name, pages
-from .parallel import Progress, run_all
+from .parallel import Progress, processors, run_all
 from .parts import unpacked
 from .pictures import STYLES, picture
 from .runs import HINTS, READING_JOBS, PigaleError, program, run
 from .slips import explained
-from .streams import (Ended, InputFault, OutputFault, end_by, forget_output, put, read_input, require_output, signals_end,
+from .streams import (Ended, InputFault, OutputFault, cut_output, end_by, forget_output, put, read_input, require_output, signals_end,
                       standard_input)
 from .tables import Tally
 
@@ -113,6 +114,9 @@ def _parser() -> argparse.ArgumentParser:
     whole.add_argument("job", metavar="JOB", choices=READING_JOBS, help=f"as of the program: {', '.join(READING_JOBS)}")
     whole.add_argument("--form", choices=("text", "svg"), help="of figures, as of the program")
     whole.add_argument("-j", metavar="N", type=_positive, help="as many programs side by side; by default as there are processors")
+    whole.add_argument("--log", metavar="LOG", help="note in this file which parts of the input are done")
+    whole.add_argument("--resume", action="store_true", help="go on behind what the log has; standard output is the file of the run, "
+                       "appended to by >>")
     add("recode", _recode, "reads planar_code of any byte order, also of gzip or of joined files, and writes it as the program reads it")
     checked = add("check", _check_file, "prints the verdict on the drawing in a file of JSON or GraphML")
     checked.add_argument("--scale", action="store_true", help="round the places to whole numbers first")
@@ -147,9 +151,14 @@ def _positive(text: str) -> int:
 
 def _all(arguments: Arguments) -> int:
     words = [arguments.job] + (["--form", arguments.form] if arguments.form else [])
+    if arguments.resume and not arguments.log:
+        raise ValueError("--resume goes on behind a log, which --log LOG names")
+    log = Log(arguments.log, words, arguments.j or processors(), arguments.resume) if arguments.log else None
+    if log and log.done:
+        cut_output(log.length)
     meter = _Meter(sys.stderr.isatty())
     try:
-        status = run_all(words, standard_input(), cast(BinaryIO, _Output()), arguments.j, meter.tell)
+        status = run_all(words, standard_input(), cast(BinaryIO, _Output()), arguments.j, meter.tell, log=log)
     finally:
         meter.end()
     if status > 1:

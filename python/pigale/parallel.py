@@ -21,6 +21,7 @@ from typing import IO, Any, BinaryIO, Callable, Deque, Generator, Iterable, Iter
 
 from .formats import Answer, End, Stop, read_blocks
 from .kinds import reading_hint
+from .logs import Log
 from .parts import Part, Read, Size, joined, parts_of, unpacked
 from .runs import HINTS, READING_JOBS, WHAT_WENT_WRONG, PigaleError, Records, Run, encoded, program, readable
 from .streams import INPUT_LOST, write_all
@@ -46,20 +47,21 @@ class Progress:
 
 
 def run_all(words: Sequence[str], source: BinaryIO, sink: BinaryIO, processes: Optional[int] = None,
-            tell: Optional[Callable[[Progress], None]] = None, renumber: bool = True) -> int:
+            tell: Optional[Callable[[Progress], None]] = None, renumber: bool = True, log: Optional[Log] = None) -> int:
     """Answers an input of any size; returns the worst status of its runs.
 
     `words` are a job that reads and its options. `source` is a binary file of what the job reads: packed by gzip or not,
     one file or several that were joined. The text goes to `sink`, which may be a raw file. As many programs run side by
     side as `processes` says, or else as there are processors. `tell` is called each time that answers were written, and
     at the end. Where `renumber` is False, records keep the numbers of their parts, which do for a table.
+    Parts that a `log` has as done are passed over, and the others are noted there once the answers to them are written.
 
     A part of the input whose program is ended by a signal is given to another one, three times in all. Then the text ends
     before the answers to it, and the status is 128 and the number of the signal. Where a read fails, the text ends behind
     the answers to the records before that, and the status is 4. Raises OSError where `sink` cannot be written, and
     ValueError where the words name no job that reads.
     """
-    over = _Over(words, processes, source, renumber)
+    over = _Over(words, processes, source, renumber, log)
     with closing(over.texts()) as texts:
         for text in texts:
             write_all(sink, text)
@@ -142,15 +144,18 @@ class _Programs:
 class _Over:
     """A run over all processors. `status` and `last_line` are known once its texts have come."""
 
-    def __init__(self, words: Sequence[str], processes: Optional[int], given: Union[BinaryIO, Iterable[Any]], renumber: bool = True):
+    def __init__(self, words: Sequence[str], processes: Optional[int], given: Union[BinaryIO, Iterable[Any]], renumber: bool = True,
+                 log: Optional[Log] = None):
         job = next((word for word in words if word in READING_JOBS), None)
         if job is None:
             raise ValueError(f"no job that reads is among the words: {' '.join(words)}")
         self.job, self.renumber = job, renumber
         self.programs = _Programs([program(), *words])
-        self.count = processes or _processors()
+        self.count = processes or processors()
+        self.log = log
+        self.noted: Optional[Tuple[Part, int, int, int]] = None
         self.progress = Progress()
-        size = _size(job, self.count)
+        size = _size(job, log.count if log else self.count)
         self.source: Optional[_Source] = None
         if hasattr(given, "read"):
             self.source = _Source(cast(BinaryIO, given), self.progress)
@@ -158,7 +163,7 @@ class _Over:
         else:
             self.parts = joined(job, (encoded(job, [record], k, False) for k, record in enumerate(given, 1)), size)
         self.status = self.refused = 0
-        self.last_line, self.frame = b"", (b"", b"")
+        self.last_line, self.frame = b"", (b"<!-- ", b" -->") if "svg" in words else (b"", b"")
 
     def texts(self) -> Generator[bytes, None, None]:
         """Yields the text of each part, as it is in the whole, and last the last line."""
@@ -166,13 +171,15 @@ class _Over:
         with ThreadPoolExecutor(self.count) as pool:
             try:
                 for part in self.parts:
+                    if self._is_done(part):
+                        continue
                     runs.append((part, pool.submit(self._answer, part)))
                     if len(runs) > 3 * self.count:
-                        yield self._first_text(runs)
+                        yield from self._answered(runs)
                         if self.last_line or self.status > 1:
                             break
                 while runs and not self.last_line and self.status < 2:
-                    yield self._first_text(runs)
+                    yield from self._answered(runs)
             finally:
                 for _, run in runs:
                     run.cancel()
@@ -199,6 +206,23 @@ class _Over:
                 out.close()
         return status, out
 
+    def _is_done(self, part: Part) -> bool:
+        """Whether a part was done by an earlier run, as the log has it; what it has is then taken into the sums."""
+        done = self.log.passes(part) if self.log else None
+        if done is None:
+            return False
+        self.progress.answered = part.first + part.records
+        self.refused += done.refused
+        self.status = max(self.status, done.status)
+        return True
+
+    def _answered(self, runs: Deque[Tuple[Part, "Future[Written]"]]) -> Iterator[bytes]:
+        """Yields the text of the first of some runs, and notes its part once more is asked for, so once it is written."""
+        self.noted = None
+        yield self._first_text(runs)
+        if self.log and self.noted:
+            self.log.note(*self.noted)
+
     def _first_text(self, runs: Deque[Tuple[Part, "Future[Written]"]]) -> bytes:
         """The text of the first of some runs, without its last line, which is taken into the sums."""
         part, run = runs.popleft()
@@ -222,7 +246,10 @@ class _Over:
             self.status = status
             self._end(_stop_line(part, last[4], last[5], runs[0][0] if runs else None))
             self._explain(last[4])
-        return _renumbered(text[:at], part.first if self.renumber else 0)
+        text = _renumbered(text[:at], part.first if self.renumber else 0)
+        if last[2] and (runs or not (self.source and self.source.fault)):
+            self.noted = part, int(last[3]), status, len(text)
+        return text
 
     def _broken_text(self, part: Part, status: int, text: bytes) -> bytes:
         """What is taken of the text of a run without its last line; sets the status and says what happened.
@@ -279,7 +306,8 @@ def _renumbered(text: bytes, by: int) -> bytes:
     return text[1:]
 
 
-def _processors() -> int:
+def processors() -> int:
+    """How many processors this process may use."""
     return len(os.sched_getaffinity(0)) if hasattr(os, "sched_getaffinity") else os.cpu_count() or 1
 
 

@@ -3,6 +3,7 @@ import io
 import os
 import select
 import signal
+import stat
 import sys
 import threading
 from contextlib import contextmanager
@@ -77,6 +78,20 @@ def put(data: Union[str, bytes]) -> None:
         sys.stdout.buffer.flush()
     except OSError as fault:
         raise OutputFault(OUTPUT_LOST) from fault
+
+
+def cut_output(length: int) -> None:
+    """Cuts standard output, which is a file, off behind its first bytes. Raises ValueError where it is none, or has fewer."""
+    require_output()
+    file = sys.stdout.fileno()
+    about = os.fstat(file)
+    if not stat.S_ISREG(about.st_mode):
+        raise ValueError("a run goes on in the file of what it wrote, as standard output by >>")
+    if about.st_size < length:
+        raise ValueError(f"standard output has {about.st_size} bytes, and the run wrote {length} by its log: it goes on in the same file, "
+                         "by >> and not by >")
+    os.ftruncate(file, length)
+    os.lseek(file, 0, os.SEEK_END)
 
 
 def forget_output() -> None:
