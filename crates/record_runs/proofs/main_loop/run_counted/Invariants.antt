@@ -1,7 +1,7 @@
 use Rattle.std.proofs.Common.{◌≡◌, ◌-◌, [], length}
 use Rattle.record_runs.specs.Outcome.{ports}
 use Rattle.record_runs.specs.Run.{IsCounted, Stands}
-use Rattle.record_runs.proofs.main_loop.run_records.Given as goal
+use Rattle.record_runs.proofs.main_loop.run_counted.Given as goal
 
 abbrev pub invariant-reads : goal.invariant-reads
 invariant-reads g l = record {
