@@ -14,7 +14,8 @@
  * out of range) are answered by PIGALE_BAD_ARGUMENT, and nothing outside them is read or written. What the caller must
  * ensure: each pointer is to as many elements as the number behind it says, and is aligned; one to no elements may be null;
  * an array that is written overlaps no other. Calls take memory from malloc and return all of it; they keep
- * nothing between them, so threads may call at one time. They want up to 1 MB of the stack. */
+ * nothing between them, so threads may call at one time. They want up to 64 KB of the stack, and pigale_run 96 KB. For maps
+ * of more than 255 vertices pigale_run, pigale_check_bars and the checks of straight edges want up to 256 KB. */
 #ifndef PIGALE_H
 #define PIGALE_H
 
