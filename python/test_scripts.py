@@ -4,6 +4,7 @@
 What the first two say beside the program, by copies of the scripts in a folder in which the rest of the repository is
 linked; and which calls the third finds in small crates. The program is found as the package finds it.
 """
+import importlib.util
 import os
 import shutil
 import subprocess
@@ -82,6 +83,50 @@ class Install(Scripts):
         self.assertEqual(self.ran(program)[0], 0)
 
 
+@unittest.skipUnless(shutil.which("nauty-geng") and shutil.which("nauty-planarg"), "nauty is not there")
+class Cluster(unittest.TestCase):
+    """Parts of a list that are counted by themselves have the sums of the whole."""
+
+    def setUp(self):
+        self.folder = tempfile.mkdtemp()
+        self.addCleanup(shutil.rmtree, self.folder)
+        for name in ("examples", "release"):
+            os.symlink(os.path.join(TOP, name), os.path.join(self.folder, name))
+        self.environment = {**os.environ, "PIGALE": pigale.program(), "PARTS": "7"}
+        made = subprocess.run("nauty-geng -c -q 6 | nauty-planarg -p -q", shell=True, stdout=subprocess.PIPE, check=True).stdout
+        counts = pigale.count(pigale.read_planar_code(made))
+        table = sorted({(one.n, one.m, one.f, one.c, one.genus) for one in counts})
+        rows = [(*row, sum((one.n, one.m, one.f, one.c, one.genus) == row for one in counts)) for row in table]
+        self.wanted = "".join(f"{' '.join(map(str, row))}\n" for row in rows) + f"end records {len(counts)} refused 0\n"
+
+    def ran(self, *words, **more):
+        done = subprocess.run(words, cwd=self.folder, env={**self.environment, **more}, stdout=subprocess.PIPE, stderr=subprocess.PIPE, check=False)
+        return done.returncode, done.stdout.decode()
+
+    def summed(self):
+        return self.ran("bash", "-c", "awk -v parts=7 -f examples/cluster/sum.awk planar-6/*.txt")
+
+    def test_an_array_of_tasks(self):
+        for part in range(7):
+            status, _ = self.ran("bash", "examples/cluster/slurm.sh", "6", SLURM_ARRAY_TASK_ID=str(part), PIGALE="false" if part == 3 else self.environment["PIGALE"])
+            self.assertEqual(status != 0, part == 3)
+        self.assertEqual(self.summed()[0], 1)
+        self.assertEqual(self.ran("bash", "examples/cluster/slurm.sh", "6", SLURM_ARRAY_TASK_ID="3")[0], 0)
+        # what is there is not done again
+        self.assertEqual(self.ran("bash", "examples/cluster/slurm.sh", "6", SLURM_ARRAY_TASK_ID="3", PIGALE="false")[0], 0)
+        self.assertEqual(self.summed(), (0, self.wanted))
+
+    @unittest.skipUnless(shutil.which("parallel"), "GNU parallel is not there")
+    def test_parallel(self):
+        self.assertNotEqual(self.ran("bash", "examples/cluster/parallel.sh", "6", "7", PIGALE="false")[0], 0)
+        self.assertEqual(self.ran("bash", "examples/cluster/parallel.sh", "6", "7"), (0, self.wanted))
+        self.assertEqual(self.ran("bash", "examples/cluster/parallel.sh", "6", "7"), (0, self.wanted))
+
+    @unittest.skipUnless(importlib.util.find_spec("distributed"), "Dask is not there")
+    def test_dask(self):
+        self.assertEqual(self.ran(sys.executable, "examples/cluster/dask_parts.py", "6", "7"), (0, self.wanted))
+
+
 class Unrun(unittest.TestCase):
     """Which public calls are found that nothing runs."""
     LOW = """pub type Answer = Result<u16, AllocError>;
@@ -153,8 +198,10 @@ pub fn parts(alloc: Global) -> Result<u16, AllocError> {
 def main():
     suite = unittest.defaultTestLoader.loadTestsFromModule(sys.modules["__main__"])
     result = unittest.TextTestRunner(stream=sys.stdout, verbosity=0).run(suite)
-    failed = len(result.failures) + len(result.errors)
-    print(f"{result.testsRun - failed} passed, {failed} failed")
+    failed, left_out = len(result.failures) + len(result.errors), len(result.skipped)
+    for line in sorted({f"{test.id().rpartition('.')[2]}: {cause}" for test, cause in result.skipped}):
+        print(f"left out: {line}")
+    print(f"{result.testsRun - failed - left_out} passed, {failed} failed, {left_out} skipped")
     return 1 if failed else 0
 
 
