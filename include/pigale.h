@@ -274,6 +274,22 @@ pigale_status pigale_check_rects(const size_t *ends, size_t vertex_count, const 
 pigale_status pigale_run(const uint8_t *words, size_t words_length, const uint8_t *input, size_t input_length,
                          uint8_t *text, size_t capacity, size_t *text_length);
 
+/* How many records of a part were answered, and how many of them were refused. */
+typedef struct {
+    uint32_t records, refused;
+} pigale_sums;
+
+/* Runs the program over a part of an input that is cut at the ends of records: so inputs of any size have the text of one
+ * run, in parts, and parts may be run side by side. Before the part stand `records` records, `refused` of them refused, and
+ * `place` bytes of planar_code, lines of figures or graphs of graph6: the blocks are numbered on, the last line has the sums
+ * of all parts so far, and a bad ending is named by its place in the whole. Where `goes_on` is not 0 more parts come, and a
+ * part that ends well has no last line. Of each part up to 16777216 bytes are read. A header is read at the front of each,
+ * so one stands there where a part might begin like one. `words` are as for pigale_run, and name a job that reads;
+ * `sums` gets the numbers of this part alone. Numbers end at 4294967295. The status is that of pigale_run. */
+pigale_status pigale_run_part(const uint8_t *words, size_t words_length, const uint8_t *input, size_t input_length,
+                              uint32_t records, uint32_t refused, size_t place, uint8_t goes_on,
+                              uint8_t *text, size_t capacity, size_t *text_length, pigale_sums *sums);
+
 /* The name of a status without its first word, as "CUT_VERTEX", or "?" for a number that is none. What stands in this header
  * as code is not proved. */
 static inline const char *pigale_status_name(pigale_status status)

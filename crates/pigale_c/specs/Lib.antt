@@ -11,6 +11,7 @@ pub mod BarArrays
 pub mod RectArrays
 pub mod Words
 pub mod Run
+pub mod PartRun
 pub mod Embedded
 pub mod EdgeFailures
 pub mod EdgeDrawings

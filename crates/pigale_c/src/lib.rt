@@ -23,6 +23,7 @@ pub mod outcome;
 pub mod ports;
 pub mod rects;
 pub mod run;
+pub mod run_part;
 pub mod st_numbers;
 pub mod woods;
 mod word_split;
