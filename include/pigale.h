@@ -200,16 +200,22 @@ pigale_status pigale_faces(const size_t *ends, size_t vertex_count, const uint16
                            size_t *face_ends, size_t face_end_count, uint16_t *walk, size_t walk_count, size_t *face_count,
                            pigale_numbers *found);
 
-/* Draw many maps in one call, each as the call for one does, with memory that is kept from one to the next.
+/* Many maps in one call, each answered as the call for one answers it, with memory that is kept from one to the next.
  *
  * The maps stand one behind another. Map i has the lists from number map_ends[i - 1] (0 for the first) up to map_ends[i];
  * `ends` and `neighbours` are as for one map that has the lists of all, with `ends` that go on from map to map, but each
- * map's vertices are numbered from 0. So x and y have an entry for each list. statuses[i] is what the call for map i alone
- * returns, and found[i] what it writes to `found`: a map that is refused, or has too many vertices, leaves its part of x and
- * y as it was, and the others are drawn.
+ * map's vertices are numbered from 0. So an array with an entry for each vertex has one for each list. statuses[i] is what the
+ * call for map i alone returns, and found[i] what it writes to `found`: a map that is refused, or has too many vertices, leaves
+ * its part of the arrays as it was, and the others are answered.
  *
  * PIGALE_OK: each map has its status. PIGALE_BAD_ARGUMENT: `map_ends` do not cut up all lists, `ends` not all neighbours, or
- * an array has another length, and nothing is written. PIGALE_NO_MEMORY: only some maps may have their answers. */
+ * an array has another length, and nothing is written. PIGALE_NO_MEMORY: some of the first maps are answered, and what belongs
+ * to the others is as it was. */
+pigale_status pigale_count_many(const size_t *map_ends, size_t map_count, const size_t *ends, size_t list_count,
+                                const uint16_t *neighbours, size_t neighbour_count, pigale_counts *counts,
+                                size_t counts_count, pigale_status *statuses, size_t status_count, pigale_numbers *found,
+                                size_t found_count);
+
 pigale_status pigale_shift_many(const size_t *map_ends, size_t map_count, const size_t *ends, size_t list_count,
                                 const uint16_t *neighbours, size_t neighbour_count, int32_t *x, size_t x_count, int32_t *y,
                                 size_t y_count, pigale_status *statuses, size_t status_count, pigale_numbers *found,
@@ -224,6 +230,13 @@ pigale_status pigale_convex_many(const size_t *map_ends, size_t map_count, const
                                  const uint16_t *neighbours, size_t neighbour_count, int32_t *x, size_t x_count, int32_t *y,
                                  size_t y_count, pigale_status *statuses, size_t status_count, pigale_numbers *found,
                                  size_t found_count);
+
+/* Judges the drawing of map i in the grid from (0, 0) to (width[i], height[i]), as pigale_check does. */
+pigale_status pigale_check_many(const size_t *map_ends, size_t map_count, const size_t *ends, size_t list_count,
+                                const uint16_t *neighbours, size_t neighbour_count, const int32_t *x, size_t x_count,
+                                const int32_t *y, size_t y_count, const int32_t *width, size_t width_count,
+                                const int32_t *height, size_t height_count, pigale_status *statuses, size_t status_count,
+                                pigale_numbers *found, size_t found_count);
 
 /* Judges a straight-line drawing of edges, in any order and either way round, with vertex v at (x[v], y[v]), from 1 to 4095
  * of them: PIGALE_OK exactly where no two vertices stand at one point, none lies on an edge of which it is no end, and no two

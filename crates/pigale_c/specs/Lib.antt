@@ -20,3 +20,4 @@ pub mod Wooded
 pub mod StNumbers
 pub mod ManyMaps
 pub mod Walked
+pub mod ManyAnswers

@@ -63,9 +63,14 @@ fn is_seen_valid(given: &MapArrays<'_>, x: &[i32], y: &[i32], corner: Point) -> 
     is_drawn_triangulation(given.alloc, &lists, &points, corner)
 }
 
-// Returns the verdict on the drawing of the map `given` with straight edges, at the points of `x` and `y`, in the grid
-// from (0, 0) to `corner`. `Err` says why there is none: bad arrays, no simple map, or no memory.
-fn judged(given: &MapArrays<'_>, x: &[i32], y: &[i32], corner: Point) -> Result<Outcome, Failure>
+/// Returns the verdict on the drawing of the map `given` with straight edges, at the points of `x` and `y`, in the grid
+/// from (0, 0) to `corner`. `Err` says why there is none: bad arrays, no simple map, or no memory.
+pub(crate) fn judged(
+    given: &MapArrays<'_>,
+    x: &[i32],
+    y: &[i32],
+    corner: Point,
+) -> Result<Outcome, Failure>
     ensures { IsJudged given.now.ends.now given.now.neighbours.now x.now y.now corner.x corner.y (outcome_of result) }
 {
     if is_seen_valid(given, x, y, corner) {

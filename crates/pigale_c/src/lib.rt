@@ -17,6 +17,8 @@ pub mod embeds;
 pub mod face_walks;
 pub mod graph_maps;
 pub mod grids;
+pub mod many_checks;
+pub mod many_counts;
 pub mod many_maps;
 mod map_arrays;
 pub mod outcome;
