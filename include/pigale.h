@@ -25,7 +25,7 @@
 
 /* The version of this header and of the library. While its first number stays, so do all that is declared here and what it
  * means; the second rises where something is added. A call for more than 4095 vertices would have another name. */
-#define PIGALE_VERSION "1.0.0"
+#define PIGALE_VERSION "1.1.0"
 
 #ifdef __cplusplus
 extern "C" {
