@@ -231,6 +231,18 @@ pigale_status pigale_convex_many(const size_t *map_ends, size_t map_count, const
                                  size_t y_count, pigale_status *statuses, size_t status_count, pigale_numbers *found,
                                  size_t found_count);
 
+/* `column` has half as many entries as `neighbours`. The columns of a map begin at half of where its neighbours begin, rounded
+ * down, so where all maps are simple they stand one behind another. */
+pigale_status pigale_bars_many(const size_t *map_ends, size_t map_count, const size_t *ends, size_t list_count,
+                               const uint16_t *neighbours, size_t neighbour_count, int32_t *y, size_t y_count, int32_t *x1,
+                               size_t x1_count, int32_t *x2, size_t x2_count, int32_t *column, size_t column_count,
+                               pigale_status *statuses, size_t status_count, pigale_numbers *found, size_t found_count);
+
+pigale_status pigale_rect_many(const size_t *map_ends, size_t map_count, const size_t *ends, size_t list_count,
+                               const uint16_t *neighbours, size_t neighbour_count, int32_t *x1, size_t x1_count, int32_t *x2,
+                               size_t x2_count, int32_t *y1, size_t y1_count, int32_t *y2, size_t y2_count,
+                               pigale_status *statuses, size_t status_count, pigale_numbers *found, size_t found_count);
+
 /* Judges the drawing of map i in the grid from (0, 0) to (width[i], height[i]), as pigale_check does. */
 pigale_status pigale_check_many(const size_t *map_ends, size_t map_count, const size_t *ends, size_t list_count,
                                 const uint16_t *neighbours, size_t neighbour_count, const int32_t *x, size_t x_count,

@@ -5,6 +5,7 @@ mod EdgeLemmas
 mod EdgeListLemmas
 mod EmbedLemmas
 mod FailureLemmas
+mod ManyFigureLemmas
 mod ManyLemmas
 mod Refused
 mod RunLemmas

@@ -20,4 +20,5 @@ pub mod Wooded
 pub mod StNumbers
 pub mod ManyMaps
 pub mod Walked
+pub mod ManyFigures
 pub mod ManyAnswers
