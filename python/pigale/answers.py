@@ -102,17 +102,16 @@ class Counts(OnDemand[Union[Count, Refused]]):
 
 
 class Graphs:
-    """Graphs as the library embeds them: where the vertices and the edges of each end, and the two ends of each edge, from 0.
+    """Graphs as the library embeds them: where the vertices and the edges of each end among those of all.
 
-    `given` has the graphs again as (n, edges), or as lines of graph6.
+    `given` has the graphs as (n, edges), or as lines of graph6; `counts` and `sizes` have their vertices and edges.
     """
-    __slots__ = ("given", "vertex_ends", "edge_ends", "edges")
+    __slots__ = ("given", "vertex_ends", "edge_ends")
 
-    def __init__(self, given: Sequence[Any], counts: Sequence[int], edges: Sequence[bytes]) -> None:
+    def __init__(self, given: Sequence[Any], counts: Sequence[int], sizes: Sequence[int]) -> None:
         self.given = given
         self.vertex_ends: array[int] = array(SIZE, accumulate(counts))
-        self.edge_ends: array[int] = array(SIZE, accumulate([len(numbers) // 2 for numbers in edges]))
-        self.edges = doubled(b"".join(edges))
+        self.edge_ends: array[int] = array(SIZE, accumulate(sizes))
 
     def __len__(self) -> int:
         return len(self.vertex_ends)
@@ -195,7 +194,7 @@ class Embeddings(OnDemand[Union[GridFigure, WitnessFigure, Refused]]):
         self.x: array[int] = array("i", bytes(4 * vertices))
         self.y: array[int] = array("i", bytes(4 * vertices))
         self.ends: array[int] = array(SIZE, bytes(SIZES[SIZE] * (vertices + ROOM * count)))
-        self.neighbours: array[int] = array("H", bytes(2 * len(graphs.edges)))
+        self.neighbours: array[int] = array("H", bytes(4 * (graphs.edge_ends[-1] if count else 0)))
         self.statuses: array[int] = array("B", bytes(count))
         self.found: array[int] = array("I", bytes(4 * NUMBERS * count))
         self.others: Dict[int, Any] = {}  # answers that were found in another way

@@ -16,7 +16,7 @@ from .formats import HEADER, AnyMap, as_maps, read_planar_code, write_planar_cod
 
 SIZE = "Q" if ctypes.sizeof(ctypes.c_size_t) == 8 else "L"  # of C's size_t
 MOST_NARROW = 255  # vertices of a map whose numbers are bytes in planar_code
-PIECE = 1 << 18  # bytes of planar_code that are read at a time
+PIECE = 1 << 16  # bytes of planar_code that are read at a time
 FEWER = bytes([0, *range(255)])  # of each byte the one before it
 LOW = 0 if sys.byteorder == "little" else 1
 SIZES = {"B": 1, "H": 2, "i": 4, "I": 4, "Q": 8, "L": 8}
@@ -238,11 +238,13 @@ def _flat_lists(lists: AnyMap) -> Tuple[array[int], array[int]]:
     return array(SIZE, accumulate(map(len, rows))), neighbours
 
 
-def doubled(numbers: bytes) -> array[int]:
+def doubled(numbers: Union[bytes, bytearray]) -> array[int]:
     """Bytes as numbers of two bytes."""
     wide = bytearray(2 * len(numbers))
     wide[LOW::2] = numbers
-    return array("H", bytes(wide))
+    found: array[int] = array("H")
+    found.frombytes(wide)
+    return found
 
 
 def _joined(maps: Sequence[Map]) -> Tuple[array[int], array[int], array[int]]:

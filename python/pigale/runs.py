@@ -249,20 +249,20 @@ def embed(graphs: Union[str, bytes, Iterable[Any]],
         graphs = _list_of_graphs(graphs)
         arrays = _graph_arrays(graphs)
         if arrays is not None:
-            return _embedded(path, graphs, arrays)
+            return _embedded(path, graphs, *arrays)
     return cast(List[Union[GridFigure, WitnessFigure, Refused]], run("embed", graphs, processes=processes).answers)
 
 
-def _embedded(path: str, graphs: List[Any], arrays: Any) -> Sequence[Union[GridFigure, WitnessFigure, Refused]]:
+def _embedded(path: str, graphs: List[Any], arrays: Any, edges: Any) -> Sequence[Union[GridFigure, WitnessFigure, Refused]]:
     """The drawings or witnesses of graphs, which are given as arrays too, by the library at a path."""
     from .typed import embedded_all
-    found = embedded_all(path, arrays)
+    found = embedded_all(path, arrays, edges)
     if EDGE_FAULTS & set(found.statuses):
         for k, status in enumerate(found.statuses):
             if status in EDGE_FAULTS:
                 # a loop or an end that is no vertex raises ValueError, and edges that are there twice become one
                 alone = _graph_arrays(list(_lines([graphs[k]], k + 1)))
-                found.take(k, embedded_all(path, alone))
+                found.take(k, embedded_all(path, *alone))
     return found
 
 
@@ -274,22 +274,26 @@ def _list_of_graphs(graphs: Iterable[Any]) -> List[Any]:
 
 
 def _graph_arrays(graphs: List[Any]) -> Any:
-    """Graphs as arrays, or None where a line is none of graph6 of up to 255 vertices. Raises ValueError as `_lines` does."""
+    """Graphs and the ends of their edges as arrays, or None where a line is none of graph6 of up to 255 vertices. Raises ValueError as `_lines` does."""
     from .answers import Graphs, ends_of_edges, ends_of_line
+    from .arrays import doubled
     counts: List[int] = []
-    edges: List[bytes] = []
+    sizes: List[int] = []
+    edges = bytearray()
     for k, graph in enumerate(graphs, 1):
         if not isinstance(graph, str):
             graph = graphs[k - 1] = graph_of(graph)
             ends = ends_of_edges(graph)
             if ends is not None:
                 counts.append(graph[0])
-                edges.append(ends)
+                sizes.append(len(ends) // 2)
+                edges += ends
                 continue
             graph = graphs[k - 1] = list(_lines([graph], k))[0]  # which says what is wrong
         found = ends_of_line(graph)
         if found is None:
             return None
         counts.append(found[0])
-        edges.append(found[1])
-    return Graphs(graphs, counts, edges)
+        sizes.append(len(found[1]) // 2)
+        edges += found[1]
+    return Graphs(graphs, counts, sizes), doubled(edges)

@@ -147,23 +147,23 @@ def checked_edges(path: str, places: Sequence[Any], ends: array[int]) -> Optiona
 
 # Graphs
 
-def embedded_all(path: str, graphs: Graphs) -> Embeddings:
+def embedded_all(path: str, graphs: Graphs, edges: array[int]) -> Embeddings:
     """Maps of graphs with their drawings, or the witnesses that they have none, by the library.
 
-    A graph with a fault of its edges, as a loop, has a status from 20 to 22.
+    `edges` has the two ends of each edge, from 0, one edge behind another. A graph with a fault of its edges, as a loop, has a status from 20 to 22.
     """
     found, call = Embeddings(graphs), _call(path, "embed_many")
     if call:
-        status = call(*_words(graphs.vertex_ends, graphs.edge_ends), *_all(graphs.edges, 2),
+        status = call(*_words(graphs.vertex_ends, graphs.edge_ends), *_all(edges, 2),
                       *_words(found.ends, found.neighbours, found.x, found.y, found.statuses), *_all(found.found, NUMBERS))
     else:
         status, call = 0, _call(path, "embed")
-        edges, ends, neighbours, x, y, numbers = (values.buffer_info()[0] or _SOME.buffer_info()[0] for values in (
-            graphs.edges, found.ends, found.neighbours, found.x, found.y, found.found))
+        pairs, ends, neighbours, x, y, numbers = (values.buffer_info()[0] or _SOME.buffer_info()[0] for values in (
+            edges, found.ends, found.neighbours, found.x, found.y, found.found))
         for index in range(len(graphs)):
             (first, end), (start, stop) = graphs.vertices_of(index), graphs.edges_of(index)
             n, m = end - first, stop - start
-            found.statuses[index] = call(n, edges + 4 * start, m, ends + SIZES[SIZE] * (first + ROOM * index), n + ROOM,
+            found.statuses[index] = call(n, pairs + 4 * start, m, ends + SIZES[SIZE] * (first + ROOM * index), n + ROOM,
                                          neighbours + 4 * start, 2 * m, x + 4 * first, n, y + 4 * first, n, numbers + 16 * index)
     _refuse_any(status, found.statuses)
     return found
