@@ -9,7 +9,7 @@ from itertools import accumulate, chain, compress
 from struct import iter_unpack, unpack
 from typing import Any, Dict, Optional, Sequence, Tuple, Union
 
-from .arrays import FEWER, SIZE, SIZES, Maps, OnDemand, doubled
+from .arrays import FEWER, SIZE, Maps, OnDemand, zeros
 from .formats import (REFUSALS, BarFigure, Count, Figure, GridFigure, Lists, RectFigure, Refused, WitnessFigure,
                       write_graph6)
 
@@ -41,9 +41,9 @@ class Figures(OnDemand[Union[Figure, Refused]]):
         self.job, self.maps = job, maps
         lists, darts = len(maps.ends), len(maps.neighbours)
         self.columns: Dict[str, array[int]] = {
-            name: array("i", bytes(4 * (darts // 2 if name == "column" else lists))) for name in COLUMNS.get(job, ("x", "y"))}
-        self.statuses: array[int] = array("B", bytes(len(maps)))
-        self.found: array[int] = array("I", bytes(4 * NUMBERS * len(maps)))
+            name: zeros("i", darts // 2 if name == "column" else lists) for name in COLUMNS.get(job, ("x", "y"))}
+        self.statuses: array[int] = zeros("B", len(maps))
+        self.found: array[int] = zeros("I", NUMBERS * len(maps))
 
     def __len__(self) -> int:
         return len(self.statuses)
@@ -79,9 +79,9 @@ class Counts(OnDemand[Union[Count, Refused]]):
     __slots__ = ("numbers", "statuses", "found")
 
     def __init__(self, count: int) -> None:
-        self.numbers: array[int] = array("I", bytes(20 * count))
-        self.statuses: array[int] = array("B", bytes(count))
-        self.found: array[int] = array("I", bytes(4 * NUMBERS * count))
+        self.numbers: array[int] = zeros("I", 5 * count)
+        self.statuses: array[int] = zeros("B", count)
+        self.found: array[int] = zeros("I", NUMBERS * count)
 
     def __len__(self) -> int:
         return len(self.statuses)
@@ -191,12 +191,12 @@ class Embeddings(OnDemand[Union[GridFigure, WitnessFigure, Refused]]):
     def __init__(self, graphs: Graphs) -> None:
         self.graphs = graphs
         vertices, count = graphs.vertex_ends[-1] if graphs.vertex_ends else 0, len(graphs)
-        self.x: array[int] = array("i", bytes(4 * vertices))
-        self.y: array[int] = array("i", bytes(4 * vertices))
-        self.ends: array[int] = array(SIZE, bytes(SIZES[SIZE] * (vertices + ROOM * count)))
-        self.neighbours: array[int] = array("H", bytes(4 * (graphs.edge_ends[-1] if count else 0)))
-        self.statuses: array[int] = array("B", bytes(count))
-        self.found: array[int] = array("I", bytes(4 * NUMBERS * count))
+        self.x: array[int] = zeros("i", vertices)
+        self.y: array[int] = zeros("i", vertices)
+        self.ends: array[int] = zeros(SIZE, vertices + ROOM * count)
+        self.neighbours: array[int] = zeros("H", 2 * graphs.edge_ends[-1] if count else 0)
+        self.statuses: array[int] = zeros("B", count)
+        self.found: array[int] = zeros("I", NUMBERS * count)
         self.others: Dict[int, Any] = {}  # answers that were found in another way
 
     def __len__(self) -> int:

@@ -157,6 +157,11 @@ class Maps(OnDemand[Map]):
         return (most, counts.index(most) + 1) if counts else (0, 0)
 
 
+def zeros(code: str, count: int) -> array[int]:
+    """An array of zeros."""
+    return array(code, [0]) * count
+
+
 def as_array(values: Any, code: str, name: str) -> array[int]:
     """Numbers as an array of a type, which is the given one where it has that type.
 
