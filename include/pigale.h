@@ -250,6 +250,19 @@ pigale_status pigale_check_many(const size_t *map_ends, size_t map_count, const 
                                 const int32_t *height, size_t height_count, pigale_status *statuses, size_t status_count,
                                 pigale_numbers *found, size_t found_count);
 
+/* Many graphs in one call, each answered as pigale_embed answers it. Graph i has the vertices from number vertex_ends[i - 1] up
+ * to vertex_ends[i], which its edges number from 0, and the edges from number edge_ends[i - 1] up to edge_ends[i].
+ *
+ * x and y have an entry for each vertex. `ends` has one too, and ten more for each graph: those of graph i begin at the number
+ * of its first vertex and 10 * i, and are as pigale_embed writes them, from where its own neighbours begin. `neighbours` has two
+ * entries for each edge, and those of a graph begin at twice the number of its first edge. So there is room for each answer.
+ * The statuses are as for many maps. */
+pigale_status pigale_embed_many(const size_t *vertex_ends, size_t graph_count, const size_t *edge_ends, size_t edge_end_count,
+                                const pigale_edge *edges, size_t edge_count, size_t *ends, size_t end_count,
+                                uint16_t *neighbours, size_t neighbour_count, int32_t *x, size_t x_count, int32_t *y,
+                                size_t y_count, pigale_status *statuses, size_t status_count, pigale_numbers *found,
+                                size_t found_count);
+
 /* Judges a straight-line drawing of edges, in any order and either way round, with vertex v at (x[v], y[v]), from 1 to 4095
  * of them: PIGALE_OK exactly where no two vertices stand at one point, none lies on an edge of which it is no end, and no two
  * edges without a common end cross; else the first such fault, PIGALE_SAME_PLACE, PIGALE_ON_EDGE or PIGALE_CROSS, with the

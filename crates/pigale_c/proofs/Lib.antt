@@ -6,6 +6,7 @@ mod EdgeListLemmas
 mod EmbedLemmas
 mod FailureLemmas
 mod ManyFigureLemmas
+mod ManyGraphLemmas
 mod ManyLemmas
 mod Refused
 mod RunLemmas

@@ -1,7 +1,7 @@
 -- Calls answered one after another, each with its own part of the arrays.
 use Rattle.std.proofs.Common.{ℕ, zero, suc, ◌-◌, ◌+◌, ◌<◌, ◌≤◌, ◌≡◌, ◌≢◌, ◌⊎◌, inl, inr, ⊎_elim, List, [], ◌∷◌, ◌++◌, length, get_or, take, drop, slice_range, refl, sym, ap, ◌∙◌, subst, arith, below_more}
 use Rattle.std.proofs.lemmas.List.{drop-drop, length-take-le, length-drop, length-append, take-take, get_or-take, get_or-drop, get_or_default, get_or-set_same, get_or-set_other}
-use Rattle.std.proofs.lemmas.Slice.{between_is, take-put_mid_below, drop-put_mid}
+use Rattle.std.proofs.lemmas.Slice.{between_is, between-put_mid, take-put_mid_below, drop-put_mid}
 use borrow.Rule.Slice.PartMut.{put_mid}
 use Rattle.std.proofs.Math.ListN.{set}
 use Rattle.map_lists.specs.Cuts.{AreCuts}
@@ -60,6 +60,10 @@ changed from to xs ys l m n =
       before = take-put_mid_below from (to - from) xs ys from (omega arith) (omega (arith, l, m));
       behind = drop-put_mid from (to - from) xs ys to (omega (arith, l)) (omega (arith, l, m)) size;
     }
+
+-- and what stands there then
+pub part_put : {A : Type 0} (from to : ℕ) (xs ys : List A) → from ≤ to → to ≤ length xs → length ys ≡ length (take (to - from) (drop from xs)) → slice_range (put_mid from (to - from) xs ys) from to ≡ ys
+part_put from to xs ys l m n = between-put_mid from (to - from) xs ys to (omega (arith, l, m)) (n ∙ length-take-le (to - from) (drop from xs) (omega (arith, length-drop from xs, m)))
 
 -- a part apart from what has changed is as it was
 pub kept_apart : {A : Type 0} (from to a b : ℕ) (xs ys : List A) → IsChangedWithin from to xs ys → (b ≤ from) ⊎ (to ≤ a) → slice_range ys a b ≡ slice_range xs a b

@@ -22,3 +22,4 @@ pub mod ManyMaps
 pub mod Walked
 pub mod ManyFigures
 pub mod ManyAnswers
+pub mod ManyGraphs
