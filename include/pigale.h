@@ -200,6 +200,23 @@ pigale_status pigale_faces(const size_t *ends, size_t vertex_count, const uint16
                            size_t *face_ends, size_t face_end_count, uint16_t *walk, size_t walk_count, size_t *face_count,
                            pigale_numbers *found);
 
+/* Labels the edges of a map, as pigale_rect takes it, as vertical or horizontal, with a direction: labels[i] says of the entry
+ * i of `neighbours` how its edge stands at the vertex whose list has it. Clockwise round each vertex off the outer face come
+ * edges up that leave it, edges to the right that leave it, edges up that enter it, and edges to the right that enter it, at
+ * least one of each. Along the outer face stand the left vertex, which is vertex 0, the top, the right one and the bottom: all
+ * edges within leave the left one to the right, enter the top upwards, enter the right one, and leave the bottom. `labels` has
+ * an entry for each of `neighbours`. Else the status is from 1 to 13. */
+enum {
+    PIGALE_LABEL_OUTER = 0,         /* an edge of the outer face */
+    PIGALE_LABEL_UP_OUT = 1,        /* leaves upwards */
+    PIGALE_LABEL_UP_IN = 2,         /* enters from below */
+    PIGALE_LABEL_RIGHT_OUT = 3,     /* leaves to the right */
+    PIGALE_LABEL_RIGHT_IN = 4       /* enters from the left */
+};
+
+pigale_status pigale_edge_labelling(const size_t *ends, size_t vertex_count, const uint16_t *neighbours,
+                                    size_t neighbour_count, uint8_t *labels, size_t label_count, pigale_numbers *found);
+
 /* Many maps in one call, each answered as the call for one answers it, with memory that is kept from one to the next.
  *
  * The maps stand one behind another. Map i has the lists from number map_ends[i - 1] (0 for the first) up to map_ends[i];

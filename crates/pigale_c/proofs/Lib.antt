@@ -5,6 +5,7 @@ mod EdgeLemmas
 mod EdgeListLemmas
 mod EmbedLemmas
 mod FailureLemmas
+mod LabelLemmas
 mod ManyFigureLemmas
 mod ManyGraphLemmas
 mod ManyLemmas

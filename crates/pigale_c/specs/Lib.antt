@@ -23,3 +23,4 @@ pub mod Walked
 pub mod ManyFigures
 pub mod ManyAnswers
 pub mod ManyGraphs
+pub mod Labelled

@@ -10,6 +10,7 @@ pub mod checks;
 pub mod counts;
 pub mod edge_drawings;
 mod edge_faults;
+pub mod edge_labellings;
 mod edge_lists;
 mod edge_orders;
 pub mod edges;
