@@ -31,6 +31,10 @@
 extern "C" {
 #endif
 
+/* The version of the library that was found, as one number: 10000 times the first number, 100 times the second, and the third.
+ * Call it through dlsym where the library may be older than this header: 1.0.0 does not have it. */
+uint32_t pigale_version(void);
+
 typedef uint8_t pigale_status;
 
 enum {

@@ -54,6 +54,7 @@ typedef struct {
         uint16_t small[4][70000];
         size_t ends[4200], length;
         uint8_t text[400];
+        uint8_t labels[70000];
         pigale_counts counts;
         pigale_status statuses[1];
     } out;
@@ -81,6 +82,9 @@ static pigale_status is_planar(job *s) { return pigale_is_planar(GRAPH, FOUND); 
 static pigale_status order(job *s) { return pigale_canonical_order(MAP, SMALL(1), LISTS, FOUND); }
 static pigale_status wood(job *s) { return pigale_schnyder_wood(MAP, SMALL(0), SMALL(1), SMALL(2), FOUND); }
 static pigale_status st_order(job *s) { return pigale_st_order(MAP, SMALL(0), FOUND); }
+
+static pigale_status faces(job *s) { return pigale_faces(MAP, s->out.ends, 4200, s->out.small[0], 70000, &s->out.length, FOUND); }
+static pigale_status labelling(job *s) { return pigale_edge_labelling(MAP, s->out.labels, s->m.k, FOUND); }
 
 static pigale_status check(job *s)
 {
@@ -120,6 +124,34 @@ static pigale_status shift_many(job *s) { return many(s, pigale_shift_many); }
 static pigale_status schnyder_many(job *s) { return many(s, pigale_schnyder_many); }
 static pigale_status convex_many(job *s) { return many(s, pigale_convex_many); }
 
+#define STATUSES s->out.statuses, 1, FOUND, 1
+
+static pigale_status status_of_one(job *s, pigale_status status) { return status ? status : s->out.statuses[0]; }
+
+static pigale_status count_many(job *s) { return status_of_one(s, pigale_count_many(&s->m.n, 1, MAP, &s->out.counts, 1, STATUSES)); }
+
+static pigale_status bars_many(job *s)
+{
+    return status_of_one(s, pigale_bars_many(&s->m.n, 1, MAP, ROW(0), ROW(1), ROW(2), s->out.row[3], s->m.k / 2, STATUSES));
+}
+
+static pigale_status rect_many(job *s)
+{
+    return status_of_one(s, pigale_rect_many(&s->m.n, 1, MAP, ROW(0), ROW(1), ROW(2), ROW(3), STATUSES));
+}
+
+static pigale_status check_many(job *s)
+{
+    int32_t size = (int32_t)s->m.n - 2;
+    return status_of_one(s, pigale_check_many(&s->m.n, 1, MAP, GIVEN(grid, 0), GIVEN(grid, 1), &size, 1, &size, 1, STATUSES));
+}
+
+static pigale_status embed_many(job *s)
+{
+    return status_of_one(s, pigale_embed_many(&s->m.n, 1, &s->edge_count, 1, s->edges, s->edge_count, s->out.ends, s->m.n + 10,
+        s->out.small[0], 2 * s->edge_count, ROW(0), ROW(1), STATUSES));
+}
+
 static pigale_status run(job *s, const char *words, const text *input)
 {
     pigale_status status = pigale_run((const uint8_t *)words, strlen(words), input->at, input->length, s->out.text,
@@ -148,6 +180,8 @@ static const struct {
     {"bars", bars, 64, 64}, {"rect", rect, 64, 64}, {"embed", embed, 64, 64}, {"map_of_graph", map_of_graph, 64, 64},
     {"is_planar", is_planar, 64, 64}, {"canonical_order", order, 64, 64}, {"schnyder_wood", wood, 64, 64},
     {"st_order", st_order, 64, 64}, {"check_outer", check_outer, 64, 64}, {"check_rects", check_rects, 64, 64},
+    {"faces", faces, 64, 64}, {"edge_labelling", labelling, 64, 64}, {"count_many", count_many, 64, 64}, {"bars_many", bars_many, 64, 64},
+    {"rect_many", rect_many, 64, 64}, {"embed_many", embed_many, 64, 64}, {"check_many", check_many, 64, 256},
     {"shift_many", shift_many, 64, 64}, {"schnyder_many", schnyder_many, 64, 64}, {"convex_many", convex_many, 64, 64},
     {"check", check, 64, 256}, {"check_convex", check_convex, 64, 256}, {"check_drawing", check_drawing, 64, 256},
     {"check_bars", check_bars, 64, 256}, {"run count", run_count, 96, 256}, {"run convex", run_convex, 96, 256},

@@ -1,7 +1,7 @@
 -- What one graph writes to the rows leaves those of the others.
-use Rattle.std.proofs.Common.{ℕ, suc, ◌-◌, ◌+◌, ◌*◌, ◌<◌, ◌≤◌, ◌≡◌, ◌≢◌, inl, inr, ⊎_elim, List, ℤ, length, slice_range, ap, ◌∙◌, subst, arith}
+use Rattle.std.proofs.Common.{ℕ, suc, ◌-◌, ◌<◌, ◌≡◌, ◌≢◌, inl, inr, ⊎_elim, List, ℤ, length, slice_range, ap, ◌∙◌, subst, arith}
 use Rattle.map_lists.specs.Cuts.{AreCuts}
-use Rattle.pigale_c.specs.ManyMaps.{IsChangedWithin, begin_of, part_of}
+use Rattle.pigale_c.specs.ManyMaps.{IsChangedWithin, begin_of}
 use Rattle.pigale_c.specs.ManyGraphs.{EmbedRows, AreGivenGraphs, rows_in, rows_of_graph, end_of_graph, entry_of_graph}
 use Rattle.pigale_c.specs.Embedded.{IsEmbedded}
 use Rattle.pigale_c.specs.declared.edges.EdgeEnds.{EdgeEnds}

@@ -1,5 +1,5 @@
 -- Bars and rectangles of many maps, one behind another.
-use Rattle.std.specs.Prelude.{ℕ, suc, ◌-◌, ◌+◌, ◌/◌, ◌≡◌, List, length, slice_range, ℤ}
+use Rattle.std.specs.Prelude.{ℕ, suc, ◌-◌, ◌+◌, ◌/◌, ◌≡◌, List, length, slice_range}
 use Rattle.pg_plane.specs.declared.figures.BarFigure.{BarFigure}
 use Rattle.pg_plane.specs.declared.figures.RectFigure.{RectFigure}
 use Rattle.pigale_c.specs.BarArrays.{AreDrawnBars, AreBarsFor, bars_in}

@@ -1,5 +1,5 @@
 -- Many maps in arrays, one behind another, and the answers to them.
-use Rattle.std.specs.Prelude.{ℕ, zero, suc, ◌-◌, ◌+◌, ◌/◌, ◌<◌, ◌≤◌, ◌≡◌, ◌⊎◌, List, length, map, take, drop, slice_index_or, slice_range, ℤ}
+use Rattle.std.specs.Prelude.{ℕ, zero, suc, ◌-◌, ◌<◌, ◌≤◌, ◌≡◌, ◌⊎◌, List, length, map, take, drop, slice_index_or, slice_range, ℤ}
 use Rattle.map_lists.specs.Cuts.{AreCuts}
 use Rattle.pigale_c.specs.Numbers.{Reports, none}
 use Rattle.pigale_c.specs.declared.outcome.Numbers.{Numbers}

@@ -1,5 +1,5 @@
 -- The walks of faces in arrays: of each dart its tail.
-use Rattle.std.specs.Prelude.{ℕ, ◌<◌, ◌≡◌, ◌⊎◌, List, [], length, slice_index, slice_index_or, Some, None}
+use Rattle.std.specs.Prelude.{ℕ, ◌<◌, ◌≡◌, ◌⊎◌, List, [], length, slice_index, slice_index_or, Some}
 use Rattle.map_lists.specs.Cuts.{joined, ends_from}
 use Rattle.map_lists.specs.Lists.{Lists}
 use Rattle.refusals.specs.Conditions.{fault_refusal}

@@ -31,6 +31,7 @@ pub mod rects;
 pub mod run;
 pub mod run_part;
 pub mod st_numbers;
+pub mod version;
 mod witness_paths;
 pub mod woods;
 mod word_split;

@@ -1,6 +1,5 @@
 -- Behind the last vertex all darts have their labels.
 use Rattle.std.proofs.Common.{ℕ, subst, arith}
-use Rattle.map_theory.specs.Maps.{darts_before}
 use Rattle.map_theory.proofs.DartLemmas.{darts_before_all}
 use Rattle.pigale_c.specs.Labelled.{AreLabelsTo}
 use Rattle.pigale_c.proofs.edge_labellings.numbers_of.Goals as goal

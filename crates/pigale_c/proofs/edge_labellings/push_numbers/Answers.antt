@@ -1,7 +1,6 @@
 -- The label of a dart more.
 use Rattle.std.proofs.Common.{ℕ, ◌+◌, ◌<◌, ◌≡◌, List, [], ◌∷◌, ◌++◌, length, get_or, Option, Some, refl, sym, ap, ◌∙◌, subst, arith}
 use Rattle.std.specs.Prelude.{option_map, IsSome}
-use Rattle.std.proofs.lemmas.List.Elements.{Contains-get_or}
 use Rattle.map_theory.specs.Maps.{Dart, darts_before, list_of}
 use Rattle.map_theory.proofs.DartLemmas.{darts_before_more}
 use Rattle.half_edges.specs.Map.{dart_at, next_dart}

@@ -1,7 +1,7 @@
 -- What was found is what the arrays have, if they have room for it.
 use Rattle.std.proofs.Common.{refl, inl, inr, ◌∙◌}
 use Rattle.pigale_c.specs.Numbers.{outcome_of}
-use Rattle.pigale_c.proofs.EmbedLemmas.{written_as, no_room_as, embedded_not, embedded_by_witness}
+use Rattle.pigale_c.proofs.EmbedLemmas.{written_as, no_room_as, embedded_by_witness}
 use Rattle.pigale_c.proofs.embeds.put_figure.Goals as goal
 
 pub returns-then-not-put_lists : goal.returns-then-not-put_lists

@@ -1,5 +1,5 @@
 -- The walks that were found are what the arrays have, if they have room for them.
-use Rattle.std.proofs.Common.{inl, inr, refl}
+use Rattle.std.proofs.Common.{inr, refl}
 use Rattle.pigale_c.specs.declared.outcome.Failure.TheVariants.{BadArgument}
 use Rattle.pigale_c.specs.declared.outcome.Outcome.TheVariants.{Served, Failed}
 use Rattle.pigale_c.proofs.EmbedLemmas.{written_as, no_room_as}

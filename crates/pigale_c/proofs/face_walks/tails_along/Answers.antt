@@ -1,5 +1,5 @@
 -- A tail more.
-use Rattle.std.proofs.Common.{◌<◌, ℕ, length, sym, ap, ◌∙◌, subst, arith}
+use Rattle.std.proofs.Common.{◌<◌, ℕ, length, ap, ◌∙◌, subst, arith}
 use Rattle.std.proofs.lemmas.List.{get_or-map, length-map}
 use Rattle.map_lists.specs.declared.ids.DartId.{DartId}
 use Rattle.half_edges.specs.Map.{IsLive, dart_at}

@@ -1,6 +1,5 @@
 -- The tails of a walk more.
 use Rattle.std.proofs.Common.{List, [], ◌∷◌, ◌++◌, ℕ, ap, ◌∙◌, subst, arith}
-use Rattle.euler_faces.specs.FaceWalks.{ids_of, walk_at}
 use Rattle.pigale_c.specs.Walked.{HasTails}
 use Rattle.pigale_c.proofs.WalkLemmas.{more_rows}
 use Rattle.pigale_c.proofs.face_walks.tails_of.Goals as goal

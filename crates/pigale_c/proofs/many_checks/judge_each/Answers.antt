@@ -1,5 +1,5 @@
 -- A drawing more is judged.
-use Rattle.std.proofs.Common.{ℕ, List, get_or, pos, slice_range, refl, ◌∙◌, arith}
+use Rattle.std.proofs.Common.{get_or, pos, slice_range, refl, ◌∙◌, arith}
 use Rattle.std.proofs.lemmas.List.{length-set}
 use Rattle.pigale_c.specs.Judged.{IsJudged}
 use Rattle.pigale_c.specs.ManyAnswers.{JudgesEach, drawings_in, nothing_at}

@@ -1,5 +1,5 @@
 -- A map more is counted.
-use Rattle.std.proofs.Common.{ℕ, List, get_or, refl, sym, subst, ◌∙◌, arith}
+use Rattle.std.proofs.Common.{get_or, refl, sym, subst, ◌∙◌, arith}
 use Rattle.std.proofs.lemmas.List.{length-set, get_or-set_same, get_or-set_other}
 use Rattle.std.proofs.Math.ListN.{set}
 use Rattle.pigale_c.specs.Counted.{IsCounted}

@@ -1,5 +1,5 @@
 -- A graph more is embedded.
-use Rattle.std.proofs.Common.{sym, ◌∙◌, arith}
+use Rattle.std.proofs.Common.{◌∙◌, arith}
 use Rattle.std.proofs.lemmas.List.{length-set}
 use Rattle.pigale_c.specs.ManyGraphs.{EmbedRows, EmbedsEach, rows_in, rows_of_graph}
 use Rattle.pigale_c.specs.Numbers.{outcome_of}

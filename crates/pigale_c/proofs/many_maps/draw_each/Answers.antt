@@ -1,5 +1,5 @@
 -- A map more is drawn.
-use Rattle.std.proofs.Common.{ℕ, ◌<◌, List, ℤ, length, slice_range, ap₂, ◌∙◌, arith}
+use Rattle.std.proofs.Common.{◌<◌, List, ℤ, length, slice_range, ap₂, ◌∙◌, arith}
 use Rattle.std.proofs.lemmas.List.{length-set}
 use Rattle.pigale_c.specs.ManyMaps.{DrawsEach, two_parts}
 use Rattle.pigale_c.specs.Numbers.{outcome_of}

@@ -1,5 +1,5 @@
 -- The neighbours of a map begin before they end.
-use Rattle.std.proofs.Common.{ℕ, suc, length, ap, ◌∙◌, arith}
+use Rattle.std.proofs.Common.{ℕ, suc, ap, ◌∙◌, arith}
 use Rattle.pigale_c.specs.ManyMaps.{begin_of}
 use Rattle.pigale_c.proofs.ManyLemmas.{entries_rise}
 use Rattle.pigale_c.proofs.many_maps.ManyMaps.entries_of.Goals as goal
