@@ -286,10 +286,12 @@ class Faults(unittest.TestCase):
             with tempfile.TemporaryDirectory() as folder:
                 path = os.path.join(folder, "pigale")
                 with open(path, "w", encoding="ascii") as file:
-                    file.write(f"#!/bin/sh\ntouch '{folder}/'$$\nexec sleep 600\n")
+                    file.write(f"#!/bin/sh\ntouch '{folder}/'$$\nexec sleep 60\n")
                 os.chmod(path, 0o755)
                 running = subprocess.Popen([sys.executable, os.path.join(HERE, "pigale.py"), "all", "count", "-j", "3"], stdin=subprocess.PIPE,
-                                           stdout=subprocess.PIPE, stderr=subprocess.PIPE, env={**os.environ, "PIGALE": path})
+                                           stdout=subprocess.PIPE, stderr=subprocess.PIPE, env={**os.environ, "PIGALE": path},
+                                           # a shell starts what runs behind it with SIGINT ignored
+                                           preexec_fn=lambda: signal.signal(number, signal.SIG_DFL))
                 running.stdin.write(pigale.HEADER + planar_code()[0][15:] * 20)
                 running.stdin.flush()
                 while len(os.listdir(folder)) < 3:
