@@ -54,7 +54,7 @@ class Figures(OnDemand[Union[Figure, Refused]]):
         if status:
             return refused(status, self.found[NUMBERS * index:NUMBERS * number], number)
         first, end = self.maps.lists_of(index)
-        lists = list(self.maps.one(index))
+        lists = self.maps.lists(index)
         columns = self.columns
         if self.job == "bars":
             start = self.maps.ends[first - 1] if first else 0

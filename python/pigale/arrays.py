@@ -12,7 +12,7 @@ from array import array
 from itertools import accumulate, chain
 from typing import Any, Iterable, Iterator, List, Optional, Sequence, Set, Tuple, TypeVar, Union, overload
 
-from .formats import HEADER, AnyMap, as_maps, read_planar_code, write_planar_code
+from .formats import HEADER, AnyMap, Lists, as_maps, read_planar_code, write_planar_code
 
 SIZE = "Q" if ctypes.sizeof(ctypes.c_size_t) == 8 else "L"  # of C's size_t
 MOST_NARROW = 255  # vertices of a map whose numbers are bytes in planar_code
@@ -150,11 +150,17 @@ class Maps(OnDemand[Map]):
         return Map._of(array(SIZE, [at - start for at in ends]) if start else ends,
                        self.neighbours[start:ends[-1] if ends else start])
 
-    def most_vertices(self) -> Tuple[int, int]:
-        """The greatest number of vertices of a map, and the number from 1 of the first map that has it; 0 and 0 without maps."""
-        counts = array(SIZE, _differences(self.map_ends))
-        most = max(counts, default=0)
-        return (most, counts.index(most) + 1) if counts else (0, 0)
+    def lists(self, index: int) -> Lists:
+        """The lists of the map of an index from 0 on."""
+        first, end = self.lists_of(index)
+        start = self.ends[first - 1] if first else 0
+        ends = self.ends[first:end]
+        us, before, found = [u + 1 for u in self.neighbours[start:ends[-1]]], 0, []
+        for at in ends:
+            at -= start
+            found.append(us[before:at])
+            before = at
+        return found
 
 
 def zeros(code: str, count: int) -> array[int]:
@@ -199,10 +205,6 @@ def _cut(ends: array[int], values: array[int], name: str) -> Tuple[array[int], a
     if (ends[-1] if ends else 0) != len(values) or any(map(int.__gt__, ends, ends[1:])):
         raise ValueError(f"the ends do not rise to the number of {name}, which is {len(values)}")
     return ends, values
-
-
-def _differences(ends: array[int]) -> Iterator[int]:
-    return map(int.__sub__, ends, chain((0,), ends))
 
 
 def _flat(maps: Iterable[Any]) -> Tuple[array[int], array[int], array[int]]:

@@ -2,7 +2,7 @@
 import importlib
 from typing import Any, Hashable, List, Optional, Sequence, Tuple
 
-from .formats import Edge, Lists, AnyMap, Place
+from .formats import AnyMap, Edge, Lists, Place
 from .maps import edges_of
 
 

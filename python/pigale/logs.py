@@ -75,4 +75,5 @@ class Log:
 
     def note(self, part: Part, refused: int, status: int, length: int) -> None:
         """Notes that a part is done, once the `length` bytes of the answers to it are written."""
-        self._append(f"byte {part.byte} records {part.records} sum {zlib.crc32(part.data)} refused {refused} status {status} text {length}\n")
+        self._append(f"byte {part.byte} records {part.records} sum {zlib.crc32(part.data)} refused {refused} status {status} "
+                     f"text {length}\n")

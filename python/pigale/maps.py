@@ -3,7 +3,7 @@ import functools
 import math
 from typing import Any, Callable, Dict, List, Sequence, Set, Tuple
 
-from .formats import Edge, Lists, AnyMap, Place, WitnessFigure, read_graph6
+from .formats import AnyMap, Edge, Lists, Place, WitnessFigure, read_graph6
 
 
 def rotations_of(points: Sequence[Place], edges: Sequence[Edge]) -> Lists:

@@ -12,7 +12,7 @@ from collections import defaultdict
 from collections.abc import Sequence as SequenceType
 from dataclasses import dataclass, replace
 from functools import lru_cache
-from typing import Any, Callable, Dict, FrozenSet, Iterable, List, Mapping, Optional, Sequence, Set, Tuple, Union, cast
+from typing import Any, Callable, Dict, FrozenSet, Iterable, List, Mapping, Optional, Sequence, Tuple, Union, cast
 
 from .formats import (FIGURES, GRID_JOBS, BarFigure, Edge, Figure, GridFigure, Lists, RectFigure, WitnessFigure, join_words,
                       read_graph6)

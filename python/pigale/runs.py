@@ -3,8 +3,8 @@ import os
 from dataclasses import dataclass
 from typing import Any, Iterable, Iterator, List, Optional, Sequence, Tuple, Union, cast
 
-from .formats import (FIGURES, MOST_BYTES, MOST_VERTICES, PLANAR_JOBS, Answer, Block, Count, Edge, End, Figure, Graph, GridFigure,
-                      AnyMap, Refused, Stop, WitnessFigure, as_maps, check_line, pair_of, read_blocks, write_graph6, write_planar_code)
+from .formats import (FIGURES, MOST_BYTES, MOST_VERTICES, PLANAR_JOBS, Answer, Block, Count, End, Figure, Graph, GridFigure,
+                      AnyMap, Refused, Stop, WitnessFigure, as_maps, check_line, read_blocks, write_graph6, write_planar_code)
 from .graphs import graph_of
 from .library import answered, library
 

@@ -26,7 +26,8 @@ class Tally:
         """Takes some lines, and returns how many bytes they have."""
         if self.job == "count":
             self.counts.update(COUNTED.findall(data))
-        for word, pattern, names in ((b"figure ", FIGURE, self.answers), (b"verdict ", VERDICT, self.answers), (b"refused ", REFUSED, self.refusals)):
+        for word, pattern, names in ((b"figure ", FIGURE, self.answers), (b"verdict ", VERDICT, self.answers),
+                                     (b"refused ", REFUSED, self.refusals)):
             if word in data:
                 for name, count in Counter(pattern.findall(data)).items():
                     names[self._named(name.decode("ascii"))] += count

@@ -9,16 +9,16 @@ import ctypes
 import functools
 from array import array
 from itertools import chain
-from typing import Any, Iterator, List, Mapping, Optional, Sequence, Tuple, Union, cast
+from typing import Any, List, Mapping, Optional, Sequence, Tuple
 
 from .answers import COLUMNS, NUMBERS, ROOM, Counts, Embeddings, Figures, Graphs
 from .arrays import SIZE, SIZES, Map, Maps
-from .formats import MOST_VERTICES, AnyMap, Edge, Graph, GridFigure, Place, Refused, WitnessFigure
+from .formats import MOST_VERTICES, AnyMap, Place
 from .library import loaded
 
 FARTHEST = 1 << 20  # coordinate from 0 that the library judges
-CHECKS = {0: ("yes", 0), 1: ("OutOfRange", 2), 2: ("Loop", 1), 3: ("Repeated", 2), 4: ("OneSided", 2), 32: ("OutOfGrid", 1), 33: ("SamePlace", 2),
-          34: ("OnEdge", 3), 35: ("Cross", 4), 36: ("Turned", 1)}  # the name of each verdict, and how many numbers it has
+CHECKS = {0: ("yes", 0), 1: ("OutOfRange", 2), 2: ("Loop", 1), 3: ("Repeated", 2), 4: ("OneSided", 2), 32: ("OutOfGrid", 1),
+          33: ("SamePlace", 2), 34: ("OnEdge", 3), 35: ("Cross", 4), 36: ("Turned", 1)}  # the name of each verdict, and how many numbers it has
 NO_MEMORY, BAD_ARGUMENT = 16, 17
 _I32, _SIZE, _POINTER = ctypes.c_int32, ctypes.c_size_t, ctypes.c_void_p
 _PAIR: List[Any] = [_POINTER, _SIZE]
@@ -150,7 +150,8 @@ def checked_edges(path: str, places: Sequence[Any], ends: array[int]) -> Optiona
 def embedded_all(path: str, graphs: Graphs, edges: array[int]) -> Embeddings:
     """Maps of graphs with their drawings, or the witnesses that they have none, by the library.
 
-    `edges` has the two ends of each edge, from 0, one edge behind another. A graph with a fault of its edges, as a loop, has a status from 20 to 22.
+    `edges` has the two ends of each edge, from 0, one edge behind another. A graph with a fault of its edges, as a loop, has a
+    status from 20 to 22.
     """
     found, call = Embeddings(graphs), _call(path, "embed_many")
     if call:
