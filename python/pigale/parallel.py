@@ -16,7 +16,7 @@ import threading
 import zlib
 from collections import deque
 from concurrent.futures import Future, ThreadPoolExecutor
-from contextlib import closing
+from contextlib import closing, suppress
 from typing import IO, Any, BinaryIO, Callable, Deque, Generator, Iterable, Iterator, Optional, Sequence, Set, Tuple, Union, cast
 
 from .formats import Answer, End, Stop, read_blocks
@@ -138,7 +138,8 @@ class _Programs:
         with self.lock:
             self.are_ended = True
             for running in self.running:
-                running.kill()
+                with suppress(ProcessLookupError):  # where it has just ended, which Python 3.8 minds
+                    running.kill()
 
 
 class _Over:
