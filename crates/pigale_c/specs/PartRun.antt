@@ -8,7 +8,7 @@ use Rattle.pigale_shell.specs.Kinds.{kind_named}
 use Rattle.pigale_shell.specs.Parts.{IsPartRun}
 use Rattle.pigale_shell.specs.declared.part_runs.PartEnd.{PartEnd}
 use Rattle.pigale_c.specs.Words.{GivesWords}
-use Rattle.pigale_c.specs.Run.{written_over}
+use Rattle.pigale_c.specs.Written.{written_over}
 
 -- the words of a text were run over the part, and this text was written; or there was no memory for the words
 abbrev pub RunsPart : List ℕ → List ℕ → Part → PartEnd → List ℕ → Type 0
