@@ -2,7 +2,8 @@
 mod Searched
 mod Tabled
 mod Grown
--- Edges that lead upwards, and their sides.
+-- Groups of edges, and sides.
+mod GroupLemmas
 mod Collected
 mod SideLemmas
 -- What wrong bodies would give.

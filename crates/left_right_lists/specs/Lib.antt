@@ -1,7 +1,7 @@
 -- Depths by a search, and trees.
 pub mod Depths
 pub mod Trees
-pub mod Sides
+pub mod Groups
 pub mod Upward
 pub mod Decided
 pub mod Orders

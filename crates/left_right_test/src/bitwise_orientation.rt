@@ -10,14 +10,17 @@ use graphs::Graph;
 pub const FEW: u32 = 27;
 
 // A table of 32 bit sets, each a number.
-#[derive(Clone, Copy)]
+#[derive(Drop)]
 struct Bits {
     cells: [u32; 32],
 }
 
 impl Bits {
-    // The table of empty sets.
-    const FRESH: Bits = Bits { cells: [0; 32] };
+    // Returns a table of empty sets.
+    #[inline(always)]
+    fn new() -> Bits {
+        Bits { cells: [0; 32] }
+    }
 
     // Returns the set at index `place` modulo 32.
     #[inline(always)]
@@ -33,7 +36,7 @@ impl Bits {
 }
 
 /// A graph of few vertices as sets of neighbours, and the tables of the search in it.
-#[derive(Clone, Copy)]
+#[derive(Drop)]
 pub struct Few {
     // for each vertex the set of its neighbours
     near: Bits,
@@ -100,12 +103,15 @@ fn order_of(depth: u32, head: u32) -> u32 {
 }
 
 impl Few {
-    /// The tables of a graph without vertices.
-    pub const FRESH: Few = Few {
-        near: Bits::FRESH,
-        way: Bits::FRESH,
-        returns: Bits::FRESH,
-    };
+    /// Returns the tables of a graph without vertices.
+    #[inline(always)]
+    pub fn new() -> Few {
+        Few {
+            near: Bits::new(),
+            way: Bits::new(),
+            returns: Bits::new(),
+        }
+    }
 
     // Reads the edges from the vertex of `at` to lesser ones, given as the bits of `row`, of which the lowest is for
     // the vertex just before it. Fills in the neighbour sets of both ends and, in `links`, the heads of the darts.
@@ -129,7 +135,7 @@ impl Few {
     /// Reads the edges of `graph`, of at most `FEW` vertices, into neighbour sets and into `links`: heads, degrees and
     /// counts, but no lists. Returns the edge count.
     pub fn read(&mut self, graph: &Graph, links: &mut Links) -> u32 {
-        self.near = Bits::FRESH;
+        self.near = Bits::new();
         let mut held = 0u32;
         let mut count = 0u32;
         let mut at = Pairs {

@@ -11,7 +11,6 @@ pub mod BarArrays
 pub mod RectArrays
 pub mod Words
 pub mod Run
-pub mod PartRun
 pub mod Embedded
 pub mod EdgeFailures
 pub mod EdgeDrawings
@@ -19,8 +18,3 @@ pub mod Ordered
 pub mod Wooded
 pub mod StNumbers
 pub mod ManyMaps
-pub mod Walked
-pub mod ManyFigures
-pub mod ManyAnswers
-pub mod ManyGraphs
-pub mod Labelled

@@ -5,4 +5,3 @@ mod MadeLemmas
 mod OneTextLemmas
 mod Cases
 mod Refused
-mod PartLemmas

@@ -3,4 +3,3 @@ mod BlockLemmas
 mod StopLemmas
 mod EndLemmas
 mod Refused
-pub mod PartLemmas

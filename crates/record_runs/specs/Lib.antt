@@ -2,4 +2,3 @@
 pub mod Texts
 pub mod Outcome
 pub mod Run
-pub mod Parts

@@ -1,4 +1,0 @@
--- Views of a tree, and what stands.
-pub mod Outs
-pub mod Standing
-pub mod Views
