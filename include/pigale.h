@@ -14,7 +14,8 @@
  * out of range) are answered by PIGALE_BAD_ARGUMENT, and nothing outside them is read or written. What the caller must
  * ensure: each pointer is to as many elements as the number behind it says, and is aligned; one to no elements may be null;
  * an array that is written overlaps no other. Calls take memory from malloc and return all of it; they keep
- * nothing between them, so threads may call at one time. They want up to 1 MB of the stack. */
+ * nothing between them, so threads may call at one time. They want up to 64 KB of the stack, and pigale_run 96 KB. For maps
+ * of more than 255 vertices pigale_run, pigale_check_bars and the checks of straight edges want up to 256 KB. */
 #ifndef PIGALE_H
 #define PIGALE_H
 
@@ -24,11 +25,15 @@
 
 /* The version of this header and of the library. While its first number stays, so do all that is declared here and what it
  * means; the second rises where something is added. A call for more than 4095 vertices would have another name. */
-#define PIGALE_VERSION "1.0.0"
+#define PIGALE_VERSION "1.1.0"
 
 #ifdef __cplusplus
 extern "C" {
 #endif
+
+/* The version of the library that was found, as one number: 10000 times the first number, 100 times the second, and the third.
+ * Call it through dlsym where the library may be older than this header: 1.0.0 does not have it. */
+uint32_t pigale_version(void);
 
 typedef uint8_t pigale_status;
 
@@ -190,16 +195,48 @@ pigale_status pigale_schnyder_wood(const size_t *ends, size_t vertex_count, cons
 pigale_status pigale_st_order(const size_t *ends, size_t vertex_count, const uint16_t *neighbours, size_t neighbour_count,
                               uint16_t *rank, size_t rank_count, pigale_numbers *found);
 
-/* Draw many maps in one call, each as the call for one does, with memory that is kept from one to the next.
+/* Walks along the faces of a simple map of any genus: face number i is walk[face_ends[i - 1]] up to walk[face_ends[i]], the
+ * vertices from which its darts go, each dart before its step: what follows the one end in the list of the other. A walk begins
+ * with its first dart in the order of the lists, and the faces stand in the order of these. `walk` gets as many entries as
+ * `neighbours` has, `face_ends` one for each face (pigale_count tells how many), and *face_count their number. Else the status is
+ * from 1 to 4, or PIGALE_BAD_ARGUMENT where an array is too short. */
+pigale_status pigale_faces(const size_t *ends, size_t vertex_count, const uint16_t *neighbours, size_t neighbour_count,
+                           size_t *face_ends, size_t face_end_count, uint16_t *walk, size_t walk_count, size_t *face_count,
+                           pigale_numbers *found);
+
+/* Labels the edges of a map, as pigale_rect takes it, as vertical or horizontal, with a direction: labels[i] says of the entry
+ * i of `neighbours` how its edge stands at the vertex whose list has it. Clockwise round each vertex off the outer face come
+ * edges up that leave it, edges to the right that leave it, edges up that enter it, and edges to the right that enter it, at
+ * least one of each. Along the outer face stand the left vertex, which is vertex 0, the top, the right one and the bottom: all
+ * edges within leave the left one to the right, enter the top upwards, enter the right one, and leave the bottom. `labels` has
+ * an entry for each of `neighbours`. Else the status is from 1 to 13. */
+enum {
+    PIGALE_LABEL_OUTER = 0,         /* an edge of the outer face */
+    PIGALE_LABEL_UP_OUT = 1,        /* leaves upwards */
+    PIGALE_LABEL_UP_IN = 2,         /* enters from below */
+    PIGALE_LABEL_RIGHT_OUT = 3,     /* leaves to the right */
+    PIGALE_LABEL_RIGHT_IN = 4       /* enters from the left */
+};
+
+pigale_status pigale_edge_labelling(const size_t *ends, size_t vertex_count, const uint16_t *neighbours,
+                                    size_t neighbour_count, uint8_t *labels, size_t label_count, pigale_numbers *found);
+
+/* Many maps in one call, each answered as the call for one answers it, with memory that is kept from one to the next.
  *
  * The maps stand one behind another. Map i has the lists from number map_ends[i - 1] (0 for the first) up to map_ends[i];
  * `ends` and `neighbours` are as for one map that has the lists of all, with `ends` that go on from map to map, but each
- * map's vertices are numbered from 0. So x and y have an entry for each list. statuses[i] is what the call for map i alone
- * returns, and found[i] what it writes to `found`: a map that is refused, or has too many vertices, leaves its part of x and
- * y as it was, and the others are drawn.
+ * map's vertices are numbered from 0. So an array with an entry for each vertex has one for each list. statuses[i] is what the
+ * call for map i alone returns, and found[i] what it writes to `found`: a map that is refused, or has too many vertices, leaves
+ * its part of the arrays as it was, and the others are answered.
  *
  * PIGALE_OK: each map has its status. PIGALE_BAD_ARGUMENT: `map_ends` do not cut up all lists, `ends` not all neighbours, or
- * an array has another length, and nothing is written. PIGALE_NO_MEMORY: only some maps may have their answers. */
+ * an array has another length, and nothing is written. PIGALE_NO_MEMORY: some of the first maps are answered, and what belongs
+ * to the others is as it was. */
+pigale_status pigale_count_many(const size_t *map_ends, size_t map_count, const size_t *ends, size_t list_count,
+                                const uint16_t *neighbours, size_t neighbour_count, pigale_counts *counts,
+                                size_t counts_count, pigale_status *statuses, size_t status_count, pigale_numbers *found,
+                                size_t found_count);
+
 pigale_status pigale_shift_many(const size_t *map_ends, size_t map_count, const size_t *ends, size_t list_count,
                                 const uint16_t *neighbours, size_t neighbour_count, int32_t *x, size_t x_count, int32_t *y,
                                 size_t y_count, pigale_status *statuses, size_t status_count, pigale_numbers *found,
@@ -214,6 +251,38 @@ pigale_status pigale_convex_many(const size_t *map_ends, size_t map_count, const
                                  const uint16_t *neighbours, size_t neighbour_count, int32_t *x, size_t x_count, int32_t *y,
                                  size_t y_count, pigale_status *statuses, size_t status_count, pigale_numbers *found,
                                  size_t found_count);
+
+/* `column` has half as many entries as `neighbours`. The columns of a map begin at half of where its neighbours begin, rounded
+ * down, so where all maps are simple they stand one behind another. */
+pigale_status pigale_bars_many(const size_t *map_ends, size_t map_count, const size_t *ends, size_t list_count,
+                               const uint16_t *neighbours, size_t neighbour_count, int32_t *y, size_t y_count, int32_t *x1,
+                               size_t x1_count, int32_t *x2, size_t x2_count, int32_t *column, size_t column_count,
+                               pigale_status *statuses, size_t status_count, pigale_numbers *found, size_t found_count);
+
+pigale_status pigale_rect_many(const size_t *map_ends, size_t map_count, const size_t *ends, size_t list_count,
+                               const uint16_t *neighbours, size_t neighbour_count, int32_t *x1, size_t x1_count, int32_t *x2,
+                               size_t x2_count, int32_t *y1, size_t y1_count, int32_t *y2, size_t y2_count,
+                               pigale_status *statuses, size_t status_count, pigale_numbers *found, size_t found_count);
+
+/* Judges the drawing of map i in the grid from (0, 0) to (width[i], height[i]), as pigale_check does. */
+pigale_status pigale_check_many(const size_t *map_ends, size_t map_count, const size_t *ends, size_t list_count,
+                                const uint16_t *neighbours, size_t neighbour_count, const int32_t *x, size_t x_count,
+                                const int32_t *y, size_t y_count, const int32_t *width, size_t width_count,
+                                const int32_t *height, size_t height_count, pigale_status *statuses, size_t status_count,
+                                pigale_numbers *found, size_t found_count);
+
+/* Many graphs in one call, each answered as pigale_embed answers it. Graph i has the vertices from number vertex_ends[i - 1] up
+ * to vertex_ends[i], which its edges number from 0, and the edges from number edge_ends[i - 1] up to edge_ends[i].
+ *
+ * x and y have an entry for each vertex. `ends` has one too, and ten more for each graph: those of graph i begin at the number
+ * of its first vertex and 10 * i, and are as pigale_embed writes them, from where its own neighbours begin. `neighbours` has two
+ * entries for each edge, and those of a graph begin at twice the number of its first edge. So there is room for each answer.
+ * The statuses are as for many maps. */
+pigale_status pigale_embed_many(const size_t *vertex_ends, size_t graph_count, const size_t *edge_ends, size_t edge_end_count,
+                                const pigale_edge *edges, size_t edge_count, size_t *ends, size_t end_count,
+                                uint16_t *neighbours, size_t neighbour_count, int32_t *x, size_t x_count, int32_t *y,
+                                size_t y_count, pigale_status *statuses, size_t status_count, pigale_numbers *found,
+                                size_t found_count);
 
 /* Judges a straight-line drawing of edges, in any order and either way round, with vertex v at (x[v], y[v]), from 1 to 4095
  * of them: PIGALE_OK exactly where no two vertices stand at one point, none lies on an edge of which it is no end, and no two
@@ -263,6 +332,22 @@ pigale_status pigale_check_rects(const size_t *ends, size_t vertex_count, const 
  * 3 bad input, 5 or 6 not enough memory. */
 pigale_status pigale_run(const uint8_t *words, size_t words_length, const uint8_t *input, size_t input_length,
                          uint8_t *text, size_t capacity, size_t *text_length);
+
+/* How many records of a part were answered, and how many of them were refused. */
+typedef struct {
+    uint32_t records, refused;
+} pigale_sums;
+
+/* Runs the program over a part of an input that is cut at the ends of records: so inputs of any size have the text of one
+ * run, in parts, and parts may be run side by side. Before the part stand `records` records, `refused` of them refused, and
+ * `place` bytes of planar_code, lines of figures or graphs of graph6: the blocks are numbered on, the last line has the sums
+ * of all parts so far, and a bad ending is named by its place in the whole. Where `goes_on` is not 0 more parts come, and a
+ * part that ends well has no last line. Of each part up to 16777216 bytes are read. A header is read at the front of each,
+ * so one stands there where a part might begin like one. `words` are as for pigale_run, and name a job that reads;
+ * `sums` gets the numbers of this part alone. Numbers end at 4294967295. The status is that of pigale_run. */
+pigale_status pigale_run_part(const uint8_t *words, size_t words_length, const uint8_t *input, size_t input_length,
+                              uint32_t records, uint32_t refused, size_t place, uint8_t goes_on,
+                              uint8_t *text, size_t capacity, size_t *text_length, pigale_sums *sums);
 
 /* The name of a status without its first word, as "CUT_VERTEX", or "?" for a number that is none. What stands in this header
  * as code is not proved. */

@@ -24,7 +24,7 @@ static void *room(size_t size) { void *at = malloc(size ? size : 1); if (!at) ab
 
 static _Thread_local uint64_t state = 1;
 
-static uint32_t any(uint32_t below)
+static inline uint32_t any(uint32_t below)
 {
     state = state * 6364136223846793005u + 1442695040888963407u;
     return (uint32_t)((state >> 33) % below);
@@ -56,20 +56,20 @@ static int read_map(map *m)
     return 1;
 }
 
-static void put_list(FILE *out, const map *m, size_t v)
+static inline void put_list(FILE *out, const map *m, size_t v)
 {
     fputc(':', out);
     for (size_t i = v ? m->ends[v - 1] : 0; i < m->ends[v]; i++) fprintf(out, " %d", m->neighbours[i] + 1);
     fputc('\n', out);
 }
 
-static void put_numbers(FILE *out, pigale_numbers found, int count, int from)
+static inline void put_numbers(FILE *out, pigale_numbers found, int count, int from)
 {
     uint32_t all[] = {found.first, found.second, found.third, found.fourth};
     for (int i = 0; i < count; i++) fprintf(out, " %" PRIu32, all[i] + (uint32_t)from);
 }
 
-static void put_refusal(FILE *out, size_t number, pigale_status status, pigale_numbers found)
+static inline void put_refusal(FILE *out, size_t number, pigale_status status, pigale_numbers found)
 {
     if (status < 1 || status > 13) { fprintf(stderr, "test: status %d\n", status); exit(1); }
     fprintf(out, "refused %zu %d %s", number, status, refusals[status]);

@@ -15,7 +15,7 @@ from targets import LINUX, ROOT, WASM, call, tool
 
 WEB = ("--enable-memory64", "--enable-bulk-memory", "--enable-mutable-globals", "--enable-sign-ext")
 MINGW = "x86_64-w64-mingw32"
-STACK = 1 << 20  # bytes of stack that the module sets aside, as many as the header says that a call wants
+STACK = 1 << 20  # bytes of stack that the module sets aside: four times what the header says that a call may want
 
 
 def linux_memory(machine, to, *kind):

@@ -27,7 +27,7 @@ within this process), `arrays` and `answers` (what `typed` takes and gives), `ta
 `pictures`, `tikz_pictures`, `writers` and `page_texts`, and `cli` (the commands). All that they offer is here by one name, and
 each is imported when something of it is asked for.
 """
-__version__ = "1.0.0"
+__version__ = "1.1.0"
 
 import importlib
 from typing import TYPE_CHECKING, Any, List

@@ -52,6 +52,7 @@ impl BarDrawing<'_> {
 impl OrderedBars<'_> {
     // Returns the first edge with a bar in its way, found by the exact sweep, or else the first fault of a list. The
     // tables have room for `COLUMNS` columns and `DARTS` darts.
+    #[inline(never)]
     fn first_struck_of<const COLUMNS: usize, const DARTS: usize>(&self) -> BarVerdict
         requires room { (COLUMNS < 65536) × (DARTS < 65536) }
         ensures { IsBarVerdict self.now.drawing.map.now.lists self.now.drawing.fig.now self.now.drawing.width result }
@@ -93,6 +94,7 @@ impl OrderedBars<'_> {
 impl Bars<'_> {
     // Returns the first fault of a column, of an edge through a bar or of a list, for `n` vertices. Its tables hold
     // `MOST` vertices, `COLUMNS` columns, `BLOCKS` blocks of 16, `SUPERBLOCKS` superblocks of 256 and `DARTS` darts.
+    #[inline(never)]
     fn first_fault_of<
         const MOST: usize,
         const COLUMNS: usize,

@@ -85,7 +85,7 @@ pub fn numbered_parts(
     let mut numbers = spent.numbers;
     numbers.clear();
     numbers.resize(lists.len(), UNMET)?;
-    queue.resize(lists.len(), 0)?;
+    queue.resize(lists.len() + 1, 0)?;
     let count = number_components(lists.entries(), lists.ends(), &mut numbers, queue);
     Ok(Parts { count, numbers })
 }

@@ -127,7 +127,7 @@ pub fn embed(alloc: Global, graph: &Graph) -> Result<Embedding, AllocError>
     requires { 3 ≤ graph.now.n }
     ensures { IfOk result (IsEmbedding graph.now) }
 {
-    let mut tables = Tables::new();
+    let mut tables = Tables::new(alloc);
     match test_graph(alloc, &mut tables, graph)? {
         Tested::Map(map) => Ok(Embedding::Map(map)),
         Tested::NoMap => {

@@ -1,5 +1,7 @@
 //! Marks the edges that together show a conflict of the left-right test, so that they are nonplanar.
-use left_right_test::{ByEdge, ByVertex, LeftRightTest, NONE, branch_of, near_edge};
+use left_right_test::{
+    ByEdge, ByVertex, EDGE_ZEROS, LeftRightTest, NONE, VERTEX_ZEROS, branch_of, near_edge,
+};
 
 /// The mark of an edge of the nonplanar part.
 pub const IN_PART: u32 = 1;
@@ -26,7 +28,7 @@ pub fn turn_of(mark: u32) -> u32 {
 }
 
 /// The marks of the edges that show a conflict.
-#[derive(Drop)]
+#[derive(Clone, Copy)]
 pub struct ConflictMarks {
     // for each vertex the least height to which the way up from it is marked, or none
     cover: ByVertex,
@@ -37,15 +39,12 @@ pub struct ConflictMarks {
 }
 
 impl ConflictMarks {
-    /// Returns no marks.
-    #[inline(always)]
-    pub fn new() -> ConflictMarks {
-        ConflictMarks {
-            cover: ByVertex::new(),
-            ends: ByVertex::new(),
-            marks: ByEdge::new(),
-        }
-    }
+    /// No marks.
+    pub const FRESH: ConflictMarks = ConflictMarks {
+        cover: VERTEX_ZEROS,
+        ends: VERTEX_ZEROS,
+        marks: EDGE_ZEROS,
+    };
 
     // Marks the return edge of dart `edge`, and the tree path between its ends.
     fn mark(&mut self, test: &LeftRightTest, edge: u32) {

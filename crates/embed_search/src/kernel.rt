@@ -1,9 +1,12 @@
 //! A nonplanar part of a graph as a kernel: its paths through vertices of degree two are replaced by single edges.
 use crate::conflict_marks::{IN_PART, turn_of};
-use left_right_test::{ByDart, ByEdge, ByVertex, Edges, Links, NONE, minus, plus, twice};
+use left_right_test::{
+    ByDart, ByEdge, ByVertex, DART_ZEROS, EDGE_ZEROS, Edges, Links, NONE, VERTEX_ZEROS, minus,
+    plus, twice,
+};
 
 /// The kernel, and the tables for its reduction. Its vertices are numbered anew.
-#[derive(Drop)]
+#[derive(Clone, Copy)]
 pub struct Kernel {
     /// Its edges.
     pub edges: Edges,
@@ -30,23 +33,20 @@ pub struct Kernel {
 }
 
 impl Kernel {
-    /// Returns an empty kernel.
-    #[inline(always)]
-    pub fn new() -> Kernel {
-        Kernel {
-            edges: Edges::new(),
-            needed: ByEdge::new(),
-            marks: ByEdge::new(),
-            path: ByEdge::new(),
-            ring: ByEdge::new(),
-            merged: ByEdge::new(),
-            left: ByEdge::new(),
-            work: ByDart::new(),
-            waiting: 0,
-            number: ByVertex::new(),
-            degree: ByVertex::new(),
-        }
-    }
+    /// The empty kernel.
+    pub const FRESH: Kernel = Kernel {
+        edges: Edges::FRESH,
+        needed: EDGE_ZEROS,
+        marks: EDGE_ZEROS,
+        path: EDGE_ZEROS,
+        ring: EDGE_ZEROS,
+        merged: EDGE_ZEROS,
+        left: EDGE_ZEROS,
+        work: DART_ZEROS,
+        waiting: 0,
+        number: VERTEX_ZEROS,
+        degree: VERTEX_ZEROS,
+    };
 
     /// Says whether a nonplanar kernel in which all degrees are three or more is K5 or K3,3, by its counts alone.
     pub fn is_least(&self) -> bool {

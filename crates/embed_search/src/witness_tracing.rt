@@ -1,6 +1,6 @@
 //! Traces the branch vertices and paths of a subdivision of K5 or K3,3, and returns them as a witness.
 use kuratowski::{Kind, Witness};
-use left_right_test::{ByVertex, Links, NONE, ends_of, plus};
+use left_right_test::{ByVertex, Links, NONE, VERTEX_ZEROS, ends_of, plus};
 use map_lists::{PathList, VertexId, VertexList};
 use std::alloc::{AllocError, Global};
 use std::mem;
@@ -22,7 +22,7 @@ fn dart_on(links: &Links, dart: u32) -> u32 {
 }
 
 // The branch vertices of a subdivision, at which paths meet.
-#[derive(Drop)]
+#[derive(Clone, Copy)]
 struct Branches {
     // the vertices, by index
     vertices: ByVertex,
@@ -33,15 +33,12 @@ struct Branches {
 }
 
 impl Branches {
-    // Returns an empty list of branch vertices.
-    #[inline(always)]
-    fn new() -> Branches {
-        Branches {
-            vertices: ByVertex::new(),
-            places: ByVertex::new(),
-            count: 0,
-        }
-    }
+    // The empty list of branch vertices.
+    const FRESH: Branches = Branches {
+        vertices: VERTEX_ZEROS,
+        places: VERTEX_ZEROS,
+        count: 0,
+    };
 
     // Makes `vertex` the branch vertex at index `place`.
     #[inline(always)]
@@ -116,10 +113,10 @@ impl Branches {
 }
 
 // The paths of a subdivision, concatenated.
-#[derive(Drop)]
+#[derive(Clone, Copy)]
 struct Ways {
     // the vertices of all of them
-    cells: [VertexId; 512],
+    cells: [u16; 512],
     count: usize,
     // for each path the index after its last vertex
     ends: ByVertex,
@@ -128,27 +125,24 @@ struct Ways {
 }
 
 impl Ways {
-    // Returns no paths.
-    #[inline(always)]
-    fn new() -> Ways {
-        Ways {
-            cells: [VertexId(0); 512],
-            count: 0,
-            ends: ByVertex::new(),
-            paths: 0,
-        }
-    }
+    // No paths.
+    const FRESH: Ways = Ways {
+        cells: [0; 512],
+        count: 0,
+        ends: VERTEX_ZEROS,
+        paths: 0,
+    };
 
     // Appends `vertex` to the last path.
     #[inline(always)]
     fn push(&mut self, vertex: u32) {
-        self.cells[self.count % 512] = vertex_id(vertex);
+        self.cells[self.count % 512] = (vertex & 0xffff) as u16;
         self.count = self.count % 512 + 1;
     }
 
     // Returns the concatenated vertices of all paths.
     #[inline(always)]
-    fn vertices(&self) -> &[VertexId] {
+    fn vertices(&self) -> &[u16] {
         if self.count < 512 {
             &self.cells[..self.count]
         } else {
@@ -202,84 +196,82 @@ impl Ways {
     fn list(&self, spent: PathList) -> Result<PathList, AllocError> {
         let (mut entries, spent_ends) = spent.into_parts();
         entries.clear();
-        entries.extend_from_slice(self.vertices())?;
+        for vertex in self.vertices() {
+            entries.push(VertexId(*vertex))?;
+        }
         let count = (self.paths & 0xff) as u16;
         let ends = ends_of(&self.ends, spent_ends, count, entries.len())?;
         Ok(PathList::from_parts(entries, ends))
     }
 }
 
-/// The tables by which witnesses are traced, and the memory of one that is no longer needed.
-#[derive(Drop)]
+/// The tables by which witnesses are traced.
+#[derive(Clone, Copy)]
 pub struct Tracer {
     branches: Branches,
     // those of K3,3 in two parts
     parted: Branches,
     ways: Ways,
-    spent: Option<Witness>,
 }
 
 impl Tracer {
-    /// Returns tables before the first witness. They take no memory of an allocator.
-    #[inline(always)]
-    pub fn new() -> Tracer {
-        Tracer {
-            branches: Branches::new(),
-            parted: Branches::new(),
-            ways: Ways::new(),
-            spent: None,
-        }
-    }
+    /// The tables before the first witness.
+    pub const FRESH: Tracer = Tracer {
+        branches: Branches::FRESH,
+        parted: Branches::FRESH,
+        ways: Ways::FRESH,
+    };
 
-    /// Keeps the memory of `witness`, which is no longer needed, for the next one.
-    pub fn keep(&mut self, witness: Witness) {
-        self.spent = Some(witness);
-    }
-
-    // Returns a witness of `kind`, to be overwritten: the kept one, or else a new one with room for the paths. It fails
-    // only when out of memory.
-    fn take_spent(
+    /// Returns the witness that the edges of `links` seem to be, not checked. Returns None unless there are five or six
+    /// branch vertices and no path is missing. `spent` is a witness no longer needed, whose memory it takes. It fails
+    /// only when out of memory.
+    pub fn traced(
         &mut self,
         alloc: Global,
         links: &Links,
-        kind: Kind,
-    ) -> Result<Witness, AllocError> {
-        match mem::replace(&mut self.spent, None) {
-            Some(witness) => {
-                let Witness { branch, paths, .. } = witness;
-                Ok(Witness {
-                    kind,
-                    branch,
-                    paths,
-                })
-            }
-            None => {
-                let room = plus(links.vertices, 20) as usize;
-                let paths = PathList::with_capacity(alloc, room, 10)?;
-                Ok(Witness {
-                    kind,
-                    branch: VertexList::new(alloc),
-                    paths,
-                })
-            }
-        }
-    }
-
-    /// Returns the witness that the edges of `links` seem to be, not checked. Returns None unless there are five or six
-    /// branch vertices and no path is missing. It fails only when out of memory.
-    pub fn traced(&mut self, alloc: Global, links: &Links) -> Result<Option<Witness>, AllocError> {
+        spent: &mut Option<Witness>,
+    ) -> Result<Option<Witness>, AllocError> {
         self.branches.take(links);
         match self.branches.count {
             5 => {
-                let spent = self.take_spent(alloc, links, Kind::K5)?;
+                let spent = taken(alloc, spent, links, Kind::K5)?;
                 filled(links, &mut self.ways, &self.branches, spent)
             }
             6 => {
                 self.parted.take_in_parts(links, &self.branches);
-                let spent = self.take_spent(alloc, links, Kind::K33)?;
+                let spent = taken(alloc, spent, links, Kind::K33)?;
                 filled(links, &mut self.ways, &self.parted, spent)
             }
             _ => Ok(None),
+        }
+    }
+}
+
+// Returns a witness of `kind`, to be overwritten: `spent`, or else a new one with room for the paths of `links`. Fails
+// only when out of memory.
+fn taken(
+    alloc: Global,
+    spent: &mut Option<Witness>,
+    links: &Links,
+    kind: Kind,
+) -> Result<Witness, AllocError> {
+    match mem::replace(spent, None) {
+        Some(witness) => {
+            let Witness { branch, paths, .. } = witness;
+            Ok(Witness {
+                kind,
+                branch,
+                paths,
+            })
+        }
+        None => {
+            let room = plus(links.vertices, 20) as usize;
+            let paths = PathList::with_capacity(alloc, room, 10)?;
+            Ok(Witness {
+                kind,
+                branch: VertexList::new(alloc),
+                paths,
+            })
         }
     }
 }

@@ -6,6 +6,7 @@ pub mod SearchLemmas
 mod FaceWalkLemmas
 mod OrbitLemmas
 mod TriangleLemmas
+mod NextLemmas
 -- Lemmas on the search by chains of faces.
 pub mod SideMarks
 mod ChainLemmas

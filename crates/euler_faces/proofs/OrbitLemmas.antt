@@ -57,6 +57,7 @@ module _ (ends entries : List ℕ) (cuts : AreCuts 0 ends (length entries)) (sim
   -- the dart after the twin, in its list, is the next along the face
   pub step-is : (d t : ℕ) → d < length entries → slice_get (darts (cut 0 ends entries)) t ≡ Some (twin_dart (get_or (darts (cut 0 ends entries)) d (0, 0)))
       → (get_or entries d 0 < length ends) × (t < length entries) × (cond (eqb (t + 1) (get_or ends (get_or entries d 0) 0)) (get_or (0 ∷ ends) (get_or entries d 0) 0) (t + 1) ≡ image (face_images (cut 0 ends entries)) d)
+      × ((get_or (0 ∷ ends) (get_or entries d 0) 0 ≤ t) × (t < get_or ends (get_or entries d 0) 0))
   step-is d t l found =
       let lists = cut 0 ends entries in
       let n = length-darts lists in
@@ -83,6 +84,7 @@ module _ (ends entries : List ℕ) (cuts : AreCuts 0 ends (length entries)) (sim
         omega (arith, t_in),
         subst (λ x. cond (eqb (t + 1) (get_or ends x 0)) (get_or (0 ∷ ends) x 0) (t + 1) ≡ image (face_images lists) d) head
             (ap (λ x. cond (eqb (x + 1) (get_or ends u 0)) s (x + 1)) at ∙ (next ∙ along)),
+        subst (λ x. (get_or (0 ∷ ends) x 0 ≤ t) × (t < get_or ends x 0)) head (omega (arith, at), omega (arith, at, k_in, end-is ends entries cuts u u_in)),
       )
 
   -- the twin that is read at a dart that was not walked over
@@ -97,6 +99,7 @@ module _ (ends entries : List ℕ) (cuts : AreCuts 0 ends (length entries)) (sim
   -- the step from a dart, by its twin
   pub twin_step : (twins : List ℕ) → AreTwins (darts (cut 0 ends entries)) twins (length (darts (cut 0 ends entries))) → (d : ℕ) → d < length entries
       → (get_or entries d 0 < length ends) × (get_or twins d 0 < length entries) × (cond (eqb (get_or twins d 0 + 1) (get_or ends (get_or entries d 0) 0)) (get_or (0 ∷ ends) (get_or entries d 0) 0) (get_or twins d 0 + 1) ≡ image (face_images (cut 0 ends entries)) d)
+      × ((get_or (0 ∷ ends) (get_or entries d 0) 0 ≤ get_or twins d 0) × (get_or twins d 0 < get_or ends (get_or entries d 0) 0))
   twin_step twins are d l =
       step-is d (get_or twins d 0) l (are.at d (omega (arith, l, length-darts (cut 0 ends entries), count-is ends entries cuts)))
 

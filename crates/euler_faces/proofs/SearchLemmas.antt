@@ -141,6 +141,18 @@ module _ (lists : Lists) (old marked : List Bool) (queue : List ℕ) (next fille
         ];
       }
 
+  -- what is written behind the queue does not matter
+  pub search-scratch : (open_at : ℕ → Type 0) (w : ℕ) → IsSearching lists old marked queue next filled start open_at → IsSearching lists old marked (set queue filled w) next filled start open_at
+  search-scratch open_at w h = record {
+    stays = h.stays;
+    only = h.only;
+    closed = λ u m t. elim (h.closed u m t) [
+      | inl c ↦ (let other : c.0 ≢ filled = omega (arith, c.2) in inl (c.0, c.1, c.2, get_or-set_other queue filled c.0 w 0 other ∙ c.3))
+      | inr more ↦ inr more
+    ];
+    waiting = λ u has. let other : has.0 ≢ filled = omega (arith, has.2) in h.waiting u (has.0, has.1, has.2, sym (get_or-set_other queue filled has.0 w 0 other) ∙ has.3);
+  }
+
   -- the next vertex of the queue is opened
   pub search-pop : (after : ℕ) → after ≡ next + 1 → IsSearching lists old marked queue next filled start None_open → IsSearching lists old marked queue after filled start (λ x. x ≡ get_or queue next 0)
   search-pop after one h = record {

@@ -46,10 +46,10 @@ marks_of numbers = marks_by 65535 numbers
 abbrev pub IsNumbered : List ℕ → List ℕ → ℕ → Type 0
 IsNumbered old new number = IsNumberedBy 65535 old new number
 
--- numbers of n vertices, and a queue for as many: its first entries, as many as it is filled with, are those that have a number
+-- numbers of n vertices, and a queue for one more at least: its first entries, as many as it is filled with, are those that have a number
 pub record AreQueued (numbers queue : List ℕ) (filled n : ℕ) : Type 0 where
   pub marks : length numbers ≡ n
-  pub room : length queue ≡ n
+  pub room : n < length queue
   pub work : filled + unmarked_below (marks_of numbers) n ≡ n
 
 -- the number of v's component: how many components have a lesser least vertex

@@ -1,5 +1,5 @@
 //! Numbers the components of a map, by a breadth-first search along a queue.
-ghost use Rattle.std.specs.Prelude.{◌≡◌, ◌<◌, ◌≤◌, ◌||◌, ℕ, List, Bool, true, false, length, slice_index};
+ghost use Rattle.std.specs.Prelude.{◌≡◌, ◌<◌, ◌≤◌, ◌||◌, ◌≢◌, ℕ, List, Bool, true, false, length, slice_index};
 ghost use Rattle.classes.specs.Classes.{same_class};
 ghost use Rattle.classes.proofs.Classes.{Together};
 ghost use Rattle.map_lists.specs.Cuts.{cut, AreCuts};
@@ -13,9 +13,29 @@ use crate::stored_map::StoredMap;
 /// Stands in place of the number of a vertex that was not met yet.
 pub const UNMET: u16 = u16::MAX;
 
+// Returns how many vertices are met anew where one has the number `seen`: 1 for `UNMET`, and else none.
+#[inline(always)]
+fn met_anew(seen: u16) -> usize
+    ensures one { seen ≡ 65535 → result ≡ 1 }
+    ensures none { seen ≢ 65535 → result ≡ 0 }
+    ensures few { result ≤ 1 }
+{
+    if seen == UNMET { 1 } else { 0 }
+}
+
+// Returns `number` in place of `UNMET`, and else the number `seen`.
+#[inline(always)]
+fn number_after(seen: u16, number: u16) -> u16
+    ensures unmet { seen ≡ 65535 → result ≡ number }
+    ensures met { seen ≢ 65535 → result ≡ seen }
+{
+    if seen == UNMET { number } else { seen }
+}
+
 impl StoredMap<'_> {
     // Gives `number` to the neighbours of `v` that have none in `numbers`, and appends them to the `filled` first
-    // entries of `queue`. Returns how many entries there are then.
+    // entries of `queue`. Returns how many entries there are then. Each neighbour is written there, and stays where it
+    // had no number.
     fn push_neighbours(
         &self,
         v: usize,
@@ -39,11 +59,10 @@ impl StoredMap<'_> {
         let mut filled = filled;
         for i in map.start_of(v)..map.ends[v] {
             let w = map.entries[i];
-            if numbers[w as usize] == UNMET {
-                numbers[w as usize] = number;
-                queue[filled] = w;
-                filled += 1;
-            }
+            let seen = numbers[w as usize];
+            numbers[w as usize] = number_after(seen, number);
+            queue[filled] = w;
+            filled += met_anew(seen);
         }
         filled
     }
@@ -89,8 +108,8 @@ impl StoredMap<'_> {
 /// Numbers the components of lists that are a simple map by their least vertices, and returns how many there are. The
 /// lists are concatenated in `entries`, each up to its end in `ends`.
 ///
-/// Writes the component's number, from 0, of each vertex to `numbers`, whose entries have to be `UNMET`. `queue` is
-/// scratch space. Both have an entry for each vertex. The time is linear in the entries.
+/// Writes the component's number, from 0, of each vertex to `numbers`, whose entries have to be `UNMET`. It has an entry
+/// for each vertex. `queue` is scratch space, with one entry more at least. The time is linear in the entries.
 pub fn number_components(
     entries: &[u16],
     ends: &[usize],
@@ -101,7 +120,7 @@ pub fn number_components(
     requires simple { IsSimpleMap (cut 0 ends.now entries.now) }
     requires few { length ends.now < 4096 }
     requires marks { length numbers.old ≡ length ends.now }
-    requires room { length queue.old ≡ length ends.now }
+    requires room { length ends.now < length queue.old }
     requires unset { (u : ℕ) → mark_at (marks_of numbers.old) u ≡ false }
     ensures count { result ≡ component_count (cut 0 ends.now entries.now) }
     ensures few { result ≤ length ends.now }

@@ -1,9 +1,12 @@
 //! The public calls that count vertices, edges, faces and components of lists or a map, and the genus.
 ghost use Rattle.std.specs.Prelude.{◌≡◌, ◌≤◌, ◌<◌, ◌+◌, ◌-◌, ◌*◌, ◌%◌, ℕ, length, false, None, OnOk, IfOk, IfErr};
-ghost use Rattle.map_theory.specs.Maps.{IsSimpleMap, darts, vertex_count, edge_count, face_count, component_count, genus_of};
+ghost use Rattle.std.specs.Bool.{OnTrue};
+ghost use Rattle.classes.specs.Classes.{class_count};
+ghost use Rattle.map_theory.specs.Maps.{IsSimpleMap, darts, face_classes, isolated_count, vertex_count, edge_count, face_count, component_count, genus_of};
 ghost use Rattle.simple_maps.specs.Faults.{first_fault};
 ghost use Rattle.simple_maps.specs.MapFault.{Names};
 ghost use Rattle.simple_maps.specs.Tables.{AreTwins};
+ghost use Rattle.euler_faces.specs.Corners.{AreCornersBelow};
 ghost use Rattle.euler_faces.specs.Numbers.{mark_at};
 ghost use Rattle.euler_faces.specs.Search.{marks_of};
 ghost use Rattle.euler_faces.specs.Stored.{lists_of};
@@ -56,6 +59,28 @@ fn stored(lists: &Rotations) -> StoredMap<'_>
     }
 }
 
+// Returns the counts of `map` with so many `orbits` of the face step, `isolated` vertices and `components`.
+#[inline(always)]
+fn euler_of(map: &StoredMap<'_>, orbits: u32, isolated: u32, components: u16) -> EulerCount
+    requires orbits { orbits ≡ class_count (face_classes (lists_of map.now)) }
+    requires few_orbits { orbits ≤ length map.now.entries.now }
+    requires isolated { isolated ≡ isolated_count (lists_of map.now) }
+    requires few_isolated { isolated ≤ length map.now.ends.now }
+    requires components { components ≡ component_count (lists_of map.now) }
+    ensures n { result.n ≡ vertex_count (lists_of map.now) }
+    ensures m { result.m ≡ edge_count (lists_of map.now) }
+    ensures f { result.f ≡ face_count (lists_of map.now) }
+    ensures c { result.c ≡ component_count (lists_of map.now) }
+{
+    map.facts();
+    EulerCount {
+        n: map.ends.len() as u32,
+        m: (map.entries.len() / 2) as u32,
+        f: orbits + isolated,
+        c: components as u32,
+    }
+}
+
 /// Returns the counts of `lists`, which are a simple map, by the `twins` of their darts and the number of `components`.
 /// The components are counted already. The faces are walked over the twins, which are lost. The time is linear in the
 /// entries, and no memory is taken.
@@ -73,12 +98,43 @@ pub fn euler_by_twins(lists: &Rotations, twins: &mut [u32], components: u16) -> 
     let isolated = map.count_isolated(components);
     let most = map.most_orbits(components, isolated);
     let orbits = map.count_orbits(twins, most);
-    EulerCount {
-        n: map.ends.len() as u32,
-        m: (map.entries.len() / 2) as u32,
-        f: orbits + isolated,
-        c: components as u32,
+    euler_of(&map, orbits, isolated, components)
+}
+
+// Returns the counts of `map`, all faces of which are triangles, with so many `components`.
+#[inline(always)]
+fn euler_of_triangles(map: &StoredMap<'_>, components: u16) -> EulerCount
+    requires corners { AreCornersBelow (lists_of map.now) (length map.now.entries.now) }
+    requires components { components ≡ component_count (lists_of map.now) }
+    ensures n { result.n ≡ vertex_count (lists_of map.now) }
+    ensures m { result.m ≡ edge_count (lists_of map.now) }
+    ensures f { result.f ≡ face_count (lists_of map.now) }
+    ensures c { result.c ≡ component_count (lists_of map.now) }
+{
+    map.facts();
+    let isolated = map.count_isolated(components);
+    euler_of(map, (map.entries.len() / 3) as u32, isolated, components)
+}
+
+// Says whether `map`, with these `twins` of its darts, has as many entries as a triangulation, and all faces are found to
+// be triangles. `next` is scratch space, which may grow. It fails only when out of memory.
+#[inline(always)]
+fn finds_triangles(
+    map: &StoredMap<'_>,
+    twins: &[u32],
+    next: &mut Vec<u32>,
+) -> Result<bool, AllocError>
+    requires { AreTwins (darts (lists_of map.now)) twins.now (length (darts (lists_of map.now))) }
+    ensures { IfOk result (λ found. OnTrue found (AreCornersBelow (lists_of map.now) (length map.now.entries.now))) }
+{
+    let count = map.entries.len();
+    if count.wrapping_add(12) != map.ends.len().wrapping_mul(6) {
+        return Ok(false);
     }
+    if next.len() < count {
+        next.resize(count, 0)?;
+    }
+    Ok(map.has_triangles(twins, &mut next[..count]))
 }
 
 /// Counts lists, one after another, and keeps its memory for the next.
@@ -107,17 +163,17 @@ impl Counter {
         }
     }
 
-    // Resets the component numbers of `n` vertices to `UNMET`, and makes room for all in the queue.
+    // Resets the component numbers of `n` vertices to `UNMET`, and makes room for all and one more in the queue.
     fn clear(&mut self, n: usize) -> Result<(), AllocError>
         ensures marks { OnOk result (length self.new.numbers.items ≡ n) }
-        ensures room { OnOk result (n ≤ length self.new.queue.items) }
+        ensures room { OnOk result (n < length self.new.queue.items) }
         ensures unset { OnOk result ((u : ℕ) → mark_at (marks_of self.new.numbers.items) u ≡ false) }
         ensures twins { self.new.twins ≡ self.old.twins }
     {
         self.numbers.clear();
         self.numbers.resize(n, UNMET)?;
-        if self.queue.len() < n {
-            self.queue.resize(n, 0)?;
+        if self.queue.len() <= n {
+            self.queue.resize(n + 1, 0)?;
         }
         Ok(())
     }
@@ -147,8 +203,11 @@ impl Counter {
             map.entries,
             map.ends,
             &mut self.numbers,
-            &mut self.queue[..lists.len()],
+            &mut self.queue,
         );
+        if finds_triangles(&map, &self.twins, &mut self.threads)? {
+            return Ok(euler_of_triangles(&map, components));
+        }
         Ok(euler_by_twins(lists, &mut self.twins, components))
     }
 }

@@ -5,7 +5,7 @@ ghost use Rattle.classes.specs.Classes.{class_count, same_class};
 ghost use Rattle.classes.proofs.Marks.{KeepsMarks};
 ghost use Rattle.map_theory.specs.Maps.{darts, face_images, face_classes, component_count, isolated_count};
 ghost use Rattle.simple_maps.specs.Tables.{AreTwins};
-ghost use Rattle.euler_faces.specs.Corners.{AreCornersBelow};
+ghost use Rattle.euler_faces.specs.Corners.{AreCornersBelow, AreNext};
 ghost use Rattle.euler_faces.specs.Stored.{lists_of};
 ghost use Rattle.euler_faces.specs.Slots.{walked, HaveTwins};
 
@@ -60,6 +60,52 @@ impl StoredMap<'_> {
             start = behind;
         }
         true
+    }
+
+    // Writes to `next` for each dart the dart after it in its list, cyclically. Returns false at an empty list.
+    #[inline(always)]
+    fn write_next(&self, next: &mut [u32]) -> bool
+        requires { length next.old ≡ length self.now.entries.now }
+        ensures { OnTrue result (AreNext self.now.ends.now next.new) }
+    {
+        self.facts();
+        let map = *self;
+        for d in 0..next.len() {
+            next[d] = d as u32 + 1;
+        }
+        let mut start: usize = 0;
+        for v in 0..map.ends.len() {
+            let behind = map.ends[v];
+            if behind <= start {
+                return false;
+            }
+            next[behind - 1] = start as u32;
+            start = behind;
+        }
+        true
+    }
+
+    // Says whether no list is empty and all faces are found to be triangles, by the `twins` of the darts, in loops over
+    // all darts that have no branch. From each dart, the one after it, its twin and the one after that lead back to the
+    // dart's head. `next` is scratch space.
+    #[inline(never)]
+    pub(crate) fn has_triangles(&self, twins: &[u32], next: &mut [u32]) -> bool
+        requires twins { AreTwins (darts (lists_of self.now)) twins.now (length (darts (lists_of self.now))) }
+        requires next { length next.old ≡ length self.now.entries.now }
+        ensures { OnTrue result (AreCornersBelow (lists_of self.now) (length self.now.entries.now)) }
+    {
+        self.facts();
+        let map = *self;
+        if !map.write_next(next) {
+            return false;
+        }
+        let mut wrong: u16 = 0;
+        for d in 0..map.entries.len() {
+            let after = next[d] as usize;
+            let turned = next[twins[after] as usize] as usize;
+            wrong |= map.entries[turned] ^ map.entries[d];
+        }
+        wrong == 0
     }
 
     // Returns the most orbits of the face step that the Euler bound allows for `components` and `isolated` vertices.

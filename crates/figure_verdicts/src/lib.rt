@@ -8,6 +8,7 @@ mod drawing_verdicts;
 mod verdict;
 mod verdict_by_kind;
 
+pub use drawing_verdicts::is_drawn_triangulation;
 pub use verdict::FigureVerdict;
 pub use verdict_by_kind::figure_verdict;
 

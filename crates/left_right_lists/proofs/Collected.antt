@@ -1,18 +1,12 @@
 -- Lists of edges collected one by one.
-use Rattle.std.proofs.Common.{◌≡◌, ◌⊎◌, ◌↔◌, ℕ, zero, suc, ◌+◌, ◌<◌, ◌≤◌, Bool, true, false, cond, List, [], ◌∷◌, ◌++◌, length, get_or, take, Contains, refl, sym, ap, ap₂, ◌∙◌, subst, inl, inr, arith, slice_index}
+use Rattle.std.proofs.Common.{◌≡◌, ◌⊎◌, ◌↔◌, ℕ, ◌+◌, ◌<◌, ◌≤◌, Bool, true, false, cond, List, [], ◌∷◌, ◌++◌, Contains, refl, sym, ap, ap₂, subst, inl, inr, arith}
 use Rattle.std.proofs.lemmas.Bool.{cases_eq, true≢false}
 use Rattle.std.proofs.lemmas.List.Elements.{Contains-append_cases, Contains-append_left, Contains-append_right}
-use Rattle.std.proofs.Math.Seq.{take-suc}
 use Rattle.map_theory.specs.Maps.{Dart}
 use Rattle.graphs.specs.Graphs.{EdgeGraph}
-use Rattle.left_right_maps.proofs.Inserts.{none_in_none, here, there, here_or_there}
-use Rattle.left_right_lists.specs.Groups.{Demand, IsRising, HasLower, IsDemanded, Group}
-use Rattle.std.specs.Prelude.{eqb}
-use Rattle.left_right_check.specs.Ties.{turned}
-
--- an entry where one group is put into another
-abbrev pub moved_group : ℕ → ℕ → Bool → Group → Group
-moved_group into from flip group = cond (eqb group.0 from) (into, turned flip group.1) group
+use Rattle.graphs.proofs.PairLemmas.{Contains-cases, Contains-none, AllPairs-both}
+use Rattle.left_right_maps.proofs.Inserts.{none_in_none, here, here_or_there}
+use Rattle.left_right_lists.specs.Sides.{IsRising, dart_place, AreOrdered}
 
 -- those from the first k vertices
 abbrev pub AreRising : EdgeGraph → List ℕ → List ℕ → ℕ → List Dart → Type 0
@@ -39,21 +33,6 @@ more_if old new d false P is by x = (
   (λ c. inl (subst (λ z. Contains z x) is c)),
   (λ h. elim h [ inl k ↦ subst (λ z. Contains z x) (sym is) k | inr k ↦ absurd (true≢false (sym (by.1 k.1))) ]),
 )
-
--- the first i + 1 entries
-pub in_take : {X : Type 0} (xs : List X) (i : ℕ) (d z x : X) → i < length xs → d ≡ get_or xs i z → Contains (take (i + 1) xs) x ↔ (Contains (take i xs) x ⊎ (x ≡ d))
-in_take xs i d z x l is =
-    let more : i + 1 ≡ suc i = omega arith in
-    let e : take (i + 1) xs ≡ take i xs ++ (d ∷ []) = ap (λ j. take j xs) more ∙ (take-suc xs i z l ∙ ap (λ y. take i xs ++ y ∷ []) (sym is)) in (
-      (λ c. elim (Contains-append_cases (take i xs) (d ∷ []) x (subst (λ z. Contains z x) e c)) [
-        | inl k ↦ inl k
-        | inr k ↦ elim (here_or_there d x [] k) [ inl e' ↦ inr (sym e') | inr bad ↦ absurd (none_in_none x bad) ]
-      ]),
-      (λ h. subst (λ z. Contains z x) (sym e) (elim h [
-        | inl k ↦ Contains-append_left (take i xs) (d ∷ []) x k
-        | inr k ↦ Contains-append_right (take i xs) (d ∷ []) x (subst (Contains (d ∷ [])) (sym k) (here d []))
-      ])),
-    )
 
 -- ---- edges that lead upwards
 abbrev pub AreRisingTo : EdgeGraph → List ℕ → List ℕ → List Dart → List Dart → ℕ → ℕ → Type 0
@@ -89,67 +68,20 @@ all_rising_more graph parents depths now new v h more d = (
   ]),
 )
 
--- ---- those that pass
-abbrev pub ArePassed : {X : Type 0} → (X → Type 0) → List X → List X → ℕ → Type 0
-ArePassed P xs out i = (x : _) → Contains out x ↔ (Contains (take i xs) x × P x)
+-- ---- in order
+-- one more edge, of a greater place
+pub ordered_if : (old new : List Dart) (d : Dart) (wanted : Bool) → new ≡ cond wanted (old ++ d ∷ []) old → ((e : Dart) → Contains old e → dart_place e < dart_place d) → AreOrdered old → AreOrdered new
+ordered_if old new d false is below h = subst AreOrdered (sym is) h
+ordered_if old new d true is below h =
+    subst AreOrdered (sym is) (AllPairs-both (λ e f. dart_place e < dart_place f) old (d ∷ []) h (λ i j z l m. absurd (omega arith)) (λ e f c k. elim (Contains-cases d [] f k) [
+      | inl same ↦ subst (λ (z : Dart). dart_place e < dart_place z) same (below e c)
+      | inr bad ↦ absurd (Contains-none f bad)
+    ]))
 
-pub passed_more : {X : Type 0} (P : X → Type 0) (xs out new : List X) (i : ℕ) (d z : X) → i < length xs → d ≡ get_or xs i z → ArePassed P xs out i → IsMore out new d (P d) → ArePassed P xs new (i + 1)
-passed_more P xs out new i d z l is h more x = (
-  (λ c. elim ((more x).0 c) [
-    | inl a ↦ (let b = (h x).0 a in ((in_take xs i d z x l is).1 (inl b.0), b.1))
-    | inr a ↦ ((in_take xs i d z x l is).1 (inr a.0), subst P (sym a.0) a.1)
-  ]),
-  (λ g. elim ((in_take xs i d z x l is).0 g.0) [
-    | inl a ↦ (more x).1 (inl ((h x).1 (a, g.1)))
-    | inr e ↦ (more x).1 (inr (e, subst P e g.1))
-  ]),
-)
-
-pub take_whole : {X : Type 0} (xs : List X) (i : ℕ) (x : X) → length xs ≤ i → Contains xs x → Contains (take i xs) x
-take_whole [] i x l c = absurd (none_in_none x c)
-take_whole (y ∷ xs) zero x l c = absurd (omega (arith, l))
-take_whole (y ∷ xs) (suc i) x l c =
-    elim (here_or_there y x xs c) [ inl e ↦ subst (Contains (y ∷ take i xs)) e (here y (take i xs)) | inr k ↦ there y x (take i xs) (take_whole xs i x (omega (arith, l)) k) ]
-
-pub take_within : {X : Type 0} (xs : List X) (i : ℕ) (x : X) → Contains (take i xs) x → Contains xs x
-take_within [] zero x c = c
-take_within [] (suc i) x c = c
-take_within (y ∷ xs) zero x c = absurd (none_in_none x c)
-take_within (y ∷ xs) (suc i) x c =
-    elim (here_or_there y x (take i xs) c) [ inl e ↦ subst (Contains (y ∷ xs)) e (here y xs) | inr k ↦ there y x xs (take_within xs i x k) ]
-
--- ---- demands
-abbrev pub AreDemandedTo : List ℕ → List Dart → List Dart → Bool → List Demand → List Demand → ℕ → Type 0
-AreDemandedTo depths darts others turn old new i =
-    (x : Demand) → Contains new x ↔ (Contains old x ⊎ ((x.1 ≡ turn) × (Contains (take i darts) x.0 × HasLower depths others (slice_index depths x.0.1))))
-
-pub demanded_more : (depths : List ℕ) (darts others : List Dart) (turn : Bool) (old now new : List Demand) (i : ℕ) (d z : Dart) → i < length darts → d ≡ get_or darts i z → AreDemandedTo depths darts others turn old now i → IsMore now new (d, turn) (HasLower depths others (slice_index depths d.1)) → AreDemandedTo depths darts others turn old new (i + 1)
-demanded_more depths darts others turn old now new i d z l is h more x = (
-  (λ c. elim ((more x).0 c) [
-    | inl a ↦ elim ((h x).0 a) [ inl b ↦ inl b | inr b ↦ inr (b.0, ((in_take darts i d z x.0 l is).1 (inl b.1.0), b.1.1)) ]
-    | inr a ↦
-        let e : x.0 ≡ d = ap (λ (z : Demand). z.0) a.0 in
-        inr (ap (λ (z : Demand). z.1) a.0, ((in_take darts i d z x.0 l is).1 (inr e), subst (λ (z : Dart). HasLower depths others (slice_index depths z.1)) (sym e) a.1))
-  ]),
-  (λ g. elim g [
-    | inl a ↦ (more x).1 (inl ((h x).1 (inl a)))
-    | inr a ↦ elim ((in_take darts i d z x.0 l is).0 a.1.0) [
-      | inl b ↦ (more x).1 (inl ((h x).1 (inr (a.0, (b, a.1.1)))))
-      | inr e ↦ (more x).1 (inr (ap₂ (λ (y : Dart) (t : Bool). (y, t)) e a.0, subst (λ (z : Dart). HasLower depths others (slice_index depths z.1)) e a.1.1))
+-- the edges so far have lesser places than the next one
+pub places_below : (graph : EdgeGraph) (parents depths : List ℕ) (old now : List Dart) (v k : ℕ) → graph.n ≤ 256 → k < graph.n → AreRising graph parents depths v old → AreRisingTo graph parents depths old now v k → (e : Dart) → Contains now e → dart_place e < dart_place (v, k)
+places_below graph parents depths old now v k few l h to e c =
+    elim ((to e).0 c) [
+      | inl a ↦ (let b = (h e).0 a in let x = b.0 in let y = b.1.0 in omega arith)
+      | inr b ↦ (let x = b.0 in let y = b.1.0 in omega arith)
     ]
-  ]),
-)
-
-pub demanded_all : (depths : List ℕ) (darts others : List Dart) (turn : Bool) (old new : List Demand) (i : ℕ) → length darts ≤ i → AreDemandedTo depths darts others turn old new i → (x : Demand) → Contains new x ↔ (Contains old x ⊎ ((x.1 ≡ turn) × (Contains darts x.0 × HasLower depths others (slice_index depths x.0.1))))
-demanded_all depths darts others turn old new i l h x =
-    ((λ c. elim ((h x).0 c) [ inl a ↦ inl a | inr a ↦ inr (a.0, (take_within darts i x.0 a.1.0, a.1.1)) ]), (λ g. (h x).1 (elim g [ inl a ↦ inl a | inr a ↦ inr (a.0, (take_whole darts i x.0 l a.1.0, a.1.1)) ])))
-
--- what both edges of a fork demand
-pub demanded_both : (depths : List ℕ) (ones others : List Dart) (none one both : List Demand) → none ≡ [] → ((x : Demand) → Contains one x ↔ (Contains none x ⊎ ((x.1 ≡ false) × (Contains ones x.0 × HasLower depths others (slice_index depths x.0.1))))) → ((x : Demand) → Contains both x ↔ (Contains one x ⊎ ((x.1 ≡ true) × (Contains others x.0 × HasLower depths ones (slice_index depths x.0.1))))) → (x : Demand) → Contains both x ↔ IsDemanded depths ones others x
-demanded_both depths ones others none one both is first second x = (
-  (λ c. elim ((second x).0 c) [
-    | inl a ↦ elim ((first x).0 a) [ inl b ↦ absurd (none_in_none x (subst (λ z. Contains z x) is b)) | inr b ↦ inl b ]
-    | inr b ↦ inr b
-  ]),
-  (λ g. elim g [ inl b ↦ (second x).1 (inl ((first x).1 (inr b))) | inr b ↦ (second x).1 (inr b) ]),
-)

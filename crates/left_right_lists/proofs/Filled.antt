@@ -14,7 +14,7 @@ use Rattle.left_right_maps.proofs.Lines.{child_is}
 use Rattle.left_right_maps.proofs.Parts.{child_edge, Part, Sorted, items, returns}
 use Rattle.left_right_maps.proofs.Whole.{Stands, row, row_root, row_other, lists, long, list_is, is_map}
 use Rattle.left_right_lists.specs.Trees.{joined, AreSides, IsTreeOf}
-use Rattle.left_right_lists.specs.Groups.{Group, side_in}
+use Rattle.left_right_lists.specs.Sides.{side_in}
 use Rattle.left_right_lists.specs.Orders.{returns_in, IsFree, IsOrderOf}
 use Rattle.left_right_lists.specs.Blocks.{uppers, lefts, middle, rights, returned, block, opens_in, AreValues}
 use Rattle.left_right_lists.specs.Placing.{returned_at, block_at, AreTablesAt, HasChildren, IsReady, IsOrderAt, entries_in, row_at, AreRows}
@@ -25,7 +25,7 @@ use Rattle.left_right_lists.proofs.Stepped.{stepped}
 use Rattle.left_right_lists.proofs.Ordered.{in_free}
 
 -- the entries of v, and what waits below it, by some order
-pub record IsPlacedBy (graph : EdgeGraph) (tree : Tree) (sides : List Group) (opens : List (List Dart)) (v : ℕ) (list : List ℕ) (waiting : List Dart) : Type 0 where
+pub record IsPlacedBy (graph : EdgeGraph) (tree : Tree) (sides : List Bool) (opens : List (List Dart)) (v : ℕ) (list : List ℕ) (waiting : List Dart) : Type 0 where
   pub us : List ℕ
   pub order : IsOrderAt graph tree sides opens v us
   pub list_is : list ≡ joined_lists (block_at graph.n tree opens v) us
@@ -40,12 +40,12 @@ pub rows_joined : {X : Type 0} (f : ℕ → List X) (rows : List (List X)) (n : 
 rows_joined f rows n list {us'} {us} e h within is =
     is ∙ (ap (joined_lists (λ u. slice_index_or rows u [])) e ∙ joined_same (λ u. slice_index_or rows u []) f us (λ u c. h.at u (within u c)))
 
-pub order_by : (sides : List Group) (rows : List (List Dart)) (us : List ℕ) {ds' ds : List ℕ} {free' free : List Bool} → ds' ≡ ds → free' ≡ free → IsOrderOf ds' sides rows free' us → IsOrderOf ds sides rows free us
+pub order_by : (sides : List Bool) (rows : List (List Dart)) (us : List ℕ) {ds' ds : List ℕ} {free' free : List Bool} → ds' ≡ ds → free' ≡ free → IsOrderOf ds' sides rows free' us → IsOrderOf ds sides rows free us
 order_by sides rows us {ds'} {ds} {free'} {free} d e h =
     subst (λ z. IsOrderOf ds sides rows z us) e (subst (λ z. IsOrderOf z sides rows free' us) d h)
 
 -- all vertices in an order are some of the graph
-pub order_within : (graph : EdgeGraph) (tree : Tree) (sides : List Group) (opens : List (List Dart)) (v : ℕ) (us : List ℕ) → IsOrderAt graph tree sides opens v us → (u : ℕ) → Contains us u → u < graph.n
+pub order_within : (graph : EdgeGraph) (tree : Tree) (sides : List Bool) (opens : List (List Dart)) (v : ℕ) (us : List ℕ) → IsOrderAt graph tree sides opens v us → (u : ℕ) → Contains us u → u < graph.n
 order_within graph tree sides opens v us h u c =
     omega (arith, in_free h.marks u ((h.order.all u).0 c), h.tables.marked.long)
 
@@ -71,7 +71,7 @@ put_other : {X : Type 0} (v : ℕ) (x : X) (f : ℕ → X) (u : ℕ) → u ≢ v
 unfolding put
 put_other {X} v x f u ne = cond-false {A = X} (eqb u v) x (f u) (ne_eqb u v ne)
 
-module _ (graph : EdgeGraph) (tree : Tree) (h : IsTreeOf graph tree) (sides : List Group) (parted : AreSides graph tree.parents.items tree.depths.items (side_in sides)) where
+module _ (graph : EdgeGraph) (tree : Tree) (h : IsTreeOf graph tree) (sides : List Bool) (parted : AreSides graph tree.parents.items tree.depths.items (side_in sides)) where
   abbrev n : ℕ
   n = graph.n
 

@@ -2,8 +2,7 @@
 mod Searched
 mod Tabled
 mod Grown
--- Groups of edges, and sides.
-mod GroupLemmas
+-- Edges that lead upwards, and their sides.
 mod Collected
 mod SideLemmas
 -- What wrong bodies would give.

@@ -1,7 +1,7 @@
 -- Depths by a search, and trees.
 pub mod Depths
 pub mod Trees
-pub mod Groups
+pub mod Sides
 pub mod Upward
 pub mod Decided
 pub mod Orders

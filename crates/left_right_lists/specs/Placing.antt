@@ -5,7 +5,6 @@ use Rattle.map_theory.specs.Maps.{Dart}
 use Rattle.graphs.specs.Graphs.{EdgeGraph, has_edge}
 use Rattle.left_right_maps.specs.RootedMaps.{is_child}
 use Rattle.left_right_lists.specs.Trees.{joined}
-use Rattle.left_right_lists.specs.Groups.{Group}
 use Rattle.left_right_lists.specs.Orders.{IsOrderOf}
 use Rattle.left_right_lists.specs.Blocks.{is_item, returned, block, opens_in, AreValues}
 use Rattle.left_right_lists.specs.declared.tree.Tree.{Tree}
@@ -33,12 +32,12 @@ HasChildren n tree opens v =
     (u : ℕ) → is_child (slice_index tree.parents.items) (slice_index tree.depths.items) v u ≡ true → n - 1 - slice_index tree.number.items u < length opens
 
 -- v's edges can be put in order
-abbrev pub IsReady : EdgeGraph → Tree → List Group → List (List Dart) → ℕ → Type 0
+abbrev pub IsReady : EdgeGraph → Tree → List Bool → List (List Dart) → ℕ → Type 0
 IsReady graph tree sides opens v =
     (marks : List Bool) (rows : List (List Dart)) → AreTablesAt graph tree opens v marks rows → (us : List ℕ) × IsOrderOf tree.depths.items sides rows marks us
 
 -- these are v's edges in order
-pub record IsOrderAt (graph : EdgeGraph) (tree : Tree) (sides : List Group) (opens : List (List Dart)) (v : ℕ) (us : List ℕ) : Type 0 where
+pub record IsOrderAt (graph : EdgeGraph) (tree : Tree) (sides : List Bool) (opens : List (List Dart)) (v : ℕ) (us : List ℕ) : Type 0 where
   pub marks : List Bool
   pub rows : List (List Dart)
   pub tables : AreTablesAt graph tree opens v marks rows

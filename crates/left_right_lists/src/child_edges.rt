@@ -81,7 +81,7 @@ impl<'a> TreeVertex<'a> {
     pub(crate) fn order(
         &self,
         alloc: Global,
-        sides: &[(u32, bool)],
+        sides: &[bool],
         returned: &ItemLists<(u16, u16)>,
     ) -> Result<Vec<u16>, AllocError>
         requires returned { AreValues (returned_at self.now.rooted.graph.now.n self.now.rooted.tree.now self.now.opens.now self.now.v) [] returned.now self.now.rooted.graph.now.n }

@@ -4,8 +4,8 @@ ghost use Rattle.map_lists.specs.Lists.{Lists};
 ghost use Rattle.embed_theorem.specs.Expanded.{IsMapOf};
 ghost use Rattle.left_right_lists.specs.Decided.{HasMap};
 
-use crate::fork_demands::sides_of;
 use crate::return_edges::{RootedGraph, upward_of};
+use crate::side_tables::sides_of;
 use graphs::Graph;
 use map_lists::Rotations;
 use std::alloc::{AllocError, Global};
@@ -20,7 +20,7 @@ pub fn map_of_graph(alloc: Global, graph: &Graph) -> Result<Option<Rotations>, A
         return Ok(None);
     }
     let up = upward_of(alloc, graph)?;
-    let Some(sides) = sides_of(alloc, graph, &up)? else {
+    let Some(sides) = sides_of(alloc, &up)? else {
         return Ok(None);
     };
     let rooted = RootedGraph {

@@ -1,10 +1,10 @@
 //! An order of the edges of a fork by the sides of their return edges: one that may precede all others goes first.
 ghost use Rattle.std.specs.Prelude.{◌≡◌, ◌<◌, ◌↔◌, ℕ, List, length, slice_index, IsTrue, IfOk, MatchOption};
 ghost use Rattle.left_right_maps.specs.Orders.{MayAllPrecede};
-ghost use Rattle.left_right_lists.specs.Groups.{side_in};
+ghost use Rattle.left_right_lists.specs.Sides.{side_in};
 ghost use Rattle.left_right_lists.specs.Orders.{IsFree, IsFirst, IsOrderOf};
 
-use crate::side_groups::group;
+use crate::side_tables::is_left;
 use left_right_check::entry;
 use map_lists::ItemLists;
 use std::alloc::{AllocError, Global};
@@ -18,11 +18,11 @@ fn is_free(free: &[bool], u: u16) -> bool
 }
 
 /// What orders the edges of a vertex: `returns` lists the return edges by each, and `sides` has their sides, in a table
-/// for [`group`]. `depths` has the depth of each of the `n` vertices.
+/// for [`is_left`]. `depths` has the depth of each of the `n` vertices.
 #[derive(Clone, Copy)]
 pub(crate) struct Choice<'a> {
     pub depths: &'a [u16],
-    pub sides: &'a [(u32, bool)],
+    pub sides: &'a [bool],
     pub returns: &'a ItemLists<(u16, u16)>,
     pub n: u16,
     ghost lists: { length returns.now ≡ n },
@@ -38,10 +38,10 @@ impl<'a> Choice<'a> {
             for e in es {
                 let early = entry(self.depths, d.1);
                 let late = entry(self.depths, e.1);
-                if group(self.sides, *e).1 && early < late {
+                if is_left(self.sides, *e) && early < late {
                     return false;
                 }
-                if !group(self.sides, *d).1 && late < early {
+                if !is_left(self.sides, *d) && late < early {
                     return false;
                 }
             }

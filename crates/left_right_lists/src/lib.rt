@@ -1,20 +1,19 @@
 //! A planarity test whose yes and no are both proved, and a map of each planar graph.
 //!
 //! A graph has a map of genus zero exactly where the return edges (back edges) of a depth-first tree have a left-right
-//! partition. All that forks demand of their sides is met in a table of groups, or there is no such partition. By these
-//! sides the vertices are placed one by one, the last of the tree's order first, and their entries are a map's lists.
+//! partition. `left_right_sides` finds one, or that there is none. By these sides the vertices are placed one by one, the last
+//! of the tree's order first, and their entries are a map's lists.
 #![tactic(auto)]
 
 mod child_edges;
 mod decide;
 mod edge_orders;
 mod entry_blocks;
-mod fork_demands;
 mod joined_forest;
 mod lists_of_entries;
 mod return_edges;
 mod search_depths;
-mod side_groups;
+mod side_tables;
 mod tree;
 mod vertex_entries;
 

@@ -1,14 +1,13 @@
-//! The return edges of a graph and its depth-first tree at a vertex, and all edges from lower to upper end.
+//! A graph with its depth-first tree, and all edges from lower to upper end.
 ghost use Rattle.std.specs.Prelude.{◌≡◌, ◌<◌, ◌-◌, ◌↔◌, ◌++◌, ◌∷◌, [], cond, slice_index, true, IsTrue, IfOk};
-ghost use Rattle.left_right_laws.specs.Forests.{IsAbove};
 ghost use Rattle.left_right_maps.specs.RootedMaps.{is_child as is_child_in};
 ghost use Rattle.left_right_lists.specs.Trees.{joined as joined_in};
-ghost use Rattle.left_right_lists.specs.Groups.{IsRising, Returns};
+ghost use Rattle.left_right_lists.specs.Sides.{IsRising};
 ghost use Rattle.left_right_lists.specs.Upward.{IsUpward};
 
 use crate::tree::{Tree, tree_of};
 use graphs::Graph;
-use left_right_check::{after_steps, entry};
+use left_right_check::entry;
 use map_lists::VertexId;
 use std::alloc::{AllocError, Global};
 
@@ -56,42 +55,6 @@ impl<'a> RootedGraph<'a> {
         self.is_child(u, v) || self.is_child(v, u)
     }
 
-    // Says whether vertex `u` is `v` or an ancestor of it.
-    fn is_above(&self, u: u16, v: u16) -> bool
-        ensures { IsTrue result ↔ IsAbove (slice_index self.now.tree.now.parents.items) (slice_index self.now.tree.now.depths.items) u v }
-    {
-        let high = entry(&self.tree.depths, u);
-        let low = entry(&self.tree.depths, v);
-        if low < high {
-            return false;
-        }
-        after_steps(&self.tree.parents, v, low - high) == u
-    }
-
-    /// Says whether `d`, an edge from its lower end to its upper one, is a return edge of `v` by its edge to `next`. It
-    /// ends above `v`, and the tree path from `v` down to `d.0`, with `d` after it, begins with that edge.
-    pub(crate) fn is_return(&self, v: u16, next: u16, d: (u16, u16)) -> bool
-        requires { joined_in self.now.graph.now self.now.tree.now.parents.items self.now.tree.now.depths.items d.0 d.1 ≡ true }
-        ensures { IsTrue result ↔ Returns self.now.graph.now self.now.tree.now.parents.items self.now.tree.now.depths.items v next d }
-    {
-        if entry(&self.tree.depths, d.1) >= entry(&self.tree.depths, v) {
-            return false;
-        }
-        if next == entry(&self.tree.parents, v) {
-            return false;
-        }
-        if !self.is_above(d.1, v) || !self.is_above(v, d.0) {
-            return false;
-        }
-        if d.0 == v {
-            return next == d.1;
-        }
-        let steps = entry(&self.tree.depths, d.0)
-            .saturating_sub(entry(&self.tree.depths, v))
-            .saturating_sub(1);
-        next == after_steps(&self.tree.parents, d.0, steps)
-    }
-
     // Says whether `d` is an edge of the graph or the tree, from its deeper end to the other.
     fn is_rising(&self, d: (u16, u16)) -> bool
         ensures { IsTrue result ↔ IsRising self.now.graph.now self.now.tree.now.parents.items self.now.tree.now.depths.items d }
@@ -105,7 +68,7 @@ impl<'a> RootedGraph<'a> {
 pub(crate) struct Upward {
     /// The tree.
     pub tree: Tree,
-    /// The edges of the graph and the tree, from their lower ends to their upper ones.
+    /// The edges of the graph and the tree, from their lower ends to their upper ones, each once.
     pub darts: Vec<(u16, u16)>,
 }
 

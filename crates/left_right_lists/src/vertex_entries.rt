@@ -4,7 +4,7 @@ ghost use Rattle.map_lists.specs.Lists.{Lists};
 ghost use Rattle.embed_theorem.specs.Expanded.{IsMapOf};
 ghost use Rattle.left_right_maps.specs.RootedMaps.{joined as joined_lists};
 ghost use Rattle.left_right_lists.specs.Trees.{IsTreeOf, AreSides};
-ghost use Rattle.left_right_lists.specs.Groups.{side_in};
+ghost use Rattle.left_right_lists.specs.Sides.{side_in};
 ghost use Rattle.left_right_lists.specs.Placing.{AreRows};
 
 use crate::child_edges::TreeVertex;
@@ -35,7 +35,7 @@ impl<'a> RootedGraph<'a> {
     pub(crate) fn all_entries(
         &self,
         alloc: Global,
-        sides: &[(u32, bool)],
+        sides: &[bool],
     ) -> Result<ItemLists<u16>, AllocError>
         requires tree { IsTreeOf self.now.graph.now self.now.tree.now }
         requires sides { AreSides self.now.graph.now self.now.tree.now.parents.items self.now.tree.now.depths.items (side_in sides.now) }

@@ -10,17 +10,14 @@ use graphs::Graph;
 pub const FEW: u32 = 27;
 
 // A table of 32 bit sets, each a number.
-#[derive(Drop)]
+#[derive(Clone, Copy)]
 struct Bits {
     cells: [u32; 32],
 }
 
 impl Bits {
-    // Returns a table of empty sets.
-    #[inline(always)]
-    fn new() -> Bits {
-        Bits { cells: [0; 32] }
-    }
+    // The table of empty sets.
+    const FRESH: Bits = Bits { cells: [0; 32] };
 
     // Returns the set at index `place` modulo 32.
     #[inline(always)]
@@ -36,7 +33,7 @@ impl Bits {
 }
 
 /// A graph of few vertices as sets of neighbours, and the tables of the search in it.
-#[derive(Drop)]
+#[derive(Clone, Copy)]
 pub struct Few {
     // for each vertex the set of its neighbours
     near: Bits,
@@ -103,15 +100,12 @@ fn order_of(depth: u32, head: u32) -> u32 {
 }
 
 impl Few {
-    /// Returns the tables of a graph without vertices.
-    #[inline(always)]
-    pub fn new() -> Few {
-        Few {
-            near: Bits::new(),
-            way: Bits::new(),
-            returns: Bits::new(),
-        }
-    }
+    /// The tables of a graph without vertices.
+    pub const FRESH: Few = Few {
+        near: Bits::FRESH,
+        way: Bits::FRESH,
+        returns: Bits::FRESH,
+    };
 
     // Reads the edges from the vertex of `at` to lesser ones, given as the bits of `row`, of which the lowest is for
     // the vertex just before it. Fills in the neighbour sets of both ends and, in `links`, the heads of the darts.
@@ -135,7 +129,7 @@ impl Few {
     /// Reads the edges of `graph`, of at most `FEW` vertices, into neighbour sets and into `links`: heads, degrees and
     /// counts, but no lists. Returns the edge count.
     pub fn read(&mut self, graph: &Graph, links: &mut Links) -> u32 {
-        self.near = Bits::new();
+        self.near = Bits::FRESH;
         let mut held = 0u32;
         let mut count = 0u32;
         let mut at = Pairs {

@@ -4,14 +4,14 @@ ghost use Rattle.left_right_check.specs.Ties.{AreTied, HasNoMap};
 
 use crate::conflict_ring::{OddRing, branch_of, near_edge};
 use crate::dart_lists::Links;
-use crate::fixed_tables::{ByVertex, NONE};
+use crate::fixed_tables::{ByVertex, NONE, VERTEX_ZEROS};
 use crate::planarity_test::LeftRightTest;
 use crate::search_tables::Search;
 use graphs::Graph;
 use left_right_check::{Fork, Pair, ReturnEdge, RootedForest, is_forest, turned};
 
 /// The rooted forest of a search, by parents and depths.
-#[derive(Drop)]
+#[derive(Clone, Copy)]
 pub struct Forest {
     /// For each vertex its parent.
     pub parents: ByVertex,
@@ -20,14 +20,11 @@ pub struct Forest {
 }
 
 impl Forest {
-    /// Returns tables of no forest.
-    #[inline(always)]
-    pub fn new() -> Forest {
-        Forest {
-            parents: ByVertex::new(),
-            depths: ByVertex::new(),
-        }
-    }
+    /// The tables of no forest.
+    pub const FRESH: Forest = Forest {
+        parents: VERTEX_ZEROS,
+        depths: VERTEX_ZEROS,
+    };
 
     /// Overwrites the tables by the forest of `search`. A root gets depth 0, and its parent entry stays as it was.
     pub fn read(&mut self, links: &Links, search: &Search) {

@@ -1,6 +1,8 @@
 //! The ring of ties that shows a conflict: return edges, each tied to the next, back to the first on the other side.
 use crate::dart_lists::Links;
-use crate::fixed_tables::{ByArc, ByDart, ByEdge, NONE, plus, twice};
+use crate::fixed_tables::{
+    ARC_ZEROS, ByArc, ByDart, ByEdge, DART_ZEROS, EDGE_ZEROS, NONE, plus, twice,
+};
 use crate::search_tables::Search;
 use crate::side_ties::Ties;
 
@@ -8,7 +10,7 @@ use crate::side_ties::Ties;
 const UNSEEN: u32 = 2;
 
 /// The tables of a breadth-first search along ties, and the ring that it found.
-#[derive(Drop)]
+#[derive(Clone, Copy)]
 pub struct OddRing {
     // for each return edge its first tie end; end 2k goes along tie k from its one edge, 2k + 1 from the other
     first: ByArc,
@@ -33,22 +35,19 @@ pub struct OddRing {
 }
 
 impl OddRing {
-    /// Returns tables of no ring.
-    #[inline(always)]
-    pub fn new() -> OddRing {
-        OddRing {
-            first: ByArc::new(),
-            next: ByDart::new(),
-            way: ByArc::new(),
-            side: ByArc::new(),
-            queue: ByEdge::new(),
-            reached: 0,
-            low: 0,
-            high: 0,
-            one: NONE,
-            other: NONE,
-        }
-    }
+    /// The tables of no ring.
+    pub const FRESH: OddRing = OddRing {
+        first: ARC_ZEROS,
+        next: DART_ZEROS,
+        way: ARC_ZEROS,
+        side: ARC_ZEROS,
+        queue: EDGE_ZEROS,
+        reached: 0,
+        low: 0,
+        high: 0,
+        one: 0,
+        other: 0,
+    };
 
     // Puts `end`, one end of a tie, into the list of the ties of its return edge `edge`.
     #[inline(always)]

@@ -1,9 +1,9 @@
 //! Doubly linked lists of the darts at each vertex. The darts of edge e are 2e and 2e + 1, each the other's twin.
-use crate::fixed_tables::{ByDart, ByVertex, NONE, minus, plus, twice};
+use crate::fixed_tables::{ByDart, ByVertex, DART_ZEROS, NONE, VERTEX_ZEROS, minus, plus, twice};
 use crate::graph_edges::Edges;
 
 /// For each vertex the doubly linked list of its darts.
-#[derive(Drop)]
+#[derive(Clone, Copy)]
 pub struct Links {
     /// How many vertices there are.
     pub vertices: u32,
@@ -22,19 +22,16 @@ pub struct Links {
 }
 
 impl Links {
-    /// Returns empty lists, of no vertices.
-    #[inline(always)]
-    pub fn new() -> Links {
-        Links {
-            vertices: 0,
-            darts: 0,
-            first: ByVertex::new(),
-            degree: ByVertex::new(),
-            next: ByDart::new(),
-            prev: ByDart::new(),
-            head: ByDart::new(),
-        }
-    }
+    /// The empty lists, of no vertices.
+    pub const FRESH: Links = Links {
+        vertices: 0,
+        darts: 0,
+        first: VERTEX_ZEROS,
+        degree: VERTEX_ZEROS,
+        next: DART_ZEROS,
+        prev: DART_ZEROS,
+        head: DART_ZEROS,
+    };
 
     /// Empties all lists, for as many vertices and edges as `edges` has.
     pub fn begin(&mut self, edges: &Edges) {

@@ -3,7 +3,10 @@ ghost use Rattle.std.specs.Prelude.{◌≡◌, ◌<◌, length, IfOk};
 ghost use Rattle.map_lists.specs.Cuts.{AreCuts};
 
 use crate::dart_lists::Links;
-use crate::fixed_tables::{ByArc, ByDart, ByVertex, MANY_DARTS, MANY_STEPS, NONE, minus, plus};
+use crate::fixed_tables::{
+    ARC_ZEROS, ByArc, ByDart, ByVertex, DART_ZEROS, MANY_DARTS, MANY_STEPS, NONE, VERTEX_ZEROS,
+    minus, plus,
+};
 use crate::search_tables::Search;
 use crate::settled_sides::settle_leaving;
 use map_lists::Rotations;
@@ -11,7 +14,7 @@ use std::alloc::AllocError;
 
 /// The rotation lists being made, and where the twins of return edges go in them: left or right of the tree dart
 /// towards the tail of the return edge.
-#[derive(Drop)]
+#[derive(Clone, Copy)]
 pub struct Places {
     // for each vertex on the way to the search the first return edge whose twin is left of the way's dart out of it
     left: ByVertex,
@@ -28,18 +31,15 @@ pub struct Places {
 }
 
 impl Places {
-    /// Returns tables of no lists.
-    #[inline(always)]
-    pub fn new() -> Places {
-        Places {
-            left: ByVertex::new(),
-            right: ByVertex::new(),
-            next: ByArc::new(),
-            entries: ByDart::new(),
-            count: 0,
-            place: ByVertex::new(),
-        }
-    }
+    /// The tables of no lists.
+    pub const FRESH: Places = Places {
+        left: VERTEX_ZEROS,
+        right: VERTEX_ZEROS,
+        next: ARC_ZEROS,
+        entries: DART_ZEROS,
+        count: 0,
+        place: VERTEX_ZEROS,
+    };
 
     // Puts the return edge `dart` at the front of a chain of twins at its head `head`. The chain is that left or right
     // of the tree dart there, by the settled side of `dart` in `search`.

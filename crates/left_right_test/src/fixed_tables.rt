@@ -14,7 +14,7 @@ pub const MANY_DARTS: u32 = 2048;
 pub const MANY_STEPS: u32 = 4096;
 
 /// A table of `N` numbers, whose index is taken modulo `N`.
-#[derive(Drop)]
+#[derive(Clone, Copy)]
 pub struct Row<const N: usize> {
     cells: [u16; N],
 }
@@ -28,15 +28,16 @@ pub type ByEdge = Row<1024>;
 /// A table of numbers by dart.
 pub type ByDart = Row<2048>;
 
-impl<const N: usize> Row<N> {
-    /// Returns a table of zeros.
-    #[inline(always)]
-    pub fn new() -> Row<N>
-        requires { N < 4096 }
-    {
-        Row { cells: [0u16; N] }
-    }
+/// The table by vertex in which each number is 0.
+pub const VERTEX_ZEROS: ByVertex = Row { cells: [0; 256] };
 
+/// The table by edge in which each number is 0.
+pub const EDGE_ZEROS: ByEdge = Row { cells: [0; 1024] };
+
+/// The table by dart in which each number is 0.
+pub const DART_ZEROS: ByDart = Row { cells: [0; 2048] };
+
+impl<const N: usize> Row<N> {
     /// Returns the number at index `place` modulo the length.
     #[inline(always)]
     pub fn get(&self, place: u32) -> u32
@@ -72,20 +73,15 @@ impl<const N: usize> Row<N> {
 }
 
 /// A table of numbers by edge, indexed by either of the edge's darts.
-#[derive(Drop)]
+#[derive(Clone, Copy)]
 pub struct ByArc {
     edges: ByEdge,
 }
 
-impl ByArc {
-    /// Returns a table of zeros.
-    #[inline(always)]
-    pub fn new() -> ByArc {
-        ByArc {
-            edges: ByEdge::new(),
-        }
-    }
+/// The table by edge or dart in which each number is 0.
+pub const ARC_ZEROS: ByArc = ByArc { edges: EDGE_ZEROS };
 
+impl ByArc {
     /// Writes `number` for the first `count` edges, or for all where there are fewer.
     #[inline(always)]
     pub fn fill(&mut self, count: u32, number: u32) {

@@ -1,11 +1,11 @@
 //! The edges of a graph by number, read out of the bits of its graph6 line and chained to darts.
 use crate::bitwise_orientation::{FEW, Few};
 use crate::dart_lists::Links;
-use crate::fixed_tables::{ByEdge, minus, plus, twice};
+use crate::fixed_tables::{ByEdge, EDGE_ZEROS, minus, plus, twice};
 use graphs::Graph;
 
 /// The edges of a graph by number, each with its two ends.
-#[derive(Drop)]
+#[derive(Clone, Copy)]
 pub struct Edges {
     /// How many vertices there are.
     pub vertices: u32,
@@ -20,17 +20,14 @@ pub struct Edges {
 }
 
 impl Edges {
-    /// Returns a table of no edges.
-    #[inline(always)]
-    pub fn new() -> Edges {
-        Edges {
-            vertices: 0,
-            count: 0,
-            size: 0,
-            one: ByEdge::new(),
-            other: ByEdge::new(),
-        }
-    }
+    /// The table of no edges.
+    pub const FRESH: Edges = Edges {
+        vertices: 0,
+        count: 0,
+        size: 0,
+        one: EDGE_ZEROS,
+        other: EDGE_ZEROS,
+    };
 
     /// Appends the edge between `u` and `v`.
     #[inline(always)]

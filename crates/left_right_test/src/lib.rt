@@ -22,7 +22,9 @@ mod side_ties;
 pub use conflict_ring::{OddRing, branch_of, near_edge};
 pub use dart_lists::Links;
 pub use embedding::ends_of;
-pub use fixed_tables::{ByDart, ByEdge, ByVertex, NONE, minus, plus, twice};
+pub use fixed_tables::{
+    ByDart, ByEdge, ByVertex, DART_ZEROS, EDGE_ZEROS, NONE, VERTEX_ZEROS, minus, plus, twice,
+};
 pub use graph_edges::Edges;
 pub use planarity_test::LeftRightTest;
 pub use search_tables::Search;

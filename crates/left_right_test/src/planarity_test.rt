@@ -18,7 +18,7 @@ use map_lists::Rotations;
 use std::alloc::AllocError;
 
 /// The tables of the left-right planarity test, which serve one graph after another.
-#[derive(Drop)]
+#[derive(Clone, Copy)]
 pub struct LeftRightTest {
     /// The edges of which it asks whether they are planar.
     pub links: Links,
@@ -34,19 +34,16 @@ pub struct LeftRightTest {
 }
 
 impl LeftRightTest {
-    /// Returns the tables before the first graph. They take no memory of an allocator.
-    #[inline(always)]
-    pub fn new() -> LeftRightTest {
-        LeftRightTest {
-            links: Links::new(),
-            search: Search::new(),
-            ring: OddRing::new(),
-            places: Places::new(),
-            few: Few::new(),
-            is_few: false,
-            forest: Forest::new(),
-        }
-    }
+    /// The tables before the first graph, each number 0: where a static has them, memory is made of it with no copy.
+    pub const FRESH: LeftRightTest = LeftRightTest {
+        links: Links::FRESH,
+        search: Search::FRESH,
+        ring: OddRing::FRESH,
+        places: Places::FRESH,
+        few: Few::FRESH,
+        is_few: false,
+        forest: Forest::FRESH,
+    };
 
     /// Reads `graph` into the tables and into `edges`, and forgets the conflict of an earlier graph.
     pub fn begin(&mut self, edges: &mut Edges, graph: &Graph) {

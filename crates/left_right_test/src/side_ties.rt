@@ -1,5 +1,5 @@
 //! Ties: pairs of return edges that must lie on one side or on different sides.
-use crate::fixed_tables::{ByEdge, plus};
+use crate::fixed_tables::{ByEdge, EDGE_ZEROS, plus};
 
 /// A pair of return edges of which one's side follows from the other's.
 #[derive(Clone, Copy)]
@@ -15,7 +15,7 @@ pub struct Tie {
 }
 
 /// Ties in the order in which they were found. None of them follows from others.
-#[derive(Drop)]
+#[derive(Clone, Copy)]
 pub struct Ties {
     /// How many there are.
     pub count: u32,
@@ -30,17 +30,14 @@ pub struct Ties {
 }
 
 impl Ties {
-    /// Returns a table of no ties.
-    #[inline(always)]
-    pub fn new() -> Ties {
-        Ties {
-            count: 0,
-            one: ByEdge::new(),
-            other: ByEdge::new(),
-            dart: ByEdge::new(),
-            turn: ByEdge::new(),
-        }
-    }
+    /// The table of no ties.
+    pub const FRESH: Ties = Ties {
+        count: 0,
+        one: EDGE_ZEROS,
+        other: EDGE_ZEROS,
+        dart: EDGE_ZEROS,
+        turn: EDGE_ZEROS,
+    };
 
     /// Appends `tie` to the table.
     #[inline(always)]

@@ -1,4 +1,5 @@
 -- Lines of graphs as a format of runs.
+use Rattle.std.specs.Prelude.{ℕ, ◌+◌, Bool, true, false}
 use Rattle.record_runs.specs.Texts.{Reads}
 use Rattle.graphs.specs.Graphs.{EdgeGraph}
 use Rattle.line_inputs.specs.GraphLinesReading.{IsReading, BeginsWith}
@@ -11,6 +12,19 @@ IsBad Well = ⊥
 IsBad (BadLine k) = Unit {0}
 IsBad (Limit k) = Unit {0}
 IsBad TooLong = Unit {0}
+
+abbrev pub ended_well : Ending → Bool
+ended_well Well = true
+ended_well (BadLine k) = false
+ended_well (Limit k) = false
+ended_well TooLong = false
+
+-- an ending as it is in a longer input, with so many lines before this one
+abbrev pub ending_behind : ℕ → Ending → Ending
+ending_behind lines Well = Well
+ending_behind lines (BadLine k) = BadLine (lines + k)
+ending_behind lines (Limit k) = Limit (lines + k)
+ending_behind lines TooLong = TooLong
 
 abbrev pub graph_lines : Reads EdgeGraph Ending
 graph_lines = record {

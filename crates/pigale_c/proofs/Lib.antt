@@ -5,7 +5,11 @@ mod EdgeLemmas
 mod EdgeListLemmas
 mod EmbedLemmas
 mod FailureLemmas
+mod LabelLemmas
+mod ManyFigureLemmas
+mod ManyGraphLemmas
 mod ManyLemmas
 mod Refused
 mod RunLemmas
+mod WalkLemmas
 mod WordLemmas

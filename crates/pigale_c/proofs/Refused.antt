@@ -1,5 +1,10 @@
 -- Wrong bodies that the clauses exclude.
-use Rattle.std.proofs.Common.{◌≡◌, ℕ, List, [], ◌∷◌, ℤ, pos, length, refl, ap, ◌∙◌, arith, lit<}
+use Rattle.std.proofs.Common.{◌≡◌, ℕ, List, [], ◌∷◌, ℤ, pos, length, Option, refl, sym, ap, ◌∙◌, subst, arith, lit<}
+use Rattle.std.specs.Prelude.{IsSome}
+use Rattle.std.proofs.lemmas.List.Elements.{Contains-get_or}
+use Rattle.map_lists.specs.Lists.{Lists}
+use Rattle.map_theory.specs.Maps.{Dart, HasDart}
+use Rattle.half_edges.specs.Map.{IsLive}
 use Rattle.pg_plane.specs.declared.grid_points.Point.{Point}
 use Rattle.plane_drawings.specs.Drawing.{place}
 use Rattle.draw_check.specs.declared.verdict.Verdict.TheVariants.{Yes}
@@ -10,6 +15,7 @@ use Rattle.pigale_c.specs.EdgeDrawings.{IsJudgedEdges}
 use Rattle.pigale_c.specs.EdgeFailures.{IsGraphOf}
 use Rattle.pigale_c.specs.Judged.{IsJudged}
 use Rattle.pigale_c.specs.Embedded.{IsEmbedded}
+use Rattle.pigale_c.specs.Walked.{IsFaced}
 use Rattle.refusals.specs.declared.conditions.Refusal.TheVariants.{Small}
 use Rattle.pigale_c.specs.declared.counts.Counts.{Counts}
 use Rattle.pigale_c.specs.declared.edges.EdgeEnds.{EdgeEnds}
@@ -53,3 +59,12 @@ check_of_edges_says_yes judged =
 -- a map called planar that has two edges between the same vertices: the second is left out
 edge_left_out : (graph : EdgeGraph) → length graph.edges ≡ 1 → ¬ IsGraphOf 3 (record { a = 0; b = 1 } ∷ record { a = 1; b = 0 } ∷ []) graph
 edge_left_out graph one is = omega (arith, one, is.count)
+
+-- faces of a map with an edge, none of which is written: each dart stands in a walk
+faces_left_out : ¬ IsFaced ((1 ∷ []) ∷ (0 ∷ []) ∷ []) []
+faces_left_out faced =
+    let dart : HasDart faced.map.lists 0 1 = subst (λ (lists : Lists). HasDart lists 0 1) (sym faced.lists_are) (lit< tt, Contains-get_or (1 ∷ []) 0 0 (lit< tt)) in
+    let id = faced.map.known.has_id 0 1 dart in
+    let live : IsLive faced.map id.0 = subst (λ (o : Option Dart). IsSome o) (sym id.1) refl in
+    let walk = faced.faces.all id.0 live in
+    omega (arith, walk.1, faced.tails.count)

@@ -18,7 +18,7 @@ use Rattle.pigale_c.specs.Written.{AreWritten, HasNoRoom}
 use Rattle.pigale_c.specs.declared.edges.EdgeEnds.{EdgeEnds}
 use Rattle.pigale_c.specs.declared.outcome.Outcome.{Outcome}
 use Rattle.pigale_c.specs.declared.outcome.Outcome.TheVariants.{Served, Failed, NotPlanar}
-use Rattle.pigale_c.specs.declared.outcome.Failure.TheVariants.{BadArgument}
+use Rattle.pigale_c.specs.declared.outcome.Failure.TheVariants.{BadArgument, NoMemory}
 
 -- the graph on n vertices with the edges of an array
 abbrev pub graph_in : ℕ → List EdgeEnds → EdgeGraph
@@ -58,6 +58,13 @@ pub record IsWitnessThere (graph : EdgeGraph) (kind : Kind) (ends vertices ends'
   pub paths : List (List VertexId)
   pub witness : IsWitness graph kind branch paths
   pub written : AreWritten (ends_from 0 paths) (map number (joined paths)) ends vertices ends' vertices'
+
+-- The paths of a witness of this kind stand at the fronts of two arrays; or they have no room for it, or memory was wanting, and they are as they were.
+abbrev pub IsWitnessPut : Kind → List (List VertexId) → List ℕ → List ℕ → List ℕ → List ℕ → Outcome → Type 0
+IsWitnessPut kind paths ends vertices ends' vertices' (NotPlanar told) = (told ≡ kind) × AreWritten (ends_from 0 paths) (map number (joined paths)) ends vertices ends' vertices'
+IsWitnessPut kind paths ends vertices ends' vertices' (Failed BadArgument) = HasNoRoom (ends_from 0 paths) (map number (joined paths)) ends vertices × (ends' ≡ ends) × (vertices' ≡ vertices)
+IsWitnessPut kind paths ends vertices ends' vertices' (Failed NoMemory) = (ends' ≡ ends) × (vertices' ≡ vertices)
+IsWitnessPut kind paths ends vertices ends' vertices' outcome = ⊥
 
 -- two arrays are too short for a map of the graph, or for the paths of a witness
 abbrev pub HasNoRoomFor : EdgeGraph → List ℕ → List ℕ → Type 0

@@ -11,6 +11,7 @@ pub mod BarArrays
 pub mod RectArrays
 pub mod Words
 pub mod Run
+pub mod PartRun
 pub mod Embedded
 pub mod EdgeFailures
 pub mod EdgeDrawings
@@ -18,3 +19,8 @@ pub mod Ordered
 pub mod Wooded
 pub mod StNumbers
 pub mod ManyMaps
+pub mod Walked
+pub mod ManyFigures
+pub mod ManyAnswers
+pub mod ManyGraphs
+pub mod Labelled

@@ -8,8 +8,7 @@ use Rattle.grid_figures.specs.declared.drawing_orders.completed_records.DrawingO
 use Rattle.pigale_c.specs.Arrays.{lists_in, IsGivenMap}
 use Rattle.pigale_c.specs.Drawn.{IsServed, IsFirstRefusal}
 use Rattle.pigale_c.specs.Failures.{Fails}
-use Rattle.pigale_c.specs.Run.{written_over}
-use Rattle.pigale_c.specs.Written.{AreWritten, HasNoRoom}
+use Rattle.pigale_c.specs.Written.{AreWritten, HasNoRoom, written_over}
 use Rattle.pigale_c.specs.declared.outcome.Outcome.{Outcome}
 use Rattle.pigale_c.specs.declared.outcome.Outcome.TheVariants.{Served, Failed}
 use Rattle.pigale_c.specs.declared.outcome.Failure.TheVariants.{BadArgument}

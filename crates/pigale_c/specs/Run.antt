@@ -1,5 +1,5 @@
 -- What a run over an input in memory writes, by the status with which it ends: what `pigale` says of a source that has the input, and of a sink with nothing written.
-use Rattle.std.specs.Prelude.{ℕ, ◌<◌, ◌≡◌, ◌≢◌, ◌⊎◌, List, [], ◌++◌, length, take, drop, Option, Some, None}
+use Rattle.std.specs.Prelude.{ℕ, ◌<◌, ◌≡◌, ◌≢◌, ◌⊎◌, List, [], length, Option, Some, None}
 use Rattle.pg_io.specs.Io.{WhereTold, Grows}
 use Rattle.pigale_shell.specs.Text.{bad_words_line}
 use Rattle.pigale_shell.specs.JobInput.{RecordOf, EndingOf, reads_of, left_of}
@@ -10,6 +10,7 @@ use Rattle.pigale_words.specs.Status.{status_number}
 use Rattle.pigale_words.specs.declared.job.Status.{Status}
 use Rattle.pigale_words.specs.declared.job.Status.TheVariants.{Done, SomeRefused, BadWords, BadInput, ReadFault, WriteFault, NoMemory}
 use Rattle.pigale_c.specs.Words.{GivesWords}
+use Rattle.pigale_c.specs.Written.{written_over}
 
 -- the words name a job, and this holds of it and its input
 abbrev pub OfJob : Option JobKind → List ℕ → (JobKind → List ℕ → Type 0) → Type 0
@@ -34,10 +35,6 @@ pub record IsRun (named : Option JobKind) (input : List ℕ) (status : Status) (
   pub no_memory : status ≡ NoMemory → GrowsByText named (Some input) (Some []) (Some text)
   -- the ending of the input decides the status, unless memory was wanting
   pub complete : (job : JobKind) (given : List ℕ) (records : List (RecordOf job)) (ending : EndingOf job) → named ≡ Some job → left_of job (Some input) ≡ Some given → (reads_of job).IsReading given records ending → status ≢ WriteFault → MayEnd job ending status
-
--- The bytes of an array after the first bytes of a text were written over it, as many as there is room for.
-abbrev pub written_over : List ℕ → List ℕ → List ℕ
-written_over old text = take (length old) text ++ drop (length text) old
 
 -- the words of a text were run over an input, or there was no memory for the words, and nothing was written
 abbrev pub RunsText : List ℕ → List ℕ → Status → List ℕ → Type 0

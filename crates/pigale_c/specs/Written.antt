@@ -1,5 +1,9 @@
 -- Lists written to the caller's arrays, as far as there is room for all of them.
-use Rattle.std.specs.Prelude.{ℕ, ◌<◌, ◌≤◌, ◌≡◌, ◌⊎◌, List, ◌++◌, length, drop}
+use Rattle.std.specs.Prelude.{ℕ, ◌<◌, ◌≤◌, ◌≡◌, ◌⊎◌, List, ◌++◌, length, take, drop}
+
+-- The bytes of an array after the first bytes of a text were written over it, as many as there is room for.
+abbrev pub written_over : List ℕ → List ℕ → List ℕ
+written_over old text = take (length old) text ++ drop (length text) old
 
 -- a text stands whole at the front of an array, and behind it what was there
 pub record IsFront (old text new : List ℕ) : Type 0 where

@@ -87,7 +87,11 @@ pub extern "C" fn pigale_check_bars(
 
 // Draws the map `given` by bars, if the arrays `bars` have the lengths of its figure; nothing else of them is read.
 // `Err` is `BadArgument`, the condition of a biconnected plane map that the map breaks, or `NoMemory`.
-fn drawn(given: &MapArrays<'_>, bars: &BarArrays<'_>) -> Result<BarFigure, Failure>
+fn drawn(
+    drawer: &mut BarDrawer,
+    given: &MapArrays<'_>,
+    bars: &BarArrays<'_>,
+) -> Result<BarFigure, Failure>
     ensures shape { IfOk result (AreBarsFor (length given.now.ends.now)) }
     ensures columns { IfOk result (λ fig. length fig.column ≡ length bars.now.column.now) }
     ensures given { IfOk result (λ fig. HasBarArrays given.now.ends.now given.now.neighbours.now (bars_in bars.now.y.now bars.now.x1.now bars.now.x2.now bars.now.column.now)) }
@@ -103,9 +107,29 @@ fn drawn(given: &MapArrays<'_>, bars: &BarArrays<'_>) -> Result<BarFigure, Failu
     if bars.column.len() != lists.total() / 2 {
         return Err(Failure::BadArgument);
     }
-    let mut drawer = BarDrawer::new(given.alloc);
     let figure = drawer.figure(&lists)?;
     Ok(figure)
+}
+
+/// Writes bars of the map `given`, which `drawer` draws, into `y`, `x1` and `x2`, and the columns of its edges into
+/// `column`. Returns `Served`, or why there are none, and then leaves all four arrays as they were.
+pub(crate) fn put_bars(
+    drawer: &mut BarDrawer,
+    given: &MapArrays<'_>,
+    y: &mut [i32],
+    x1: &mut [i32],
+    x2: &mut [i32],
+    column: &mut [i32],
+) -> Result<Outcome, Failure>
+    ensures { AreDrawnBars given.now.ends.now given.now.neighbours.now (bars_in y.old x1.old x2.old column.old) (bars_in y.new x1.new x2.new column.new) (outcome_of result) }
+{
+    let bars = BarArrays { y, x1, x2, column };
+    let fig = drawn(drawer, given, &bars)?;
+    y.copy_from_slice(fig.y.as_slice());
+    x1.copy_from_slice(fig.x1.as_slice());
+    x2.copy_from_slice(fig.x2.as_slice());
+    column.copy_from_slice(fig.column.as_slice());
+    Ok(Outcome::Served)
 }
 
 /// Draws a biconnected plane map (`neighbours` cut into lists at `ends`) by bars, in width f - 1 for f faces. Writes
@@ -129,15 +153,6 @@ pub extern "C" fn pigale_bars(
         ends,
         neighbours,
     };
-    let bars = BarArrays { y, x1, x2, column };
-    match drawn(&given, &bars) {
-        Ok(fig) => {
-            y.copy_from_slice(fig.y.as_slice());
-            x1.copy_from_slice(fig.x1.as_slice());
-            x2.copy_from_slice(fig.x2.as_slice());
-            column.copy_from_slice(fig.column.as_slice());
-            report(Ok(Outcome::Served), found)
-        }
-        Err(failure) => report(Err(failure), found),
-    }
+    let mut drawer = BarDrawer::new(alloc);
+    report(put_bars(&mut drawer, &given, y, x1, x2, column), found)
 }

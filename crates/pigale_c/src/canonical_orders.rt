@@ -2,9 +2,9 @@
 ghost use Rattle.pigale_c.specs.Ordered.{IsOrderWritten};
 ghost use Rattle.pigale_c.specs.Numbers.{Reports, outcome_of};
 
-use crate::embeds::numbers_of_vertices;
 use crate::map_arrays::{MapArrays, lists_of, put_front, put_lists};
 use crate::outcome::{Failure, Numbers, Outcome, report};
+use crate::witness_paths::numbers_of_vertices;
 use grid_figures::drawing_orders::drawing_order;
 use std::alloc::Global;
 

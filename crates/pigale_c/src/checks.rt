@@ -1,8 +1,11 @@
 //! Calls for C that judge straight-line drawings of maps, also those that are to be convex, and their outer faces.
 ghost use Rattle.std.specs.Prelude.{◌≡◌, Some, None, IfOk, IfErr};
+ghost use Rattle.std.specs.Bool.{OnTrue};
 ghost use Rattle.simple_maps.specs.Faults.{first_fault};
 ghost use Rattle.refusals.specs.Conditions.{fault_refusal};
 ghost use Rattle.plane_drawings.specs.Drawing.{HasPlaces};
+ghost use Rattle.draw_check.specs.Verdicts.{IsVerdict};
+ghost use Rattle.draw_check.specs.declared.verdict.Verdict.TheVariants.{Yes as NoFault};
 ghost use Rattle.pigale_c.specs.Arrays.{lists_in, points_in, IsGivenDrawing};
 ghost use Rattle.pigale_c.specs.Judged.{IsBendVerdict, IsJudged, IsJudgedConvex, IsJudgedOuter};
 ghost use Rattle.pigale_c.specs.Failures.{Fails};
@@ -12,6 +15,7 @@ use crate::map_arrays::{MapArrays, lists_of, points_of};
 use crate::outcome::{Failure, Numbers, Outcome, report};
 use convex_check::{ConvexVerdict, check_convex_points};
 use draw_check::{OuterVerdict, Verdict, check_outer, check_points};
+use figure_verdicts::is_drawn_triangulation;
 use half_edges::{HalfMap, VertexId};
 use pg_plane::{GridFigure, Point, Points};
 use std::alloc::{AllocError, Global};
@@ -40,11 +44,38 @@ fn drawing_of(given: &MapArrays<'_>, x: &[i32], y: &[i32]) -> Result<Drawing, Fa
     Ok(Drawing { map, points })
 }
 
-// Returns the verdict on the drawing of the map `given` with straight edges, at the points of `x` and `y`, in the grid
-// from (0, 0) to `corner`. `Err` says why there is none: bad arrays, no simple map, or no memory.
-fn judged(given: &MapArrays<'_>, x: &[i32], y: &[i32], corner: Point) -> Result<Outcome, Failure>
+// Says whether a quick test, with no half-edge map, shows that the map `given` is a triangulation validly drawn at the
+// points of `x` and `y`, in the grid from (0, 0) to `corner`. False promises nothing.
+fn is_seen_valid(given: &MapArrays<'_>, x: &[i32], y: &[i32], corner: Point) -> bool
+    ensures { OnTrue result (IsGivenDrawing given.now.ends.now given.now.neighbours.now x.now y.now
+        × (first_fault (lists_in given.now.ends.now given.now.neighbours.now) ≡ None)
+        × IsVerdict (lists_in given.now.ends.now given.now.neighbours.now) (points_in x.now y.now) corner.x corner.y NoFault) }
+{
+    if given.neighbours.len().wrapping_add(12) != given.ends.len().wrapping_mul(6) {
+        return false;
+    }
+    let Ok(lists) = lists_of(given.alloc, given.ends, given.neighbours) else {
+        return false;
+    };
+    let Ok(points) = points_of(given.alloc, given.ends.len(), x, y) else {
+        return false;
+    };
+    is_drawn_triangulation(given.alloc, &lists, &points, corner)
+}
+
+/// Returns the verdict on the drawing of the map `given` with straight edges, at the points of `x` and `y`, in the grid
+/// from (0, 0) to `corner`. `Err` says why there is none: bad arrays, no simple map, or no memory.
+pub(crate) fn judged(
+    given: &MapArrays<'_>,
+    x: &[i32],
+    y: &[i32],
+    corner: Point,
+) -> Result<Outcome, Failure>
     ensures { IsJudged given.now.ends.now given.now.neighbours.now x.now y.now corner.x corner.y (outcome_of result) }
 {
+    if is_seen_valid(given, x, y, corner) {
+        return Ok(Outcome::Drawing(Verdict::Yes));
+    }
     let drawing = drawing_of(given, x, y)?;
     let verdict = check_points(&drawing.map, &drawing.points, corner);
     Ok(Outcome::Drawing(verdict))

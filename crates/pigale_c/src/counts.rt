@@ -2,9 +2,9 @@
 ghost use Rattle.pigale_c.specs.Counted.{IsCounted};
 ghost use Rattle.pigale_c.specs.Numbers.{Reports, outcome_of};
 
-use crate::map_arrays::lists_of;
+use crate::map_arrays::{MapArrays, lists_of};
 use crate::outcome::{Failure, Numbers, Outcome, report};
-use euler_faces::count_lists;
+use euler_faces::Counter;
 use std::alloc::Global;
 
 /// The counts of a simple map.
@@ -23,17 +23,17 @@ pub struct Counts {
     pub genus: u32,
 }
 
-// Writes the counts of the map (`neighbours` cut into lists at `ends`) to `counts`, or returns why there are none.
-fn count(
-    alloc: Global,
-    ends: &[usize],
-    neighbours: &[u16],
+/// Writes the counts of the map `given`, which `counter` counts, to `counts`. Returns `Served`, or why there are none,
+/// and then leaves `counts` as it was.
+pub(crate) fn put_counts(
+    counter: &mut Counter,
+    given: &MapArrays<'_>,
     counts: &mut Counts,
 ) -> Result<Outcome, Failure>
-    ensures { IsCounted ends.now neighbours.now counts.old counts.new (outcome_of result) }
+    ensures { IsCounted given.now.ends.now given.now.neighbours.now counts.old counts.new (outcome_of result) }
 {
-    let lists = lists_of(alloc, ends, neighbours)?;
-    let count = count_lists(alloc, &lists)?;
+    let lists = lists_of(given.alloc, given.ends, given.neighbours)?;
+    let count = counter.count(&lists)?;
     *counts = Counts {
         n: count.n,
         m: count.m,
@@ -56,5 +56,10 @@ pub extern "C" fn pigale_count(
 ) -> u8
     ensures { Reports (IsCounted ends.now neighbours.now counts.old counts.new) result found.new }
 {
-    report(count(alloc, ends, neighbours, counts), found)
+    let given = MapArrays {
+        alloc,
+        ends,
+        neighbours,
+    };
+    report(put_counts(&mut Counter::new(alloc), &given, counts), found)
 }

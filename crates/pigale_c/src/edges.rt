@@ -63,7 +63,7 @@ fn stored_edges(alloc: Global, edges: &[EdgeEnds]) -> Result<Vec<Ends>, AllocErr
 #[derive(Clone, Copy)]
 pub(crate) struct GraphArrays<'a> {
     pub(crate) alloc: Global,
-    pub(crate) n: u16,
+    pub(crate) n: usize,
     pub(crate) edges: &'a [EdgeEnds],
 }
 
@@ -114,10 +114,10 @@ pub(crate) fn graph_of(given: &GraphArrays<'_>) -> Result<Graph, Failure>
     ensures given { IfOk result (λ graph. AreFew given.now.n given.now.edges.now) }
     ensures failed { IfErr result (IsEdgeFailure (AreFew given.now.n given.now.edges.now) given.now.n given.now.edges.now) }
 {
-    let (alloc, n) = (given.alloc, given.n);
-    if n > 255 || given.edges.len() >= 16_777_216 {
+    if given.n > 255 || given.edges.len() >= 16_777_216 {
         return Err(Failure::BadArgument);
     }
+    let (alloc, n) = (given.alloc, given.n as u16);
     if are_edges(n, given.edges) {
         let graph = graph_in_order(alloc, n, given.edges)?;
         return Ok(graph);

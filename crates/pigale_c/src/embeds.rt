@@ -1,50 +1,67 @@
 //! The call for C that embeds a graph: a plane map with its drawing, or a Kuratowski witness, in arrays.
-ghost use Rattle.std.specs.Prelude.{◌≡◌, ◌≤◌, map, IfOk, IfErr};
+ghost use Rattle.std.specs.Prelude.{◌≤◌, IfOk, IfErr};
 ghost use Rattle.embed_graph.specs.Figures.{IsEmbedFigure};
 ghost use Rattle.pigale_c.specs.EdgeFailures.{FailsOnEdges};
-ghost use Rattle.pigale_c.specs.Embedded.{number, IsGivenGraph, IsSmall, IsEmbedded, OfGraph};
-ghost use Rattle.pigale_c.specs.Numbers.{Reports};
+ghost use Rattle.pigale_c.specs.Embedded.{IsGivenGraph, IsSmall, IsEmbedded, OfGraph};
+ghost use Rattle.pigale_c.specs.Numbers.{Reports, outcome_of};
 
 use crate::edges::{EdgeEnds, GraphArrays, graph_of};
 use crate::map_arrays::{put_lists, put_points};
 use crate::outcome::{Failure, Numbers, Outcome, report};
+use crate::witness_paths::put_witness;
 use embed_graph::embed_figures::{EmbedFigure, Embedder};
-use map_lists::VertexId;
 use refusals::Refusal;
-use std::alloc::{AllocError, Global};
+use std::alloc::Global;
 
-// Returns the map and drawing of the graph `given`, or its witness, if `x` and `y` have the length `n`; else why not.
-fn figure_of(given: &GraphArrays<'_>, x: &[i32], y: &[i32]) -> Result<EmbedFigure, Failure>
+// Returns the map and drawing of the graph `given` by `embedder`, or its witness, if `x` and `y` have the length `n`; else why not.
+fn figure_of(
+    embedder: &mut Embedder,
+    given: &GraphArrays<'_>,
+    x: &[i32],
+    y: &[i32],
+) -> Result<EmbedFigure, Failure>
     ensures given { IfOk result (λ figure. IsGivenGraph given.now.n given.now.edges.now x.now y.now) }
     ensures enough { IfOk result (λ figure. 3 ≤ given.now.n) }
     ensures figure { IfOk result (λ figure. OfGraph given.now.n given.now.edges.now (λ graph. IsEmbedFigure graph figure)) }
     ensures failed { IfErr result (FailsOnEdges (IsGivenGraph given.now.n given.now.edges.now x.now y.now) given.now.n given.now.edges.now (IsSmall given.now.n)) }
 {
     let n = given.n;
-    if x.len() != usize::from(n) || y.len() != usize::from(n) {
+    if x.len() != n || y.len() != n {
         return Err(Failure::BadArgument);
     }
     let graph = graph_of(given)?;
     if n < 3 {
-        return Err(Failure::Refused(Refusal::Small(n)));
+        return Err(Failure::Refused(Refusal::Small(n as u16)));
     }
-    let mut embedder = Embedder::new(given.alloc);
     let figure = embedder.figure(&graph)?;
     Ok(figure)
 }
 
-/// Copies the numbers of `vertices`. It fails only when out of memory.
-pub(crate) fn numbers_of_vertices(
-    alloc: Global,
-    vertices: &[VertexId],
-) -> Result<Vec<u16>, AllocError>
-    ensures { IfOk result (λ numbers. numbers.items ≡ map number vertices.now) }
+/// Writes a plane map of the graph `given`, which `embedder` finds, to the fronts of `ends` and `neighbours`, and its
+/// drawing to `x` and `y`, or the paths of a witness to those fronts. Returns `Served`, `NotPlanar`, or why neither, and
+/// then leaves all four as they were.
+pub(crate) fn put_figure(
+    embedder: &mut Embedder,
+    given: &GraphArrays<'_>,
+    ends: &mut [usize],
+    neighbours: &mut [u16],
+    x: &mut [i32],
+    y: &mut [i32],
+) -> Result<Outcome, Failure>
+    ensures { IsEmbedded given.now.n given.now.edges.now ends.old neighbours.old x.old y.old ends.new neighbours.new x.new y.new (outcome_of result) }
 {
-    let mut numbers = Vec::with_capacity(alloc, vertices.len())?;
-    for v in vertices {
-        numbers.push(v.0)?;
+    let found = figure_of(embedder, given, x, y)?;
+    match found {
+        EmbedFigure::Drawn(lists, figure) => {
+            if !put_lists(lists.ends(), lists.entries(), ends, neighbours) {
+                return Err(Failure::BadArgument);
+            }
+            put_points(figure.points.as_slice(), x, y);
+            embedder.keep(EmbedFigure::Drawn(lists, figure));
+            Ok(Outcome::Served)
+        }
+        EmbedFigure::NotPlanar(witness) => put_witness(given.alloc, &witness, ends, neighbours),
     }
-    Ok(numbers)
 }
 
 /// Writes a plane map of the graph of `n` vertices and `edges` to `ends` and `neighbours`, which have room for it. Its
@@ -63,26 +80,12 @@ pub extern "C" fn pigale_embed(
 ) -> u8
     ensures { Reports (IsEmbedded n edges.now ends.old neighbours.old x.old y.old ends.new neighbours.new x.new y.new) result found.new }
 {
-    let given = GraphArrays { alloc, n, edges };
-    match figure_of(&given, x, y) {
-        Ok(EmbedFigure::Drawn(lists, figure)) => {
-            if !put_lists(lists.ends(), lists.entries(), ends, neighbours) {
-                return report(Err(Failure::BadArgument), found);
-            }
-            put_points(figure.points.as_slice(), x, y);
-            report(Ok(Outcome::Served), found)
-        }
-        Ok(EmbedFigure::NotPlanar(witness)) => {
-            match numbers_of_vertices(alloc, witness.paths.entries()) {
-                Ok(vertices) => {
-                    if !put_lists(witness.paths.ends(), &vertices, ends, neighbours) {
-                        return report(Err(Failure::BadArgument), found);
-                    }
-                    report(Ok(Outcome::NotPlanar(witness.kind)), found)
-                }
-                Err(AllocError) => report(Err(Failure::NoMemory), found),
-            }
-        }
-        Err(failure) => report(Err(failure), found),
-    }
+    let given = GraphArrays {
+        alloc,
+        n: n as usize,
+        edges,
+    };
+    let mut embedder = Embedder::new(alloc);
+    let call = put_figure(&mut embedder, &given, ends, neighbours, x, y);
+    report(call, found)
 }

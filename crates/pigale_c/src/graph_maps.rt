@@ -3,15 +3,15 @@ ghost use Rattle.std.specs.Prelude.{◌≤◌, IfOk, IfErr};
 ghost use Rattle.embed_graph.specs.Embeddings.{IsEmbedding};
 ghost use Rattle.pigale_c.specs.EdgeFailures.{AreFew, FailsOnEdges};
 ghost use Rattle.pigale_c.specs.Embedded.{IsSmall, IsMapped, IsTested, OfGraph};
-ghost use Rattle.pigale_c.specs.Numbers.{Reports};
+ghost use Rattle.pigale_c.specs.Numbers.{Reports, outcome_of};
 
 use crate::edges::{EdgeEnds, GraphArrays, graph_of};
-use crate::embeds::numbers_of_vertices;
 use crate::map_arrays::put_lists;
 use crate::outcome::{Failure, Numbers, Outcome, report};
+use crate::witness_paths::put_witness;
 use embed_graph::{Embedding, embed};
 use refusals::Refusal;
-use std::alloc::{AllocError, Global};
+use std::alloc::Global;
 
 // Returns a map of the graph `given`, or a witness that it has none; else why not.
 fn embedding_of(given: &GraphArrays<'_>) -> Result<Embedding, Failure>
@@ -21,8 +21,9 @@ fn embedding_of(given: &GraphArrays<'_>) -> Result<Embedding, Failure>
     ensures failed { IfErr result (FailsOnEdges (AreFew given.now.n given.now.edges.now) given.now.n given.now.edges.now (IsSmall given.now.n)) }
 {
     let graph = graph_of(given)?;
-    if given.n < 3 {
-        return Err(Failure::Refused(Refusal::Small(given.n)));
+    let n = given.n;
+    if n < 3 {
+        return Err(Failure::Refused(Refusal::Small(n as u16)));
     }
     let found = embed(given.alloc, &graph)?;
     Ok(found)
@@ -39,11 +40,36 @@ pub extern "C" fn pigale_is_planar(
 ) -> u8
     ensures { Reports (IsTested n edges.now) result found.new }
 {
-    let given = GraphArrays { alloc, n, edges };
+    let given = GraphArrays {
+        alloc,
+        n: n as usize,
+        edges,
+    };
     match embedding_of(&given) {
         Ok(Embedding::Map(_)) => report(Ok(Outcome::Served), found),
         Ok(Embedding::NotPlanar(witness)) => report(Ok(Outcome::NotPlanar(witness.kind)), found),
         Err(failure) => report(Err(failure), found),
+    }
+}
+
+// Writes a plane map of the graph `given` to the fronts of `ends` and `neighbours`, or the paths of a witness. Returns
+// `Served`, `NotPlanar`, or why neither, and then leaves both arrays as they were.
+fn put_embedding(
+    given: &GraphArrays<'_>,
+    ends: &mut [usize],
+    neighbours: &mut [u16],
+) -> Result<Outcome, Failure>
+    ensures { IsMapped given.now.n given.now.edges.now ends.old neighbours.old ends.new neighbours.new (outcome_of result) }
+{
+    let found = embedding_of(given)?;
+    match found {
+        Embedding::Map(lists) => {
+            if !put_lists(lists.ends(), lists.entries(), ends, neighbours) {
+                return Err(Failure::BadArgument);
+            }
+            Ok(Outcome::Served)
+        }
+        Embedding::NotPlanar(witness) => put_witness(given.alloc, &witness, ends, neighbours),
     }
 }
 
@@ -61,25 +87,10 @@ pub extern "C" fn pigale_map_of_graph(
 ) -> u8
     ensures { Reports (IsMapped n edges.now ends.old neighbours.old ends.new neighbours.new) result found.new }
 {
-    let given = GraphArrays { alloc, n, edges };
-    match embedding_of(&given) {
-        Ok(Embedding::Map(lists)) => {
-            if !put_lists(lists.ends(), lists.entries(), ends, neighbours) {
-                return report(Err(Failure::BadArgument), found);
-            }
-            report(Ok(Outcome::Served), found)
-        }
-        Ok(Embedding::NotPlanar(witness)) => {
-            match numbers_of_vertices(alloc, witness.paths.entries()) {
-                Ok(vertices) => {
-                    if !put_lists(witness.paths.ends(), &vertices, ends, neighbours) {
-                        return report(Err(Failure::BadArgument), found);
-                    }
-                    report(Ok(Outcome::NotPlanar(witness.kind)), found)
-                }
-                Err(AllocError) => report(Err(Failure::NoMemory), found),
-            }
-        }
-        Err(failure) => report(Err(failure), found),
-    }
+    let given = GraphArrays {
+        alloc,
+        n: n as usize,
+        edges,
+    };
+    report(put_embedding(&given, ends, neighbours), found)
 }

@@ -13,7 +13,7 @@ use crate::outcome::{Failure, Numbers, Outcome, report};
 use half_edges::HalfMap;
 use pg_plane::{Ints, RectFigure};
 use rect_check::check_rects;
-use rect_dual::figures::rect_figure;
+use rect_dual::figures::RectDrawer;
 use std::alloc::{AllocError, Global};
 
 // The arrays of rectangles, as they are given: left, right, lower and upper sides.
@@ -86,7 +86,11 @@ pub extern "C" fn pigale_check_rects(
 
 // Draws the map `given` as a rectangular dual, if the arrays `rects` have one entry for each vertex; no entry is read.
 // `Err` is `BadArgument`, the first condition of the job `rect` that the map breaks, or `NoMemory`.
-fn drawn(given: &MapArrays<'_>, rects: &RectArrays<'_>) -> Result<RectFigure, Failure>
+fn drawn(
+    drawer: &mut RectDrawer,
+    given: &MapArrays<'_>,
+    rects: &RectArrays<'_>,
+) -> Result<RectFigure, Failure>
     ensures shape { IfOk result (AreRectsFor (length given.now.ends.now)) }
     ensures given { IfOk result (λ fig. IsGivenRects given.now.ends.now given.now.neighbours.now (rects_in rects.now.x1.now rects.now.x2.now rects.now.y1.now rects.now.y2.now)) }
     ensures served { IfOk result (λ fig. IsRectMap (lists_in given.now.ends.now given.now.neighbours.now)) }
@@ -98,10 +102,31 @@ fn drawn(given: &MapArrays<'_>, rects: &RectArrays<'_>) -> Result<RectFigure, Fa
         return Err(Failure::BadArgument);
     }
     let lists = lists_of(given.alloc, given.ends, given.neighbours)?;
-    match rect_figure(given.alloc, &lists) {
+    match drawer.figure(&lists) {
         Ok(figure) => Ok(figure),
         Err(unserved) => Err(Failure::from(unserved)),
     }
+}
+
+/// Writes rectangles of the map `given`, which `drawer` draws, into `x1`, `x2`, `y1` and `y2`. Returns `Served`, or why
+/// there are none, and then leaves all four arrays as they were.
+pub(crate) fn put_rects(
+    drawer: &mut RectDrawer,
+    given: &MapArrays<'_>,
+    x1: &mut [i32],
+    x2: &mut [i32],
+    y1: &mut [i32],
+    y2: &mut [i32],
+) -> Result<Outcome, Failure>
+    ensures { AreDrawnRects given.now.ends.now given.now.neighbours.now (rects_in x1.old x2.old y1.old y2.old) (rects_in x1.new x2.new y1.new y2.new) (outcome_of result) }
+{
+    let rects = RectArrays { x1, x2, y1, y2 };
+    let fig = drawn(drawer, given, &rects)?;
+    x1.copy_from_slice(fig.x1.as_slice());
+    x2.copy_from_slice(fig.x2.as_slice());
+    y1.copy_from_slice(fig.y1.as_slice());
+    y2.copy_from_slice(fig.y2.as_slice());
+    Ok(Outcome::Served)
 }
 
 /// Draws a map (`neighbours` cut into lists at `ends`) of triangles in a quadrangle as a rectangular dual within n - 2
@@ -124,15 +149,6 @@ pub extern "C" fn pigale_rect(
         ends,
         neighbours,
     };
-    let rects = RectArrays { x1, x2, y1, y2 };
-    match drawn(&given, &rects) {
-        Ok(fig) => {
-            x1.copy_from_slice(fig.x1.as_slice());
-            x2.copy_from_slice(fig.x2.as_slice());
-            y1.copy_from_slice(fig.y1.as_slice());
-            y2.copy_from_slice(fig.y2.as_slice());
-            report(Ok(Outcome::Served), found)
-        }
-        Err(failure) => report(Err(failure), found),
-    }
+    let mut drawer = RectDrawer::new(alloc);
+    report(put_rects(&mut drawer, &given, x1, x2, y1, y2), found)
 }

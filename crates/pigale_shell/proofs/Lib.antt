@@ -5,3 +5,4 @@ mod MadeLemmas
 mod OneTextLemmas
 mod Cases
 mod Refused
+mod PartLemmas

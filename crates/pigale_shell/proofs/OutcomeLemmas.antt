@@ -24,6 +24,8 @@ use Rattle.pigale_shell.specs.declared.map_jobs.MapJob.{MapJob}
 use Rattle.pigale_words.specs.declared.output_form.Form.{Form}
 use Rattle.pigale_shell.specs.JobInput.{RecordOf, EndingOf, reads_of, answers_of, left_of}
 use Rattle.pigale_shell.specs.Outcome.{Outcome, GrowsByText, MayEnd, status_of}
+use Rattle.pigale_shell.specs.Parts.{PartOutcome}
+use Rattle.record_runs.specs.declared.part_job.Part.{Part}
 use Rattle.pigale_shell.specs.declared.job_kinds.JobKind.{JobKind}
 use Rattle.pigale_shell.specs.declared.job_kinds.JobKind.TheVariants.{Maps, Graphs, Figures, Made}
 use Rattle.pigale_words.specs.declared.job.Status.{Status}
@@ -94,6 +96,15 @@ Outcome-run job kind left left' reads reads' writes writes' written written' end
 pub Outcome-maps : (job : JobKind) (maps named : MapJob) (form : Form) (left left' : Option (List ℕ)) (reads reads' writes writes' : ℕ) (written written' : Option (List ℕ)) (end : RunEnd) → job ≡ Maps maps form → maps ≡ named → RunOutcome planar_code (planar_answers (says_of named) form) (ports left reads written writes) (ports left' reads' written' writes') end → Outcome job (ports (left_of job left) reads written writes) (ports (left_of job left') reads' written' writes') (status_of end)
 Outcome-maps job maps named form left left' reads reads' writes writes' written written' end is same outcome =
     Outcome-run job (Maps named form) left left' reads reads' writes writes' written written' end (is ∙ ap (λ m. Maps m form) same) outcome
+
+-- a run over a part, of a job that is told by an equation
+pub PartOutcome-run : (job kind : JobKind) (part : Part) (before after : Ports) (end : RunEnd) (records refused : ℕ) → job ≡ kind → PartOutcome kind part before after end records refused → PartOutcome job part before after end records refused
+PartOutcome-run job kind part before after end records refused is outcome = rw is outcome
+
+-- the same of a job over maps that is told so
+pub PartOutcome-maps : (job : JobKind) (maps named : MapJob) (form : Form) (part : Part) (before after : Ports) (end : RunEnd) (records refused : ℕ) → job ≡ Maps maps form → maps ≡ named → PartOutcome (Maps named form) part before after end records refused → PartOutcome job part before after end records refused
+PartOutcome-maps job maps named form part before after end records refused is same outcome =
+    PartOutcome-run job (Maps named form) part before after end records refused (is ∙ ap (λ m. Maps m form) same) outcome
 
 -- where nothing failed the ending of the input decides the status
 pub Outcome-complete : (job : JobKind) (before after : Ports) (status : Status) (input : List ℕ) (records : List (RecordOf job)) (ending : EndingOf job) → Outcome job before after status → before.left ≡ Some input → (reads_of job).IsReading input records ending → ¬ HasRisen before.read_faults after.read_faults → ¬ HasRisen before.write_faults after.write_faults → MayEnd job ending status

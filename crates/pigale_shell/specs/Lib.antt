@@ -13,3 +13,6 @@ pub mod Text
 pub mod EmbedText
 -- What words and input decide of the text.
 pub mod OneText
+-- Parts of inputs of any size.
+pub mod Parts
+pub mod PartLaws

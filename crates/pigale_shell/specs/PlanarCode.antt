@@ -1,5 +1,5 @@
 -- planar_code as a format of runs.
-use Rattle.std.specs.Prelude.{ℕ, ◌+◌, ◌<◌, List, [], ◌∷◌, length}
+use Rattle.std.specs.Prelude.{ℕ, ◌+◌, ◌<◌, Bool, true, false, List, [], ◌∷◌, length}
 use Rattle.map_lists.specs.Lists.{Lists}
 use Rattle.record_runs.specs.Texts.{Reads}
 use Rattle.planar_code.specs.Reading.{IsReading, BeginsWith}
@@ -14,6 +14,19 @@ IsBad Well = ⊥
 IsBad (EndInRecord at) = Unit {0}
 IsBad (BadCount at) = Unit {0}
 IsBad TooLong = Unit {0}
+
+abbrev pub ended_well : Ending → Bool
+ended_well Well = true
+ended_well (EndInRecord at) = false
+ended_well (BadCount at) = false
+ended_well TooLong = false
+
+-- an ending as it is in a longer input, with so many bytes before this one
+abbrev pub ending_behind : ℕ → Ending → Ending
+ending_behind bytes Well = Well
+ending_behind bytes (EndInRecord at) = EndInRecord (bytes + at)
+ending_behind bytes (BadCount at) = BadCount (bytes + at)
+ending_behind bytes TooLong = TooLong
 
 abbrev pub planar_code : Reads Lists Ending
 planar_code = record {

@@ -2,8 +2,9 @@
 ghost use Rattle.std.specs.Prelude.{◌≡◌, ◌+◌, IfOk};
 ghost use Rattle.pg_io.specs.Io.{TakesAtMost};
 ghost use Rattle.record_runs.specs.Texts.{input_limit};
-ghost use Rattle.record_runs.specs.Outcome.{ports, Outcome as RunOutcome};
-ghost use Rattle.line_inputs.specs.GraphLinesFormat.{graph_lines};
+ghost use Rattle.record_runs.specs.Outcome.{ports, Outcome as RunOutcome, Counts};
+ghost use Rattle.record_runs.specs.Parts.{part_answers};
+ghost use Rattle.line_inputs.specs.GraphLinesFormat.{graph_lines, ended_well, ending_behind};
 ghost use Rattle.pigale_shell.specs.EmbedText.{embed_answers, embed_last_line as last_line_of};
 
 use super::form_printer::{FormPrinter, line_in};
@@ -15,7 +16,7 @@ use graphs::Graph;
 use line_inputs::graph_lines::{Ending, GraphReader};
 use pg_io::{Sink, Source};
 use pigale_words::Form;
-use record_runs::{Job as RecordJob, RunEnd, run_records};
+use record_runs::{Ended, Job as RecordJob, Part, PartJob, RunEnd, run_counted, run_records};
 use refusals::Refusal;
 use std::alloc::{AllocError, Global};
 
@@ -120,4 +121,29 @@ pub(crate) fn run_graphs<S: Source, K: Sink>(
 {
     let mut job = EmbedJob::new(alloc, form);
     run_records(alloc, GraphReader::new(alloc), &mut job, src, out)
+}
+
+/// Runs the job `embed` over `part` of an input of graph6 lines, the bytes of `src`, and writes to `out` in `form`.
+/// Returns how the run ended, and what it counted.
+#[inline(never)]
+pub(crate) fn run_graph_part<S: Source, K: Sink>(
+    alloc: Global,
+    form: Form,
+    part: Part,
+    src: &mut S,
+    out: &mut K,
+) -> Ended
+    ensures outcome { RunOutcome graph_lines (part_answers ended_well ending_behind (embed_answers form) part)
+        (ports (S.left src.old) (S.faults src.old) (K.written out.old) (K.faults out.old))
+        (ports (S.left src.new) (S.faults src.new) (K.written out.new) (K.faults out.new)) result.end }
+    ensures counts { Counts graph_lines (part_answers ended_well ending_behind (embed_answers form) part) (S.left src.old)
+        result.records result.refused result.end }
+    ensures limit { TakesAtMost (input_limit + 1) (S.left src.old) (S.left src.new) }
+{
+    let mut embed = EmbedJob::new(alloc, form);
+    let mut job = PartJob {
+        job: &mut embed,
+        part,
+    };
+    run_counted(alloc, GraphReader::new(alloc), &mut job, src, out)
 }

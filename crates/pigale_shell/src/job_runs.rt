@@ -19,8 +19,8 @@ use pigale_words::Status;
 use record_runs::{RunEnd, run_records};
 use std::alloc::Global;
 
-// Converts how the main loop ended to a status.
-fn status(end: RunEnd) -> Status
+/// Converts how the main loop ended to a status.
+pub(crate) fn status(end: RunEnd) -> Status
     ensures { result ≡ status_of end }
 {
     match end {

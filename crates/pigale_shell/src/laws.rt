@@ -1,5 +1,6 @@
-//! Laws of the text that a run writes: the words and the input decide it.
+//! Laws of the text that a run writes: the words and the input decide it, and those of parts make that of the whole.
 ghost use Rattle.pigale_shell.specs.OneText.{OneText, OneRefusalLine, OneGraphRefusalLine};
+ghost use Rattle.pigale_shell.specs.PartLaws.{TextsJoin, WholeIsPart};
 
 use super::map_jobs::map_jobs_are_lawful;
 
@@ -20,4 +21,14 @@ pub fn one_refusal_line()
 /// States the law that a graph is refused by `embed` with one line only.
 pub fn one_graph_refusal_line()
     ensures { OneGraphRefusalLine }
+{}
+
+/// States the law that the texts of two parts of an input, one behind the other, are the text of both as one part.
+pub fn texts_join()
+    ensures { TextsJoin }
+{}
+
+/// States the law that the text of the only part of an input is the text of a run over the input.
+pub fn whole_is_part()
+    ensures { WholeIsPart }
 {}

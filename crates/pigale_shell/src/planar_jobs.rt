@@ -2,9 +2,10 @@
 ghost use Rattle.std.specs.Prelude.{◌≡◌, ◌+◌, true};
 ghost use Rattle.pg_io.specs.Io.{TakesAtMost};
 ghost use Rattle.record_runs.specs.Texts.{input_limit};
-ghost use Rattle.record_runs.specs.Outcome.{ports, Outcome as RunOutcome};
+ghost use Rattle.record_runs.specs.Outcome.{ports, Outcome as RunOutcome, Counts};
+ghost use Rattle.record_runs.specs.Parts.{part_answers};
 ghost use Rattle.pigale_shell.specs.Answer.{planar_answers};
-ghost use Rattle.pigale_shell.specs.PlanarCode.{planar_code};
+ghost use Rattle.pigale_shell.specs.PlanarCode.{planar_code, ended_well, ending_behind};
 
 use super::form_printer::line_in;
 use super::method::{MapRecord, Method};
@@ -14,7 +15,9 @@ use map_lists::Rotations;
 use pg_io::{Sink, Source};
 use pigale_words::Form;
 use planar_code::{RecordReader, Taken as Found};
-use record_runs::{Format, Job as RecordJob, RunEnd, Taken, run_records};
+use record_runs::{
+    Ended, Format, Job as RecordJob, Part, PartJob, RunEnd, Taken, run_counted, run_records,
+};
 use std::alloc::{AllocError, Global};
 
 /// The reader of planar_code, as a format of the main loop.
@@ -39,7 +42,7 @@ impl PlanarReader {
 
 impl Format for PlanarReader {
     ghost use Rattle.planar_code.specs.Progress.{Progress};
-    ghost use Rattle.pigale_shell.specs.PlanarCode.{planar_code, place_of, end_here, IsGiven};
+    ghost use Rattle.pigale_shell.specs.PlanarCode.{planar_code, ended_well, ending_behind, place_of, end_here, IsGiven};
 
     type Record = Rotations;
 
@@ -54,6 +57,10 @@ impl Format for PlanarReader {
     ghost lent = { λ format. format.reader.lists };
 
     ghost ending = { λ format. end_here format.reader };
+
+    ghost ended_well = { ended_well };
+
+    ghost ending_behind = { ending_behind };
 
     ghost IsGiven = { IsGiven };
 
@@ -89,6 +96,16 @@ impl Format for PlanarReader {
     // Says whether `end` is the good ending, `Well`. Any other is a bad one.
     fn is_well(end: &Ending) -> bool {
         matches!(end, Ending::Well)
+    }
+
+    // Returns `end` with its offset as it is counted behind `before` bytes. `None` beyond the numbers of a `usize`.
+    fn end_behind(end: &Ending, before: usize) -> Option<Ending> {
+        match *end {
+            Ending::EndInRecord(at) => Some(Ending::EndInRecord(before.checked_add(at)?)),
+            Ending::BadCount(at) => Some(Ending::BadCount(before.checked_add(at)?)),
+            Ending::Well => Some(Ending::Well),
+            Ending::TooLong => Some(Ending::TooLong),
+        }
     }
 
     // Does nothing. Its contract is the four laws that `Format::lawful` states, for this reader.
@@ -168,4 +185,28 @@ pub(crate) fn run_planar<M: Method, S: Source, K: Sink>(
 {
     let mut planar = PlanarJob::<M>::new(alloc, form);
     run_records(alloc, PlanarReader::new(alloc), &mut planar, src, out)
+}
+
+/// Runs the job `M` over `part` of an input of planar_code, the bytes of `src`, and writes to `out` in `form`. Returns
+/// how the run ended, and what it counted.
+pub(crate) fn run_planar_part<M: Method, S: Source, K: Sink>(
+    alloc: Global,
+    form: Form,
+    part: Part,
+    src: &mut S,
+    out: &mut K,
+) -> Ended
+    ensures outcome { RunOutcome planar_code (part_answers ended_well ending_behind (planar_answers M.says form) part)
+        (ports (S.left src.old) (S.faults src.old) (K.written out.old) (K.faults out.old))
+        (ports (S.left src.new) (S.faults src.new) (K.written out.new) (K.faults out.new)) result.end }
+    ensures counts { Counts planar_code (part_answers ended_well ending_behind (planar_answers M.says form) part) (S.left src.old)
+        result.records result.refused result.end }
+    ensures limit { TakesAtMost (input_limit + 1) (S.left src.old) (S.left src.new) }
+{
+    let mut planar = PlanarJob::<M>::new(alloc, form);
+    let mut job = PartJob {
+        job: &mut planar,
+        part,
+    };
+    run_counted(alloc, PlanarReader::new(alloc), &mut job, src, out)
 }

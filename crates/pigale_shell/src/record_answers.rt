@@ -1,5 +1,5 @@
 //! The answer to one record of planar_code, as text or SVG: its block, or the line that refuses it.
-ghost use Rattle.std.specs.Prelude.{◌≡◌, ◌<◌, ◌≤◌, ◌↔◌, length, IsTrue, IfOk, OnOk, OnErr};
+ghost use Rattle.std.specs.Prelude.{◌≡◌, ◌<◌, ◌↔◌, length, IsTrue, IfOk, OnOk, OnErr};
 ghost use Rattle.pigale_shell.specs.Text.{refusal_line as refusal_line_of};
 ghost use Rattle.pigale_shell.specs.Forms.{line_in as line_by};
 ghost use Rattle.pigale_shell.specs.Blocks.{Appends};
@@ -17,8 +17,8 @@ use refusals::{Refusal, Unserved};
 use std::alloc::{AllocError, Global};
 
 /// Appends to `out` the block of `job`, one over planar_code, for a record with these `lists`, from 1 to 4095 of
-/// them. Returns whether the record was served. The record's `number` is from 1 to 16777216. When memory runs out
-/// `out` is unchanged.
+/// them. Returns whether the record was served. The record's `number` is counted from 1. When memory runs out `out` is
+/// unchanged.
 pub fn answer_record(
     alloc: Global,
     job: Job,
@@ -28,7 +28,6 @@ pub fn answer_record(
 ) -> Result<bool, AllocError>
     requires planar { IsTrue (reads_planar (kind_of job)) }
     requires from_one { 0 < number }
-    requires few_records { number ≤ 16777216 }
     requires some_list { 0 < length lists.now }
     ensures block { OnOk result (Appends (IsBlock (kind_of job) number lists.now) out.old.items out.new.items) }
     ensures served { IfOk result (ServesRecord (kind_of job) lists.now) }

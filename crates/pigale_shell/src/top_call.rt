@@ -14,8 +14,8 @@ use pg_io::{Sink, Source, put_all};
 use pigale_words::{Status, WordFault, words_to_job};
 use std::alloc::Global;
 
-// Returns the kind of job that `words`, those after the program's name, name; or else `BadWords` or `NoMemory`.
-fn named_kind(alloc: Global, words: &[String]) -> Result<JobKind, WordFault>
+/// Returns the kind of job that `words`, those after the program's name, name; or else `BadWords` or `NoMemory`.
+pub(crate) fn named_kind(alloc: Global, words: &[String]) -> Result<JobKind, WordFault>
     ensures job { MatchResult result
         (λ job. kind_named (map string_bytes words.now) ≡ Some job)
         (RefusesWords (kind_named (map string_bytes words.now))) }

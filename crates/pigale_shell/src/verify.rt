@@ -1,6 +1,11 @@
 //! The job `verify` over figures in text, as a job of the main loop, and the lines of its verdicts.
-ghost use Rattle.std.specs.Prelude.{◌≡◌, ◌++◌, OnOk, IfOk};
-ghost use Rattle.pigale_shell.specs.Verify.{numbers, verdict_line as verdict_line_of, verdict_words, bars_words, rects_words, spaced, numbers_line as numbers_line_of, witness_words, WritesVerdict};
+ghost use Rattle.std.specs.Prelude.{◌≡◌, ◌+◌, ◌++◌, OnOk, IfOk};
+ghost use Rattle.pg_io.specs.Io.{TakesAtMost};
+ghost use Rattle.record_runs.specs.Texts.{input_limit};
+ghost use Rattle.record_runs.specs.Outcome.{ports, Outcome as RunOutcome, Counts};
+ghost use Rattle.record_runs.specs.Parts.{part_answers};
+ghost use Rattle.line_inputs.specs.FigureLinesFormat.{figures, ended_well, ending_behind};
+ghost use Rattle.pigale_shell.specs.Verify.{verify_answers, numbers, verdict_line as verdict_line_of, verdict_words, bars_words, rects_words, spaced, numbers_line as numbers_line_of, witness_words, WritesVerdict};
 
 use super::output_lines::{end_line, push_number, refusal_line, stop_line};
 use bar_check::BarVerdict;
@@ -10,7 +15,8 @@ use figure_text::Figure;
 use figure_verdicts::{FigureVerdict, figure_verdict};
 use kuratowski::WitnessVerdict;
 use line_inputs::figure_lines::{Ending, FigureReader};
-use record_runs::Job as RecordJob;
+use pg_io::{Sink, Source};
+use record_runs::{Ended, Job as RecordJob, Part, PartJob, run_counted};
 use rect_check::RectVerdict;
 use refusals::Unserved;
 use std::alloc::{AllocError, Global};
@@ -231,4 +237,27 @@ impl RecordJob<FigureReader> for VerifyJob {
             Ending::TooLong => Vec::from_slice(alloc, b"stop TooLong\n"),
         }
     }
+}
+
+/// Runs the job `verify` over `part` of an input of figures, the bytes of `src`, and writes to `out`. Returns how the run
+/// ended, and what it counted.
+pub(crate) fn run_figure_part<S: Source, K: Sink>(
+    alloc: Global,
+    part: Part,
+    src: &mut S,
+    out: &mut K,
+) -> Ended
+    ensures outcome { RunOutcome figures (part_answers ended_well ending_behind verify_answers part)
+        (ports (S.left src.old) (S.faults src.old) (K.written out.old) (K.faults out.old))
+        (ports (S.left src.new) (S.faults src.new) (K.written out.new) (K.faults out.new)) result.end }
+    ensures counts { Counts figures (part_answers ended_well ending_behind verify_answers part) (S.left src.old)
+        result.records result.refused result.end }
+    ensures limit { TakesAtMost (input_limit + 1) (S.left src.old) (S.left src.new) }
+{
+    let mut verify = VerifyJob::new(alloc);
+    let mut job = PartJob {
+        job: &mut verify,
+        part,
+    };
+    run_counted(alloc, FigureReader::new(alloc), &mut job, src, out)
 }

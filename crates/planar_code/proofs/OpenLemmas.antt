@@ -1,5 +1,6 @@
 -- The places where the closed lists end, and one list or one entry more.
-use Rattle.std.proofs.Common.{◌≡◌, ℕ, zero, suc, ◌-◌, ◌<◌, ◌≤◌, List, [], ◌∷◌, ◌++◌, length, take, drop, slice_range, refl, sym, ap, ap₂, ◌∙◌, arith}
+use Rattle.std.proofs.Common.{◌≡◌, ℕ, zero, suc, ◌+◌, ◌-◌, ◌<◌, ◌≤◌, List, [], ◌∷◌, ◌++◌, length, take, drop, slice_range, refl, sym, ap, ap₂, ◌∙◌, arith}
+use Rattle.std.proofs.Math.Seq.{take-append_seam, take-length}
 use Rattle.std.proofs.lemmas.List.{length-append, length-drop, drop-append-le, take-append-le, take_rest, nil_from_length}
 use Rattle.map_lists.specs.Cuts.{cut, AreCuts}
 use Rattle.planar_code.specs.Open.{last_end, AreWithin, Collects}
@@ -77,3 +78,43 @@ joins (suc u) ends entries entries' lists last some pushed within is is' =
 pub joins-within : (ends entries entries' more : List ℕ) → entries' ≡ entries ++ more → AreWithin 0 ends (length entries) → AreWithin 0 ends (length entries')
 joins-within ends entries entries' more pushed within =
     within-more 0 ends (length entries) (length entries') (omega (arith, ap length pushed, length-append entries more)) within
+
+-- An end and an entry are appended, and one of them is taken back: the end, or for a number 0 the entry.
+module _ (number closing x : ℕ) (ends pushed ends' entries grown entries' : List ℕ) (one : number ≡ 0 → closing ≡ 1) (none : 0 < number → closing ≡ 0) (x_is : 0 < number → x ≡ number - 1) (push : pushed ≡ ends ++ length entries ∷ []) (ends_are : ends' ≡ take (length pushed + closing - 1) pushed) (grow : grown ≡ entries ++ x ∷ []) (entries_are : entries' ≡ take (length grown - closing) grown) where
+  same-ends : 0 < number → ends' ≡ ends
+  same-ends some =
+      let n : length pushed + closing - 1 ≡ length ends = omega (arith, none some, ap length push, length-append ends (length entries ∷ [])) in
+      ends_are ∙ ap₂ take n push ∙ take-append_seam ends (length entries ∷ [])
+
+  more-entries : 0 < number → entries' ≡ entries ++ (number - 1) ∷ []
+  more-entries some =
+      let n : length grown - closing ≡ length grown = omega (arith, none some) in
+      entries_are ∙ ap (λ (i : ℕ). take i grown) n ∙ take-length grown ∙ grow ∙ ap (λ (i : ℕ). entries ++ i ∷ []) (x_is some)
+
+  same-entries : number ≡ 0 → entries' ≡ entries
+  same-entries zero_is =
+      let n : length grown - closing ≡ length entries = omega (arith, one zero_is, ap length grow, length-append entries (x ∷ [])) in
+      entries_are ∙ ap₂ take n grow ∙ take-append_seam entries (x ∷ [])
+
+  more-ends : number ≡ 0 → ends' ≡ ends ++ length entries ∷ []
+  more-ends zero_is =
+      let n : length pushed + closing - 1 ≡ length pushed = omega (arith, one zero_is) in
+      ends_are ∙ ap (λ (i : ℕ). take i pushed) n ∙ take-length pushed ∙ push
+
+  chosen-at : (k : ℕ) → number ≡ k → (lists : List (List ℕ)) (last : List ℕ) → AreWithin 0 ends (length entries) → cut 0 ends entries ≡ lists → drop (last_end 0 ends) entries ≡ last → Collects number lists last (cut 0 ends' entries') (drop (last_end 0 ends') entries')
+  chosen-at zero e lists last within is is' = rw (same-entries e) (closes number ends ends' entries (length entries) lists last e (more-ends e) refl is is')
+  chosen-at (suc k) e lists last within is is' =
+      let some : 0 < number = omega (arith, e) in
+      rw (same-ends some) (joins number ends entries entries' lists last some (more-entries some) within is is')
+
+  pub chosen : (lists : List (List ℕ)) (last : List ℕ) → AreWithin 0 ends (length entries) → cut 0 ends entries ≡ lists → drop (last_end 0 ends) entries ≡ last → Collects number lists last (cut 0 ends' entries') (drop (last_end 0 ends') entries')
+  chosen lists last within is is' = chosen-at number refl lists last within is is'
+
+  within-at : (k : ℕ) → number ≡ k → AreWithin 0 ends (length entries) → AreWithin 0 ends' (length entries')
+  within-at zero e within = rw (same-entries e) (closes-within ends ends' (length entries) (length entries) (more-ends e) refl within)
+  within-at (suc k) e within =
+      let some : 0 < number = omega (arith, e) in
+      rw (same-ends some) (joins-within ends entries entries' ((number - 1) ∷ []) (more-entries some) within)
+
+  pub chosen-within : AreWithin 0 ends (length entries) → AreWithin 0 ends' (length entries')
+  chosen-within within = within-at number refl within

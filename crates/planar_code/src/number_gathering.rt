@@ -30,24 +30,7 @@ pub fn gather_narrow(gathered: &mut OpenLists, count: usize, piece: &[u8]) -> us
     taken
 }
 
-// Returns the index after the last 0 of `piece`, or 0 where there is none.
-fn behind_last_zero(piece: &[u8]) -> usize
-    ensures within { result ≤ length piece.now }
-    ensures zero { 0 < result → slice_index piece.now (result - 1) ≡ 0 }
-    ensures none { (i : ℕ) → result ≤ i → i < length piece.now → 0 < slice_index piece.now i }
-{
-    let mut end = piece.len();
-    while 0 < end {
-        if piece[end - 1] == 0 {
-            return end;
-        }
-        end -= 1;
-    }
-    0
-}
-
-// Does the work of `gather_narrow` in two loops, and returns the bytes read. Before the last 0 of `piece` its end is
-// not tested, and after it no list is closed.
+// Does the work of `gather_narrow`, and returns the bytes read.
 #[inline(always)]
 fn narrow_numbers(gathered: &mut OpenLists, count: usize, piece: &[u8]) -> usize
     requires { CanGather 0 (Narrow count) count gathered.old piece.now }
@@ -55,23 +38,15 @@ fn narrow_numbers(gathered: &mut OpenLists, count: usize, piece: &[u8]) -> usize
     ensures within { result ≤ length piece.now }
     ensures gathers { Gathers 255 count (take result piece.now) gathered.old gathered.new }
 {
-    let end = behind_last_zero(piece);
     let mut k = 0;
-    'lists: while k < end {
-        'list: while piece[k] != 0 {
-            gathered.collect(u16::from(piece[k]));
-            k += 1;
-        }
-        gathered.collect(0);
+    'bytes: while k < piece.len() {
+        gathered.collect(u16::from(piece[k]));
         k += 1;
         if gathered.closed() == count {
             return k;
         }
     }
-    for i in k..piece.len() {
-        gathered.collect(u16::from(piece[i]));
-    }
-    piece.len()
+    k
 }
 
 /// Appends numbers of two bytes each from `piece`, at least two bytes, to `gathered`, until `count` lists are closed or
@@ -113,7 +88,8 @@ fn pairs_to_last_zero(piece: &[u8]) -> usize
     0
 }
 
-// Does the work of `gather_wide` in two loops, like `narrow_numbers`, and returns the bytes read.
+// Does the work of `gather_wide` in two loops, and returns the bytes read. Before the last pair of zeros the end of
+// `piece` is not tested, and after it no list is closed.
 #[inline(always)]
 fn wide_numbers(gathered: &mut OpenLists, count: usize, piece: &[u8]) -> usize
     requires { CanGather 1 (Wide count) count gathered.old piece.now }

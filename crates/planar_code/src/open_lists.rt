@@ -7,6 +7,16 @@ use std::alloc::{AllocError, Global};
 use std::marker::Model;
 use std::mem;
 
+// Returns how many lists `number` closes: 1 for 0, and else none.
+#[inline(always)]
+fn closings(number: u16) -> usize
+    ensures one { number ≡ 0 → result ≡ 1 }
+    ensures none { 0 < number → result ≡ 0 }
+    ensures few { result ≤ 1 }
+{
+    if number == 0 { 1 } else { 0 }
+}
+
 /// The lists of a record while its numbers come: the closed ones, and the open one.
 #[derive(Drop)]
 pub struct OpenLists {
@@ -76,11 +86,11 @@ impl OpenLists {
         ensures room { self.old.room ≤ self.new.room + 1 }
         ensures most { self.new.most ≡ self.old.most }
     {
-        if number == 0 {
-            self.ends.push_reserved(self.entries.len());
-        } else {
-            self.entries.push_reserved(number - 1);
-        }
+        let closes = closings(number);
+        self.ends.push_reserved(self.entries.len());
+        self.ends.truncate(self.ends.len() + closes - 1);
+        self.entries.push_reserved(number.wrapping_sub(1));
+        self.entries.truncate(self.entries.len() - closes);
     }
 
     /// Returns how many lists are closed.

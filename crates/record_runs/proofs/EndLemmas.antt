@@ -4,7 +4,7 @@ use Rattle.std.proofs.lemmas.List.{append-nil, length-append}
 use Rattle.pg_io.specs.Io.{WhereTold, Gives, Takes, TakesAtMost, Grows, GrowsByPrefix, HasRisen}
 use Rattle.pg_io.proofs.Growth.{Takes-then, Takes-gives, TakesAtMost-taken, Grows-then, GrowsByPrefix-whole, GrowsByPrefix-then, GrowsByPrefix-more}
 use Rattle.record_runs.specs.Texts.{Reads, Answers, input_limit}
-use Rattle.record_runs.specs.Outcome.{Writes, WritesPart, Ports, ports, Outcome}
+use Rattle.record_runs.specs.Outcome.{Writes, WritesPart, Ports, ports, Outcome, IsCount, Counts}
 use Rattle.record_runs.specs.Run.{IsCounted, IsAt, EndsAs, IsFront, Stops, Wrote, Stands, IsAllConsumed, FailsAt, end_of}
 use Rattle.record_runs.specs.declared.main_loop.RunEnd.TheVariants.{Done, SomeRefused, BadInput, ReadFault, WriteFault, NoMemory}
 use Rattle.record_runs.specs.declared.main_loop.Failure.{Failure}
@@ -47,6 +47,16 @@ module _ {Record Ending : Type 0} (format : Reads Record Ending) (job : Answers 
     last_is = inr (ending, refused, ends.reading, ends.answered.refuses, refl);
     grows = rw ends.answered.counted at grows;
   }
+
+  -- where the ending was found, all records were counted
+  pub ends-counts : {left : Option (List ℕ)} {text : List ℕ} {ending : Ending} {count refused : ℕ} → WhereTold left (λ input. EndsAs format job input ending text count refused) → WhereTold left (λ input. IsCount format job input count refused)
+  ends-counts {ending = ending} ends = λ input told. let is = ends input told in
+      record { records = is.records; ending = ending; reading = is.reading; count_is = is.answered.counted; refuses = is.answered.refuses }
+
+  -- where the last line could not be written, nothing is said of what was counted
+  pub failed-counts : (left : Option (List ℕ)) (count refused : ℕ) (failure : Failure) → Counts format job left count refused (end_of failure)
+  failed-counts left count refused failure.WriteFault = tt
+  failed-counts left count refused failure.NoMemory = tt
 
   module _ {start : Ports} {left written : Option (List ℕ)} {reads writes : ℕ} {text : List ℕ} (wrote : Wrote start (ports left reads written writes) text) where
     -- memory was wanting

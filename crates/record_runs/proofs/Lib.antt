@@ -3,3 +3,4 @@ mod BlockLemmas
 mod StopLemmas
 mod EndLemmas
 mod Refused
+pub mod PartLemmas

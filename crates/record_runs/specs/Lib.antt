@@ -2,3 +2,4 @@
 pub mod Texts
 pub mod Outcome
 pub mod Run
+pub mod Parts

@@ -77,3 +77,20 @@ Outcome format job before after WriteFault =
     × WhereTold before.left (λ input. WritesPart format job input before.written after.written)
 Outcome format job before after NoMemory =
     NoneFailed before after × WhereTold before.left (λ input. WritesPart format job input before.written after.written)
+
+-- the input has this ending, so many records, and so many of them are refused
+pub record IsCount {Record Ending : Type 0} (format : Reads Record Ending) (job : Answers Record Ending) (input : List ℕ) (count refused : ℕ) : Type 0 where
+  pub records : List Record
+  pub ending : Ending
+  pub reading : format.IsReading input records ending
+  pub count_is : count ≡ length records
+  pub refuses : Refuses job records refused
+
+-- What a run has counted, where it has found the ending of its input.
+abbrev pub Counts : {Record Ending : Type 0} → Reads Record Ending → Answers Record Ending → Option (List ℕ) → ℕ → ℕ → RunEnd → Type 0
+Counts format job left count refused Done = WhereTold left (λ input. IsCount format job input count refused)
+Counts format job left count refused SomeRefused = WhereTold left (λ input. IsCount format job input count refused)
+Counts format job left count refused BadInput = WhereTold left (λ input. IsCount format job input count refused)
+Counts format job left count refused ReadFault = Unit {0}
+Counts format job left count refused WriteFault = Unit {0}
+Counts format job left count refused NoMemory = Unit {0}

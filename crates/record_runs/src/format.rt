@@ -1,5 +1,5 @@
 //! The trait `Format`: how the records of an input are read, piece by piece.
-ghost use Rattle.std.specs.Prelude.{◌≡◌, ◌+◌, ◌<◌, ◌≤◌, List, ℕ, [], ◌∷◌, ◌++◌, length, IfOk, IfErr};
+ghost use Rattle.std.specs.Prelude.{◌≡◌, ◌+◌, ◌<◌, ◌≤◌, Bool, List, ℕ, [], ◌∷◌, ◌++◌, length, IfOk, IfErr, IfSome};
 ghost use Rattle.std.specs.Bool.{OnTrue, OnFalse};
 ghost use Rattle.record_runs.specs.Texts.{Reads, input_limit};
 ghost use Rattle.record_runs.specs.Run.{Moves, TakesPiece};
@@ -41,6 +41,12 @@ pub trait Format: Drop {
     /// How the bytes consumed end if no more come.
     ghost ending: { Self → Self.End };
 
+    /// Whether an ending is the good one.
+    ghost ended_well: { Self.End → Bool };
+
+    /// An ending as it is in a longer input, by how much stands before this one, as places count that.
+    ghost ending_behind: { ℕ → Self.End → Self.End };
+
     /// A fact that holds of each record that is read.
     ghost IsGiven: { Self.Record → Type 0 };
 
@@ -70,8 +76,14 @@ pub trait Format: Drop {
 
     /// Says whether `end` is the good ending. A no promises that it is a bad one.
     fn is_well(end: &Self::End) -> bool
+        ensures is { result ≡ ended_well end.now }
         ensures well { OnTrue result (end.now ≡ reads.well) }
         ensures bad { OnFalse result (reads.IsBad end.now) };
+
+    /// Returns `end` as it is in a longer input, where `before` stands before this one: its place is greater by so much.
+    /// `None` where that place is beyond the numbers of a `usize`.
+    fn end_behind(end: &Self::End, before: usize) -> Option<Self::End>
+        ensures { IfSome result (λ behind. behind ≡ ending_behind before end.now) };
 
     /// States four laws. The place is the number of bytes consumed. These bytes are read as their records and that
     /// ending. An input begins with the records of its first bytes, and with those that it has.

@@ -1,6 +1,6 @@
 //! The trait `Job`: how each record is answered by a block, and the last line of a run.
-ghost use Rattle.std.specs.Prelude.{◌≡◌, ◌<◌, ◌≤◌, ◌++◌, List, ℕ, IfOk, OnOk, OnErr};
-ghost use Rattle.record_runs.specs.Texts.{Answers, input_limit};
+ghost use Rattle.std.specs.Prelude.{◌≡◌, ◌<◌, ◌++◌, List, ℕ, IfOk, OnOk, OnErr};
+ghost use Rattle.record_runs.specs.Texts.{Answers};
 
 use super::format::Format;
 use std::alloc::{AllocError, Global};
@@ -24,7 +24,6 @@ pub trait Job<F: Format> {
         out: &mut Vec<u8>,
     ) -> Result<bool, AllocError>
         requires from_one { 0 < number }
-        requires few_records { number ≤ input_limit }
         requires fits { F.IsGiven given.now }
         ensures block { OnOk result ((block : List ℕ) × (answers (kind self.old)).IsBlock number given.now block
             × (out.new.items ≡ out.old.items ++ block)) }

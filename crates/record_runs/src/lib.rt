@@ -9,11 +9,13 @@
 mod format;
 mod job;
 mod main_loop;
+mod part_job;
 mod piece_steps;
 
 pub use format::{Format, Taken};
 pub use job::Job;
-pub use main_loop::{RunEnd, run_records};
+pub use main_loop::{Ended, RunEnd, run_counted, run_records};
+pub use part_job::{Before, Part, PartJob, PartKind};
 
 /// The most bytes of an input that are read.
 pub const INPUT_LIMIT: usize = 16777216;

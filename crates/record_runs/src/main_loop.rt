@@ -2,7 +2,7 @@
 ghost use Rattle.std.specs.Prelude.{◌≡◌, ◌<◌, ◌≤◌, ◌+◌, ◌^◌, ◌++◌, [], List, ℕ, Option, length, OnOk, IfErr, MatchResult};
 ghost use Rattle.pg_io.specs.Io.{Grows, TakesAtMost};
 ghost use Rattle.record_runs.specs.Texts.{input_limit};
-ghost use Rattle.record_runs.specs.Outcome.{Ports, ports, Outcome};
+ghost use Rattle.record_runs.specs.Outcome.{Ports, ports, Outcome, Counts};
 ghost use Rattle.record_runs.specs.Run.{IsCounted, IsAt, Stands, FailsAt, IsAllConsumed, end_of};
 
 use super::format::Format;
@@ -27,6 +27,17 @@ pub enum RunEnd {
     WriteFault,
     /// There was not enough memory.
     NoMemory,
+}
+
+/// How a run ended, and what it counted.
+#[derive(Clone, Copy)]
+pub struct Ended {
+    /// How it ended.
+    pub end: RunEnd,
+    /// How many records were answered.
+    pub records: u32,
+    /// How many of them were refused.
+    pub refused: u32,
 }
 
 /// The state of a run between two pieces.
@@ -104,7 +115,8 @@ fn finish<F: Format, J: Job<F>, K: Sink>(
     ensures { (start : Ports) (left : Option (List ℕ)) (faults : ℕ) →
         (stands : Stands F.At (J.answers (J.kind job.now)) start (ports left faults (K.written out.old) (K.faults out.old)) [] run.now.reader run.now.records run.now.refused) →
         IsAllConsumed start.left left stands.consumed →
-        Outcome F.reads (J.answers (J.kind job.now)) start (ports left faults (K.written out.new) (K.faults out.new)) result }
+        Outcome F.reads (J.answers (J.kind job.now)) start (ports left faults (K.written out.new) (K.faults out.new)) result
+        × Counts F.reads (J.answers (J.kind job.now)) start.left run.now.records run.now.refused result }
 {
     F::lawful();
     let end = run.reader.end();
@@ -139,7 +151,8 @@ fn consume<F: Format, J: Job<F>, K: Sink>(
         Stands F.At (J.answers (J.kind job.old)) start (ports left faults (K.written out.old) (K.faults out.old)) piece.now run.old.reader run.old.records run.old.refused →
         MatchResult result
         (λ _. Stands F.At (J.answers (J.kind job.old)) start (ports left faults (K.written out.new) (K.faults out.new)) [] run.new.reader run.new.records run.new.refused)
-        (Outcome F.reads (J.answers (J.kind job.old)) start (ports left faults (K.written out.new) (K.faults out.new))) }
+        (λ end. Outcome F.reads (J.answers (J.kind job.old)) start (ports left faults (K.written out.new) (K.faults out.new)) end
+        × Counts F.reads (J.answers (J.kind job.old)) start.left run.new.records run.new.refused end) }
     ensures same { J.kind job.new ≡ J.kind job.old }
 {
     F::lawful();
@@ -179,6 +192,7 @@ fn read_once<F: Format, J: Job<F>, S: Source, K: Sink>(
         MatchResult result
         (λ _. Stands F.At (J.answers (J.kind job.old)) start (ports (S.left src.new) (S.faults src.new) (K.written out.new) (K.faults out.new)) [] run.new.reader run.new.records run.new.refused)
         (λ end. Outcome F.reads (J.answers (J.kind job.old)) start (ports (S.left src.new) (S.faults src.new) (K.written out.new) (K.faults out.new)) end
+        × Counts F.reads (J.answers (J.kind job.old)) start.left run.new.records run.new.refused end
         × TakesAtMost (input_limit + 1) start.left (S.left src.new)) }
     ensures same { J.kind job.new ≡ J.kind job.old }
 {
@@ -191,22 +205,23 @@ fn read_once<F: Format, J: Job<F>, S: Source, K: Sink>(
 }
 
 /// Runs `job` over the records of `src`, to the end of its input or to what stops it, and writes its text to `out`.
-/// `reader` must be at the first byte. Returns how the run ended.
+/// `reader` must be at the first byte. Returns how the run ended, and how many records it answered and refused.
 ///
 /// It reads into a buffer of 4096 bytes, and asks for no byte beyond the one after the limit. The
 /// blocks of the records that end within one read are written together, before the next read. Of the
 /// input the run keeps the buffer and what the reader does; it keeps one buffer of blocks.
-pub fn run_records<F: Format, J: Job<F>, S: Source, K: Sink>(
+pub fn run_counted<F: Format, J: Job<F>, S: Source, K: Sink>(
     alloc: Global,
     reader: F,
     job: &mut J,
     src: &mut S,
     out: &mut K,
-) -> RunEnd
+) -> Ended
     requires { F.At reader [] [] }
     ensures outcome { Outcome F.reads (J.answers (J.kind job.old))
         (ports (S.left src.old) (S.faults src.old) (K.written out.old) (K.faults out.old))
-        (ports (S.left src.new) (S.faults src.new) (K.written out.new) (K.faults out.new)) result }
+        (ports (S.left src.new) (S.faults src.new) (K.written out.new) (K.faults out.new)) result.end }
+    ensures counts { Counts F.reads (J.answers (J.kind job.old)) (S.left src.old) result.records result.refused result.end }
     ensures limit { TakesAtMost (input_limit + 1) (S.left src.old) (S.left src.new) }
 {
     F::lawful();
@@ -230,7 +245,30 @@ pub fn run_records<F: Format, J: Job<F>, S: Source, K: Sink>(
             out,
         ) {
             Ok(()) => {}
-            Err(end) => return end,
+            Err(end) => {
+                return Ended {
+                    end,
+                    records: run.records,
+                    refused: run.refused,
+                };
+            }
         }
     }
+}
+
+/// Runs `job` over the records of `src`, as `run_counted` does. Returns how the run ended.
+pub fn run_records<F: Format, J: Job<F>, S: Source, K: Sink>(
+    alloc: Global,
+    reader: F,
+    job: &mut J,
+    src: &mut S,
+    out: &mut K,
+) -> RunEnd
+    requires { F.At reader [] [] }
+    ensures outcome { Outcome F.reads (J.answers (J.kind job.old))
+        (ports (S.left src.old) (S.faults src.old) (K.written out.old) (K.faults out.old))
+        (ports (S.left src.new) (S.faults src.new) (K.written out.new) (K.faults out.new)) result }
+    ensures limit { TakesAtMost (input_limit + 1) (S.left src.old) (S.left src.new) }
+{
+    run_counted(alloc, reader, job, src, out).end
 }

@@ -1,5 +1,6 @@
 -- Lists that are cut from one row of entries: dart number d stands at place d of the row.
-use Rattle.std.proofs.Common.{ℕ, zero, suc, ◌+◌, ◌-◌, ◌<◌, ◌≤◌, ◌≡◌, List, [], ◌∷◌, length, get_or, drop, slice_range, sym, ap, ap₂, ◌∙◌, arith}
+use Rattle.std.proofs.Common.{ℕ, zero, suc, ◌+◌, ◌-◌, ◌<◌, ◌≤◌, ◌≡◌, List, [], ◌∷◌, length, get_or, drop, slice_range, sym, ap, ap₂, ◌∙◌, inl, inr, arith}
+use Rattle.std.proofs.lemmas.Bool.{cases_lt}
 use Rattle.std.proofs.lemmas.List.{length-take-le, length-drop, get_or-take, get_or-drop}
 use Rattle.map_lists.specs.Cuts.{cut, AreCuts}
 use Rattle.map_lists.proofs.CutLemmas.{length-cut, get_or-cut, AreCuts-le, AreCuts-at}
@@ -19,6 +20,14 @@ starts_from from [] entries v cuts l = let e : v ≡ 0 = omega arith in rw e (om
 starts_from from (end ∷ ends) entries zero cuts l = omega arith
 starts_from from (end ∷ ends) entries (suc v) cuts l =
     omega (arith, starts_from end ends entries v cuts.1 (omega arith), length-slice_range entries from end cuts.0 (AreCuts-le end ends (length entries) cuts.1))
+
+-- lists end where the later ones begin, or before
+pub ends_below : (ends : List ℕ) (total : ℕ) → AreCuts 0 ends total → (i w : ℕ) → i < w → w ≤ length ends → get_or ends i 0 ≤ get_or (0 ∷ ends) w 0
+ends_below ends total cuts i zero l m = absurd (omega arith)
+ends_below ends total cuts i (suc w) l m = elim (cases_lt i w) [
+  | inl less ↦ omega (arith, ends_below ends total cuts i w less (omega arith), (AreCuts-at 0 ends total w cuts (omega arith)).0)
+  | inr more ↦ (let e : i ≡ w = omega arith in omega (arith, ap (λ j. get_or ends j 0) e))
+]
 
 module _ (ends entries : List ℕ) (cuts : AreCuts 0 ends (length entries)) where
   pub start-is : (v : ℕ) → v ≤ length ends → darts_before (cut 0 ends entries) v ≡ get_or (0 ∷ ends) v 0

@@ -8,5 +8,5 @@ pub mod PassedLemmas
 pub mod TableLemmas
 pub mod TwinLemmas
 pub mod FirstFaults
-mod PairLemmas
+mod CellLemmas
 mod Refused

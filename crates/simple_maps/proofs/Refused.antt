@@ -1,9 +1,9 @@
 -- Faults, slots and twins that wrong bodies would give, each for small lists.
-use Rattle.std.proofs.Common.{◌≡◌, ℕ, List, [], ◌∷◌, None, refl, arith}
+use Rattle.std.proofs.Common.{◌≡◌, ◌<◌, ℕ, List, [], ◌∷◌, None, refl, arith}
 use Rattle.simple_maps.specs.Faults.{first_fault}
 use Rattle.simple_maps.specs.MapFault.{Names}
 use Rattle.simple_maps.specs.Tables.{AreSlots}
-use Rattle.simple_maps.specs.Pass.{AreMutual, ArePairedTo}
+use Rattle.simple_maps.specs.Pass.{AreMutual, IsTried}
 use Rattle.simple_maps.specs.declared.map_fault.MapFault.TheVariants.{Loop}
 
 -- a loop named before a number that is no vertex
@@ -27,5 +27,5 @@ twin_not_tried : AreMutual (1 ∷ 2 ∷ []) (0 ∷ 1 ∷ []) (1 ∷ 0 ∷ []) 2 
 twin_not_tried m = omega (arith, (m 0 (omega arith) (omega arith)).1)
 
 -- a dart taken for the twin of two darts
-twin_taken_twice : (cells : List ℕ) → ArePairedTo (1 ∷ 0 ∷ 0 ∷ []) (0 ∷ 1 ∷ 1 ∷ []) (2 ∷ 0 ∷ 0 ∷ []) cells 2 3 → ⊥
-twin_taken_twice cells p = omega (arith, p.back 1 (omega arith) (omega arith))
+twin_taken_twice : (twins cells : List ℕ) → ((d : ℕ) → d < 3 → IsTried (1 ∷ 0 ∷ 0 ∷ []) (0 ∷ 1 ∷ 1 ∷ []) twins cells 2 d) → ⊥
+twin_taken_twice twins cells tried = omega (arith, (tried 1 (omega arith)).cell, (tried 2 (omega arith)).cell)

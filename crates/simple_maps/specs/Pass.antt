@@ -23,16 +23,10 @@ AreMutual entries tails twins n =
 pub record AreInLine {P : Type 0} (IsInLine : P → ℕ → Type 0) (slots : List P) (n : ℕ) : Type 0 where
   pub at : (d : ℕ) (none : P) → d < n → d < length slots → IsInLine (slice_index_or slots d none) d
 
--- the darts from start on and before end leave v; those before are as they were
-pub record AreTailsPut (tails tails' : List ℕ) (start end v : ℕ) : Type 0 where
-  pub kept : (d : ℕ) → d < start → slice_index tails' d ≡ slice_index tails d
-  pub here : (d : ℕ) → start ≤ d → d < end → slice_index tails' d ≡ v
-
--- The first k darts lead from one of n vertices to another. Each of them has, where its twin is known, one of them for a twin,
--- of which it is the twin itself. The cells of a vertex are 64 in a row; a dart to a greater one has its place in that of its ends.
-pub record ArePairedTo (entries tails twins cells : List ℕ) (n k : ℕ) : Type 0 where
-  pub in_range : (d : ℕ) → d < k → slice_index entries d < n
-  pub no_loop : (d : ℕ) → d < k → slice_index entries d ≢ slice_index tails d
-  pub pairs : AreMutual entries tails twins k
-  pub back : (d : ℕ) → d < k → slice_index twins d < 16777216 → slice_index twins (slice_index twins d) ≡ d
-  pub cell : (d : ℕ) → d < k → slice_index tails d < slice_index entries d → slice_index twins d < 16777216 → slice_index cells (64 * slice_index tails d + slice_index entries d) ≡ d
+-- Dart d is no loop, and stands in the cell of its ends, which are of n vertices; its twin leads back.
+pub record IsTried (entries tails twins cells : List ℕ) (n d : ℕ) : Type 0 where
+  pub cell : slice_index cells (n * slice_index tails d + slice_index entries d) ≡ d
+  pub twin_in : slice_index twins d < length entries
+  pub head : slice_index entries (slice_index twins d) ≡ slice_index tails d
+  pub tail : slice_index tails (slice_index twins d) ≡ slice_index entries d
+  pub no_loop : slice_index entries d ≢ slice_index tails d

@@ -1,86 +1,101 @@
-//! The twins of the darts of at most 64 vertices, found in one pass over the lists by a cell for each two vertices.
+//! The twins of the darts of few vertices, found by a cell for each two vertices, in loops over all darts that have no
+//! branch.
 //!
-//! A dart to a greater vertex leaves its index in the cell of its ends, where the dart back finds it. What a cell says
-//! is tried before it is taken, so cells may hold anything before. Where it fails the pass gives up, as by threads.
-ghost use Rattle.std.specs.Prelude.{◌≡◌, ◌+◌, ◌*◌, ◌<◌, ◌≤◌, ℕ, length, slice_index};
+//! Each dart leaves its index in the cell of its ends, where the dart back finds it. What a cell says is tried before it
+//! is taken, so cells may hold anything before. Where it fails the pass gives up, as by threads.
+ghost use Rattle.std.specs.Prelude.{◌≡◌, ◌+◌, ◌*◌, ◌<◌, ◌≤◌, ◌∷◌, ℕ, length, slice_index, slice_index_or};
 ghost use Rattle.std.specs.Bool.{OnTrue};
-ghost use Rattle.map_lists.specs.Cuts.{joined};
+ghost use Rattle.map_lists.specs.Cuts.{joined, AreCuts};
 ghost use Rattle.simple_maps.specs.Tables.{AreSlots};
-ghost use Rattle.simple_maps.specs.Pass.{AreTailsPut, ArePairedTo};
+ghost use Rattle.simple_maps.specs.Pass.{IsTried};
 
-use crate::twin_pass::{NO_PLACE, are_paired};
+use crate::twin_pass::are_below;
 use map_lists::Rotations;
 
-/// The greatest number of vertices that the table serves, and how many cells it has for each.
-pub(crate) const FEW: usize = 64;
+/// The greatest number of vertices that the table serves. It then takes 100 kilobytes.
+pub(crate) const FEW: usize = 158;
 
-// Returns the index of the cell (the table's entry) for vertex `v` and a greater one, `u`.
+// Writes to `tails` for each dart the list in which it stands, by the `ends` of the lists. Each list but the last is
+// noted at the dart behind it, and the notes are added up.
 #[inline(always)]
-fn cell_of(v: u16, u: u16) -> usize
-    requires { v < 64 }
-    ensures { result ≡ 64 * v + u }
+fn write_tails(ends: &[usize], tails: &mut [u16])
+    requires some_list { 0 < length ends.now }
+    requires few_lists { length ends.now ≤ 158 }
+    requires cuts { AreCuts 0 ends.now (length tails.old) }
+    ensures { (w d : ℕ) → w < length ends.now → slice_index_or (0 ∷ ends.now) w 0 ≤ d → d < slice_index ends.now w → slice_index tails.new d ≡ w }
 {
-    FEW * v as usize + u as usize
-}
-
-// The list of `v`, one of `count` vertices, as a part of all lists' entries: from index `start` on and before `end`.
-#[derive(Clone, Copy)]
-struct PairedList<'a> {
-    entries: &'a [u16],
-    start: usize,
-    end: usize,
-    v: u16,
-    count: u16,
-    ghost order: { start ≤ end },
-    ghost within: { end ≤ length entries.now },
-    ghost few: { length entries.now < 16777216 },
-    ghost own: { v < count },
-    ghost few_vertices: { count ≤ 64 },
-}
-
-impl PairedList<'_> {
-    // Pairs the darts from `v` to lesser vertices with the darts back, in both entries of `twins`, and sets the entries
-    // of the list in `tails` to `v`. Cell 64 v + u of `cells` has the number of the dart from v to a greater u. Darts
-    // to greater vertices write theirs there, and `NO_PLACE` in `twins`. Returns false where a dart back is missing or
-    // a number is no vertex: then the lists have a fault.
-    #[inline(always)]
-    fn pair(&self, tails: &mut [u16], twins: &mut [u32], cells: &mut [u32]) -> bool
-        requires tails { length tails.old ≡ length self.now.entries.now }
-        requires twins { length twins.old ≡ length self.now.entries.now }
-        requires cells { 64 * self.now.count ≤ length cells.old }
-        requires below { (d : ℕ) → d < self.now.start → slice_index tails.old d < self.now.v }
-        requires paired { ArePairedTo self.now.entries.now tails.old twins.old cells.old self.now.count self.now.start }
-        ensures tails { OnTrue result (AreTailsPut tails.old tails.new self.now.start self.now.end self.now.v) }
-        ensures paired { OnTrue result (ArePairedTo self.now.entries.now tails.new twins.new cells.new self.now.count self.now.end) }
-    {
-        for d in self.start..self.end {
-            let u = self.entries[d];
-            tails[d] = self.v;
-            if self.v < u {
-                if u >= self.count {
-                    return false;
-                }
-                twins[d] = NO_PLACE;
-                cells[cell_of(self.v, u)] = d as u32;
-                continue;
-            }
-            let twin = cells[cell_of(u, self.v)] as usize;
-            if twin >= self.start
-                || tails[twin] != u
-                || self.entries[twin] != self.v
-                || twins[twin] != NO_PLACE
-            {
-                return false;
-            }
-            twins[d] = twin as u32;
-            twins[twin] = d as u32;
+    'clear: for d in 0..tails.len() {
+        tails[d] = 0;
+    }
+    'note: for v in 0..ends.len() - 1 {
+        let end = ends[v];
+        if end < tails.len() {
+            tails[end] += 1;
         }
-        true
+    }
+    let mut tail: u16 = 0;
+    'sum: for d in 0..tails.len() {
+        tail += tails[d];
+        tails[d] = tail;
     }
 }
 
-// Says whether the pass finds `lists` of at most 64 vertices to be a simple map, and then writes the `tails` and
-// `twins` of their darts. `cells` is scratch space, with 64 entries for each vertex, and may hold anything before.
+// Returns the index of the cell (the table's entry) for vertices `v` and `u` of `n`.
+#[inline(always)]
+fn cell_of(n: usize, v: u16, u: u16) -> usize
+    requires few { n ≤ 158 }
+    requires tail { v < n }
+    requires head { u < n }
+    ensures is { result ≡ n * v + u }
+    ensures within { result < n * n }
+{
+    n * v as usize + u as usize
+}
+
+// Writes each dart's index to the cell of its ends. There are `n` vertices.
+#[inline(always)]
+fn fill_cells(entries: &[u16], tails: &[u16], n: usize, cells: &mut [u32])
+    requires few { n ≤ 158 }
+    requires few_darts { length entries.now < 16777216 }
+    requires tails { length tails.now ≡ length entries.now }
+    requires tails_in { (d : ℕ) → d < length entries.now → slice_index tails.now d < n }
+    requires heads_in { (d : ℕ) → d < length entries.now → slice_index entries.now d < n }
+    requires cells { n * n ≤ length cells.old }
+{
+    for d in 0..entries.len() {
+        cells[cell_of(n, tails[d], entries[d])] = d as u32;
+    }
+}
+
+// Says whether the cells tell for each dart, of `n` vertices, itself and the dart back, and writes the latter to `twins`.
+#[inline(always)]
+fn take_twins(entries: &[u16], tails: &[u16], n: usize, cells: &[u32], twins: &mut [u32]) -> bool
+    requires few { n ≤ 158 }
+    requires some_dart { 0 < length entries.now }
+    requires few_darts { length entries.now < 16777216 }
+    requires tails { length tails.now ≡ length entries.now }
+    requires twins { length twins.old ≡ length entries.now }
+    requires tails_in { (d : ℕ) → d < length entries.now → slice_index tails.now d < n }
+    requires heads_in { (d : ℕ) → d < length entries.now → slice_index entries.now d < n }
+    requires cells { n * n ≤ length cells.now }
+    ensures { OnTrue result ((d : ℕ) → d < length entries.now → IsTried entries.now tails.now twins.new cells.now n d) }
+{
+    let last = entries.len() as u32 - 1;
+    let mut wrong: u32 = 0;
+    for d in 0..entries.len() {
+        let v = tails[d];
+        let u = entries[d];
+        let twin = cells[cell_of(n, u, v)].min(last);
+        wrong |= cells[cell_of(n, v, u)] ^ d as u32;
+        wrong |= u32::from((entries[twin as usize] ^ v) | (tails[twin as usize] ^ u));
+        wrong |= u32::from(u == v);
+        twins[d] = twin;
+    }
+    wrong == 0
+}
+
+// Says whether the pass finds `lists` of at most 158 vertices to be a simple map, and then writes the `tails` and
+// `twins` of their darts. `cells` is scratch space, with an entry for each two vertices, and may hold anything before.
 #[inline(never)]
 pub(crate) fn pairs_twins(
     lists: &Rotations,
@@ -89,30 +104,21 @@ pub(crate) fn pairs_twins(
     cells: &mut [u32],
 ) -> bool
     requires some_list { 0 < length lists.now }
-    requires few_lists { length lists.now ≤ 64 }
+    requires few_lists { length lists.now ≤ 158 }
+    requires some_dart { 0 < length (joined lists.now) }
     requires few { length (joined lists.now) < 16777216 }
     requires tails { length tails.old ≡ length (joined lists.now) }
     requires twins { length twins.old ≡ length (joined lists.now) }
-    requires cells { 64 * length lists.now ≤ length cells.old }
+    requires cells { length lists.now * length lists.now ≤ length cells.old }
     ensures { OnTrue result (AreSlots lists.now tails.new twins.new) }
 {
     lists.facts();
     let entries = lists.entries();
     let ends = lists.ends();
-    let mut start = 0;
-    for v in 0..ends.len() {
-        let end = ends[v];
-        let list = PairedList {
-            entries,
-            start,
-            end,
-            v: v as u16,
-            count: ends.len() as u16,
-        };
-        if !list.pair(tails, twins, cells) {
-            return false;
-        }
-        start = end;
+    if !are_below(entries, ends.len()) {
+        return false;
     }
-    are_paired(twins)
+    write_tails(ends, tails);
+    fill_cells(entries, tails, ends.len(), cells);
+    take_twins(entries, tails, ends.len(), cells, twins)
 }

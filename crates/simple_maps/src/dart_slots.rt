@@ -42,8 +42,8 @@ fn grow(threads: &mut Vec<u32>, count: usize) -> Result<(), AllocError>
 }
 
 // Says whether one pass finds `lists` to be a simple map, and then writes the `tails` and `twins` of their darts. For
-// at most 64 vertices it goes by a cell for each two, else by threads (chains of the darts with one head). `threads` is
-// scratch space, which may grow. It fails only when out of memory.
+// at most 158 vertices with an edge it goes by a cell for each two, else by threads (chains of the darts with one
+// head). `threads` is scratch space, which may grow. It fails only when out of memory.
 #[inline(always)]
 fn passes(
     lists: &Rotations,
@@ -58,8 +58,8 @@ fn passes(
     ensures { IfOk result (λ found. OnTrue found (AreSlots lists.now tails.new twins.new)) }
 {
     let n = lists.len();
-    if n <= FEW {
-        grow(threads, FEW * n)?;
+    if n <= FEW && 0 < twins.len() {
+        grow(threads, n * n)?;
         return Ok(pairs_twins(lists, tails, twins, threads));
     }
     grow(threads, n)?;
@@ -70,7 +70,7 @@ fn passes(
 ///
 /// `threads` is scratch space. The vectors may hold anything before: a caller who has many maps keeps them to use their
 /// memory again. The time is linear in the entries. A simple map takes no other memory than that of the three: six
-/// bytes for each dart, and one number for each vertex.
+/// bytes for each dart, and one number for each vertex, or for each two vertices where there are at most 158.
 pub fn fill_twins(
     alloc: Global,
     lists: &Rotations,

@@ -40,7 +40,7 @@ fn place_named(link: u32) -> usize {
 }
 
 // Says whether all entries are below `n`.
-fn are_below(entries: &[u16], n: usize) -> bool
+pub(crate) fn are_below(entries: &[u16], n: usize) -> bool
     ensures { OnTrue result (All (λ u. u < n) entries.now) }
 {
     let mut greatest = 0;
@@ -51,7 +51,7 @@ fn are_below(entries: &[u16], n: usize) -> bool
 }
 
 // Says whether each entry of `twins` names a dart. Only true is promised.
-pub(crate) fn are_paired(twins: &[u32]) -> bool
+fn are_paired(twins: &[u32]) -> bool
     ensures { OnTrue result (All (λ t. t < 16777216) twins.now) }
 {
     let mut joined = 0;

@@ -1,6 +1,7 @@
-//! Test cases of chained lists, and of blocks of return edges.
+//! Test cases of chained lists, of blocks of return edges, and of their sides.
 use chained_lists::ChainedLists;
 use left_right_blocks::{Blocks, ForkEdge};
+use left_right_sides::sides;
 use std::test::Fail;
 
 // Tests that numbers come out of joined lists in order, and that what was taken can be put before others.
@@ -37,5 +38,34 @@ fn forks_part_edges(rt: HostRuntime) -> Result<(), Fail> {
     assert!(rt; blocks.deepest(&heights, 4).is_none());
     let sides = blocks.sides(rt.alloc())?;
     assert!(rt; sides.as_slice() == [true, false, true].as_slice());
+    Ok(())
+}
+
+// Tests the sides of the edges of a path through five vertices and three more edges, of which two cross where both are on
+// one side, and that ten edges of these vertices have no sides.
+#[test]
+fn edges_have_sides(rt: HostRuntime) -> Result<(), Fail> {
+    let parents = [0, 0, 1, 2, 3];
+    let order = [0, 1, 2, 3, 4];
+    let some = [(1, 0), (2, 1), (3, 2), (4, 3), (3, 1), (4, 0), (4, 2)];
+    let found = sides(rt.alloc(), &parents, &order, &some, &order)?;
+    assert!(rt; found.is_some());
+    if let Some(list) = found {
+        assert!(rt; list.len() == 7 && list[4] != list[6]);
+    }
+    let all = [
+        (1, 0),
+        (2, 0),
+        (2, 1),
+        (3, 0),
+        (3, 1),
+        (3, 2),
+        (4, 0),
+        (4, 1),
+        (4, 2),
+        (4, 3),
+    ];
+    let none = sides(rt.alloc(), &parents, &order, &all, &order)?;
+    assert!(rt; none.is_none());
     Ok(())
 }

@@ -1,8 +1,9 @@
 -- A pass that comes to know behind each row where the next number of its vertex goes.
-use Rattle.std.proofs.Common.{◌≡◌, ◌≢◌, ℕ, zero, suc, ◌+◌, ◌<◌, ◌≤◌, ◌++◌, ◌&&◌, Bool, true, false, cond, ltb, eqb, List, [], ◌∷◌, length, get_or, set, map, replicate, take, length-set, ℤ, pos, refl, sym, ap, ap₂, ◌∙◌, inl, inr, arith}
+use Rattle.std.proofs.Common.{◌≡◌, ◌≢◌, ℕ, zero, suc, ◌+◌, ◌-◌, ◌<◌, ◌≤◌, ◌++◌, ◌&&◌, Bool, true, false, cond, ltb, eqb, List, [], ◌∷◌, length, get_or, set, map, replicate, take, length-set, ℤ, pos, refl, sym, ap, ap₂, ◌∙◌, inl, inr, arith}
 use Rattle.std.specs.List.{count_by}
 use Rattle.std.proofs.lemmas.Bool.{cases_eq, cases_lt, lt-ltb, le-ltb}
-use Rattle.std.proofs.lemmas.List.{map-set, get_or_past, get_or-replicate, length-replicate, get_or-set_same, get_or-set_other, length-append, get_or_append_left, get_or_push}
+use Rattle.std.proofs.Math.Seq.{set-append_seam, take-append_seam}
+use Rattle.std.proofs.lemmas.List.{set-append_left, length-map, map-set, get_or_past, get_or-replicate, length-replicate, get_or-set_same, get_or-set_other, length-append, get_or_append_left, get_or_push}
 use Rattle.std.proofs.lemmas.List.Sums.{count_by_more_yes, count_by_more_no}
 use Rattle.pg_plane.proofs.Counts.{count_none}
 use Rattle.map_lists.specs.Lists.{Lists}
@@ -82,18 +83,35 @@ one_most true = omega arith
 one_most false = omega arith
 
 -- a write to numbers is one to whole numbers
-pub columns_put : (t : Bool) (old new : List ℤ) (numbers : List ℕ) (k x : ℕ) → old ≡ map pos numbers → new ≡ cond t (set old k (pos x)) old → new ≡ map pos (cond t (set numbers k x) numbers)
-columns_put true old new numbers k x are put = put ∙ (ap (λ (zs : List ℤ). set zs k (pos x)) are ∙ sym (map-set pos numbers k x))
-columns_put false old new numbers k x are put = put ∙ are
+pub columns_put : (t : Bool) (old new : List ℤ) (numbers : List ℕ) (spare : ℤ) (k x : ℕ) → old ≡ map pos numbers ++ spare ∷ [] → (t ≡ true → k < length numbers) → new ≡ set old (cond t k (length old - 1)) (pos x) → new ≡ map pos (cond t (set numbers k x) numbers) ++ cond t spare (pos x) ∷ []
+columns_put true old new numbers spare k x are within put =
+    put
+    ∙ (ap (λ (zs : List ℤ). set zs k (pos x)) are
+    ∙ (set-append_left (map pos numbers) (spare ∷ []) k (pos x) (omega (arith, within refl, length-map numbers pos)) ∙ ap (λ (zs : List ℤ). zs ++ spare ∷ []) (sym (map-set pos numbers k x))))
+columns_put false old new numbers spare k x are within put =
+    let last : length old - 1 ≡ length (map pos numbers) = omega (arith, ap (λ (zs : List ℤ). length zs) are, length-append (map pos numbers) (spare ∷ [])) in
+    put ∙ (ap₂ (λ (zs : List ℤ) (i : ℕ). set zs i (pos x)) are last ∙ set-append_seam (map pos numbers) spare [] (pos x))
+
+-- how many there are
+pub columns_long : (columns : List ℤ) (numbers : List ℕ) (spare : ℤ) → columns ≡ map pos numbers ++ spare ∷ [] → length columns ≡ length numbers + 1
+columns_long columns numbers spare are = omega (arith, ap (λ (zs : List ℤ). length zs) are, length-append (map pos numbers) (spare ∷ []), length-map numbers pos)
+
+-- all but the spare one
+pub columns_all : (columns : List ℤ) (numbers : List ℕ) (spare : ℤ) (n : ℕ) → columns ≡ map pos numbers ++ spare ∷ [] → length numbers ≡ n → take n columns ≡ map pos numbers
+columns_all columns numbers spare n are long =
+    ap₂ (λ (k : ℕ) (zs : List ℤ). take k zs) (sym long ∙ sym (length-map numbers pos)) are ∙ take-append_seam (map pos numbers) (spare ∷ [])
 
 pub zero_at : (n x : ℕ) → get_or {A = ℕ} (replicate n 0) x 0 ≡ 0
 zero_at n x =
     let zeros : List ℕ = replicate n 0 in
     elim (cases_lt x n) [ inl l ↦ get_or-replicate {A = ℕ} n x 0 0 l | inr past ↦ get_or_past zeros x 0 (omega (arith, past, length-replicate {A = ℕ} n 0)) ]
 
-pub columns_none : (n : ℕ) → replicate n (pos 0) ≡ map pos (replicate n 0)
-columns_none zero = refl
-columns_none (suc n) = ap (λ (zs : List ℤ). pos 0 ∷ zs) (columns_none n)
+pub columns_none : (n : ℕ) → replicate (n + 1) (pos 0) ≡ map pos (replicate n 0) ++ pos 0 ∷ []
+columns_none n = let next : n + 1 ≡ suc n = omega arith in rw next (more n)
+  where
+    more : (n : ℕ) → replicate (suc n) (pos 0) ≡ map pos (replicate n 0) ++ pos 0 ∷ []
+    more zero = refl
+    more (suc n) = ap (λ (zs : List ℤ). pos 0 ∷ zs) (more n)
 
 module _ (lists rows : Lists) (simple : IsSimpleMap lists) where
   -- before all rows

@@ -1,5 +1,5 @@
 -- What the pass over the lists reads and makes: the numbers of the faces beside each dart, and columns with the ends of bars.
-use Rattle.std.specs.Prelude.{ℕ, ◌<◌, ◌≡◌, ◌^◌, List, length, map, slice_index, ℤ, pos}
+use Rattle.std.specs.Prelude.{ℕ, ◌<◌, ◌≡◌, ◌^◌, List, [], ◌∷◌, ◌++◌, length, map, slice_index, ℤ, pos}
 use Rattle.map_lists.specs.Lists.{Lists}
 use Rattle.map_theory.specs.Maps.{IsSimpleMap, HasDart, list_of, dart_count, dart_number}
 use Rattle.graph_search.specs.Arcs.{arcs_of}
@@ -27,10 +27,11 @@ pub record IsFilledTo (lists rows : Lists) (b i : ℕ) (starts columns : List �
   pub same : (a : ℕ) → a < b → slice_index starts a ≡ slice_index places a
   pub vertices : length starts ≡ length lists
 
--- `IsFilledTo`, with the numbers of the columns as integers
+-- `IsFilledTo`, with the numbers of the columns as integers, and a spare entry behind them
 pub record AreFilledTo (lists rows : Lists) (b i : ℕ) (starts : List ℕ) (columns : List ℤ) : Type 0 where
   pub numbers : List ℕ
-  pub are : columns ≡ map pos numbers
+  pub spare : ℤ
+  pub are : columns ≡ map pos numbers ++ spare ∷ []
   pub filled : IsFilledTo lists rows b i starts numbers
 
 -- columns from rows, as whole numbers

@@ -1,5 +1,5 @@
 //! Numbers the faces of a map by the numbers of its darts, with no half-edge map, and lists the dual arcs between them.
-ghost use Rattle.std.specs.Prelude.{◌≡◌, ◌<◌, ◌+◌, ◌==◌, ◌||◌, if◌then◌else◌, ◌∷◌, ◌^◌, ℕ, [], false, length, map, slice_index, slice_index_or, OnOk, IfOk};
+ghost use Rattle.std.specs.Prelude.{◌≤◌, ◌≡◌, ◌<◌, ◌+◌, ◌==◌, ◌||◌, if◌then◌else◌, ◌∷◌, ◌^◌, ℕ, [], false, length, map, slice_index, slice_index_or, OnOk, IfOk};
 ghost use Rattle.classes.specs.Classes.{same_class};
 ghost use Rattle.classes.proofs.Marks.{KeepsMarks};
 ghost use Rattle.map_lists.specs.Cuts.{cut};
@@ -47,7 +47,17 @@ fn after(ends: &[usize], v: usize, d: usize) -> usize
     }
 }
 
+// Returns how many arcs a dart between ends of these ranks does not give: none where it leads upward, and else one.
+#[inline(always)]
+fn excess(tail: u16, head: u16) -> usize
+    ensures up { tail < head → result ≡ 0 }
+    ensures down { head ≤ tail → result ≡ 1 }
+{
+    if tail < head { 0 } else { 1 }
+}
+
 // Appends `twin`, the number of the twin of `dart`, to `arcs` where `dart`, as tail and head, leads to greater `rank`.
+// Elsewhere it is appended too, and taken back.
 fn put_upward(
     rank: &[u16],
     dart: (u16, u16),
@@ -58,9 +68,9 @@ fn put_upward(
     requires head { dart.1 < length rank.now }
     ensures { OnOk result (IsPutUp rank.now dart.0 dart.1 twin arcs.old.items arcs.new.items) }
 {
-    if rank[dart.0 as usize] < rank[dart.1 as usize] {
-        arcs.push(twin)?;
-    }
+    let down = excess(rank[dart.0 as usize], rank[dart.1 as usize]);
+    arcs.push(twin)?;
+    arcs.truncate(arcs.len() - down);
     Ok(())
 }
 

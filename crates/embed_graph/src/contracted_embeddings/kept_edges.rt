@@ -23,7 +23,7 @@ fn has_witness(alloc: Global, graph: &Graph) -> Result<bool, AllocError>
         let planar = has_map(alloc, graph)?;
         return Ok(!planar);
     }
-    let mut tables = Tables::new();
+    let mut tables = Tables::new(alloc);
     match test_graph(alloc, &mut tables, graph)? {
         Tested::Map(_) => Ok(false),
         Tested::NoMap => Ok(true),

@@ -37,7 +37,7 @@ impl Embedder {
     pub fn new(alloc: Global) -> Embedder {
         Embedder {
             alloc,
-            tables: Tables::new(),
+            tables: Tables::new(alloc),
             drawer: Drawer::new(alloc),
             edges: EdgeTest::new(alloc),
         }

@@ -75,7 +75,7 @@ fn keep(figure: &mut Figure, held: Held<Figure>)
 impl Format for FigureReader {
     ghost use Rattle.line_inputs.specs.FigureLinesState.{IsAt, ending_by};
     ghost use Rattle.line_inputs.specs.Given.{IsGiven};
-    ghost use Rattle.line_inputs.specs.FigureLinesFormat.{figures};
+    ghost use Rattle.line_inputs.specs.FigureLinesFormat.{figures, ended_well, ending_behind};
 
     type Record = Figure;
 
@@ -90,6 +90,10 @@ impl Format for FigureReader {
     ghost lent = { λ reader. reader.figure };
 
     ghost ending = { λ reader. ending_by reader.begun reader.line reader.pending };
+
+    ghost ended_well = { ended_well };
+
+    ghost ending_behind = { ending_behind };
 
     ghost IsGiven = { IsGiven };
 
@@ -162,6 +166,18 @@ impl Format for FigureReader {
     // Says whether `end` is the good ending, `Well`. Any other is a bad one.
     fn is_well(end: &Ending) -> bool {
         matches!(end, Ending::Well)
+    }
+
+    // Returns `end` with its line as it is counted behind `before` others. `None` beyond 2^32 - 1.
+    fn end_behind(end: &Ending, before: usize) -> Option<Ending> {
+        let lines = u32::try_from(before).ok()?;
+        match *end {
+            Ending::BadLine(k) => Some(Ending::BadLine(lines.checked_add(k)?)),
+            Ending::Limit(k) => Some(Ending::Limit(lines.checked_add(k)?)),
+            Ending::EndInFigure(k) => Some(Ending::EndInFigure(lines.checked_add(k)?)),
+            Ending::Well => Some(Ending::Well),
+            Ending::TooLong => Some(Ending::TooLong),
+        }
     }
 
     // Does nothing. Its contract is the four laws that `Format::lawful` states, for this reader.

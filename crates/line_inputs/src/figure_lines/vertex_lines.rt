@@ -1,5 +1,5 @@
 //! The vertex lines of a figure, or the lines of branches and paths of a witness, read one by one.
-ghost use Rattle.std.specs.Prelude.{◌≡◌, ◌+◌, ◌<◌, false, length, IfOk, IfSome, nat_lt};
+ghost use Rattle.std.specs.Prelude.{◌≡◌, ◌+◌, ◌<◌, [], false, length, IfOk, IfSome, nat_lt};
 ghost use Rattle.std.specs.Bool.{OnTrue};
 ghost use Rattle.figure_text.specs.Words.{words_of};
 ghost use Rattle.figure_text.specs.Drafts.{with_row};
@@ -9,7 +9,7 @@ ghost use Rattle.line_inputs.specs.Steps.{no_lines};
 
 use crate::figure_lines::boxed::Held;
 use crate::figure_lines::first_line::Head;
-use figure_text::{Draft, Judged, VertexLine, Word};
+use figure_text::{Draft, Judged, Kind, VertexLine, Word};
 use map_lists::ItemLists;
 use pg_plane::{Ints, Points};
 use std::alloc::{AllocError, Global};
@@ -25,21 +25,63 @@ pub struct Rows {
     pub draft: Draft,
 }
 
+// Returns no numbers, with room for `n` if there is memory.
+fn room_for_numbers(alloc: Global, n: usize) -> Ints
+    ensures { result ≡ [] }
+{
+    match Ints::with_capacity(alloc, n) {
+        Ok(list) => list,
+        Err(_) => Ints::new(alloc),
+    }
+}
+
+// Returns no points, with room for `n` if there is memory.
+fn room_for_points(alloc: Global, n: usize) -> Points
+    ensures { result ≡ [] }
+{
+    match Points::with_capacity(alloc, n) {
+        Ok(points) => points,
+        Err(_) => Points::new(alloc),
+    }
+}
+
+// Returns no lists, with room for `n` of six entries each if there is memory.
+fn room_for_lists(alloc: Global, n: usize) -> ItemLists<u16>
+    ensures { result ≡ [] }
+{
+    match ItemLists::with_capacity(alloc, n.saturating_mul(6), n) {
+        Ok(lists) => lists,
+        Err(_) => ItemLists::new(alloc),
+    }
+}
+
+// Returns how many points, how many heights and ends, and how many upper sides `n` lines of this `kind` have.
+fn sizes(kind: Kind, n: usize) -> (usize, usize, usize) {
+    match kind {
+        Kind::Grid(_) => (n, 0, 0),
+        Kind::Bars => (0, n, 0),
+        Kind::Rects => (0, n, n),
+        Kind::Witness(_) => (0, 0, 0),
+    }
+}
+
 impl Rows {
-    /// Makes a figure of which only the first line has come, with the content `head`; `n` more lines are due.
+    /// Makes a figure of which only the first line has come, with the content `head`; `n` more lines are due. It has
+    /// room for them, of six entries each, as far as there is memory.
     pub fn new(alloc: Global, head: Head, n: usize) -> Rows
         ensures { result ≡ record { head = head; n = n; draft = no_lines } }
     {
+        let (points, bars, uppers) = sizes(head.kind(), n);
         Rows {
             head,
             n,
             draft: Draft {
-                lists: ItemLists::new(alloc),
-                points: Points::new(alloc),
-                y: Ints::new(alloc),
-                x1: Ints::new(alloc),
-                x2: Ints::new(alloc),
-                y2: Ints::new(alloc),
+                lists: room_for_lists(alloc, n),
+                points: room_for_points(alloc, points),
+                y: room_for_numbers(alloc, bars),
+                x1: room_for_numbers(alloc, bars),
+                x2: room_for_numbers(alloc, bars),
+                y2: room_for_numbers(alloc, uppers),
             },
         }
     }

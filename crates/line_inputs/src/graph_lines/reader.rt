@@ -56,7 +56,7 @@ impl GraphReader {
 
 impl Format for GraphReader {
     ghost use Rattle.line_inputs.specs.GraphLinesState.{IsAt, ending_by};
-    ghost use Rattle.line_inputs.specs.GraphLinesFormat.{graph_lines, IsAny};
+    ghost use Rattle.line_inputs.specs.GraphLinesFormat.{graph_lines, IsAny, ended_well, ending_behind};
 
     type Record = Graph;
 
@@ -71,6 +71,10 @@ impl Format for GraphReader {
     ghost lent = { λ reader. reader.graph };
 
     ghost ending = { λ reader. ending_by reader.first reader.line reader.pending };
+
+    ghost ended_well = { ended_well };
+
+    ghost ending_behind = { ending_behind };
 
     ghost IsGiven = { IsAny };
 
@@ -126,6 +130,17 @@ impl Format for GraphReader {
     // Says whether `end` is the good ending, `Well`. Any other is a bad one.
     fn is_well(end: &Ending) -> bool {
         matches!(end, Ending::Well)
+    }
+
+    // Returns `end` with its line as it is counted behind `before` others. `None` beyond 2^32 - 1.
+    fn end_behind(end: &Ending, before: usize) -> Option<Ending> {
+        let lines = u32::try_from(before).ok()?;
+        match *end {
+            Ending::BadLine(k) => Some(Ending::BadLine(lines.checked_add(k)?)),
+            Ending::Limit(k) => Some(Ending::Limit(lines.checked_add(k)?)),
+            Ending::Well => Some(Ending::Well),
+            Ending::TooLong => Some(Ending::TooLong),
+        }
     }
 
     // Does nothing. Its contract is the four laws that `Format::lawful` states, for this reader.

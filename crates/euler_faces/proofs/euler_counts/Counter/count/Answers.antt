@@ -17,8 +17,7 @@ number_components-components-requires-clause-marks c =
 pub number_components-components-requires-clause-room : goal.number_components-components-requires-clause-room
 number_components-components-requires-clause-room c =
     let map = c.stored-map.result in
-    let taken = length-take-le c.len-2.result c.deref_mut-2.result.now (omega (arith, ap length c.deref_mut-2.ensures.value, c.in_ok-clear.ensures.room, c.len.ensures.is, c.len-2.ensures.is)) in
-    omega (arith, taken, c.len-2.ensures.is, ap length c.stored-map.ensures, length-cut 0 map.ends.now map.entries.now)
+    omega (arith, ap length c.deref_mut-2.ensures.value, c.in_ok-clear.ensures.room, c.len.ensures.is, ap length c.stored-map.ensures, length-cut 0 map.ends.now map.entries.now)
 
 pub euler_by_twins-requires-clause-twins : goal.euler_by_twins-requires-clause-twins
 euler_by_twins-requires-clause-twins c = rw (c.deref_mut-3.ensures.value, c.in_ok-clear.ensures.twins) c.in_ok-fill_twins.ensures.slots.twins_are
@@ -28,3 +27,6 @@ euler_by_twins-requires-clause-components c = c.number_components-components.ens
 
 pub returns-clause-simple : goal.returns-clause-simple
 returns-clause-simple c = first_fault-IsSimpleMap c.args.lists.now c.in_ok-fill_twins.ensures.slots.simple
+
+pub returns-then-branch-clause-simple : goal.returns-then-branch-clause-simple
+returns-then-branch-clause-simple c = first_fault-IsSimpleMap c.args.lists.now c.in_ok-fill_twins.ensures.slots.simple

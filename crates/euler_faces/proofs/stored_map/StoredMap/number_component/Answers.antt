@@ -25,7 +25,7 @@ loop-next-init c =
     record {
       queued = record {
         marks = length-set c.args.numbers.now c.args.start c.args.number ∙ marks;
-        room = length-set c.args.queue.now c.args.filled c.args.start ∙ c.requires.queued.room;
+        room = omega (arith, length-set c.args.queue.now c.args.filled c.args.start, c.requires.queued.room);
         work = rw e (omega (arith, c.requires.queued.work));
       };
       order = omega arith;

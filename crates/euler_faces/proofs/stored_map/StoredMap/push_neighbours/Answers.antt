@@ -1,12 +1,12 @@
-use Rattle.std.proofs.Common.{◌≡◌, ◌<◌, true, length, get_or, set, refl, ap, ◌∙◌, inl, inr, arith, length-set}
+use Rattle.std.proofs.Common.{◌≡◌, ◌+◌, ◌<◌, true, length, get_or, set, refl, ap, ◌∙◌, inl, inr, arith, length-set}
 use Rattle.std.proofs.lemmas.Bool.{cases_eq}
+use Rattle.std.proofs.lemmas.List.{set-get_or}
 use Rattle.map_lists.specs.Cuts.{cut}
 use Rattle.map_lists.proofs.CutLemmas.{AreCuts-at}
 use Rattle.euler_faces.specs.Numbers.{mark_at}
 use Rattle.euler_faces.specs.Search.{marks_of}
-use Rattle.euler_faces.proofs.SearchLemmas.{unmarked_below-set, marks-set, length-marks_of, met, unmet, IsNumbered-set, IsNumbered-chained, set-here, set-keeps, search-push, search-close, entry-dart, AllMarked-from_entries, components-step}
+use Rattle.euler_faces.proofs.SearchLemmas.{unmarked_below-set, marks-set, length-marks_of, met, unmet, IsNumbered-set, IsNumbered-chained, set-here, set-keeps, search-push, search-scratch, search-close, entry-dart, AllMarked-from_entries, components-step}
 use Rattle.euler_faces.proofs.stored_map.StoredMap.push_neighbours.Goals as goal
-use Rattle.euler_faces.proofs.stored_map.StoredMap.push_neighbours.Goals.{then-numbers-w, else-numbers-w}
 
 pub offset_bounds-map-i : goal.offset_bounds-map-i
 offset_bounds-map-i c =
@@ -23,16 +23,13 @@ bounds-numbers-w c =
     let dart = entry-dart c.args.self.now.ends.now c.args.self.now.entries.now c.facts.ensures.cuts c.args.v c.requires.v_in c.loop-i.i (omega (arith, c.start_of-i.ensures)) c.loop-i-test.true in
     omega (arith, c.facts.ensures.simple.in_range c.args.v _ dart, c.facts.ensures.vertices, c.loop-i.invariant.queued.marks)
 
-pub bounds-queue-filled : goal.bounds-queue-filled
-bounds-queue-filled c =
+pub bounds-numbers-w-in-loop-i : goal.bounds-numbers-w-in-loop-i
+bounds-numbers-w-in-loop-i c =
     let dart = entry-dart c.args.self.now.ends.now c.args.self.now.entries.now c.facts.ensures.cuts c.args.v c.requires.v_in c.loop-i.i (omega (arith, c.start_of-i.ensures)) c.loop-i-test.true in
-    let h = c.loop-i.invariant in
-    let w_in = c.facts.ensures.simple.in_range c.args.v _ dart in
-    let long = c.facts.ensures.vertices in
-    let marks = length-marks_of 65535 c.loop-i.numbers in
-    let off = unmet 65535 c.loop-i.numbers (get_or c.args.self.now.entries.now c.loop-i.i 0) (omega (arith, h.queued.marks)) c.if-numbers-w.true in
-    let fewer = unmarked_below-set (marks_of c.loop-i.numbers) (get_or c.args.self.now.entries.now c.loop-i.i 0) (length c.args.self.now.ends.now) (omega arith) (omega (arith, h.queued.marks)) off in
-    omega (arith, h.queued.work, h.queued.room)
+    omega (arith, c.facts.ensures.simple.in_range c.args.v _ dart, c.facts.ensures.vertices, c.loop-i.invariant.queued.marks)
+
+pub bounds-queue-filled : goal.bounds-queue-filled
+bounds-queue-filled c = let h = c.loop-i.invariant in omega (arith, h.queued.work, h.queued.room)
 
 pub loop-i-preserved : goal.loop-i-preserved
 loop-i-preserved c =
@@ -48,15 +45,16 @@ loop-i-preserved c =
     let marks = h.queued.marks in
     let long-marks = length-marks_of 65535 c.loop-i.numbers in
     let in_marks : x < length (marks_of c.loop-i.numbers) = omega arith in
-    elim c.if-numbers-w.branch [
-      | then-numbers-w w ↦
-          (let off = unmet 65535 c.loop-i.numbers x (omega arith) w.if-numbers-w.true in
+    let room : c.loop-i.filled < length c.loop-i.queue = omega (arith, h.queued.work, h.queued.room) in
+    elim (cases_eq (get_or c.loop-i.numbers x 0) 65535) [
+      | inl fresh ↦
+          (let off = unmet 65535 c.loop-i.numbers x (omega arith) fresh in
           let e = marks-set 65535 c.loop-i.numbers x c.args.number c.requires.is_number in
           let fewer = unmarked_below-set (marks_of c.loop-i.numbers) x (length ends) (omega arith) in_marks off in
-          rw (w.numbers-is, w.queue-is, w.filled-is) (record {
+          rw (c.number_after.ensures.unmet fresh, c.met_anew-filled.ensures.one fresh) (record {
             queued = record {
               marks = length-set c.loop-i.numbers x c.args.number ∙ h.queued.marks;
-              room = length-set c.loop-i.queue c.loop-i.filled x ∙ h.queued.room;
+              room = omega (arith, length-set c.loop-i.queue c.loop-i.filled x, h.queued.room);
               work = rw e (omega (arith, h.queued.work));
             };
             grows = omega (arith, h.grows);
@@ -67,19 +65,26 @@ loop-i-preserved c =
             ]);
             search = rw e (λ old next start order together search.
                 search-push lists old (marks_of c.loop-i.numbers) c.loop-i.queue next c.loop-i.filled start (λ y. y ≡ c.args.v) x _ (h.search old next start order together search)
-                (omega (arith, h.grows)) (omega (arith, h.queued.room, h.queued.work)) refl w_in in_marks (together ∙ components-step lists c.args.v x c.facts.ensures.simple dart));
+                (omega (arith, h.grows)) room refl w_in in_marks (together ∙ components-step lists c.args.v x c.facts.ensures.simple dart));
           }))
-      | else-numbers-w w ↦
-          rw (w.numbers-is, w.queue-is, w.filled-is) (record {
-            queued = h.queued;
+      | inr known ↦
+          (let same = c.number_after.ensures.met known in
+          let none : c.loop-i.filled + c.met_anew-filled.result ≡ c.loop-i.filled = omega (arith, c.met_anew-filled.ensures.none known) in
+          rw (same, set-get_or c.loop-i.numbers x 0, none) (record {
+            queued = record {
+              marks = h.queued.marks;
+              room = omega (arith, length-set c.loop-i.queue c.loop-i.filled x, h.queued.room);
+              work = h.queued.work;
+            };
             grows = h.grows;
             numbered = h.numbered;
             done = λ k a b. elim (cases_eq k i) [
-              | inl e ↦ ap (λ j. mark_at (marks_of c.loop-i.numbers) (get_or entries j 0)) e ∙ met 65535 c.loop-i.numbers x (omega arith) w.if-numbers-w.false
+              | inl e ↦ ap (λ j. mark_at (marks_of c.loop-i.numbers) (get_or entries j 0)) e ∙ met 65535 c.loop-i.numbers x (omega arith) known
               | inr ne ↦ h.done k a (omega arith)
             ];
-            search = h.search;
-          })
+            search = λ old next start order together search.
+                search-scratch lists old (marks_of c.loop-i.numbers) c.loop-i.queue next c.loop-i.filled start (λ y. y ≡ c.args.v) x (h.search old next start order together search);
+          }))
     ]
 
 pub returns-clause-search : goal.returns-clause-search

@@ -2,7 +2,7 @@ use Rattle.std.proofs.Common.{◌≡◌, Contains, get_or, slice_index, refl, su
 use Rattle.std.proofs.lemmas.Bool.{cases_lt}
 use Rattle.map_theory.specs.Maps.{Dart}
 use Rattle.left_right_maps.specs.Orders.{MayPrecede}
-use Rattle.left_right_lists.specs.Groups.{side_in}
+use Rattle.left_right_lists.specs.Sides.{side_in}
 use Rattle.left_right_lists.proofs.Ordered.{all_held}
 use Rattle.left_right_lists.proofs.edge_orders.Choice.may_all_precede.Goals as goal
 

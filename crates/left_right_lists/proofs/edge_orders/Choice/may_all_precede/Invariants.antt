@@ -1,7 +1,7 @@
 use Rattle.std.proofs.Common.{ℕ, ◌<◌, Contains, get_or, slice_index}
 use Rattle.map_theory.specs.Maps.{Dart}
 use Rattle.left_right_maps.specs.Orders.{MayPrecede}
-use Rattle.left_right_lists.specs.Groups.{side_in}
+use Rattle.left_right_lists.specs.Sides.{side_in}
 use Rattle.left_right_lists.proofs.edge_orders.Choice.may_all_precede.Given as goal
 
 abbrev pub invariant-loop-d : goal.invariant-loop-d

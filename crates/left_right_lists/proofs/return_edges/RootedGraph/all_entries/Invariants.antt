@@ -1,5 +1,5 @@
 use Rattle.left_right_lists.specs.Trees.{IsTreeOf, AreSides}
-use Rattle.left_right_lists.specs.Groups.{side_in}
+use Rattle.left_right_lists.specs.Sides.{side_in}
 use Rattle.left_right_lists.proofs.Filled.{IsFilled}
 use Rattle.left_right_lists.proofs.return_edges.RootedGraph.all_entries.Given as goal
 

@@ -1,5 +1,5 @@
 use Rattle.std.proofs.Common.{◌≡◌, ◌≢◌, ℕ, ◌+◌, ◌<◌, List, length, get_or, cond, ltb, set, ℤ, pos, refl, sym, ap, ◌∙◌, arith}
-use Rattle.std.proofs.lemmas.List.{length-map}
+use Rattle.std.proofs.lemmas.Bool.{ltb-true}
 use Rattle.std.proofs.lemmas.List.Elements.{Contains-get_or}
 use Rattle.map_theory.specs.Maps.{list_of}
 use Rattle.map_theory.proofs.DartCounts.{few_darts-simple}
@@ -8,7 +8,7 @@ use Rattle.graph_search.specs.Arcs.{arcs_of}
 use Rattle.bipolar.specs.FaceNumbers.{left_rows}
 use Rattle.drawings.proofs.EdgeCounts.{edges_until-all}
 use Rattle.bipolar.proofs.FaceAgree.{length-left_row}
-use Rattle.visibility.proofs.StartLemmas.{below_more, one_most, columns_put, start_in, IsFilledTo-more}
+use Rattle.visibility.proofs.StartLemmas.{below_more, one_most, columns_put, columns_long, start_in, IsFilledTo-more}
 use Rattle.visibility.proofs.SpanLemmas.{IsSpan-more, IsLeastOf-span, IsGreatestOf-span, entry_in, entry_twin_in, entry_head, entry_read}
 use Rattle.visibility.proofs.column_pass.Sides.put_row.Goals as goal
 
@@ -47,6 +47,9 @@ put_if-down-requires-clause-vertex c =
     let li : c.loop-i.i < length (list_of lists c.args.b) = omega (arith, c.loop-i-test.true, ap (λ (us : List ℕ). length us) c.list-list.ensures) in
     omega (arith, entry_head lists c.args.self.now.rank.now c.args.self.now.of.now c.args.self.now.twins.now c.args.self.now.numbers.now s c.args.b c.loop-i.i c.requires.vertex li, c.loop-i.invariant.filled.filled.vertices, ap (λ (us : List ℕ). get_or us c.loop-i.i 0) c.list-list.ensures)
 
+pub put_if-down-requires-clause-spare : goal.put_if-down-requires-clause-spare
+put_if-down-requires-clause-spare c = let w = c.loop-i.invariant.filled in omega (arith, columns_long c.loop-i.columns w.numbers w.spare w.are)
+
 pub put_if-down-requires-clause-place : goal.put_if-down-requires-clause-place
 put_if-down-requires-clause-place c = λ l.
     let lists = c.args.self.now.lists.now in
@@ -56,7 +59,7 @@ put_if-down-requires-clause-place c = λ l.
     let w = c.loop-i.invariant.filled in
     let li : i < length (list_of lists c.args.b) = omega (arith, c.loop-i-test.true, ap (λ (us : List ℕ). length us) c.list-list.ensures) in
     let same : get_or c.list-list.result.now i 0 ≡ get_or (list_of lists c.args.b) i 0 = ap (λ (us : List ℕ). get_or us i 0) c.list-list.ensures in
-    let long : length c.loop-i.columns ≡ length w.numbers = ap (λ (zs : List ℤ). length zs) w.are ∙ length-map w.numbers pos in
+    let long = columns_long c.loop-i.columns w.numbers w.spare w.are in
     omega (arith, start_in lists rows s.simple c.args.b i c.loop-i.starts w.numbers c.requires.vertex li w.filled (omega (arith, l, same)), ap (λ z. get_or c.loop-i.starts z 0) same, long)
 
 pub put_if-down-requires-clause-low : goal.put_if-down-requires-clause-low
@@ -104,7 +107,9 @@ loop-i-preserved c =
       count = omega (arith, c.put_if-down.ensures.count, below_more (list_of lists b) b (length lists) i c.loop-i.down one li within apart (ap (λ (z : ℕ). cond {A = ℕ} (ltb z b) 1 0) same) h.count);
       filled = record {
         numbers = now;
-        are = columns_put (ltb here b) c.loop-i.columns c.put_if-down.new.columns w.numbers place x w.are c.put_if-down.ensures.columns;
+        spare = cond (ltb here b) w.spare (pos x);
+        are = columns_put (ltb here b) c.loop-i.columns c.put_if-down.new.columns w.numbers w.spare place x w.are
+            (λ t. let less = ltb-true here b t in omega (arith, start_in lists rows s.simple b i c.loop-i.starts w.numbers c.requires.vertex li w.filled (omega (arith, less, same)), ap (λ z. get_or c.loop-i.starts z 0) same)) c.put_if-down.ensures.columns;
         filled = IsFilledTo-more lists rows s.simple b i c.loop-i.starts w.numbers c.requires.vertex li w.filled list (arcs_of rows b) c.put_if-down.new.starts now c.list-list.ensures refl
             (ap (λ z. cond (ltb here b) (set w.numbers place z) w.numbers) (sym is)) c.put_if-down.ensures.starts;
       };

@@ -1,0 +1,9 @@
+-- Returning edges, and vertices placed.
+pub mod Returned
+pub mod Placed
+pub mod Sorted
+pub mod Finding
+pub mod Children
+pub mod Searching
+pub mod Numbered
+pub mod Sided

@@ -1,0 +1,4 @@
+-- Views of a tree, and what stands.
+pub mod Outs
+pub mod Standing
+pub mod Views

@@ -1,0 +1,9 @@
+//! Left and right sides of the return edges of a depth-first tree, or that there are none, in blocks.
+#![tactic(auto)]
+
+mod nesting;
+mod placing;
+mod upward_sides;
+mod vertex_forks;
+
+pub use crate::upward_sides::sides;

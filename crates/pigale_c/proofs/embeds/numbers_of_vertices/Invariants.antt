@@ -1,6 +1,0 @@
-use Rattle.std.proofs.Common.{◌≡◌, take, map}
-use Rattle.pigale_c.specs.Embedded.{number}
-use Rattle.pigale_c.proofs.embeds.numbers_of_vertices.Given as goal
-
-abbrev pub invariant-loop-v : goal.invariant-loop-v
-invariant-loop-v l = l.numbers.items ≡ map number (take l.v-index l.vertices)
