@@ -1,4 +1,7 @@
-/* Memory for the library, from malloc. It includes no header, since it is compiled for systems whose headers are not here. */
+/* Memory for the library, from malloc. It includes no header, since it is compiled for systems whose headers are not here.
+ *
+ * A call asks for many small tables, and gives all back before it ends. So a thread cuts them one behind another from a block,
+ * which it has from the first of them to the last. What does not fit is asked of malloc; with PLAIN defined, all is. */
 typedef __SIZE_TYPE__ word;
 
 void *malloc(word);
@@ -15,13 +18,84 @@ static unsigned char none;
 
 static tried given(void *at) { return at ? (tried){1, at} : (tried){0, &none}; }
 
-/* A request for nothing is one for as much as its alignment, so null always says that there is no memory. */
-tried rattle_alloc(word size, word align) { return given(malloc(size ? size : align)); }
+/* Ask malloc. A request for nothing is one for a byte, so null always says that there is no memory. */
+static tried fresh(word size) { return given(malloc(size + !size)); }
+static tried moved(void *at, word size) { return given(realloc(at, size + !size)); }
+
+#ifdef PLAIN
+
+tried rattle_alloc(word size, word align) { return (void)align, fresh(size); }
+tried rattle_realloc(unsigned char *at, word kept, word size, word align) { return (void)kept, (void)align, moved(at, size); }
+void rattle_dealloc(unsigned char *at) { free(at); }
+
+#else
+
+enum { BLOCK = 1 << 15 };
+
+/* The block of a thread, if it has one; the piece cut last; how much is left behind it, and how many pieces are out. */
+static _Thread_local struct {
+    unsigned char *block, *newest;
+    word left, pieces;
+} cut;
+
+/* What a piece takes: a multiple of 16, the largest alignment, and more than was asked for, so none is empty. */
+static word length_of(word size) { return (size + 16) & ~(word)15; }
+
+static unsigned char *rest(void) { return cut.block + BLOCK - cut.left; }
+
+/* Says whether a piece is of the block. Where there is no block it is not, since no memory lies at so low an address. */
+static int is_cut(const unsigned char *at) { return (word)at - (word)cut.block < BLOCK; }
+
+static tried piece(word length)
+{
+    cut.newest = rest();
+    cut.left -= length;
+    cut.pieces++;
+    return (tried){1, cut.newest};
+}
+
+/* Answers a request for which too little is left: by a new block if there is none, or else from malloc. */
+static __attribute__((noinline)) tried other(word size)
+{
+    if (cut.block || size >= BLOCK || !(cut.block = malloc(BLOCK))) return fresh(size);
+    cut.left = BLOCK;
+    return piece(length_of(size));
+}
+
+tried rattle_alloc(word size, word align)
+{
+    (void)align;
+    word length = length_of(size);
+    return length <= cut.left ? piece(length) : other(size);
+}
+
+void rattle_dealloc(unsigned char *at)
+{
+    if (!is_cut(at)) {
+        free(at);
+    } else if (!--cut.pieces) {
+        free(cut.block);
+        cut.block = 0;
+        cut.left = 0;
+    } else if (at == cut.newest) {
+        cut.left += (word)(rest() - at);
+    }
+}
 
 tried rattle_realloc(unsigned char *at, word kept, word size, word align)
 {
-    (void)kept;
-    return given(realloc(at, size ? size : align));
+    if (!is_cut(at)) return moved(at, size);
+    word length = length_of(size), room = at == cut.newest ? cut.left + (word)(rest() - at) : 0;
+    if (length <= room) {
+        cut.left = room - length;
+        return (tried){1, at};
+    }
+    tried made = rattle_alloc(size, align);
+    if (made.ok) {
+        __builtin_memcpy(made.at, at, kept);
+        rattle_dealloc(at);
+    }
+    return made;
 }
 
-void rattle_dealloc(unsigned char *at) { free(at); }
+#endif

@@ -2,6 +2,7 @@
  *
  *   limits stack < RECORDS      each call on each record runs in a thread whose stack is as large as the table below says
  *   limits memory < RECORDS     each call on each record with each of its requests for memory refused, one at a time
+ *   limits pieces               the library's own requests, at random: no piece lies on another, and none is changed
  *
  * The records are maps in planar_code. A call that a map is not for answers so. A call whose request is refused answers
  * that there is no memory and writes nothing, or it answers as ever by a slower way. It returns all that it took. */
@@ -317,8 +318,66 @@ static int look_at_memory(job *s, job *first, int i, long *calls_made)
     }
 }
 
+/* What the library asks of C. */
+typedef struct {
+    size_t ok;
+    uint8_t *at;
+} tried;
+
+tried rattle_alloc(size_t size, size_t align), rattle_realloc(uint8_t *at, size_t kept, size_t size, size_t align);
+void rattle_dealloc(uint8_t *at);
+
+typedef struct {
+    uint8_t *at;
+    size_t size;
+} piece;
+
+/* Each byte of a piece is its number in the table. */
+static int is_whole(const piece *p, size_t size, int number)
+{
+    for (size_t i = 0; i < size; i++)
+        if (p->at[i] != number) return fprintf(stderr, "limits: piece %d of %zu is changed at %zu\n", number, size, i), 0;
+    return 1;
+}
+
+static int resizes(piece *p, size_t size, int number)
+{
+    size_t kept = !p->at ? 0 : p->size < size ? p->size : size;
+    tried made = p->at ? rattle_realloc(p->at, kept, size, 8) : rattle_alloc(size, 8);
+    if (!made.ok) return !p->at || is_whole(p, p->size, number);
+    *p = (piece){made.at, size};
+    if ((uintptr_t)made.at % 16 || !is_whole(p, kept, number)) return 0;
+    memset(p->at, number, size);
+    return 1;
+}
+
+/* Takes, resizes and gives back pieces, and refuses some requests; now and then all are given back. */
+static int look_at_pieces(long steps)
+{
+    enum { PIECES = 40 };
+    piece all[PIECES] = {{0, 0}};
+    long most = 0;
+    for (long step = 0; step <= steps; step++) {
+        int is_last = step == steps || !any(200), one = (int)any(PIECES);
+        refused = any(10) ? -1 : requests;
+        if (!all[one].at || any(3))
+            if (!resizes(&all[one], any(20) ? any(any(4) ? 200 : 6000) : any(100000), one)) return 1;
+        if (blocks > most) most = blocks;
+        for (int i = 0; i < PIECES; i++)
+            if (all[i].at && (is_last || (i == one && !any(2)))) {
+                if (!is_whole(&all[i], all[i].size, i)) return 1;
+                rattle_dealloc(all[i].at);
+                all[i].at = 0;
+            }
+        if (is_last && blocks) return fprintf(stderr, "limits: %ld blocks are lost\n", blocks), 1;
+    }
+    printf("%ld requests of pieces, %ld blocks at most\n", steps, most);
+    return 0;
+}
+
 int main(int count, char **words)
 {
+    if (count == 2 && !strcmp(words[1], "pieces")) return look_at_pieces(200000);
     int is_stack = count == 2 && !strcmp(words[1], "stack");
     if (!is_stack && (count != 2 || strcmp(words[1], "memory"))) return 2;
     job *s = calloc(1, sizeof *s), *first = calloc(1, sizeof *first);

@@ -19,9 +19,12 @@ STACK = 1 << 20  # bytes of stack that the module sets aside: four times what th
 
 
 def linux_memory(machine, to, *kind):
-    """Compiles the memory of the library for Linux on a processor, to an object or what else `kind` asks clang for."""
+    """Compiles the memory of the library for Linux on a processor, to an object or what else `kind` asks clang for.
+
+    A thread's variable is found through a descriptor: that needs no name of a C library, and each loader has it."""
+    descriptors = ["-mtls-dialect=gnu2"] if machine == "x86_64" else []
     call(tool("clang"), f"--target={LINUX[machine]}", "-O2", "-fPIC", "-fvisibility=hidden", "-ffreestanding", "-Wall", "-Werror",
-         *(kind or ("-c",)), f"{ROOT}/library/memory.c", "-o", to)
+         *descriptors, *(kind or ("-c",)), f"{ROOT}/library/memory.c", "-o", to)
 
 
 def archive(to, kind, *objects):
@@ -64,7 +67,8 @@ def foreign_objects(built, target, room):
     clang = tool("clang")
     call(clang, "-S", "-emit-llvm", "-x", "ir", "-Xclang", "-disable-llvm-passes", f"{built.folder}/input", "-w",
          "--no-default-config", "-o", f"{room}/module.ll")
-    linux_memory(built.machine, f"{room}/memory.ll", "-S", "-emit-llvm")
+    # variables of threads are another matter on each system
+    linux_memory(built.machine, f"{room}/memory.ll", "-S", "-emit-llvm", "-DPLAIN")
     options = [it for it in built.options() if it not in ("-fPIC", "-fPIE")] + ["-w", "-O3"]
     if not target.endswith("windows-gnu"):
         options.append("-fPIC")
