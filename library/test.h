@@ -30,7 +30,7 @@ static inline uint32_t any(uint32_t below)
     return (uint32_t)((state >> 33) % below);
 }
 
-static int read_map(map *m)
+static inline int read_map(map *m)
 {
     int c = getchar(), wide = 0;
     if (c == EOF) return 0;
