@@ -29,7 +29,8 @@ except ImportError:
 ROOT = os.path.dirname(HERE)
 LIBRARY = library() or os.path.join(ROOT, "out", "library", "libpigale.so")
 JOBS = ("shift", "schnyder", "convex", "bars", "rect")
-MANY = ("shift_many", "schnyder_many", "convex_many", "bars_many", "rect_many", "count_many", "embed_many")
+MANY = ("shift_many", "schnyder_many", "convex_many", "bars_many", "rect_many", "count_many", "embed_many", "check_many")
+INSIDE = ("faces", "edge_labelling")
 
 
 def some_maps():
@@ -131,7 +132,7 @@ class Library(unittest.TestCase):
         """The answers by the library: by calls for many, and as where a library has none of these; and those of the program."""
         found = []
         for path, is_old in ((LIBRARY, False), (LIBRARY, True), ("", False)):
-            old = unittest.mock.patch("pigale.typed._TYPES", {name: words for name, words in pigale.typed._TYPES.items() if "many" not in name or not is_old})
+            old = unittest.mock.patch("pigale.typed._TYPES", {name: words for name, words in pigale.typed._TYPES.items() if "many" not in name and name not in INSIDE or not is_old})
             with unittest.mock.patch.dict(os.environ, PIGALE_LIBRARY=path), old:
                 pigale.typed._call.cache_clear()
                 found.append(call(*values))
@@ -212,6 +213,85 @@ class Library(unittest.TestCase):
         self.assertEqual(many, told)
         self.assertEqual({"yes", "SamePlace", "OnEdge", "Cross", "Loop", "Repeated"} - {answer.name for answer in told}, set())
 
+    def test_figures_are_judged(self):
+        """Straight-line drawings as `draw` makes them, and changed so that they have each fault."""
+        source, maps = random.Random(10), [*(pigale.triangulation(n, random.Random(n)) for n in range(4, 20)), pigale.grid(4, 5), pigale.path(4)]
+        figures = [figure for job in ("shift", "schnyder") for figure in pigale.draw(maps, job)]
+        for k in range(300):
+            figure = source.choice(figures[:32])
+            places, lists = list(figure.places), [list(us) for us in figure.lists]
+            v = source.randrange(len(lists))
+            places[v] = (places[v][0] + source.randrange(-4, 3), places[v][1] + source.randrange(3))
+            if k % 3 == 1:
+                lists[v] = lists[v][::-1]
+            if k % 9 == 2:
+                source.choice((lists[v].pop, lambda us=lists[v]: us.append(us[0]), lambda us=lists[v]: us.append(v + 1)))()
+            figures.append(pigale.GridFigure(1, "shift", places, lists))
+        near = [figure for figure in figures if min(map(min, figure.places)) >= 0]
+        for given in (figures, near, figures[:5], []):
+            many, single, told = self.answers(pigale.check_all, given)
+            self.assertEqual((many, single), (told, told))
+        self.assertEqual({answer.name for answer in self.answers(pigale.check_all, figures)[0]},
+                         {"yes", "SamePlace", "OnEdge", "Cross", "Turned", "Loop", "Repeated", "OneSided"})
+        mixed = [figures[0], ([(0, 0), (2, 2), (2, 0), (0, 2)], [(0, 1), (2, 3)]), figures[40]]
+        for found in self.answers(pigale.check_all, mixed):
+            self.assertEqual((str(found[1]), list(found)), ("Cross 0 1 2 3", found[:3]))
+        with unittest.mock.patch.dict(os.environ, PIGALE_LIBRARY=LIBRARY):
+            drawn = pigale.draw(maps, "schnyder")
+            found = pigale.check_all(drawn)
+            self.assertIsInstance(found, pigale.Verdicts)
+            self.assertEqual((found, set(found.statuses)), (pigale.check_all(list(drawn)), {0}))
+            self.assertTrue(all(found))
+            for column in drawn.columns.values():
+                column[0] = column[1]
+            self.assertEqual(str(pigale.check_all(drawn)[0]), "SamePlace 1 2")
+
+    def test_what_is_no_straight_line_drawing(self):
+        figure = pigale.GridFigure(1, "shift", [(0, 0), (1, 0), (0, 1)], pigale.cycle(3))
+        bars = pigale.draw([pigale.cycle(3)], "bars")[0]
+        for other, words in ((bars, "entry 2 is no straight-line drawing, but BarFigure"), (pigale.draw([[[], []]], "convex")[0], "entry 2.*NotConnected|entry 2.*Small"),
+                             (pigale.GridFigure(2, "shift", [(0, 0), (1, 0)], [[2], [3]]), "entry 2 names a vertex that it does not have"),
+                             (pigale.GridFigure(2, "shift", [(0, 0), (1, 0), (2, 0)], [[2], [1]]), "entry 2 .* has more places than vertices"),
+                             (pigale.GridFigure(2, "shift", [(0, 0)], [[2], [1]]), "entry 2 names a vertex")):
+            for path in (LIBRARY, ""):
+                with unittest.mock.patch.dict(os.environ, PIGALE_LIBRARY=path), self.assertRaisesRegex(ValueError, words):
+                    pigale.check_all([figure, other])
+        with unittest.mock.patch.dict(os.environ, PIGALE_LIBRARY=LIBRARY):
+            for drawn, words in ((pigale.draw([pigale.cycle(3)], "bars"), "entry 1 .*BarFigure"), (pigale.draw([pigale.cycle(3), [[2], []]], "shift"), "entry 2 .*OneSided")):
+                with self.assertRaisesRegex(ValueError, words):
+                    pigale.check_all(drawn)
+
+    def test_faces(self):
+        for lists in some_maps():
+            many, old, told = self.answers(lambda lists=lists: list(map(self.faces, (lists, pigale.Map(lists)))) if lists != [[5], []] else 0)
+            self.assertEqual((many, old), (told, told))
+        for found in self.answers(self.faces, [[2], [0]]):
+            self.assertIsNone(found)
+
+    def faces(self, lists):
+        try:
+            return pigale.faces_of(lists)
+        except KeyError:
+            return None
+
+    def test_edge_labellings(self):
+        with open(os.path.join(ROOT, "examples", "platonic.plc"), "rb") as file:
+            opened = [pigale.without_edge(lists, 1, lists[0][0]) for lists in pigale.read_planar_code(file)[:2]]
+        maps = [*some_maps()[:-2], *(pigale.quadrangle(a, b) for a in range(1, 6) for b in range(1, 6)), *opened]
+        few = 0
+        for lists in maps:
+            many, old, told = self.answers(pigale.edge_labelling, lists)
+            self.assertEqual((many, old), (told, told))
+            if isinstance(told, pigale.Refused):
+                continue
+            few += 1
+            outer = set(pigale.faces_of(lists)[0])
+            for v, sides in enumerate(many, 1):
+                if v not in outer:
+                    turns = [(one, other) for one, other in zip(sides, sides[1:] + sides[:1]) if one != other]
+                    self.assertEqual(sorted(turns), [("down", "left"), ("left", "up"), ("right", "down"), ("up", "right")])
+        self.assertGreater(few, 25)
+
     def test_coordinates_far_off(self):
         with unittest.mock.patch.dict(os.environ, PIGALE_LIBRARY=LIBRARY):
             self.assertTrue(pigale.check([(10**9, 0), (10**9 + 5, 1), (10**9, 7)], [(0, 1), (1, 2)]))
@@ -227,7 +307,7 @@ class Library(unittest.TestCase):
 
     def test_calls_that_the_library_has(self):
         """Says which calls for many maps the library has not."""
-        wanting = [name for name in MANY if not hasattr(loaded(LIBRARY), f"pigale_{name}")]
+        wanting = [name for name in MANY + INSIDE if not hasattr(loaded(LIBRARY), f"pigale_{name}")]
         if wanting:
             self.skipTest(f"the library has no {', '.join(wanting)}")
 

@@ -22,10 +22,11 @@ someone looks (`Figures`, `Counts`, `Embeddings`).
 `read_graphs` reads graphs of many formats with their names, `draw_named` draws them, and `written` writes the drawings.
 
 Its modules: `formats` (planar_code, graph6 and the program's text), `runs` (of the program), `library` and `typed` (the same
-within this process), `arrays` and `answers` (what `typed` takes and gives), `tables` (of many answers), `parts` and `parallel` (inputs of any size), `maps`, `makers`, `checks`, `graphs` and `networkx_backend`
-(networkx, igraph and Sage), `kinds` and `readers` (other formats), `drawn`, `rounds` and `crossings` (drawings of named graphs),
-`pictures`, `tikz_pictures`, `writers` and `page_texts`, and `cli` (the commands). All that they offer is here by one name, and
-each is imported when something of it is asked for.
+within this process), `arrays` and `answers` (what `typed` takes and gives), `tables` (of many answers), `parts` and `parallel`
+(inputs of any size), `maps`, `labellings`, `makers`, `checks`, `graphs` and `networkx_backend` (networkx, igraph and Sage),
+`kinds` and `readers` (other formats), `drawn`, `rounds` and `crossings` (drawings of named graphs), `pictures`, `tikz_pictures`,
+`writers` and `page_texts`, and `cli` (the commands). All that they offer is here by one name, and each is imported when
+something of it is asked for.
 """
 __version__ = "1.1.0"
 
@@ -35,12 +36,13 @@ from typing import TYPE_CHECKING, Any, List
 if TYPE_CHECKING:
     from .answers import Counts, Embeddings, Figures
     from .arrays import Map, Maps
-    from .checks import HEIGHT, WIDTH, Checked, check, check_all, read_drawing, scaled
+    from .checks import HEIGHT, WIDTH, Checked, Verdicts, check, check_all, read_drawing, scaled
     from .drawn import METHODS, Drawn, draw_named
     from .formats import (FIGURES, GRID_JOBS, HEADER, MOST_BYTES, MOST_VERTICES, PLANAR_JOBS, BarFigure, Count, End,
                           GridFigure, RectFigure, Refused, Stop, Verdict, WitnessFigure, read_blocks, read_figures,
                           read_graph6, read_planar_code, write_graph6, write_planar_code)
     from .graphs import from_igraph, from_networkx, graph_of_networkx, to_networkx, to_sage
+    from .labellings import edge_labelling
     from .makers import (complete, cycle, grid, path, prism, quadrangle, renumbered, stacked, tree, triangulation, wheel)
     from .maps import dual, edges_of, faces_of, outside, rotations_of, without_edge, witness_graph
     from .networkx_backend import check_planarity, is_planar, planar_layout
@@ -57,12 +59,13 @@ if TYPE_CHECKING:
 OFFERED = {
     "answers": "Counts Embeddings Figures",
     "arrays": "Map Maps",
-    "checks": "HEIGHT WIDTH Checked check check_all read_drawing scaled",
+    "checks": "HEIGHT WIDTH Checked Verdicts check check_all read_drawing scaled",
     "drawn": "METHODS Drawn draw_named",
     "formats": ("FIGURES GRID_JOBS HEADER MOST_BYTES MOST_VERTICES PLANAR_JOBS BarFigure Count End GridFigure "
         "RectFigure Refused Stop Verdict WitnessFigure read_blocks read_figures read_graph6 read_planar_code "
         "write_graph6 write_planar_code"),
     "graphs": "from_igraph from_networkx graph_of_networkx to_networkx to_sage",
+    "labellings": "edge_labelling",
     "makers": "complete cycle grid path prism quadrangle renumbered stacked tree triangulation wheel",
     "maps": "dual edges_of faces_of outside rotations_of without_edge witness_graph",
     "networkx_backend": "check_planarity is_planar planar_layout",
@@ -98,11 +101,11 @@ __all__ = [
     "BarFigure", "Checked", "Count", "Counts", "Drawn", "Embeddings", "End", "FIGURES", "Figures", "GRID_JOBS",
     "GridFigure", "HEADER", "HEIGHT", "Look", "METHODS", "MOST_BYTES", "MOST_VERTICES", "Map", "Maps", "Named",
     "PLANAR_JOBS", "PigaleError", "Progress", "ReadFault", "RectFigure", "Refused", "Run", "STYLES", "Session", "Stop",
-    "Verdict", "WIDTH", "WitnessFigure", "check", "check_all", "check_planarity", "complete", "count", "cycle", "draw",
-    "draw_named", "dual", "edges_of", "embed", "faces_of", "from_igraph", "from_networkx", "graph_of_networkx",
-    "graphs_of", "grid", "is_planar", "outside", "page", "pages", "path", "picture", "planar_layout", "prism",
-    "program", "quadrangle", "read_blocks", "read_drawing", "read_figures", "read_graph6", "read_graphs",
-    "read_planar_code", "renumbered", "rotations_of", "run", "run_all", "scaled", "stacked", "stream", "tikz",
-    "tikz_document", "to_networkx", "to_sage", "tree", "triangulation", "wheel", "without_edge", "witness_graph",
-    "write_graph6", "write_planar_code", "written",
+    "Verdict", "Verdicts", "WIDTH", "WitnessFigure", "check", "check_all", "check_planarity", "complete", "count",
+    "cycle", "draw", "draw_named", "dual", "edge_labelling", "edges_of", "embed", "faces_of", "from_igraph",
+    "from_networkx", "graph_of_networkx", "graphs_of", "grid", "is_planar", "outside", "page", "pages", "path",
+    "picture", "planar_layout", "prism", "program", "quadrangle", "read_blocks", "read_drawing", "read_figures",
+    "read_graph6", "read_graphs", "read_planar_code", "renumbered", "rotations_of", "run", "run_all", "scaled",
+    "stacked", "stream", "tikz", "tikz_document", "to_networkx", "to_sage", "tree", "triangulation", "wheel",
+    "without_edge", "witness_graph", "write_graph6", "write_planar_code", "written",
 ]

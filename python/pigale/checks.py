@@ -7,13 +7,15 @@ from dataclasses import dataclass
 from itertools import chain
 from typing import Any, Dict, Iterable, List, Mapping, Optional, Sequence, Tuple, Union
 
-from .arrays import doubled
-from .formats import MOST_BYTES, MOST_VERTICES, Edge, GridFigure, Lists, Place, Refused, Verdict, join_words, pair_of
+from .answers import NUMBERS, Figures
+from .arrays import Maps, OnDemand
+from .formats import (FIGURES, GRID_JOBS, MOST_BYTES, MOST_VERTICES, Edge, GridFigure, Lists, Place, Refused, Verdict, join_words,
+                      pair_of)
 from .kinds import looks_like
 from .library import library
 from .maps import rotations_of
 from .runs import run
-from .typed import FARTHEST, YES, checked, checked_edges
+from .typed import CHECKS, FARTHEST, OUT_OF_RANGE, YES, checked, checked_all, checked_edges
 
 Places = Union[Mapping[Any, Sequence[float]], Sequence[Sequence[float]]]
 Rotations = Mapping[Any, Iterable[Any]]
@@ -40,6 +42,25 @@ class Checked:
 
 CHECKED_YES = Checked("yes")
 
+
+class Verdicts(OnDemand[Checked]):
+    """The verdicts of the library on figures, in order, each made when someone looks; `statuses` has 0 for each "yes"."""
+    __slots__ = ("statuses", "found")
+
+    def __init__(self, statuses: "array[int]", found: "array[int]") -> None:
+        self.statuses, self.found = statuses, found
+
+    def __len__(self) -> int:
+        return len(self.statuses)
+
+    def one(self, index: int) -> Checked:
+        """The verdict of an index from 0 on."""
+        if not self.statuses[index]:
+            return CHECKED_YES
+        name, count = CHECKS[self.statuses[index]]
+        return Checked(name, tuple(v + 1 for v in self.found[NUMBERS * index:NUMBERS * index + count]))
+
+
 def check(places: Places, edges: Iterable[Sequence[Any]], rotations: Optional[Rotations] = None) -> Checked:
     """Whether a straight-line drawing is plane, judged by the program, as a `Checked`.
 
@@ -61,18 +82,65 @@ def check(places: Places, edges: Iterable[Sequence[Any]], rotations: Optional[Ro
     Raises ValueError where a coordinate is not whole, an edge or a rotation names no vertex, or there are too many
     vertices or too large a grid.
     """
-    return check_all([(places, edges, rotations)])[0]
-
-
-def check_all(drawings: Iterable[Sequence[Any]]) -> List[Checked]:
-    """As `check`, for a list of drawings, (places, edges) or (places, edges, rotations), in as few runs as may be."""
     within = library()
+    return _judged(within, places, edges, rotations) if within else check_all([(places, edges, rotations)])[0]
+
+
+def check_all(drawings: Iterable[Any]) -> Sequence[Checked]:
+    """As `check`, for a list of drawings, (places, edges) or (places, edges, rotations), in as few runs or calls as may be.
+
+    A drawing may be a `GridFigure` too, as `draw` and `embed` make them. It is asked to keep its lists, and its vertices are
+    called 1, 2, .. A `Figures`, and a list of such figures alone, is judged by the library in one call, and the answer is then
+    a `Verdicts`, in which each is made when someone looks. Raises ValueError where one is no straight-line drawing.
+    """
+    within = library()
+    given: Sequence[Any] = drawings if isinstance(drawings, Figures) else list(drawings)
+    if within and len(given) and (isinstance(given, Figures) or set(map(type, given)) == {GridFigure}):
+        return _figures_judged(within, given)
+    found = [_drawing_of(one, k) if isinstance(one, NO_DRAWINGS) else one for k, one in enumerate(given, 1)]
     if within:
-        return [_judged(within, *drawing) for drawing in drawings]
-    prepared = [_prepared(*drawing) for drawing in drawings]
+        return [_judged(within, *drawing) for drawing in found]
+    prepared = [_prepared(*drawing) for drawing in found]
     texts = _joined([f"{figure}\n" for figure, _ in prepared])
     answers = [answer for text in texts for answer in run("verify", text).answers]
     return [_checked(answer, names) for answer, (_, names) in zip(answers, prepared) if isinstance(answer, (Refused, Verdict))]
+
+
+NO_DRAWINGS = (*FIGURES, Refused)  # of which only a straight-line drawing is one
+
+
+def _drawing_of(figure: Any, number: int) -> Tuple[Places, List[Edge], Rotations]:
+    """A figure as places, edges and rotations. Raises ValueError where it is no straight-line drawing, by its number."""
+    if not isinstance(figure, GridFigure):
+        hint = f": {figure}" if isinstance(figure, Refused) else " (run('verify', figures) judges figures of all kinds)"
+        raise ValueError(f"entry {number} is no straight-line drawing, but {type(figure).__name__}{hint}")
+    lists = dict(enumerate(figure.lists, 1))
+    if len(figure.places) != len(lists) or not lists.keys() >= set(chain.from_iterable(figure.lists)):
+        raise ValueError(f"entry {number} names a vertex that it does not have, or has more places than vertices")
+    pairs = dict.fromkeys((min(v, u), max(v, u)) for v, us in lists.items() for u in us)
+    return dict(enumerate(figure.places, 1)), list(pairs), lists
+
+
+def _figures_judged(path: str, figures: Sequence[Any]) -> Sequence[Checked]:
+    """The verdicts of the library at a path on straight-line drawings."""
+    if isinstance(figures, Figures):
+        for k, status in enumerate(figures.statuses):
+            if status or figures.job not in GRID_JOBS:
+                _drawing_of(figures[k], k + 1)
+        return Verdicts(*checked_all(path, figures.maps, figures.columns["x"], figures.columns["y"]))
+    try:
+        maps = Maps([figure.lists for figure in figures])
+        xs, ys = zip(*chain.from_iterable([figure.places for figure in figures]))
+        across, up = array("i", xs), array("i", ys)
+    except (OverflowError, TypeError, ValueError):
+        across = up = array("i", [-1])
+    if not 0 <= min(min(across), min(up)) <= max(max(across), max(up)) <= FARTHEST or len(across) != len(maps.ends):
+        return [_judged(path, *_drawing_of(figure, k)) for k, figure in enumerate(figures, 1)]
+    statuses, found = checked_all(path, maps, across, up)
+    for k, figure in enumerate(figures, 1):
+        if statuses[k - 1] == OUT_OF_RANGE or len(figure.places) != len(figure.lists):
+            _drawing_of(figure, k)
+    return Verdicts(statuses, found)
 
 
 def _joined(texts: Iterable[str]) -> List[str]:
@@ -114,7 +182,7 @@ def _prepared(places: Places, edges: Iterable[Sequence[Any]],
 def _judged(path: str, places: Places, edges: Iterable[Sequence[Any]], rotations: Optional[Rotations] = None) -> Checked:
     """The verdict of the library at a path on a drawing."""
     if rotations is None:
-        edges = edges if type(edges) in (list, tuple) else list(edges)
+        edges = edges if type(edges) in _LISTS else list(edges)
         found = _verdict_of_numbers(path, places, edges)
         if found:
             return found
@@ -134,26 +202,27 @@ def _judged(path: str, places: Places, edges: Iterable[Sequence[Any]], rotations
 
 def _verdict_of_numbers(path: str, places: Any, edges: Any, names: Optional[Sequence[Any]] = None) -> Optional[Checked]:
     """The verdict on a drawing in whole numbers, or None where something about it is to be looked at more closely."""
-    number: Optional[Dict[Any, int]] = None
+    given: Any = chain.from_iterable(edges)
     if type(places) is dict:
         names, places = list(places), list(places.values())
-        number = dict(zip(names, range(len(names))))
-    elif type(places) not in (list, tuple):
+        given = map(dict(zip(names, range(len(names)))).__getitem__, given)
+    elif type(places) not in _LISTS:
         return None
     try:
-        ends = chain.from_iterable(edges)
-        named = ends if number is None else map(number.__getitem__, ends)
-        numbers = doubled(bytes(named)) if len(places) < 256 else array("H", list(named))
-        if max(map(len, edges), default=2) > 2 or len(numbers) != 2 * len(edges):
+        if not _TWO.issuperset(map(len, edges)):
             return None
-    except (KeyError, OverflowError, TypeError, ValueError):
+        found = checked_edges(path, places, given, len(edges))
+    except (KeyError, TypeError):
         return None
-    found = checked_edges(path, places, numbers)
     if not found:
         return None
     if found is YES:
         return CHECKED_YES
     return Checked(found[0], tuple(found[1] if names is None else map(names.__getitem__, found[1])))
+
+
+_LISTS = frozenset([list, tuple])
+_TWO = frozenset([2])
 
 
 def _paired(places: Places, edges: Iterable[Sequence[Any]]) -> Tuple[List[Place], List[Edge], List[Any]]:

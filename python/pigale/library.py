@@ -28,6 +28,12 @@ def library() -> Optional[str]:
         return named or None
     if os.environ.get("PIGALE"):
         return None
+    return own_library()
+
+
+@functools.lru_cache(maxsize=None)
+def own_library() -> Optional[str]:
+    """The path of the library beside this package, or else of the one that was made in this repository of its sources."""
     here = os.path.dirname(os.path.realpath(__file__))
     beside = os.path.join(here, LIBRARY_NAMES.get(sys.platform, "libpigale.so"))
     return beside if os.path.exists(beside) else made_library(os.path.abspath(os.path.join(here, "..", "..")))

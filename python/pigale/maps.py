@@ -4,6 +4,7 @@ import math
 from typing import Any, Callable, Dict, List, Sequence, Set, Tuple
 
 from .formats import AnyMap, Edge, Lists, Place, WitnessFigure, read_graph6
+from .library import library
 
 
 def rotations_of(points: Sequence[Place], edges: Sequence[Edge]) -> Lists:
@@ -48,9 +49,23 @@ def edges_of(lists: AnyMap) -> List[Edge]:
 def faces_of(lists: AnyMap) -> Lists:
     """The faces of a map that have edges, each as the list of its vertices with the face on the left.
 
-    The lists have to be a simple map. The first face is that of the dart from vertex 1 to the first of its list, which
-    the drawings of connected maps have outside.
+    The lists have to be a simple map; KeyError is raised where they are none. The first face is that of the dart from vertex 1
+    to the first of its list, which the drawings of connected maps have outside. The library walks along them where it is there.
     """
+    path = library()
+    if path:
+        from .arrays import Map
+        from .typed import walked_faces
+        try:
+            found = walked_faces(path, lists if isinstance(lists, Map) else Map(lists))
+        except ValueError as fault:
+            raise KeyError(str(fault)) from fault
+        if found is not None:
+            return found
+    return _walked(lists)
+
+
+def _walked(lists: AnyMap) -> Lists:
     following = {(u, v): (v, us[(k + 1) % len(us)]) for v, us in enumerate(lists, 1) for k, u in enumerate(us)}
     seen: Set[Edge] = set()
     faces: Lists = []

@@ -9,17 +9,18 @@ import ctypes
 import functools
 from array import array
 from itertools import chain
-from typing import Any, List, Mapping, Optional, Sequence, Tuple
+from struct import Struct, error
+from typing import Any, Callable, List, Mapping, Optional, Sequence, Tuple, Union
 
-from .answers import COLUMNS, NUMBERS, ROOM, Counts, Embeddings, Figures, Graphs
-from .arrays import SIZE, SIZES, Map, Maps
-from .formats import MOST_VERTICES, AnyMap, Place
+from .answers import COLUMNS, NUMBERS, ROOM, Counts, Embeddings, Figures, Graphs, refused
+from .arrays import SIZE, SIZES, Map, Maps, zeros
+from .formats import MOST_VERTICES, AnyMap, Lists, Place, Refused
 from .library import loaded
 
 FARTHEST = 1 << 20  # coordinate from 0 that the library judges
 CHECKS = {0: ("yes", 0), 1: ("OutOfRange", 2), 2: ("Loop", 1), 3: ("Repeated", 2), 4: ("OneSided", 2), 32: ("OutOfGrid", 1),
           33: ("SamePlace", 2), 34: ("OnEdge", 3), 35: ("Cross", 4), 36: ("Turned", 1)}  # the name of each verdict, and how many numbers it has
-NO_MEMORY, BAD_ARGUMENT = 16, 17
+OUT_OF_RANGE, NO_MEMORY, BAD_ARGUMENT = 1, 16, 17
 _I32, _SIZE, _POINTER = ctypes.c_int32, ctypes.c_size_t, ctypes.c_void_p
 _PAIR: List[Any] = [_POINTER, _SIZE]
 _TYPES: Mapping[str, List[Any]] = {
@@ -27,9 +28,12 @@ _TYPES: Mapping[str, List[Any]] = {
     "bars": [*6 * _PAIR, _POINTER], "rect": [*6 * _PAIR, _POINTER], "embed": [ctypes.c_uint16, *5 * _PAIR, _POINTER],
     **{job: [*4 * _PAIR, _POINTER] for job in ("shift", "schnyder", "convex")},
     **{f"{job}_many": 7 * _PAIR for job in ("shift", "schnyder", "convex")},
-    "bars_many": 9 * _PAIR, "rect_many": 9 * _PAIR, "count_many": 6 * _PAIR, "embed_many": 9 * _PAIR}
+    "bars_many": 9 * _PAIR, "rect_many": 9 * _PAIR, "count_many": 6 * _PAIR, "embed_many": 9 * _PAIR, "check_many": 9 * _PAIR,
+    "faces": [*4 * _PAIR, _POINTER, _POINTER], "edge_labelling": [*3 * _PAIR, _POINTER]}
 YES: Tuple[str, Tuple[int, ...]] = ("yes", ())
 _SOME = array("Q", [0])  # what an array of no elements is at
+_NONE = bytes(4 * NUMBERS)  # the numbers beside a status
+_TWO = frozenset([2])
 
 
 @functools.lru_cache(maxsize=None)
@@ -124,25 +128,82 @@ def checked(path: str, lists: AnyMap, places: Sequence[Place], width: int, heigh
     return name, tuple(number + 1 for number in found[:count])
 
 
-def checked_edges(path: str, places: Sequence[Any], ends: array[int]) -> Optional[Tuple[str, Tuple[int, ...]]]:
-    """The verdict of the library on a straight-line drawing of edges, given by their two ends, from 0, one behind another.
+def checked_all(path: str, maps: Maps, xs: array[int], ys: array[int]) -> Tuple[array[int], array[int]]:
+    """The verdicts of the library on drawings of maps, as `checked` gives them: a status for each, and its four numbers.
+
+    `xs` and `ys` have the coordinates of the vertices, one map behind another. They are from 0 to 1048576.
+    """
+    statuses, found, call = zeros("B", len(maps)), zeros("I", NUMBERS * len(maps)), _call(path, "check_many")
+    if call:
+        most = array("i", [FARTHEST]) * len(maps)
+        status = call(*_words(maps.map_ends, maps.ends, maps.neighbours, xs, ys, most, most, statuses), *_all(found, NUMBERS))
+    else:
+        status, call, at = 0, _call(path, "check"), found.buffer_info()[0]
+        across, up = xs.buffer_info()[0], ys.buffer_info()[0]
+        for index, one in enumerate(maps):
+            first, end = maps.lists_of(index)
+            statuses[index] = call(*_words(one.ends, one.neighbours), across + 4 * first, end - first, up + 4 * first, end - first,
+                                   FARTHEST, FARTHEST, at + 16 * index)
+    _refuse_any(status, statuses, maps)
+    return statuses, found
+
+
+@functools.lru_cache(maxsize=1024)
+def _packed(count: int, code: str) -> Callable[..., bytes]:
+    """What makes bytes of so many numbers of a type of C."""
+    return Struct(f"{count}{code}").pack
+
+
+def checked_edges(path: str, places: Sequence[Any], ends: Any, count: int) -> Optional[Tuple[str, Tuple[int, ...]]]:
+    """The verdict of the library on a straight-line drawing of so many edges, given by their two ends, from 0, one behind another.
 
     None where the places are none of whole numbers in the library's range, the edges are those of no simple graph, or an older
     library has no such call.
     """
-    call = _call(path, "check_drawing")
+    call, found, vertices = _call(path, "check_drawing"), array("I", _NONE), len(places)
+    if call is None:
+        return None
     try:
-        flat, found = array("i", list(chain.from_iterable(places))), array("I", bytes(16))
-    except (OverflowError, TypeError):
+        if not _TWO.issuperset(map(len, places)):
+            return None
+        xs, ys = zip(*places) if places else ((), ())
+        whole, pairs = _packed(vertices, "i"), _packed(2 * count, "H")(*ends)
+        status = call(pairs, count, whole(*xs), vertices, whole(*ys), vertices, found.buffer_info()[0])
+    except (TypeError, error):
         return None
-    xs, ys = flat[::2], flat[1::2]
-    if call is None or len(flat) != 2 * len(places) or max(map(len, places), default=0) > 2:
-        return None
-    status = call(*_all(ends, 2), *_words(xs, ys), found.buffer_info()[0])
     if not status:
         return YES
-    name, count = CHECKS.get(status, ("", 0))
-    return (name, tuple(found[:count])) if name else None
+    name, numbers = CHECKS.get(status, ("", 0))
+    return (name, tuple(found[:numbers])) if name else None
+
+
+# What is inside
+
+def walked_faces(path: str, given: Map) -> Optional[Lists]:
+    """The faces of a map, in the order of their first darts; None where an older library has no such call.
+
+    Raises KeyError where the lists are no simple map.
+    """
+    call, darts = _call(path, "faces"), len(given.neighbours)
+    if call is None or len(given) > MOST_VERTICES:
+        return None
+    ends, walk, count, found = zeros(SIZE, darts), zeros("H", darts), zeros(SIZE, 1), zeros("I", NUMBERS)
+    status = call(*_words(given.ends, given.neighbours, ends, walk), count.buffer_info()[0], found.buffer_info()[0])
+    _refuse(status)
+    if status:
+        raise KeyError(f"the lists are no simple map: {refused(status, found, 1)}")
+    return list(Map._of(ends[:count[0]], walk))
+
+
+def labelled_edges(path: str, given: Map) -> Union[bytes, Refused, None]:
+    """The label from 0 to 4 of each entry of the lists of a map that `rect` draws; None where an older library has no such call."""
+    call = _call(path, "edge_labelling")
+    if call is None:
+        return None
+    labels, found = zeros("B", len(given.neighbours)), zeros("I", NUMBERS)
+    status = call(*_words(given.ends, given.neighbours, labels), found.buffer_info()[0])
+    _refuse(status)
+    return refused(status, found, 1) if status else labels.tobytes()
 
 
 # Graphs
