@@ -3,7 +3,7 @@ use Rattle.std.proofs.Common.{◌≡◌, ◌≢◌, ◌⊎◌, ◌↔◌, ℕ, �
 use Rattle.std.specs.List.{AllByRecursion as Each}
 use Rattle.std.proofs.lemmas.Bool.{cases_eq, cases_lt, le-ltb}
 use Rattle.std.proofs.lemmas.List.Elements.{Contains-append_left}
-use Rattle.chained_lists.proofs.Links.{in_none, in_first, in_cases}
+use Rattle.chained_lists.proofs.Links.{in_none, in_first, in_rest, in_cases}
 use Rattle.left_right_blocks.specs.Blocks.{Block, edges_of, edges_in, AllAgree, IsPart}
 use Rattle.left_right_blocks.specs.States.{Obeys, Drops}
 use Rattle.left_right_blocks.specs.Ties.{AreKept}
@@ -54,113 +54,128 @@ alone_edge height P x e =
 
 module _ (r : Rooted) (v : ℕ) (P : ℕ → List Block) (ties0 : List Tie) (child_own : (u : ℕ) → IsChildOf r v u → v ≡ u → ⊥) where
   -- nothing looked at
-  pub found_none : IsForkTo r v P P ties0 ties0 [] 0
-  found_none =
+  pub found_none : (left : List ℕ) → ((p : ℕ) → IsStackOf r v p → Contains left p) → IsForkTo r v P P ties0 ties0 [] left
+  found_none left whole =
       record {
         others = λ p off. refl;
-        trimmed = λ u c l. absurd (omega arith);
+        trimmed = λ u c off. absurd (off (whole (r.m + u) (inr (u, (refl, c)))));
         are = λ d c. absurd (in_none d c);
         kinds = λ d c. absurd (in_none d c);
         nested = tt;
-        all = λ p l. absurd (omega arith);
+        all = λ p off s. absurd (off (whole p s));
         told = λ side. ((λ o. o), (λ o. o));
       }
 
-  module _ (new : ℕ → List Block) (ties : List Tie) (ds : List ForkEdge) (j : ℕ) (f : IsForkTo r v P new ties0 ties ds j) where
+  module _ (new : ℕ → List Block) (ties : List Tie) (ds : List ForkEdge) (j : ℕ) (left : List ℕ) (once : ¬ Contains left j) (f : IsForkTo r v P new ties0 ties ds (j ∷ left)) where
+    still : (p : ℕ) → p ≢ j → ¬ Contains left p → ¬ Contains (j ∷ left) p
+    still p ne off c = elim (in_cases j p left c) [ inl e ↦ ne (sym e) | inr k ↦ off k ]
+
+    gone : (p : ℕ) → ¬ Contains (j ∷ left) p → ¬ Contains left p
+    gone p off c = off (in_rest j p left c)
+
+    apart : (p : ℕ) → ¬ Contains (j ∷ left) p → p ≢ j
+    apart p off e = off (subst (Contains (j ∷ left)) (sym e) (in_first j left))
+
     -- a stack of another vertex
-    pub found_other : (IsStackOf r v j → ⊥) → IsForkTo r v P new ties0 ties ds (j + 1)
+    pub found_other : (IsStackOf r v j → ⊥) → IsForkTo r v P new ties0 ties ds left
     found_other off =
         record {
-          others = λ p far. f.others p (λ u c l. far u c (omega arith));
-          trimmed = λ u c l x. elim (cases_eq (r.m + u) j) [ inl e ↦ absurd (off (inr (u, (sym e, c)))) | inr ne ↦ f.trimmed u c (omega arith) x ];
+          others = λ p far. f.others p (λ u c l. far u c (gone (r.m + u) l));
+          trimmed = λ u c l x. elim (cases_eq (r.m + u) j) [ inl e ↦ absurd (off (inr (u, (sym e, c)))) | inr ne ↦ f.trimmed u c (still (r.m + u) ne l) x ];
           are = f.are;
-          kinds = λ d c. (let k = f.kinds d c in let l = k.1 in (k.0, omega arith));
+          kinds = λ d c. (let k = f.kinds d c in (k.0, gone d.stack k.1));
           nested = f.nested;
-          all = λ p l s. elim (cases_eq p j) [ inl e ↦ absurd (off (subst (IsStackOf r v) e s)) | inr ne ↦ f.all p (omega arith) s ];
+          all = λ p l s. elim (cases_eq p j) [ inl e ↦ absurd (off (subst (IsStackOf r v) e s)) | inr ne ↦ f.all p (still p ne l) s ];
           told = f.told;
         }
 
     -- an edge that goes upwards
-    pub found_edge : (ds' : List ForkEdge) (d : ForkEdge) → j < r.m → d.stack ≡ j → IsStackOf r v j → IsForkEdge r.height new d → AreNested ds' → ((e : ForkEdge) → Contains ds' e ↔ (Contains ds e ⊎ (d ≡ e))) → IsForkTo r v P new ties0 ties ds' (j + 1)
+    pub found_edge : (ds' : List ForkEdge) (d : ForkEdge) → j < r.m → d.stack ≡ j → IsStackOf r v j → IsForkEdge r.height new d → AreNested ds' → ((e : ForkEdge) → Contains ds' e ↔ (Contains ds e ⊎ (d ≡ e))) → IsForkTo r v P new ties0 ties ds' left
     found_edge ds' d l is s fe nested told =
         record {
-          others = λ p far. f.others p (λ u c l. far u c (omega arith));
-          trimmed = λ u c k. absurd (omega arith);
+          others = λ p far. f.others p (λ u c k. far u c (gone (r.m + u) k));
+          trimmed = λ u c k x. f.trimmed u c (still (r.m + u) (λ e. omega arith) k) x;
           are = λ e c. elim ((told e).0 c) [ inl k ↦ f.are e k | inr same ↦ subst (IsForkEdge r.height new) same fe ];
           kinds = λ e c. elim ((told e).0 c) [
-            | inl k ↦ (let b = f.kinds e k in let i = b.1 in (b.0, omega arith))
-            | inr same ↦ subst (λ (z : ForkEdge). IsStackOf r v z.stack × (z.stack < j + 1)) same (subst (IsStackOf r v) (sym is) s, omega arith)
+            | inl k ↦ (let b = f.kinds e k in (b.0, gone e.stack b.1))
+            | inr same ↦ subst (λ (z : ForkEdge). IsStackOf r v z.stack × (¬ Contains left z.stack)) same (subst (IsStackOf r v) (sym is) s, subst (λ z. ¬ Contains left z) (sym is) once)
           ];
           nested = nested;
           all = λ p k s'. elim (cases_eq p j) [
             | inl e ↦ inr (d, ((told d).1 (inr refl), is ∙ sym e))
-            | inr ne ↦ elim (f.all p (omega arith) s') [ inl none ↦ inl none | inr a ↦ inr (a.0, ((told a.0).1 (inl a.1.0), a.1.1)) ]
+            | inr ne ↦ elim (f.all p (still p ne k) s') [ inl none ↦ inl none | inr a ↦ inr (a.0, ((told a.0).1 (inl a.1.0), a.1.1)) ]
           ];
           told = f.told;
         }
 
     -- a child's part
     module _ (u low : ℕ) (c : IsChildOf r v u) (is : r.m + u ≡ j) (last : ℕ → List Block) (ties' : List Tie) (t : Drops r.height (r.depth v) low (r.m + u) new last ties ties') where
-      was : new (r.m + u) ≡ P (r.m + u)
-      was = f.others (r.m + u) (λ w k l e. omega arith)
+      this_left : Contains (j ∷ left) (r.m + u)
+      this_left = subst (Contains (j ∷ left)) (sym is) (in_first j left)
 
-      trimmed_now : (w : ℕ) → IsChildOf r v w → r.m + w < j + 1 → (x : ℕ) → Contains (edges_in (last (r.m + w))) x ↔ (Contains (edges_in (P (r.m + w))) x × (r.height x < r.depth v))
+      this_done : ¬ Contains left (r.m + u)
+      this_done k = once (subst (Contains left) is k)
+
+      was : new (r.m + u) ≡ P (r.m + u)
+      was = f.others (r.m + u) (λ w k l e. l (subst (Contains (j ∷ left)) e this_left))
+
+      trimmed_now : (w : ℕ) → IsChildOf r v w → ¬ Contains left (r.m + w) → (x : ℕ) → Contains (edges_in (last (r.m + w))) x ↔ (Contains (edges_in (P (r.m + w))) x × (r.height x < r.depth v))
       trimmed_now w k l x =
           elim (cases_eq w u) [
             | inl e ↦ subst (λ z. Contains (edges_in (last (r.m + z))) x ↔ (Contains (edges_in (P (r.m + z))) x × (r.height x < r.depth v))) (sym e) (subst (λ bs. Contains (edges_in (last (r.m + u))) x ↔ (Contains (edges_in bs) x × (r.height x < r.depth v))) was (t.left x))
             | inr ne ↦
                 let same : last (r.m + w) ≡ new (r.m + w) = t.others (r.m + w) (λ e. ne (omega arith)) in
-                subst (λ bs. Contains (edges_in bs) x ↔ (Contains (edges_in (P (r.m + w))) x × (r.height x < r.depth v))) (sym same) (f.trimmed w k (omega arith) x)
+                subst (λ bs. Contains (edges_in bs) x ↔ (Contains (edges_in (P (r.m + w))) x × (r.height x < r.depth v))) (sym same) (f.trimmed w k (still (r.m + w) (λ e. ne (omega arith)) l) x)
           ]
 
-      others_now : (p : ℕ) → ((w : ℕ) → IsChildOf r v w → r.m + w < j + 1 → p ≢ r.m + w) → last p ≡ P p
-      others_now p far = t.others p (far u c (omega arith)) ∙ f.others p (λ w k l. far w k (omega arith))
+      others_now : (p : ℕ) → ((w : ℕ) → IsChildOf r v w → ¬ Contains left (r.m + w) → p ≢ r.m + w) → last p ≡ P p
+      others_now p far = t.others p (far u c this_done) ∙ f.others p (λ w k l. far w k (gone (r.m + w) l))
 
       are_now : (e : ForkEdge) → Contains ds e → IsForkEdge r.height last e
-      are_now e k = (let l = (f.kinds e k).1 in fork_edge_same r.height new last e (t.others e.stack (λ s. omega arith)) (f.are e k))
+      are_now e k = fork_edge_same r.height new last e (t.others e.stack (λ s. apart e.stack (f.kinds e k).1 (s ∙ is))) (f.are e k)
 
       told_now : (side : ℕ → Bool) → Obeys side P ties0 ↔ Obeys side last ties'
       told_now side = ((λ o. (t.agree side).0 ((f.told side).0 o)), (λ o. (f.told side).1 ((t.agree side).1 o)))
 
-      pub found_bare : last (r.m + u) ≡ [] → IsForkTo r v P last ties0 ties' ds (j + 1)
+      pub found_bare : last (r.m + u) ≡ [] → IsForkTo r v P last ties0 ties' ds left
       found_bare none =
           record {
             others = others_now;
             trimmed = trimmed_now;
             are = are_now;
-            kinds = λ d k. (let b = f.kinds d k in let l = b.1 in (b.0, omega arith));
+            kinds = λ d k. (let b = f.kinds d k in (b.0, gone d.stack b.1));
             nested = f.nested;
             all = λ p l s. elim (cases_eq p (r.m + u)) [
               | inl e ↦ inl (ap last e ∙ none)
-              | inr ne ↦ elim (f.all p (omega arith) s) [ inl bare ↦ inl (t.others p ne ∙ bare) | inr a ↦ inr a ]
+              | inr ne ↦ elim (f.all p (still p (λ e. ne (e ∙ sym is)) l) s) [ inl bare ↦ inl (t.others p ne ∙ bare) | inr a ↦ inr a ]
             ];
             told = told_now;
           }
 
-      pub found_child : (ds' : List ForkEdge) (d : ForkEdge) → d.stack ≡ r.m + u → IsForkEdge r.height last d → AreNested ds' → ((e : ForkEdge) → Contains ds' e ↔ (Contains ds e ⊎ (d ≡ e))) → IsForkTo r v P last ties0 ties' ds' (j + 1)
+      pub found_child : (ds' : List ForkEdge) (d : ForkEdge) → d.stack ≡ r.m + u → IsForkEdge r.height last d → AreNested ds' → ((e : ForkEdge) → Contains ds' e ↔ (Contains ds e ⊎ (d ≡ e))) → IsForkTo r v P last ties0 ties' ds' left
       found_child ds' d at fe nested told =
           record {
             others = others_now;
             trimmed = trimmed_now;
             are = λ e k. elim ((told e).0 k) [ inl k' ↦ are_now e k' | inr same ↦ subst (IsForkEdge r.height last) same fe ];
             kinds = λ e k. elim ((told e).0 k) [
-              | inl k' ↦ (let b = f.kinds e k' in let l = b.1 in (b.0, omega arith))
-              | inr same ↦ subst (λ (z : ForkEdge). IsStackOf r v z.stack × (z.stack < j + 1)) same (inr (u, (at, c)), omega arith)
+              | inl k' ↦ (let b = f.kinds e k' in (b.0, gone e.stack b.1))
+              | inr same ↦ subst (λ (z : ForkEdge). IsStackOf r v z.stack × (¬ Contains left z.stack)) same (inr (u, (at, c)), subst (λ z. ¬ Contains left z) (sym at) this_done)
             ];
             nested = nested;
             all = λ p l s. elim (cases_eq p (r.m + u)) [
               | inl e ↦ inr (d, ((told d).1 (inr refl), at ∙ sym e))
-              | inr ne ↦ elim (f.all p (omega arith) s) [ inl bare ↦ inl (t.others p ne ∙ bare) | inr a ↦ inr (a.0, ((told a.0).1 (inl a.1.0), a.1.1)) ]
+              | inr ne ↦ elim (f.all p (still p (λ e. ne (e ∙ sym is)) l) s) [ inl bare ↦ inl (t.others p ne ∙ bare) | inr a ↦ inr (a.0, ((told a.0).1 (inl a.1.0), a.1.1)) ]
             ];
             told = told_now;
           }
 
   -- all are found
-  pub found_all : (new : ℕ → List Block) (ties : List Tie) (ds : List ForkEdge) → v < r.n → IsForkTo r v P new ties0 ties ds (r.m + r.n) → P (r.m + v) ≡ [] → IsForkAt r v P new ds
+  pub found_all : (new : ℕ → List Block) (ties : List Tie) (ds : List ForkEdge) → v < r.n → IsForkTo r v P new ties0 ties ds [] → P (r.m + v) ≡ [] → IsForkAt r v P new ds
   found_all new ties ds in_n f bare =
       record {
         others = λ p far. f.others p (λ u c l. far u c);
-        trimmed = λ u c x. (let l = c.0 in f.trimmed u c (omega arith) x);
+        trimmed = λ u c x. f.trimmed u c (in_none (r.m + u)) x;
         fork = record {
           empty = f.others (r.m + v) (λ u c l e. own u c (omega arith)) ∙ bare;
           are = f.are;
@@ -168,7 +183,7 @@ module _ (r : Rooted) (v : ℕ) (P : ℕ → List Block) (ties0 : List Tie) (chi
           nested = f.nested;
         };
         kinds = λ d c. (f.kinds d c).0;
-        all = λ p s. elim s [ inl a ↦ (let l = a.0 in f.all p (omega arith) (inl a)) | inr a ↦ (let i = a.1.0 in let l = a.1.1.0 in f.all p (omega arith) (inr a)) ];
+        all = λ p s. f.all p (in_none p) s;
       }
     where
       own : (u : ℕ) → IsChildOf r v u → v ≡ u → ⊥

@@ -7,3 +7,6 @@ pub mod Children
 pub mod Searching
 pub mod Numbered
 pub mod Sided
+-- Stacks in the lists of vertices.
+pub mod Items
+pub mod Taken

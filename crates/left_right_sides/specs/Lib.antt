@@ -2,3 +2,4 @@
 pub mod Outs
 pub mod Standing
 pub mod Views
+pub mod Items

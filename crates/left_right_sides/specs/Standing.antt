@@ -77,14 +77,14 @@ pub record IsForkAt (r : Rooted) (v : ℕ) (P new : ℕ → List Block) (ds : Li
 abbrev pub IsNext : Rooted → ℕ → ℕ → Type 0
 IsNext r k v = (v < r.n) × (r.number v + (k + 1) ≡ r.n)
 
--- as far as the stacks below a number: the children's parts were trimmed, and these are the edges of v by which some return
-pub record IsForkTo (r : Rooted) (v : ℕ) (P new : ℕ → List Block) (ties0 ties : List Tie) (ds : List ForkEdge) (j : ℕ) : Type 0 where
-  pub others : (p : ℕ) → ((u : ℕ) → IsChildOf r v u → r.m + u < j → p ≢ r.m + u) → new p ≡ P p
-  pub trimmed : (u : ℕ) → IsChildOf r v u → r.m + u < j → (x : ℕ) → Contains (edges_in (new (r.m + u))) x ↔ (Contains (edges_in (P (r.m + u))) x × (r.height x < r.depth v))
+-- with some stacks of v left to look at: the other children's parts were trimmed, and these are the edges of v by which some return
+pub record IsForkTo (r : Rooted) (v : ℕ) (P new : ℕ → List Block) (ties0 ties : List Tie) (ds : List ForkEdge) (left : List ℕ) : Type 0 where
+  pub others : (p : ℕ) → ((u : ℕ) → IsChildOf r v u → ¬ Contains left (r.m + u) → p ≢ r.m + u) → new p ≡ P p
+  pub trimmed : (u : ℕ) → IsChildOf r v u → ¬ Contains left (r.m + u) → (x : ℕ) → Contains (edges_in (new (r.m + u))) x ↔ (Contains (edges_in (P (r.m + u))) x × (r.height x < r.depth v))
   pub are : (d : ForkEdge) → Contains ds d → IsForkEdge r.height new d
-  pub kinds : (d : ForkEdge) → Contains ds d → IsStackOf r v d.stack × (d.stack < j)
+  pub kinds : (d : ForkEdge) → Contains ds d → IsStackOf r v d.stack × (¬ Contains left d.stack)
   pub nested : AreNested ds
-  pub all : (p : ℕ) → p < j → IsStackOf r v p → (new p ≡ []) ⊎ ((d : ForkEdge) × (Contains ds d × (d.stack ≡ p)))
+  pub all : (p : ℕ) → ¬ Contains left p → IsStackOf r v p → (new p ≡ []) ⊎ ((d : ForkEdge) × (Contains ds d × (d.stack ≡ p)))
   pub told : (side : ℕ → Bool) → Obeys side P ties0 ↔ Obeys side new ties
 
 -- what became of a child's part: it was trimmed, and has an edge or none

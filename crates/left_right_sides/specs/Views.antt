@@ -1,6 +1,7 @@
 -- A rooted tree and its upward edges by tables.
 use Rattle.std.specs.Prelude.{ℕ, ◌<◌, ◌≡◌, ◌≢◌, ◌↔◌, ◌⊎◌, Bool, false, List, length, map, slice_index, slice_index_or, Contains, Option, Some, None}
 use Rattle.std.specs.Bool.{MatchBool}
+use Rattle.std.specs.List.{AllByRecursion as Each}
 use Rattle.map_theory.specs.Maps.{Dart}
 use Rattle.left_right_blocks.specs.Blocks.{Block}
 use Rattle.left_right_blocks.specs.States.{IsState, Drops}
@@ -45,10 +46,16 @@ abbrev pub IsChildFound : Rooted → ℕ → ℕ → ℕ → (ℕ → List Block
 IsChildFound r depth low stack P old new found =
     (P' : ℕ → List Block) × (IsState new P' × (Drops r.height depth low stack P P' old.ties.items new.ties.items × MatchChild r stack P' found))
 
--- edges found as far as the stacks below a number
-abbrev pub AreFoundTo : Rooted → ℕ → (ℕ → List Block) → List Tie → Blocks → List ForkEdge → ℕ → Type 0
-AreFoundTo r v P ties0 new ds j =
-    (P' : ℕ → List Block) × (IsState new P' × IsForkTo r v P P' ties0 new.ties.items ds j)
+-- edges found, with some stacks left to look at
+abbrev pub AreFoundTo : Rooted → ℕ → (ℕ → List Block) → List Tie → Blocks → List ForkEdge → List ℕ → Type 0
+AreFoundTo r v P ties0 new ds left =
+    (P' : ℕ → List Block) × (IsState new P' × IsForkTo r v P P' ties0 new.ties.items ds left)
+
+-- one more stack was looked at, which has an edge or none
+abbrev pub MatchLooked : Rooted → ℕ → (ℕ → List Block) → List Tie → Blocks → List ForkEdge → List ℕ → Option ForkEdge → Type 0
+MatchLooked r v P ties0 new ds left None = AreFoundTo r v P ties0 new ds left
+MatchLooked r v P ties0 new ds left (Some d) =
+    (ds' : List ForkEdge) → (AreNested ds → Each (λ (e : ForkEdge). e.stack ≢ d.stack) ds → IsInserted ds ds' d) → AreFoundTo r v P ties0 new ds' left
 
 -- one more vertex is done, or no sides meet all forks
 abbrev pub MatchPlaced : Rooted → ℕ → List ℕ → Blocks → Bool → Type 0

@@ -1,6 +1,7 @@
 //! Left and right sides of the return edges of a depth-first tree, or that there are none, in blocks.
 #![tactic(auto)]
 
+mod fork_items;
 mod nesting;
 mod placing;
 mod upward_sides;

@@ -1,5 +1,5 @@
 //! Sides for all edges that lead upwards in a rooted tree, or that there are none.
-ghost use Rattle.std.specs.Prelude.{◌≡◌, ◌<◌, ◌≤◌, ℕ, Bool, false, List, length, slice_index, slice_index_or, IfOk, MatchOption};
+ghost use Rattle.std.specs.Prelude.{◌≡◌, ◌+◌, ◌<◌, ◌≤◌, ℕ, Bool, false, length, slice_index, slice_index_or, IfOk, MatchOption};
 ghost use Rattle.left_right_sides.specs.Standing.{IsSearchTree, MeetsAll};
 ghost use Rattle.left_right_sides.specs.Views.{rooted_by, upper_depths, AreNumbered};
 
@@ -22,8 +22,7 @@ impl<'a> VertexForks<'a> {
     // Returns for each edge whether it is on the left, so that all forks are met, or None where no sides meet all. In `order`
     // each vertex comes behind its parent. It fails only when out of memory.
     fn sides(&self, order: &[u16]) -> Result<Option<Vec<bool>>, AllocError>
-        requires edges { length self.now.darts.now ≤ 65535 }
-        requires vertices { length self.now.parents.now ≤ 65535 }
+        requires few { length self.now.darts.now + length self.now.parents.now ≤ 65535 }
         requires within { (j : ℕ) → j < length order.now → slice_index order.now j < length self.now.parents.now }
         ensures { (edge : ℕ → ℕ → Bool) (number : ℕ → ℕ) (root : ℕ) → IsSearchTree (rooted_by edge number self.now.parents.now self.now.depths.now self.now.darts.now self.now.heights.now) root → AreNumbered (rooted_by edge number self.now.parents.now self.now.depths.now self.now.darts.now self.now.heights.now) order.now → length order.now ≡ length self.now.parents.now → IfOk result (λ found. MatchOption found ((side : ℕ → Bool) → ¬ MeetsAll (rooted_by edge number self.now.parents.now self.now.depths.now self.now.darts.now self.now.heights.now) side) (λ sides. MeetsAll (rooted_by edge number self.now.parents.now self.now.depths.now self.now.darts.now self.now.heights.now) (λ x. slice_index_or sides.items x false))) }
     {
@@ -34,7 +33,8 @@ impl<'a> VertexForks<'a> {
             self.darts.len() as u16,
             self.parents.len() as u16,
         )?;
-        let placed = self.place_all(&mut blocks, &mut lows, order)?;
+        let mut items = self.items()?;
+        let placed = self.place_all(&mut blocks, &mut items, &mut lows, order)?;
         if !placed {
             return Ok(None);
         }
@@ -53,8 +53,7 @@ pub fn sides(
     darts: &[(u16, u16)],
     order: &[u16],
 ) -> Result<Option<Vec<bool>>, AllocError>
-    requires edges { length darts.now ≤ 65535 }
-    requires vertices { length parents.now ≤ 65535 }
+    requires few { length darts.now + length parents.now ≤ 65535 }
     requires within { (j : ℕ) → j < length order.now → slice_index order.now j < length parents.now }
     ensures { (edge : ℕ → ℕ → Bool) (number : ℕ → ℕ) (root : ℕ) → IsSearchTree (rooted_by edge number parents.now depths.now darts.now (upper_depths depths.now darts.now)) root → AreNumbered (rooted_by edge number parents.now depths.now darts.now (upper_depths depths.now darts.now)) order.now → length order.now ≡ length parents.now → IfOk result (λ found. MatchOption found ((side : ℕ → Bool) → ¬ MeetsAll (rooted_by edge number parents.now depths.now darts.now (upper_depths depths.now darts.now)) side) (λ sides. MeetsAll (rooted_by edge number parents.now depths.now darts.now (upper_depths depths.now darts.now)) (λ x. slice_index_or sides.items x false))) }
 {

@@ -1,14 +1,17 @@
 //! The edges of a vertex by which others return, found in the stacks of what is below it.
-ghost use Rattle.std.specs.Prelude.{◌≡◌, ◌≢◌, ◌∷◌, ◌+◌, ◌<◌, ℕ, Bool, List, length, slice_index, IfOk};
+ghost use Rattle.std.specs.Prelude.{◌≡◌, ◌≢◌, ◌∷◌, ◌+◌, ◌<◌, ℕ, Bool, List, [], length, slice_index, Contains, IfOk};
 ghost use Rattle.left_right_maps.specs.RootedMaps.{is_child as is_child_in};
 ghost use Rattle.left_right_blocks.specs.Blocks.{Block};
 ghost use Rattle.left_right_blocks.specs.States.{IsState};
 ghost use Rattle.left_right_blocks.specs.declared.fork_edges.ForkEdge.{ForkEdge as Edge};
 ghost use Rattle.left_right_blocks.specs.declared.ties.Tie.{Tie};
-ghost use Rattle.left_right_sides.specs.Standing.{IsChildOf, IsStanding, IsNext, IsPartOf, IsForkTo, IsSearchTree};
-ghost use Rattle.left_right_sides.specs.Views.{rooted_by, MatchUpward, IsAlike, IsChildFound, AreFoundTo, MatchPlaced};
+ghost use Rattle.chained_lists.specs.Held.{Holds};
+ghost use Rattle.left_right_sides.specs.Items.{HoldsBut};
+ghost use Rattle.left_right_sides.specs.Standing.{IsStanding, IsNext, IsPartOf, IsStackOf, IsSearchTree};
+ghost use Rattle.left_right_sides.specs.Views.{rooted_by, MatchUpward, IsAlike, IsChildFound, AreFoundTo, MatchLooked, MatchPlaced};
 
 use crate::nesting::insert_nested;
+use chained_lists::ChainedLists;
 use left_right_blocks::{Blocks, ForkEdge};
 use std::alloc::{AllocError, Global};
 
@@ -72,18 +75,11 @@ impl<'a> VertexForks<'a> {
         })
     }
 
-    // Finds the edges that lead upwards from `v`, in nesting order. It fails only when out of memory.
-    fn find_upward(&self, v: u16) -> Result<Vec<ForkEdge>, AllocError>
-        ensures { IfOk result (λ found. (edge : ℕ → ℕ → Bool) (number : ℕ → ℕ) (k : ℕ) (low : ℕ → ℕ) (P : ℕ → List Block) (ties : List Tie) → ((u : ℕ) → IsChildOf (rooted_by edge number self.now.parents.now self.now.depths.now self.now.darts.now self.now.heights.now) v u → v ≢ u) → IsStanding (rooted_by edge number self.now.parents.now self.now.depths.now self.now.darts.now self.now.heights.now) k low P ties → IsNext (rooted_by edge number self.now.parents.now self.now.depths.now self.now.darts.now self.now.heights.now) k v → IsForkTo (rooted_by edge number self.now.parents.now self.now.depths.now self.now.darts.now self.now.heights.now) v P P ties ties found.items (length self.now.darts.now)) }
+    /// Returns the number of stacks that may be of a fork: one for each edge, and behind these one for each vertex.
+    pub(crate) fn stacks(&self) -> usize
+        ensures { result ≡ length self.now.darts.now + length self.now.parents.now }
     {
-        let mut found = Vec::new(self.alloc);
-        for x in 0..self.darts.len() {
-            let Some(edge) = self.upward_edge(v, x) else {
-                continue;
-            };
-            insert_nested(&mut found, edge)?;
-        }
-        Ok(found)
+        self.darts.len() + self.parents.len()
     }
 
     // Trims the part of `u`, a child of `v`, in `blocks`, and returns it as an edge of the fork at `v`, if it has an edge.
@@ -111,47 +107,80 @@ impl<'a> VertexForks<'a> {
         }))
     }
 
-    // Finds the children of `v` from below which edges return to above it, and adds these edges of the fork to `found`. Their
-    // parts are trimmed. It fails only when out of memory.
-    fn find_children(
+    // Returns the stack `p` as an edge of the fork at `v`, if it is one by which an edge returns; a child's part is trimmed.
+    // `lows` has for each vertex the least depth at which one of its part ends. It fails only when out of memory.
+    fn edge_of(
         &self,
         blocks: &mut Blocks,
         lows: &[u16],
         v: u16,
-        found: &mut Vec<ForkEdge>,
-    ) -> Result<(), AllocError>
+        p: usize,
+    ) -> Result<Option<ForkEdge>, AllocError>
         ensures alike { IsAlike blocks.old blocks.new }
-        ensures found { (edge : ℕ → ℕ → Bool) (number : ℕ → ℕ) (root k : ℕ) (P : ℕ → List Block) → IsSearchTree (rooted_by edge number self.now.parents.now self.now.depths.now self.now.darts.now self.now.heights.now) root → IsState blocks.old P → IsStanding (rooted_by edge number self.now.parents.now self.now.depths.now self.now.darts.now self.now.heights.now) k (slice_index lows.now) P blocks.old.ties.items → IsNext (rooted_by edge number self.now.parents.now self.now.depths.now self.now.darts.now self.now.heights.now) k v → IsForkTo (rooted_by edge number self.now.parents.now self.now.depths.now self.now.darts.now self.now.heights.now) v P P blocks.old.ties.items blocks.old.ties.items found.old.items (length self.now.darts.now) → IfOk result (λ _. AreFoundTo (rooted_by edge number self.now.parents.now self.now.depths.now self.now.darts.now self.now.heights.now) v P blocks.old.ties.items blocks.new found.new.items (length self.now.darts.now + length self.now.parents.now)) }
+        ensures found { (edge : ℕ → ℕ → Bool) (number : ℕ → ℕ) (root k : ℕ) (P : ℕ → List Block) (ties : List Tie) (ds : List Edge) (left : List ℕ) → IsSearchTree (rooted_by edge number self.now.parents.now self.now.depths.now self.now.darts.now self.now.heights.now) root → IsStanding (rooted_by edge number self.now.parents.now self.now.depths.now self.now.darts.now self.now.heights.now) k (slice_index lows.now) P ties → IsNext (rooted_by edge number self.now.parents.now self.now.depths.now self.now.darts.now self.now.heights.now) k v → ¬ Contains left p → AreFoundTo (rooted_by edge number self.now.parents.now self.now.depths.now self.now.darts.now self.now.heights.now) v P ties blocks.old ds (p ∷ left) → IfOk result (MatchLooked (rooted_by edge number self.now.parents.now self.now.depths.now self.now.darts.now self.now.heights.now) v P ties blocks.new ds left) }
     {
-        for u in 0..self.parents.len() {
-            if !self.is_child(v, u) {
-                continue;
-            }
-            let low = entry(lows, u);
-            let Some(edge) = self.child_edge(blocks, low, v, u)? else {
+        if p < self.darts.len() {
+            return Ok(self.upward_edge(v, p));
+        }
+        let u = p - self.darts.len();
+        if u >= self.parents.len() {
+            return Ok(None);
+        }
+        if !self.is_child(v, u) {
+            return Ok(None);
+        }
+        let found = self.child_edge(blocks, entry(lows, u), v, u)?;
+        Ok(found)
+    }
+
+    // Returns the edges of the fork at `v` by which others return, in nesting order; the parts of children are trimmed. The
+    // stacks of the fork are taken from the list of `v` in `items`. It fails only when out of memory.
+    fn find_edges(
+        &self,
+        blocks: &mut Blocks,
+        items: &mut ChainedLists,
+        lows: &[u16],
+        v: u16,
+    ) -> Result<Vec<ForkEdge>, AllocError>
+        requires { length items.old.next.items ≡ length self.now.darts.now + length self.now.parents.now }
+        ensures alike { IsAlike blocks.old blocks.new }
+        ensures numbers { length items.new.next.items ≡ length items.old.next.items }
+        ensures kept { (lists : ℕ → List ℕ) → Holds items.old lists → IfOk result (λ _. HoldsBut items.new (length self.now.darts.now + length self.now.parents.now + v) lists) }
+        ensures found { (edge : ℕ → ℕ → Bool) (number : ℕ → ℕ) (root k : ℕ) (P : ℕ → List Block) (lists : ℕ → List ℕ) → IsSearchTree (rooted_by edge number self.now.parents.now self.now.depths.now self.now.darts.now self.now.heights.now) root → IsState blocks.old P → IsStanding (rooted_by edge number self.now.parents.now self.now.depths.now self.now.darts.now self.now.heights.now) k (slice_index lows.now) P blocks.old.ties.items → IsNext (rooted_by edge number self.now.parents.now self.now.depths.now self.now.darts.now self.now.heights.now) k v → Holds items.old lists → ((p : ℕ) → IsStackOf (rooted_by edge number self.now.parents.now self.now.depths.now self.now.darts.now self.now.heights.now) v p → Contains (lists (length self.now.darts.now + length self.now.parents.now + v)) p) → IfOk result (λ found. AreFoundTo (rooted_by edge number self.now.parents.now self.now.depths.now self.now.darts.now self.now.heights.now) v P blocks.old.ties.items blocks.new found.items []) }
+    {
+        let list = self.stacks() + usize::from(v);
+        let mut found = Vec::new(self.alloc);
+        for _ in 0..self.stacks() {
+            let Some(p) = items.pop(list) else {
+                return Ok(found);
+            };
+            let Some(edge) = self.edge_of(blocks, lows, v, usize::from(p))? else {
                 continue;
             };
-            insert_nested(found, edge)?;
+            insert_nested(&mut found, edge)?;
         }
-        Ok(())
+        Ok(found)
     }
 
     /// Puts all that returns from `v` and from below it into the stack of `v`, as the forks at `v` demand. It returns false
-    /// where there are no sides that meet all forks. `lows` has for each vertex the least depth at which one of its part
-    /// ends. It fails only when out of memory.
+    /// where there are no sides that meet all forks. `items` has the stacks of the fork in the list of `v`, and `lows` for
+    /// each vertex the least depth at which one of its part ends. It fails only when out of memory.
     pub(crate) fn place(
         &self,
         blocks: &mut Blocks,
+        items: &mut ChainedLists,
         lows: &mut [u16],
         v: u16,
     ) -> Result<bool, AllocError>
-        requires { length self.now.darts.now + v < length blocks.old.stacks.first.items }
+        requires room { length self.now.darts.now + v < length blocks.old.stacks.first.items }
+        requires numbers { length items.old.next.items ≡ length self.now.darts.now + length self.now.parents.now }
         ensures long { length lows.new ≡ length lows.old }
         ensures alike { IsAlike blocks.old blocks.new }
-        ensures placed { (edge : ℕ → ℕ → Bool) (number : ℕ → ℕ) (root k : ℕ) (P : ℕ → List Block) → IsSearchTree (rooted_by edge number self.now.parents.now self.now.depths.now self.now.darts.now self.now.heights.now) root → IsState blocks.old P → IsStanding (rooted_by edge number self.now.parents.now self.now.depths.now self.now.darts.now self.now.heights.now) k (slice_index lows.old) P blocks.old.ties.items → IsNext (rooted_by edge number self.now.parents.now self.now.depths.now self.now.darts.now self.now.heights.now) k v → length lows.old ≡ length self.now.parents.now → IfOk result (MatchPlaced (rooted_by edge number self.now.parents.now self.now.depths.now self.now.darts.now self.now.heights.now) (k + 1) lows.new blocks.new) }
+        ensures numbers { length items.new.next.items ≡ length items.old.next.items }
+        ensures kept { (lists : ℕ → List ℕ) → Holds items.old lists → IfOk result (λ _. HoldsBut items.new (length self.now.darts.now + length self.now.parents.now + v) lists) }
+        ensures placed { (edge : ℕ → ℕ → Bool) (number : ℕ → ℕ) (root k : ℕ) (P : ℕ → List Block) (lists : ℕ → List ℕ) → IsSearchTree (rooted_by edge number self.now.parents.now self.now.depths.now self.now.darts.now self.now.heights.now) root → IsState blocks.old P → IsStanding (rooted_by edge number self.now.parents.now self.now.depths.now self.now.darts.now self.now.heights.now) k (slice_index lows.old) P blocks.old.ties.items → IsNext (rooted_by edge number self.now.parents.now self.now.depths.now self.now.darts.now self.now.heights.now) k v → length lows.old ≡ length self.now.parents.now → Holds items.old lists → ((p : ℕ) → IsStackOf (rooted_by edge number self.now.parents.now self.now.depths.now self.now.darts.now self.now.heights.now) v p → Contains (lists (length self.now.darts.now + length self.now.parents.now + v)) p) → IfOk result (MatchPlaced (rooted_by edge number self.now.parents.now self.now.depths.now self.now.darts.now self.now.heights.now) (k + 1) lows.new blocks.new) }
     {
-        let mut found = self.find_upward(v)?;
-        self.find_children(blocks, lows, v, &mut found)?;
+        let found = self.find_edges(blocks, items, lows, v)?;
         set_low(lows, v, &found);
         let placed = blocks.gather(self.heights, self.darts.len() + usize::from(v), &found);
         Ok(placed)

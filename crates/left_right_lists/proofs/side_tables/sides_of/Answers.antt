@@ -5,12 +5,12 @@ use Rattle.left_right_lists.specs.Sides.{side_in, AreOrdered}
 use Rattle.left_right_lists.proofs.SideLemmas.{few_ordered, lent_whole, places_in, answered_none, answered_some}
 use Rattle.left_right_lists.proofs.side_tables.sides_of.Goals as goal
 
-pub sides-requires-clause-edges : goal.sides-requires-clause-edges
-sides-requires-clause-edges c =
+pub sides-requires-clause-few : goal.sides-requires-clause-few
+sides-requires-clause-few c =
     let up = c.args.up.now in
     let h = c.requires.1 in
     let few = few_ordered up.darts.items 65280 h.ordered (places_in c.requires.0 _ _ _ _ _ h.tree up.darts.items h.darts h.ordered) in
-    omega (arith, few, ap length c.deref-3.ensures.value)
+    omega (arith, few, h.tree.few, h.tree.parents_long, ap length c.deref-3.ensures.value, ap length c.deref.ensures.value)
 
 pub returns-in_default : goal.returns-in_default
 returns-in_default c = λ graph h.
