@@ -2,6 +2,7 @@
 #![tactic(auto)]
 
 mod fork_items;
+mod least_ends;
 mod nesting;
 mod placing;
 mod upward_sides;

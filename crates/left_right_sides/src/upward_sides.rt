@@ -33,7 +33,7 @@ impl<'a> VertexForks<'a> {
             self.darts.len() as u16,
             self.parents.len() as u16,
         )?;
-        let mut items = self.items()?;
+        let mut items = self.items(order)?;
         let placed = self.place_all(&mut blocks, &mut items, &mut lows, order)?;
         if !placed {
             return Ok(None);
