@@ -13,3 +13,4 @@ mod EntryLemmas
 pub mod Filled
 mod Known
 mod PlaceLemmas
+mod Pushes

@@ -1,5 +1,5 @@
 -- Marks that are set and taken away, the counts of marked neighbours, and what a mark puts on the stack.
-use Rattle.std.proofs.Common.{◌≡◌, ◌≢◌, ◌⊎◌, ◌↔◌, ◌&&◌, ℕ, ◌+◌, ◌-◌, ◌<◌, ◌≤◌, Bool, true, false, not, cond, eqb, List, [], ◌∷◌, length, get_or, take, set, count_by, Contains, All, refl, sym, ap, ap₂, ◌∙◌, subst, inl, inr, arith, ltb, lt-ltb, ltb-true, eq-eqb, ne_eqb, length-set, get_or-set_same, get_or-set_other, Result, Ok, Err, IfOk}
+use Rattle.std.proofs.Common.{◌≡◌, ◌≢◌, ◌⊎◌, ◌↔◌, ◌&&◌, ℕ, ◌+◌, ◌-◌, ◌<◌, ◌≤◌, Bool, true, false, not, cond, eqb, List, [], ◌∷◌, length, get_or, take, set, count_by, filter, Contains, All, AllPairs, refl, sym, ap, ap₂, ◌∙◌, subst, inl, inr, arith, ltb, lt-ltb, ltb-true, eq-eqb, ne_eqb, length-set, get_or-set_same, get_or-set_other, Result, Ok, Err, IfOk}
 use Rattle.std.proofs.Math.Seq.{take-length}
 use Rattle.std.proofs.lemmas.Bool.{cases_eq, cases_lt, cases_Bool, true≢false, false≢true, and_parts, and_from, and_right, not-true}
 use Rattle.std.proofs.lemmas.List.{get_or_past, get_or_default, take_more, length-take-le, get_or-take}
@@ -9,12 +9,13 @@ use Rattle.std.proofs.Math.Bool.{and-true}
 use Rattle.map_lists.specs.Lists.{Lists}
 use Rattle.map_theory.specs.Maps.{IsSimpleMap, list_of}
 use Rattle.map_theory.proofs.DartCounts.{length-le-below}
-use Rattle.map_theory.proofs.EntryLemmas.{count_of, count_of-le-one, Contains-from_count_of, Contains-counted, Contains-here}
+use Rattle.map_theory.proofs.EntryLemmas.{count_of, count_of-le-one, Contains-from_count_of, Contains-counted, Contains-here, Contains-filter, Contains-from_filter}
 use Rattle.plane_peeling.specs.Restricted.{kept_but}
 use Rattle.plane_peeling.proofs.RestrictedMaps.{cases_Contains, restricted-old, restricted-new, kept_but-itself}
 use Rattle.plane_peeling.proofs.Rings.{each_of_one, each_of_three}
-use Rattle.canon_order.specs.Marks.{is_set, kept_of, IsTally, IsUnmarked, IsNoted, IsTaken}
+use Rattle.canon_order.specs.Marks.{is_set, is_untouched, kept_of, IsTally, IsUnmarked, IsNoted, IsTaken}
 use Rattle.canon_order.specs.Lefts.{IsCycleAfter}
+use Rattle.canon_order.proofs.Counters.{counted_before}
 
 -- four facts on a success make a fifth
 pub IfOk-of_noted : {T E : Type 0} (r : Result T E) (P Q R S U : T → Type 0) → ((x : T) → P x → Q x → R x → S x → U x) → IfOk r P → IfOk r Q → IfOk r R → IfOk r S → IfOk r U
@@ -225,6 +226,54 @@ marks-more p0 p1 p2 passes us i l one two u =
         ]
       ]),
     )
+
+-- one more marked, if it passes
+pub marks-one : (marked marked' : List Bool) (v : ℕ) (passes : ℕ → Type 0) → v < length marked → marked' ≡ set marked v true → passes v → (u : ℕ) → (is_set marked' u ≡ true) ↔ ((is_set marked u ≡ true) ⊎ ((u ≡ v) × passes u))
+marks-one marked marked' v passes l e p u = (
+  λ t. elim (cases_eq u v) [
+    | inl q ↦ inr (q, subst passes (sym q) p)
+    | inr ne ↦ inl (sym (is_set-other marked v u true ne) ∙ (sym (ap (λ m. is_set m u) e) ∙ t))
+  ],
+  λ h. ap (λ m. is_set m u) e ∙ elim (cases_eq u v) [
+    | inl q ↦ ap (is_set (set marked v true)) q ∙ is_set-here marked v true l
+    | inr ne ↦ is_set-other marked v u true ne ∙ elim h [ inl t ↦ t | inr here ↦ absurd (ne here.0) ]
+  ],
+)
+
+-- an entry of a list without repeats is not among those before it
+pub not_before : (us : List ℕ) (i : ℕ) → i < length us → AllPairs ◌≢◌ us → ¬ Contains (take i us) (get_or us i 0)
+not_before us i l distinct c =
+    omega (arith, counted_before us i l, count_of-le-one (get_or us i 0) us distinct, Contains-counted (get_or us i 0) (take i us) c)
+
+-- what is untouched has no mark
+pub untouched-unmarked : (marked gone : List Bool) (u : ℕ) → is_untouched marked gone u ≡ true → is_set marked u ≡ false
+untouched-unmarked marked gone u t = elim (cases_Bool (is_set marked u)) [
+  | inl on ↦ absurd (false≢true (sym (ap (λ b. not b && not (is_set gone u)) on) ∙ t))
+  | inr off ↦ off
+]
+
+-- and it is not gone
+pub untouched-left : (marked gone : List Bool) (u : ℕ) → is_untouched marked gone u ≡ true → is_set gone u ≡ false
+untouched-left marked gone u t = elim (cases_Bool (is_set gone u)) [
+  | inl on ↦ absurd (false≢true (sym (ap₂ (λ a b. not a && not b) (untouched-unmarked marked gone u t) on) ∙ t))
+  | inr off ↦ off
+]
+
+-- marking the untouched ones of a list is marking all of it that are not gone
+pub marks-untouched : (marked gone : List Bool) (us fresh : List ℕ) (p : ℕ → Type 0) → fresh ≡ filter (is_untouched marked gone) us → ((u : ℕ) → p u ↔ ((is_set marked u ≡ true) ⊎ (Contains fresh u × (is_set gone u ≡ false)))) → (u : ℕ) → p u ↔ ((is_set marked u ≡ true) ⊎ (Contains us u × (is_set gone u ≡ false)))
+marks-untouched marked gone us fresh p is h u = (
+  λ t. elim ((h u).0 t) [
+    | inl on ↦ inl on
+    | inr c ↦ inr ((Contains-from_filter (is_untouched marked gone) us u (subst (λ (xs : List ℕ). Contains xs u) is c.0)).0, c.1)
+  ],
+  λ e. elim e [
+    | inl on ↦ (h u).1 (inl on)
+    | inr c ↦ elim (cases_Bool (is_set marked u)) [
+      | inl on ↦ (h u).1 (inl on)
+      | inr off ↦ (h u).1 (inr (subst (λ (xs : List ℕ). Contains xs u) (sym is) (Contains-filter (is_untouched marked gone) us u c.0 (ap₂ (λ a b. not a && not b) off c.1)), c.1))
+    ]
+  ],
+)
 
 -- all but the last entry of a stack
 pub Contains-but_last : (us : List ℕ) (last u : ℕ) → last ≡ get_or us (length us - 1) last → Contains us u → u ≢ last → Contains (take (length us - 1) us) u

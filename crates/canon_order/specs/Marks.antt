@@ -7,6 +7,10 @@ use Rattle.map_theory.specs.Maps.{list_of}
 abbrev pub is_set : List Bool → ℕ → Bool
 is_set marks v = slice_index_or marks v false
 
+-- v is marked in neither of two lists
+abbrev pub is_untouched : List Bool → List Bool → ℕ → Bool
+is_untouched marked gone v = not (is_set marked v) && not (is_set gone v)
+
 -- the vertices that are left, where the others are marked as gone
 abbrev pub kept_of : List Bool → ℕ → Bool
 kept_of gone v = nat_lt v (length gone) && not (is_set gone v)

@@ -3,9 +3,9 @@
 //! `marked` says of each vertex whether it is on that cycle, `gone` whether it was taken off, and `near` counts its
 //! marked neighbours. A marked vertex is pushed on `stack` when that count becomes two.
 
-ghost use Rattle.std.specs.Prelude.{◌≡◌, ◌≢◌, ◌<◌, ◌⊎◌, ◌↔◌, ℕ, false, true, [], ◌∷◌, ◌++◌, length, slice_index, slice_set, filter, Contains, All, IfOk};
+ghost use Rattle.std.specs.Prelude.{◌≡◌, ◌≢◌, ◌<◌, ◌⊎◌, ◌↔◌, ℕ, false, true, [], ◌∷◌, ◌++◌, length, slice_index, slice_set, Contains, All, AllPairs, IfOk};
 ghost use Rattle.map_theory.specs.Maps.{IsSimpleMap, list_of};
-ghost use Rattle.canon_order.specs.Marks.{is_set, IsTally, IsUnmarked, IsNoted};
+ghost use Rattle.canon_order.specs.Marks.{is_set, is_untouched, IsTally, IsUnmarked, IsNoted};
 
 use crate::vertex_list_tools::{lower_noting, note, raise, raise_noting};
 use half_edges::Rotations;
@@ -100,40 +100,51 @@ impl AtVertex<'_> {
     {
         self.facts();
         marked[self.v as usize] = true;
-        note(near, stack, marked, self.v)?;
+        stack.reserve(1)?;
+        note(near, stack, marked, self.v);
         raise_noting(near, stack, marked, self.lists.list(self.v as usize))
     }
 
-    // Marks the vertex in `marked`, and updates `near` and `stack`, as `mark_new` does. It changes nothing if the
-    // vertex was taken off or is marked. It fails only when out of memory.
+    // Marks the vertices `fresh`, distinct ones that have no mark and are not gone, in `marked`. Updates `near` and
+    // `stack` as `mark_new` does. It fails only when out of memory.
     #[inline(always)]
-    fn mark_left(
+    fn mark_each(
         &self,
         marked: &mut [bool],
         near: &mut [u16],
         stack: &mut Vec<u16>,
+        fresh: &[u16],
     ) -> Result<(), AllocError>
         requires tally { IsTally self.now.lists.now marked.old near.old }
         requires vertices { All (λ u. u < length self.now.lists.now) stack.old.items }
+        requires within { All (λ u. u < length self.now.lists.now) fresh.now }
+        requires distinct { AllPairs ◌≢◌ fresh.now }
+        requires untouched { All (λ u. is_untouched marked.old self.now.gone.now u ≡ true) fresh.now }
         ensures noted { IfOk result (λ _. IsNoted self.now.lists.now marked.old near.old stack.old.items marked.new near.new stack.new.items) }
-        ensures marks { IfOk result (λ _. (u : ℕ) → (is_set marked.new u ≡ true) ↔ ((is_set marked.old u ≡ true) ⊎ ((u ≡ self.now.v) × (is_set self.now.gone.now u ≡ false)))) }
+        ensures marks { IfOk result (λ _. (u : ℕ) → (is_set marked.new u ≡ true) ↔ ((is_set marked.old u ≡ true) ⊎ (Contains fresh.now u × (is_set self.now.gone.now u ≡ false)))) }
     {
-        if !self.gone[self.v as usize] && !marked[self.v as usize] {
-            self.mark_new(marked, near, stack)
-        } else {
-            Ok(())
+        let at = *self;
+        for u in fresh {
+            let neighbour = AtVertex {
+                lists: at.lists,
+                gone: at.gone,
+                v: *u,
+            };
+            neighbour.mark_new(marked, near, stack)?;
         }
+        Ok(())
     }
 
     /// Takes the vertex off the outer cycle: clears its mark in `marked` and marks its neighbours that are not `gone`.
     /// `near`, the number of marked neighbours of each vertex, is updated. Marked vertices whose number becomes two are
-    /// pushed on `stack`. It fails only when out of memory.
+    /// pushed on `stack`. `fresh` is scratch space. It fails only when out of memory.
     #[inline(always)]
     pub fn leave_cycle(
         &self,
         marked: &mut [bool],
         near: &mut [u16],
         stack: &mut Vec<u16>,
+        fresh: &mut Vec<u16>,
     ) -> Result<(), AllocError>
         requires tally { IsTally self.now.lists.now marked.old near.old }
         requires vertices { All (λ u. u < length self.now.lists.now) stack.old.items }
@@ -143,18 +154,10 @@ impl AtVertex<'_> {
         ensures marks { IfOk result (λ _. (u : ℕ) → (is_set marked.new u ≡ true) ↔ ((is_set (slice_set marked.old self.now.v false) u ≡ true) ⊎ (Contains (list_of self.now.lists.now self.now.v) u × (is_set self.now.gone.now u ≡ false)))) }
     {
         self.facts();
-        let at = *self;
-        let list = at.lists.list(at.v as usize);
-        marked[at.v as usize] = false;
-        lower_noting(near, stack, marked, list)?;
-        for u in list {
-            let neighbour = AtVertex {
-                lists: at.lists,
-                gone: at.gone,
-                v: *u,
-            };
-            neighbour.mark_left(marked, near, stack)?;
-        }
+        let list = self.lists.list(self.v as usize);
+        marked[self.v as usize] = false;
+        lower_noting(near, stack, fresh, marked, self.gone, list)?;
+        self.mark_each(marked, near, stack, fresh)?;
         Ok(())
     }
 }

@@ -28,12 +28,14 @@ fn put_first(at: &mut [VertexId], base: &Base<'_>)
 
 // Writes a canonical order for `base` to `at`, one entry for each vertex, from the last down: peels vertices off the
 // outer cycle until three are left. `marked` (on the cycle), `gone` (taken off) and `near` (how many neighbours are on
-// the cycle) have an entry for each vertex, unset at first; `stack` is empty. It fails only when out of memory.
+// the cycle) have an entry for each vertex, unset at first; `stack` is empty, `fresh` is scratch space. It fails only
+// when out of memory.
 fn peel(
     marked: &mut [bool],
     near: &mut [u16],
     gone: &mut [bool],
     stack: &mut Vec<u16>,
+    fresh: &mut Vec<u16>,
     at: &mut [VertexId],
     base: &Base<'_>,
 ) -> Result<(), AllocError>
@@ -54,7 +56,7 @@ fn peel(
             gone,
             v,
         };
-        off.leave_cycle(marked, near, stack)?;
+        off.leave_cycle(marked, near, stack, fresh)?;
         at[k] = VertexId(v);
     }
     put_first(at, base);
@@ -81,6 +83,8 @@ pub struct Peeler {
     marks: Vec<bool>,
     near: Vec<u16>,
     stack: Vec<u16>,
+    // the neighbours of one vertex that come onto the cycle
+    fresh: Vec<u16>,
     /// The order of the triangulation that was ordered last.
     pub order: Order,
 }
@@ -92,6 +96,7 @@ impl Peeler {
             marks: Vec::new(alloc),
             near: Vec::new(alloc),
             stack: Vec::new(alloc),
+            fresh: Vec::new(alloc),
             order: Order::new(alloc),
         }
     }
@@ -120,7 +125,15 @@ impl Peeler {
         self.clear(n, base.lists.total())?;
         let mut at = resized(spent.into_vec(), n, VertexId(0))?;
         let (marked, gone) = self.marks.split_at_mut(n);
-        peel(marked, &mut self.near, gone, &mut self.stack, &mut at, base)?;
+        peel(
+            marked,
+            &mut self.near,
+            gone,
+            &mut self.stack,
+            &mut self.fresh,
+            &mut at,
+            base,
+        )?;
         Ok(at)
     }
 

@@ -13,7 +13,9 @@ fn is_removable(marked: &[bool], near: &[u16], base: &Base<'_>, v: u16) -> bool
     requires { (v < length marked.now) × (v < length near.now) }
     ensures { IsTrue result ↔ LooksRemovable base.now.t base.now.s marked.now near.now v }
 {
-    marked[v as usize] && v != base.t && v != base.s && near[v as usize] == 2
+    let is_marked = marked[v as usize];
+    let count = near[v as usize];
+    is_marked && v != base.t && v != base.s && count == 2
 }
 
 // Pops from `stack` until its top is a vertex that may be peeled off, and returns that one. There must be such a

@@ -31,7 +31,8 @@ impl Closed<'_> {
 
     // Takes the vertex `v` off the outer cycle, in tables with an entry for each vertex. Marks it in `gone`, and adds
     // one in `away` for each neighbour. In `marked` clears its mark, and marks its neighbours that are not gone. `near`
-    // counts marked neighbours; marked vertices that come to have two go on `stack`. Fails only when out of memory.
+    // counts marked neighbours; marked vertices that come to have two go on `stack`. `fresh` is scratch space. Fails only
+    // when out of memory.
     fn take_off(
         &self,
         marked: &mut [bool],
@@ -39,6 +40,7 @@ impl Closed<'_> {
         gone: &mut [bool],
         away: &mut [u16],
         stack: &mut Vec<u16>,
+        fresh: &mut Vec<u16>,
         v: u16,
     ) -> Result<(), AllocError>
         requires prepared { IsPrepared self.now.lists.now self.now.frame.bottom.0 self.now.frame.left.0 marked.old near.old gone.old away.old stack.old.items }
@@ -54,13 +56,14 @@ impl Closed<'_> {
             gone,
             v,
         };
-        off.leave_cycle(marked, near, stack)?;
+        off.leave_cycle(marked, near, stack, fresh)?;
         Ok(())
     }
 
     // Takes all vertices but three off by `take_off`, from the last of the order to the first. `taken` has the top and
     // the right one before; appends to it the others in that order, and then the three. Before, `marked` and `gone`
-    // have no marks, `near` and `away` have zeros, and `stack` is empty. It fails only when out of memory.
+    // have no marks, `near` and `away` have zeros, and `stack` is empty; `fresh` is scratch space. It fails only when
+    // out of memory.
     fn take_all(
         &self,
         marked: &mut [bool],
@@ -68,6 +71,7 @@ impl Closed<'_> {
         gone: &mut [bool],
         away: &mut [u16],
         stack: &mut Vec<u16>,
+        fresh: &mut Vec<u16>,
         taken: &mut Vec<u16>,
     ) -> Result<(), AllocError>
         requires class { (map : Lists) × IsClosedAt self.now.lists.now map self.now.frame }
@@ -86,8 +90,8 @@ impl Closed<'_> {
             third: frame.bottom.0,
         };
         three.mark_all(marked, near);
-        closed.take_off(marked, near, gone, away, stack, frame.top.0)?;
-        closed.take_off(marked, near, gone, away, stack, frame.right.0)?;
+        closed.take_off(marked, near, gone, away, stack, fresh, frame.top.0)?;
+        closed.take_off(marked, near, gone, away, stack, fresh, frame.right.0)?;
         for _ in 5..lists.len() {
             let cycle = Cycle {
                 marked,
@@ -97,7 +101,7 @@ impl Closed<'_> {
                 left: frame.left.0,
             };
             let v = cycle.removable_vertex(stack);
-            closed.take_off(marked, near, gone, away, stack, v)?;
+            closed.take_off(marked, near, gone, away, stack, fresh, v)?;
             taken.push(v)?;
         }
         push_three(taken, frame.inner.0, frame.bottom.0, frame.left.0)
@@ -114,6 +118,7 @@ impl Closed<'_> {
         let mut gone = vec![in alloc; false; n]?;
         let mut away = vec![in alloc; 0; n]?;
         let mut stack = Vec::new(alloc);
+        let mut fresh = Vec::new(alloc);
         let mut taken = Vec::new(alloc);
         taken.push(self.frame.top.0)?;
         taken.push(self.frame.right.0)?;
@@ -123,6 +128,7 @@ impl Closed<'_> {
             &mut gone,
             &mut away,
             &mut stack,
+            &mut fresh,
             &mut taken,
         )?;
         Ok(taken)

@@ -1,8 +1,9 @@
-use Rattle.std.proofs.Common.{◌≡◌, ◌⊎◌, ◌↔◌, ◌<◌, ◌≤◌, ℕ, List, true, false, length, get_or, set, take, All, Contains, subst, sym, ap, ◌∙◌, inl, inr, arith, length-set}
-use Rattle.std.proofs.Math.Seq.{take-length}
+use Rattle.std.proofs.Common.{◌≡◌, ◌≢◌, ◌⊎◌, ◌↔◌, ◌<◌, ◌≤◌, ℕ, List, true, false, length, get_or, set, All, AllPairs, Contains, subst, sym, ◌∙◌, inl, inr, arith, length-set}
+use Rattle.std.proofs.lemmas.List.Elements.{All-filter, filter_passes}
+use Rattle.std.proofs.lemmas.List.Kept.{AllPairs-filter}
 use Rattle.map_theory.proofs.EntryLemmas.{count_of}
-use Rattle.canon_order.specs.Marks.{is_set}
-use Rattle.canon_order.proofs.Marks.{list_within, some, marks-none, marks-more, IsNoted-none, IsNoted-lowered, IsNoted-chained}
+use Rattle.canon_order.specs.Marks.{is_set, is_untouched}
+use Rattle.canon_order.proofs.Marks.{list_within, some, marks-untouched, IsNoted-lowered, IsNoted-chained}
 use Rattle.canon_order.proofs.cycle_marks.AtVertex.leave_cycle.Goals as goal
 
 pub lower_noting-requires-clause-within : goal.lower_noting-requires-clause-within
@@ -16,52 +17,60 @@ lower_noting-requires-clause-marks c =
     let same = length-set c.args.marked.now c.args.self.now.v false in
     subst (λ (us : List ℕ). All (λ u. u < length (set c.args.marked.now c.args.self.now.v false)) us) (sym c.list-list.ensures) (λ k d l. let h = list_within c.args.self.now.lists.now c.facts.ensures c.args.self.now.v c.args.self.now.vertex k d l in omega arith)
 
+pub lower_noting-requires-clause-gone : goal.lower_noting-requires-clause-gone
+lower_noting-requires-clause-gone c =
+    let n = c.args.self.now.marks in
+    subst (λ (us : List ℕ). All (λ u. u < length c.args.self.now.gone.now) us) (sym c.list-list.ensures) (λ k d l. let h = list_within c.args.self.now.lists.now c.facts.ensures c.args.self.now.v c.args.self.now.vertex k d l in omega arith)
+
 pub lower_noting-requires-clause-some : goal.lower_noting-requires-clause-some
 lower_noting-requires-clause-some c =
     subst (λ (us : List ℕ). (w : ℕ) → w < length c.args.near.now → count_of w us ≤ get_or c.args.near.now w 0) (sym c.list-list.ensures)
     (some c.args.self.now.lists.now c.facts.ensures c.args.marked.now c.args.near.now c.args.self.now.v c.args.self.now.vertex c.requires.tally c.requires.marked)
 
-pub loop-u-init : goal.loop-u-init
-loop-u-init c =
+pub mark_each-requires-clause-tally : goal.mark_each-requires-clause-tally
+mark_each-requires-clause-tally c =
     let lists = c.args.self.now.lists.now in
     let v = c.args.self.now.v in
-    let near = c.lower_noting.new.counts in
-    let stack = c.lower_noting.new.stack.items in
     let less = c.in_ok-lower_noting.ensures in
-    let off = IsNoted-lowered lists c.facts.ensures c.args.marked.now c.args.near.now c.args.stack.now.items v c.args.self.now.vertex c.requires.tally c.requires.vertices c.requires.marked c.list-list.result.now c.list-list.ensures near stack c.lower_noting.auto.counts less.counts less.kept less.vertices less.noted in
-    record {
-      noted = IsNoted-none lists (set c.args.marked.now v false) near stack off.tally off.vertices;
-      marks = marks-none (λ u. is_set (set c.args.marked.now v false) u ≡ true) (λ u. is_set c.args.self.now.gone.now u ≡ false) c.list-list.result.now;
-    }
+    let off = IsNoted-lowered lists c.facts.ensures c.args.marked.now c.args.near.now c.args.stack.now.items v c.args.self.now.vertex c.requires.tally c.requires.vertices c.requires.marked c.list-list.result.now c.list-list.ensures c.lower_noting.new.counts c.lower_noting.new.stack.items c.lower_noting.auto.counts less.counts less.kept less.vertices less.noted in
+    off.tally
 
-pub invariant_of-neighbour : goal.invariant_of-neighbour
-invariant_of-neighbour c =
+pub mark_each-requires-clause-vertices : goal.mark_each-requires-clause-vertices
+mark_each-requires-clause-vertices c =
+    let lists = c.args.self.now.lists.now in
+    let v = c.args.self.now.v in
+    let less = c.in_ok-lower_noting.ensures in
+    let off = IsNoted-lowered lists c.facts.ensures c.args.marked.now c.args.near.now c.args.stack.now.items v c.args.self.now.vertex c.requires.tally c.requires.vertices c.requires.marked c.list-list.result.now c.list-list.ensures c.lower_noting.new.counts c.lower_noting.new.stack.items c.lower_noting.auto.counts less.counts less.kept less.vertices less.noted in
+    off.vertices
+
+pub mark_each-requires-clause-within : goal.mark_each-requires-clause-within
+mark_each-requires-clause-within c =
     let own = c.args.self.now in
     let within = subst (λ (us : List ℕ). All (λ u. u < length own.lists.now) us) (sym c.list-list.ensures) (list_within own.lists.now c.facts.ensures own.v own.vertex) in
-    record { few = own.few; simple = own.simple; vertex = within c.loop-u.u-index 0 c.loop-u-test.true; marks = own.marks }
+    subst (λ (us : List ℕ). All (λ u. u < length own.lists.now) us) (sym (c.deref.ensures.value ∙ c.in_ok-lower_noting.ensures.fresh)) (All-filter _ (λ u. u < length own.lists.now) c.list-list.result.now within)
 
-pub loop-u-preserved : goal.loop-u-preserved
-loop-u-preserved c =
-    let h = c.loop-u.invariant in
-    let old = set c.args.marked.now c.args.self.now.v false in
-    record {
-      noted = IsNoted-chained c.args.self.now.lists.now old c.lower_noting.new.counts c.lower_noting.new.stack.items c.loop-u.marked c.loop-u.near c.loop-u.stack.items c.mark_left.new.marked c.mark_left.new.near c.mark_left.new.stack.items h.noted c.in_ok-mark_left.ensures.noted;
-      marks = marks-more (λ u. is_set old u ≡ true) (λ u. is_set c.loop-u.marked u ≡ true) (λ u. is_set c.mark_left.new.marked u ≡ true) (λ u. is_set c.args.self.now.gone.now u ≡ false) c.list-list.result.now c.loop-u.u-index c.loop-u-test.true h.marks c.in_ok-mark_left.ensures.marks;
-    }
+pub mark_each-requires-clause-distinct : goal.mark_each-requires-clause-distinct
+mark_each-requires-clause-distinct c =
+    let own = c.args.self.now in
+    let distinct = subst (λ (us : List ℕ). AllPairs ◌≢◌ us) (sym c.list-list.ensures) (c.facts.ensures.no_repeat own.v own.vertex) in
+    subst (λ (us : List ℕ). AllPairs ◌≢◌ us) (sym (c.deref.ensures.value ∙ c.in_ok-lower_noting.ensures.fresh)) (AllPairs-filter ◌≢◌ _ c.list-list.result.now distinct)
+
+pub mark_each-requires-clause-untouched : goal.mark_each-requires-clause-untouched
+mark_each-requires-clause-untouched c =
+    let untouched = is_untouched (set c.args.marked.now c.args.self.now.v false) c.args.self.now.gone.now in
+    subst (λ (us : List ℕ). All (λ u. untouched u ≡ true) us) (sym (c.deref.ensures.value ∙ c.in_ok-lower_noting.ensures.fresh)) (filter_passes untouched c.list-list.result.now)
 
 pub returns-clause-noted : goal.returns-clause-noted
 returns-clause-noted c =
     let lists = c.args.self.now.lists.now in
     let v = c.args.self.now.v in
-    let near = c.lower_noting.new.counts in
-    let stack = c.lower_noting.new.stack.items in
     let less = c.in_ok-lower_noting.ensures in
-    let off = IsNoted-lowered lists c.facts.ensures c.args.marked.now c.args.near.now c.args.stack.now.items v c.args.self.now.vertex c.requires.tally c.requires.vertices c.requires.marked c.list-list.result.now c.list-list.ensures near stack c.lower_noting.auto.counts less.counts less.kept less.vertices less.noted in
-    IsNoted-chained lists c.args.marked.now c.args.near.now c.args.stack.now.items (set c.args.marked.now v false) near stack c.loop-u.marked c.loop-u.near c.loop-u.stack.items off c.loop-u.invariant.noted
+    let off = IsNoted-lowered lists c.facts.ensures c.args.marked.now c.args.near.now c.args.stack.now.items v c.args.self.now.vertex c.requires.tally c.requires.vertices c.requires.marked c.list-list.result.now c.list-list.ensures c.lower_noting.new.counts c.lower_noting.new.stack.items c.lower_noting.auto.counts less.counts less.kept less.vertices less.noted in
+    IsNoted-chained lists c.args.marked.now c.args.near.now c.args.stack.now.items (set c.args.marked.now v false) c.lower_noting.new.counts c.lower_noting.new.stack.items c.mark_each.new.marked c.mark_each.new.near c.mark_each.new.stack.items off c.in_ok-mark_each.ensures.noted
 
 pub returns-clause-neighbours : goal.returns-clause-neighbours
 returns-clause-neighbours c = λ u has on two.
-    let h = c.loop-u.invariant.noted in
+    let h = c.in_ok-mark_each.ensures.noted in
     elim (h.noted u on two) [
       | inl c' ↦ c'
       | inr e ↦ h.kept u (c.in_ok-lower_noting.ensures.noted u (subst (λ (us : List ℕ). Contains us u) (sym c.list-list.ensures) has) e.0 (sym e.1 ∙ two))
@@ -69,7 +78,7 @@ returns-clause-neighbours c = λ u has on two.
 
 pub returns-clause-marks : goal.returns-clause-marks
 returns-clause-marks c =
-    let us = c.list-list.result.now in
-    let all : c.loop-u.u-index ≡ length us = omega arith in
-    let whole = ap (λ k. take k us) all ∙ (take-length us ∙ c.list-list.ensures) in
-    subst (λ (vs : List ℕ). (u : ℕ) → (is_set c.loop-u.marked u ≡ true) ↔ ((is_set (set c.args.marked.now c.args.self.now.v false) u ≡ true) ⊎ (Contains vs u × (is_set c.args.self.now.gone.now u ≡ false)))) whole c.loop-u.invariant.marks
+    let off = set c.args.marked.now c.args.self.now.v false in
+    let gone = c.args.self.now.gone.now in
+    subst (λ (vs : List ℕ). (u : ℕ) → (is_set c.mark_each.new.marked u ≡ true) ↔ ((is_set off u ≡ true) ⊎ (Contains vs u × (is_set gone u ≡ false)))) c.list-list.ensures
+    (marks-untouched off gone c.list-list.result.now c.deref.result.now (λ u. is_set c.mark_each.new.marked u ≡ true) (c.deref.ensures.value ∙ c.in_ok-lower_noting.ensures.fresh) c.in_ok-mark_each.ensures.marks)

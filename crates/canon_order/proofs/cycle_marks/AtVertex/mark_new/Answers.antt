@@ -29,7 +29,8 @@ returns-clause-noted c =
     let stack = c.raise_noting.new.stack.items in
     let within = list_within lists c.facts.ensures v c.args.self.now.vertex in
     let more = λ (vs : List ℕ). (w : ℕ) → w < length c.args.near.now → get_or near w 0 ≡ get_or c.args.near.now w 0 + count_of w vs in
-    let old = c.in_ok-note.ensures.vertices (length lists) c.args.self.now.vertex c.requires.vertices in
+    let same = sym c.reserve.ensures.items in
+    let old = c.note.ensures.vertices (length lists) c.args.self.now.vertex (subst (λ (us : List ℕ). All (λ u. u < length lists) us) same c.requires.vertices) in
     IfOk-of_noted c.raise_noting.result (λ _. more c.list.result.now) _ _ _ (λ _. IsNoted lists c.args.marked.now c.args.near.now c.args.stack.now.items (set c.args.marked.now v true) near stack)
     (λ _ counts kept vertices noted.
     let counts' = subst more c.list.ensures counts in
@@ -39,7 +40,7 @@ returns-clause-noted c =
     (IsTally-marked lists c.facts.ensures c.args.marked.now c.args.near.now v c.args.self.now.vertex c.requires.tally near c.raise_noting.auto.counts c.requires.unmarked counts')
     elsewhere
     (vertices (length lists) (subst (λ (us : List ℕ). All (λ u. u < length lists) us) (sym c.list.ensures) within) old)
-    (λ u has. kept u (c.in_ok-note.ensures.kept u has))
-    (λ two. kept v (c.in_ok-note.ensures.noted (is_set-here c.args.marked.now v true (let m = c.requires.tally.marks_of_all in let l = c.args.self.now.vertex in omega arith)) (sym (elsewhere v own) ∙ two)))
+    (λ u has. kept u (c.note.ensures.kept u (subst (λ (us : List ℕ). Contains us u) same has)))
+    (λ two. kept v (c.note.ensures.noted (is_set-here c.args.marked.now v true (let m = c.requires.tally.marks_of_all in let l = c.args.self.now.vertex in omega arith)) (sym (elsewhere v own) ∙ two)))
     (λ u has on two. noted u (subst (λ (us : List ℕ). Contains us u) (sym c.list.ensures) has) on two))
     c.raise_noting.ensures.counts c.raise_noting.ensures.kept c.raise_noting.ensures.vertices c.raise_noting.ensures.noted
