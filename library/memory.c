@@ -32,33 +32,29 @@ void rattle_dealloc(unsigned char *at) { free(at); }
 
 enum { BLOCK = 1 << 15 };
 
-/* The block of a thread, if it has one; the piece cut last; how much is left behind it, and how many pieces are out. */
+/* The block of a thread, by addresses: of the piece cut last, of what is left, and of its end. They are 0 where it has none. */
 static _Thread_local struct {
-    unsigned char *block, *newest;
-    word left, pieces;
+    word newest, next, end, pieces;
 } cut;
 
 /* What a piece takes: a multiple of 16, the largest alignment, and more than was asked for, so none is empty. */
 static word length_of(word size) { return (size + 16) & ~(word)15; }
 
-static unsigned char *rest(void) { return cut.block + BLOCK - cut.left; }
-
-/* Says whether a piece is of the block. Where there is no block it is not, since no memory lies at so low an address. */
-static int is_cut(const unsigned char *at) { return (word)at - (word)cut.block < BLOCK; }
+static int is_cut(const unsigned char *at) { return cut.end - (word)at - 1 < BLOCK; }
 
 static tried piece(word length)
 {
-    cut.newest = rest();
-    cut.left -= length;
+    cut.newest = cut.next;
+    cut.next += length;
     cut.pieces++;
-    return (tried){1, cut.newest};
+    return (tried){1, (unsigned char *)cut.newest};
 }
 
 /* Answers a request for which too little is left: by a new block if there is none, or else from malloc. */
 static __attribute__((noinline)) tried other(word size)
 {
-    if (cut.block || size >= BLOCK || !(cut.block = malloc(BLOCK))) return fresh(size);
-    cut.left = BLOCK;
+    if (cut.end || size >= BLOCK || !(cut.next = (word)malloc(BLOCK))) return fresh(size);
+    cut.end = cut.next + BLOCK;
     return piece(length_of(size));
 }
 
@@ -66,7 +62,7 @@ tried rattle_alloc(word size, word align)
 {
     (void)align;
     word length = length_of(size);
-    return length <= cut.left ? piece(length) : other(size);
+    return length <= cut.end - cut.next ? piece(length) : other(size);
 }
 
 void rattle_dealloc(unsigned char *at)
@@ -74,20 +70,19 @@ void rattle_dealloc(unsigned char *at)
     if (!is_cut(at)) {
         free(at);
     } else if (!--cut.pieces) {
-        free(cut.block);
-        cut.block = 0;
-        cut.left = 0;
-    } else if (at == cut.newest) {
-        cut.left += (word)(rest() - at);
+        free((void *)(cut.end - BLOCK));
+        cut.next = cut.end = 0;
+    } else if ((word)at == cut.newest) {
+        cut.next = cut.newest;
     }
 }
 
 tried rattle_realloc(unsigned char *at, word kept, word size, word align)
 {
     if (!is_cut(at)) return moved(at, size);
-    word length = length_of(size), room = at == cut.newest ? cut.left + (word)(rest() - at) : 0;
-    if (length <= room) {
-        cut.left = room - length;
+    word length = length_of(size);
+    if ((word)at == cut.newest && length <= cut.end - cut.newest) {
+        cut.next = cut.newest + length;
         return (tried){1, at};
     }
     tried made = rattle_alloc(size, align);
