@@ -357,6 +357,7 @@ static int look_at_pieces(long steps)
     enum { PIECES = 40 };
     piece all[PIECES] = {{0, 0}};
     long most = 0;
+    blocks = 0;
     for (long step = 0; step <= steps; step++) {
         int is_last = step == steps || !any(200), one = (int)any(PIECES);
         refused = any(10) ? -1 : requests;
