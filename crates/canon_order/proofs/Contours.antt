@@ -1,5 +1,5 @@
 -- The outer cycle as marks: how it begins, that some vertex looks removable, one taken off, and how it ends.
-use Rattle.std.proofs.Common.{◌≡◌, ◌≢◌, ◌↔◌, ℕ, ◌+◌, ◌<◌, Bool, true, false, List, [], ◌∷◌, ◌++◌, length, Contains, All, AllPairs, refl, sym, ap, ◌∙◌, subst, inl, inr, arith, lt-ltb, ltb, ltb-true}
+use Rattle.std.proofs.Common.{◌≡◌, ◌≢◌, ◌↔◌, ℕ, ◌+◌, ◌<◌, Bool, true, false, List, [], ◌∷◌, ◌++◌, length, Contains, All, AllPairs, refl, sym, ap, ◌∙◌, subst, arith, lt-ltb, ltb, ltb-true}
 use Rattle.std.proofs.lemmas.List.Elements.{All-cons, All-nil}
 use Rattle.map_lists.specs.Lists.{Lists}
 use Rattle.map_theory.specs.Maps.{HasDart, follows}

@@ -3,7 +3,7 @@ use Rattle.std.proofs.Common.{◌≡◌, ◌≢◌, ℕ, ◌+◌, ◌-◌, ◌<�
 use Rattle.std.proofs.lemmas.List.{get_or-reverse, length-reverse, get_or_default}
 use Rattle.std.proofs.lemmas.List.Sums.{count_by_more_yes, count_by_more_no, sum_by-take-le}
 use Rattle.std.proofs.lemmas.Bool.{cases_eq, cases_lt}
-use Rattle.classes.proofs.Counting.{count_below_all, count_below_into, count_below_more}
+use Rattle.classes.proofs.Counting.{count_below_into, count_below_more}
 use Rattle.plane_peeling.proofs.RestrictedMaps.{cases_Contains}
 use Rattle.canon_order.specs.Orders.{IsRankOf}
 

@@ -1,5 +1,5 @@
 -- Where the row of a vertex begins and ends in its list.
-use Rattle.std.proofs.Common.{◌≡◌, ◌≢◌, ◌+◌, ◌-◌, ◌<◌, ◌≤◌, ℕ, suc, true, false, List, [], ◌∷◌, ◌++◌, length, take, get_or, AllPairs, Contains, sym, ap, ◌∙◌, subst, inl, inr, arith, append_assoc}
+use Rattle.std.proofs.Common.{◌≡◌, ◌≢◌, ◌+◌, ◌<◌, ◌≤◌, ℕ, suc, true, false, List, [], ◌∷◌, ◌++◌, length, take, get_or, AllPairs, Contains, sym, ap, ◌∙◌, subst, inl, inr, arith, append_assoc}
 use Rattle.std.proofs.lemmas.Bool.{cases_eq, true≢false, false_from_ne_true, and_from}
 use Rattle.std.proofs.lemmas.List.{length-take-le, get_or-take, get_or_default, get_or-append-add, length-append}
 use Rattle.std.proofs.lemmas.List.Elements.{Contains-get_or}
