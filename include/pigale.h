@@ -349,6 +349,14 @@ pigale_status pigale_run_part(const uint8_t *words, size_t words_length, const u
                               uint32_t records, uint32_t refused, size_t place, uint8_t goes_on,
                               uint8_t *text, size_t capacity, size_t *text_length, pigale_sums *sums);
 
+/* The formats that pigale_cut knows. */
+enum { PIGALE_PLANAR_CODE = 0 };
+
+/* Tells where an input may be cut into parts for pigale_run_part: *end gets the greatest offset up to which the bytes are a
+ * header or none and whole records, and *records how many these are. `format` is PIGALE_PLANAR_CODE; for another number the
+ * status is PIGALE_BAD_ARGUMENT, and both stay, as they do where there was not enough memory. */
+pigale_status pigale_cut(const uint8_t *input, size_t input_length, uint8_t format, size_t *end, size_t *records);
+
 /* The name of a status without its first word, as "CUT_VERTEX", or "?" for a number that is none. What stands in this header
  * as code is not proved. */
 static inline const char *pigale_status_name(pigale_status status)

@@ -18,6 +18,15 @@ static size_t part_end(const uint8_t *input, size_t size, size_t at, const char 
     return at;
 }
 
+/* Whole records are cut behind the last one, and without their last byte before it. */
+static void test_cut(const uint8_t *part, size_t size, size_t records)
+{
+    size_t end = 1, count = 1;
+    if (pigale_cut(part, size, PIGALE_PLANAR_CODE, &end, &count) || end != size || count != records) abort();
+    if (size && (pigale_cut(part, size - 1, PIGALE_PLANAR_CODE, &end, &count) || end >= size || count + 1 != records)) abort();
+    if (pigale_cut(part, size, 1, &end, &count) != PIGALE_BAD_ARGUMENT) abort();
+}
+
 int main(int count, char **words)
 {
     static uint8_t input[1 << 22], text[1 << 22];
@@ -36,6 +45,7 @@ int main(int count, char **words)
         fwrite(text, 1, length, stdout);
         worst = status > worst ? status : worst;
         if (status > 1) break;
+        if (!strstr(job, "verify") && !strstr(job, "embed")) test_cut(input + from, at - from, sums.records);
         records += sums.records, refused += sums.refused;
         for (size_t i = from; i < at; i++) place += strstr(job, "verify") || strstr(job, "embed") ? input[i] == '\n' : 1;
     } while (at < size);

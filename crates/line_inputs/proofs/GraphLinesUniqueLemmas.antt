@@ -70,7 +70,7 @@ no-line total line rest k g (Limit j) plain is (same, f, h, many) =
 no-line total line rest k g TooLong plain is (long, open_line) = plain-front line rest open_line
 
 -- lines from line k on, and how they end
-lines-unique : (total : ℕ) (lines lines' : List (List ℕ)) (gs gs' : List EdgeGraph) (rest rest' : List ℕ) (k : ℕ) (e e' : Ending) → AreLines lines gs → AreLines lines' gs' → closed lines ++ rest ≡ closed lines' ++ rest' → EndsAs total rest (length gs + k) e → EndsAs total rest' (length gs' + k) e' → (gs ≡ gs') × (e ≡ e')
+pub lines-unique : (total : ℕ) (lines lines' : List (List ℕ)) (gs gs' : List EdgeGraph) (rest rest' : List ℕ) (k : ℕ) (e e' : Ending) → AreLines lines gs → AreLines lines' gs' → closed lines ++ rest ≡ closed lines' ++ rest' → EndsAs total rest (length gs + k) e → EndsAs total rest' (length gs' + k) e' → (gs ≡ gs') × (e ≡ e')
 lines-unique total [] [] [] [] rest rest' k e e' are are' same ends ends' = (refl, ending-unique total rest (0 + k) e e' ends (subst (λ (x : List ℕ). EndsAs total x (0 + k) e') (sym same) ends'))
 lines-unique total [] [] (g ∷ gs) gs' rest rest' k e e' none are' same ends ends' = absurd none
 lines-unique total [] [] [] (g ∷ gs') rest rest' k e e' are none same ends ends' = absurd none

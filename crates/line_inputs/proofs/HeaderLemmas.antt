@@ -30,13 +30,13 @@ separated (x ∷ front) (b ∷ line) rest more plain e =
     whole p q = cc
 
 -- bytes begin with these
-abbrev Begins : List ℕ → List ℕ → Bool
+abbrev pub Begins : List ℕ → List ℕ → Bool
 Begins bytes front = starts_with nat_eq bytes front
 
-begins-parts : (bytes front : List ℕ) → Begins bytes front ≡ true → (rest : List ℕ) × (bytes ≡ front ++ rest)
+pub begins-parts : (bytes front : List ℕ) → Begins bytes front ≡ true → (rest : List ℕ) × (bytes ≡ front ++ rest)
 begins-parts bytes front e = (drop (length front) bytes, (starts_is Decides-eqb bytes front (Begins bytes front) refl).0 e)
 
-parts-begin : (bytes front rest : List ℕ) → bytes ≡ front ++ rest → Begins bytes front ≡ true
+pub parts-begin : (bytes front rest : List ℕ) → bytes ≡ front ++ rest → Begins bytes front ≡ true
 parts-begin bytes front rest e = (starts_is Decides-eqb bytes front (Begins bytes front) refl).1 rest e
 
 -- a line without a byte 10 is the header, or the header and more, or does not begin with it
@@ -68,7 +68,7 @@ header-before c more not = by_test (nat_eq 10 c) refl
     by_test true e = absurd (not (grind (arith, nat_tests)))
     by_test false e = rw e refl
 
-header-none : (bytes : List ℕ) → Begins bytes graph_header ≡ false → header_length bytes ≡ 0
+pub header-none : (bytes : List ℕ) → Begins bytes graph_header ≡ false → header_length bytes ≡ 0
 header-none bytes e = grind (arith, Begins, graph_header, header_length, begins-parts, true≢false, parts-begin, append_assoc)
 
 none-closed : (line more : List ℕ) → Begins line graph_header ≡ false → Begins (line ++ 10 ∷ more) graph_header ≡ false

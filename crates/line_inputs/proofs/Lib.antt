@@ -16,4 +16,5 @@ pub mod GraphLinesLineLemmas
 pub mod GraphLinesReadLemmas
 pub mod GraphLinesUniqueLemmas
 pub mod GraphLinesPartLemmas
+pub mod GraphLinesWholeLemmas
 mod GraphLinesRefused

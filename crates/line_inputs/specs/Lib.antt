@@ -10,6 +10,7 @@ pub mod FigureLinesLaws
 -- Inputs of graph6 lines.
 pub mod GraphLinesReading
 pub mod GraphLinesFormat
+pub mod GraphLinesWhole
 pub mod GraphLinesProgress
 pub mod GraphLinesState
 pub mod GraphLinesLaws

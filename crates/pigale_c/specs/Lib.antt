@@ -12,6 +12,7 @@ pub mod RectArrays
 pub mod Words
 pub mod Run
 pub mod PartRun
+pub mod Cut
 pub mod Embedded
 pub mod EdgeFailures
 pub mod EdgeDrawings

@@ -8,6 +8,7 @@ pub mod bars;
 pub mod canonical_orders;
 pub mod checks;
 pub mod counts;
+pub mod cut;
 pub mod edge_drawings;
 mod edge_faults;
 pub mod edge_labellings;

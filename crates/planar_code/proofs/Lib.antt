@@ -14,6 +14,7 @@ pub mod ScanLemmas
 pub mod FrontLemmas
 pub mod NextLemmas
 pub mod ReadingLemmas
+pub mod WholeLemmas
 pub mod ReadsLemmas
 pub mod WriteLemmas
 mod Refused

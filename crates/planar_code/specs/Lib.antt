@@ -11,4 +11,5 @@ pub mod Scan
 pub mod Front
 pub mod Laws
 pub mod Reading
+pub mod Whole
 pub mod Write

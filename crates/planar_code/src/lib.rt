@@ -15,7 +15,7 @@ mod whole_input;
 mod write;
 
 pub use record_reader::{Fed, RecordReader, Taken};
-pub use whole_input::{CodeFault, Step, after_header, next_record};
+pub use whole_input::{CodeFault, Cut, Step, after_header, last_cut, next_record};
 pub use write::write_record;
 
 /// The bytes with which a file may begin.

@@ -6,12 +6,13 @@ ghost use Rattle.graph6_text.specs.Lines.{IsLine};
 ghost use Rattle.planar_code.specs.Reading.{header_of, IsRecord};
 ghost use Rattle.planar_code.specs.Scan.{most_lists};
 ghost use Rattle.planar_code.specs.Step.{StandsAt, FailsAt};
+ghost use Rattle.planar_code.specs.Whole.{IsCut};
 ghost use Rattle.planar_code.specs.Write.{entry_limit, record_bytes, is_wide, AreBelow};
 
 use graph6_text::G6Fault;
 use graphs::Graph;
 use map_lists::{Ends, Rotations, VertexId};
-use planar_code::{CodeFault, Step};
+use planar_code::{CodeFault, Cut, Step};
 use std::alloc::{AllocError, Global};
 
 /// Returns how many of the first of `bytes` are a header: all of it, or none.
@@ -27,6 +28,13 @@ pub fn next_record(alloc: Global, bytes: &[u8], at: usize) -> Result<Step, CodeF
     ensures { MatchResult result (StandsAt bytes.now at) (FailsAt bytes.now at) }
 {
     planar_code::next_record(alloc, bytes, at)
+}
+
+/// Returns where `bytes` may be cut: the greatest offset up to which they are a header or none and whole records.
+pub fn last_cut(alloc: Global, bytes: &[u8]) -> Result<Cut, AllocError>
+    ensures { IfOk result (λ cut. IsCut bytes.now cut.end cut.records) }
+{
+    planar_code::last_cut(alloc, bytes)
 }
 
 /// Appends the record of `lists` to `out`, which is then a record of exactly these lists.

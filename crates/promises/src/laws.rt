@@ -25,6 +25,8 @@ ghost use Rattle.map_theory.specs.Bound.{EulerBound};
 ghost use Rattle.pg_perm.specs.Law.{OneSwap};
 ghost use Rattle.pigale_words.specs.Spelling.{JobWords};
 ghost use Rattle.planar_code.specs.Laws.{OneReading, EachInputIsRead, RecordIsRead};
+ghost use Rattle.planar_code.specs.Whole.{ReadWithinLimit, OneWholeReading, PartsAreRead};
+ghost use Rattle.line_inputs.specs.GraphLinesWhole.{ReadWithinLimit as GraphsReadWithinLimit, OneWholeReading as OneReadingOfGraphs, PartsAreRead as PartsOfGraphsAreRead};
 ghost use Rattle.plane_laws.specs.Laws.{CornerSplit, DigonSplit, EdgeRemoved, FacesMerged};
 ghost use Rattle.plane_laws.specs.Smoothed.{VertexSmoothed};
 ghost use Rattle.rect_check.specs.Laws.{YesIsDual};
@@ -171,6 +173,48 @@ pub fn record_is_read()
     ensures { RecordIsRead }
 {
     planar_code::laws::record_is_read();
+}
+
+/// An input of planar_code within the limit is read as one of any length is.
+pub fn records_read_within_limit()
+    ensures { ReadWithinLimit }
+{
+    planar_code::laws::read_within_limit();
+}
+
+/// An input of planar_code of any length has one reading.
+pub fn one_whole_record_reading()
+    ensures { OneWholeReading }
+{
+    planar_code::laws::one_whole_reading();
+}
+
+/// An input of planar_code that is cut at the end of a record has the records of its parts.
+pub fn parts_of_records_are_read()
+    ensures { PartsAreRead }
+{
+    planar_code::laws::parts_are_read();
+}
+
+/// An input of graph6 lines within the limit is read as one of any length is.
+pub fn graphs_read_within_limit()
+    ensures { GraphsReadWithinLimit }
+{
+    line_inputs::graph_lines::laws::read_within_limit();
+}
+
+/// An input of graph6 lines of any length has one reading.
+pub fn one_whole_graph_reading()
+    ensures { OneReadingOfGraphs }
+{
+    line_inputs::graph_lines::laws::one_whole_reading();
+}
+
+/// An input of graph6 lines that is cut behind the line of a graph has the graphs of its parts.
+pub fn parts_of_graphs_are_read()
+    ensures { PartsOfGraphsAreRead }
+{
+    line_inputs::graph_lines::laws::parts_are_read();
 }
 
 /// A line is the line of one graph.

@@ -4,7 +4,7 @@ ghost use Rattle.planar_code.specs.Write.{AreBelow};
 
 use half_edges::Rotations;
 use planar_code::{
-    CodeFault, Fed, RecordReader, Step, Taken, after_header, next_record, write_record,
+    CodeFault, Fed, RecordReader, Step, Taken, after_header, last_cut, next_record, write_record,
 };
 use row_texts::fault_texts::tell_no_memory;
 use row_texts::lists::{SomeLists, lists_of, put_lists};
@@ -125,6 +125,17 @@ fn put_step(found: &Result<Step, CodeFault>, out: &mut Reply) {
     }
 }
 
+// Appends to `out` where `bytes` may be cut, and how many records stand before that.
+fn put_cut(bytes: &[u8], out: &mut Reply) {
+    match last_cut(out.alloc, bytes) {
+        Ok(cut) => {
+            out.put_number(cut.end as u64);
+            out.put_one(" behind", cut.records as u64);
+        }
+        Err(AllocError) => tell_no_memory(out),
+    }
+}
+
 // Says whether all entries of `lists` are below `limit`.
 fn are_below(lists: &Rotations, limit: u16) -> bool
     ensures { IsTrue result → AreBelow limit lists.now }
@@ -202,6 +213,7 @@ pub fn answer(row: &Row<'_>, out: &mut Reply) {
                 put_step(&next_record(out.alloc, &bytes, at), out);
             }
         }
+        "cut" => put_cut(&bytes_of(out.alloc, row.arg(0)), out),
         "header" => out.put_number(after_header(&bytes_of(out.alloc, row.arg(0))) as u64),
         _ => {
             if let Some(lists) = lists_of(out.alloc, row.arg(0)) {

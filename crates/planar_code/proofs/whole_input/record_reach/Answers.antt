@@ -1,11 +1,11 @@
 -- Bytes that join those passed, and a record or a bad count that ends with them.
-use Rattle.std.proofs.Common.{rules, ◌≡◌, ◌+◌, ◌-◌, List, ℕ, ◌++◌, length, take, drop, refl, subst, ◌∙◌, arith}
+use Rattle.std.proofs.Common.{◌≡◌, ◌+◌, ◌-◌, List, ℕ, ◌++◌, length, take, drop, subst, ◌∙◌, arith}
 use Rattle.std.proofs.lemmas.List.{take_all, take_rest}
 use Rattle.std.specs.Prelude.{IsFalse}
 use Rattle.planar_code.specs.Reading.{NoRecord, has_bad_count}
 use Rattle.planar_code.specs.Scan.{Passes}
 use Rattle.planar_code.proofs.NextLemmas.{next-joined, next-within, next-passes, passed-all, record-at, bad-at}
-use Rattle.planar_code.proofs.whole_input.next_record.Goals as goal
+use Rattle.planar_code.proofs.whole_input.record_reach.Goals as goal
 
 pub loop-passed-preserved : goal.loop-passed-preserved
 loop-passed-preserved c =
@@ -37,8 +37,8 @@ returns-in-Ended c =
     let same = c.reserve.ensures.bytes ∙ l.invariant.bytes in
     let joined = next-joined rest c.reserve.new.self.bytes l.passed end k l.invariant.within same scans.0.1 in
     let within = next-within rest c.reserve.new.self.bytes l.passed end k l.invariant.within same scans.0.1 in
-    let is = rw (← c.hand_over.ensures.lists) at scans.2 in
-    record-at c.args.bytes.now c.args.at c.requires (l.passed + k) (c.args.at + l.passed + k) (c.reserve.new.self.bytes ++ take k piece) c.hand_over.result (omega arith) (omega arith) within joined is
+    let r = record-at c.args.bytes.now c.args.at c.requires.within (l.passed + k) (c.args.at + l.passed + k) (c.reserve.new.self.bytes ++ take k piece) _ (omega arith) (omega arith) within joined scans.2 in
+    (r.0, r.1, r.2, scans.3)
 
 pub returns-in-Bad : goal.returns-in-Bad
 returns-in-Bad c =
@@ -50,7 +50,7 @@ returns-in-Bad c =
     let scans = c.in-Bad.ensures.scans in
     let same = c.reserve.ensures.bytes ∙ l.invariant.bytes in
     let joined = next-joined rest c.reserve.new.self.bytes l.passed end k l.invariant.within same scans.0.1 in
-    (refl, bad-at c.args.bytes.now c.args.at c.requires (l.passed + k) (c.reserve.new.self.bytes ++ take k piece) joined scans.1)
+    (bad-at c.args.bytes.now c.args.at c.requires.within (l.passed + k) (c.reserve.new.self.bytes ++ take k piece) joined scans.1)
 
 pub returns : goal.returns
 returns c =
@@ -60,4 +60,4 @@ returns c =
     let P : List ℕ → Type 0 = λ x. IsFalse (has_bad_count x) in
     let Q : List ℕ → Type 0 = λ x. NoRecord x in
     let none = passed-all (take l.passed rest) l.invariant.passes in
-    (refl, search rules, subst P all none.1, subst Q all none.0)
+    (subst P all none.1, subst Q all none.0)

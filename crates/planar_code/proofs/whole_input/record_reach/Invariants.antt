@@ -1,7 +1,7 @@
 -- The bytes passed are what the scanner has.
 use Rattle.std.proofs.Common.{◌≡◌, ◌≤◌, ◌-◌, [], length, take}
 use Rattle.planar_code.specs.Scan.{Passes}
-use Rattle.planar_code.proofs.whole_input.next_record.Given as goal
+use Rattle.planar_code.proofs.whole_input.record_reach.Given as goal
 
 abbrev pub invariant-loop-passed : goal.invariant-loop-passed
 invariant-loop-passed l = record {
